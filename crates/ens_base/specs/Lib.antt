@@ -1,0 +1,10 @@
+pub mod Causes
+pub mod Lists
+pub mod Lengths
+pub mod Statuses
+pub mod View
+pub mod Packed
+pub mod Views
+pub mod Epochs
+pub mod PeerSet
+pub mod Words

@@ -1,0 +1,6 @@
+-- A set of peers, as one flag for each number below 32.
+use Rattle.std.specs.Prelude.{ℕ, Bool, false, List, slice_index_or}
+
+-- whether the set has this number
+abbrev pub holds : List Bool → ℕ → Bool
+holds flags peer = slice_index_or flags peer false

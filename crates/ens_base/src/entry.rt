@@ -1,0 +1,28 @@
+ghost use Rattle.std.specs.Prelude.{◌≡◌, IfOk};
+
+use crate::copy_error::CopyError;
+use crate::digest::Digest;
+use crate::epoch::Version;
+use crate::key::Key;
+use std::alloc::Global;
+
+/// What the tree keeps of an object: its key, its version, and the MD5 of its spelling.
+#[derive(Debug, PartialEq, Eq, Drop)]
+pub struct Entry {
+    pub key: Key,
+    pub version: Version,
+    pub digest: Digest,
+}
+
+impl Entry {
+    /// An equal entry.
+    pub fn copy(&self, alloc: Global) -> Result<Entry, CopyError>
+        ensures { IfOk result (λ e. e ≡ self.now) }
+    {
+        Ok(Entry {
+            key: self.key.copy(alloc)?,
+            version: self.version,
+            digest: self.digest,
+        })
+    }
+}

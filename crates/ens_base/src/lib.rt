@@ -1,0 +1,46 @@
+//! The words that every other crate speaks: peers, epochs and versions, keys and values, views and
+//! sets of peers, commands and replies, and how a program ends.
+//!
+//! Each type is seen by contracts as what it stands for: a key as its bytes, a view as the ascending
+//! list of its members, an epoch as two numbers in their order. Nothing here knows a rule of the
+//! protocol. The definitions stand in `specs/`, one file a noun.
+#![tactic(auto)]
+
+mod bytes;
+mod command;
+mod copy_error;
+mod digest;
+mod entry;
+mod epoch;
+mod failed;
+mod key;
+mod peer;
+mod peer_set;
+mod reply;
+mod seq;
+mod status;
+mod value;
+mod view;
+mod views;
+mod words;
+
+pub use bytes::Bytes;
+pub use command::Command;
+pub use copy_error::{CopyError, LengthError};
+pub use digest::Digest;
+pub use entry::Entry;
+pub use epoch::{Epoch, Version};
+pub use failed::Failed;
+pub use key::Key;
+pub use peer::PeerId;
+pub use peer_set::PeerSet;
+pub use reply::Reply;
+pub use seq::Seq;
+pub use status::Status;
+pub use value::Value;
+pub use view::{View, ViewError};
+pub use views::Views;
+pub use words::{push_bytes, push_value};
+
+#[cfg(test)]
+mod tests;

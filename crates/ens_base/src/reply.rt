@@ -1,0 +1,45 @@
+ghost use Rattle.std.specs.Prelude.{◌≡◌, IfOk};
+
+use crate::copy_error::CopyError;
+use crate::epoch::Version;
+use crate::value::Value;
+use std::alloc::Global;
+
+/// What a call is answered.
+#[derive(Debug, PartialEq, Eq, Drop)]
+pub enum Reply {
+    /// The register holds this value, written under this stamp.
+    Value(Version, Value),
+    /// The register is absent.
+    NotFound,
+    /// The write was done under this stamp.
+    Ok(Version),
+    /// The command does not apply to what the register holds.
+    Failed,
+    /// The peer leads no ensemble, or is ending its epoch. The call had no effect.
+    Unavailable,
+    /// The key has too many unanswered calls. The call had no effect.
+    Busy,
+    /// No peer has the object that the register should hold. The call had no effect.
+    Lost,
+    /// The call took too long. Whether it had an effect is not known.
+    Timeout,
+}
+
+impl Reply {
+    /// An equal reply.
+    pub fn copy(&self, alloc: Global) -> Result<Reply, CopyError>
+        ensures { IfOk result (λ r. r ≡ self.now) }
+    {
+        match self {
+            Reply::Value(stamp, value) => Ok(Reply::Value(*stamp, value.copy(alloc)?)),
+            Reply::NotFound => Ok(Reply::NotFound),
+            Reply::Ok(stamp) => Ok(Reply::Ok(*stamp)),
+            Reply::Failed => Ok(Reply::Failed),
+            Reply::Unavailable => Ok(Reply::Unavailable),
+            Reply::Busy => Ok(Reply::Busy),
+            Reply::Lost => Ok(Reply::Lost),
+            Reply::Timeout => Ok(Reply::Timeout),
+        }
+    }
+}

@@ -1,0 +1,102 @@
+ghost use Rattle.std.specs.Prelude.{◌≡◌, ◌↔◌, ◌⊎◌, ◌+◌, ◌<◌, ◌≤◌, ℕ, List, [], ◌∷◌, length, All, Contains, IsTrue, IfOk, IsOk, IsErrOf};
+ghost use Rattle.std.specs.List.Sorted.{IsStrictlyIncreasing};
+ghost use Rattle.ens_base.specs.View.{IsView, IsViewSize, IsPeer};
+
+use crate::peer::PeerId;
+use std::marker::Model;
+
+/// Why a list of peers is no view. The causes are tested in this order.
+#[derive(Clone, Copy, Debug, PartialEq, Eq)]
+pub enum ViewError {
+    /// There are not 1 to 9 members.
+    Size,
+    /// A number is not 1 to 31.
+    Range,
+    /// The numbers do not strictly ascend.
+    Order,
+}
+
+/// 1 to 9 peers. Contracts see the ascending list of their numbers.
+#[derive(Clone, Copy, Debug, PartialEq, Eq)]
+pub struct View {
+    buf: [PeerId; 9],
+    len: usize,
+}
+
+impl Model for View {
+    ghost use Rattle.std.specs.Prelude.{ℕ, List, take};
+
+    ghost Value = { List ℕ };
+
+    ghost use Rattle.ens_base.specs.Packed.{IsPacked, packed, packed_again};
+
+    ghost view = { λ v. take v.len v.buf };
+
+    ghost invariant = { IsPacked };
+
+    ghost inverse = { packed };
+
+    ghost inverse_ok = { packed_again };
+}
+
+fn ascends(members: &[PeerId]) -> bool
+    ensures { IsTrue result ↔ IsStrictlyIncreasing members.now }
+{
+    for i in 1..members.len() {
+        if members[i - 1] >= members[i] {
+            return false;
+        }
+    }
+    true
+}
+
+fn in_range(members: &[PeerId]) -> bool
+    ensures { IsTrue result ↔ All IsPeer members.now }
+{
+    members.iter().all(|m| 1 <= m.0 && m.0 <= 31)
+}
+
+impl View {
+    /// The view of these members.
+    pub fn new(members: &[PeerId]) -> Result<View, ViewError>
+        ensures ok { IfOk result (λ v. v ≡ members.now) }
+        ensures valid { IsOk result ↔ IsView members.now }
+        ensures size { IsErrOf result ViewError.Size ↔ ¬ IsViewSize (length members.now) }
+        ensures range { IsErrOf result ViewError.Range ↔ (IsViewSize (length members.now) × ¬ All IsPeer members.now) }
+        ensures order { IsErrOf result ViewError.Order ↔ (IsViewSize (length members.now) × All IsPeer members.now × ¬ IsStrictlyIncreasing members.now) }
+    {
+        if members.is_empty() || members.len() > View::MOST {
+            return Err(ViewError::Size);
+        }
+        if !in_range(members) {
+            return Err(ViewError::Range);
+        }
+        if !ascends(members) {
+            return Err(ViewError::Order);
+        }
+        let mut buf = [PeerId(0); 9];
+        buf[..members.len()].copy_from_slice(members);
+        Ok(View {
+            buf,
+            len: members.len(),
+        })
+    }
+
+    /// The most members of a view.
+    pub const MOST: usize = 9;
+
+    /// The members, ascending.
+    pub fn members(&self) -> &[PeerId]
+        ensures members { result.now ≡ self.now }
+        ensures view { IsView self.now }
+    {
+        &self.buf[..self.len]
+    }
+
+    /// Whether the peer is a member.
+    pub fn has(&self, peer: PeerId) -> bool
+        ensures { IsTrue result ↔ Contains self.now peer }
+    {
+        self.members().contains(&peer)
+    }
+}
