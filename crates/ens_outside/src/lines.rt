@@ -1,0 +1,150 @@
+ghost use Rattle.std.specs.Prelude.{◌≡◌, ◌≢◌, ◌+◌, ◌<◌, ◌≤◌, ◌++◌, ◌∷◌, [], List, ℕ, length, take, drop, slice_index, All, IfOk, IfErr, IfSome, IfNone, OnErr, OnOk, Some, true, false, vec_len, IsErrOf};
+ghost use Rattle.std.specs.Io.KnownBytes.{prepend_known, Keeps, IsAtEnd};
+ghost use Rattle.ens_base.specs.Causes.{Rose};
+ghost use Rattle.ens_outside.specs.Lines.{IsNext, IsReady, IsLine, HasNoFeed};
+
+use crate::source::Source;
+use ens_base::Failed;
+use std::alloc::{AllocError, Global};
+use std::mem;
+
+/// The longest line, without its line feed.
+pub const LINE_LIMIT: usize = 4400;
+
+const PIECE: usize = 512;
+
+/// What comes next.
+#[derive(Debug, Drop)]
+pub enum Next {
+    /// A line, without its line feed.
+    Line(Vec<u8>),
+    /// The bytes behind the last line feed. The source is at its end.
+    Rest(Vec<u8>),
+    TooLong,
+}
+
+#[derive(Clone, Copy, Debug, PartialEq, Eq)]
+pub enum NextError {
+    Failed,
+    Memory,
+}
+
+/// The lines of a source. It keeps what was read and not yet given.
+#[derive(Drop)]
+pub struct Lines {
+    pub pending: Vec<u8>,
+}
+
+fn find_feed(bytes: &[u8]) -> Option<usize>
+    ensures found { IfSome result (λ k. k < length bytes.now) }
+    ensures feed { IfSome result (λ k. slice_index bytes.now k ≡ 10) }
+    ensures before { IfSome result (λ k. HasNoFeed (take k bytes.now)) }
+    ensures none { IfNone result (HasNoFeed bytes.now) }
+{
+    for i in 0..bytes.len() {
+        if bytes[i] == b'\n' {
+            return Some(i);
+        }
+    }
+    None
+}
+
+impl Lines {
+    pub fn new(alloc: Global) -> Self
+        ensures { result.pending.items ≡ [] }
+    {
+        Lines {
+            pending: Vec::new(alloc),
+        }
+    }
+
+    /// Takes out the bytes before the line feed at `k`.
+    fn take_line(&mut self, alloc: Global, k: usize) -> Result<Vec<u8>, AllocError>
+        requires place { k < length self.old.pending.items }
+        requires feed { slice_index self.old.pending.items k ≡ 10 }
+        ensures line { IfOk result (λ v. v.items ≡ take k self.old.pending.items) }
+        ensures split { IfOk result (λ v. self.old.pending.items ≡ (v.items ++ 10 ∷ []) ++ self.new.pending.items) }
+        ensures err { OnErr result (self.new.pending.items ≡ self.old.pending.items) }
+    {
+        let rest = Vec::from_slice(alloc, &self.pending[k + 1..])?;
+        let mut line = mem::replace(&mut self.pending, rest);
+        line.truncate(k);
+        Ok(line)
+    }
+
+    /// What is next by the pending bytes alone: a line, or that it is too long.
+    fn ready(&mut self, alloc: Global) -> Result<Option<Next>, NextError>
+        ensures next { IfOk result (λ o. IfSome o (IsReady self.old.pending.items self.new.pending.items)) }
+        ensures none { IfOk result (λ o. IfNone o ((self.new.pending.items ≡ self.old.pending.items) × IsLine self.old.pending.items)) }
+        ensures err { OnErr result (self.new.pending.items ≡ self.old.pending.items) }
+        ensures memory { IfErr result (λ e. e ≡ NextError.Memory) }
+    {
+        let seen = self.pending.len().min(LINE_LIMIT + 1);
+        match find_feed(&self.pending[..seen]) {
+            Some(k) => match self.take_line(alloc, k) {
+                Ok(line) => Ok(Some(Next::Line(line))),
+                Err(_) => Err(NextError::Memory),
+            },
+            None if self.pending.len() > LINE_LIMIT => Ok(Some(Next::TooLong)),
+            None => Ok(None),
+        }
+    }
+
+    /// Reads one piece behind what is pending, and says whether there was any.
+    fn fill<S: Source>(&mut self, source: &mut S) -> Result<bool, NextError>
+        ensures bytes { Keeps (prepend_known self.old.pending.items (S.left source.old)) (prepend_known self.new.pending.items (S.left source.new)) }
+        ensures end { IfOk result (λ more. more ≡ false → (self.new.pending.items ≡ self.old.pending.items) × IsAtEnd (S.left source.new)) }
+        ensures grows { IfOk result (λ more. more ≡ true → vec_len self.old.pending < vec_len self.new.pending) }
+        ensures shrinks_never { vec_len self.old.pending ≤ vec_len self.new.pending }
+        ensures later { S.fault_count source.old ≤ S.fault_count source.new }
+        ensures failed { IsErrOf result NextError.Failed → Rose (S.fault_count source.old) (S.fault_count source.new) }
+    {
+        if self.pending.reserve(PIECE).is_err() {
+            return Err(NextError::Memory);
+        }
+        let mut piece = [0u8; PIECE];
+        match source.read_some(&mut piece) {
+            Ok(n) => {
+                self.pending.extend_from_slice(&piece[..n]).unwrap();
+                Ok(n > 0)
+            }
+            Err(Failed) => Err(NextError::Failed),
+        }
+    }
+
+    /// What comes next. Each turn reads at least one byte or ends, so 4,402 turns are enough.
+    pub fn next<S: Source>(&mut self, alloc: Global, source: &mut S) -> Result<Next, NextError>
+        ensures next { IfOk result (λ n. IsNext (prepend_known self.old.pending.items (S.left source.old))
+            (prepend_known self.new.pending.items (S.left source.new)) n) }
+        ensures kept { OnErr result (Keeps (prepend_known self.old.pending.items (S.left source.old))
+            (prepend_known self.new.pending.items (S.left source.new))) }
+        ensures later { S.fault_count source.old ≤ S.fault_count source.new }
+        ensures failed { IsErrOf result NextError.Failed → Rose (S.fault_count source.old) (S.fault_count source.new) }
+    {
+        for turn in 0..LINE_LIMIT + 2 {
+            if let Some(next) = self.ready(alloc)? {
+                return Ok(next);
+            }
+            if !self.fill(source)? {
+                let rest = mem::replace(&mut self.pending, Vec::new(alloc));
+                return Ok(Next::Rest(rest));
+            }
+        }
+        unreachable!()
+    }
+
+    /// Whether nothing is left. It reads one piece at most, and gives nothing away.
+    pub fn is_end<S: Source>(&mut self, source: &mut S) -> Result<bool, NextError>
+        ensures end { IfOk result (λ end. end ≡ true → IsAtEnd (prepend_known self.new.pending.items (S.left source.new))) }
+        ensures more { IfOk result (λ end. end ≡ false → IfSome (prepend_known self.old.pending.items (S.left source.old)) (λ rest. rest ≢ [])) }
+        ensures kept { Keeps (prepend_known self.old.pending.items (S.left source.old)) (prepend_known self.new.pending.items (S.left source.new)) }
+        ensures later { S.fault_count source.old ≤ S.fault_count source.new }
+        ensures failed { IsErrOf result NextError.Failed → Rose (S.fault_count source.old) (S.fault_count source.new) }
+    {
+        if !self.pending.is_empty() {
+            return Ok(false);
+        }
+        let more = self.fill(source)?;
+        Ok(!more)
+    }
+}

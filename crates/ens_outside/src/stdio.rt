@@ -1,0 +1,70 @@
+use crate::sink::Sink;
+use crate::source::Source;
+use ens_base::Failed;
+use std::io::{Read, Write};
+
+/// Any reader of std as a source. Over standard input it tells nothing of the bytes.
+#[derive(Drop)]
+pub struct Reading<R> {
+    inner: R,
+    faults: u64,
+}
+
+impl<R> Reading<R> {
+    pub fn new(inner: R) -> Self {
+        Reading { inner, faults: 0 }
+    }
+}
+
+impl<R: Read> Source for Reading<R> {
+    ghost left = { λ s. R.remaining s.inner };
+
+    ghost fault_count = { λ s. s.faults };
+
+    fn faults(&self) -> u64 {
+        self.faults
+    }
+
+    fn read_some(&mut self, buf: &mut [u8]) -> Result<usize, Failed> {
+        match self.inner.read(buf) {
+            Ok(count) => Ok(count),
+            Err(_) => {
+                self.faults = self.faults.saturating_add(1);
+                Err(Failed)
+            }
+        }
+    }
+}
+
+/// Any writer of std as a sink. One that takes nothing of a piece that is not empty has failed.
+#[derive(Drop)]
+pub struct Writing<W> {
+    inner: W,
+    faults: u64,
+}
+
+impl<W> Writing<W> {
+    pub fn new(inner: W) -> Self {
+        Writing { inner, faults: 0 }
+    }
+}
+
+impl<W: Write> Sink for Writing<W> {
+    ghost written = { λ s. W.contents s.inner };
+
+    ghost fault_count = { λ s. s.faults };
+
+    fn faults(&self) -> u64 {
+        self.faults
+    }
+
+    fn write_some(&mut self, bytes: &[u8]) -> Result<usize, Failed> {
+        match self.inner.write(bytes) {
+            Ok(count) if count > 0 || bytes.is_empty() => Ok(count),
+            _ => {
+                self.faults = self.faults.saturating_add(1);
+                Err(Failed)
+            }
+        }
+    }
+}
