@@ -1,0 +1,112 @@
+ghost use Rattle.std.specs.Prelude.{◌≡◌, ◌≢◌, ◌+◌, ◌<◌, ◌≤◌, ◌++◌, ◌∷◌, [], length, Some, All, Contains, IfSome, IfNone, IfOk, IfErr, OnOk, OnErr, Option};
+ghost use Rattle.md5.specs.Md5.{md5};
+ghost use Rattle.ens_hashing.specs.Kept.{strings_of, IsKeyed, IsNew, BookAnswers, Counts, total};
+ghost use Rattle.ens_hashing.specs.Hashing.{Admits};
+
+use crate::digest::digest_of;
+use crate::error::HashError;
+use crate::hasher::Hasher16;
+use ens_base::Digest;
+use indexmap::IndexMap;
+use std::alloc::Global;
+
+/// Keeps each different string that it was given, up to a limit of bytes in all, and refuses a string
+/// that has the digest of another. It counts its refusals, up to the greatest u64.
+#[derive(Drop)]
+pub struct HashBook {
+    kept: IndexMap<Digest, Vec<u8>>,
+    limit: u64,
+    bytes: u64,
+    clashes: u64,
+    fulls: u64,
+    ghost keyed: { IsKeyed kept.entries },
+    ghost counted: { bytes ≡ total (strings_of kept.entries) },
+}
+
+impl HashBook {
+    /// A book that keeps nothing yet, and at most `limit` bytes in all.
+    pub fn new(alloc: Global, limit: u64) -> HashBook
+        ensures empty { strings_of result.kept.entries ≡ [] }
+        ensures limit { result.limit ≡ limit }
+        ensures counts { (result.clashes ≡ 0) × (result.fulls ≡ 0) }
+    {
+        HashBook {
+            kept: IndexMap::new(alloc),
+            limit,
+            bytes: 0,
+            clashes: 0,
+            fulls: 0,
+        }
+    }
+
+    /// The kept string that has the digest, if there is one.
+    fn find(&self, digest: &Digest) -> Option<&[u8]>
+        ensures found { IfSome result (λ s. Contains (strings_of self.now.kept.entries) s.now × (md5 s.now ≡ digest.now)) }
+        ensures none { IfNone result (All (λ s. md5 s ≢ digest.now) (strings_of self.now.kept.entries)) }
+    {
+        match self.kept.get(digest) {
+            Some(v) => Some(v.as_slice()),
+            None => None,
+        }
+    }
+
+    /// Keeps a string whose digest no kept string has.
+    fn keep(&mut self, alloc: Global, bytes: &[u8], digest: &Digest) -> Result<(), HashError>
+        requires digest { digest.now ≡ md5 bytes.now }
+        requires fresh { IsNew (strings_of self.old.kept.entries) bytes.now }
+        requires room { self.old.bytes + length bytes.now ≤ self.old.limit }
+        ensures ok { OnOk result (strings_of self.new.kept.entries ≡ strings_of self.old.kept.entries ++ bytes.now ∷ []) }
+        ensures err { OnErr result (strings_of self.new.kept.entries ≡ strings_of self.old.kept.entries) }
+        ensures memory { IfErr result (λ e. e ≡ HashError.Memory) }
+        ensures counts { (self.new.clashes ≡ self.old.clashes) × (self.new.fulls ≡ self.old.fulls) × (self.new.limit ≡ self.old.limit) }
+    {
+        let copy = Vec::from_slice(alloc, bytes)?;
+        self.kept.insert(*digest, copy)?;
+        self.bytes += bytes.len() as u64;
+        Ok(())
+    }
+}
+
+impl Hasher16 for HashBook {
+    ghost kept = { λ b. Some (strings_of b.kept.entries) };
+
+    ghost clashes = { λ b. b.clashes };
+
+    ghost fulls = { λ b. b.fulls };
+
+    fn digest(&mut self, alloc: Global, bytes: &[u8]) -> Result<Digest, HashError>
+        ensures digest { IfOk result (λ d. d ≡ md5 bytes.now) }
+        ensures admits { Admits bytes.now (Some (strings_of self.old.kept.entries)) (Some (strings_of self.new.kept.entries)) self.old.clashes self.new.clashes self.old.fulls self.new.fulls result }
+        ensures exactly { BookAnswers self.old.limit (strings_of self.old.kept.entries) bytes.now result }
+        ensures counts { Counts self.old.clashes self.new.clashes self.old.fulls self.new.fulls result }
+        ensures same_limit { self.new.limit ≡ self.old.limit }
+    {
+        let digest = digest_of(bytes);
+        self.admit(alloc, bytes, &digest)?;
+        Ok(digest)
+    }
+
+    fn admit(&mut self, alloc: Global, bytes: &[u8], digest: &Digest) -> Result<(), HashError>
+        requires { digest.now ≡ md5 bytes.now }
+        ensures admits { Admits bytes.now (Some (strings_of self.old.kept.entries)) (Some (strings_of self.new.kept.entries)) self.old.clashes self.new.clashes self.old.fulls self.new.fulls result }
+        ensures exactly { BookAnswers self.old.limit (strings_of self.old.kept.entries) bytes.now result }
+        ensures counts { Counts self.old.clashes self.new.clashes self.old.fulls self.new.fulls result }
+        ensures same_limit { self.new.limit ≡ self.old.limit }
+    {
+        if let Some(kept) = self.find(digest) {
+            if kept == bytes {
+                return Ok(());
+            }
+            let first = Vec::from_slice(alloc, kept)?;
+            let second = Vec::from_slice(alloc, bytes)?;
+            self.clashes = self.clashes.saturating_add(1);
+            return Err(HashError::Clash { first, second });
+        }
+        let len = bytes.len() as u64;
+        if self.bytes > self.limit || len > self.limit - self.bytes {
+            self.fulls = self.fulls.saturating_add(1);
+            return Err(HashError::BookFull(self.bytes));
+        }
+        self.keep(alloc, bytes, digest)
+    }
+}
