@@ -1,0 +1,9 @@
+pub mod Places
+pub mod Reading
+pub mod Grammar
+pub mod Numbers
+pub mod Versions
+pub mod Strings
+pub mod Views
+pub mod Entries
+pub mod Faults

@@ -1,0 +1,18 @@
+ghost use Rattle.ens_fields.specs.Grammar.{IsGrammar};
+ghost use Rattle.ens_fields.specs.Versions.{IsEpoch, epoch_spelling, epoch_at, IsVersion, version_spelling, version_at};
+ghost use Rattle.ens_base.specs.View.{IsView};
+ghost use Rattle.ens_fields.specs.Strings.{IsKey, key_spelling, key_at, IsValue, value_spelling, value_at};
+ghost use Rattle.ens_fields.specs.Views.{view_spelling, view_at, AreViews, views_spelling, views_at};
+ghost use Rattle.ens_fields.specs.Entries.{IsEntry, entry_spelling, entry_at};
+
+/// The law of the fields: what is read was spelled so, and what was spelled is read again, whatever
+/// follows it. So each value has one spelling, and none begins another's.
+pub fn fields_have_grammars()
+    ensures epoch { IsGrammar IsEpoch epoch_spelling epoch_at }
+    ensures version { IsGrammar IsVersion version_spelling version_at }
+    ensures key { IsGrammar IsKey key_spelling key_at }
+    ensures value { IsGrammar IsValue value_spelling value_at }
+    ensures view { IsGrammar IsView view_spelling view_at }
+    ensures views { IsGrammar AreViews views_spelling views_at }
+    ensures entry { IsGrammar IsEntry entry_spelling entry_at }
+{}
