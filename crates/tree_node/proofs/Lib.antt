@@ -1,0 +1,4 @@
+pub mod RepeatLaws
+pub mod PositionLaws
+pub mod EntryLaws
+pub mod NodeLaws

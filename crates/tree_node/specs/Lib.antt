@@ -1,0 +1,4 @@
+pub mod Repeats
+pub mod Positions
+pub mod Entries
+pub mod Nodes

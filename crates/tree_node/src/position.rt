@@ -1,0 +1,94 @@
+ghost use Rattle.std.specs.Prelude.{◌≡◌, ◌≤◌, ◌++◌, length, IfOk, IfErr, OnOk, OnErr};
+ghost use Rattle.std.specs.Prelude.{◌^◌};
+ghost use Rattle.tree_node.specs.Positions.{IsPosition, level_at, index_at, position_at, any_position_at, position_spelling};
+
+use ens_fields::{FieldError, take_u8, take_u32};
+
+/// Where a node stands: its level, 0 at the root to 3 at the segments, and its index among the nodes
+/// of that level, below 16 to the power of the level.
+#[derive(Clone, Copy, Debug, PartialEq, Eq, PartialOrd, Ord, Hash)]
+pub struct Position {
+    pub level: u8,
+    pub index: u32,
+}
+
+/// The greatest level, that of the segments.
+const LAST_LEVEL: u8 = 3;
+
+/// How many nodes a level has.
+fn width(level: u8) -> u32
+    requires { level ≤ 3 }
+    ensures { result ≡ 16 ^ level }
+{
+    match level {
+        0 => 1,
+        1 => 16,
+        2 => 256,
+        _ => 4096,
+    }
+}
+
+#[tactic(auto, unfolding(crate::specs::Positions::level_at))]
+fn take_level(bytes: &[u8], at: usize) -> Result<(u8, usize), FieldError>
+    requires { at ≤ length bytes.now }
+    ensures exact { level_at bytes.now at ≡ result }
+    ensures within { IfOk result (λ x. x.1 ≤ length bytes.now) }
+    ensures level { IfOk result (λ x. x.0 ≤ 3) }
+{
+    let (level, after) = take_u8(bytes, at)?;
+    if level > LAST_LEVEL {
+        return Err(FieldError::Rule(at));
+    }
+    Ok((level, after))
+}
+
+#[tactic(auto, unfolding(crate::specs::Positions::index_at))]
+fn take_index(level: u8, bytes: &[u8], at: usize) -> Result<(u32, usize), FieldError>
+    requires level { level ≤ 3 }
+    requires inside { at ≤ length bytes.now }
+    ensures exact { index_at level bytes.now at ≡ result }
+    ensures within { IfOk result (λ x. x.1 ≤ length bytes.now) }
+{
+    let (index, after) = take_u32(bytes, at)?;
+    if index >= width(level) {
+        return Err(FieldError::Rule(at));
+    }
+    Ok((index, after))
+}
+
+/// The position that is spelled at this place in five bytes, and the place after it.
+#[tactic(auto, unfolding(crate::specs::Positions::position_at))]
+pub fn take_position(bytes: &[u8], at: usize) -> Result<(Position, usize), FieldError>
+    requires { at ≤ length bytes.now }
+    ensures exact { position_at bytes.now at ≡ result }
+    ensures within { IfOk result (λ x. x.1 ≤ length bytes.now) }
+{
+    let (level, at) = take_level(bytes, at)?;
+    let (index, at) = take_index(level, bytes, at)?;
+    Ok((Position { level, index }, at))
+}
+
+/// The level and the index that stand at this place, in range or not, and the place after them.
+#[tactic(auto, unfolding(crate::specs::Positions::any_position_at))]
+pub fn take_any_position(bytes: &[u8], at: usize) -> Result<(Position, usize), FieldError>
+    requires { at ≤ length bytes.now }
+    ensures exact { any_position_at bytes.now at ≡ result }
+    ensures within { IfOk result (λ x. x.1 ≤ length bytes.now) }
+{
+    let (level, at) = take_u8(bytes, at)?;
+    let (index, at) = take_u32(bytes, at)?;
+    Ok((Position { level, index }, at))
+}
+
+/// Appends the five bytes of the position, or leaves `out` as it was.
+pub fn put_position(x: &Position, out: &mut Vec<u8>) -> Result<(), FieldError>
+    requires { IsPosition x.now }
+    ensures ok { OnOk result (out.new.items ≡ out.old.items ++ position_spelling x.now) }
+    ensures err { OnErr result (out.new.items ≡ out.old.items) }
+    ensures memory { IfErr result (λ e. e ≡ FieldError.Memory) }
+{
+    let index = x.index.to_be_bytes();
+    let spelling = [x.level, index[0], index[1], index[2], index[3]];
+    out.extend_from_slice(&spelling)?;
+    Ok(())
+}

@@ -1,0 +1,186 @@
+ghost use Rattle.std.specs.Prelude.{◌≡◌, ◌≤◌, ℕ, length, count_ones, Ok, IfOk};
+ghost use Rattle.ens_fields.specs.Numbers.{byte_at, number_at};
+ghost use Rattle.tree_node.specs.declared.node.InnerNode.{InnerNode};
+ghost use Rattle.tree_node.specs.declared.node.Segment.{Segment};
+ghost use Rattle.tree_node.specs.Positions.{IsPosition, any_position_at};
+ghost use Rattle.tree_node.specs.Entries.{entries_at, digests_at};
+ghost use Rattle.tree_node.specs.Nodes.{IsInner, inner_spelling, IsSegment, segment_spelling, ended as unruled, ordered as by_order, asked_at, inner_fields_at, inner_at, segment_fields_at, segment_at, all_of, inner_of, segment_of, Answers};
+
+use crate::entries::{take_digests, take_entries};
+use crate::error::NodeError;
+use crate::node::{InnerNode, Segment};
+use crate::position::{Position, take_any_position};
+use ens_base::{Digest, Entry, Seq};
+use ens_fields::{FieldError, take_u8, take_u16, take_u32};
+use std::alloc::Global;
+
+/// The same answer of a field that has no rule of its own.
+fn ended<T>(read: Result<T, FieldError>) -> Result<T, NodeError>
+    ensures { result ≡ unruled read }
+{
+    match read {
+        Ok(value) => Ok(value),
+        Err(FieldError::Short(_)) => Err(NodeError::Short),
+        Err(FieldError::Rule(_)) => Err(NodeError::Short),
+        Err(FieldError::Memory) => Err(NodeError::Memory),
+    }
+}
+
+/// The same answer of entries, whose rules are those of their order.
+fn ordered<T>(read: Result<T, FieldError>) -> Result<T, NodeError>
+    ensures { result ≡ by_order read }
+{
+    match read {
+        Ok(value) => Ok(value),
+        Err(FieldError::Short(_)) => Err(NodeError::Short),
+        Err(FieldError::Rule(_)) => Err(NodeError::Order),
+        Err(FieldError::Memory) => Err(NodeError::Memory),
+    }
+}
+
+#[tactic(auto, unfolding(crate::specs::Nodes::asked_at))]
+fn read_position(asked: Position, bytes: &[u8], at: usize) -> Result<(Position, usize), NodeError>
+    requires { at ≤ length bytes.now }
+    ensures exact { asked_at asked bytes.now at ≡ result }
+    ensures within { IfOk result (λ x. x.1 ≤ length bytes.now) }
+{
+    let (position, after) = ended(take_any_position(bytes, at))?;
+    if position.level == asked.level && position.index == asked.index {
+        Ok((position, after))
+    } else {
+        Err(NodeError::Position)
+    }
+}
+
+fn read_digests(
+    alloc: Global,
+    count: u32,
+    bytes: &[u8],
+    at: usize,
+) -> Result<(Seq<Digest>, usize), NodeError>
+    requires { at ≤ length bytes.now }
+    ensures exact { Answers result (unruled (digests_at count bytes.now at)) }
+    ensures within { IfOk result (λ x. x.1 ≤ length bytes.now) }
+{
+    ended(take_digests(alloc, count, bytes, at))
+}
+
+fn read_entries(
+    alloc: Global,
+    count: u32,
+    bytes: &[u8],
+    at: usize,
+) -> Result<(Seq<Entry>, usize), NodeError>
+    requires { at ≤ length bytes.now }
+    ensures exact { Answers result (by_order (entries_at count bytes.now at)) }
+    ensures within { IfOk result (λ x. x.1 ≤ length bytes.now) }
+{
+    ordered(take_entries(alloc, count, bytes, at))
+}
+
+#[tactic(auto, unfolding(crate::specs::Nodes::inner_fields_at))]
+fn read_inner_fields(
+    alloc: Global,
+    asked: Position,
+    bytes: &[u8],
+    at: usize,
+) -> Result<(InnerNode, usize), NodeError>
+    requires { at ≤ length bytes.now }
+    ensures exact { Answers result (inner_fields_at asked bytes.now at) }
+    ensures within { IfOk result (λ x. x.1 ≤ length bytes.now) }
+{
+    let (position, at) = read_position(asked, bytes, at)?;
+    let (mask, at) = ended(take_u16(bytes, at))?;
+    let (digests, at) = read_digests(alloc, mask.count_ones(), bytes, at)?;
+    Ok((
+        InnerNode {
+            position,
+            mask,
+            digests,
+        },
+        at,
+    ))
+}
+
+#[tactic(auto, unfolding(crate::specs::Nodes::inner_at))]
+fn read_inner(alloc: Global, asked: Position, bytes: &[u8]) -> Result<(InnerNode, usize), NodeError>
+    ensures exact { Answers result (inner_at asked bytes.now 0) }
+{
+    let (tag, at) = ended(take_u8(bytes, 0))?;
+    match tag {
+        1 => read_inner_fields(alloc, asked, bytes, at),
+        _ => Err(NodeError::BadTag),
+    }
+}
+
+#[tactic(auto, unfolding(crate::specs::Nodes::segment_fields_at))]
+fn read_segment_fields(
+    alloc: Global,
+    asked: Position,
+    bytes: &[u8],
+    at: usize,
+) -> Result<(Segment, usize), NodeError>
+    requires { at ≤ length bytes.now }
+    ensures exact { Answers result (segment_fields_at asked bytes.now at) }
+    ensures within { IfOk result (λ x. x.1 ≤ length bytes.now) }
+{
+    let (position, at) = read_position(asked, bytes, at)?;
+    let (count, at) = ended(take_u32(bytes, at))?;
+    let (entries, at) = read_entries(alloc, count, bytes, at)?;
+    Ok((Segment { position, entries }, at))
+}
+
+#[tactic(auto, unfolding(crate::specs::Nodes::segment_at))]
+fn read_segment(alloc: Global, asked: Position, bytes: &[u8]) -> Result<(Segment, usize), NodeError>
+    ensures exact { Answers result (segment_at asked bytes.now 0) }
+{
+    let (tag, at) = ended(take_u8(bytes, 0))?;
+    match tag {
+        2 => read_segment_fields(alloc, asked, bytes, at),
+        _ => Err(NodeError::BadTag),
+    }
+}
+
+/// What was read, if it is all there is.
+fn if_all<T: Drop>(read: Result<(T, usize), NodeError>, size: usize) -> Result<T, NodeError>
+    ensures { result ≡ all_of read size }
+{
+    match read {
+        Ok((node, end)) => {
+            if end == size {
+                Ok(node)
+            } else {
+                Err(NodeError::Trailing)
+            }
+        }
+        Err(e) => Err(e),
+    }
+}
+
+/// The inner node of this position that the bytes spell, all of them.
+pub fn decode_inner(alloc: Global, bytes: &[u8], at: Position) -> Result<InnerNode, NodeError>
+    requires { IsPosition at }
+    // What is read was spelled so.
+    ensures found { IfOk result (λ n. IsInner n × (n.position ≡ at) × (bytes.now ≡ inner_spelling n)) }
+    // What is spelled so is read, unless memory runs out.
+    ensures only { (n : InnerNode) → IsInner n → n.position ≡ at → bytes.now ≡ inner_spelling n → Answers result (Ok n) }
+    // Which fault it is.
+    ensures exact { Answers result (inner_of at bytes.now) }
+{
+    let read = read_inner(alloc, at, bytes);
+    if_all(read, bytes.len())
+}
+
+/// The segment of this position that the bytes spell, all of them.
+pub fn decode_segment(alloc: Global, bytes: &[u8], at: Position) -> Result<Segment, NodeError>
+    requires { IsPosition at }
+    // What is read was spelled so.
+    ensures found { IfOk result (λ s. IsSegment s × (s.position ≡ at) × (bytes.now ≡ segment_spelling s)) }
+    // What is spelled so is read, unless memory runs out.
+    ensures only { (s : Segment) → IsSegment s → s.position ≡ at → bytes.now ≡ segment_spelling s → Answers result (Ok s) }
+    // Which fault it is.
+    ensures exact { Answers result (segment_of at bytes.now) }
+{
+    let read = read_segment(alloc, at, bytes);
+    if_all(read, bytes.len())
+}

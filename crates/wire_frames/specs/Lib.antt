@@ -1,0 +1,5 @@
+pub mod Readers
+pub mod Parts
+pub mod Calls
+pub mod Messages
+pub mod Frames

@@ -1,0 +1,141 @@
+ghost use Rattle.std.specs.Prelude.{◌≡◌, IfOk};
+
+use ens_base::{Command, CopyError, Entry, Epoch, Key, Reply, Version};
+use ens_object::Object;
+use peer_fact::Fact;
+use std::alloc::Global;
+use tree_node::{Position, TreeBody};
+
+/// Why a peer does not do what a message asks.
+#[derive(Clone, Copy, Debug, PartialEq, Eq)]
+pub enum NackCause {
+    /// It has promised this greater ballot.
+    Greater(Epoch),
+    /// It does not trust its tree.
+    Untrusted,
+    /// Its tree does not verify at this position.
+    Damaged(Position),
+}
+
+/// What one peer says to another, or to a program that calls.
+#[derive(Debug, Drop)]
+pub enum Message {
+    /// Asks for the fact.
+    Probe,
+    /// The saved fact.
+    ProbeReply(Fact),
+    /// Asks to promise this ballot.
+    Prepare(Epoch),
+    /// The promised ballot, and the saved fact.
+    Promise(Epoch, Fact),
+    /// The epoch or ballot that was asked for, and why not.
+    Nack(Epoch, NackCause),
+    /// Asks to accept this fact.
+    NewEpoch(Fact),
+    /// The epoch that was accepted, and the number in it.
+    Accepted(Epoch, u64),
+    /// Asks what the peer has under the key, in this round of the epoch.
+    Get(Epoch, u64, Key),
+    /// What the peer has: the entry of its tree, and the object that matches it.
+    GetReply(Epoch, u64, Key, Option<Entry>, Option<Object>),
+    /// Asks to write the object.
+    Put(Epoch, Object),
+    /// The object of this key was written under this version.
+    PutReply(Epoch, Key, Version),
+    /// Asks whether the peer still stands at the epoch, in this round.
+    Check(Epoch, u64),
+    /// The peer does.
+    CheckReply(Epoch, u64),
+    /// Asks for a node of the tree, of a segment the entries above this key.
+    TreeAsk(Epoch, Position, Option<Key>),
+    /// What the peer gives of the node, and whether it trusts its tree.
+    TreeGive(Epoch, Position, Option<Key>, bool, TreeBody),
+    /// Asks to accept the second fact of the epoch.
+    Commit(Fact),
+    /// The leader of the epoch is there.
+    Beat(Epoch),
+    /// A call, under a number that its answer repeats.
+    CallFrame(u64, Key, Command),
+    /// The answer to the call of this number.
+    AnswerFrame(u64, Reply),
+}
+
+fn copy_key(key: &Option<Key>, alloc: Global) -> Result<Option<Key>, CopyError>
+    ensures { IfOk result (λ k. k ≡ key.now) }
+{
+    match key {
+        None => Ok(None),
+        Some(key) => Ok(Some(key.copy(alloc)?)),
+    }
+}
+
+fn copy_entry(entry: &Option<Entry>, alloc: Global) -> Result<Option<Entry>, CopyError>
+    ensures { IfOk result (λ e. e ≡ entry.now) }
+{
+    match entry {
+        None => Ok(None),
+        Some(entry) => Ok(Some(entry.copy(alloc)?)),
+    }
+}
+
+fn copy_object(object: &Option<Object>, alloc: Global) -> Result<Option<Object>, CopyError>
+    ensures { IfOk result (λ o. o ≡ object.now) }
+{
+    match object {
+        None => Ok(None),
+        Some(object) => Ok(Some(object.copy(alloc)?)),
+    }
+}
+
+impl Message {
+    /// An equal message.
+    pub fn copy(&self, alloc: Global) -> Result<Message, CopyError>
+        ensures { IfOk result (λ m. m ≡ self.now) }
+    {
+        match self {
+            Message::Probe => Ok(Message::Probe),
+            Message::ProbeReply(fact) => Ok(Message::ProbeReply(*fact)),
+            Message::Prepare(ballot) => Ok(Message::Prepare(*ballot)),
+            Message::Promise(ballot, fact) => Ok(Message::Promise(*ballot, *fact)),
+            Message::Nack(ballot, cause) => Ok(Message::Nack(*ballot, *cause)),
+            Message::NewEpoch(fact) => Ok(Message::NewEpoch(*fact)),
+            Message::Accepted(epoch, seq) => Ok(Message::Accepted(*epoch, *seq)),
+            Message::Get(epoch, round, key) => Ok(Message::Get(*epoch, *round, key.copy(alloc)?)),
+            Message::GetReply(epoch, round, key, entry, object) => Ok(Message::GetReply(
+                *epoch,
+                *round,
+                key.copy(alloc)?,
+                copy_entry(entry, alloc)?,
+                copy_object(object, alloc)?,
+            )),
+            Message::Put(epoch, object) => Ok(Message::Put(*epoch, object.copy(alloc)?)),
+            Message::PutReply(epoch, key, version) => Ok(Message::PutReply(
+                *epoch,
+                key.copy(alloc)?,
+                *version,
+            )),
+            Message::Check(epoch, round) => Ok(Message::Check(*epoch, *round)),
+            Message::CheckReply(epoch, round) => Ok(Message::CheckReply(*epoch, *round)),
+            Message::TreeAsk(epoch, position, after) => Ok(Message::TreeAsk(
+                *epoch,
+                *position,
+                copy_key(after, alloc)?,
+            )),
+            Message::TreeGive(epoch, position, after, trusted, body) => Ok(Message::TreeGive(
+                *epoch,
+                *position,
+                copy_key(after, alloc)?,
+                *trusted,
+                body.copy(alloc)?,
+            )),
+            Message::Commit(fact) => Ok(Message::Commit(*fact)),
+            Message::Beat(epoch) => Ok(Message::Beat(*epoch)),
+            Message::CallFrame(id, key, command) => Ok(Message::CallFrame(
+                *id,
+                key.copy(alloc)?,
+                command.copy(alloc)?,
+            )),
+            Message::AnswerFrame(id, reply) => Ok(Message::AnswerFrame(*id, reply.copy(alloc)?)),
+        }
+    }
+}
