@@ -1,0 +1,59 @@
+-- Majorities and quorums. A view is the list of its members, and a set of peers is the test whether a peer is in it.
+use Rattle.std.specs.Prelude.{◌≡◌, ℕ, ◌*◌, Bool, true, false, ◌&&◌, List, [], ◌∷◌, ◌⊎◌, length, count_by, nat_lt, All, Contains}
+use Rattle.ens_base.specs.Lists.{◌∈◌}
+
+-- more than half of the members of the view are in the set
+abbrev pub is_majority : (ℕ → Bool) → List ℕ → Bool
+is_majority peers view = nat_lt (length view) (2 * count_by peers view)
+
+-- the set has a majority of each view
+abbrev pub is_quorum : (ℕ → Bool) → List (List ℕ) → Bool
+is_quorum peers [] = true
+is_quorum peers (view ∷ views) = is_majority peers view && is_quorum peers views
+
+-- two sets have a member of the view in common
+pub record Meet (left right : ℕ → Bool) (view : List ℕ) : Type 0 where
+  pub peer : ℕ
+  pub member : peer ∈ view
+  pub in_left : left peer ≡ true
+  pub in_right : right peer ≡ true
+
+-- two lists of views have a view in common
+pub record SharesView (left right : List (List ℕ)) : Type 0 where
+  pub view : List ℕ
+  pub in_left : view ∈ left
+  pub in_right : view ∈ right
+
+-- quorums of two lists have a member of some view of both in common
+pub record QuorumsMeet (left right : ℕ → Bool) (views others : List (List ℕ)) : Type 0 where
+  pub view : List ℕ
+  pub in_views : view ∈ views
+  pub in_others : view ∈ others
+  pub meet : Meet left right view
+
+-- the first set has a member of some view that is not in the second
+pub record HasOutside (first second : ℕ → Bool) (views : List (List ℕ)) : Type 0 where
+  pub peer : ℕ
+  pub view : List ℕ
+  pub listed : view ∈ views
+  pub member : peer ∈ view
+  pub in_first : first peer ≡ true
+  pub outside : second peer ≡ false
+
+-- each quorum of the views has a member that is not in the set
+abbrev pub MissesEveryQuorum : (ℕ → Bool) → List (List ℕ) → Type 0
+MissesEveryQuorum peers views = (quorum : ℕ → Bool) → is_quorum quorum views ≡ true → HasOutside quorum peers views
+
+-- the peer is a member of some view
+abbrev pub IsMember : List (List ℕ) → ℕ → Type 0
+IsMember [] peer = ⊥
+IsMember (view ∷ views) peer = Contains view peer ⊎ IsMember views peer
+
+-- all members of the view are in the set
+abbrev pub HasAll : (ℕ → Bool) → List ℕ → Type 0
+HasAll peers view = All (λ m. peers m ≡ true) view
+
+-- all members of all views are in the set
+abbrev pub HasEvery : (ℕ → Bool) → List (List ℕ) → Type 0
+HasEvery peers [] = Unit {0}
+HasEvery peers (view ∷ views) = HasAll peers view × HasEvery peers views

@@ -1,0 +1,98 @@
+ghost use Rattle.std.specs.Prelude.{◌≡◌, ◌↔◌, ◌≤◌, ◌==◌, ◌||◌, ℕ, IsTrue, Contains, count_by, replicate, false};
+ghost use Rattle.ens_base.specs.PeerSet.{holds};
+ghost use Rattle.joint_views.specs.Quorums.{is_majority, is_quorum, IsMember, HasAll, HasEvery};
+
+use ens_base::{PeerId, PeerSet, View, Views};
+
+/// The votes of members on a list of views. A vote of a peer that is in no view, or a second vote of one
+/// peer, changes nothing.
+#[derive(Clone, Copy, Debug)]
+pub struct Tally {
+    pub views: Views,
+    pub votes: PeerSet,
+}
+
+fn is_majority(votes: &PeerSet, view: &View) -> bool
+    ensures { result ≡ is_majority (holds votes.now) view.now }
+{
+    let members = view.members();
+    let voted = members.iter().filter(|m| votes.has(**m)).count();
+    voted > members.len() / 2
+}
+
+fn has_all(votes: &PeerSet, view: &View) -> bool
+    ensures { IsTrue result ↔ HasAll (holds votes.now) view.now }
+{
+    view.members().iter().all(|m| votes.has(*m))
+}
+
+fn has_member(view: &View, peer: PeerId) -> bool
+    ensures member { IsTrue result ↔ Contains view.now peer }
+    ensures range { IsTrue result → (1 ≤ peer) × (peer ≤ 31) }
+{
+    view.members().contains(&peer)
+}
+
+impl Tally {
+    /// No votes yet, on these views.
+    pub fn new(views: Views) -> Tally
+        ensures views { result.views ≡ views }
+        ensures none { result.votes ≡ replicate 32 false }
+    {
+        Tally {
+            views,
+            votes: PeerSet::empty(),
+        }
+    }
+
+    fn is_member(&self, peer: PeerId) -> bool
+        ensures member { IsTrue result ↔ IsMember self.now.views peer }
+        ensures range { IsTrue result → (1 ≤ peer) × (peer ≤ 31) }
+    {
+        let first = self.views.first();
+        match self.views.second() {
+            None => has_member(&first, peer),
+            Some(old) => has_member(&first, peer) || has_member(&old, peer),
+        }
+    }
+
+    /// Counts the vote of a peer, where it is a member of some view.
+    pub fn vote(&mut self, peer: PeerId)
+        ensures views { self.new.views ≡ self.old.views }
+        ensures member { IsMember self.old.views peer → (p : ℕ) → holds self.new.votes p ≡ (p == peer || holds self.old.votes p) }
+        ensures other { ¬ IsMember self.old.views peer → self.new.votes ≡ self.old.votes }
+    {
+        if self.is_member(peer) {
+            self.votes.insert(peer);
+        }
+    }
+
+    /// Whether more than half of the members of each view voted.
+    pub fn is_quorum(&self) -> bool
+        ensures { result ≡ is_quorum (holds self.now.votes) self.now.views }
+    {
+        let first = self.views.first();
+        match self.views.second() {
+            None => is_majority(&self.votes, &first),
+            Some(old) => is_majority(&self.votes, &first) && is_majority(&self.votes, &old),
+        }
+    }
+
+    /// Whether all members of this view voted.
+    pub fn has_all(&self, view: View) -> bool
+        ensures { IsTrue result ↔ HasAll (holds self.now.votes) view }
+    {
+        has_all(&self.votes, &view)
+    }
+
+    /// Whether all members of all views voted.
+    pub fn has_every(&self) -> bool
+        ensures { IsTrue result ↔ HasEvery (holds self.now.votes) self.now.views }
+    {
+        let first = self.views.first();
+        match self.views.second() {
+            None => has_all(&self.votes, &first),
+            Some(old) => has_all(&self.votes, &first) && has_all(&self.votes, &old),
+        }
+    }
+}
