@@ -1,0 +1,29 @@
+ghost use Rattle.std.specs.Prelude.{◌≡◌, IfOk};
+
+use ens_base::{Command, CopyError, Key};
+use std::alloc::Global;
+
+/// One call on the register of a key.
+#[derive(Debug, PartialEq, Eq, Drop)]
+pub struct Call {
+    /// The name of the call, which no other call has.
+    pub id: u64,
+    pub key: Key,
+    pub command: Command,
+    /// The number of the event at which the call was made.
+    pub event: u64,
+}
+
+impl Call {
+    /// An equal call.
+    pub fn copy(&self, alloc: Global) -> Result<Call, CopyError>
+        ensures { IfOk result (λ c. c ≡ self.now) }
+    {
+        Ok(Call {
+            id: self.id,
+            key: self.key.copy(alloc)?,
+            command: self.command.copy(alloc)?,
+            event: self.event,
+        })
+    }
+}

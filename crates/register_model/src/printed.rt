@@ -1,0 +1,34 @@
+ghost use Rattle.std.specs.Prelude.{◌≡◌, IfOk};
+
+use crate::answer::Answer;
+use ens_base::{CopyError, PeerId};
+use std::alloc::Global;
+
+/// What a run prints as it goes.
+#[derive(Debug, PartialEq, Eq, Drop)]
+pub enum Printed {
+    /// The answer to a call.
+    Answer(Answer),
+    /// Whether the peer took the change of view that it was asked for at this event.
+    Change {
+        event: u64,
+        peer: PeerId,
+        taken: bool,
+    },
+}
+
+impl Printed {
+    /// An equal line.
+    pub fn copy(&self, alloc: Global) -> Result<Printed, CopyError>
+        ensures { IfOk result (λ p. p ≡ self.now) }
+    {
+        match self {
+            Printed::Answer(answer) => Ok(Printed::Answer(answer.copy(alloc)?)),
+            Printed::Change { event, peer, taken } => Ok(Printed::Change {
+                event: *event,
+                peer: *peer,
+                taken: *taken,
+            }),
+        }
+    }
+}

@@ -1,0 +1,23 @@
+ghost use Rattle.std.specs.Prelude.{◌≡◌, IfOk};
+
+use ens_base::{CopyError, Value, Version};
+use std::alloc::Global;
+
+/// What a key holds: nothing, or a value under the stamp of the write that gave it.
+#[derive(Debug, PartialEq, Eq, Drop)]
+pub enum Register {
+    Absent,
+    Present(Version, Value),
+}
+
+impl Register {
+    /// An equal register.
+    pub fn copy(&self, alloc: Global) -> Result<Register, CopyError>
+        ensures { IfOk result (λ r. r ≡ self.now) }
+    {
+        match self {
+            Register::Absent => Ok(Register::Absent),
+            Register::Present(stamp, value) => Ok(Register::Present(*stamp, value.copy(alloc)?)),
+        }
+    }
+}
