@@ -1,0 +1,5 @@
+pub mod Numbers
+pub mod Ledger
+pub mod Objects
+pub mod Book
+pub mod Protocol
