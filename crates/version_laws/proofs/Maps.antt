@@ -1,0 +1,49 @@
+-- Maps with one entry set, and the part of a version that is its epoch.
+use Rattle.std.proofs.Common.{◌≡◌, ℕ, ◌<◌, ◌≤◌, Bool, true, false, List, eqb, eqb-true, arith, ap, subst, refl}
+use Rattle.std.proofs.lemmas.Bool.Decides.{nat_tests}
+use lib.Pointwise.{bytes_decides}
+use Rattle.ens_base.specs.Lists.{same_bytes}
+use Rattle.abstract_protocol.specs.Ledger.{put}
+use Rattle.abstract_protocol.specs.Objects.{Map, epoch_of, set_entry}
+
+pub epoch_mono : (u v : ℕ) → u ≤ v → epoch_of u ≤ epoch_of v
+unfolding epoch_of
+epoch_mono u v h = omega arith
+
+pub epoch_of-zero : epoch_of 0 ≡ 0
+unfolding epoch_of
+epoch_of-zero = refl
+
+pub zero_not : (v : ℕ) → 0 < epoch_of v → v ≡ 0 → ⊥
+zero_not v h e = low (ap epoch_of e)
+  where
+    low : epoch_of v ≡ epoch_of 0 → ⊥
+    low s = omega (arith, epoch_of-zero)
+
+pub same_bytes_eq : (a b : List ℕ) → same_bytes a b ≡ true → a ≡ b
+same_bytes_eq a b h = (bytes_decides a b).0 h
+
+pub eq_same_bytes : (a b : List ℕ) → a ≡ b → same_bytes a b ≡ true
+eq_same_bytes a b h = (bytes_decides a b).1 h
+
+-- what holds of the new entry at its key, and of each old one, holds of each entry
+pub entry_then : (m : Map) (k : List ℕ) (v : ℕ) (P : List ℕ → ℕ → Type 0) → P k v → ((j : List ℕ) → P j (m j)) → (j : List ℕ) → P j (set_entry m k v j)
+entry_then m k v P here old j = by_cases (same_bytes k j) refl
+  where
+    by_cases : (b : Bool) → same_bytes k j ≡ b → P j (set_entry m k v j)
+    by_cases true t = rw t (subst (λ (i : List ℕ). P i v) (same_bytes_eq k j t) here)
+    by_cases false t = rw t (old j)
+
+pub put_other : {A : Type 0} (f : ℕ → A) (x : ℕ) (a : A) (v : ℕ) → (x ≡ v → ⊥) → put f x a v ≡ f v
+put_other f x a v n = by_cases (eqb x v) refl
+  where
+    by_cases : (b : Bool) → eqb x v ≡ b → put f x a v ≡ f v
+    by_cases true t = absurd (n (eqb-true x v t))
+    by_cases false t = rw t refl
+
+pub put_here : {A : Type 0} (f : ℕ → A) (x : ℕ) (a : A) → put f x a x ≡ a
+put_here f x a = by_cases (eqb x x) refl
+  where
+    by_cases : (b : Bool) → eqb x x ≡ b → put f x a x ≡ a
+    by_cases true t = rw t refl
+    by_cases false t = absurd (grind (arith, nat_tests))
