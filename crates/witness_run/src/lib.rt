@@ -1,0 +1,9 @@
+//! A run that shows that no premise of the laws is empty.
+//!
+//! Steps of the abstract protocol, one by one, that elect, write, read, sync, rewrite, bring a dead
+//! version back, and change the view to a new peer and back. `specs/Shown` says what it has to show.
+#![tactic(auto)]
+
+mod witness;
+
+pub use witness::{each_guard_matters, guards_can_be_met};
