@@ -1,0 +1,123 @@
+ghost use Rattle.std.specs.Prelude.{◌≡◌, ◌≤◌, ◌+◌, ◌++◌, ◌^◌, ◌==◌, ◌&&◌, nat_lt, nat_le, length, if◌then◌else◌, IfOk, MatchOption, Some};
+ghost use Rattle.byteorder.specs.Endian.{big_number, big_bytes};
+ghost use Rattle.ens_base.specs.declared.reply.Reply.TheVariants.{Failed as failed};
+ghost use Rattle.register_model.specs.Registers.{outcome};
+ghost use Rattle.register_model.specs.declared.register.Register.TheVariants.{Absent, Present};
+ghost use Rattle.key_commands.specs.declared.verdict.Verdict.TheVariants as verdicts;
+ghost use Rattle.key_commands.specs.Commands.{register_of, verdict_of};
+
+use crate::verdict::{CommandError, Verdict};
+use byteorder::{BigEndian, ByteOrder};
+use ens_base::{Command, LengthError, Reply, Value, Version};
+use ens_object::Object;
+use std::alloc::Global;
+
+/// To write this value.
+fn write(alloc: Global, value: &Value) -> Result<Verdict, CommandError>
+    ensures { IfOk result (λ v. v ≡ verdicts.Write (Some value.now)) }
+{
+    Ok(Verdict::Write(Some(value.copy(alloc)?)))
+}
+
+/// To write these bytes, or want of memory.
+fn write_bytes(alloc: Global, bytes: &[u8]) -> Result<Verdict, CommandError>
+    requires { length bytes.now ≤ 1024 }
+    ensures { IfOk result (λ v. v ≡ verdicts.Write (Some bytes.now)) }
+{
+    match Value::new(alloc, bytes) {
+        Ok(value) => Ok(Verdict::Write(Some(value))),
+        Err(LengthError::Length(_)) => Err(CommandError::Memory),
+        Err(LengthError::Memory) => Err(CommandError::Memory),
+    }
+}
+
+fn append(alloc: Global, value: &Value, tail: &Value) -> Result<Verdict, CommandError>
+    ensures { IfOk result (λ v. v ≡ (if nat_le (length value.now + length tail.now) 1024 then verdicts.Write (Some (value.now ++ tail.now)) else verdicts.Answer failed)) }
+{
+    if value.bytes().len() + tail.bytes().len() > Value::MOST {
+        return Ok(Verdict::Answer(Reply::Failed));
+    }
+    let mut bytes = Vec::from_slice(alloc, value.bytes())?;
+    bytes.extend_from_slice(tail.bytes())?;
+    write_bytes(alloc, &bytes)
+}
+
+fn add(alloc: Global, value: &Value, number: u64) -> Result<Verdict, CommandError>
+    ensures { IfOk result (λ v. v ≡ (if length value.now == 8 && nat_lt (big_number 8 value.now + number) (2 ^ 64) then verdicts.Write (Some (big_bytes 8 (big_number 8 value.now + number))) else verdicts.Answer failed)) }
+{
+    let bytes = value.bytes();
+    if bytes.len() != 8 {
+        return Ok(Verdict::Answer(Reply::Failed));
+    }
+    match BigEndian::read_u64(bytes).checked_add(number) {
+        None => Ok(Verdict::Answer(Reply::Failed)),
+        Some(sum) => {
+            let mut spelled = [0; 8];
+            BigEndian::write_u64(&mut spelled, sum);
+            write_bytes(alloc, &spelled)
+        }
+    }
+}
+
+fn on_absent(alloc: Global, command: &Command) -> Result<Verdict, CommandError>
+    ensures { IfOk result (λ v. v ≡ verdict_of (outcome command.now Absent)) }
+{
+    match command {
+        Command::Get => Ok(Verdict::Answer(Reply::NotFound)),
+        Command::PutOnce(value) => write(alloc, value),
+        Command::Over(value) => write(alloc, value),
+        Command::Delete => Ok(Verdict::Write(None)),
+        Command::Update(_, _) => Ok(Verdict::Answer(Reply::Failed)),
+        Command::Append(_) => Ok(Verdict::Answer(Reply::Failed)),
+        Command::Add(_) => Ok(Verdict::Answer(Reply::Failed)),
+        Command::Swap(_, _) => Ok(Verdict::Answer(Reply::Failed)),
+    }
+}
+
+/// To write the value if the condition of the command holds.
+fn write_if(alloc: Global, holds: bool, value: &Value) -> Result<Verdict, CommandError>
+    ensures { IfOk result (λ v. v ≡ (if holds then verdicts.Write (Some value.now) else verdicts.Answer failed)) }
+{
+    if holds {
+        write(alloc, value)
+    } else {
+        Ok(Verdict::Answer(Reply::Failed))
+    }
+}
+
+fn on_present(
+    alloc: Global,
+    command: &Command,
+    stamp: Version,
+    value: &Value,
+) -> Result<Verdict, CommandError>
+    ensures { IfOk result (λ v. v ≡ verdict_of (outcome command.now (Present stamp value.now))) }
+{
+    match command {
+        Command::Get => Ok(Verdict::Answer(Reply::Value(stamp, value.copy(alloc)?))),
+        Command::PutOnce(_) => Ok(Verdict::Answer(Reply::Failed)),
+        Command::Update(wanted, new) => write_if(alloc, *wanted == stamp, new),
+        Command::Append(tail) => append(alloc, value, tail),
+        Command::Add(number) => add(alloc, value, *number),
+        Command::Swap(old, new) => write_if(alloc, value == old, new),
+        Command::Over(new) => write(alloc, new),
+        Command::Delete => Ok(Verdict::Write(None)),
+    }
+}
+
+/// What the command comes to on the object of its key; none is there where nothing was ever written.
+pub fn apply(
+    alloc: Global,
+    command: &Command,
+    current: Option<&Object>,
+) -> Result<Verdict, CommandError>
+    ensures { IfOk result (λ v. MatchOption current.entry (v ≡ verdict_of (outcome command.now Absent)) (λ o. v ≡ verdict_of (outcome command.now (register_of o.now)))) }
+{
+    match current {
+        None => on_absent(alloc, command),
+        Some(object) => match &object.value {
+            None => on_absent(alloc, command),
+            Some(value) => on_present(alloc, command, object.stamp, value),
+        },
+    }
+}

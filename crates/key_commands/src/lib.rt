@@ -1,0 +1,15 @@
+//! The commands on the object of a key: what each comes to, by the register's definition.
+//!
+//! `apply` answers exactly the outcome of `register_model`: an answer where the command leaves the
+//! register, and otherwise the content to write. A key without an object and a tombstone are the
+//! absent register.
+#![tactic(auto)]
+
+mod commands;
+mod verdict;
+
+pub use commands::apply;
+pub use verdict::{CommandError, Verdict};
+
+#[cfg(test)]
+mod tests;
