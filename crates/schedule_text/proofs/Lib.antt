@@ -1,0 +1,11 @@
+pub mod Lookups
+pub mod Calls
+pub mod Parts
+pub mod Spaced
+pub mod Counted
+pub mod EventsRead
+pub mod EventsAgain
+pub mod OneLine
+pub mod Ids
+pub mod SchedulesRead
+pub mod SchedulesAgain

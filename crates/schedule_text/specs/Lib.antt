@@ -1,0 +1,9 @@
+pub mod Keywords
+pub mod Texts
+pub mod Errors
+pub mod Arguments
+pub mod Events
+pub mod Writing
+pub mod Spelling
+pub mod Progress
+pub mod Reading

@@ -1,0 +1,227 @@
+ghost use Rattle.std.specs.Prelude.{◌≡◌, ◌+◌, ◌-◌, ◌<◌, ◌≤◌, ◌^◌, length, Option, Ok, map, IfOk};
+ghost use Rattle.schedule_words.specs.Causes.{Gives};
+ghost use Rattle.schedule_text.specs.Errors.{Answers, at_line};
+ghost use Rattle.schedule_text.specs.Spelling.{event_line, MayStand};
+ghost use Rattle.schedule_text.specs.Texts.{texts};
+ghost use Rattle.schedule_text.specs.Events.{tick_of, deliver_of, one_peer_of, two_peers_of, calm_of, change_of, placed_of, inner_of, revert_of, fail_of, keyword_event, words_event, event_of};
+
+use crate::arguments::{first, four, one, some, three, two};
+use crate::call_line::call;
+use crate::error::ScheduleError;
+use crate::event::ScheduleEvent;
+use crate::keyword::{Keyword, StoreName, Survivor};
+use ens_base::{Bytes, Key, PeerId};
+use schedule_words::{Cause, WordError, content, key, line_words, members, number, peer, view};
+use std::alloc::Global;
+
+/// The most bytes of a line, without its line feed.
+pub(crate) const LINE_LIMIT: usize = 4400;
+
+// P N
+fn tick(words: &[&[u8]], peers: u32) -> Result<ScheduleEvent, WordError>
+    ensures { Gives (tick_of peers (texts words.now)) result }
+{
+    let (target, ticks) = two(words)?;
+    let peer = peer(target, peers)?;
+    let ticks = number(ticks, 1, 100)? as u32;
+    Ok(ScheduleEvent::Tick { peer, ticks })
+}
+
+// N
+fn deliver(words: &[&[u8]]) -> Result<ScheduleEvent, WordError>
+    ensures { Gives (deliver_of (texts words.now)) result }
+{
+    let message = number(one(words)?, 1, u64::MAX)?;
+    Ok(ScheduleEvent::Deliver { message })
+}
+
+// P
+fn one_peer(words: &[&[u8]], peers: u32) -> Result<PeerId, WordError>
+    ensures { Gives (one_peer_of peers (texts words.now)) result }
+{
+    Ok(peer(one(words)?, peers)?)
+}
+
+// A B
+fn two_peers(words: &[&[u8]], peers: u32) -> Result<(PeerId, PeerId), WordError>
+    ensures { Gives (two_peers_of peers (texts words.now)) result }
+{
+    let (sender, receiver) = two(words)?;
+    let sender = peer(sender, peers)?;
+    Ok((sender, peer(receiver, peers)?))
+}
+
+// nothing, or P ..
+fn calm(alloc: Global, words: &[&[u8]], peers: u32) -> Result<ScheduleEvent, WordError>
+    ensures { Gives (calm_of peers (texts words.now)) result }
+{
+    if words.is_empty() {
+        return Ok(ScheduleEvent::Calm);
+    }
+    let members = members(alloc, some(words)?, peers)?;
+    Ok(ScheduleEvent::CalmAmong { members })
+}
+
+// P M ..
+fn change(alloc: Global, words: &[&[u8]], peers: u32) -> Result<ScheduleEvent, WordError>
+    ensures { Gives (change_of peers (texts words.now)) result }
+{
+    let (target, members) = first(words)?;
+    let peer = peer(target, peers)?;
+    let view = view(alloc, members, peers)?;
+    Ok(ScheduleEvent::Change { peer, view })
+}
+
+// P KEY BYTES
+fn placed(
+    alloc: Global,
+    words: &[&[u8]],
+    peers: u32,
+) -> Result<(PeerId, Key, Option<Bytes>), WordError>
+    ensures { Gives (placed_of peers (texts words.now)) result }
+{
+    let (target, place, bytes) = three(words)?;
+    let peer = peer(target, peers)?;
+    let key = key(alloc, place)?;
+    Ok((peer, key, content(alloc, bytes)?))
+}
+
+// The last index of a node at a level.
+fn last_index(level: u8) -> u64
+    requires { level ≤ 2 }
+    ensures { result ≡ 16 ^ level - 1 }
+{
+    match level {
+        0 => 0,
+        1 => 15,
+        _ => 255,
+    }
+}
+
+// P LEVEL INDEX BYTES
+fn inner(alloc: Global, words: &[&[u8]], peers: u32) -> Result<ScheduleEvent, WordError>
+    ensures { Gives (inner_of peers (texts words.now)) result }
+{
+    let (target, level, index, bytes) = four(words)?;
+    let peer = peer(target, peers)?;
+    let level = number(level, 0, 2)? as u8;
+    let index = number(index, 0, last_index(level))? as u32;
+    let bytes = content(alloc, bytes)?;
+    Ok(ScheduleEvent::Inner {
+        peer,
+        level,
+        index,
+        bytes,
+    })
+}
+
+// P N
+fn revert(words: &[&[u8]], peers: u32) -> Result<ScheduleEvent, WordError>
+    ensures { Gives (revert_of peers (texts words.now)) result }
+{
+    let (target, changes) = two(words)?;
+    let peer = peer(target, peers)?;
+    let changes = number(changes, 1, 1_000_000)? as u32;
+    Ok(ScheduleEvent::Revert { peer, changes })
+}
+
+// P STORE OLD
+fn fail(words: &[&[u8]], peers: u32) -> Result<ScheduleEvent, WordError>
+    ensures { Gives (fail_of peers (texts words.now)) result }
+{
+    let (target, store, survivor) = three(words)?;
+    let peer = peer(target, peers)?;
+    let store = StoreName::from_word(store).ok_or(Cause::Number)?;
+    let survivor = Survivor::from_word(survivor).ok_or(Cause::Number)?;
+    Ok(ScheduleEvent::Fail {
+        peer,
+        store,
+        survivor,
+    })
+}
+
+fn keyword_event(
+    alloc: Global,
+    keyword: Keyword,
+    words: &[&[u8]],
+    peers: u32,
+) -> Result<ScheduleEvent, WordError>
+    ensures { Gives (keyword_event peers keyword (texts words.now)) result }
+{
+    match keyword {
+        Keyword::Call => call(alloc, words, peers),
+        Keyword::Tick => tick(words, peers),
+        Keyword::Deliver => deliver(words),
+        Keyword::Pass => {
+            let (sender, receiver) = two_peers(words, peers)?;
+            Ok(ScheduleEvent::Pass { sender, receiver })
+        }
+        Keyword::Lose => {
+            let (sender, receiver) = two_peers(words, peers)?;
+            Ok(ScheduleEvent::Lose { sender, receiver })
+        }
+        Keyword::Calm => calm(alloc, words, peers),
+        Keyword::Change => change(alloc, words, peers),
+        Keyword::Stop => {
+            let peer = one_peer(words, peers)?;
+            Ok(ScheduleEvent::Stop { peer })
+        }
+        Keyword::Start => {
+            let peer = one_peer(words, peers)?;
+            Ok(ScheduleEvent::Start { peer })
+        }
+        Keyword::Spoil => {
+            let (peer, key, bytes) = placed(alloc, words, peers)?;
+            Ok(ScheduleEvent::Spoil { peer, key, bytes })
+        }
+        Keyword::Damage => {
+            let (peer, key, bytes) = placed(alloc, words, peers)?;
+            Ok(ScheduleEvent::Damage { peer, key, bytes })
+        }
+        Keyword::Inner => inner(alloc, words, peers),
+        Keyword::Revert => revert(words, peers),
+        Keyword::Fail => fail(words, peers),
+    }
+}
+
+fn words_event(alloc: Global, words: &[&[u8]], peers: u32) -> Result<ScheduleEvent, WordError>
+    ensures { Gives (words_event peers (texts words.now)) result }
+{
+    let [first, rest @ ..] = words else {
+        return Err(WordError::Bad(Cause::Unknown));
+    };
+    let Some(keyword) = Keyword::from_word(first) else {
+        return Err(WordError::Bad(Cause::Unknown));
+    };
+    keyword_event(alloc, keyword, rest, peers)
+}
+
+/// The event that a line spells, or its cause.
+pub(crate) fn event(alloc: Global, line: &[u8], peers: u32) -> Result<ScheduleEvent, WordError>
+    ensures { Gives (event_of peers line.now) result }
+{
+    if line.len() > LINE_LIMIT {
+        return Err(WordError::Bad(Cause::TooLong));
+    }
+    let words = line_words(alloc, line)?;
+    words_event(alloc, words.as_slice(), peers)
+}
+
+/// The event that one line spells, read where there are so many peers; `number` is the number of the
+/// line. The causes are 1 and 4 to 8, and the first of them in this order is answered.
+pub fn read_event(
+    alloc: Global,
+    bytes: &[u8],
+    number: u32,
+    peers: u32,
+) -> Result<ScheduleEvent, ScheduleError>
+    ensures exact { Answers (at_line number (event_of peers bytes.now)) result }
+    // What is read is spelled so and may stand in a schedule, and what may stand is read so.
+    ensures line { IfOk result (λ event. peers ≤ 31 → (bytes.now ≡ event_line event) × MayStand peers event) }
+    ensures only { (event : ScheduleEvent) → peers ≤ 31 → MayStand peers event → bytes.now ≡ event_line event → Answers (Ok event) result }
+{
+    match event(alloc, bytes, peers) {
+        Ok(event) => Ok(event),
+        Err(e) => Err(ScheduleError::at(number, e)),
+    }
+}

@@ -1,0 +1,151 @@
+ghost use Rattle.std.specs.Prelude.{◌≡◌, ◌<◌, ◌≤◌, ◌+◌};
+ghost use Rattle.schedule_words.specs.Causes.{Gives};
+ghost use Rattle.schedule_text.specs.Progress.{Blank, lines_so_far};
+ghost use Rattle.schedule_text.specs.Reading.{ended, finished, TakesLine, TakesWords};
+
+use crate::error::ScheduleError;
+use crate::event_lines::{LINE_LIMIT, event};
+use crate::heading::{peers_line, view_line};
+use crate::log::Log;
+use crate::schedule::Schedule;
+use crate::stage::Stage;
+use schedule_words::{Cause, WordError};
+use std::alloc::Global;
+use std::marker::Model;
+
+/// The most lines of a schedule.
+const MOST_LINES: u32 = 200_000;
+
+/// The first line of each schedule.
+const TITLE: &[u8; 10] = b"ensemble 1";
+
+/// A schedule that is read line by line. Contracts see what the lines so far said.
+#[derive(Drop)]
+pub struct Reading {
+    alloc: Global,
+    stage: Stage,
+    log: Log,
+}
+
+impl Model for Reading {
+    ghost use Rattle.schedule_text.specs.Progress.{Progress, progress_of, IsUnderWay};
+
+    ghost Value = { Progress };
+
+    ghost view = { λ r. progress_of r.stage r.log.events.items };
+
+    ghost invariant = { λ r. IsUnderWay r.stage r.log.events.items };
+}
+
+impl Reading {
+    /// The reading of no line yet.
+    pub fn new(alloc: Global) -> Reading
+        ensures { result ≡ Blank }
+    {
+        Reading {
+            alloc,
+            stage: Stage::Blank,
+            log: Log::new(alloc),
+        }
+    }
+
+    // How many lines were read.
+    fn lines(&self) -> u32
+        ensures count { result ≡ lines_so_far self.now }
+        ensures most { result ≤ 200000 }
+    {
+        match self.stage {
+            Stage::Blank => 0,
+            Stage::Titled => 1,
+            Stage::Counted(_) => 2,
+            Stage::Running(_, _) => 3 + self.log.events.len() as u32,
+        }
+    }
+
+    // The next line, which is not behind the last that a schedule may have.
+    fn take(&mut self, line: &[u8]) -> Result<(), WordError>
+        requires { lines_so_far self.old < 200000 }
+        ensures { TakesWords self.old line.now self.new result }
+    {
+        if line.len() > LINE_LIMIT {
+            return Err(WordError::Bad(Cause::TooLong));
+        }
+        match self.stage {
+            Stage::Blank => {
+                if line != TITLE.as_slice() {
+                    return Err(WordError::Bad(Cause::Heading));
+                }
+                self.stage = Stage::Titled;
+            }
+            Stage::Titled => {
+                let peers = peers_line(self.alloc, line)?;
+                self.stage = Stage::Counted(peers);
+            }
+            Stage::Counted(peers) => {
+                let view = view_line(self.alloc, line, peers)?;
+                self.stage = Stage::Running(peers, view);
+            }
+            Stage::Running(peers, _) => {
+                let event = event(self.alloc, line, peers)?;
+                self.log.push(event)?;
+            }
+        }
+        Ok(())
+    }
+
+    /// The next line, without its line feed. A line that is refused leaves the reading as it was.
+    pub fn line(&mut self, bytes: &[u8]) -> Result<(), ScheduleError>
+        ensures { TakesLine self.old bytes.now self.new result }
+    {
+        let lines = self.lines();
+        if lines == MOST_LINES {
+            return Err(ScheduleError::Lines);
+        }
+        match self.take(bytes) {
+            Ok(()) => Ok(()),
+            Err(e) => Err(ScheduleError::at(lines + 1, e)),
+        }
+    }
+
+    // The schedule, where the heading is whole.
+    fn finished(self) -> Result<Schedule, Cause>
+        ensures { result ≡ finished self }
+    {
+        let Reading {
+            alloc: _alloc,
+            stage,
+            log,
+        } = self;
+        match stage {
+            Stage::Running(peers, view) => Ok(Schedule {
+                peers,
+                view,
+                events: log.into_events(),
+            }),
+            Stage::Blank | Stage::Titled | Stage::Counted(_) => Err(Cause::Heading),
+        }
+    }
+
+    /// The schedule, given what follows the last line feed: nothing, or the line that the text breaks
+    /// off in.
+    pub fn end(self, rest: &[u8]) -> Result<Schedule, ScheduleError>
+        ensures { result ≡ ended self rest.now }
+    {
+        let lines = self.lines();
+        if rest.is_empty() {
+            return match self.finished() {
+                Ok(schedule) => Ok(schedule),
+                Err(cause) => Err(ScheduleError::at(lines + 1, WordError::Bad(cause))),
+            };
+        }
+        if lines == MOST_LINES {
+            return Err(ScheduleError::Lines);
+        }
+        let cause = if rest.len() > LINE_LIMIT {
+            Cause::TooLong
+        } else {
+            Cause::Unfinished
+        };
+        Err(ScheduleError::at(lines + 1, WordError::Bad(cause)))
+    }
+}

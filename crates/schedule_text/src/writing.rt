@@ -1,0 +1,358 @@
+ghost use Rattle.std.specs.Prelude.{◌≡◌, ◌++◌, ◌∷◌, [], map, OnOk, OnErr, IfOk, IfErr, string_bytes};
+ghost use Rattle.std.specs.Fmt.{decimal};
+ghost use Rattle.std.specs.List.{join_with_byte};
+ghost use Rattle.ens_base.specs.Words.{bytes_word, value_word, version_word};
+ghost use Rattle.schedule_words.specs.Spelling.{content_word, member_words};
+ghost use Rattle.schedule_text.specs.Keywords.{keyword_word, command_word};
+ghost use Rattle.schedule_text.specs.Spelling.{name_of, operand_words, event_line, ensemble_line, peers_line, view_line, schedule_text, IsSchedule};
+ghost use Rattle.schedule_text.specs.Reading.{schedule_of};
+ghost use Rattle.schedule_text.specs.declared.event.ScheduleEvent.TheVariants.{Call, CalmAmong, Change, Inner, Fail};
+ghost use Rattle.schedule_text.specs.Writing.{spaced, feeds};
+
+use crate::error::ScheduleError;
+use crate::event::ScheduleEvent;
+use crate::keyword::{CommandName, Keyword, StoreName, Survivor};
+use crate::schedule::Schedule;
+use ens_base::{Bytes, Command, Key, PeerId, Version, View, push_bytes, push_value};
+use std::alloc::{AllocError, Global};
+
+// A space and a number.
+fn push_number(out: &mut String, number: u64) -> Result<(), AllocError>
+    ensures { OnOk result (string_bytes out.new ≡ string_bytes out.old ++ (32 ∷ decimal number)) }
+{
+    write!(out, " {number}")
+}
+
+// A space and a word of fixed letters.
+fn push_word(out: &mut String, word: &str) -> Result<(), AllocError>
+    ensures { OnOk result (string_bytes out.new ≡ string_bytes out.old ++ (32 ∷ word.now)) }
+{
+    write!(out, " {word}")
+}
+
+// A space and a version.
+fn push_version(out: &mut String, version: Version) -> Result<(), AllocError>
+    ensures { OnOk result (string_bytes out.new ≡ string_bytes out.old ++ (32 ∷ version_word version)) }
+{
+    write!(out, " {version}")
+}
+
+// A space and a key.
+fn push_key(alloc: Global, out: &mut String, key: &Key) -> Result<(), AllocError>
+    ensures { OnOk result (string_bytes out.new ≡ string_bytes out.old ++ (32 ∷ bytes_word key.now)) }
+{
+    out.push_str(" ")?;
+    push_bytes(alloc, out, key.bytes())
+}
+
+// A space and a value.
+fn push_value_word(alloc: Global, out: &mut String, value: &[u8]) -> Result<(), AllocError>
+    ensures { OnOk result (string_bytes out.new ≡ string_bytes out.old ++ (32 ∷ value_word value.now)) }
+{
+    out.push_str(" ")?;
+    push_value(alloc, out, value)
+}
+
+// A space and what a store is to hold.
+fn push_content(alloc: Global, out: &mut String, bytes: &Option<Bytes>) -> Result<(), AllocError>
+    ensures { OnOk result (string_bytes out.new ≡ string_bytes out.old ++ (32 ∷ content_word bytes.now)) }
+{
+    match bytes {
+        Some(bytes) => {
+            out.push_str(" ")?;
+            push_bytes(alloc, out, bytes.as_slice())
+        }
+        None => out.push_str(" -"),
+    }
+}
+
+// The members, each behind a space.
+fn push_members(out: &mut String, members: &[PeerId]) -> Result<(), AllocError>
+    ensures { OnOk result (string_bytes out.new ≡ string_bytes out.old ++ spaced (member_words members.now)) }
+{
+    for member in members {
+        push_number(out, u64::from(member.number()))?;
+    }
+    Ok(())
+}
+
+// A line of a keyword and numbers.
+fn push_numbers(out: &mut String, keyword: &str, numbers: &[u64]) -> Result<(), AllocError>
+    ensures { OnOk result (string_bytes out.new ≡ string_bytes out.old ++ join_with_byte 32 (keyword.now ∷ map decimal numbers.now)) }
+{
+    out.push_str(keyword)?;
+    for number in numbers {
+        push_number(out, *number)?;
+    }
+    Ok(())
+}
+
+// The words of a command behind its key, each behind a space.
+fn push_operands(alloc: Global, out: &mut String, command: &Command) -> Result<(), AllocError>
+    ensures { OnOk result (string_bytes out.new ≡ string_bytes out.old ++ spaced (operand_words command.now)) }
+{
+    match command {
+        Command::Get | Command::Delete => Ok(()),
+        Command::PutOnce(value) => push_value_word(alloc, out, value.bytes()),
+        Command::Update(stamp, value) => {
+            push_version(out, *stamp)?;
+            push_value_word(alloc, out, value.bytes())
+        }
+        Command::Append(tail) => push_value_word(alloc, out, tail.bytes()),
+        Command::Add(amount) => push_number(out, *amount),
+        Command::Swap(old, new) => {
+            push_value_word(alloc, out, old.bytes())?;
+            push_value_word(alloc, out, new.bytes())
+        }
+        Command::Over(value) => push_value_word(alloc, out, value.bytes()),
+    }
+}
+
+fn command_name(command: &Command) -> CommandName
+    ensures { result ≡ name_of command.now }
+{
+    match command {
+        Command::Get => CommandName::Get,
+        Command::PutOnce(_) => CommandName::Once,
+        Command::Update(_, _) => CommandName::Update,
+        Command::Append(_) => CommandName::Append,
+        Command::Add(_) => CommandName::Add,
+        Command::Swap(_, _) => CommandName::Swap,
+        Command::Over(_) => CommandName::Over,
+        Command::Delete => CommandName::Delete,
+    }
+}
+
+// The line of a call.
+fn push_call(
+    alloc: Global,
+    out: &mut String,
+    peer: PeerId,
+    id: u64,
+    key: &Key,
+    command: &Command,
+) -> Result<(), AllocError>
+    ensures { OnOk result (string_bytes out.new ≡ string_bytes out.old ++ event_line (Call peer id key.now command.now)) }
+{
+    push_numbers(out, Keyword::Call.word(), &[u64::from(peer.number()), id])?;
+    push_word(out, command_name(command).word())?;
+    push_key(alloc, out, key)?;
+    push_operands(alloc, out, command)
+}
+
+// The line of a peer, a key and what a store is to hold.
+fn push_placed(
+    alloc: Global,
+    out: &mut String,
+    keyword: Keyword,
+    peer: PeerId,
+    key: &Key,
+    bytes: &Option<Bytes>,
+) -> Result<(), AllocError>
+    ensures { OnOk result (string_bytes out.new ≡ string_bytes out.old
+        ++ join_with_byte 32 (keyword_word keyword ∷ decimal peer ∷ bytes_word key.now ∷ content_word bytes.now ∷ [])) }
+{
+    push_numbers(out, keyword.word(), &[u64::from(peer.number())])?;
+    push_key(alloc, out, key)?;
+    push_content(alloc, out, bytes)
+}
+
+// The line of an inner node.
+fn push_inner(
+    alloc: Global,
+    out: &mut String,
+    peer: PeerId,
+    level: u8,
+    index: u32,
+    bytes: &Option<Bytes>,
+) -> Result<(), AllocError>
+    ensures { OnOk result (string_bytes out.new ≡ string_bytes out.old ++ event_line (Inner peer level index bytes.now)) }
+{
+    push_numbers(
+        out,
+        Keyword::Inner.word(),
+        &[u64::from(peer.number()), u64::from(level), u64::from(index)],
+    )?;
+    push_content(alloc, out, bytes)
+}
+
+// The line of a store that is to fail.
+fn push_fail(
+    out: &mut String,
+    peer: PeerId,
+    store: StoreName,
+    survivor: Survivor,
+) -> Result<(), AllocError>
+    ensures { OnOk result (string_bytes out.new ≡ string_bytes out.old ++ event_line (Fail peer store survivor)) }
+{
+    push_numbers(out, Keyword::Fail.word(), &[u64::from(peer.number())])?;
+    push_word(out, store.word())?;
+    push_word(out, survivor.word())
+}
+
+// The line of a change of view.
+fn push_change(out: &mut String, peer: PeerId, view: &View) -> Result<(), AllocError>
+    ensures { OnOk result (string_bytes out.new ≡ string_bytes out.old ++ event_line (Change peer view.now)) }
+{
+    push_numbers(out, Keyword::Change.word(), &[u64::from(peer.number())])?;
+    push_members(out, view.members())
+}
+
+// The line of a calm among members.
+#[tactic(auto, using(crate::proofs::Spaced::append_join))]
+fn push_calm(out: &mut String, members: &[PeerId]) -> Result<(), AllocError>
+    ensures { OnOk result (string_bytes out.new ≡ string_bytes out.old ++ event_line (CalmAmong members.now)) }
+{
+    out.push_str(Keyword::Calm.word())?;
+    push_members(out, members)
+}
+
+// The line of two peers.
+fn push_pair(
+    out: &mut String,
+    keyword: Keyword,
+    sender: PeerId,
+    receiver: PeerId,
+) -> Result<(), AllocError>
+    ensures { OnOk result (string_bytes out.new ≡ string_bytes out.old ++ join_with_byte 32 (keyword_word keyword ∷ decimal sender ∷ decimal receiver ∷ [])) }
+{
+    push_numbers(
+        out,
+        keyword.word(),
+        &[u64::from(sender.number()), u64::from(receiver.number())],
+    )
+}
+
+// The line of one peer.
+fn push_peer(out: &mut String, keyword: Keyword, peer: PeerId) -> Result<(), AllocError>
+    ensures { OnOk result (string_bytes out.new ≡ string_bytes out.old ++ join_with_byte 32 (keyword_word keyword ∷ decimal peer ∷ [])) }
+{
+    push_numbers(out, keyword.word(), &[u64::from(peer.number())])
+}
+
+/// The line of an event, without its line feed.
+fn push_event(alloc: Global, out: &mut String, event: &ScheduleEvent) -> Result<(), AllocError>
+    ensures { OnOk result (string_bytes out.new ≡ string_bytes out.old ++ event_line event.now) }
+{
+    match event {
+        ScheduleEvent::Call {
+            peer,
+            id,
+            key,
+            command,
+        } => push_call(alloc, out, *peer, *id, key, command),
+        ScheduleEvent::Tick { peer, ticks } => push_numbers(
+            out,
+            Keyword::Tick.word(),
+            &[u64::from(peer.number()), u64::from(*ticks)],
+        ),
+        ScheduleEvent::Deliver { message } => push_numbers(
+            out,
+            Keyword::Deliver.word(),
+            &[*message],
+        ),
+        ScheduleEvent::Pass { sender, receiver } => push_pair(
+            out,
+            Keyword::Pass,
+            *sender,
+            *receiver,
+        ),
+        ScheduleEvent::Lose { sender, receiver } => push_pair(
+            out,
+            Keyword::Lose,
+            *sender,
+            *receiver,
+        ),
+        ScheduleEvent::Calm => out.push_str(Keyword::Calm.word()),
+        ScheduleEvent::CalmAmong { members } => push_calm(out, members.as_slice()),
+        ScheduleEvent::Change { peer, view } => push_change(out, *peer, view),
+        ScheduleEvent::Stop { peer } => push_peer(out, Keyword::Stop, *peer),
+        ScheduleEvent::Start { peer } => push_peer(out, Keyword::Start, *peer),
+        ScheduleEvent::Spoil { peer, key, bytes } => push_placed(
+            alloc,
+            out,
+            Keyword::Spoil,
+            *peer,
+            key,
+            bytes,
+        ),
+        ScheduleEvent::Damage { peer, key, bytes } => push_placed(
+            alloc,
+            out,
+            Keyword::Damage,
+            *peer,
+            key,
+            bytes,
+        ),
+        ScheduleEvent::Inner {
+            peer,
+            level,
+            index,
+            bytes,
+        } => push_inner(alloc, out, *peer, *level, *index, bytes),
+        ScheduleEvent::Revert { peer, changes } => push_numbers(
+            out,
+            Keyword::Revert.word(),
+            &[u64::from(peer.number()), u64::from(*changes)],
+        ),
+        ScheduleEvent::Fail {
+            peer,
+            store,
+            survivor,
+        } => push_fail(out, *peer, *store, *survivor),
+    }
+}
+
+// The line of the view that the peers open with.
+#[tactic(auto, using(crate::proofs::Spaced::append_join))]
+fn push_view(out: &mut String, view: &View) -> Result<(), AllocError>
+    ensures { OnOk result (string_bytes out.new ≡ string_bytes out.old ++ view_line view.now) }
+{
+    out.push_str("view")?;
+    push_members(out, view.members())
+}
+
+// The three lines of the heading.
+fn push_heading(out: &mut String, peers: u32, view: &View) -> Result<(), AllocError>
+    ensures { OnOk result (string_bytes out.new ≡ string_bytes out.old ++ feeds (ensemble_line ∷ peers_line peers ∷ view_line view.now ∷ [])) }
+{
+    out.push_str("ensemble 1\n")?;
+    push_numbers(out, "peers", &[u64::from(peers)])?;
+    out.push_str("\n")?;
+    push_view(out, view)?;
+    out.push_str("\n")?;
+    Ok(())
+}
+
+// The events, a line each.
+fn push_events(alloc: Global, out: &mut String, events: &[ScheduleEvent]) -> Result<(), AllocError>
+    ensures { OnOk result (string_bytes out.new ≡ string_bytes out.old ++ feeds (map event_line events.now)) }
+{
+    for event in events {
+        push_event(alloc, out, event)?;
+        out.push_str("\n")?;
+    }
+    Ok(())
+}
+
+/// The text of a schedule.
+pub(crate) fn text_of(alloc: Global, schedule: &Schedule) -> Result<Vec<u8>, AllocError>
+    ensures { IfOk result (λ v. v.items ≡ schedule_text schedule.now) }
+{
+    let mut out = String::new(alloc);
+    push_heading(&mut out, schedule.peers, &schedule.view)?;
+    push_events(alloc, &mut out, schedule.events.as_slice())?;
+    Ok(out.into_bytes())
+}
+
+/// The text of a schedule. It is read as the schedule again, where that is one.
+pub fn write_schedule(alloc: Global, schedule: &Schedule) -> Result<Vec<u8>, ScheduleError>
+    ensures text { IfOk result (λ v. v.items ≡ schedule_text schedule.now) }
+    ensures again { IfOk result (λ v. IsSchedule schedule.now → schedule_of v.items ≡ Ok schedule.now) }
+    ensures memory { IfErr result (λ e. e ≡ ScheduleError.Memory) }
+{
+    match text_of(alloc, schedule) {
+        Ok(text) => Ok(text),
+        Err(_) => Err(ScheduleError::Memory),
+    }
+}

@@ -1,0 +1,40 @@
+ghost use Rattle.std.specs.Prelude.{◌≡◌, ◌≤◌, map};
+ghost use Rattle.schedule_words.specs.Causes.{Gives};
+ghost use Rattle.schedule_words.specs.Words.{members_of, view_of};
+
+use crate::cause::{Cause, WordError};
+use crate::numbers::number_within;
+use ens_base::{PeerId, Seq, View};
+use std::alloc::Global;
+
+// The greatest number of a peer in a view.
+const MOST_PEERS: u32 = 31;
+
+/// The members that the words name: from 1 to `peers`, each greater than the one before. Else the
+/// cause is `Peers`.
+pub fn members(alloc: Global, words: &[&[u8]], peers: u32) -> Result<Seq<PeerId>, WordError>
+    ensures { Gives (members_of peers (map (λ word. word.now) words.now)) result }
+{
+    let mut members = Vec::new(alloc);
+    let mut low: u64 = 1;
+    for word in words {
+        let Some(member) = number_within(word, low, u64::from(peers)) else {
+            return Err(WordError::Bad(Cause::Peers));
+        };
+        members.push(PeerId(member as u32))?;
+        low = member + 1;
+    }
+    Ok(Seq::new(members))
+}
+
+/// The view of 1 to 9 members that the words name: from 1 to `peers`, and to 31 at most, each
+/// greater than the one before. Else the cause is `Peers`.
+pub fn view(alloc: Global, words: &[&[u8]], peers: u32) -> Result<View, WordError>
+    ensures { Gives (view_of peers (map (λ word. word.now) words.now)) result }
+{
+    let members = members(alloc, words, peers.min(MOST_PEERS))?;
+    match View::new(members.as_slice()) {
+        Ok(view) => Ok(view),
+        Err(_) => Err(WordError::Bad(Cause::Peers)),
+    }
+}
