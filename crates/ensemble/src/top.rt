@@ -1,0 +1,47 @@
+ghost use Rattle.std.specs.Prelude.{◌≡◌, ◌≢◌, ◌↔◌, ℕ, List, map, IsTrue};
+ghost use Rattle.std.specs.Io.KnownBytes.{Appends, IsAtEnd};
+ghost use Rattle.ens_base.specs.Causes.{Rose};
+ghost use Rattle.ens_base.specs.declared.status.Status.{Status};
+ghost use Rattle.ens_outside.specs.Written.{AppendsFront};
+ghost use Rattle.ensemble.specs.Top.{IsReplay, Ends};
+
+use ens_base::Status;
+use ens_outside::{Sink, Source, finish};
+use replay::replay;
+use std::alloc::Global;
+
+fn is_replay(words: &[&str]) -> bool
+    ensures { IsTrue result ↔ IsReplay (map (λ w. w.now) words.now) }
+{
+    match words {
+        [word] => *word == "replay",
+        _ => false,
+    }
+}
+
+/// All that the program does: the job that the words ask for, over the input and the output that are
+/// handed in.
+///
+/// The word `replay` reads a schedule and writes the answers of its run and one history for each key.
+/// Every other list of words is a usage fault.
+pub fn ensemble_main<S: Source, O: Sink>(
+    alloc: Global,
+    words: &[&str],
+    input: &mut S,
+    output: &mut O,
+) -> Status
+    // What is written, by the status: for a replay that ran to its end, the answers of the machine and
+    // a legal history for each key.
+    ensures printed { result ≢ Status.WriteFault → (text : List ℕ) × Ends (map (λ w. w.now) words.now) (S.left input.old) result text × Appends (O.written output.old) (O.written output.new) text }
+    // A front of it, where the output failed.
+    ensures front { result ≡ Status.WriteFault → (status : Status) × (text : List ℕ) × Ends (map (λ w. w.now) words.now) (S.left input.old) status text × AppendsFront (O.written output.old) (O.written output.new) text }
+    ensures end { result ≡ Status.Done → IsAtEnd (S.left input.new) }
+    ensures read { result ≡ Status.ReadFault → Rose (S.fault_count input.old) (S.fault_count input.new) }
+    ensures write { result ≡ Status.WriteFault → Rose (O.fault_count output.old) (O.fault_count output.new) }
+{
+    if is_replay(words) {
+        replay(alloc, input, output)
+    } else {
+        finish(output, "usage\n", Status::Usage)
+    }
+}

@@ -1,0 +1,9 @@
+pub mod Lookups
+pub mod Machines
+pub mod Members
+pub mod Printed
+pub mod Serving
+pub mod Legal
+pub mod Parts
+pub mod FormSteps
+pub mod Forms

@@ -1,0 +1,27 @@
+-- What stands in a list, by recursion and by places.
+use Rattle.std.proofs.Common.{◌≡◌, ℕ, zero, suc, ◌+◌, ◌<◌, List, [], ◌∷◌, ◌++◌, length, map, get_or, refl, sym, ap, inl, inr, ◌⊎◌, arith}
+use Rattle.std.specs.Prelude.{Contains}
+use Rattle.ens_base.specs.Lists.{◌∈◌}
+
+at_place : {A : Type 0} (xs : List A) (x : A) (k : ℕ) → k < length xs → get_or xs k x ≡ x → x ∈ xs
+at_place [] x k lt e = absurd (omega arith)
+at_place (y ∷ ys) x zero lt e = inl (sym e)
+at_place (y ∷ ys) x (suc k) lt e = inr (at_place ys x k (omega arith) e)
+
+pub in_from_Contains : {A : Type 0} (xs : List A) (x : A) → Contains xs x → x ∈ xs
+in_from_Contains xs x h = at_place xs x h.0 h.1 h.2
+
+pub Contains_from_in : {A : Type 0} (xs : List A) (x : A) → x ∈ xs → Contains xs x
+Contains_from_in [] x h = absurd h
+Contains_from_in (y ∷ ys) x (inl e) = (0, omega arith, sym e)
+Contains_from_in (y ∷ ys) x (inr h) = let there = Contains_from_in ys x h in (suc there.0, omega (arith, there.1), there.2)
+
+pub in-map : {A B : Type 0} (f : A → B) (xs : List A) (x : A) → x ∈ xs → f x ∈ map f xs
+in-map f [] x h = absurd h
+in-map f (y ∷ ys) x (inl e) = inl (ap f e)
+in-map f (y ∷ ys) x (inr h) = inr (in-map f ys x h)
+
+pub from_map : {A B : Type 0} (f : A → B) (xs : List A) (y : B) → y ∈ map f xs → (x : A) × (x ∈ xs) × (y ≡ f x)
+from_map f [] y h = absurd h
+from_map f (x ∷ xs) y (inl e) = (x, inl refl, e)
+from_map f (x ∷ xs) y (inr h) = let there = from_map f xs y h in (there.0, inr there.1, there.2)

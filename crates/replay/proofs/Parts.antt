@@ -1,0 +1,241 @@
+-- The lines of a source, taken one after another, are the parts that its bytes are read by.
+use Rattle.std.proofs.Common.{◌≡◌, ◌≢◌, ℕ, zero, suc, ◌+◌, ◌<◌, ◌≤◌, ◌==◌, Bool, true, false, List, [], ◌∷◌, ◌++◌, length, take, Option, None, Some, Result, Ok, Err, refl, sym, ap, subst, ◌∙◌, append_assoc, append-nil, arith, length-append, length-take}
+use Rattle.std.specs.Prelude.{All, IfSome, IfErr, IsErr, nat_lt, if◌then◌else◌}
+use Rattle.std.specs.List.{slice_split, onto_first}
+use Rattle.std.specs.Io.KnownBytes.{Consumes, Keeps, IsAtEnd, prepend_known}
+use Rattle.std.proofs.lemmas.Bool.Decides.{nat_tests}
+use Rattle.std.proofs.lemmas.List.Elements.{All-head, All-tail, All-weaker}
+use Rattle.std.proofs.lemmas.List.Splits.{slice_split-cons_yes, slice_split-cons_no, slice_split_none, slice_split_at}
+use Rattle.ens_outside.specs.Lines.{HasNoFeed, IsLine, BeginsLong}
+use Rattle.schedule_words.specs.Causes.{◌>>=◌}
+use Rattle.schedule_words.specs.Words.{parts_of, words_of}
+use Rattle.schedule_words.specs.declared.cause.Cause.{Cause}
+use Rattle.schedule_words.specs.declared.cause.Cause.TheVariants.{TooLong, Unfinished, Repeated, Heading}
+use Rattle.schedule_text.specs.Errors.{at_line}
+use Rattle.schedule_text.specs.Events.{event_of, line_limit}
+use Rattle.schedule_text.specs.Progress.{Progress, Blank, Titled, Counted, Running, lines_so_far, is_repeated}
+use Rattle.schedule_text.specs.Reading.{next_line, with_line, bounded, at_next, ended, and_then, read_parts, most_lines, peers_of, opening_of, TakesLine}
+use Rattle.schedule_text.specs.Spelling.{ensemble_line}
+use Rattle.schedule_text.specs.declared.error.ScheduleError.{ScheduleError}
+use Rattle.schedule_text.specs.declared.error.ScheduleError.TheVariants.{Bad, Lines, Memory}
+use Rattle.schedule_text.specs.declared.schedule.Schedule.{Schedule}
+use Rattle.schedule_text.specs.declared.event.ScheduleEvent.{ScheduleEvent}
+use Rattle.ens_base.specs.Lists.{same_bytes}
+use Rattle.replay.specs.declared.read.ReadError.{ReadError}
+use Rattle.replay.specs.declared.read.ReadError.TheVariants as read
+use Rattle.replay.specs.Reading.{ReadsAs, ReadsOn, Refuses, of_schedule}
+
+is_feed_of : (b : ℕ) → b ≢ 10 → (b == 10) ≡ false
+is_feed_of b apart = grind (arith, nat_tests)
+
+no_feeds : (xs : List ℕ) → HasNoFeed xs → All (λ b. (b == 10) ≡ false) xs
+no_feeds xs clear = All-weaker (λ b. b ≢ 10) (λ b. (b == 10) ≡ false) is_feed_of xs clear
+
+parts_line : (v y : List ℕ) → HasNoFeed v → parts_of 10 ((v ++ 10 ∷ []) ++ y) ≡ v ∷ parts_of 10 y
+parts_line v y clear = ap (λ (l : List ℕ). parts_of 10 l) (append_assoc v (10 ∷ []) y) ∙ slice_split_at (λ b. b == 10) v 10 y (no_feeds v clear) refl
+
+onto_some : (x : ℕ) (w : List ℕ) (more : List (List ℕ)) (parts : List (List ℕ)) → parts ≡ w ∷ more → onto_first x parts ≡ (x ∷ w) ∷ more
+onto_some x w more parts e = ap (onto_first x) e
+
+-- there is a first part
+first_part : (xs : List ℕ) → (w : List ℕ) × (more : List (List ℕ)) × (parts_of 10 xs ≡ w ∷ more)
+first_part [] = ([], [], refl)
+first_part (x ∷ xs) = by_test (x == 10) refl (first_part xs)
+  where
+    by_test : (b : Bool) → (x == 10) ≡ b → (w : List ℕ) × (more : List (List ℕ)) × (parts_of 10 xs ≡ w ∷ more) → (w : List ℕ) × (more : List (List ℕ)) × (parts_of 10 (x ∷ xs) ≡ w ∷ more)
+    by_test true e rest = ([], parts_of 10 xs, slice_split-cons_yes (λ b. b == 10) x xs e)
+    by_test false e rest = (x ∷ rest.0, rest.1, slice_split-cons_no (λ b. b == 10) x xs e ∙ onto_some x rest.0 rest.1 (parts_of 10 xs) rest.2)
+
+-- it is as long as the bytes before the first line feed
+long_part : (n : ℕ) (xs : List ℕ) → n ≤ length xs → HasNoFeed (take n xs) → (w : List ℕ) × (more : List (List ℕ)) × (parts_of 10 xs ≡ w ∷ more) × (n ≤ length w)
+long_part zero xs fits clear = let part = first_part xs in (part.0, part.1, part.2, omega arith)
+long_part (suc n) [] fits clear = absurd (omega arith)
+long_part (suc n) (x ∷ xs) fits clear =
+    let rest = long_part n xs (omega arith) (All-tail (λ b. b ≢ 10) x (take n xs) clear) in
+    let head : (x == 10) ≡ false = is_feed_of x (All-head (λ b. b ≢ 10) x (take n xs) clear) in
+    (x ∷ rest.0, rest.1, slice_split-cons_no (λ b. b == 10) x xs head ∙ onto_some x rest.0 rest.1 (parts_of 10 xs) rest.2, (let more : n ≤ length rest.0 = rest.3 in omega arith))
+
+-- a line in front of more lines
+read_more : (p : Progress) (v : List ℕ) (parts : List (List ℕ)) (w : List ℕ) (more : List (List ℕ)) → parts ≡ w ∷ more → read_parts p (v ∷ parts) ≡ and_then (next_line p v) (λ q. read_parts q parts)
+read_more p v parts w more e = let P : List (List ℕ) → Type 0 = λ l. read_parts p (v ∷ l) ≡ and_then (next_line p v) (λ q. read_parts q l) in subst P (sym e) refl
+
+read_line : (p : Progress) (x v y : List ℕ) → HasNoFeed v → x ≡ (v ++ 10 ∷ []) ++ y → read_parts p (parts_of 10 x) ≡ and_then (next_line p v) (λ q. read_parts q (parts_of 10 y))
+read_line p x v y clear is =
+    let part = first_part y in
+    ap (λ (l : List ℕ). read_parts p (parts_of 10 l)) is ∙ ap (λ (l : List (List ℕ)). read_parts p l) (parts_line v y clear) ∙ read_more p v (parts_of 10 y) part.0 part.1 part.2
+
+pub line_taken : (a b : Option (List ℕ)) (p q : Progress) (v : List ℕ) → HasNoFeed v → Consumes a b (v ++ 10 ∷ []) → next_line p v ≡ Ok q → ReadsOn a p b q
+line_taken None b p q v clear took ok = tt
+line_taken (Some x) None p q v clear took ok = absurd took
+line_taken (Some x) (Some y) p q v clear took ok = read_line p x v y clear took ∙ ap (λ (r : Result Progress ScheduleError). and_then r (λ s. read_parts s (parts_of 10 y))) ok
+
+line_refused : (a b : Option (List ℕ)) (p : Progress) (v : List ℕ) (e : ScheduleError) → HasNoFeed v → Consumes a b (v ++ 10 ∷ []) → next_line p v ≡ Err e → ReadsAs a p (Err e)
+line_refused None b p v e clear took bad = tt
+line_refused (Some x) None p v e clear took bad = absurd took
+line_refused (Some x) (Some y) p v e clear took bad = read_line p x v y clear took ∙ ap (λ (r : Result Progress ScheduleError). and_then r (λ s. read_parts s (parts_of 10 y))) bad
+
+pub refuses_line : (a b : Option (List ℕ)) (p new : Progress) (v : List ℕ) (e : ScheduleError) → HasNoFeed v → Consumes a b (v ++ 10 ∷ []) → TakesLine p v new (Err e) → Refuses a p (of_schedule e)
+refuses_line a b p new v (Bad line cause) clear took bad = line_refused a b p v (Bad line cause) clear took bad.0
+refuses_line a b p new v Lines clear took bad = line_refused a b p v Lines clear took bad.0
+refuses_line a b p new v Memory clear took bad = tt
+
+-- a line that is too long
+too_long : {A : Type 0} (t : List ℕ) (r : Result A Cause) → 4400 < length t → bounded t r ≡ Err TooLong
+too_long t r long = by_test (nat_lt line_limit (length t)) (grind (arith, nat_tests, long))
+  where
+    by_test : (b : Bool) → b ≡ true → (if b then Err TooLong else r) ≡ Err TooLong
+    by_test true e = refl
+    by_test false e = absurd cc
+
+by_length : {A : Type 0} (p : Progress) (t : List ℕ) (r : Result A Cause) → 4400 < length t → (if lines_so_far p == most_lines then Err Lines else at_next p (bounded t r)) ≡ (if lines_so_far p == most_lines then Err Lines else at_next p (Err TooLong))
+by_length {A} p t r long = ap (λ (x : Result A Cause). if lines_so_far p == most_lines then Err Lines else at_next p x) (too_long t r long)
+
+refusal_of : Bool → ℕ → ScheduleError
+refusal_of true n = Lines
+refusal_of false n = Bad n 1
+
+abbrev long_error : {A : Type 0} → Progress → Result A ScheduleError
+long_error p = if lines_so_far p == most_lines then Err Lines else at_next p (Err TooLong)
+
+same_error : {A B : Type 0} (p : Progress) (e : ScheduleError) (b : Bool) → (let r : Result A ScheduleError = if b then Err Lines else at_next p (Err TooLong) in r ≡ Err e) → (let s : Result B ScheduleError = if b then Err Lines else at_next p (Err TooLong) in s ≡ Err e)
+same_error p e true h = let is : Lines ≡ e = cc in ap (λ (x : ScheduleError). Err x) is
+same_error p e false h = let is : Bad (lines_so_far p + 1) 1 ≡ e = cc in ap (λ (x : ScheduleError). Err x) is
+
+never_ok : {A : Type 0} (p : Progress) (x : A) (b : Bool) → (let r : Result A ScheduleError = if b then Err Lines else at_next p (Err TooLong) in r ≡ Ok x) → ⊥
+never_ok p x true h = cc
+never_ok p x false h = cc
+
+pub long_never : (p q : Progress) (t : List ℕ) → 4400 < length t → next_line p t ≡ Ok q → ⊥
+long_never p q t long ok = never_ok p q (lines_so_far p == most_lines) (sym (by_length p t (with_line p t) long) ∙ ok)
+
+long_parts : (p : Progress) (w : List ℕ) (more : List (List ℕ)) (e : ScheduleError) → 4400 < length w → (let r : Result Progress ScheduleError = long_error p in r ≡ Err e) → read_parts p (w ∷ more) ≡ Err e
+long_parts p [] more e long is = absurd (omega arith)
+long_parts p (byte ∷ w) [] e long is = by_length p (byte ∷ w) (Err Unfinished) long ∙ same_error p e (lines_so_far p == most_lines) is
+long_parts p (byte ∷ w) (n ∷ more) e long is = ap (λ (r : Result Progress ScheduleError). and_then r (λ q. read_parts q (n ∷ more))) (by_length p (byte ∷ w) (with_line p (byte ∷ w)) long ∙ is)
+
+pub long_refused : (a : Option (List ℕ)) (p : Progress) (t : List ℕ) (e : ScheduleError) → BeginsLong a → 4400 < length t → next_line p t ≡ Err e → ReadsAs a p (Err e)
+long_refused None p t e begins long bad = tt
+long_refused (Some x) p t e begins long bad =
+    let part = long_part 4401 x (omega (arith, begins.0)) begins.1 in
+    ap (λ (l : List (List ℕ)). read_parts p l) part.2 ∙ long_parts p part.0 part.1 e (let more : 4401 ≤ length part.0 = part.3 in omega arith) (sym (by_length p t (with_line p t) long) ∙ bad)
+
+pub refuses_long : (a : Option (List ℕ)) (p new : Progress) (t : List ℕ) (e : ScheduleError) → BeginsLong a → 4400 < length t → TakesLine p t new (Err e) → Refuses a p (of_schedule e)
+refuses_long a p new t (Bad line cause) begins long bad = long_refused a p t (Bad line cause) begins long bad.0
+refuses_long a p new t Lines begins long bad = long_refused a p t Lines begins long bad.0
+refuses_long a p new t Memory begins long bad = tt
+
+-- what follows the last line feed
+pub rest_read : (a b : Option (List ℕ)) (p : Progress) (v : List ℕ) → HasNoFeed v → Consumes a b v → IsAtEnd b → ReadsAs a p (ended p v)
+rest_read None b p v clear took end = tt
+rest_read (Some x) None p v clear took end = absurd took
+rest_read (Some x) (Some y) p v clear took end =
+    let is : x ≡ v = took ∙ ap (λ (l : List ℕ). v ++ l) end ∙ append-nil v in
+    ap (λ (l : List ℕ). read_parts p (parts_of 10 l)) is ∙ ap (λ (l : List (List ℕ)). read_parts p l) (slice_split_none (λ b. b == 10) v (no_feeds v clear))
+
+pub refuses_rest : (a : Option (List ℕ)) (p : Progress) (v : List ℕ) (e : ScheduleError) → ended p v ≡ Err e → ReadsAs a p (ended p v) → Refuses a p (of_schedule e)
+refuses_rest a p v (Bad line cause) is read = let P : Result Schedule ScheduleError → Type 0 = λ r. ReadsAs a p r in subst P is read
+refuses_rest a p v Lines is read = let P : Result Schedule ScheduleError → Type 0 = λ r. ReadsAs a p r in subst P is read
+refuses_rest a p v Memory is read = tt
+
+-- one reading behind another
+pub reads_on : (a b c : Option (List ℕ)) (p q r : Progress) → ReadsOn a p b q → ReadsOn b q c r → ReadsOn a p c r
+reads_on None b c p q r first second = tt
+reads_on (Some x) None c p q r first second = absurd first
+reads_on (Some x) (Some y) None p q r first second = absurd second
+reads_on (Some x) (Some y) (Some z) p q r first second = first ∙ second
+
+pub reads_as : (a b : Option (List ℕ)) (p q : Progress) (r : Result Schedule ScheduleError) → ReadsOn a p b q → ReadsAs b q r → ReadsAs a p r
+reads_as None b p q r first second = tt
+reads_as (Some x) None p q r first second = absurd first
+reads_as (Some x) (Some y) p q r first second = first ∙ second
+
+pub refuses_later : (a b : Option (List ℕ)) (p q : Progress) (e : ReadError) → ReadsOn a p b q → Refuses b q e → Refuses a p e
+refuses_later a b p q (read.Bad line cause) on bad = reads_as a b p q (Err (Bad line cause)) on bad
+refuses_later a b p q read.Lines on bad = reads_as a b p q (Err Lines) on bad
+refuses_later a b p q read.Failed on bad = tt
+refuses_later a b p q read.Memory on bad = tt
+
+pub reads_first : (a : Option (List ℕ)) (p : Progress) → ReadsOn a p (prepend_known [] a) p
+reads_first None p = tt
+reads_first (Some x) p = refl
+
+pub at_end : (b c : Option (List ℕ)) (p : Progress) → Keeps b c → IsAtEnd c → ReadsAs b p (ended p [])
+at_end None c p kept end = tt
+at_end (Some y) None p kept end = absurd kept
+at_end (Some y) (Some z) p kept end = ap (λ (l : List ℕ). read_parts p (parts_of 10 l)) (sym kept ∙ end)
+
+-- line 200,001 begins
+by_true : {A : Type 0} (b : Bool) (r : Result A ScheduleError) → b ≡ true → (if b then Err Lines else r) ≡ Err Lines
+by_true true r h = refl
+by_true false r h = absurd cc
+
+full_line : (p : Progress) (w n : List ℕ) (more : List (List ℕ)) → (lines_so_far p == most_lines) ≡ true → read_parts p (w ∷ n ∷ more) ≡ Err Lines
+full_line p w n more last = ap (λ (r : Result Progress ScheduleError). and_then r (λ q. read_parts q (n ∷ more))) (by_true (lines_so_far p == most_lines) (at_next p (bounded w (with_line p w))) last)
+
+full_rest : (p : Progress) (x : ℕ) (w : List ℕ) (more : List (List ℕ)) → (lines_so_far p == most_lines) ≡ true → read_parts p ((x ∷ w) ∷ more) ≡ Err Lines
+full_rest p x w [] last = by_true (lines_so_far p == most_lines) (at_next p (bounded (x ∷ w) (Err Unfinished))) last
+full_rest p x w (n ∷ more) last = full_line p (x ∷ w) n more last
+
+full : (p : Progress) (y : List ℕ) → (lines_so_far p == most_lines) ≡ true → y ≢ [] → read_parts p (parts_of 10 y) ≡ Err Lines
+full p [] last some = absurd (some refl)
+full p (x ∷ xs) last some = by_test (x == 10) refl (first_part xs)
+  where
+    by_test : (b : Bool) → (x == 10) ≡ b → (w : List ℕ) × (more : List (List ℕ)) × (parts_of 10 xs ≡ w ∷ more) → read_parts p (parts_of 10 (x ∷ xs)) ≡ Err Lines
+    by_test true e rest = ap (λ (l : List (List ℕ)). read_parts p l) (slice_split-cons_yes (λ b. b == 10) x xs e ∙ ap (λ (l : List (List ℕ)). [] ∷ l) rest.2) ∙ full_line p [] rest.0 rest.1 last
+    by_test false e rest = ap (λ (l : List (List ℕ)). read_parts p l) (slice_split-cons_no (λ b. b == 10) x xs e ∙ onto_some x rest.0 rest.1 (parts_of 10 xs) rest.2) ∙ full_rest p x rest.0 rest.1 last
+
+last_line : (n : ℕ) → n ≡ 200000 → (n == most_lines) ≡ true
+last_line n e = grind (arith, nat_tests, e)
+
+pub too_many : (b : Option (List ℕ)) (p : Progress) → lines_so_far p ≡ 200000 → IfSome b (λ rest. rest ≢ []) → ReadsAs b p (Err Lines)
+too_many None p count more = tt
+too_many (Some y) p count more = full p y (last_line (lines_so_far p) count) more
+
+-- a line that is taken is one more
+from_bind : {A B G : Type 0} (r : Result A Cause) (f : A → Result B Cause) (q : B) → (r >>= f) ≡ Ok q → ((x : A) → f x ≡ Ok q → G) → G
+from_bind (Ok x) f q h go = go x h
+from_bind (Err c) f q h go = absurd cc
+
+from_line : {A : Type 0} (n : ℕ) (r : Result A Cause) (q : A) → at_line n r ≡ Ok q → r ≡ Ok q
+from_line n (Ok x) q h = cc
+from_line n (Err c) q h = absurd cc
+
+from_bounds : {A : Type 0} (b : Bool) (r : Result A Cause) (q : A) → (if b then Err TooLong else r) ≡ Ok q → r ≡ Ok q
+from_bounds true r q h = absurd cc
+from_bounds false r q h = h
+
+from_test : (b : Bool) (r : Result Progress ScheduleError) (q : Progress) → (if b then Err Lines else r) ≡ Ok q → r ≡ Ok q
+from_test true r q h = absurd cc
+from_test false r q h = h
+
+one_more : (p q : Progress) (t : List ℕ) → with_line p t ≡ Ok q → lines_so_far q ≡ lines_so_far p + 1
+one_more Blank q t h = titled (same_bytes t ensemble_line) h
+  where
+    titled : (b : Bool) → (let r : Result Progress Cause = if b then Ok Titled else Err Heading in r ≡ Ok q) → lines_so_far q ≡ 1
+    titled true e = let is : Titled ≡ q = cc in sym (ap lines_so_far is)
+    titled false e = absurd cc
+one_more Titled q t h = from_bind (peers_of (words_of t)) (λ peers. Ok (Counted peers)) q h (λ peers e. let is : Counted peers ≡ q = cc in sym (ap lines_so_far is))
+one_more (Counted peers) q t h = from_bind (opening_of peers (words_of t)) (λ view. Ok (Running peers view [])) q h (λ view e. let is : Running peers view [] ≡ q = cc in sym (ap lines_so_far is))
+one_more (Running peers view events) q t h = from_bind (event_of peers t) (λ event. if is_repeated events event then Err Repeated else Ok (Running peers view (events ++ event ∷ []))) q h (λ event e. logged event (is_repeated events event) e)
+  where
+    logged : (event : ScheduleEvent) (b : Bool) → (let r : Result Progress Cause = if b then Err Repeated else Ok (Running peers view (events ++ event ∷ [])) in r ≡ Ok q) → lines_so_far q ≡ 3 + length events + 1
+    logged event true e = absurd cc
+    logged event false e = let is : Running peers view (events ++ event ∷ []) ≡ q = cc in sym (ap lines_so_far is) ∙ omega (arith, length-append events (event ∷ []))
+
+pub line_counts : (p q : Progress) (t : List ℕ) → next_line p t ≡ Ok q → lines_so_far q ≡ lines_so_far p + 1
+line_counts p q t ok = one_more p q t (from_bounds (nat_lt line_limit (length t)) (with_line p t) q (from_line (lines_so_far p + 1) (bounded t (with_line p t)) q (from_test (lines_so_far p == most_lines) (at_next p (bounded t (with_line p t))) q ok)))
+
+-- where nothing is pending or left, nothing is left
+pub ended_left : (pending : List ℕ) (left : Option (List ℕ)) → IsAtEnd (prepend_known pending left) → IsAtEnd left
+ended_left pending None h = tt
+ended_left [] (Some y) h = h
+ended_left (x ∷ pending) (Some y) h = let never : x ∷ (pending ++ y) ≡ [] = h in absurd cc
+
+-- a long line is refused, whatever its bytes are
+pub long_refuses : (p new : Progress) (t : List ℕ) (r : Result (Unit {0}) ScheduleError) → 4400 < length t → TakesLine p t new r → IfErr r (λ e. (rest : Option (List ℕ)) → BeginsLong rest → Refuses rest p (of_schedule e))
+long_refuses p new t (Ok u) long takes = tt
+long_refuses p new t (Err e) long takes = λ rest begins. refuses_long rest p new t e begins long takes
+
+pub long_errs : (p new : Progress) (t : List ℕ) (r : Result (Unit {0}) ScheduleError) → 4400 < length t → TakesLine p t new r → IsErr r
+long_errs p new t (Ok u) long takes = absurd (long_never p new t long takes)
+long_errs p new t (Err e) long takes = refl

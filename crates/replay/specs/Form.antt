@@ -1,0 +1,28 @@
+-- The schedules that are run so far: one peer, and events that are ticks, gets and overwrites.
+use Rattle.std.specs.Prelude.{◌≡◌, ◌==◌, List, [], ◌∷◌, Option, None, Some, if◌then◌else◌}
+use Rattle.ens_base.specs.declared.command.Command.TheVariants as does
+use Rattle.schedule_text.specs.declared.event.ScheduleEvent.{ScheduleEvent}
+use Rattle.schedule_text.specs.declared.event.ScheduleEvent.TheVariants as line
+use Rattle.schedule_text.specs.declared.schedule.Schedule.{Schedule}
+use Rattle.replay.specs.declared.event.Event.{Event}
+use Rattle.replay.specs.declared.event.Event.TheVariants.{Tick, Read, Write}
+
+-- the event that a line of a schedule is for the machine, if it has one
+abbrev pub form_event : ScheduleEvent → Option Event
+form_event (line.Tick peer ticks) = Some (Tick ticks)
+form_event (line.Call peer id key does.Get) = Some (Read id key)
+form_event (line.Call peer id key (does.Over value)) = Some (Write id key value)
+form_event _ = None
+
+-- an event in front of more, where there are both
+abbrev pub before : Option Event → Option (List Event) → Option (List Event)
+before (Some event) (Some rest) = Some (event ∷ rest)
+before _ _ = None
+
+abbrev pub form_events : List ScheduleEvent → Option (List Event)
+form_events [] = Some []
+form_events (event ∷ rest) = before (form_event event) (form_events rest)
+
+-- the events of a schedule of the form that is run, if it has that form
+abbrev pub form_of : Schedule → Option (List Event)
+form_of s = if s.peers == 1 then form_events s.events else None

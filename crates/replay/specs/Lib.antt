@@ -1,0 +1,9 @@
+pub mod Events
+pub mod Machine
+pub mod Keys
+pub mod Runner
+pub mod Histories
+pub mod Text
+pub mod Form
+pub mod Reading
+pub mod Jobs

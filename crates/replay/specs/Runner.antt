@@ -1,0 +1,7 @@
+-- The running machine, seen as the machine that answers.
+use Rattle.replay.specs.Keys.{register_in}
+use Rattle.replay.specs.Machine.{Machine}
+use Rattle.replay.specs.declared.runner.Runner.{Runner}
+
+abbrev pub model_of : Runner → Machine
+model_of r = record { ticks = r.ticks; writes = r.writes; register = register_in r.keys }

@@ -1,0 +1,36 @@
+-- The text that a run prints.
+use Rattle.std.specs.Prelude.{ℕ, List, [], ◌∷◌, ◌++◌, codes}
+use Rattle.std.specs.List.{flat_map}
+use Rattle.std.specs.Fmt.{decimal}
+use Rattle.ens_base.specs.Words.{version_word, bytes_word, value_word}
+use Rattle.ens_base.specs.declared.reply.Reply.{Reply}
+use Rattle.ens_base.specs.declared.reply.Reply.TheVariants as Reply
+use Rattle.register_model.specs.declared.answer.Answer.{Answer}
+use Rattle.register_model.specs.declared.history.History.{History}
+
+-- a reply, as the last words of its line
+abbrev pub reply_words : Reply → List ℕ
+reply_words (Reply.Value stamp bytes) = codes "value " ++ version_word stamp ++ codes " " ++ value_word bytes
+reply_words Reply.NotFound = codes "notfound"
+reply_words (Reply.Ok stamp) = codes "ok " ++ version_word stamp
+reply_words Reply.Failed = codes "failed"
+reply_words Reply.Unavailable = codes "unavailable"
+reply_words Reply.Busy = codes "busy"
+reply_words Reply.Lost = codes "lost"
+reply_words Reply.Timeout = codes "timeout"
+
+-- answer ID EVENT REPLY
+abbrev pub answer_line : Answer → List ℕ
+answer_line a = codes "answer " ++ decimal a.id ++ codes " " ++ decimal a.event ++ codes " " ++ reply_words a.reply ++ 10 ∷ []
+
+-- an id of a history, after the words before it
+abbrev pub next_id : ℕ → List ℕ
+next_id id = 32 ∷ decimal id
+
+-- history KEY ID ID ..
+abbrev pub history_line : History → List ℕ
+history_line h = codes "history " ++ bytes_word h.key ++ flat_map next_id h.calls ++ 10 ∷ []
+
+-- the answers as they were given, then the histories
+abbrev pub text_of : List Answer → List History → List ℕ
+text_of answers histories = flat_map answer_line answers ++ flat_map history_line histories

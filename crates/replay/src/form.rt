@@ -1,0 +1,60 @@
+ghost use Rattle.std.specs.Prelude.{◌≡◌, None, Some, IfOk, MatchOption};
+ghost use Rattle.replay.specs.Form.{form_event, form_events, form_of};
+
+use crate::event::Event;
+use ens_base::{Command, Key};
+use schedule_text::{Schedule, ScheduleEvent};
+use std::alloc::{AllocError, Global};
+
+fn call_event(id: u64, key: Key, command: Command) -> Option<Event>
+    ensures { (peer : Rattle.std.specs.Prelude.ℕ) → result ≡ form_event (ScheduleEvent.Call peer id key command) }
+{
+    match command {
+        Command::Get => Some(Event::Read(id, key)),
+        Command::Over(value) => Some(Event::Write(id, key, value)),
+        _ => None,
+    }
+}
+
+fn event_of(event: ScheduleEvent) -> Option<Event>
+    ensures { result ≡ form_event event }
+{
+    match event {
+        ScheduleEvent::Tick { peer: _peer, ticks } => Some(Event::Tick(u64::from(ticks))),
+        ScheduleEvent::Call {
+            peer: _peer,
+            id,
+            key,
+            command,
+        } => call_event(id, key, command),
+        _ => None,
+    }
+}
+
+fn events_of(alloc: Global, events: Vec<ScheduleEvent>) -> Result<Option<Vec<Event>>, AllocError>
+    ensures { IfOk result (λ o. MatchOption o (form_events events.items ≡ None) (λ v. form_events events.items ≡ Some v.items)) }
+{
+    let mut form = Vec::new(alloc);
+    for event in events {
+        let Some(event) = event_of(event) else {
+            return Ok(None);
+        };
+        form.push(event)?;
+    }
+    Ok(Some(form))
+}
+
+/// The events of a schedule of the form that is run, or none where it has another form.
+pub fn form_of(alloc: Global, schedule: Schedule) -> Result<Option<Vec<Event>>, AllocError>
+    ensures { IfOk result (λ o. MatchOption o (form_of schedule ≡ None) (λ v. form_of schedule ≡ Some v.items)) }
+{
+    let Schedule {
+        peers,
+        view: _view,
+        events,
+    } = schedule;
+    if peers != 1 {
+        return Ok(None);
+    }
+    events_of(alloc, events.into_vec())
+}

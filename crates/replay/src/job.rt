@@ -1,0 +1,95 @@
+ghost use Rattle.std.specs.Prelude.{◌≡◌, ◌≢◌, ◌⊎◌, ℕ, List, Option, None, Some, Ok, IfOk, IfSome, MatchOption, string_bytes};
+ghost use Rattle.std.specs.Io.KnownBytes.{Appends, IsAtEnd};
+ghost use Rattle.ens_base.specs.Causes.{Rose};
+ghost use Rattle.ens_base.specs.declared.status.Status.{Status};
+ghost use Rattle.ens_outside.specs.Written.{AppendsFront};
+ghost use Rattle.schedule_text.specs.Reading.{schedule_of};
+ghost use Rattle.schedule_text.specs.Spelling.{IsSchedule};
+ghost use Rattle.replay.specs.Form.{form_of};
+ghost use Rattle.replay.specs.Jobs.{Prints, IsRunText};
+
+use crate::form::form_of;
+use crate::read::{ReadError, read_schedule};
+use crate::run::run;
+use crate::text::write_text;
+use ens_base::Status;
+use ens_outside::{Sink, Source, finish};
+use schedule_text::Schedule;
+use std::alloc::{AllocError, Global};
+
+/// The text of the run of a schedule, or none where it has a form that is not run yet.
+fn run_text(alloc: Global, schedule: Schedule) -> Result<Option<String>, AllocError>
+    ensures { IfOk result (λ o. MatchOption o (form_of schedule ≡ None) (λ text. IsSchedule schedule → IsRunText schedule (string_bytes text))) }
+{
+    let Some(events) = form_of(alloc, schedule)? else {
+        return Ok(None);
+    };
+    let record = run(alloc, events)?;
+    Ok(Some(write_text(alloc, &record.answers, &record.histories)?))
+}
+
+/// What a job ends with.
+#[derive(Drop)]
+struct Ending {
+    status: Status,
+    text: String,
+}
+
+fn ending_with(alloc: Global, status: Status, text: &str) -> Result<Ending, AllocError>
+    ensures { IfOk result (λ e. (e.status ≡ status) × (string_bytes e.text ≡ text.now)) }
+{
+    Ok(Ending {
+        status,
+        text: String::from_str(alloc, text)?,
+    })
+}
+
+/// The run of a schedule, or that it has a form that is not run yet.
+fn run_ending(alloc: Global, schedule: Schedule) -> Result<Ending, AllocError>
+    ensures printed { IfOk result (λ e. (source : Option (List ℕ)) → IfSome source (λ bytes. schedule_of bytes ≡ Ok schedule) → Prints source e.status (string_bytes e.text)) }
+    ensures status { IfOk result (λ e. (e.status ≡ Status.Done) ⊎ (e.status ≡ Status.Unbuilt)) }
+{
+    match run_text(alloc, schedule)? {
+        Some(text) => Ok(Ending {
+            status: Status::Done,
+            text,
+        }),
+        None => ending_with(alloc, Status::Unbuilt, "unbuilt\n"),
+    }
+}
+
+/// What a replay of the input ends with, but for want of memory.
+fn replay_ending<S: Source>(alloc: Global, input: &mut S) -> Result<Ending, AllocError>
+    ensures printed { IfOk result (λ e. Prints (S.left input.old) e.status (string_bytes e.text)) }
+    ensures end { IfOk result (λ e. e.status ≡ Status.Done → IsAtEnd (S.left input.new)) }
+    ensures read { IfOk result (λ e. e.status ≡ Status.ReadFault → Rose (S.fault_count input.old) (S.fault_count input.new)) }
+{
+    match read_schedule(alloc, input) {
+        Ok(schedule) => run_ending(alloc, schedule),
+        Err(ReadError::Failed) => ending_with(alloc, Status::ReadFault, "read fault\n"),
+        Err(ReadError::Bad { line, cause }) => Ok(Ending {
+            status: Status::Schedule,
+            text: format!(in alloc; "schedule {line} {cause}\n")?,
+        }),
+        Err(ReadError::Lines) => ending_with(alloc, Status::Limit, "limit lines 200000\n"),
+        Err(ReadError::Memory) => Err(AllocError),
+    }
+}
+
+/// Reads a schedule from the input, runs it, and writes the answers and the histories to the output.
+///
+/// A job that ends otherwise writes one line: `read fault` where the input failed, `schedule LINE CAUSE`
+/// where the input is no schedule, `limit lines 200000` where it has too many lines, `unbuilt` where it
+/// is a schedule of a form that is not run yet, and `memory` where memory ran out.
+pub fn replay<S: Source, O: Sink>(alloc: Global, input: &mut S, output: &mut O) -> Status
+    ensures printed { result ≢ Status.WriteFault → (text : List ℕ) × Prints (S.left input.old) result text × Appends (O.written output.old) (O.written output.new) text }
+    ensures front { result ≡ Status.WriteFault → (status : Status) × (text : List ℕ) × Prints (S.left input.old) status text × AppendsFront (O.written output.old) (O.written output.new) text }
+    ensures end { result ≡ Status.Done → IsAtEnd (S.left input.new) }
+    ensures read { result ≡ Status.ReadFault → Rose (S.fault_count input.old) (S.fault_count input.new) }
+    ensures write { result ≡ Status.WriteFault → Rose (O.fault_count output.old) (O.fault_count output.new) }
+{
+    match replay_ending(alloc, input) {
+        Ok(ending) => finish(output, ending.text.as_str(), ending.status),
+        Err(_) => finish(output, "memory\n", Status::Memory),
+    }
+}

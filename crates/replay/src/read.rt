@@ -1,0 +1,124 @@
+ghost use Rattle.std.specs.Prelude.{◌≡◌, ◌≢◌, ◌+◌, ◌≤◌, ℕ, List, Option, IfOk, IfErr, IfSome, IfNone, OnOk, IsErr, IsErrOf};
+ghost use Rattle.std.specs.Io.KnownBytes.{prepend_known, IsAtEnd};
+ghost use Rattle.ens_base.specs.Causes.{Rose};
+ghost use Rattle.ens_outside.specs.Lines.{BeginsLong};
+ghost use Rattle.schedule_text.specs.Progress.{Blank, lines_so_far};
+ghost use Rattle.schedule_text.specs.Reading.{ended, schedule_of};
+ghost use Rattle.replay.specs.Reading.{ReadsAs, ReadsOn, Refuses, of_schedule};
+
+use ens_outside::{LINE_LIMIT, Lines, Next, NextError, Source};
+use schedule_text::{Reading, Schedule, ScheduleError};
+use std::alloc::Global;
+
+/// The most lines of a schedule.
+const MOST_LINES: u32 = 200_000;
+
+/// Why no schedule was read.
+#[derive(Clone, Copy, Debug, PartialEq, Eq)]
+pub enum ReadError {
+    /// The source failed.
+    Failed,
+    /// The first bad line, counted from 1, and its cause, from 1 to 9.
+    Bad { line: u32, cause: u8 },
+    /// Line 200,001 begins, and no line before it is bad.
+    Lines,
+    /// Memory ran out.
+    Memory,
+}
+
+impl From<NextError> for ReadError {
+    ghost use Rattle.std.specs.Prelude.{◌≡◌};
+    ghost use Rattle.replay.specs.Reading.{of_next};
+
+    ghost from_gives = { λ e r. r ≡ of_next e };
+
+    fn from(e: NextError) -> ReadError {
+        match e {
+            NextError::Failed => ReadError::Failed,
+            NextError::Memory => ReadError::Memory,
+        }
+    }
+}
+
+impl From<ScheduleError> for ReadError {
+    ghost use Rattle.std.specs.Prelude.{◌≡◌};
+    ghost use Rattle.replay.specs.Reading.{of_schedule};
+
+    ghost from_gives = { λ e r. r ≡ of_schedule e };
+
+    fn from(e: ScheduleError) -> ReadError {
+        match e {
+            ScheduleError::Bad { line, cause } => ReadError::Bad { line, cause },
+            ScheduleError::Lines => ReadError::Lines,
+            ScheduleError::Memory => ReadError::Memory,
+        }
+    }
+}
+
+/// Takes the next line into the reading; or gives what follows the last line feed, at the end.
+fn take_line<S: Source>(
+    alloc: Global,
+    lines: &mut Lines,
+    input: &mut S,
+    reading: &mut Reading,
+) -> Result<Option<Vec<u8>>, ReadError>
+    ensures line { IfOk result (λ o. IfNone o (ReadsOn (prepend_known lines.old.pending.items (S.left input.old)) reading.old (prepend_known lines.new.pending.items (S.left input.new)) reading.new × (lines_so_far reading.new ≡ lines_so_far reading.old + 1))) }
+    ensures rest { IfOk result (λ o. IfSome o (λ v. ReadsAs (prepend_known lines.old.pending.items (S.left input.old)) reading.old (ended reading.old v.items) × IsAtEnd (prepend_known lines.new.pending.items (S.left input.new)) × (reading.new ≡ reading.old))) }
+    ensures bad { IfErr result (Refuses (prepend_known lines.old.pending.items (S.left input.old)) reading.old) }
+    ensures later { S.fault_count input.old ≤ S.fault_count input.new }
+    ensures failed { IsErrOf result ReadError.Failed → Rose (S.fault_count input.old) (S.fault_count input.new) }
+{
+    match lines.next(alloc, input)? {
+        Next::Line(line) => {
+            reading.line(&line)?;
+            Ok(None)
+        }
+        Next::Rest(rest) => Ok(Some(rest)),
+        Next::TooLong => {
+            take_long(reading)?;
+            Ok(None)
+        }
+    }
+}
+
+/// Takes a line of more bytes than any may have. It is refused by its length alone, whatever they are.
+fn take_long(reading: &mut Reading) -> Result<(), ScheduleError>
+    ensures refused { IfErr result (λ e. (rest : Option (List ℕ)) → BeginsLong rest → Refuses rest reading.old (of_schedule e)) }
+    ensures never { IsErr result }
+{
+    reading.line(&[0; LINE_LIMIT + 1])
+}
+
+/// Reads a schedule, to the end of the source; or to its first bad line, or to the first byte of line
+/// 200,001.
+pub fn read_schedule<S: Source>(alloc: Global, input: &mut S) -> Result<Schedule, ReadError>
+    ensures ok { IfOk result (λ s. IfSome (S.left input.old) (λ bytes. schedule_of bytes ≡ Ok s)) }
+    ensures end { OnOk result (IsAtEnd (S.left input.new)) }
+    ensures bad { IfErr result (Refuses (S.left input.old) Blank) }
+    ensures later { S.fault_count input.old ≤ S.fault_count input.new }
+    ensures failed { IsErrOf result ReadError.Failed → Rose (S.fault_count input.old) (S.fault_count input.new) }
+{
+    let mut lines = Lines::new(alloc);
+    let mut reading = Reading::new(alloc);
+    for _turn in 0..MOST_LINES {
+        if let Some(rest) = take_line(alloc, &mut lines, input, &mut reading)? {
+            return end_of(reading, &rest);
+        }
+    }
+    if !lines.is_end(input)? {
+        return Err(ReadError::Lines);
+    }
+    end_of(reading, &[])
+}
+
+/// The schedule, given what follows the last line feed.
+fn end_of(reading: Reading, rest: &[u8]) -> Result<Schedule, ReadError>
+    ensures ok { IfOk result (λ s. ended reading rest.now ≡ Ok s) }
+    ensures bad { IfErr result (λ e. (bytes : Option (List ℕ)) → ReadsAs bytes reading (ended reading rest.now) → Refuses bytes reading e) }
+    ensures only { result ≢ Err ReadError.Failed }
+{
+    match reading.end(rest) {
+        Ok(schedule) => Ok(schedule),
+        Err(e) => Err(ReadError::from(e)),
+    }
+}

@@ -1,0 +1,77 @@
+use crate::replay;
+use ens_base::Status;
+use ens_outside::{MemSink, MemSource};
+use std::test::Fail;
+
+/// The event lines of a schedule of one peer, and what a replay of it has to print, with the status.
+#[derive(Clone, Copy)]
+struct Case {
+    lines: &'static str,
+    text: &'static str,
+    status: Status,
+}
+
+const fn done(lines: &'static str, text: &'static str) -> Case {
+    Case {
+        lines,
+        text,
+        status: Status::Done,
+    }
+}
+
+const fn bad(lines: &'static str, text: &'static str) -> Case {
+    Case {
+        lines,
+        text,
+        status: Status::Schedule,
+    }
+}
+
+const fn unbuilt(lines: &'static str) -> Case {
+    Case {
+        lines,
+        text: "unbuilt\n",
+        status: Status::Unbuilt,
+    }
+}
+
+#[test]
+fn schedules_print_their_text(rt: HostRuntime) -> Result<(), Fail> {
+    let alloc = rt.alloc();
+    let cases = [
+        // An overwrite and a get after the sixth tick.
+        done(
+            "tick 1 6\ncall 1 1 over 6b 76\ncall 1 2 get 6b\n",
+            "answer 1 2 ok 1.1.1\nanswer 2 3 value 1.1.1 76\nhistory 6b 1 2\n",
+        ),
+        // Before the sixth tick the peer does not lead, and the history of the key is empty.
+        done(
+            "tick 1 5\ncall 1 9 get 6b\ntick 1 1\ncall 1 8 get 6a\n",
+            "answer 9 2 unavailable\nanswer 8 4 notfound\nhistory 6a 8\nhistory 6b\n",
+        ),
+        // The empty value is a dash, and a register is that of its key.
+        done(
+            "tick 1 100\ncall 1 1 over 6b -\ncall 1 2 over 6b00 00ff\ncall 1 3 get 6b\n",
+            "answer 1 2 ok 1.1.1\nanswer 2 3 ok 1.1.2\nanswer 3 4 value 1.1.1 -\nhistory 6b 1 3\nhistory 6b00 2\n",
+        ),
+        done("", ""),
+        bad("tick 1 0\n", "schedule 4 6\n"),
+        bad("jump 1\n", "schedule 4 4\n"),
+        bad("tick 1 1", "schedule 4 2\n"),
+        bad("call 1 1 get 6b\ncall 1 1 get 6b\n", "schedule 5 9\n"),
+        unbuilt("call 1 1 delete 6b\n"),
+        unbuilt("stop 1\n"),
+    ];
+    for case in cases {
+        let schedule = format!(in alloc; "ensemble 1\npeers 1\nview 1\n{}", case.lines)?;
+        let mut input = MemSource::new(schedule.as_bytes().to_vec(alloc)?, Vec::new(alloc));
+        let mut output = MemSink::new(alloc, 500, Vec::new(alloc))?;
+        assert_eq!(rt;
+            replay(alloc, &mut input, &mut output),
+            case.status,
+            "{schedule}"
+        );
+        assert_eq!(rt; output.bytes(), case.text.as_bytes(), "{schedule}");
+    }
+    Ok(())
+}

@@ -1,0 +1,71 @@
+ghost use Rattle.std.specs.Prelude.{◌≡◌, ◌++◌, IfOk, OnOk, string_bytes};
+ghost use Rattle.std.specs.List.{flat_map};
+ghost use Rattle.replay.specs.Text.{answer_line, history_line, next_id, reply_words, text_of};
+
+use ens_base::{Reply, push_bytes, push_value};
+use register_model::{Answer, History};
+use std::alloc::{AllocError, Global};
+
+fn push_reply(alloc: Global, text: &mut String, reply: &Reply) -> Result<(), AllocError>
+    ensures { OnOk result (string_bytes text.new ≡ string_bytes text.old ++ reply_words reply.now) }
+{
+    match reply {
+        Reply::Value(stamp, value) => {
+            write!(text, "value {stamp} ")?;
+            push_value(alloc, text, value.bytes())
+        }
+        Reply::NotFound => text.push_str("notfound"),
+        Reply::Ok(stamp) => write!(text, "ok {stamp}"),
+        Reply::Failed => text.push_str("failed"),
+        Reply::Unavailable => text.push_str("unavailable"),
+        Reply::Busy => text.push_str("busy"),
+        Reply::Lost => text.push_str("lost"),
+        Reply::Timeout => text.push_str("timeout"),
+    }
+}
+
+fn push_answer(alloc: Global, text: &mut String, answer: &Answer) -> Result<(), AllocError>
+    ensures { OnOk result (string_bytes text.new ≡ string_bytes text.old ++ answer_line answer.now) }
+{
+    let id = answer.id;
+    let event = answer.event;
+    write!(text, "answer {id} {event} ")?;
+    push_reply(alloc, text, &answer.reply)?;
+    text.push_str("\n")
+}
+
+fn push_ids(text: &mut String, ids: &[u64]) -> Result<(), AllocError>
+    ensures { OnOk result (string_bytes text.new ≡ string_bytes text.old ++ flat_map next_id ids.now) }
+{
+    for id in ids {
+        write!(text, " {id}")?;
+    }
+    Ok(())
+}
+
+fn push_history(alloc: Global, text: &mut String, history: &History) -> Result<(), AllocError>
+    ensures { OnOk result (string_bytes text.new ≡ string_bytes text.old ++ history_line history.now) }
+{
+    text.push_str("history ")?;
+    push_bytes(alloc, text, history.key.bytes())?;
+    push_ids(text, history.calls.as_slice())?;
+    text.push_str("\n")
+}
+
+/// The text of the answers, in their order, and of the histories.
+pub fn write_text(
+    alloc: Global,
+    answers: &[Answer],
+    histories: &[History],
+) -> Result<String, AllocError>
+    ensures { IfOk result (λ text. string_bytes text ≡ text_of answers.now histories.now) }
+{
+    let mut text = String::new(alloc);
+    for answer in answers {
+        push_answer(alloc, &mut text, answer)?;
+    }
+    for history in histories {
+        push_history(alloc, &mut text, history)?;
+    }
+    Ok(text)
+}
