@@ -1,2 +1,9 @@
 pub mod Written
 pub mod Lines
+pub mod Told
+pub mod Stores
+pub mod Links
+pub mod Maps
+pub mod Failures
+pub mod MemStores
+pub mod MemLink

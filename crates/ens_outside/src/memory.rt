@@ -3,12 +3,25 @@ ghost use Rattle.std.specs.Io.{ReadsAtMost, WritesAtMost};
 ghost use Rattle.std.specs.Io.KnownBytes.{ReadConsumes, WriteAppends};
 ghost use Rattle.ens_base.specs.Causes.{HasCause};
 
+mod backend;
+mod failing_call;
+mod failures;
+mod link;
+mod nodes;
+mod ticker;
+
 use crate::sink::Sink;
 use crate::source::Source;
+pub use backend::MemBackend;
 use ens_base::Failed;
+pub use failing_call::{FailingCall, Leaves};
+pub use link::MemLink;
+pub use nodes::MemNodes;
 use std::alloc::{AllocError, Global};
+pub use ticker::MemTicker;
 
-/// A source over bytes in memory. The calls whose numbers are listed fail, the first call being 1.
+/// A source over bytes in memory. The calls whose numbers are listed fail, the first call being 1;
+/// with an empty list none does.
 #[derive(Drop)]
 pub struct MemSource {
     bytes: Vec<u8>,
@@ -62,7 +75,8 @@ impl Source for MemSource {
     }
 }
 
-/// A sink in memory, with room taken at the start. A write past it fails.
+/// A sink in memory, with room taken at the start. A write past it fails, and so do the calls whose
+/// numbers are listed, the first call being 1; with an empty list none of these does.
 #[derive(Drop)]
 pub struct MemSink {
     bytes: Vec<u8>,

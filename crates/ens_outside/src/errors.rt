@@ -1,0 +1,64 @@
+ghost use Rattle.std.specs.Prelude.{◌≡◌};
+ghost use Rattle.ens_outside.specs.declared.errors.StoreError.TheVariants.{Memory};
+ghost use Rattle.ens_outside.specs.declared.errors.LinkError.TheVariants.{Memory as NoMemory};
+
+use ens_base::CopyError;
+use std::alloc::{AllocError, AllocFailed};
+
+/// Why a store did not do what it was asked.
+#[derive(Clone, Copy, Debug, PartialEq, Eq)]
+pub enum StoreError {
+    /// The store failed. Its count of faults has risen.
+    Failed,
+    /// Memory ran out. The count of faults stands.
+    Memory,
+}
+
+impl From<AllocError> for StoreError {
+    ghost from_gives = { λ _ e. e ≡ Memory };
+
+    fn from(_e: AllocError) -> StoreError {
+        StoreError::Memory
+    }
+}
+
+impl<T: Drop> From<AllocFailed<T>> for StoreError {
+    ghost from_gives = { λ _ e. e ≡ Memory };
+
+    fn from(_e: AllocFailed<T>) -> StoreError {
+        StoreError::Memory
+    }
+}
+
+impl From<CopyError> for StoreError {
+    ghost from_gives = { λ _ e. e ≡ Memory };
+
+    fn from(_e: CopyError) -> StoreError {
+        StoreError::Memory
+    }
+}
+
+/// Why a frame was not sent, or a look was refused.
+#[derive(Clone, Copy, Debug, PartialEq, Eq)]
+pub enum LinkError {
+    /// The link failed. Its count of faults has risen.
+    Failed,
+    /// Memory ran out. The count of faults stands.
+    Memory,
+}
+
+impl From<AllocError> for LinkError {
+    ghost from_gives = { λ _ e. e ≡ NoMemory };
+
+    fn from(_e: AllocError) -> LinkError {
+        LinkError::Memory
+    }
+}
+
+impl<T: Drop> From<AllocFailed<T>> for LinkError {
+    ghost from_gives = { λ _ e. e ≡ NoMemory };
+
+    fn from(_e: AllocFailed<T>) -> LinkError {
+        LinkError::Memory
+    }
+}
