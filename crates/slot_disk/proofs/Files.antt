@@ -1,0 +1,97 @@
+-- Bytes that are written over those of a file.
+use Rattle.std.proofs.Common.{◌≡◌, ◌⊎◌, inl, inr, ℕ, ◌+◌, ◌-◌, ◌<◌, ◌≤◌, min, length-drop, subst, refl, List, ◌++◌, length, take, drop, replicate, sym, ◌∙◌, ap, arith, length-append}
+use Rattle.std.proofs.Math.Seq.{take-append-add}
+use Rattle.std.proofs.lemmas.List.{length-take, take-take, drop-drop, drop_at, take_all, drop_all, take-append-le, take-replicate, length-replicate, append-nil}
+use Rattle.std.proofs.lemmas.Bool.{cases_lt}
+use Rattle.slot_disk.specs.Crash.{written, Torn}
+
+-- zeros behind the file, as far as the place
+front : (old : List ℕ) (at n : ℕ) → take at (old ++ replicate (at + n - length old) 0) ≡ take at old ++ replicate (at - length old) 0
+front old at n = by (cases_lt at (length old))
+  where
+    zeros : List ℕ
+    zeros = replicate (at + n - length old) 0
+
+    past : (k : ℕ) → at ≡ length old + k → take at (old ++ zeros) ≡ take at old ++ replicate (at - length old) 0
+    past k is =
+        let rest : take k zeros ≡ replicate (at - length old) 0 =
+        take-replicate k (at + n - length old) 0 (omega (arith, is)) ∙ ap (λ (m : ℕ). replicate m 0) (let e : k ≡ at - length old = omega (arith, is) in e) in
+        ap (λ (m : ℕ). take m (old ++ zeros)) is ∙ take-append-add old zeros k ∙ ap (λ (l : List ℕ). old ++ l) rest ∙ ap (λ (l : List ℕ). l ++ replicate (at - length old) 0) (sym (take_all at old (omega (arith, is))))
+
+    by : (at < length old) ⊎ (length old ≤ at) → take at (old ++ zeros) ≡ take at old ++ replicate (at - length old) 0
+    by (inl within) = take-append-le at old zeros (omega arith) ∙ sym (append-nil (take at old)) ∙ ap (λ (m : ℕ). take at old ++ replicate m 0) (let e : 0 ≡ at - length old = omega arith in e)
+    by (inr le) = past (at - length old) (omega arith)
+
+-- nothing but the file's own bytes lies behind the end
+back : (old : List ℕ) (end : ℕ) → drop end (old ++ replicate (end - length old) 0) ≡ drop end old
+back old end = by (cases_lt (length old) end)
+  where
+    zeros : List ℕ
+    zeros = replicate (end - length old) 0
+
+    by : (length old < end) ⊎ (end ≤ length old) → drop end (old ++ zeros) ≡ drop end old
+    by (inl past) = drop_all end (old ++ zeros) (omega (arith, length-append old zeros, length-replicate {A = ℕ} (end - length old) 0)) ∙ sym (drop_all end old (omega arith))
+    by (inr le) = ap (λ (m : ℕ). drop end (old ++ replicate m 0)) (let e : end - length old ≡ 0 = omega arith in e) ∙ ap (λ (l : List ℕ). drop end l) (append-nil old)
+
+-- a file that was filled up with zeros first
+pub written_over : (old : List ℕ) (at : ℕ) (bytes : List ℕ)
+    → take at (old ++ replicate (at + length bytes - length old) 0) ++ bytes ++ drop (at + length bytes) (old ++ replicate (at + length bytes - length old) 0) ≡ written old at bytes
+written_over old at bytes =
+    ap (λ (l : List ℕ). l ++ bytes ++ drop (at + length bytes) (old ++ replicate (at + length bytes - length old) 0)) (front old at (length bytes))
+    ∙ ap (λ (l : List ℕ). (take at old ++ replicate (at - length old) 0) ++ bytes ++ l) (back old (at + length bytes))
+
+-- a write of which a part was done
+pub torn_part : (old bytes : List ℕ) (at n part : ℕ) → part ≤ n → length bytes ≡ part
+    → Torn at n old (take at (old ++ replicate (at + n - length old) 0) ++ bytes ++ drop (at + part) (old ++ replicate (at + n - length old) 0))
+torn_part old bytes at n part le size = record {
+  before = take-append-le m (take at full ++ bytes) rest (omega (arith, length-append (take at full) bytes, front_long))
+      ∙ take-append-le m (take at full) bytes (omega (arith, front_long))
+      ∙ take-take m at full (omega arith)
+      ∙ take-append-le m old zeros (omega arith);
+  after = behind;
+  no_shorter = omega (arith, long, whole);
+  no_longer = omega (arith, long, whole);
+}
+  where
+    m : ℕ
+    m = min at (length old)
+
+    zeros : List ℕ
+    zeros = replicate (at + n - length old) 0
+
+    full : List ℕ
+    full = old ++ zeros
+
+    rest : List ℕ
+    rest = drop (at + part) full
+
+    whole : length full ≡ length old + (at + n - length old)
+    whole = omega (arith, length-append old zeros, length-replicate {A = ℕ} (at + n - length old) 0)
+
+    front_long : length (take at full) ≡ at
+    front_long = omega (arith, length-take at full, whole)
+
+    done_long : length (take at full ++ bytes) ≡ at + part
+    done_long = omega (arith, length-append (take at full) bytes, front_long, size)
+
+    long : length ((take at full ++ bytes) ++ rest) ≡ length full
+    long = omega (arith, length-append (take at full ++ bytes) rest, done_long, length-drop (at + part) full, whole, le)
+
+    behind : drop (at + n) ((take at full ++ bytes) ++ rest) ≡ drop (at + n) old
+    behind =
+        let k = n - part in
+        let e : at + part + k ≡ at + n = omega (arith, le) in
+        ap (λ (i : ℕ). drop i ((take at full ++ bytes) ++ rest)) (sym e)
+        ∙ sym (drop-drop k (at + part) ((take at full ++ bytes) ++ rest))
+        ∙ ap (λ (l : List ℕ). drop k l) (drop_at (take at full ++ bytes) rest (at + part) done_long)
+        ∙ drop-drop k (at + part) full
+        ∙ ap (λ (i : ℕ). drop i full) e
+        ∙ back old (at + n)
+
+-- the same of a file that was filled up with zeros first
+pub torn_written : (old full new bytes : List ℕ) (at n end : ℕ) → length bytes ≤ n → end ≡ at + n → full ≡ old ++ replicate (end - length old) 0 → new ≡ take at full ++ bytes ++ drop (at + length bytes) full → Torn at n old new
+torn_written old full new bytes at n end le end_is full_is new_is =
+    let filled : full ≡ old ++ replicate (at + n - length old) 0 = full_is ∙ ap (λ (m : ℕ). old ++ replicate (m - length old) 0) end_is in
+    let is : new ≡ take at (old ++ replicate (at + n - length old) 0) ++ bytes ++ drop (at + length bytes) (old ++ replicate (at + n - length old) 0) =
+    new_is ∙ ap (λ (l : List ℕ). take at l ++ bytes ++ drop (at + length bytes) l) filled in
+    subst (λ (l : List ℕ). Torn at n old l) (sym is) (torn_part old bytes at n (length bytes) le refl)

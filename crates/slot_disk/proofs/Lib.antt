@@ -1,0 +1,10 @@
+pub mod Files
+pub mod Recorded
+pub mod Moments
+pub mod SlotBytes
+pub mod SlotFiles
+pub mod Stages
+pub mod Runs
+pub mod Saves
+pub mod SlotReads
+pub mod Rests

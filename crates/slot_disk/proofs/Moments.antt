@@ -1,0 +1,89 @@
+-- What a crash leaves after one call more of a disk that records its calls.
+use Rattle.std.proofs.Common.{◌≡◌, ◌⊎◌, inl, inr, ℕ, ◌+◌, ◌-◌, ◌<◌, ◌≤◌, min, List, [], ◌∷◌, ◌++◌, length, take, drop, replicate, reverse, refl, sym, ◌∙◌, ap, subst, arith, length-append, length-drop}
+use Rattle.std.proofs.lemmas.List.{take_all, take-append-le, drop_at, length-take, take-take, length-replicate}
+use Rattle.std.proofs.lemmas.Bool.{cases_lt}
+use Rattle.std.proofs.lemmas.List.{reverse-append}
+use Rattle.slot_disk.specs.Crash.{written, Torn, Cut, Elapses}
+use Rattle.slot_disk.specs.Images.{Advances, IsReplayed}
+use Rattle.slot_disk.specs.declared.step.Step.{Step}
+use Rattle.slot_disk.proofs.Recorded.{deeds_push}
+use Rattle.slot_disk.specs.Steps.{deeds, deed_of, Deed, Wrote, CutTo, Synced, seen_of, IsImage, Leaves, LeftSince}
+
+-- time after one call more
+pub elapses : (first later : List ℕ) (old new : List Deed) (d : Deed) → later ≡ first → new ≡ old ++ d ∷ [] → Elapses (length old) (length new) (LeftSince first old) (LeftSince later new) (Leaves later new)
+elapses first later old new d same is =
+    subst (λ (f : List ℕ). Elapses (length old) (length new) (LeftSince first old) (LeftSince f new) (Leaves f new)) (sym same)
+    (subst (λ (l : List Deed). Elapses (length old) (length l) (LeftSince first old) (LeftSince first l) (Leaves first l)) (sym is) (record {
+      later = omega (arith, length-append old (d ∷ []));
+      nothing_else = λ t c le left. by t c left (cases_lt (length old) left.0);
+      keeps = λ t c le left. (left.0, left.1, omega (arith, left.2, length-append old (d ∷ [])), subst (λ (l : List Deed). Leaves first l c) (sym (take-append-le left.0 old (d ∷ []) left.2)) left.3);
+    }))
+  where
+    by : (t : ℕ) (c : List ℕ) (left : LeftSince first (old ++ d ∷ []) t c) → (length old < left.0) ⊎ (left.0 ≤ length old) → LeftSince first old t c ⊎ Leaves first (old ++ d ∷ []) c
+    by t c left (inl more) = inr (subst (λ (l : List Deed). Leaves first l c) (take_all left.0 (old ++ d ∷ []) (omega (arith, length-append old (d ∷ [])))) left.3)
+    by t c left (inr le) = inl (left.0, left.1, le, subst (λ (l : List Deed). Leaves first l c) (take-append-le left.0 old (d ∷ []) le) left.3)
+
+pub length-front : (old : List ℕ) (at : ℕ) → length (take at old ++ replicate (at - length old) 0) ≡ at
+length-front old at = omega (arith, length-append (take at old) (replicate (at - length old) 0), length-take at old, length-replicate {A = ℕ} (at - length old) 0)
+
+length-put : (old : List ℕ) (at : ℕ) (bytes : List ℕ) → length ((take at old ++ replicate (at - length old) 0) ++ bytes) ≡ at + length bytes
+length-put old at bytes = omega (arith, length-append (take at old ++ replicate (at - length old) 0) bytes, length-front old at)
+
+pub length-written : (old : List ℕ) (at : ℕ) (bytes : List ℕ) → length (written old at bytes) ≡ at + length bytes + (length old - (at + length bytes))
+length-written old at bytes = omega (arith, length-append ((take at old ++ replicate (at - length old) 0) ++ bytes) (drop (at + length bytes) old), length-put old at bytes, length-drop (at + length bytes) old)
+
+-- a whole write is one of those that a crash may leave
+pub torn_whole : (old : List ℕ) (at : ℕ) (bytes : List ℕ) → Torn at (length bytes) old (written old at bytes)
+torn_whole old at bytes = record {
+  before = take-append-le (min at (length old)) ((take at old ++ replicate (at - length old) 0) ++ bytes) (drop (at + length bytes) old) (omega (arith, length-put old at bytes))
+      ∙ take-append-le (min at (length old)) (take at old ++ replicate (at - length old) 0) bytes (omega (arith, length-front old at))
+      ∙ take-append-le (min at (length old)) (take at old) (replicate (at - length old) 0) (omega (arith, length-take at old))
+      ∙ take-take (min at (length old)) at old (omega arith);
+  after = drop_at ((take at old ++ replicate (at - length old) 0) ++ bytes) (drop (at + length bytes) old) (at + length bytes) (length-put old at bytes);
+  no_shorter = omega (arith, length-written old at bytes);
+  no_longer = omega (arith, length-written old at bytes);
+}
+
+pub cut_whole : (old : List ℕ) (n : ℕ) → Cut n old (take n old)
+cut_whole old n = record { no_shorter = omega (arith, length-take n old); front = ends (cases_lt (length old) n) }
+  where
+    ends : (length old < n) ⊎ (n ≤ length old) → take (length (take n old)) old ≡ take n old
+    ends (inl past) = ap (λ (l : List ℕ). take (length l) old) (take_all n old (omega arith)) ∙ take_all (length old) old (omega arith) ∙ sym (take_all n old (omega arith))
+    ends (inr within) = ap (λ (k : ℕ). take k old) (let e : length (take n old) ≡ n = omega (arith, length-take n old) in e)
+
+-- a cut may not have been done
+pub cut_none : (old : List ℕ) (n : ℕ) → Cut n old old
+cut_none old n = record { no_shorter = omega arith; front = take_all (length old) old (omega arith) }
+
+-- what a read gives is one of those too
+pub seen_is_image : (first : List ℕ) (all : List Deed) → IsImage first all (seen_of first all)
+seen_is_image first [] = refl
+seen_is_image first (Wrote at bytes ∷ earlier) = (seen_of first earlier, seen_is_image first earlier, torn_whole (seen_of first earlier) at bytes)
+seen_is_image first (CutTo len ∷ earlier) = (seen_of first earlier, seen_is_image first earlier, cut_whole (seen_of first earlier) len)
+seen_is_image first (Synced ∷ earlier) = refl
+
+-- after a sync a crash leaves nothing new
+pub sync_leaves : (first later : List ℕ) (old new : List Deed) → later ≡ first → new ≡ old ++ Synced ∷ [] → (c : List ℕ) → Leaves later new c → Leaves first old c
+sync_leaves first later old new same is c left =
+    let on_push : Leaves first (old ++ Synced ∷ []) c = subst (λ (l : List Deed). Leaves first l c) is (subst (λ (f : List ℕ). Leaves f new c) same left) in
+    let turned : IsImage first (Synced ∷ reverse old) c = subst (λ (l : List Deed). IsImage first l c) (reverse-append old (Synced ∷ [])) on_push in
+    subst (λ (b : List ℕ). IsImage first (reverse old) b) (sym turned) (seen_is_image first (reverse old))
+
+-- one call more
+pub advanced : (first : List ℕ) (all : List Deed) (d : Deed) (solid left solid_after left_after : List ℕ) → solid ≡ seen_of first (reverse all) → IsImage first (reverse all) left → Advances d solid left solid_after left_after
+    → (solid_after ≡ seen_of first (d ∷ reverse all)) × IsImage first (d ∷ reverse all) left_after
+advanced first all (Wrote at bytes) solid left solid_after left_after is image by = (by.0 ∙ ap (λ (l : List ℕ). written l at bytes) is, (left, image, by.1))
+advanced first all (CutTo n) solid left solid_after left_after is image by = (by.0 ∙ ap (λ (l : List ℕ). take n l) is, (left, image, by.1))
+advanced first all Synced solid left solid_after left_after is image by = (by.0 ∙ is, by.1 ∙ is)
+
+pub replayed : (first log : List ℕ) (items : List Step) (i : ℕ) (s : Step) (solid left solid_after left_after : List ℕ) → take (i + 1) items ≡ take i items ++ s ∷ []
+    → IsReplayed first log (take i items) solid left → Advances (deed_of log s) solid left solid_after left_after → IsReplayed first log (take (i + 1) items) solid_after left_after
+replayed first log items i s solid left solid_after left_after more before by =
+    let all = deeds log (take i items) in
+    let turned : reverse (deeds log (take (i + 1) items)) ≡ deed_of log s ∷ reverse all =
+    ap (λ (l : List Step). reverse (deeds log l)) more ∙ ap (λ (l : List Deed). reverse l) (deeds_push log (take i items) s) ∙ reverse-append all (deed_of log s ∷ []) in
+    let after = advanced first all (deed_of log s) solid left solid_after left_after before.is_solid before.is_left by in
+    record {
+      is_solid = after.0 ∙ ap (λ (l : List Deed). seen_of first l) (sym turned);
+      is_left = subst (λ (l : List Deed). IsImage first l left_after) (sym turned) after.1;
+    }

@@ -1,0 +1,10 @@
+pub mod Crash
+pub mod Failing
+pub mod Steps
+pub mod StepLaws
+pub mod Slots
+pub mod Saving
+pub mod SlotFiles
+pub mod Found
+pub mod MemDisks
+pub mod Images

@@ -1,0 +1,136 @@
+ghost use Rattle.std.specs.Prelude.{◌≡◌, ◌-◌, ◌≤◌, ◌+◌, ◌++◌, List, ℕ, length, take, drop, replicate, OnOk, IfOk};
+ghost use Rattle.slot_disk.specs.Crash.{written, Torn, Cut};
+ghost use Rattle.slot_disk.specs.Steps.{deed_of, deeds, Leaves};
+ghost use Rattle.slot_disk.specs.Images.{Advances};
+
+use crate::memory::{MemDisk, overwrite};
+use crate::step::Step;
+use std::alloc::{AllocError, Global};
+
+/// What a crash leaves of each range that was written since the last sync. Bytes past the old end
+/// that are not new are zeros.
+#[derive(Clone, Copy, Debug, PartialEq, Eq)]
+pub enum Image {
+    /// The old bytes. A cut is not done.
+    Old,
+    /// The new bytes.
+    New,
+    /// New bytes in the first half, and old ones behind it.
+    Half,
+}
+
+impl Image {
+    /// How many bytes of a write of so many are new.
+    fn part(self, len: usize) -> usize
+        ensures { result ≤ len }
+    {
+        match self {
+            Image::Old => 0,
+            Image::New => len,
+            Image::Half => len / 2,
+        }
+    }
+}
+
+/// Fills the bytes up to a length with zeros.
+fn grow(file: &mut Vec<u8>, end: usize) -> Result<(), AllocError>
+    ensures { OnOk result (file.new.items ≡ file.old.items ++ replicate (end - length file.old.items) 0) }
+{
+    if file.len() < end {
+        return file.resize(end, 0);
+    }
+    Ok(())
+}
+
+/// Writes the first bytes of a write that a crash cuts short.
+fn write_part(file: &mut Vec<u8>, at: u64, bytes: &[u8], part: usize) -> Result<(), AllocError>
+    requires { part ≤ length bytes.now }
+    ensures { OnOk result (Torn at (length bytes.now) file.old.items file.new.items) }
+{
+    let place = at as usize;
+    let end = place.checked_add(bytes.len()).ok_or(AllocError)?;
+    grow(file, end)?;
+    overwrite(file, place, &bytes[..part]);
+    Ok(())
+}
+
+/// Writes.
+#[tactic(auto, using(crate::proofs::Files::written_over))]
+fn write_whole(file: &mut Vec<u8>, at: u64, bytes: &[u8]) -> Result<(), AllocError>
+    ensures { OnOk result (file.new.items ≡ written file.old.items at bytes.now) }
+{
+    let place = at as usize;
+    let end = place.checked_add(bytes.len()).ok_or(AllocError)?;
+    grow(file, end)?;
+    overwrite(file, place, bytes);
+    Ok(())
+}
+
+/// The bytes of a write among those of all.
+fn part_of(log: &[u8], from: usize, len: usize) -> &[u8]
+    ensures { result.now ≡ take len (drop from log.now) }
+{
+    let rest = &log[from.min(log.len())..];
+    &rest[..len.min(rest.len())]
+}
+
+/// What a read gives, and what a crash leaves.
+#[derive(Debug, Drop)]
+struct Replay {
+    solid: Vec<u8>,
+    left: Vec<u8>,
+}
+
+impl Replay {
+    /// One call more.
+    fn advance(&mut self, log: &[u8], step: Step, image: Image) -> Result<(), AllocError>
+        ensures { OnOk result (Advances (deed_of log.now step) self.old.solid.items self.old.left.items self.new.solid.items self.new.left.items) }
+    {
+        match step {
+            Step::Write { at, from, len } => self.write(at, part_of(log, from, len), image),
+            Step::Cut(len) => {
+                self.cut(len, image);
+                Ok(())
+            }
+            Step::Sync => {
+                self.left.clear();
+                self.left.extend_from_slice(&self.solid)
+            }
+        }
+    }
+
+    fn write(&mut self, at: u64, bytes: &[u8], image: Image) -> Result<(), AllocError>
+        ensures solid { OnOk result (self.new.solid.items ≡ written self.old.solid.items at bytes.now) }
+        ensures left { OnOk result (Torn at (length bytes.now) self.old.left.items self.new.left.items) }
+    {
+        write_whole(&mut self.solid, at, bytes)?;
+        write_part(&mut self.left, at, bytes, image.part(bytes.len()))
+    }
+
+    #[tactic(auto, using(crate::proofs::Moments::cut_whole, crate::proofs::Moments::cut_none))]
+    fn cut(&mut self, len: u64, image: Image)
+        ensures solid { self.new.solid.items ≡ take len self.old.solid.items }
+        ensures left { Cut len self.old.left.items self.new.left.items }
+    {
+        self.solid.truncate(len as usize);
+        if image != Image::Old {
+            self.left.truncate(len as usize);
+        }
+    }
+}
+
+impl MemDisk {
+    /// What a crash leaves now, in one of three ways. Want of memory is the one refusal.
+    pub fn crash(&self, alloc: Global, image: Image) -> Result<Vec<u8>, AllocError>
+        ensures { IfOk result (λ v. Leaves self.now.first.items (deeds self.now.log.items self.now.steps.items) v.items) }
+    {
+        let mut replay = Replay {
+            solid: Vec::from_slice(alloc, &self.first)?,
+            left: Vec::from_slice(alloc, &self.first)?,
+        };
+        for step in &self.steps {
+            replay.advance(&self.log, *step, image)?;
+        }
+        Ok(replay.left)
+    }
+}

@@ -1,0 +1,251 @@
+ghost use Rattle.std.specs.Prelude.{◌≡◌, ◌⊎◌, ◌↔◌, ◌+◌, ◌-◌, ◌^◌, ◌<◌, ◌≤◌, List, ℕ, Option, Some, None, length, IfOk, IfErr, OnOk, OnErr, IsErrOf, false, option_map};
+ghost use Rattle.ens_base.specs.Causes.{Rose};
+ghost use Rattle.slot_disk.specs.Crash.{Told, Stay, LeavesOnly, SeenIn, IsOn};
+ghost use Rattle.slot_disk.specs.Slots.{record_in, last_serial, next_slot, other, IsOldOrNew, newer, held_slot, current, shut_at};
+ghost use Rattle.slot_disk.specs.Saving.{IsReadError};
+ghost use Rattle.slot_disk.specs.Found.{kept_now};
+ghost use Rattle.slot_disk.specs.declared.error.SlotError.TheVariants as errors;
+ghost use Rattle.slot_disk.specs.declared.slot.Slot.TheVariants.{A, B};
+
+use crate::buffer::Buffer;
+use crate::current::Current;
+use crate::disk::Disk;
+use crate::error::SlotError;
+use crate::reading::{Both, pick, read_both};
+use crate::refused::Refused;
+use crate::slot::Slot;
+use crate::writing::replace;
+use std::alloc::{AllocError, Global};
+
+/// The most bytes of a record.
+pub const RECORD_LIMIT: usize = 480;
+
+/// A record on a disk, in one of two slots. It is replaced whole or not at all, whenever a crash
+/// comes. What it holds it also keeps in memory. After a failure it is to be opened again.
+#[derive(Drop)]
+pub struct SlotFile<D: Disk> {
+    alloc: Global,
+    disk: D,
+    current: Option<Current>,
+    a_is_shut: bool,
+    b_is_shut: bool,
+    content: Buffer,
+    spelled: Buffer,
+}
+
+/// What a slot file keeps beside its disk.
+#[derive(Drop)]
+struct Parts {
+    current: Option<Current>,
+    a_is_shut: bool,
+    b_is_shut: bool,
+    content: Buffer,
+    spelled: Buffer,
+}
+
+/// What is kept of two slots that were read.
+fn parts_of(alloc: Global, both: Both) -> Result<Parts, AllocError>
+    ensures now { IfOk result (λ p. kept_now p.current p.content.bytes.items ≡ newer (held_slot both.a.held) (held_slot both.b.held)) }
+    ensures a { IfOk result (λ p. p.a_is_shut ≡ both.a.is_shut) }
+    ensures b { IfOk result (λ p. p.b_is_shut ≡ both.b.is_shut) }
+{
+    let a_is_shut = both.a.is_shut;
+    let b_is_shut = both.b.is_shut;
+    let spelled = Buffer::new(alloc)?;
+    match pick(both.a.held, both.b.held) {
+        None => Ok(Parts {
+            current: None,
+            a_is_shut,
+            b_is_shut,
+            content: Buffer::new(alloc)?,
+            spelled,
+        }),
+        Some(picked) => Ok(Parts {
+            current: Some(Current {
+                slot: picked.slot,
+                serial: picked.held.serial,
+            }),
+            a_is_shut,
+            b_is_shut,
+            content: Buffer::of(alloc, &picked.held.content)?,
+            spelled,
+        }),
+    }
+}
+
+/// Brings everything onto the disk, and reads what a slot file keeps.
+fn prepare<D: Disk>(alloc: Global, disk: &mut D) -> Result<Parts, SlotError>
+    ensures now { IfOk result (λ p. Told (D.seen disk.old) (λ file. kept_now p.current p.content.bytes.items ≡ current file)) }
+    ensures gates { IfOk result (λ p. Told (D.seen disk.old) (λ file. (p.a_is_shut ≡ shut_at file A) × (p.b_is_shut ≡ shut_at file B))) }
+    ensures durable { OnOk result (Told (D.seen disk.old) (λ file. IsOn D.seen D.may_leave disk.new file)) }
+    ensures error { IfErr result (λ e. IsReadError (D.fault_count disk.old) (D.fault_count disk.new) e) }
+    ensures later { D.fault_count disk.old ≤ D.fault_count disk.new }
+    ensures seen { Stay (D.seen disk.old) (D.seen disk.new) }
+    ensures crash { (c : List ℕ) → D.may_leave disk.new c → D.may_leave disk.old c }
+    ensures any_moment { LeavesOnly D.moment D.left_since disk.old disk.new (D.may_leave disk.old) }
+{
+    let both = read_both(alloc, disk)?;
+    let parts = parts_of(alloc, both)?;
+    Ok(parts)
+}
+
+impl<D: Disk> SlotFile<D> {
+    ghost use Rattle.slot_disk.specs.SlotFiles.{remembered, remembers_shut, IsAtRest, IsSaveError, Loads, disk_after};
+
+    /// Opens the file of a disk. It syncs before it reads, so that the record which is then held is
+    /// the one that a crash leaves. A disk without an open slot holds no record.
+    ///
+    /// # Errors
+    ///
+    /// `Failed` only where the disk's count of faults rose, or want of memory. The disk comes back,
+    /// with the bytes that it had.
+    pub fn open(alloc: Global, disk: D) -> Result<SlotFile<D>, Refused<D, SlotError>>
+        ensures at_rest { IfOk result (λ file. Told (D.seen disk) (λ bytes. IsAtRest D.seen D.may_leave file × (remembered file ≡ current bytes))) }
+        ensures error { IfErr result (λ r. IsReadError (D.fault_count disk) (D.fault_count r.held) r.error) }
+        ensures later { D.fault_count disk ≤ D.fault_count (disk_after result) }
+        ensures seen { Stay (D.seen disk) (D.seen (disk_after result)) }
+        ensures crash { (c : List ℕ) → D.may_leave (disk_after result) c → D.may_leave disk c }
+        ensures any_moment { LeavesOnly D.moment D.left_since disk (disk_after result) (D.may_leave disk) }
+    {
+        let mut disk = disk;
+        let parts = match prepare(alloc, &mut disk) {
+            Ok(parts) => parts,
+            Err(error) => return Err(Refused { error, held: disk }),
+        };
+        Ok(SlotFile {
+            alloc,
+            disk,
+            current: parts.current,
+            a_is_shut: parts.a_is_shut,
+            b_is_shut: parts.b_is_shut,
+            content: parts.content,
+            spelled: parts.spelled,
+        })
+    }
+
+    /// Saves a record, at most 480 bytes, in place of the one that is held. It takes no memory. After
+    /// `Ok` a crash leaves the new record. A crash at any moment of the call, or after a failure,
+    /// leaves the old record or the new one.
+    ///
+    /// # Errors
+    ///
+    /// `TooLong` exactly where there are more than 480 bytes. `Spent` exactly where there are not and
+    /// the last serial number is the greatest u64. `Failed` only where the disk's count of faults
+    /// rose.
+    pub fn save(&mut self, bytes: &[u8]) -> Result<(), SlotError>
+        ensures any_moment { IsAtRest D.seen D.may_leave self.old → LeavesOnly D.moment D.left_since self.old.disk self.new.disk (IsOldOrNew (record_in (remembered self.old)) bytes.now) }
+        ensures seen { IsAtRest D.seen D.may_leave self.old → SeenIn D.seen self.new.disk (IsOldOrNew (record_in (remembered self.old)) bytes.now) }
+        ensures at_rest { OnOk result (IsAtRest D.seen D.may_leave self.old → IsAtRest D.seen D.may_leave self.new) }
+        ensures ok { OnOk result (record_in (remembered self.new) ≡ Some bytes.now) }
+        ensures serial { OnOk result (last_serial (remembered self.new) ≡ last_serial (remembered self.old) + 1) }
+        ensures err { OnErr result (remembered self.new ≡ remembered self.old) }
+        ensures error { IfErr result (λ e. IsSaveError (D.fault_count self.old.disk) (D.fault_count self.new.disk) (last_serial (remembered self.old)) (length bytes.now) e) }
+        ensures can { OnOk result ((length bytes.now ≤ 480) × (last_serial (remembered self.old) < 2 ^ 64 - 1)) }
+        ensures later { D.fault_count self.old.disk ≤ D.fault_count self.new.disk }
+        ensures refused { OnErr result (IsErrOf result errors.Failed ⊎ (self.new.disk ≡ self.old.disk)) }
+    {
+        if bytes.len() > RECORD_LIMIT {
+            return Err(SlotError::TooLong);
+        }
+        let last = self.last_serial();
+        if last == u64::MAX {
+            return Err(SlotError::Spent);
+        }
+        let slot = self.next_slot();
+        self.spelled.set_body(last + 1, bytes);
+        let is_shut = self.is_shut(slot);
+        let done = replace(&mut self.disk, slot, is_shut, self.spelled.as_slice());
+        match done {
+            Err(_failed) => Err(SlotError::Failed),
+            Ok(()) => {
+                self.note(slot, last + 1, bytes);
+                Ok(())
+            }
+        }
+    }
+
+    /// The serial number of the current slot, 0 where none is.
+    fn last_serial(&self) -> u64
+        ensures { result ≡ last_serial (remembered self.now) }
+    {
+        match self.current {
+            None => 0,
+            Some(current) => current.serial,
+        }
+    }
+
+    /// The slot that is not current, A where none is.
+    fn next_slot(&self) -> Slot
+        ensures { result ≡ next_slot (remembered self.now) }
+    {
+        match self.current {
+            None => Slot::A,
+            Some(current) => current.slot.other(),
+        }
+    }
+
+    /// Whether the gate of a slot is there and closed.
+    fn is_shut(&self, slot: Slot) -> bool
+        ensures { result ≡ remembers_shut self.now slot }
+    {
+        match slot {
+            Slot::A => self.a_is_shut,
+            Slot::B => self.b_is_shut,
+        }
+    }
+
+    /// Remembers that a slot has become the current one.
+    fn note(&mut self, slot: Slot, serial: u64, bytes: &[u8])
+        requires { length bytes.now ≤ 480 }
+        ensures now { remembered self.new ≡ Some (slot, (serial, bytes.now)) }
+        ensures here { remembers_shut self.new slot ≡ false }
+        ensures other { remembers_shut self.new (other slot) ≡ remembers_shut self.old (other slot) }
+        ensures disk { self.new.disk ≡ self.old.disk }
+    {
+        self.content.set(bytes);
+        self.current = Some(Current { slot, serial });
+        match slot {
+            Slot::A => self.a_is_shut = false,
+            Slot::B => self.b_is_shut = false,
+        }
+    }
+
+    /// The record that is held, where there is one.
+    pub fn record(&self) -> Option<&[u8]>
+        ensures { option_map (λ r. r.now) result ≡ record_in (remembered self.now) }
+    {
+        match self.current {
+            None => None,
+            Some(_current) => Some(self.content.as_slice()),
+        }
+    }
+
+    /// A copy of the record.
+    ///
+    /// # Errors
+    ///
+    /// `NoRecord` exactly where no slot held one when the file was opened, and none was saved since;
+    /// or want of memory.
+    pub fn load(&self) -> Result<Vec<u8>, SlotError>
+        ensures { Loads (λ v. v.items) (record_in (remembered self.now)) result }
+    {
+        match self.current {
+            None => Err(SlotError::NoRecord),
+            Some(_current) => Ok(Vec::from_slice(self.alloc, self.content.as_slice())?),
+        }
+    }
+
+    /// The count of the disk's faults.
+    pub fn faults(&self) -> u64
+        ensures { result ≡ D.fault_count self.now.disk }
+    {
+        self.disk.faults()
+    }
+
+    /// The disk. It takes no memory.
+    pub fn into_disk(self) -> D
+        ensures { result ≡ self.disk }
+    {
+        self.disk
+    }
+}
