@@ -1,0 +1,131 @@
+ghost use Rattle.std.specs.Prelude.{◌≡◌, ◌≤◌, ◌+◌, ◌-◌, ◌^◌, min, ℕ, List, Option, Some, None, Result, Ok, Err, IfOk, IfErr, OnOk, OnErr};
+ghost use Rattle.ens_base.specs.Causes.{HasCause, Rose};
+ghost use Rattle.slot_disk.specs.Crash.{Told, Stay, LeavesOnly, SeenIn};
+ghost use Rattle.slot_disk.specs.Slots.{record_in, last_serial};
+ghost use Rattle.slot_disk.specs.SlotFiles.{remembered, IsAtRest};
+ghost use Rattle.peer_fact.specs.FactBytes.{fact_of};
+ghost use Rattle.fact_store.specs.Keeping.{Loads, IsOldOrNew, IsOldOrNewIn, IsPutError, IsOpenError, opened_with, fact_in, file_fact};
+ghost use Rattle.fact_store.specs.declared.error.KeepError.TheVariants as errors;
+
+use crate::error::KeepError;
+use crate::keeper::FactKeeper;
+use peer_fact::{Change, Fact, FactError};
+use slot_disk::{Disk, Refused, SlotError, SlotFile};
+use std::alloc::Global;
+
+/// A fact on a disk, in a slot file. It is replaced whole or not at all, whenever a crash comes.
+#[derive(Drop)]
+pub struct FactFile<D: Disk> {
+    slots: SlotFile<D>,
+    spent: u64,
+}
+
+/// What is loaded of a record.
+fn loaded(bytes: &[u8]) -> Result<Option<Fact>, KeepError>
+    ensures { (before now : ℕ) → Loads (Some (fact_of bytes.now)) before now result }
+{
+    match Fact::decode(bytes) {
+        Ok(fact) => Ok(Some(fact)),
+        Err(e) => Err(KeepError::Bad(e)),
+    }
+}
+
+/// Saves the spelling of a fact.
+fn put<D: Disk>(slots: &mut SlotFile<D>, fact: &Fact) -> Result<(), SlotError>
+    ensures any_moment { IsAtRest D.seen D.may_leave slots.old → LeavesOnly D.moment D.left_since slots.old.disk slots.new.disk (IsOldOrNewIn (fact_in (record_in (remembered slots.old))) fact.now) }
+    ensures seen { IsAtRest D.seen D.may_leave slots.old → SeenIn D.seen slots.new.disk (IsOldOrNewIn (fact_in (record_in (remembered slots.old))) fact.now) }
+    ensures at_rest { OnOk result (IsAtRest D.seen D.may_leave slots.old → IsAtRest D.seen D.may_leave slots.new) }
+    ensures ok { OnOk result (fact_in (record_in (remembered slots.new)) ≡ Some (Ok fact.now)) }
+    ensures err { OnErr result (remembered slots.new ≡ remembered slots.old) }
+    ensures error { IfErr result (λ e. IsPutError (D.fault_count slots.old.disk) (D.fault_count slots.new.disk) (last_serial (remembered slots.old)) e) }
+    ensures later { D.fault_count slots.old.disk ≤ D.fault_count slots.new.disk }
+{
+    let mut spelling = [0u8; 480];
+    let size = fact.spell(&mut spelling);
+    slots.save(&spelling[..size])
+}
+
+impl<D: Disk> FactFile<D> {
+    ghost use Rattle.fact_store.specs.Files.{disk_after};
+
+    /// Opens the file of a disk. The fact that is then kept is the one that a crash leaves.
+    ///
+    /// # Errors
+    ///
+    /// `Failed` only where the disk's count of faults rose, or want of memory. The disk comes back,
+    /// with the bytes that it had.
+    pub fn open(alloc: Global, disk: D) -> Result<FactFile<D>, Refused<D, KeepError>>
+        ensures at_rest { IfOk result (λ f. Told (D.seen disk) (λ bytes. IsAtRest D.seen D.may_leave f.slots × (fact_in (record_in (remembered f.slots)) ≡ file_fact bytes))) }
+        ensures spent { IfOk result (λ f. f.spent ≡ 0) }
+        ensures error { IfErr result (λ r. IsOpenError (D.fault_count disk) (D.fault_count r.held) r.error) }
+        ensures later { D.fault_count disk ≤ D.fault_count (disk_after result) }
+        ensures seen { Stay (D.seen disk) (D.seen (disk_after result)) }
+        ensures crash { (c : List ℕ) → D.may_leave (disk_after result) c → D.may_leave disk c }
+        ensures any_moment { LeavesOnly D.moment D.left_since disk (disk_after result) (D.may_leave disk) }
+    {
+        match SlotFile::open(alloc, disk) {
+            Ok(slots) => Ok(FactFile { slots, spent: 0 }),
+            Err(refused) => Err(Refused {
+                error: open_error(refused.error),
+                held: refused.held,
+            }),
+        }
+    }
+
+    /// The disk. It takes no memory.
+    pub fn into_disk(self) -> D
+        ensures { result ≡ self.slots.disk }
+    {
+        self.slots.into_disk()
+    }
+}
+
+/// Why a file was not opened.
+fn open_error(e: SlotError) -> KeepError
+    ensures { result ≡ opened_with e }
+{
+    match e {
+        SlotError::Memory => KeepError::Memory,
+        SlotError::Failed | SlotError::TooLong | SlotError::NoRecord | SlotError::Spent => {
+            KeepError::Failed
+        }
+    }
+}
+
+impl<D: Disk> FactKeeper for FactFile<D> {
+    ghost kept = { λ f. fact_in (record_in (remembered f.slots)) };
+
+    ghost fault_count = { λ f. min (D.fault_count f.slots.disk + f.spent) (2 ^ 64 - 1) };
+
+    fn faults(&self) -> u64 {
+        self.slots.faults().saturating_add(self.spent)
+    }
+
+    fn load(&mut self) -> Result<Option<Fact>, KeepError> {
+        match self.slots.record() {
+            None => Ok(None),
+            Some(bytes) => loaded(bytes),
+        }
+    }
+
+    fn save(&mut self, fact: &Fact) -> Result<(), KeepError>
+        ensures ok { OnOk result (fact_in (record_in (remembered self.new.slots)) ≡ Some (Ok fact.now)) }
+        ensures failed { OnErr result (IsOldOrNew (fact_in (record_in (remembered self.old.slots))) fact.now (fact_in (record_in (remembered self.new.slots)))) }
+        ensures error { IfErr result (λ e. e ≡ errors.Failed) }
+        ensures cause { HasCause (min (D.fault_count self.old.slots.disk + self.old.spent) (2 ^ 64 - 1)) (min (D.fault_count self.new.slots.disk + self.new.spent) (2 ^ 64 - 1)) result }
+        // The file is replaced whole or not at all.
+        ensures any_moment { IsAtRest D.seen D.may_leave self.old.slots → LeavesOnly D.moment D.left_since self.old.slots.disk self.new.slots.disk (IsOldOrNewIn (fact_in (record_in (remembered self.old.slots))) fact.now) }
+        ensures seen { IsAtRest D.seen D.may_leave self.old.slots → SeenIn D.seen self.new.slots.disk (IsOldOrNewIn (fact_in (record_in (remembered self.old.slots))) fact.now) }
+        ensures at_rest { OnOk result (IsAtRest D.seen D.may_leave self.old.slots → IsAtRest D.seen D.may_leave self.new.slots) }
+    {
+        match put(&mut self.slots, fact) {
+            Ok(()) => Ok(()),
+            Err(SlotError::Failed) => Err(KeepError::Failed),
+            Err(SlotError::Spent) => {
+                self.spent = self.spent.saturating_add(1);
+                Err(KeepError::Failed)
+            }
+            Err(SlotError::TooLong | SlotError::NoRecord | SlotError::Memory) => unreachable!(),
+        }
+    }
+}
