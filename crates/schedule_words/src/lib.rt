@@ -19,3 +19,6 @@ pub use lists::{members, view};
 pub use numbers::{number, peer};
 pub use splits::{line_words, parts};
 pub use versions::version;
+
+#[cfg(test)]
+mod tests;
