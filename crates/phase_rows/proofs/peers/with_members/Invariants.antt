@@ -1,0 +1,8 @@
+use Rattle.std.specs.Prelude.{◌||◌}
+use Rattle.ens_base.specs.PeerSet.{holds}
+use Rattle.phase_rows.specs.Peers.{is_member}
+use Rattle.phase_rows.proofs.Filled.{IsFilled}
+use Rattle.phase_rows.proofs.peers.with_members.Given as goal
+
+abbrev pub invariant-loop-number : goal.invariant-loop-number
+invariant-loop-number l = IsFilled (λ p. holds l.set p || is_member l.views p) l.number l.all

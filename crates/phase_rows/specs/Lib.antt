@@ -1,0 +1,3 @@
+pub mod Peers
+pub mod Orders
+pub mod Rows

@@ -1,0 +1,40 @@
+-- What rules answer, in their words.
+use Rattle.std.specs.Prelude.{ℕ, Bool, true, false, List, Some, None}
+use Rattle.ens_base.specs.declared.epoch.Epoch.{Epoch}
+use Rattle.peer_fact.specs.declared.fact.Fact.{Fact}
+use Rattle.wire_frames.specs.declared.message.Message.{Message}
+use Rattle.wire_frames.specs.declared.message.Message.TheVariants.{Nack}
+use Rattle.wire_frames.specs.declared.message.NackCause.{NackCause}
+use Rattle.wire_frames.specs.declared.message.NackCause.TheVariants.{Greater}
+use Rattle.wire_frames.specs.declared.phase.PhaseOut.{PhaseOut}
+use Rattle.wire_frames.specs.declared.phase.Then.{Then}
+use Rattle.wire_frames.specs.declared.phase.Then.TheVariants.{Stay}
+use Rattle.phase_rows.specs.Peers.{nobody, alone}
+
+-- nothing is saved and nothing sent
+abbrev pub silent : Then → PhaseOut
+silent next = record { leave = false; save = None; to = nobody; message = None; then = next }
+
+-- the message goes to the peers
+abbrev pub sends : List Bool → Message → Then → PhaseOut
+sends peers message next = record { leave = false; save = None; to = peers; message = Some message; then = next }
+
+-- the fact is saved, and then the message goes to the peers
+abbrev pub saves_and_sends : Fact → List Bool → Message → Then → PhaseOut
+saves_and_sends fact peers message next = record { leave = false; save = Some fact; to = peers; message = Some message; then = next }
+
+-- the same, but a leader leaves leading first
+abbrev pub leaves_leading : PhaseOut → PhaseOut
+leaves_leading out = record out { leave = true }
+
+-- the peer is told why not, and nothing else happens
+abbrev pub refuses : ℕ → Epoch → NackCause → PhaseOut
+refuses peer ballot cause = sends (alone peer) (Nack ballot cause) Stay
+
+-- the peer is told of the greater ballot that was promised
+abbrev pub refuses_below : ℕ → Epoch → Fact → PhaseOut
+refuses_below peer ballot fact = refuses peer ballot (Greater fact.ballot)
+
+-- the fact, at this ballot
+abbrev pub at_ballot : Fact → Epoch → Fact
+at_ballot fact ballot = record fact { ballot = ballot }

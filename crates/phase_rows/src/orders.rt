@@ -1,0 +1,31 @@
+ghost use Rattle.std.specs.Prelude.{◌≡◌};
+ghost use Rattle.phase_rows.specs.Orders.{is_below as below, is_newer as newer, may_accept as may};
+
+use crate::peers::is_in;
+use ens_base::{Epoch, PeerId};
+use peer_fact::Fact;
+
+/// Whether the first epoch is below the second: by the count, then by the proposer.
+pub fn is_below(a: Epoch, b: Epoch) -> bool
+    ensures { result ≡ below a b }
+{
+    a.count < b.count || (a.count == b.count && a.proposer < b.proposer)
+}
+
+/// Whether the first fact is newer: by the epoch, then by the number in it.
+pub fn is_newer(first: &Fact, second: &Fact) -> bool
+    ensures { result ≡ newer first.now second.now }
+{
+    is_below(second.epoch, first.epoch) || (second.epoch == first.epoch && second.seq < first.seq)
+}
+
+/// Whether the peer may accept the fact: where it trusts its tree, but in a joint epoch not as a
+/// member of the new view, which is to accept at the end of a sync.
+pub fn may_accept(trusted: bool, me: PeerId, new: &Fact) -> bool
+    ensures { result ≡ may trusted me new.now }
+{
+    match new.views.second() {
+        None => trusted,
+        Some(_old) => trusted && !is_in(&new.views.first(), me),
+    }
+}

@@ -1,0 +1,96 @@
+ghost use Rattle.std.specs.Prelude.{◌≡◌, ◌≤◌, ◌<◌};
+ghost use Rattle.ens_base.specs.View.{IsPeer};
+ghost use Rattle.phase_rows.specs.Peers.{is_in as is_in_list, is_member as is_member_of, alone as alone_set, joined as joined_set, members as members_set, others_outside as outside_set, with_members as with_set, others_of as others_set};
+
+use ens_base::{PeerId, PeerSet, View, Views};
+
+/// Whether the peer is a member of the view.
+pub(crate) fn is_in(view: &View, peer: PeerId) -> bool
+    ensures { result ≡ is_in_list view.now peer }
+{
+    view.has(peer)
+}
+
+/// Whether the peer is a member of some view.
+pub fn is_member(views: &Views, peer: PeerId) -> bool
+    ensures { result ≡ is_member_of views.now peer }
+{
+    let first = views.first();
+    match views.second() {
+        None => is_in(&first, peer),
+        Some(old) => is_in(&first, peer) || is_in(&old, peer),
+    }
+}
+
+/// The set of this peer alone. Its number is 1 to 31.
+pub fn alone(peer: PeerId) -> PeerSet
+    requires { IsPeer peer }
+    ensures { result ≡ alone_set peer }
+{
+    joined(PeerSet::empty(), peer)
+}
+
+/// The set and this peer. Its number is 1 to 31.
+pub fn joined(set: PeerSet, peer: PeerId) -> PeerSet
+    requires { IsPeer peer }
+    ensures { result ≡ joined_set peer set }
+{
+    let mut joined = set;
+    joined.insert(peer);
+    joined
+}
+
+/// The members of all views.
+pub fn members(views: &Views) -> PeerSet
+    ensures { result ≡ members_set views.now }
+{
+    let mut set = PeerSet::empty();
+    for number in 1..32 {
+        if is_member(views, PeerId(number)) {
+            set.insert(PeerId(number));
+        }
+    }
+    set
+}
+
+/// The members of the views that are not in the set, but for `me`.
+pub fn others_outside(me: PeerId, set: &PeerSet, views: &Views) -> PeerSet
+    ensures { result ≡ outside_set me set.now views.now }
+{
+    let mut others = PeerSet::empty();
+    for number in 1..32 {
+        let peer = PeerId(number);
+        if is_member(views, peer) && peer != me && !set.has(peer) {
+            others.insert(peer);
+        }
+    }
+    others
+}
+
+/// The set and the members of the views.
+pub fn with_members(set: &PeerSet, views: &Views) -> PeerSet
+    ensures { result ≡ with_set set.now views.now }
+{
+    let mut all = PeerSet::empty();
+    for number in 1..32 {
+        let peer = PeerId(number);
+        if set.has(peer) || is_member(views, peer) {
+            all.insert(peer);
+        }
+    }
+    all
+}
+
+/// The set but for `me`.
+pub fn others_of(me: PeerId, set: &PeerSet) -> PeerSet
+    ensures { result ≡ others_set me set.now }
+{
+    let mut others = PeerSet::empty();
+    for number in 1..32 {
+        let peer = PeerId(number);
+        if set.has(peer) && peer != me {
+            others.insert(peer);
+        }
+    }
+    others
+}
