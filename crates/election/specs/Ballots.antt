@@ -1,0 +1,30 @@
+-- The rules by which a ballot is promised or refused: 11 and 15.
+use Rattle.std.specs.Prelude.{ℕ, ◌&&◌, if◌then◌else◌}
+use Rattle.ens_base.specs.declared.epoch.Epoch.{Epoch}
+use Rattle.peer_fact.specs.declared.fact.Fact.{Fact}
+use Rattle.wire_frames.specs.declared.message.Message.TheVariants.{Promise}
+use Rattle.wire_frames.specs.declared.message.NackCause.{NackCause}
+use Rattle.wire_frames.specs.declared.message.NackCause.TheVariants.{Greater, Untrusted, Damaged}
+use Rattle.wire_frames.specs.declared.phase.PhaseOut.{PhaseOut}
+use Rattle.wire_frames.specs.declared.phase.Then.TheVariants.{Stay, Follow}
+use Rattle.phase_rows.specs.Peers.{alone}
+use Rattle.phase_rows.specs.Orders.{is_below, is_same}
+use Rattle.phase_rows.specs.Rows.{silent, saves_and_sends, leaves_leading, refuses_below, at_ballot}
+
+-- the fact of a new ballot is saved and promised to the sender, by a peer that leads and prepares no more
+abbrev pub promises_to : ℕ → Fact → PhaseOut
+promises_to from promised = leaves_leading (saves_and_sends promised (alone from) (Promise promised.ballot promised) Follow)
+
+-- rule 11: a ballot above the saved one is promised; the same one is ignored; one below is refused
+abbrev pub row_11 : Fact → ℕ → Epoch → PhaseOut
+row_11 fact from ballot =
+    if is_below fact.ballot ballot then promises_to from (at_ballot fact ballot)
+    else (if is_same ballot fact.ballot then silent Stay
+    else refuses_below from ballot fact)
+
+-- rule 15: a peer whose ballot was refused for a greater one leads and asks no more, but follows; any other refusal is ignored
+abbrev pub row_15 : Fact → Epoch → NackCause → PhaseOut
+row_15 fact ballot (Greater other) =
+    if is_same ballot fact.ballot && is_below ballot other then leaves_leading (silent Follow) else silent Stay
+row_15 fact ballot Untrusted = silent Stay
+row_15 fact ballot (Damaged position) = silent Stay

@@ -1,0 +1,4 @@
+pub mod Ballots
+pub mod Preparing
+pub mod Starting
+pub mod Laws

@@ -1,0 +1,82 @@
+ghost use Rattle.std.specs.Prelude.{◌≡◌};
+ghost use Rattle.ens_base.specs.View.{IsPeer};
+ghost use Rattle.election.specs.Starting.{StartsBelow8, resumes, insists, row_4, row_14, row_17};
+
+use crate::ballots::is_same;
+use crate::election::Election;
+use crate::preparing::is_enough;
+use ens_base::{Epoch, PeerId, PeerSet};
+use peer_fact::Fact;
+use phase_rows::{others_outside, send, silent};
+use wire_frames::{Message, PhaseOut, Then};
+
+/// A sync that runs goes on.
+fn resume(sync_runs: bool) -> Then
+    ensures { result ≡ resumes sync_runs }
+{
+    if sync_runs { Then::Resume } else { Then::Stay }
+}
+
+/// What a peer does that has been starting for so long.
+fn insist(new: &Fact, accepts: &PeerSet, age: u8, me: PeerId, sync_runs: bool) -> PhaseOut
+    ensures { result ≡ insists new.now accepts.now age me sync_runs }
+{
+    if age == 8 {
+        return silent(Then::Follow);
+    }
+    let to = others_outside(me, accepts, &new.views);
+    send(to, Message::NewEpoch(*new), resume(sync_runs))
+}
+
+impl Election {
+    /// Rule 4: at a tick the age of a peer that starts rises by 1. At 8 it gives up and follows; before
+    /// that the fact goes again to the members that have not accepted it, and a sync that runs goes on.
+    pub fn rule_4(&mut self, me: PeerId, sync_runs: bool) -> PhaseOut
+        requires { StartsBelow8 self.old }
+        ensures { (self.new, result) ≡ row_4 self.old me sync_runs }
+    {
+        match self {
+            Election::Preparing { .. } => silent(Then::Stay),
+            Election::Starting { fact, accepts, age } => {
+                *age += 1;
+                insist(fact, accepts, *age, me, sync_runs)
+            }
+        }
+    }
+
+    /// Rule 14: a peer that starts leads where it accepted the fact itself, as did a quorum of the
+    /// fact's views.
+    pub fn rule_14(&mut self, me: PeerId) -> PhaseOut
+        ensures { (self.new, result) ≡ row_14 self.old me }
+    {
+        match self {
+            Election::Preparing { .. } => silent(Then::Stay),
+            Election::Starting { fact, accepts, .. } => {
+                if accepts.has(me) && is_enough(accepts, &fact.views) {
+                    silent(Then::Lead(*fact))
+                } else {
+                    silent(Then::Stay)
+                }
+            }
+        }
+    }
+
+    /// Rule 17: a peer that starts counts who accepted the first fact of its ballot. Any other
+    /// acceptance is ignored.
+    pub fn rule_17(&mut self, fact: Fact, from: PeerId, ballot: Epoch, seq: u64) -> PhaseOut
+        requires { IsPeer from }
+        ensures { (self.new, result) ≡ row_17 self.old fact from ballot seq }
+    {
+        match self {
+            Election::Preparing { .. } => silent(Then::Stay),
+            Election::Starting { accepts, .. } => {
+                if is_same(ballot, fact.ballot) && seq == 1 {
+                    accepts.insert(from);
+                    silent(Then::Rule(14))
+                } else {
+                    silent(Then::Stay)
+                }
+            }
+        }
+    }
+}

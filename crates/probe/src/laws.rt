@@ -1,0 +1,20 @@
+ghost use Rattle.std.specs.Prelude.{◌≡◌, ℕ, true};
+ghost use Rattle.ens_base.specs.PeerSet.{holds};
+ghost use Rattle.joint_views.specs.Quorums.{is_quorum};
+ghost use Rattle.peer_fact.specs.declared.fact.Fact.{Fact};
+ghost use Rattle.wire_frames.specs.declared.phase.Then.TheVariants.{Rule};
+ghost use Rattle.probe.specs.declared.probing.Probing.{Probing};
+ghost use Rattle.probe.specs.Laws.{HasGrown, HasReckonedWith};
+ghost use Rattle.probe.specs.Probing.{row_8, row_9};
+
+/// A reply makes the best fact no older and the count no less, and then no fact that was told is newer
+/// than the best, nor the count of its ballot greater.
+pub fn the_best_is_the_newest_heard()
+    ensures grown { (probing : Probing) (me from : ℕ) (reply : Fact) → HasGrown probing (row_8 probing me from reply).0 }
+    ensures heard { (probing : Probing) (me from : ℕ) (reply : Fact) → HasReckonedWith (row_8 probing me from reply).0 reply }
+{}
+
+/// A ballot is asked for only once a quorum of the best fact's views was heard.
+pub fn a_quorum_was_heard()
+    ensures { (probing : Probing) → (row_9 probing).1.then ≡ Rule 10 → is_quorum (holds probing.heard) probing.best.views ≡ true }
+{}
