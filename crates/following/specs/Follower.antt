@@ -1,0 +1,15 @@
+-- A peer that follows, and its ticks.
+use Rattle.std.specs.Prelude.{ℕ, ◌+◌, ◌==◌, if◌then◌else◌}
+use Rattle.peer_fact.specs.declared.fact.Fact.{Fact}
+use Rattle.wire_frames.specs.declared.phase.PhaseOut.{PhaseOut}
+use Rattle.wire_frames.specs.declared.phase.Then.TheVariants.{Stay, Rule}
+use Rattle.phase_rows.specs.Peers.{is_member}
+use Rattle.phase_rows.specs.Rows.{silent}
+use Rattle.following.specs.declared.follower.Follower.{Follower}
+
+-- rule 2, a tick: where the peer is a member of its views, quiet rises by one, and at 6 rule 7 runs; otherwise nothing happens
+abbrev pub row_2 : Follower → Fact → ℕ → Follower × PhaseOut
+row_2 follower fact me =
+    if is_member fact.views me
+    then (record follower { quiet = follower.quiet + 1 }, silent (if follower.quiet + 1 == 6 then Rule 7 else Stay))
+    else (follower, silent Stay)

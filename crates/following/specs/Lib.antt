@@ -1,0 +1,5 @@
+pub mod Follower
+pub mod Refusals
+pub mod Announcements
+pub mod Requests
+pub mod Effects

@@ -1,0 +1,36 @@
+ghost use Rattle.std.specs.Prelude.{◌≡◌, ◌<◌};
+
+use ens_base::PeerId;
+use peer_fact::Fact;
+use phase_rows::{is_member, silent};
+use wire_frames::{PhaseOut, Then};
+
+/// The phase of a peer that follows: how many ticks have come since it last heard from a leader, 0 to 6.
+#[derive(Clone, Copy, Debug, PartialEq, Eq)]
+pub struct Follower {
+    pub quiet: u8,
+}
+
+/// The ticks in quiet after which a peer asks the others what they know.
+const PATIENCE: u8 = 6;
+
+impl Follower {
+    ghost use Rattle.following.specs.Follower.{row_2};
+
+    /// A tick. A member of its views that has waited in quiet for six ticks goes on to rule 7. `quiet`
+    /// is to be below 6.
+    pub fn rule_2(&mut self, fact: Fact, me: PeerId) -> PhaseOut
+        requires { self.old.quiet < 6 }
+        ensures { (self.new, result) ≡ row_2 self.old fact me }
+    {
+        if !is_member(&fact.views, me) {
+            return silent(Then::Stay);
+        }
+        self.quiet += 1;
+        if self.quiet == PATIENCE {
+            silent(Then::Rule(7))
+        } else {
+            silent(Then::Stay)
+        }
+    }
+}

@@ -1,0 +1,53 @@
+ghost use Rattle.std.specs.Prelude.{◌≡◌};
+ghost use Rattle.ens_base.specs.View.{IsPeer};
+ghost use Rattle.phase_rows.specs.Rows.{leaves_leading};
+ghost use Rattle.following.specs.Refusals.{refusal as refusal_of, saves, tells_damage as told_damage};
+
+use ens_base::{Epoch, PeerId, PeerSet};
+use peer_fact::Fact;
+use phase_rows::{alone, is_below, refuse, refuse_below, send, silent};
+use wire_frames::{Message, NackCause, PhaseOut, Then};
+
+/// What the peer answers in place of what the leader of this epoch asks, where it does not do it.
+pub(crate) fn refusal(fact: &Fact, trusted: bool, from: PeerId, ballot: Epoch) -> Option<PhaseOut>
+    requires { IsPeer from }
+    ensures { result ≡ refusal_of fact.now trusted from ballot }
+{
+    if is_below(ballot, fact.ballot) {
+        Some(refuse_below(from, ballot, fact))
+    } else if fact.epoch != ballot {
+        Some(silent(Then::Stay))
+    } else if !trusted {
+        Some(refuse(from, ballot, NackCause::Untrusted))
+    } else {
+        None
+    }
+}
+
+/// The fact is saved, and nothing sent.
+pub(crate) fn save(fact: Fact, then: Then) -> PhaseOut
+    ensures { result ≡ saves fact then }
+{
+    PhaseOut {
+        leave: false,
+        save: Some(fact),
+        to: PeerSet::empty(),
+        message: None,
+        then,
+    }
+}
+
+/// The same, but a leader leaves leading first.
+pub(crate) fn leave_leading(out: PhaseOut) -> PhaseOut
+    ensures { result ≡ leaves_leading out }
+{
+    PhaseOut { leave: true, ..out }
+}
+
+/// The peer is told of damage, and then the tree is trusted no more.
+pub(crate) fn tell_damage(peer: PeerId, message: Message) -> PhaseOut
+    requires { IsPeer peer }
+    ensures { result ≡ told_damage peer message }
+{
+    leave_leading(send(alone(peer), message, Then::Untrust))
+}
