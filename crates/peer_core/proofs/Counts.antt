@@ -1,0 +1,90 @@
+-- Counts of faults along a plan.
+use Rattle.std.specs.Prelude.{IfErr, Option}
+use Rattle.std.proofs.Common.{◌≡◌, ◌≤◌, ◌++◌, ◌∷◌, [], ℕ, List, Result, Ok, Err, inl, inr, ap, arith}
+use Rattle.ens_base.specs.Causes.{Rose}
+use Rattle.ens_outside.specs.Stores.{BackendCall, BackendAnswer}
+use Rattle.ens_outside.specs.declared.errors.StoreError.{StoreError}
+use Rattle.peer_fact.specs.declared.error.FactError.{FactError}
+use Rattle.peer_fact.specs.declared.fact.Fact.{Fact}
+use Rattle.register_model.specs.declared.note.Note.{Note}
+use Rattle.peer_core.specs.Calls.{Call, Save, Find, Enter, ScanTree, ReadNode, Install, Fetch, Put, AnswerOf}
+use Rattle.peer_core.specs.Plans.{Plan, Done, Say, Ask, Stopped, Runs}
+use Rattle.peer_core.specs.Starts.{IsStartError}
+use Rattle.peer_core.specs.Stores.{stores_do, stores_refuse, AreLater, SomeRose}
+use Rattle.peer_core.specs.declared.error.PeerError.{PeerError}
+use Rattle.peer_core.specs.declared.error.PeerError.TheVariants as errors
+use Rattle.peer_core.specs.declared.stores.Stores.{Stores}
+
+same_count : {A : Type 0} (count : A → ℕ) (a b : A) → b ≡ a → count a ≤ count b
+same_count count a b e = omega (arith, ap count e)
+
+rose_later : (a b c : ℕ) → a ≤ b → Rose b c → Rose a c
+rose_later a b c before rose = omega (arith, before, rose)
+
+module _ {B N F : Type 0} (gives : B → (call : BackendCall) → BackendAnswer call → B → Type 0) (loses : B → BackendCall → StoreError → B → Type 0)
+    (b : B → ℕ) (n : N → ℕ) (kept : F → Option (Result Fact FactError)) (f : F → ℕ) where
+  nodes_later : (s t : Stores B N F) → n s.nodes ≤ n t.nodes → t.backend ≡ s.backend → t.facts ≡ s.facts → AreLater b n f s t
+  nodes_later s t le eb ef = record { backend = same_count b s.backend t.backend eb; nodes = le; facts = same_count f s.facts t.facts ef }
+
+  backend_later : (s t : Stores B N F) → b s.backend ≤ b t.backend → t.nodes ≡ s.nodes → t.facts ≡ s.facts → AreLater b n f s t
+  backend_later s t le en ef = record { backend = le; nodes = same_count n s.nodes t.nodes en; facts = same_count f s.facts t.facts ef }
+
+  facts_later : (s t : Stores B N F) → f s.facts ≤ f t.facts → t.backend ≡ s.backend → t.nodes ≡ s.nodes → AreLater b n f s t
+  facts_later s t le eb en = record { backend = same_count b s.backend t.backend eb; nodes = same_count n s.nodes t.nodes en; facts = le }
+
+  -- a call that is answered lowers no count
+  pub do_later : (s : Stores B N F) (call : Call) (a : AnswerOf call) (t : Stores B N F) → stores_do gives b n kept f s call a t → AreLater b n f s t
+  do_later s (Save fact) a t did = facts_later s t did.1 did.2.0 did.2.1
+  do_later s (Find key) a t did = nodes_later s t did.0 did.1.0 did.1.1
+  do_later s (Enter entry) a t did = nodes_later s t did.0 did.1.0 did.1.1
+  do_later s ScanTree a t did = nodes_later s t did.0 did.1.0 did.1.1
+  do_later s (ReadNode at) a t did = nodes_later s t did.0 did.1.0 did.1.1
+  do_later s (Install entries) a t did = nodes_later s t did.0 did.1.0 did.1.1
+  do_later s (Fetch key) a t did = backend_later s t did.1 did.2.0 did.2.1
+  do_later s (Put key bytes) a t did = backend_later s t did.1 did.2.0 did.2.1
+
+  -- a call is refused for a fault of a store, whose count rose
+  pub refusal_rose : (s : Stores B N F) (call : Call) (e : PeerError) (t : Stores B N F) → stores_refuse loses b n kept f s call e t → (e ≡ errors.StoreFault) × SomeRose b n f s t
+  refusal_rose s (Save fact) e t off = (off.0, inr (inr off.2.rose))
+  refusal_rose s (Find key) e t off = (off.0, inr (inl off.1.rose))
+  refusal_rose s (Enter entry) e t off = (off.0, inr (inl off.1.rose))
+  refusal_rose s ScanTree e t off = (off.0, inr (inl off.1.rose))
+  refusal_rose s (ReadNode at) e t off = (off.0, inr (inl off.1.rose))
+  refusal_rose s (Install entries) e t off = (off.0, inr (inl off.1.rose))
+  refusal_rose s (Fetch key) e t off = (off.0, inl off.2.rose)
+  refusal_rose s (Put key bytes) e t off = (off.0, inl off.2.rose)
+
+  rises : (s m t : Stores B N F) → AreLater b n f s m → SomeRose b n f m t → SomeRose b n f s t
+  rises s m t later (inl rose) = inl (rose_later (b s.backend) (b m.backend) (b t.backend) later.backend rose)
+  rises s m t later (inr (inl rose)) = inr (inl (rose_later (n s.nodes) (n m.nodes) (n t.nodes) later.nodes rose))
+  rises s m t later (inr (inr rose)) = inr (inr (rose_later (f s.facts) (f m.facts) (f t.facts) later.facts rose))
+
+  stopped_by : (e error : PeerError) (s t : Stores B N F) → Stopped e ≡ Stopped error → (error ≡ errors.StoreFault) × SomeRose b n f s t → (e ≡ errors.StoreFault) × SomeRose b n f s t
+  stopped_by e error s t same why = (grind (arith, same, why.0), why.1)
+
+  -- a plan is stopped by a fault of a store alone, whose count rose since its beginning
+  pub stopped_rose : (p : Plan) (s : Stores B N F) (ns : List Note) (e : PeerError) (t : Stores B N F) (ms : List Note)
+      → Runs (stores_do gives b n kept f) (stores_refuse loses b n kept f) p s ns (Stopped e) t ms → (e ≡ errors.StoreFault) × SomeRose b n f s t
+  stopped_rose (Done x out) s ns e t ms ran = let none : ⊥ = grind (arith, ran.0) in absurd none
+  stopped_rose (Say note p) s ns e t ms ran = stopped_rose p s (ns ++ note ∷ []) e t ms ran
+  stopped_rose (Ask call next) s ns e t ms ran = elim ran [
+    | inl off ↦ stopped_by e off.0 s t off.2 (refusal_rose s call off.0 t off.1)
+    | inr on ↦ (
+      (stopped_rose (next on.0) on.1 ns e t ms on.3).0,
+      rises s on.1 t (do_later s call on.0 on.1 on.2) (stopped_rose (next on.0) on.1 ns e t ms on.3).1,
+    )
+  ]
+
+-- why a peer did not start, seen from an earlier count
+start_error_later : (kept : Option (Result Fact FactError)) (a b c : ℕ) (e : PeerError) → a ≤ b → IsStartError kept b c e → IsStartError kept a c e
+start_error_later kept a b c errors.StoreFault le why = rose_later a b c le why
+start_error_later kept a b c (errors.BadFact bad) le why = why
+start_error_later kept a b c errors.Memory le why = why
+start_error_later kept a b c errors.Halted le why = why
+start_error_later kept a b c (errors.Clash first second) le why = why
+start_error_later kept a b c (errors.BookFull bytes) le why = why
+
+pub start_errors_later : {A : Type 0} (kept : Option (Result Fact FactError)) (a b c : ℕ) (r : Result A PeerError) → a ≤ b
+    → IfErr r (λ e. (before : Option (Result Fact FactError)) → IsStartError before b c e) → IfErr r (λ e. IsStartError kept a c e)
+start_errors_later kept a b c (Ok x) le why = tt
+start_errors_later kept a b c (Err e) le why = start_error_later kept a b c e le (why kept)

@@ -1,0 +1,13 @@
+use Rattle.peer_core.specs.Outcomes.{out_of}
+use Rattle.peer_core.specs.Rules.{done_then, onward, plan_10}
+use Rattle.peer_core.proofs.Parts.{did_after}
+use Rattle.peer_core.proofs.machine.Machine.finish_then_10.Goals as goal
+
+pub returns-in-Rule : goal.returns-in-Rule
+returns-in-Rule g c = did_after g.S.Store.does g.S.Store.refuses
+    (λ next. done_then (plan_10 c.args.me c.args.best c.args.count) c.args.row c.args.self.now.state (out_of c.args.out.now) next)
+    (λ next. plan_10 c.args.me c.args.best c.args.count c.perform.new.self.state (out_of c.perform.new.out) next)
+    c.args.self.now.stores c.perform.new.self.stores c.args.out.now.notes.items c.perform.new.out.notes.items
+    c.prepare.result c.prepare.new.self.state (out_of c.prepare.new.out) c.prepare.new.self.stores c.prepare.new.out.notes.items
+    (λ next e end ls h. c.in_ok-perform.ensures (λ y more. onward (plan_10 c.args.me c.args.best c.args.count) c.args.row.then y more next) e end ls (rw c.in-Rule.is h))
+    c.prepare.ensures

@@ -1,0 +1,10 @@
+pub mod Outboxes
+pub mod Sends
+pub mod Moves
+pub mod Calls
+pub mod Plans
+pub mod Rules
+pub mod Outcomes
+pub mod Stores
+pub mod Steps
+pub mod Starts

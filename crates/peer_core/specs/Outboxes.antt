@@ -1,0 +1,14 @@
+-- An outbox.
+use Rattle.std.specs.Prelude.{◌≡◌, ℕ, ◌-◌, [], vec_capacity, vec_len}
+use Rattle.peer_core.specs.declared.outbox.Outbox.{Outbox}
+
+-- nothing is in it
+pub record Empty (o : Outbox) : Type 0 where
+  pub sends : o.sends.items ≡ []
+  pub answers : o.answers.items ≡ []
+  pub notes : o.notes.items ≡ []
+  pub changes : o.changes.items ≡ []
+
+-- how many sends fit in before memory is taken
+abbrev pub spare : Outbox → ℕ
+spare o = vec_capacity o.sends - vec_len o.sends

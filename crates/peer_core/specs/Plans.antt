@@ -1,0 +1,68 @@
+-- A step as a plan: what it asks of the stores, what it notes, and how it goes on by what the stores gave.
+use Rattle.std.specs.Prelude.{◌≡◌, ◌⊎◌, Bool, List, [], ◌∷◌, ◌++◌, Result, Ok, Err}
+use Rattle.register_model.specs.declared.note.Note.{Note}
+use Rattle.peer_core.specs.Calls.{Call, AnswerOf}
+use Rattle.peer_core.specs.declared.error.PeerError.{PeerError}
+use Rattle.peer_core.specs.declared.error.PeerError.TheVariants as errors
+use Rattle.peer_core.specs.declared.outbox.Outgoing.{Outgoing}
+use Rattle.peer_core.specs.declared.outbox.AnswerOut.{AnswerOut}
+use Rattle.peer_core.specs.declared.state.State.{State}
+
+-- what leaves a peer once its step has ended well: what it sends, answers, and says of requests to change the view
+pub record Out : Type 0 where
+  pub sends : List Outgoing
+  pub answers : List AnswerOut
+  pub changes : List Bool
+
+-- a step ends in a state and with what leaves the peer, or something is noted, or the stores are asked
+pub data Plan : Type 0 where
+  Done : (state : State) (out : Out) → Plan
+  Say : (note : Note) (next : Plan) → Plan
+  Ask : (call : Call) (next : AnswerOf call → Plan) → Plan
+
+-- how a step ended
+pub data Ending : Type 0 where
+  Finished : (state : State) (out : Out) → Ending
+  Stopped : (error : PeerError) → Ending
+
+-- The plan may lead from these stores and notes to that ending, those stores and notes. A call that is refused ends it.
+-- Of the stores two relations are known: a call may be answered so, or refused so, and leave the stores so.
+abbrev pub Runs : {S : Type 0} → (S → (call : Call) → AnswerOf call → S → Type 0) → (S → Call → PeerError → S → Type 0)
+    → Plan → S → List Note → Ending → S → List Note → Type 0
+Runs does refuses (Done x out) s ns e t ms = (e ≡ Finished x out) × (t ≡ s) × (ms ≡ ns)
+Runs does refuses (Say n p) s ns e t ms = Runs does refuses p s (ns ++ n ∷ []) e t ms
+Runs does refuses (Ask c next) s ns e t ms =
+    ((error : PeerError) × refuses s c error t × (e ≡ Stopped error) × (ms ≡ ns))
+    ⊎ ((a : AnswerOf c) × (m : _) × does s c a m × Runs does refuses (next a) m ns e t ms)
+
+-- how a part of a step goes on: from the state, with what is to leave the peer so far
+abbrev pub Rest : Type 0
+Rest = State → Out → Plan
+
+-- A part of a step did what its plan says, whatever follows. Of want of memory nothing is said.
+abbrev pub Did : {A S : Type 0} → (S → (call : Call) → AnswerOf call → S → Type 0) → (S → Call → PeerError → S → Type 0)
+    → (Rest → Plan) → S → List Note → Result A PeerError → State → Out → S → List Note → Type 0
+Did does refuses plan s ns (Ok u) x out t ms =
+    (next : Rest) (e : Ending) (end : _) (ls : List Note) → Runs does refuses (next x out) t ms e end ls → Runs does refuses (plan next) s ns e end ls
+Did does refuses plan s ns (Err errors.StoreFault) x out t ms = (next : Rest) → Runs does refuses (plan next) s ns (Stopped errors.StoreFault) t ms
+Did does refuses plan s ns (Err (errors.Clash first second)) x out t ms = (next : Rest) → Runs does refuses (plan next) s ns (Stopped (errors.Clash first second)) t ms
+Did does refuses plan s ns (Err (errors.BookFull bytes)) x out t ms = (next : Rest) → Runs does refuses (plan next) s ns (Stopped (errors.BookFull bytes)) t ms
+Did does refuses plan s ns (Err errors.Memory) x out t ms = Unit {0}
+Did does refuses plan s ns (Err errors.Halted) x out t ms = ⊥
+Did does refuses plan s ns (Err (errors.BadFact why)) x out t ms = ⊥
+
+-- the same of a part that learns something, and neither sends nor notes
+abbrev pub Gave : {A S : Type 0} → (S → (call : Call) → AnswerOf call → S → Type 0) → (S → Call → PeerError → S → Type 0)
+    → ((A → Plan) → Plan) → S → Result A PeerError → S → Type 0
+Gave does refuses plan s (Ok a) t = (next : _) (ns : List Note) (e : Ending) (end : _) (ls : List Note) → Runs does refuses (next a) t ns e end ls → Runs does refuses (plan next) s ns e end ls
+Gave does refuses plan s (Err errors.StoreFault) t = (next : _) (ns : List Note) → Runs does refuses (plan next) s ns (Stopped errors.StoreFault) t ns
+Gave does refuses plan s (Err (errors.Clash first second)) t = (next : _) (ns : List Note) → Runs does refuses (plan next) s ns (Stopped (errors.Clash first second)) t ns
+Gave does refuses plan s (Err (errors.BookFull bytes)) t = (next : _) (ns : List Note) → Runs does refuses (plan next) s ns (Stopped (errors.BookFull bytes)) t ns
+Gave does refuses plan s (Err errors.Memory) t = Unit {0}
+Gave does refuses plan s (Err errors.Halted) t = ⊥
+Gave does refuses plan s (Err (errors.BadFact why)) t = ⊥
+
+-- what a part learned is the state
+abbrev pub with_state : {A : Type 0} → Result A PeerError → State → Result State PeerError
+with_state (Ok u) x = Ok x
+with_state (Err e) x = Err e

@@ -1,0 +1,66 @@
+-- What the stores of a peer may answer, as one.
+use Rattle.std.specs.Prelude.{◌≡◌, ◌⊎◌, ◌≤◌, ℕ, Option, Some, Result, Ok}
+use Rattle.ens_base.specs.Causes.{Rose}
+use Rattle.ens_outside.specs.Stores.{BackendCall, BackendAnswer, Get, Put as PutObject}
+use Rattle.ens_outside.specs.declared.errors.StoreError.{StoreError}
+use Rattle.ens_outside.specs.declared.errors.StoreError.TheVariants.{Failed}
+use Rattle.fact_store.specs.Keeping.{IsOldOrNew}
+use Rattle.peer_fact.specs.declared.error.FactError.{FactError}
+use Rattle.peer_fact.specs.declared.fact.Fact.{Fact}
+use Rattle.peer_core.specs.Calls.{Call, Save, Find, Enter, ScanTree, ReadNode, Install, Fetch, Put, AnswerOf}
+use Rattle.peer_core.specs.declared.error.PeerError.{PeerError}
+use Rattle.peer_core.specs.declared.error.PeerError.TheVariants as errors
+use Rattle.peer_core.specs.declared.stores.Stores.{Stores}
+
+-- a store failed: its count of faults rose
+pub record HasFailed (before now : ℕ) : Type 0 where
+  pub later : before ≤ now
+  pub rose : Rose before now
+
+-- the facts alone were called
+abbrev pub FactsAlone : {B N F : Type 0} → Stores B N F → Stores B N F → Type 0
+FactsAlone s t = (t.backend ≡ s.backend) × (t.nodes ≡ s.nodes)
+
+-- the nodes alone were called
+abbrev pub NodesAlone : {B N F : Type 0} → Stores B N F → Stores B N F → Type 0
+NodesAlone s t = (t.backend ≡ s.backend) × (t.facts ≡ s.facts)
+
+-- the backend alone was called
+abbrev pub BackendAlone : {B N F : Type 0} → Stores B N F → Stores B N F → Type 0
+BackendAlone s t = (t.nodes ≡ s.nodes) × (t.facts ≡ s.facts)
+
+-- What a call may be answered: a saved fact is kept from then on, and the backend answers what it may. What a tree answers
+-- over its nodes is not told yet, since no rule asks it yet. Each call touches one store, whose count of faults does not fall.
+abbrev pub stores_do : {B N F : Type 0} → (B → (call : BackendCall) → BackendAnswer call → B → Type 0) → (B → ℕ) → (N → ℕ)
+    → (F → Option (Result Fact FactError)) → (F → ℕ) → Stores B N F → (call : Call) → AnswerOf call → Stores B N F → Type 0
+stores_do gives b n kept f s (Save fact) a t = (kept t.facts ≡ Some (Ok fact)) × (f s.facts ≤ f t.facts) × FactsAlone s t
+stores_do gives b n kept f s (Find key) a t = (n s.nodes ≤ n t.nodes) × NodesAlone s t
+stores_do gives b n kept f s (Enter entry) a t = (n s.nodes ≤ n t.nodes) × NodesAlone s t
+stores_do gives b n kept f s ScanTree a t = (n s.nodes ≤ n t.nodes) × NodesAlone s t
+stores_do gives b n kept f s (ReadNode at) a t = (n s.nodes ≤ n t.nodes) × NodesAlone s t
+stores_do gives b n kept f s (Install entries) a t = (n s.nodes ≤ n t.nodes) × NodesAlone s t
+stores_do gives b n kept f s (Fetch key) a t = gives s.backend (Get key) a t.backend × (b s.backend ≤ b t.backend) × BackendAlone s t
+stores_do gives b n kept f s (Put key bytes) a t = gives s.backend (PutObject key bytes) a t.backend × (b s.backend ≤ b t.backend) × BackendAlone s t
+
+-- What a refused call may leave: after a refused save the old fact is kept or the new one. The count of faults of the store
+-- that was called rose.
+abbrev pub stores_refuse : {B N F : Type 0} → (B → BackendCall → StoreError → B → Type 0) → (B → ℕ) → (N → ℕ)
+    → (F → Option (Result Fact FactError)) → (F → ℕ) → Stores B N F → Call → PeerError → Stores B N F → Type 0
+stores_refuse loses b n kept f s (Save fact) e t = (e ≡ errors.StoreFault) × IsOldOrNew (kept s.facts) fact (kept t.facts) × HasFailed (f s.facts) (f t.facts) × FactsAlone s t
+stores_refuse loses b n kept f s (Find key) e t = (e ≡ errors.StoreFault) × HasFailed (n s.nodes) (n t.nodes) × NodesAlone s t
+stores_refuse loses b n kept f s (Enter entry) e t = (e ≡ errors.StoreFault) × HasFailed (n s.nodes) (n t.nodes) × NodesAlone s t
+stores_refuse loses b n kept f s ScanTree e t = (e ≡ errors.StoreFault) × HasFailed (n s.nodes) (n t.nodes) × NodesAlone s t
+stores_refuse loses b n kept f s (ReadNode at) e t = (e ≡ errors.StoreFault) × HasFailed (n s.nodes) (n t.nodes) × NodesAlone s t
+stores_refuse loses b n kept f s (Install entries) e t = (e ≡ errors.StoreFault) × HasFailed (n s.nodes) (n t.nodes) × NodesAlone s t
+stores_refuse loses b n kept f s (Fetch key) e t = (e ≡ errors.StoreFault) × loses s.backend (Get key) Failed t.backend × HasFailed (b s.backend) (b t.backend) × BackendAlone s t
+stores_refuse loses b n kept f s (Put key bytes) e t = (e ≡ errors.StoreFault) × loses s.backend (PutObject key bytes) Failed t.backend × HasFailed (b s.backend) (b t.backend) × BackendAlone s t
+
+-- no count of faults has fallen
+pub record AreLater {B N F : Type 0} (b : B → ℕ) (n : N → ℕ) (f : F → ℕ) (s t : Stores B N F) : Type 0 where
+  pub backend : b s.backend ≤ b t.backend
+  pub nodes : n s.nodes ≤ n t.nodes
+  pub facts : f s.facts ≤ f t.facts
+
+-- the count of faults of some store has risen
+abbrev pub SomeRose : {B N F : Type 0} → (B → ℕ) → (N → ℕ) → (F → ℕ) → Stores B N F → Stores B N F → Type 0
+SomeRose b n f s t = Rose (b s.backend) (b t.backend) ⊎ (Rose (n s.nodes) (n t.nodes) ⊎ Rose (f s.facts) (f t.facts))

@@ -1,0 +1,138 @@
+ghost use Rattle.std.specs.Prelude.{◌≡◌};
+ghost use Rattle.peer_core.specs.Plans.{Did, Gave, with_state};
+ghost use Rattle.ens_base.specs.View.{IsPeer};
+ghost use Rattle.peer_core.specs.Outboxes.{Empty};
+ghost use Rattle.peer_core.specs.Outcomes.{Acts};
+ghost use Rattle.peer_core.specs.Rules.{saved, performed, done, plan_of};
+ghost use Rattle.peer_core.specs.Steps.{HasSender, Takes, Steps};
+
+use crate::error::PeerError;
+use crate::event::Event;
+use crate::outbox::Outbox;
+use crate::state::State;
+use crate::stores::Store;
+use ens_base::PeerId;
+use peer_fact::{Change, Fact};
+use std::alloc::Global;
+use wire_frames::PhaseOut;
+
+/// A state over its stores.
+#[derive(Drop)]
+pub struct Machine<S> {
+    pub state: State,
+    pub stores: S,
+}
+
+impl<S: Store> Machine<S> {
+    /// Saves the fact, where there is one.
+    fn save(&mut self, save: Option<Fact>) -> Result<(), PeerError>
+        ensures { Gave S.does S.refuses (λ next. saved save self.old.state next) self.old.stores (with_state result self.new.state) self.new.stores }
+    {
+        if let Some(fact) = save {
+            match self.stores.save(&fact) {
+                Ok(()) => self.state.fact = fact,
+                Err(_) => return Err(PeerError::StoreFault),
+            }
+        }
+        Ok(())
+    }
+
+    /// Does what a rule asks, up to what follows.
+    pub(crate) fn perform(
+        &mut self,
+        alloc: Global,
+        out: &mut Outbox,
+        row: PhaseOut,
+    ) -> Result<(), PeerError>
+        ensures { Acts S.does S.refuses (λ x o next. performed row x o next) self.old out.old result self.new out.new }
+    {
+        let PhaseOut {
+            leave,
+            save,
+            to,
+            message,
+            then: _,
+        } = row;
+        self.state.leave(leave);
+        self.save(save)?;
+        out.send_to(alloc, to, message)?;
+        Ok(())
+    }
+
+    /// Does what a rule asks that names no rule.
+    pub(crate) fn finish(
+        &mut self,
+        alloc: Global,
+        out: &mut Outbox,
+        row: PhaseOut,
+    ) -> Result<(), PeerError>
+        ensures { Acts S.does S.refuses (λ x o next. done row x o next) self.old out.old result self.new out.new }
+    {
+        let then = row.then;
+        self.perform(alloc, out, row)?;
+        self.state.turn(then);
+        Ok(())
+    }
+}
+
+impl<S: Store> Machine<S> {
+    /// What a peer does on an event.
+    fn act(
+        &mut self,
+        alloc: Global,
+        out: &mut Outbox,
+        me: PeerId,
+        event: &Event,
+    ) -> Result<(), PeerError>
+        requires me { IsPeer me }
+        requires sender { HasSender event.now }
+        ensures { Acts S.does S.refuses (λ x o next. plan_of me event.now x o next) self.old out.old result self.new out.new }
+    {
+        match event {
+            Event::Deliver(from, message) => self.deliver(alloc, out, me, *from, message),
+            Event::Tick => self.tick(alloc, out, me),
+            Event::Call(_) | Event::Change(_) => Ok(()),
+        }
+    }
+
+    /// Takes a step into an empty outbox.
+    fn take(
+        &mut self,
+        alloc: Global,
+        out: &mut Outbox,
+        me: PeerId,
+        event: &Event,
+    ) -> Result<(), PeerError>
+        requires me { IsPeer me }
+        requires sender { HasSender event.now }
+        requires empty { Empty out.old }
+        ensures { Takes S.does S.refuses me event.now self.old result self.new out.new }
+    {
+        self.act(alloc, out, me, event)
+    }
+
+    /// Takes a step, and puts what leaves the peer behind what is in the outbox. Of a refused step only
+    /// the notes are kept.
+    pub(crate) fn step(
+        &mut self,
+        alloc: Global,
+        out: &mut Outbox,
+        me: PeerId,
+        event: &Event,
+    ) -> Result<(), PeerError>
+        requires me { IsPeer me }
+        requires sender { HasSender event.now }
+        ensures { Steps S.does S.refuses me event.now self.old out.old result self.new out.new }
+    {
+        let mut work = Outbox::new(alloc);
+        match self.take(alloc, &mut work, me, event) {
+            Ok(()) => out.append(&mut work),
+            Err(error) => {
+                if out.notes.append(&mut work.notes).is_err() {
+                    return Err(PeerError::Memory);
+                }
+                Err(error)
+            }
+        }
+    }
+}

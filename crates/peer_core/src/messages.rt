@@ -1,0 +1,80 @@
+ghost use Rattle.std.specs.Prelude.{◌≡◌};
+ghost use Rattle.ens_base.specs.View.{IsPeer};
+ghost use Rattle.peer_core.specs.Outcomes.{Acts};
+ghost use Rattle.peer_core.specs.Rules.{delivered, plan_16, waiting};
+
+use crate::error::PeerError;
+use crate::machine::Machine;
+use crate::outbox::Outbox;
+use crate::stores::Store;
+use election::rule_11;
+use ens_base::PeerId;
+use following::{rule_16, rule_19};
+use peer_fact::{Change, Fact};
+use probe::rule_8_probe;
+use std::alloc::Global;
+use wire_frames::{Message, NackCause, PhaseOut, Then};
+
+/// A peer that is to wait for a sync follows.
+fn wait(then: Then) -> Then
+    ensures { result ≡ waiting then }
+{
+    match then {
+        Then::SyncOn(_) => Then::Follow,
+        Then::Resume => Then::Follow,
+        _ => then,
+    }
+}
+
+impl<S: Store> Machine<S> {
+    /// Rule 16: a leader announces the first fact of its epoch.
+    fn new_epoch(
+        &mut self,
+        alloc: Global,
+        out: &mut Outbox,
+        me: PeerId,
+        from: PeerId,
+        new: Fact,
+    ) -> Result<(), PeerError>
+        requires { IsPeer from }
+        ensures { Acts S.does S.refuses (λ x o next. plan_16 me from new x o next) self.old out.old result self.new out.new }
+    {
+        let row = rule_16(self.state.fact, me, self.state.trusted, false, from, new);
+        let then = wait(row.then);
+        self.perform(alloc, out, row)?;
+        self.state.turn(then);
+        Ok(())
+    }
+
+    /// A message from a peer.
+    pub(crate) fn deliver(
+        &mut self,
+        alloc: Global,
+        out: &mut Outbox,
+        me: PeerId,
+        from: PeerId,
+        message: &Message,
+    ) -> Result<(), PeerError>
+        requires me { IsPeer me }
+        requires from { IsPeer from }
+        ensures { Acts S.does S.refuses (λ x o next. delivered me from message.now x o next) self.old out.old result self.new out.new }
+    {
+        let fact = self.state.fact;
+        match message {
+            Message::Probe => self.finish(alloc, out, rule_8_probe(fact, from)),
+            Message::ProbeReply(reply) => self.probe_reply(alloc, out, me, from, *reply),
+            Message::Prepare(ballot) => self.finish(alloc, out, rule_11(fact, from, *ballot)),
+            Message::Promise(ballot, promised) => {
+                self.promise(alloc, out, me, from, *ballot, *promised)
+            }
+            Message::Nack(ballot, cause) => self.refused(alloc, out, *ballot, *cause),
+            Message::NewEpoch(new) => self.new_epoch(alloc, out, me, from, *new),
+            Message::Accepted(ballot, seq) => self.accepted(alloc, out, me, from, *ballot, *seq),
+            Message::Beat(ballot) => {
+                let trusted = self.state.trusted;
+                self.finish(alloc, out, rule_19(fact, trusted, from, *ballot))
+            }
+            _ => Ok(()),
+        }
+    }
+}

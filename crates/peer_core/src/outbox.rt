@@ -1,0 +1,137 @@
+ghost use Rattle.std.specs.Prelude.{◌≡◌, ◌≤◌, ◌++◌, ◌∷◌, [], ◌==◌, not, ◌&&◌, OnOk, OnErr, IfErr};
+ghost use Rattle.ens_base.specs.PeerSet.{holds};
+ghost use Rattle.peer_core.specs.Outboxes.{Empty, spare};
+ghost use Rattle.peer_core.specs.Sends.{posted, posted_to};
+
+use crate::error::PeerError;
+use ens_base::{PeerId, PeerSet, Reply};
+use register_model::Note;
+use std::alloc::Global;
+use wire_frames::Message;
+
+/// A message to a peer.
+#[derive(Debug, Drop)]
+pub struct Outgoing {
+    pub to: PeerId,
+    pub message: Message,
+}
+
+/// The answer to a call: who called, the number of the call, and the reply.
+#[derive(Debug, Drop)]
+pub struct AnswerOut {
+    pub from: u32,
+    pub id: u64,
+    pub reply: Reply,
+}
+
+/// What steps send, answer and note, and what they say of requests to change the view. A step appends
+/// to each list.
+#[derive(Drop)]
+pub struct Outbox {
+    pub sends: Vec<Outgoing>,
+    pub answers: Vec<AnswerOut>,
+    pub notes: Vec<Note>,
+    pub changes: Vec<bool>,
+}
+
+impl Outbox {
+    /// An empty outbox. It takes no memory.
+    pub fn new(alloc: Global) -> Outbox
+        ensures { Empty result }
+    {
+        Outbox {
+            sends: Vec::new(alloc),
+            answers: Vec::new(alloc),
+            notes: Vec::new(alloc),
+            changes: Vec::new(alloc),
+        }
+    }
+
+    /// Makes room for so many more sends, and leaves the lists as they were.
+    ///
+    /// # Errors
+    ///
+    /// Want of memory alone.
+    pub fn reserve(&mut self, sends: u32) -> Result<(), PeerError>
+        ensures spare { OnOk result (sends ≤ spare self.new) }
+        ensures sends { self.new.sends.items ≡ self.old.sends.items }
+        ensures rest { (self.new.answers ≡ self.old.answers) × (self.new.notes ≡ self.old.notes) × (self.new.changes ≡ self.old.changes) }
+        ensures memory { IfErr result (λ e. e ≡ PeerError.Memory) }
+    {
+        self.sends.reserve(sends as usize)?;
+        Ok(())
+    }
+
+    /// Sends a message to a peer.
+    pub(crate) fn send(&mut self, to: PeerId, message: Message) -> Result<(), PeerError>
+        ensures sends { OnOk result (self.new.sends.items ≡ self.old.sends.items ++ record { to = to; message = message } ∷ []) }
+        ensures rest { (self.new.answers ≡ self.old.answers) × (self.new.notes ≡ self.old.notes) × (self.new.changes ≡ self.old.changes) }
+        ensures memory { IfErr result (λ e. e ≡ PeerError.Memory) }
+    {
+        if self.sends.push(Outgoing { to, message }).is_err() {
+            return Err(PeerError::Memory);
+        }
+        Ok(())
+    }
+
+    /// Sends a message to each peer of the set, in ascending order.
+    #[tactic(auto, unfolding(crate::specs::Sends::posted))]
+    fn send_copies(
+        &mut self,
+        alloc: Global,
+        to: &PeerSet,
+        message: &Message,
+    ) -> Result<(), PeerError>
+        ensures sends { OnOk result (self.new.sends.items ≡ self.old.sends.items ++ posted (holds to.now) (λ p. message.now) 32) }
+        ensures rest { (self.new.answers ≡ self.old.answers) × (self.new.notes ≡ self.old.notes) × (self.new.changes ≡ self.old.changes) }
+        ensures memory { IfErr result (λ e. e ≡ PeerError.Memory) }
+    {
+        for number in 0..32 {
+            let peer = PeerId(number);
+            if to.has(peer) {
+                let copy = message.copy(alloc)?;
+                self.send(peer, copy)?;
+            }
+        }
+        Ok(())
+    }
+
+    /// Sends the message, if there is one, to each peer of the set, in ascending order.
+    pub(crate) fn send_to(
+        &mut self,
+        alloc: Global,
+        to: PeerSet,
+        message: Option<Message>,
+    ) -> Result<(), PeerError>
+        ensures sends { OnOk result (self.new.sends.items ≡ self.old.sends.items ++ posted_to to message) }
+        ensures rest { (self.new.answers ≡ self.old.answers) × (self.new.notes ≡ self.old.notes) × (self.new.changes ≡ self.old.changes) }
+        ensures memory { IfErr result (λ e. e ≡ PeerError.Memory) }
+    {
+        match message {
+            None => Ok(()),
+            Some(message) => self.send_copies(alloc, &to, &message),
+        }
+    }
+}
+
+impl Outbox {
+    /// Moves all that is in the other outbox behind what is in this one. Where memory runs out nothing
+    /// leaves the peer.
+    pub(crate) fn append(&mut self, more: &mut Outbox) -> Result<(), PeerError>
+        ensures sends { OnOk result (self.new.sends.items ≡ self.old.sends.items ++ more.old.sends.items) }
+        ensures answers { OnOk result (self.new.answers.items ≡ self.old.answers.items ++ more.old.answers.items) }
+        ensures changes { OnOk result (self.new.changes.items ≡ self.old.changes.items ++ more.old.changes.items) }
+        ensures notes { OnOk result (self.new.notes.items ≡ self.old.notes.items ++ more.old.notes.items) }
+        ensures err { OnErr result ((self.new.sends.items ≡ self.old.sends.items) × (self.new.answers.items ≡ self.old.answers.items) × (self.new.changes.items ≡ self.old.changes.items)) }
+        ensures memory { IfErr result (λ e. e ≡ PeerError.Memory) }
+    {
+        self.sends.reserve(more.sends.len())?;
+        self.answers.reserve(more.answers.len())?;
+        self.changes.reserve(more.changes.len())?;
+        self.notes.append(&mut more.notes)?;
+        self.sends.append(&mut more.sends).unwrap();
+        self.answers.append(&mut more.answers).unwrap();
+        self.changes.append(&mut more.changes).unwrap();
+        Ok(())
+    }
+}
