@@ -1,0 +1,18 @@
+-- Preparing a ballot: its proposer raises its own ballot to it.
+use Rattle.std.specs.Prelude.{ℕ, ◌+◌, ◌%◌, ◌^◌, Bool, false, ◌&&◌, ◌==◌, nat_lt, cond, List, [], ◌∷◌}
+use Rattle.abstract_protocol.specs.Ledger.{Ledger}
+use Rattle.abstract_protocol.specs.Protocol.{Step, Raise, state_after}
+
+-- the peer that the number of an epoch names
+abbrev pub proposer_of : ℕ → ℕ
+proposer_of d = d % 2 ^ 32
+
+-- the step prepares the ballot: a peer raises its own to it, from below, and is its proposer
+abbrev pub prepares : Ledger → Step → ℕ → Bool
+prepares l (Raise p e) d = (d == e) && (p == proposer_of d) && nat_lt (l.ballot p) d
+prepares l step d = false
+
+-- how many of the steps prepare the ballot, the last of them first
+abbrev pub times_prepared : ℕ → List ℕ → List Step → ℕ
+times_prepared d view [] = 0
+times_prepared d view (step ∷ steps) = cond (prepares (state_after view steps).objects.ledger step d) (times_prepared d view steps + 1) (times_prepared d view steps)
