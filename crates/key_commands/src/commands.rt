@@ -59,7 +59,8 @@ fn add(alloc: Global, value: &Value, number: u64) -> Result<Verdict, CommandErro
     }
 }
 
-fn on_absent(alloc: Global, command: &Command) -> Result<Verdict, CommandError>
+/// What the command comes to on an absent register.
+pub fn on_absent(alloc: Global, command: &Command) -> Result<Verdict, CommandError>
     ensures { IfOk result (λ v. v ≡ verdict_of (outcome command.now Absent)) }
 {
     match command {
@@ -85,7 +86,8 @@ fn write_if(alloc: Global, holds: bool, value: &Value) -> Result<Verdict, Comman
     }
 }
 
-fn on_present(
+/// What the command comes to on a register that holds this value under this stamp.
+pub fn on_present(
     alloc: Global,
     command: &Command,
     stamp: Version,

@@ -2,13 +2,13 @@
 //!
 //! `apply` answers exactly the outcome of `register_model`: an answer where the command leaves the
 //! register, and otherwise the content to write. A key without an object and a tombstone are the
-//! absent register.
+//! absent register. `on_absent` and `on_present` say the same of a register by itself.
 #![tactic(auto)]
 
 mod commands;
 mod verdict;
 
-pub use commands::apply;
+pub use commands::{apply, on_absent, on_present};
 pub use verdict::{CommandError, Verdict};
 
 #[cfg(test)]

@@ -1,0 +1,10 @@
+pub mod Stands
+pub mod Fresh
+pub mod Outcomes
+pub mod Silent
+pub mod Answered
+pub mod Lists
+pub mod Taken
+pub mod Ids
+pub mod Runs
+pub mod Distinct

@@ -1,0 +1,5 @@
+pub mod Stamps
+pub mod Guesses
+pub mod Meanings
+pub mod Places
+pub mod Walks

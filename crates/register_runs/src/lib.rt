@@ -1,0 +1,23 @@
+//! The test whether an order of calls is a run of one register.
+//!
+//! `is_run` answers exactly `IsRun` of `register_model`. It walks the order once and keeps a list of
+//! what the register may hold. A write without a printed reply has a stamp that nothing has shown
+//! yet: such a stamp is kept as unknown, with the stamps that it is not, until a reply tells it. The
+//! list and its steps are defined in `specs/Guesses`, what they mean in `specs/Meanings`, and
+//! `docs/runs.md` says how long the list can grow.
+#![tactic(auto)]
+
+mod error;
+mod guess;
+mod places;
+mod run;
+mod stamps;
+mod steps;
+mod walk;
+
+pub use error::RunError;
+pub use places::are_distinct;
+pub use run::is_run;
+
+#[cfg(test)]
+mod tests;

@@ -1,0 +1,167 @@
+use super::*;
+use ens_base::{Command, Epoch, Key, Reply, Value, Version};
+use register_model::{Answer, Call};
+use std::alloc::Global;
+use std::test::Fail;
+
+/// The version 1.1.seq.
+fn stamp(seq: u64) -> Version {
+    Version {
+        epoch: Epoch {
+            count: 1,
+            proposer: 1,
+        },
+        seq,
+    }
+}
+
+fn value(alloc: Global, bytes: &[u8]) -> Result<Value, Fail> {
+    Ok(Value::new(alloc, bytes)?)
+}
+
+/// Calls on one key, and what they were answered.
+#[derive(Drop)]
+struct Script {
+    alloc: Global,
+    calls: Vec<Call>,
+    answers: Vec<Answer>,
+}
+
+impl Script {
+    fn new(alloc: Global) -> Script {
+        Script {
+            alloc,
+            calls: Vec::new(alloc),
+            answers: Vec::new(alloc),
+        }
+    }
+
+    /// One more call, without an answer.
+    fn call(&mut self, id: u64, command: Command) -> Result<(), Fail> {
+        let key = Key::new(self.alloc, b"k")?;
+        self.calls.push(Call {
+            id,
+            key,
+            command,
+            event: 1,
+        })?;
+        Ok(())
+    }
+
+    /// One more call, with this reply.
+    fn told(&mut self, id: u64, command: Command, reply: Reply) -> Result<(), Fail> {
+        self.call(id, command)?;
+        self.answers.push(Answer {
+            id,
+            event: 2,
+            reply,
+        })?;
+        Ok(())
+    }
+
+    /// Whether the order is a run.
+    fn is_run(&self, order: &[u64]) -> Result<bool, Fail> {
+        let alloc = self.alloc;
+        let call_ids = self
+            .calls
+            .iter()
+            .map(|call| call.id)
+            .collect::<Vec<u64>>(alloc)?;
+        let answer_ids = self
+            .answers
+            .iter()
+            .map(|answer| answer.id)
+            .collect::<Vec<u64>>(alloc)?;
+        if are_distinct(alloc, &call_ids)? && are_distinct(alloc, &answer_ids)? {
+            return Ok(is_run(alloc, &self.calls, &self.answers, order)?);
+        }
+        Err("an id stands twice".into())
+    }
+}
+
+/// An overwrite that timed out, an update with its stamp 1.1.1 that was answered ok, and a get that was
+/// answered with the value under the stamp 1.1.2.
+fn timed_out(alloc: Global) -> Result<Script, Fail> {
+    let mut script = Script::new(alloc);
+    script.told(1, Command::Over(value(alloc, b"a")?), Reply::Timeout)?;
+    let update = Command::Update(stamp(1), value(alloc, b"b")?);
+    script.told(2, update, Reply::Ok(stamp(3)))?;
+    script.told(3, Command::Get, Reply::Value(stamp(2), value(alloc, b"a")?))?;
+    Ok(script)
+}
+
+#[test]
+fn an_update_tells_a_stamp(rt: HostRuntime) -> Result<(), Fail> {
+    let script = timed_out(rt.alloc())?;
+    assert!(rt; script.is_run(&[1, 2])?);
+    assert!(rt; script.is_run(&[1, 3])?);
+    assert!(rt; !script.is_run(&[1, 3, 2])?);
+    Ok(())
+}
+
+#[test]
+fn what_no_call_is_and_what_is_empty(rt: HostRuntime) -> Result<(), Fail> {
+    let script = timed_out(rt.alloc())?;
+    assert!(rt; script.is_run(&[])?);
+    assert!(rt; !script.is_run(&[4])?);
+    assert!(rt; !script.is_run(&[2])?);
+    Ok(())
+}
+
+/// The first six calls of a run in which each command stands once.
+fn writes(script: &mut Script) -> Result<(), Fail> {
+    let alloc = script.alloc;
+    let once = Command::PutOnce(value(alloc, b"a")?);
+    script.told(1, once, Reply::Ok(stamp(1)))?;
+    let again = Command::PutOnce(value(alloc, b"b")?);
+    script.told(2, again, Reply::Failed)?;
+    let append = Command::Append(value(alloc, b"b")?);
+    script.told(3, append, Reply::Ok(stamp(2)))?;
+    let number = value(alloc, &[0, 0, 0, 0, 0, 0, 0, 5])?;
+    let swap = Command::Swap(value(alloc, b"ab")?, number);
+    script.told(4, swap, Reply::Ok(stamp(3)))?;
+    script.told(5, Command::Add(7), Reply::Ok(stamp(4)))?;
+    let sum = value(alloc, &[0, 0, 0, 0, 0, 0, 0, 12])?;
+    script.told(6, Command::Get, Reply::Value(stamp(4), sum))
+}
+
+/// The other five.
+fn after_them(script: &mut Script) -> Result<(), Fail> {
+    let alloc = script.alloc;
+    script.told(7, Command::Delete, Reply::Ok(stamp(5)))?;
+    script.told(8, Command::Get, Reply::NotFound)?;
+    let update = Command::Update(stamp(4), value(alloc, b"c")?);
+    script.told(9, update, Reply::Failed)?;
+    let once = Command::PutOnce(value(alloc, b"")?);
+    script.told(10, once, Reply::Ok(stamp(6)))?;
+    let empty = value(alloc, b"")?;
+    script.told(11, Command::Get, Reply::Value(stamp(6), empty))
+}
+
+#[test]
+fn each_command_once(rt: HostRuntime) -> Result<(), Fail> {
+    let mut script = Script::new(rt.alloc());
+    writes(&mut script)?;
+    after_them(&mut script)?;
+    assert!(rt; script.is_run(&[1, 2, 3, 4, 5, 6, 7, 8, 9, 10, 11])?);
+    assert!(rt; !script.is_run(&[1, 2, 3, 4, 5, 6, 7, 8, 9, 11, 10])?);
+    assert!(rt; !script.is_run(&[1, 1])?);
+    Ok(())
+}
+
+#[test]
+fn one_of_two_updates_was_done(rt: HostRuntime) -> Result<(), Fail> {
+    let alloc = rt.alloc();
+    let mut script = Script::new(alloc);
+    script.call(1, Command::Over(value(alloc, b"a")?))?;
+    script.call(2, Command::Update(stamp(1), value(alloc, b"b")?))?;
+    script.call(3, Command::Update(stamp(2), value(alloc, b"b")?))?;
+    script.told(4, Command::Get, Reply::Value(stamp(5), value(alloc, b"b")?))?;
+    script.told(5, Command::Delete, Reply::Ok(stamp(1)))?;
+    script.told(6, Command::Delete, Reply::Ok(stamp(2)))?;
+    assert!(rt; script.is_run(&[1, 2, 3, 4, 5])?);
+    assert!(rt; script.is_run(&[1, 2, 3, 4, 6])?);
+    assert!(rt; !script.is_run(&[1, 2, 3, 4, 5, 6])?);
+    assert!(rt; !script.is_run(&[1, 2, 4, 5])?);
+    Ok(())
+}
