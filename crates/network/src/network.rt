@@ -1,0 +1,155 @@
+ghost use Rattle.std.specs.Prelude.{◌≡◌, ◌↔◌, ◌≤◌, ◌<◌, All, length, IfOk, IfSome, IsErrOf, OnOk, OnErr};
+ghost use Rattle.ens_base.specs.View.{IsPeer};
+ghost use Rattle.network.specs.Mail.{older};
+
+use crate::error::SendError;
+use crate::lines::Lines;
+use ens_base::{PeerId, PeerSet};
+use std::alloc::{AllocError, Global};
+use std::marker::Model;
+use wire_frames::Frame;
+
+/// The messages that were ever sent, and which of them wait. The first has number 0. Contracts see
+/// two lists: the messages, and of each whether it waits.
+#[derive(Drop)]
+pub struct Network {
+    sent: Vec<Frame>,
+    waiting: Lines,
+}
+
+impl Model for Network {
+    ghost use Rattle.network.specs.Mail.{Mail};
+
+    ghost Value = { Mail };
+
+    ghost use Rattle.network.specs.Kept.{mail_in, IsKept};
+
+    ghost view = { λ n. mail_in n.sent.items n.waiting };
+
+    ghost invariant = { λ n. IsKept n.sent.items n.waiting };
+}
+
+impl Network {
+    ghost use Rattle.network.specs.Mail.{no_mail, posted, settled, lost, oldest, goes, goes_into, is_among, IsBetweenPeers, IsMail, most_messages};
+    ghost use Rattle.network.specs.Lines.{line_place};
+
+    /// As many messages as are ever sent.
+    pub const MOST: usize = 500_000;
+
+    /// Nothing was sent.
+    pub fn new(alloc: Global) -> Result<Network, AllocError>
+        ensures { IfOk result (λ n. n ≡ no_mail) }
+    {
+        Ok(Network {
+            sent: Vec::new(alloc),
+            waiting: Lines::new(alloc)?,
+        })
+    }
+
+    /// The messages, in the order of sending.
+    pub fn sent(&self) -> &[Frame]
+        ensures sent { result.now ≡ self.now.sent }
+        ensures mail { IsMail self.now }
+        ensures ends { All IsBetweenPeers self.now.sent }
+    {
+        self.sent.as_slice()
+    }
+
+    /// The place of the line from a peer to a peer.
+    fn place(from: u32, to: u32) -> usize
+        requires { IsPeer from × IsPeer to }
+        ensures { result ≡ line_place from to }
+    {
+        (from * 32 + to) as usize
+    }
+
+    /// Sends a message, which waits from now on. A refusal leaves all as it was.
+    pub fn send(&mut self, frame: Frame) -> Result<(), SendError>
+        requires { IsBetweenPeers frame }
+        ensures ok { OnOk result (self.new ≡ posted self.old frame) }
+        ensures err { OnErr result (self.new ≡ self.old) }
+        ensures limit { IsErrOf result SendError.Limit ↔ (most_messages ≤ length self.old.sent) }
+    {
+        let number = self.sent.len();
+        if number >= Network::MOST {
+            return Err(SendError::Limit);
+        }
+        let place = Network::place(frame.from, frame.to);
+        self.sent.reserve(1)?;
+        self.waiting.insert(place, number)?;
+        self.sent.push(frame).unwrap();
+        Ok(())
+    }
+
+    /// The message of this number, if there is one, waits no more.
+    pub fn settle(&mut self, number: usize)
+        ensures { self.new ≡ settled self.old number }
+    {
+        let Some(frame) = self.sent.get(number) else {
+            return;
+        };
+        let place = Network::place(frame.from, frame.to);
+        self.waiting.remove(place, number);
+    }
+
+    /// The messages from a peer to a peer wait no more.
+    pub fn lose(&mut self, from: PeerId, to: PeerId)
+        requires { IsPeer from × IsPeer to }
+        ensures { self.new ≡ lost from to self.old }
+    {
+        self.waiting.clear(Network::place(from.0, to.0));
+    }
+
+    /// The oldest message that waits from a peer to a peer.
+    pub fn oldest_between(&self, from: PeerId, to: PeerId) -> Option<usize>
+        requires { IsPeer from × IsPeer to }
+        ensures oldest { result ≡ oldest (goes from to) self.now }
+        ensures sent { IfSome result (λ n. n < length self.now.sent) }
+    {
+        self.waiting.first(Network::place(from.0, to.0))
+    }
+
+    /// The oldest message that waits from a peer to one of the set.
+    fn oldest_from(&self, from: PeerId, peers: &PeerSet) -> Option<usize>
+        requires { IsPeer from }
+        ensures { result ≡ oldest (goes_into from peers.now) self.now }
+    {
+        // The ends of each message are from 1 to 31.
+        let _ = &self.sent;
+        let mut best = None;
+        for number in 1..32 {
+            let to = PeerId(number);
+            if peers.has(to) {
+                best = older(best, self.oldest_between(from, to));
+            }
+        }
+        best
+    }
+
+    /// The oldest message that waits and whose sender and receiver are both in the set.
+    pub fn oldest_among(&self, peers: &PeerSet) -> Option<usize>
+        ensures oldest { result ≡ oldest (is_among peers.now) self.now }
+        ensures sent { IfSome result (λ n. n < length self.now.sent) }
+    {
+        // The ends of each message are from 1 to 31.
+        let _ = &self.sent;
+        let mut best = None;
+        for number in 1..32 {
+            let from = PeerId(number);
+            if peers.has(from) {
+                best = older(best, self.oldest_from(from, peers));
+            }
+        }
+        best
+    }
+}
+
+/// The older of two messages, or the one that there is.
+fn older(first: Option<usize>, second: Option<usize>) -> Option<usize>
+    ensures { result ≡ older first second }
+{
+    match first {
+        None => second,
+        Some(a) => Some(second.map_or(a, |b| a.min(b))),
+    }
+}
