@@ -11,6 +11,16 @@ use Rattle.slot_disk.specs.declared.error.SlotError.TheVariants as slots
 use Rattle.fact_store.specs.declared.error.KeepError.{KeepError}
 use Rattle.fact_store.specs.declared.error.KeepError.TheVariants as errors
 
+-- a call of a keeper
+pub data KeeperCall : Type 0 where
+  Load : KeeperCall
+  Save : (fact : Fact) → KeeperCall
+
+-- what a call of a keeper is answered with
+abbrev pub KeeperAnswer : KeeperCall → Type 0
+KeeperAnswer Load = Option Fact
+KeeperAnswer (Save fact) = Unit {0}
+
 -- what a load answers of what is kept, want of memory aside; the counts of faults are those before and after
 abbrev pub Loads : Option (Result Fact FactError) → ℕ → ℕ → Result (Option Fact) KeepError → Type 0
 Loads kept before now (Ok None) = kept ≡ None

@@ -93,6 +93,11 @@ fn open_error(e: SlotError) -> KeepError
 }
 
 impl<D: Disk> FactKeeper for FactFile<D> {
+    // What a file keeps is told by `kept` alone.
+    ghost may_answer = { λ f call answer g. Unit {0} };
+
+    ghost may_refuse = { λ f call error g. Unit {0} };
+
     ghost kept = { λ f. fact_in (record_in (remembered f.slots)) };
 
     ghost fault_count = { λ f. min (D.fault_count f.slots.disk + f.spent) (2 ^ 64 - 1) };
@@ -112,6 +117,8 @@ impl<D: Disk> FactKeeper for FactFile<D> {
         ensures ok { OnOk result (fact_in (record_in (remembered self.new.slots)) ≡ Some (Ok fact.now)) }
         ensures failed { OnErr result (IsOldOrNew (fact_in (record_in (remembered self.old.slots))) fact.now (fact_in (record_in (remembered self.new.slots)))) }
         ensures error { IfErr result (λ e. e ≡ errors.Failed) }
+        ensures answer { OnOk result (Unit {0}) }
+        ensures refusal { IfErr result (λ e. Unit {0}) }
         ensures cause { HasCause (min (D.fault_count self.old.slots.disk + self.old.spent) (2 ^ 64 - 1)) (min (D.fault_count self.new.slots.disk + self.new.spent) (2 ^ 64 - 1)) result }
         // The file is replaced whole or not at all.
         ensures any_moment { IsAtRest D.seen D.may_leave self.old.slots → LeavesOnly D.moment D.left_since self.old.slots.disk self.new.slots.disk (IsOldOrNewIn (fact_in (record_in (remembered self.old.slots))) fact.now) }

@@ -1,8 +1,9 @@
-ghost use Rattle.std.specs.Prelude.{◌≡◌, ◌≤◌, ℕ, Option, Some, Result, Ok, IfErr, OnOk, OnErr};
+ghost use Rattle.std.specs.Prelude.{◌≡◌, ◌≤◌, ℕ, Option, Some, Result, Ok, IfOk, IfErr, OnOk, OnErr};
 ghost use Rattle.ens_base.specs.Causes.{HasCause};
 ghost use Rattle.peer_fact.specs.declared.fact.Fact.{Fact};
 ghost use Rattle.peer_fact.specs.declared.error.FactError.{FactError};
-ghost use Rattle.fact_store.specs.Keeping.{Loads, IsOldOrNew};
+ghost use Rattle.fact_store.specs.Keeping.{KeeperCall, KeeperAnswer, Load, Save, Loads, IsOldOrNew};
+ghost use Rattle.fact_store.specs.declared.error.KeepError.{KeepError};
 ghost use Rattle.fact_store.specs.declared.error.KeepError.TheVariants as errors;
 
 use crate::error::KeepError;
@@ -11,6 +12,12 @@ use peer_fact::{Change, Fact, FactError};
 /// Where a peer keeps its fact over a stop. The count of faults never falls, and a call fails only
 /// where it rose in that call.
 pub trait FactKeeper {
+    /// The call may be answered so, and leave the keeper so.
+    ghost may_answer: { Self → (call : KeeperCall) → KeeperAnswer call → Self → Type 0 };
+
+    /// The call may be refused with this error, and leave the keeper so.
+    ghost may_refuse: { Self → KeeperCall → KeepError → Self → Type 0 };
+
     /// What is kept: nothing where none was ever saved, a fact, or why it is no fact.
     ghost kept: { Self → Option (Result Fact FactError) };
 
@@ -28,6 +35,8 @@ pub trait FactKeeper {
     /// `Bad` exactly where what is kept is no fact, unless it is `Failed` or want of memory.
     fn load(&mut self) -> Result<Option<Fact>, KeepError>
         ensures loads { Loads (kept self.old) (fault_count self.old) (fault_count self.new) result }
+        ensures answer { IfOk result (λ o. may_answer self.old Load o self.new) }
+        ensures refusal { IfErr result (λ e. may_refuse self.old Load e self.new) }
         ensures kept { kept self.new ≡ kept self.old }
         ensures later { fault_count self.old ≤ fault_count self.new };
 
@@ -37,5 +46,7 @@ pub trait FactKeeper {
         ensures ok { OnOk result (kept self.new ≡ Some (Ok fact.now)) }
         ensures failed { OnErr result (IsOldOrNew (kept self.old) fact.now (kept self.new)) }
         ensures error { IfErr result (λ e. e ≡ errors.Failed) }
+        ensures answer { OnOk result (may_answer self.old (Save fact.now) tt self.new) }
+        ensures refusal { IfErr result (λ e. may_refuse self.old (Save fact.now) e self.new) }
         ensures cause { HasCause (fault_count self.old) (fault_count self.new) result };
 }

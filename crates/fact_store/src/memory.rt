@@ -1,9 +1,9 @@
-ghost use Rattle.std.specs.Prelude.{◌≡◌, ◌↔◌, IsErrOf, ◌≢◌, ◌≤◌, ℕ, Option, Some, None, Result, Ok, Err, IfErr, OnOk, OnErr};
+ghost use Rattle.std.specs.Prelude.{◌≡◌, ◌↔◌, IsErrOf, ◌≢◌, ◌≤◌, ℕ, Option, Some, None, Result, Ok, Err, IfOk, IfErr, OnOk, OnErr};
 ghost use Rattle.ens_base.specs.Causes.{HasCause, Rose};
 ghost use Rattle.slot_disk.specs.Failing.{fate_of};
 ghost use Rattle.slot_disk.specs.Steps.{next_call};
 ghost use Rattle.slot_disk.specs.declared.failing.Fate.TheVariants.{Works, Fails, FailsDone};
-ghost use Rattle.fact_store.specs.Keeping.{Loads, IsOldOrNew};
+ghost use Rattle.fact_store.specs.Keeping.{Load, Save, Loads, IsOldOrNew};
 ghost use Rattle.fact_store.specs.Memory.{kept_of};
 ghost use Rattle.fact_store.specs.declared.error.KeepError.TheVariants as errors;
 ghost use Rattle.fact_store.specs.declared.kept.Kept.TheVariants as kinds;
@@ -73,7 +73,11 @@ fn loaded(kept: Kept) -> Result<Option<Fact>, KeepError>
 }
 
 impl FactKeeper for MemFacts {
-    ghost use Rattle.fact_store.specs.MemFacts.{fate_next};
+    ghost use Rattle.fact_store.specs.MemFacts.{fate_next, AnswersAsListed, RefusesAsListed};
+
+    ghost may_answer = { λ m call answer n. AnswersAsListed m call answer n };
+
+    ghost may_refuse = { λ m call error n. RefusesAsListed m call error n };
 
     ghost kept = { λ m. kept_of m.kept };
 
@@ -85,6 +89,8 @@ impl FactKeeper for MemFacts {
 
     fn load(&mut self) -> Result<Option<Fact>, KeepError>
         ensures loads { Loads (kept_of self.old.kept) self.old.faults self.new.faults result }
+        ensures answer { IfOk result (λ o. AnswersAsListed self.old Load o self.new) }
+        ensures refusal { IfErr result (λ e. RefusesAsListed self.old Load e self.new) }
         ensures kept { kept_of self.new.kept ≡ kept_of self.old.kept }
         ensures later { self.old.faults ≤ self.new.faults }
         // Exactly the listed calls fail.
@@ -101,6 +107,8 @@ impl FactKeeper for MemFacts {
         ensures ok { OnOk result (kept_of self.new.kept ≡ Some (Ok fact.now)) }
         ensures failed { OnErr result (IsOldOrNew (kept_of self.old.kept) fact.now (kept_of self.new.kept)) }
         ensures error { IfErr result (λ e. e ≡ errors.Failed) }
+        ensures answer { OnOk result (AnswersAsListed self.old (Save fact.now) tt self.new) }
+        ensures refusal { IfErr result (λ e. RefusesAsListed self.old (Save fact.now) e self.new) }
         ensures cause { HasCause self.old.faults self.new.faults result }
         // Exactly the listed calls fail.
         ensures works { OnOk result (fate_next self.old ≡ Works) }

@@ -1,3 +1,9 @@
 pub mod Counts
+pub mod Grammar
 pub mod Halts
+pub mod Kept
+pub mod Alone
+pub mod Steady
+pub mod Straight
 pub mod Parts
+pub mod Sending

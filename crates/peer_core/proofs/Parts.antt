@@ -3,13 +3,13 @@ use Rattle.std.proofs.Common.{◌≡◌, ◌<◌, ◌≤◌, ℕ, true, false, n
 use Rattle.std.proofs.lemmas.Bool.Decides.{nat_tests}
 use Rattle.register_model.specs.declared.note.Note.{Note}
 use Rattle.peer_core.specs.Calls.{Call, AnswerOf}
-use Rattle.peer_core.specs.Plans.{Plan, Done, Out, Rest, Ending, Finished, Stopped, Runs, Did}
+use Rattle.peer_core.specs.Plans.{Plan, Done, Out, nothing, Rest, Ending, Finished, Stopped, Runs, Did}
 use Rattle.peer_core.specs.declared.error.PeerError.{PeerError}
 use Rattle.peer_core.specs.declared.error.PeerError.TheVariants as errors
 use Rattle.peer_core.specs.declared.state.State.{State}
 use Rattle.peer_core.specs.Outboxes.{Empty}
 use Rattle.peer_core.specs.Outcomes.{Acts, out_of}
-use Rattle.peer_core.specs.Steps.{Ended, nothing}
+use Rattle.peer_core.specs.Steps.{Ended}
 use Rattle.peer_core.specs.declared.machine.Machine.{Machine}
 use Rattle.peer_core.specs.declared.outbox.Outbox.{Outbox}
 

@@ -5,9 +5,10 @@ use Rattle.peer_fact.specs.declared.fact.Fact.{Fact}
 use Rattle.tree_node.specs.declared.body.Scan.{Scan}
 use Rattle.tree_node.specs.declared.position.Position.{Position}
 
--- a fact is saved; in the tree an entry is found, entered, all of it scanned, a node read, or the tree of some entries
+-- what is kept is loaded, or a fact is saved; in the tree an entry is found, entered, all of it scanned, a node read, or the tree of some entries
 -- installed; from the backend the bytes of a key are fetched, or put there
 pub data Call : Type 0 where
+  Load : Call
   Save : (fact : Fact) → Call
   Find : (key : List ℕ) → Call
   Enter : (entry : Entry) → Call
@@ -24,6 +25,7 @@ pub data Walked (A : Type 0) : Type 0 where
 
 -- what a call is answered
 abbrev pub AnswerOf : Call → Type 0
+AnswerOf Load = Option Fact
 AnswerOf (Save fact) = Unit {0}
 AnswerOf (Find key) = Walked (Option Entry)
 AnswerOf (Enter entry) = Walked (Unit {0})

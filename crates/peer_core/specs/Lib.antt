@@ -3,7 +3,9 @@ pub mod Sends
 pub mod Moves
 pub mod Calls
 pub mod Plans
+pub mod Kept
 pub mod Rules
+pub mod Light
 pub mod Outcomes
 pub mod Stores
 pub mod Steps

@@ -1,5 +1,5 @@
 -- An outbox.
-use Rattle.std.specs.Prelude.{◌≡◌, ℕ, ◌-◌, [], vec_capacity, vec_len}
+use Rattle.std.specs.Prelude.{◌≡◌, ℕ, ◌+◌, ◌-◌, [], length, vec_capacity, vec_len}
 use Rattle.peer_core.specs.declared.outbox.Outbox.{Outbox}
 
 -- nothing is in it
@@ -12,3 +12,7 @@ pub record Empty (o : Outbox) : Type 0 where
 -- how many sends fit in before memory is taken
 abbrev pub spare : Outbox → ℕ
 spare o = vec_capacity o.sends - vec_len o.sends
+
+-- how many sends fit in before memory is taken, with those that are in it
+abbrev pub room : Outbox → ℕ
+room o = spare o + length o.sends.items

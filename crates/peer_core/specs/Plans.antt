@@ -14,6 +14,10 @@ pub record Out : Type 0 where
   pub answers : List AnswerOut
   pub changes : List Bool
 
+-- nothing leaves the peer
+abbrev pub nothing : Out
+nothing = record { sends = []; answers = []; changes = [] }
+
 -- a step ends in a state and with what leaves the peer, or something is noted, or the stores are asked
 pub data Plan : Type 0 where
   Done : (state : State) (out : Out) → Plan

@@ -15,7 +15,7 @@ use Rattle.following.specs.Follower.{row_2}
 use Rattle.following.specs.declared.follower.Follower.{Follower}
 use Rattle.phase_rows.specs.Orders.{is_same}
 use Rattle.phase_rows.specs.Peers.{is_member, joined}
-use Rattle.view_change.specs.Finishing.{row_17 as finishing_row_17}
+use Rattle.view_change.specs.Finishing.{row_17 as finishing_row_17, row_26}
 use Rattle.view_change.specs.declared.finishing.Finishing.{Finishing}
 use Rattle.wire_frames.specs.declared.message.Message.{Message}
 use Rattle.wire_frames.specs.declared.message.Message.TheVariants as messages
@@ -175,7 +175,7 @@ is_told me l p = is_member l.fact.views p && not (p == me)
 
 -- rule 5 (d), a tick while leading: each other member of the epoch's views is sent one message
 abbrev pub plan_5 : ℕ → Leadership → State → Out → Rest → Plan
-plan_5 me l x out next = next x (and_sends out (posted (is_told me l) (word_to x.fact l) 32))
+plan_5 me l x out next = next x (and_sends out (posted (is_told me l) (word_to x.fact l) 31))
 
 -- rule 5, in a phase
 abbrev pub while_5 : Phase → ℕ → State → Out → Rest → Plan
@@ -246,9 +246,29 @@ delivered me from (messages.Accepted ballot seq) x out next = while_17 x.phase m
 delivered me from (messages.Beat ballot) x out next = done (row_19 x.fact x.trusted from ballot) x out next
 delivered me from other x out next = next x out
 
--- what a peer does on an event. The rules on calls and on requests to change the view are not there yet
+-- rule 26, where the epoch is ending. No call is unanswered yet
+abbrev pub plan_26 : Option Finishing → ℕ → State → Out → Rest → Plan
+plan_26 None me x out next = next x out
+plan_26 (Some finishing) me x out next = done_then (plan_10 me x.fact x.fact.ballot.count) (row_26 finishing x.fact me false).1 x out next
+
+-- rule 6, in a phase
+abbrev pub while_6 : Phase → ℕ → State → Out → Rest → Plan
+while_6 (phases.Leading l) me x out next = plan_26 l.finishing me x out next
+while_6 (phases.Following f) me x out next = next x out
+while_6 (phases.Probing p) me x out next = next x out
+while_6 (phases.Electing e) me x out next = next x out
+
+-- rule 6: at the end of each step a leader may end its epoch
+abbrev pub plan_6 : ℕ → State → Out → Rest → Plan
+plan_6 me x out next = while_6 x.phase me x out next
+
+-- what a peer does on an event, but for the end of the step. The rules on calls and on requests to change the view are not there yet
 abbrev pub plan_of : ℕ → Event → State → Out → Rest → Plan
 plan_of me (events.Deliver from message) x out next = delivered me from message x out next
 plan_of me events.Tick x out next = ticked x.phase me x out next
 plan_of me (events.Call call) x out next = next x out
 plan_of me (events.Change view) x out next = next x out
+
+-- a whole step: what a peer does on an event, and then rule 6
+abbrev pub whole_step : ℕ → Event → State → Out → Rest → Plan
+whole_step me event x out next = plan_of me event x out (λ y more. plan_6 me y more next)

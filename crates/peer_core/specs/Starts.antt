@@ -1,30 +1,49 @@
 -- How a peer starts.
-use Rattle.std.specs.Prelude.{◌≡◌, ℕ, Bool, true, false, List, Option, Some, None, Result, Ok, Err}
-use Rattle.ens_base.specs.Causes.{Rose}
+use Rattle.std.specs.Prelude.{ℕ, Bool, true, false, List, [], Option, Some, None, Result, Ok, Err}
 use Rattle.peer_fact.specs.Facts.{opening_fact}
-use Rattle.peer_fact.specs.declared.error.FactError.{FactError}
 use Rattle.peer_fact.specs.declared.fact.Fact.{Fact}
+use Rattle.peer_core.specs.Calls.{Call, Load, Save, AnswerOf}
 use Rattle.peer_core.specs.Moves.{follower}
+use Rattle.peer_core.specs.Plans.{Plan, Done, Ask, nothing, Finished, Stopped, Runs}
 use Rattle.peer_core.specs.declared.error.PeerError.{PeerError}
 use Rattle.peer_core.specs.declared.error.PeerError.TheVariants as errors
 use Rattle.peer_core.specs.declared.state.State.{State}
 
--- with what a peer starts, by what its store kept before: with the opening fact, kept from now on, and trust in its tree
--- where nothing was kept; with the fact that was kept, and no trust, else
-abbrev pub IsFirst : Option (Result Fact FactError) → List ℕ → Fact → Bool → Option (Result Fact FactError) → Type 0
-IsFirst None opening fact trusted now = (fact ≡ opening_fact opening) × (trusted ≡ true) × (now ≡ Some (Ok fact))
-IsFirst (Some (Ok kept)) opening fact trusted now = (fact ≡ kept) × (trusted ≡ false) × (now ≡ Some (Ok kept))
-IsFirst (Some (Err why)) opening fact trusted now = ⊥
-
 -- the state with which a peer starts: it follows
-abbrev pub IsFirstState : Option (Result Fact FactError) → List ℕ → State → Option (Result Fact FactError) → Type 0
-IsFirstState kept opening x now = IsFirst kept opening x.fact x.trusted now × (x.phase ≡ follower)
+abbrev pub first_state : Fact → Bool → State
+first_state fact trusted = record { fact = fact; trusted = trusted; phase = follower }
 
--- why a peer does not start, by what its store kept before and the counts of its faults
-abbrev pub IsStartError : Option (Result Fact FactError) → ℕ → ℕ → PeerError → Type 0
-IsStartError kept before now errors.StoreFault = Rose before now
-IsStartError kept before now (errors.BadFact why) = kept ≡ Some (Err why)
-IsStartError kept before now errors.Memory = Unit {0}
-IsStartError kept before now errors.Halted = ⊥
-IsStartError kept before now (errors.Clash first second) = ⊥
-IsStartError kept before now (errors.BookFull bytes) = ⊥
+-- what a start comes to, by what was kept: where nothing was, the opening fact is saved and the tree is trusted; else the
+-- fact is the one that was kept, and the tree is not trusted
+abbrev pub opened : List ℕ → Option Fact → Plan
+opened view None = Ask (Save (opening_fact view)) (λ u. Done (first_state (opening_fact view) true) nothing)
+opened view (Some fact) = Done (first_state fact false) nothing
+
+-- rule 1: a start, of a peer whose ensemble opens with this view
+abbrev pub start_of : List ℕ → Plan
+start_of view = Ask Load (λ kept. opened view kept)
+
+-- the start was stopped by this error; of want of memory nothing is said
+abbrev pub IsStopped : {S : Type 0} → (S → (call : Call) → AnswerOf call → S → Type 0) → (S → Call → PeerError → S → Type 0)
+    → Plan → S → PeerError → S → Type 0
+IsStopped does refuses plan s errors.Memory t = Unit {0}
+IsStopped does refuses plan s errors.StoreFault t = Runs does refuses plan s [] (Stopped errors.StoreFault) t []
+IsStopped does refuses plan s errors.Halted t = Runs does refuses plan s [] (Stopped errors.Halted) t []
+IsStopped does refuses plan s (errors.Clash first second) t = Runs does refuses plan s [] (Stopped (errors.Clash first second)) t []
+IsStopped does refuses plan s (errors.BookFull bytes) t = Runs does refuses plan s [] (Stopped (errors.BookFull bytes)) t []
+IsStopped does refuses plan s (errors.BadFact why) t = Runs does refuses plan s [] (Stopped (errors.BadFact why)) t []
+
+-- the call was the start of a peer
+abbrev pub Starts : {S : Type 0} → (S → (call : Call) → AnswerOf call → S → Type 0) → (S → Call → PeerError → S → Type 0)
+    → Plan → S → Result State PeerError → S → Type 0
+Starts does refuses plan s (Ok x) t = Runs does refuses plan s [] (Finished x nothing) t []
+Starts does refuses plan s (Err e) t = IsStopped does refuses plan s e t
+
+-- why a start is refused
+abbrev pub IsStartError : PeerError → Type 0
+IsStartError errors.StoreFault = Unit {0}
+IsStartError (errors.BadFact why) = Unit {0}
+IsStartError errors.Memory = Unit {0}
+IsStartError errors.Halted = ⊥
+IsStartError (errors.Clash first second) = ⊥
+IsStartError (errors.BookFull bytes) = ⊥

@@ -4,8 +4,8 @@ use Rattle.ens_base.specs.View.{IsPeer}
 use Rattle.register_model.specs.declared.note.Note.{Note}
 use Rattle.peer_core.specs.Calls.{Call, AnswerOf}
 use Rattle.peer_core.specs.Outcomes.{out_of}
-use Rattle.peer_core.specs.Plans.{Plan, Done, Out, Finished, Stopped, Runs}
-use Rattle.peer_core.specs.Rules.{plan_of}
+use Rattle.peer_core.specs.Plans.{Plan, Done, Out, nothing, Finished, Stopped, Runs}
+use Rattle.peer_core.specs.Rules.{whole_step}
 use Rattle.peer_core.specs.declared.error.PeerError.{PeerError}
 use Rattle.peer_core.specs.declared.error.PeerError.TheVariants as errors
 use Rattle.peer_core.specs.declared.event.Event.{Event}
@@ -21,13 +21,9 @@ HasSender events.Tick = Unit {0}
 HasSender (events.Call call) = Unit {0}
 HasSender (events.Change view) = Unit {0}
 
--- nothing leaves the peer
-abbrev pub nothing : Out
-nothing = record { sends = []; answers = []; changes = [] }
-
 -- the step of a peer of this number, in this state, on an event: what it asks of the stores and notes, and how it ends
 abbrev pub step_of : ℕ → Event → State → Plan
-step_of me event x = plan_of me event x nothing Done
+step_of me event x = whole_step me event x nothing Done
 
 -- the step ended well, and what leaves the peer, and the notes, stand behind what was in the outbox
 pub record HasStepped {S : Type 0} (does : S → (call : Call) → AnswerOf call → S → Type 0) (refuses : S → Call → PeerError → S → Type 0)

@@ -1,9 +1,10 @@
-ghost use Rattle.std.specs.Prelude.{◌≡◌};
+ghost use Rattle.std.specs.Prelude.{◌≡◌, ◌≤◌, IfErr};
 ghost use Rattle.peer_core.specs.Plans.{Did, Gave, with_state};
 ghost use Rattle.ens_base.specs.View.{IsPeer};
-ghost use Rattle.peer_core.specs.Outboxes.{Empty};
+ghost use Rattle.peer_core.specs.Light.{IsLight};
+ghost use Rattle.peer_core.specs.Outboxes.{Empty, room};
 ghost use Rattle.peer_core.specs.Outcomes.{Acts};
-ghost use Rattle.peer_core.specs.Rules.{saved, performed, done, plan_of};
+ghost use Rattle.peer_core.specs.Rules.{saved, performed, done, plan_of, whole_step};
 ghost use Rattle.peer_core.specs.Steps.{HasSender, Takes, Steps};
 
 use crate::error::PeerError;
@@ -25,8 +26,9 @@ pub struct Machine<S> {
 
 impl<S: Store> Machine<S> {
     /// Saves the fact, where there is one.
-    fn save(&mut self, save: Option<Fact>) -> Result<(), PeerError>
-        ensures { Gave S.does S.refuses (λ next. saved save self.old.state next) self.old.stores (with_state result self.new.state) self.new.stores }
+    pub(crate) fn save(&mut self, save: Option<Fact>) -> Result<(), PeerError>
+        ensures only { IfErr result (λ e. e ≡ PeerError.StoreFault) }
+        ensures gave { Gave S.does S.refuses (λ next. saved save self.old.state next) self.old.stores (with_state result self.new.state) self.new.stores }
     {
         if let Some(fact) = save {
             match self.stores.save(&fact) {
@@ -76,7 +78,7 @@ impl<S: Store> Machine<S> {
 }
 
 impl<S: Store> Machine<S> {
-    /// What a peer does on an event.
+    /// What a peer does on an event that is not answered straight into the outbox.
     fn act(
         &mut self,
         alloc: Global,
@@ -86,6 +88,7 @@ impl<S: Store> Machine<S> {
     ) -> Result<(), PeerError>
         requires me { IsPeer me }
         requires sender { HasSender event.now }
+        requires apart { ¬ IsLight event.now }
         ensures { Acts S.does S.refuses (λ x o next. plan_of me event.now x o next) self.old out.old result self.new out.new }
     {
         match event {
@@ -93,6 +96,23 @@ impl<S: Store> Machine<S> {
             Event::Tick => self.tick(alloc, out, me),
             Event::Call(_) | Event::Change(_) => Ok(()),
         }
+    }
+
+    /// What a peer does on an event, and at the end of each step.
+    fn act_whole(
+        &mut self,
+        alloc: Global,
+        out: &mut Outbox,
+        me: PeerId,
+        event: &Event,
+    ) -> Result<(), PeerError>
+        requires me { IsPeer me }
+        requires sender { HasSender event.now }
+        requires apart { ¬ IsLight event.now }
+        ensures { Acts S.does S.refuses (λ x o next. whole_step me event.now x o next) self.old out.old result self.new out.new }
+    {
+        self.act(alloc, out, me, event)?;
+        self.rule_6(alloc, out, me)
     }
 
     /// Takes a step into an empty outbox.
@@ -105,15 +125,16 @@ impl<S: Store> Machine<S> {
     ) -> Result<(), PeerError>
         requires me { IsPeer me }
         requires sender { HasSender event.now }
+        requires apart { ¬ IsLight event.now }
         requires empty { Empty out.old }
         ensures { Takes S.does S.refuses me event.now self.old result self.new out.new }
     {
-        self.act(alloc, out, me, event)
+        self.act_whole(alloc, out, me, event)
     }
 
-    /// Takes a step, and puts what leaves the peer behind what is in the outbox. Of a refused step only
-    /// the notes are kept.
-    pub(crate) fn step(
+    /// Takes a step into an outbox of its own, and then puts what leaves the peer behind what is in the
+    /// outbox. Of a refused step only the notes are kept.
+    pub(crate) fn step_apart(
         &mut self,
         alloc: Global,
         out: &mut Outbox,
@@ -122,7 +143,9 @@ impl<S: Store> Machine<S> {
     ) -> Result<(), PeerError>
         requires me { IsPeer me }
         requires sender { HasSender event.now }
-        ensures { Steps S.does S.refuses me event.now self.old out.old result self.new out.new }
+        requires apart { ¬ IsLight event.now }
+        ensures steps { Steps S.does S.refuses me event.now self.old out.old result self.new out.new }
+        ensures room { room out.old ≤ room out.new }
     {
         let mut work = Outbox::new(alloc);
         match self.take(alloc, &mut work, me, event) {

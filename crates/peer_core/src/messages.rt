@@ -1,5 +1,6 @@
 ghost use Rattle.std.specs.Prelude.{◌≡◌};
 ghost use Rattle.ens_base.specs.View.{IsPeer};
+ghost use Rattle.peer_core.specs.Light.{IsLightMessage};
 ghost use Rattle.peer_core.specs.Outcomes.{Acts};
 ghost use Rattle.peer_core.specs.Rules.{delivered, plan_16, waiting};
 
@@ -7,9 +8,8 @@ use crate::error::PeerError;
 use crate::machine::Machine;
 use crate::outbox::Outbox;
 use crate::stores::Store;
-use election::rule_11;
 use ens_base::PeerId;
-use following::{rule_16, rule_19};
+use following::rule_16;
 use peer_fact::{Change, Fact};
 use probe::rule_8_probe;
 use std::alloc::Global;
@@ -46,7 +46,7 @@ impl<S: Store> Machine<S> {
         Ok(())
     }
 
-    /// A message from a peer.
+    /// A message from a peer, which is not answered straight into the outbox.
     pub(crate) fn deliver(
         &mut self,
         alloc: Global,
@@ -57,23 +57,18 @@ impl<S: Store> Machine<S> {
     ) -> Result<(), PeerError>
         requires me { IsPeer me }
         requires from { IsPeer from }
+        requires apart { ¬ IsLightMessage message.now }
         ensures { Acts S.does S.refuses (λ x o next. delivered me from message.now x o next) self.old out.old result self.new out.new }
     {
-        let fact = self.state.fact;
         match message {
-            Message::Probe => self.finish(alloc, out, rule_8_probe(fact, from)),
+            Message::Probe => self.finish(alloc, out, rule_8_probe(self.state.fact, from)),
             Message::ProbeReply(reply) => self.probe_reply(alloc, out, me, from, *reply),
-            Message::Prepare(ballot) => self.finish(alloc, out, rule_11(fact, from, *ballot)),
             Message::Promise(ballot, promised) => {
                 self.promise(alloc, out, me, from, *ballot, *promised)
             }
             Message::Nack(ballot, cause) => self.refused(alloc, out, *ballot, *cause),
             Message::NewEpoch(new) => self.new_epoch(alloc, out, me, from, *new),
             Message::Accepted(ballot, seq) => self.accepted(alloc, out, me, from, *ballot, *seq),
-            Message::Beat(ballot) => {
-                let trusted = self.state.trusted;
-                self.finish(alloc, out, rule_19(fact, trusted, from, *ballot))
-            }
             _ => Ok(()),
         }
     }

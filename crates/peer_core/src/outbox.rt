@@ -1,7 +1,9 @@
-ghost use Rattle.std.specs.Prelude.{◌≡◌, ◌≤◌, ◌++◌, ◌∷◌, [], ◌==◌, not, ◌&&◌, OnOk, OnErr, IfErr};
+ghost use Rattle.std.specs.Prelude.{◌≡◌, ◌+◌, ◌≤◌, ◌++◌, ◌∷◌, [], ◌==◌, not, ◌&&◌, IsOk, OnOk, OnErr, IfErr, length};
 ghost use Rattle.ens_base.specs.PeerSet.{holds};
-ghost use Rattle.peer_core.specs.Outboxes.{Empty, spare};
+ghost use Rattle.ens_base.specs.View.{IsPeer};
+ghost use Rattle.peer_core.specs.Outboxes.{Empty, room, spare};
 ghost use Rattle.peer_core.specs.Sends.{posted, posted_to};
+ghost use Rattle.phase_rows.specs.Peers.{alone};
 
 use crate::error::PeerError;
 use ens_base::{PeerId, PeerSet, Reply};
@@ -65,6 +67,10 @@ impl Outbox {
     /// Sends a message to a peer.
     pub(crate) fn send(&mut self, to: PeerId, message: Message) -> Result<(), PeerError>
         ensures sends { OnOk result (self.new.sends.items ≡ self.old.sends.items ++ record { to = to; message = message } ∷ []) }
+        ensures kept { OnErr result (self.new.sends.items ≡ self.old.sends.items) }
+        ensures one { length self.new.sends.items ≤ length self.old.sends.items + 1 }
+        ensures light { 1 ≤ spare self.old → IsOk result }
+        ensures room { room self.old ≤ room self.new }
         ensures rest { (self.new.answers ≡ self.old.answers) × (self.new.notes ≡ self.old.notes) × (self.new.changes ≡ self.old.changes) }
         ensures memory { IfErr result (λ e. e ≡ PeerError.Memory) }
     {
@@ -72,6 +78,23 @@ impl Outbox {
             return Err(PeerError::Memory);
         }
         Ok(())
+    }
+
+    /// Sends the message, if there is one, to one peer.
+    pub(crate) fn send_one(&mut self, to: PeerId, message: Option<Message>) -> Result<(), PeerError>
+        requires { IsPeer to }
+        ensures sends { OnOk result (self.new.sends.items ≡ self.old.sends.items ++ posted_to (alone to) message) }
+        ensures kept { OnErr result (self.new.sends.items ≡ self.old.sends.items) }
+        ensures rest { (self.new.answers ≡ self.old.answers) × (self.new.notes ≡ self.old.notes) × (self.new.changes ≡ self.old.changes) }
+        ensures one { length self.new.sends.items ≤ length self.old.sends.items + 1 }
+        ensures light { 1 ≤ spare self.old → IsOk result }
+        ensures room { room self.old ≤ room self.new }
+        ensures memory { IfErr result (λ e. e ≡ PeerError.Memory) }
+    {
+        match message {
+            None => Ok(()),
+            Some(message) => self.send(to, message),
+        }
     }
 
     /// Sends a message to each peer of the set, in ascending order.
@@ -82,12 +105,12 @@ impl Outbox {
         to: &PeerSet,
         message: &Message,
     ) -> Result<(), PeerError>
-        ensures sends { OnOk result (self.new.sends.items ≡ self.old.sends.items ++ posted (holds to.now) (λ p. message.now) 32) }
+        ensures sends { OnOk result (self.new.sends.items ≡ self.old.sends.items ++ posted (holds to.now) (λ p. message.now) 31) }
         ensures rest { (self.new.answers ≡ self.old.answers) × (self.new.notes ≡ self.old.notes) × (self.new.changes ≡ self.old.changes) }
         ensures memory { IfErr result (λ e. e ≡ PeerError.Memory) }
     {
-        for number in 0..32 {
-            let peer = PeerId(number);
+        for below in 0..31 {
+            let peer = PeerId(below + 1);
             if to.has(peer) {
                 let copy = message.copy(alloc)?;
                 self.send(peer, copy)?;
@@ -122,6 +145,7 @@ impl Outbox {
         ensures answers { OnOk result (self.new.answers.items ≡ self.old.answers.items ++ more.old.answers.items) }
         ensures changes { OnOk result (self.new.changes.items ≡ self.old.changes.items ++ more.old.changes.items) }
         ensures notes { OnOk result (self.new.notes.items ≡ self.old.notes.items ++ more.old.notes.items) }
+        ensures room { room self.old ≤ room self.new }
         ensures err { OnErr result ((self.new.sends.items ≡ self.old.sends.items) × (self.new.answers.items ≡ self.old.answers.items) × (self.new.changes.items ≡ self.old.changes.items)) }
         ensures memory { IfErr result (λ e. e ≡ PeerError.Memory) }
     {

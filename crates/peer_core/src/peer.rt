@@ -1,13 +1,16 @@
+ghost use Rattle.std.specs.Prelude.{◌≡◌, false};
 ghost use Rattle.ens_base.specs.View.{IsPeer};
+ghost use Rattle.peer_core.specs.Light.{IsSteady};
 
 use crate::error::PeerError;
 use crate::machine::Machine;
-use crate::state::{Phase, State};
+use crate::starting::start;
+use crate::state::State;
 use crate::stores::Stores;
 use ens_base::{PeerId, View};
+use ens_hashing::Hasher16;
 use ens_outside::{Backend, NodeStore};
 use fact_store::FactKeeper;
-use following::Follower;
 use peer_fact::{Change, Fact};
 
 /// A peer over its stores. Once halted, it takes no step.
@@ -17,6 +20,7 @@ pub struct Peer<B, N, F> {
     pub(crate) machine: Machine<Stores<B, N, F>>,
     pub(crate) halted: bool,
     ghost is_peer: { IsPeer me },
+    ghost steady: { halted ≡ false → IsSteady machine.state },
 }
 
 /// A peer without its stores, which may be changed before it goes on.
@@ -26,6 +30,7 @@ pub struct Suspended {
     state: State,
     halted: bool,
     ghost is_peer: { IsPeer me },
+    ghost steady: { halted ≡ false → IsSteady state },
 }
 
 /// Why a peer did not start, and the stores that it was given.
@@ -36,8 +41,10 @@ pub struct StartError<B, N, F> {
 }
 
 impl<B: Backend, N: NodeStore, F: FactKeeper> Peer<B, N, F> {
-    ghost use Rattle.std.specs.Prelude.{◌≡◌, false, IfOk, IfErr};
-    ghost use Rattle.peer_core.specs.Starts.{IsFirstState, IsStartError};
+    ghost use Rattle.std.specs.Prelude.{[], IfOk, IfErr};
+    ghost use Rattle.peer_core.specs.Plans.{Finished, Runs, nothing};
+    ghost use Rattle.peer_core.specs.Starts.{IsStopped, IsStartError, start_of};
+    ghost use Rattle.peer_core.specs.Stores.{SomeRose, stores_do, stores_refuse};
 
     /// Rule 1: a peer starts on its stores. Where they keep no fact, the fact of an ensemble of this
     /// view in which nothing has happened is saved, and the peer trusts its tree. Else it goes on from
@@ -45,32 +52,27 @@ impl<B: Backend, N: NodeStore, F: FactKeeper> Peer<B, N, F> {
     ///
     /// # Errors
     ///
-    /// `BadFact` only where what is kept is no fact, `StoreFault` only where the count of faults of the
-    /// facts rose in this call, and want of memory. The stores come back.
-    pub fn start(
+    /// `BadFact` exactly where the keeper of the fact answers so, `StoreFault` only where the count of
+    /// faults of a store rose in this call, and want of memory. The stores come back.
+    pub fn start<H: Hasher16>(
         me: PeerId,
         opening: View,
         stores: Stores<B, N, F>,
+        _hasher: &mut H,
     ) -> Result<Peer<B, N, F>, StartError<B, N, F>>
         requires { IsPeer me }
         ensures me { IfOk result (λ p. (p.me ≡ me) × (p.halted ≡ false)) }
-        ensures state { IfOk result (λ p. IsFirstState (F.kept stores.facts) opening p.machine.state (F.kept p.machine.stores.facts)) }
-        ensures error { IfErr result (λ r. IsStartError (F.kept stores.facts) (F.fault_count stores.facts) (F.fault_count r.held.facts) r.error) }
-        ensures started { IfOk result (λ p. (p.machine.stores.backend ≡ stores.backend) × (p.machine.stores.nodes ≡ stores.nodes)) }
-        ensures held { IfErr result (λ r. (r.held.backend ≡ stores.backend) × (r.held.nodes ≡ stores.nodes)) }
+        ensures started { IfOk result (λ p. Runs (stores_do B.may_answer B.fault_count N.fault_count F.may_answer F.kept F.fault_count) (stores_refuse B.may_refuse B.fault_count N.fault_count F.may_refuse F.kept F.fault_count) (start_of opening) stores [] (Finished p.machine.state nothing) p.machine.stores []) }
+        ensures stopped { IfErr result (λ r. IsStopped (stores_do B.may_answer B.fault_count N.fault_count F.may_answer F.kept F.fault_count) (stores_refuse B.may_refuse B.fault_count N.fault_count F.may_refuse F.kept F.fault_count) (start_of opening) stores r.error r.held) }
+        ensures rose { IfErr result (λ r. r.error ≡ PeerError.StoreFault → SomeRose B.fault_count N.fault_count F.fault_count stores r.held) }
+        ensures only { IfErr result (λ r. IsStartError r.error) }
+        ensures hasher { _hasher.new ≡ _hasher.old }
     {
         let mut stores = stores;
-        match stores.first_fact(opening) {
-            Ok((fact, trusted)) => Ok(Peer {
+        match start(&mut stores, opening) {
+            Ok(state) => Ok(Peer {
                 me,
-                machine: Machine {
-                    state: State {
-                        fact,
-                        trusted,
-                        phase: Phase::Following(Follower { quiet: 0 }),
-                    },
-                    stores,
-                },
+                machine: Machine { state, stores },
                 halted: false,
             }),
             Err(error) => Err(StartError {
@@ -82,8 +84,6 @@ impl<B: Backend, N: NodeStore, F: FactKeeper> Peer<B, N, F> {
 }
 
 impl<B, N, F> Peer<B, N, F> {
-    ghost use Rattle.std.specs.Prelude.{◌≡◌};
-
     /// The stores. It takes no memory.
     pub fn into_stores(self) -> Stores<B, N, F>
         ensures { result ≡ self.machine.stores }
@@ -114,8 +114,6 @@ impl<B, N, F> Peer<B, N, F> {
 }
 
 impl Suspended {
-    ghost use Rattle.std.specs.Prelude.{◌≡◌};
-
     /// The peer goes on over these stores, in the state that it had. It takes no memory.
     pub fn resume<B, N, F>(self, stores: Stores<B, N, F>) -> Peer<B, N, F>
         ensures peer { (result.me ≡ self.me) × (result.machine.state ≡ self.state) × (result.halted ≡ self.halted) }

@@ -16,7 +16,7 @@ use wire_frames::{PhaseOut, Then};
 
 impl<S: Store> Machine<S> {
     /// Does what a rule asks that may lead to rule 10, with this fact and count.
-    fn finish_then_10(
+    pub(crate) fn finish_then_10(
         &mut self,
         alloc: Global,
         out: &mut Outbox,

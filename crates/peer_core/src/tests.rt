@@ -2,6 +2,7 @@ ghost use Rattle.ens_base.specs.View.{IsPeer};
 
 use super::*;
 use ens_base::{Epoch, PeerId, View, ViewError};
+use ens_hashing::PlainHasher;
 use ens_outside::{MemBackend, MemNodes};
 use fact_store::{Kept, MemFacts};
 use peer_fact::{Change, Fact};
@@ -36,7 +37,7 @@ fn numbered(
 ) -> Result<Tried, PeerError>
     requires { IsPeer number }
 {
-    match Peer::start(PeerId(number), view, stores) {
+    match Peer::start(PeerId(number), view, stores, &mut PlainHasher) {
         Ok(peer) => Ok(peer),
         Err(refused) => {
             let StartError { error, held: _ } = refused;
@@ -62,7 +63,12 @@ fn told(alloc: Global, peer: &mut Tried, from: u32, message: Message) -> Result<
     requires { IsPeer from }
 {
     let mut out = Outbox::new(alloc);
-    peer.step(alloc, Event::Deliver(PeerId(from), message), &mut out)?;
+    peer.step(
+        alloc,
+        Event::Deliver(PeerId(from), message),
+        &mut PlainHasher,
+        &mut out,
+    )?;
     Ok(out)
 }
 
@@ -70,7 +76,7 @@ fn told(alloc: Global, peer: &mut Tried, from: u32, message: Message) -> Result<
 fn six_ticks(alloc: Global, peer: &mut Tried) -> Result<Outbox, PeerError> {
     let mut out = Outbox::new(alloc);
     for _tick in 0..6 {
-        peer.step(alloc, Event::Tick, &mut out)?;
+        peer.step(alloc, Event::Tick, &mut PlainHasher, &mut out)?;
     }
     Ok(out)
 }
@@ -201,7 +207,7 @@ fn a_leader_says_that_it_is_there(rt: HostRuntime) -> Result<(), Fail> {
     let mut one = starting(alloc, view()?)?;
     told(alloc, &mut one, 3, Message::Accepted(BALLOT, 1))?;
     let mut out = Outbox::new(alloc);
-    one.step(alloc, Event::Tick, &mut out)?;
+    one.step(alloc, Event::Tick, &mut PlainHasher, &mut out)?;
     assert!(rt; is_sent(&out, 0, 2, "new epoch"));
     assert!(rt; is_sent(&out, 1, 3, "beat"));
     Ok(())
@@ -228,11 +234,11 @@ fn a_refused_save_sends_nothing_and_halts(rt: HostRuntime) -> Result<(), Fail> {
     let mut out = Outbox::new(alloc);
     let prepare = Event::Deliver(PeerId(1), Message::Prepare(BALLOT));
     assert_eq!(rt;
-        two.step(alloc, prepare, &mut out),
+        two.step(alloc, prepare, &mut PlainHasher, &mut out),
         Err(PeerError::StoreFault)
     );
     assert_eq!(rt;
-        two.step(alloc, Event::Tick, &mut out),
+        two.step(alloc, Event::Tick, &mut PlainHasher, &mut out),
         Err(PeerError::Halted)
     );
     assert_eq!(rt; out.sends.len(), 0);

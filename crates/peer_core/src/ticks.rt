@@ -189,12 +189,12 @@ impl Outbox {
         fact: &Fact,
         leadership: &Leadership,
     ) -> Result<(), PeerError>
-        ensures sends { OnOk result (self.new.sends.items ≡ self.old.sends.items ++ posted (is_told me leadership.now) (word_of fact.now leadership.now) 32) }
+        ensures sends { OnOk result (self.new.sends.items ≡ self.old.sends.items ++ posted (is_told me leadership.now) (word_of fact.now leadership.now) 31) }
         ensures rest { (self.new.answers ≡ self.old.answers) × (self.new.notes ≡ self.old.notes) × (self.new.changes ≡ self.old.changes) }
         ensures memory { IfErr result (λ e. e ≡ PeerError.Memory) }
     {
-        for number in 0..32 {
-            let peer = PeerId(number);
+        for below in 0..31 {
+            let peer = PeerId(below + 1);
             if leadership.tells(me, peer) {
                 self.send(peer, leadership.word_to(fact, peer))?;
             }
