@@ -1,0 +1,47 @@
+-- The events of a schedule one after the other.
+use Rattle.std.proofs.Common.{◌≡◌, ◌<◌, ◌≤◌, ◌+◌, ℕ, zero, suc, Some, List, [], ◌∷◌, slice_get, refl, ap, ◌∙◌, sym, arith}
+use Rattle.std.specs.Prelude.{drop}
+use Rattle.std.proofs.lemmas.List.{length-replicate}
+use Rattle.std.proofs.lemmas.Option.{same_Some, none-some}
+use Rattle.network.specs.Mail.{most_messages}
+use Rattle.schedule_text.specs.Spelling.{MayStand, AllMayStand}
+use Rattle.schedule_text.specs.declared.event.ScheduleEvent.{ScheduleEvent}
+use Rattle.world_runs.proofs.Growth.{sent_in, peers_in, applied_same, run_grows}
+use Rattle.world_runs.specs.Lines.{applied, run_from, run_of_schedule}
+use Rattle.world_runs.specs.Runs.{Run, opening_run}
+
+-- some events have been applied, and the others follow from here
+pub record Running (peers : ℕ) (view : List ℕ) (all : List ScheduleEvent) (place : ℕ) (now : Run) : Type 0 where
+  pub rest : run_from (drop place all) now ≡ run_of_schedule peers view all
+  pub many : peers_in now ≡ peers
+  pub within : sent_in now ≤ most_messages
+
+pub running_first : (peers : ℕ) (view : List ℕ) (all : List ScheduleEvent) (now : Run) → now ≡ opening_run peers view → Running peers view all 0 now
+running_first peers view all now is = record { rest = rw is refl; many = rw is (length-replicate {A = _} peers _); within = rw is (omega arith) }
+
+succ : (n : ℕ) → n + 1 ≡ suc n
+succ n = omega arith
+
+drop_one : (all : List ScheduleEvent) (place : ℕ) (event : ScheduleEvent) → slice_get all place ≡ Some event → drop place all ≡ event ∷ drop (place + 1) all
+drop_one all place event here = at all place event here ∙ ap (λ k. event ∷ drop k all) (sym (succ place)) where
+  at : (all : List ScheduleEvent) (place : ℕ) (event : ScheduleEvent) → slice_get all place ≡ Some event → drop place all ≡ event ∷ drop (suc place) all
+  at [] place event here = absurd (none-some event here)
+  at (e ∷ es) zero event here = ap (λ x. x ∷ es) (same_Some e event here)
+  at (e ∷ es) (suc place) event here = at es place event here
+
+module _ (peers : ℕ) (view : List ℕ) (all : List ScheduleEvent) (place : ℕ) (now : Run) (event : ScheduleEvent) (here : slice_get all place ≡ Some event) (old : Running peers view all place now) where
+  pub running_next : (next : Run) → next ≡ applied event now → sent_in next ≤ most_messages → Running peers view all (place + 1) next
+  running_next next is within = record {
+    rest = rw is (rw (drop_one all place event here) at old.rest);
+    many = rw is (applied_same event now ∙ old.many);
+    within = within;
+  }
+
+  pub running_over : most_messages < sent_in (applied event now) → most_messages < sent_in (run_of_schedule peers view all)
+  running_over over = rw (← old.rest) (rw (drop_one all place event here) (omega (arith, over, run_grows (drop (place + 1) all) (applied event now))))
+
+-- each event may stand
+pub stands_at : (peers : ℕ) (all : List ScheduleEvent) (place : ℕ) (event : ScheduleEvent) → AllMayStand peers all → slice_get all place ≡ Some event → MayStand peers event
+stands_at peers [] place event may here = absurd (none-some event here)
+stands_at peers (e ∷ es) zero event may here = rw (← same_Some e event here) may.0
+stands_at peers (e ∷ es) (suc place) event may here = stands_at peers es place event may.1 here

@@ -1,0 +1,8 @@
+pub mod Takes
+pub mod OneByOne
+pub mod Begins
+pub mod Placed
+pub mod Loops
+pub mod Members
+pub mod Starting
+pub mod Events

@@ -1,0 +1,56 @@
+-- One peer of a world takes a step.
+use Rattle.std.proofs.Common.{◌≡◌, ◌<◌, ◌≤◌, ◌+◌, ℕ, zero, suc, Some, List, [], ◌∷◌, length, map, slice_get, slice_set, refl, ap, ◌∙◌, arith}
+use Rattle.std.proofs.lemmas.List.{map-set, length-map, length-set}
+use Rattle.std.proofs.lemmas.Option.{slice_get-map, same_Some, none-some}
+use Rattle.std.specs.Prelude.{option_map}
+use Rattle.network.specs.Mail.{most_messages}
+use Rattle.peer_core.specs.Plans.{Out}
+use Rattle.peer_core.specs.declared.event.Event.{Event}
+use Rattle.register_model.specs.declared.note.Note.{Note}
+use Rattle.world_runs.proofs.Growth.{sent_in, length_posted_all}
+use Rattle.world_runs.specs.Nodes.{Taken, taken}
+use Rattle.world_runs.specs.Runs.{Run, frame_from, place_of, stepped}
+use Rattle.world_model.specs.Peers.{MemPeer, node_of, AreNumbered}
+use Rattle.world_model.specs.Worlds.{reported}
+
+node_at : (peers : List MemPeer) (place : ℕ) (x : MemPeer) → slice_get peers place ≡ Some x → slice_get (map node_of peers) place ≡ Some (node_of x)
+node_at peers place x is = slice_get-map node_of peers place ∙ ap (option_map node_of) is
+
+module _ (peers : List MemPeer) (w : Run) (peer : ℕ) (event : Event) (x new : MemPeer) (out : Out) (notes : List Note)
+    (nodes : w.nodes ≡ map node_of peers) (here : slice_get peers (place_of peer) ≡ Some x) (me : x.me ≡ peer)
+    (did : ◌≡◌ {A = Taken} (record { node = node_of new; out = out; notes = notes }) (taken x.me event (node_of x))) where
+  pub took : reported peer out notes (record w { nodes = map node_of (slice_set peers (place_of peer) new) }) ≡ stepped peer event w
+  took = rw nodes (rw (node_at peers (place_of peer) x here) (rw (← me) (rw (← did) (rw me (rw (map-set node_of peers (place_of peer) new) (rw (← nodes) refl))))))
+
+  pub took_too_many : most_messages < length w.mail.sent + length out.sends → most_messages < sent_in (stepped peer event w)
+  took_too_many over = rw (← took) (rw (length_posted_all (map (frame_from peer) out.sends) w.mail) (rw (length-map out.sends (frame_from peer)) over))
+
+same_number : (x new p : MemPeer) (n : ℕ) → Some new ≡ Some p → new.me ≡ x.me → x.me ≡ n → p.me ≡ n
+same_number x new p n is same numbered = rw (← same_Some new p is) (same ∙ numbered)
+
+shifted : (m q base : ℕ) → m ≡ suc q + base → m ≡ q + (base + 1)
+shifted m q base is = omega (arith, is)
+
+shifted_back : (m q base : ℕ) → m ≡ q + (base + 1) → m ≡ suc q + base
+shifted_back m q base is = omega (arith, is)
+
+still_from : (base : ℕ) (peers : List MemPeer) (place : ℕ) (x new : MemPeer) → slice_get peers place ≡ Some x → new.me ≡ x.me
+    → ((q : ℕ) (p : MemPeer) → slice_get peers q ≡ Some p → p.me ≡ q + base) → (q : ℕ) (p : MemPeer) → slice_get (slice_set peers place new) q ≡ Some p → p.me ≡ q + base
+still_from base [] place x new here same numbered q p is = absurd (none-some x here)
+still_from base (y ∷ ys) zero x new here same numbered zero p is = same_number x new p (zero + base) is same (numbered zero x here)
+still_from base (y ∷ ys) zero x new here same numbered (suc q) p is = numbered (suc q) p is
+still_from base (y ∷ ys) (suc place) x new here same numbered zero p is = numbered zero p is
+still_from base (y ∷ ys) (suc place) x new here same numbered (suc q) p is =
+    shifted_back p.me q base (still_from (base + 1) ys place x new here same (λ r o found. shifted o.me r base (numbered (suc r) o found)) q p is)
+
+-- the numbers stay
+pub still_numbered : (peers : List MemPeer) (place : ℕ) (x new : MemPeer) → slice_get peers place ≡ Some x → new.me ≡ x.me → AreNumbered peers → AreNumbered (slice_set peers place new)
+still_numbered peers place x new here same numbered = still_from 1 peers place x new here same numbered
+
+-- the peer at the place of a number has it
+pub has_number : (peers : List MemPeer) (peer : ℕ) (x : MemPeer) → 1 ≤ peer → slice_get peers (place_of peer) ≡ Some x → AreNumbered peers → x.me ≡ peer
+has_number peers peer x first here numbered = numbered (place_of peer) x here ∙ omega (arith, first)
+
+-- and so does how many there are
+pub still_few : (peers : List MemPeer) (place : ℕ) (new : MemPeer) → length peers ≤ 31 → length (slice_set peers place new) ≤ 31
+still_few peers place new few = rw (length-set peers place new) few

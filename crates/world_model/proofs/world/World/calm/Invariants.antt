@@ -1,0 +1,5 @@
+use Rattle.world_model.proofs.Loops.{Calming}
+use Rattle.world_model.proofs.world.World.calm.Given as goal
+
+abbrev pub invariant-loop-turn : goal.invariant-loop-turn
+invariant-loop-turn g l = Calming l.peers l._turn l.initial.self l.self

@@ -1,0 +1,5 @@
+use Rattle.world_model.proofs.Loops.{Ticking}
+use Rattle.world_model.proofs.world.World.tick.Given as goal
+
+abbrev pub invariant-loop-tick : goal.invariant-loop-tick
+invariant-loop-tick g l = Ticking l.fn.peer l.fn.ticks l._tick l.initial.self l.self

@@ -1,0 +1,4 @@
+pub mod Peers
+pub mod Worlds
+pub mod Refusals
+pub mod Messages

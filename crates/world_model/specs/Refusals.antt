@@ -1,0 +1,26 @@
+-- What a refused step of a peer means for the world.
+use Rattle.std.specs.Prelude.{◌≡◌, ◌⊎◌, Option, Some, None}
+use Rattle.network.specs.declared.error.SendError.{SendError}
+use Rattle.network.specs.declared.error.SendError.TheVariants as sends
+use Rattle.peer_core.specs.declared.error.PeerError.{PeerError}
+use Rattle.peer_core.specs.declared.error.PeerError.TheVariants as errors
+use Rattle.world_model.specs.declared.error.WorldError.{WorldError}
+use Rattle.world_model.specs.declared.error.WorldError.TheVariants as worlds
+
+-- a fault of a store leaves the peer down, and the world goes on; the others end the run
+abbrev pub world_error : PeerError → Option WorldError
+world_error errors.StoreFault = None
+world_error errors.Halted = None
+world_error (errors.BadFact why) = None
+world_error errors.Memory = Some worlds.Memory
+world_error (errors.Clash first second) = Some (worlds.Clash first second)
+world_error (errors.BookFull bytes) = Some (worlds.BookFull bytes)
+
+-- why a line was not applied
+abbrev pub IsApplyError : WorldError → Type 0
+IsApplyError e = (e ≡ worlds.MessageLimit) ⊎ (e ≡ worlds.Memory)
+
+-- why a message is not sent, in the words of the world
+abbrev pub of_send : SendError → WorldError
+of_send sends.Limit = worlds.MessageLimit
+of_send sends.Memory = worlds.Memory

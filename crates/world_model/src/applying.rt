@@ -1,0 +1,107 @@
+ghost use Rattle.std.specs.Prelude.{◌≡◌, ◌<◌, ◌≤◌, length, OnOk, IfErr, IsErrOf};
+ghost use Rattle.network.specs.Mail.{most_messages};
+ghost use Rattle.schedule_text.specs.Spelling.{MayStand};
+ghost use Rattle.schedule_words.specs.Spelling.{AreMembers};
+ghost use Rattle.world_runs.specs.Lines.{applied, effect, everyone, first_of, set_of, up_to};
+ghost use Rattle.world_runs.proofs.Growth.{sent_in};
+ghost use Rattle.world_model.specs.Refusals.{IsApplyError};
+ghost use Rattle.world_model.specs.Worlds.{run_of, Begins, IsWithin};
+
+use crate::error::WorldError;
+use crate::world::World;
+use ens_base::{PeerId, PeerSet};
+use ens_hashing::Hasher16;
+use schedule_text::ScheduleEvent;
+use std::alloc::Global;
+
+/// All peers.
+pub(crate) fn all_peers() -> PeerSet
+    ensures { result ≡ everyone }
+{
+    let mut set = PeerSet::empty();
+    for below in 0..31 {
+        set.insert(PeerId(below + 1));
+    }
+    set
+}
+
+/// The set of these peers.
+fn set_of_members(members: &[PeerId]) -> PeerSet
+    requires { AreMembers 31 members.now }
+    ensures { result ≡ set_of members.now }
+{
+    let mut set = PeerSet::empty();
+    for place in 0..members.len() {
+        set.insert(members[place]);
+    }
+    set
+}
+
+impl World {
+    /// What a line does.
+    fn effect<H: Hasher16>(
+        &mut self,
+        alloc: Global,
+        hasher: &mut H,
+        event: &ScheduleEvent,
+    ) -> Result<(), WorldError>
+        requires { MayStand (length self.old.peers.items) event.now }
+        ensures ok { OnOk result (run_of self.new ≡ effect event.now (run_of self.old)) }
+        ensures limit { IsErrOf result WorldError.MessageLimit → most_messages < sent_in (effect event.now (run_of self.old)) }
+        ensures within { OnOk result (IsWithin self.old self.new) }
+        ensures begins { Begins self.old self.new }
+        ensures error { IfErr result IsApplyError }
+    {
+        match event {
+            ScheduleEvent::Tick { peer, ticks } => self.tick(alloc, hasher, *peer, *ticks),
+            ScheduleEvent::Deliver { message } => {
+                self.deliver(alloc, hasher, (*message - 1) as usize)
+            }
+            ScheduleEvent::Pass { sender, receiver } => {
+                self.pass(alloc, hasher, *sender, *receiver)
+            }
+            ScheduleEvent::Lose { sender, receiver } => {
+                self.network.lose(*sender, *receiver);
+                Ok(())
+            }
+            ScheduleEvent::Calm => self.calm(alloc, hasher, &all_peers()),
+            ScheduleEvent::CalmAmong { members } => {
+                self.calm(alloc, hasher, &set_of_members(members.as_slice()))
+            }
+            ScheduleEvent::Call { .. }
+            | ScheduleEvent::Change { .. }
+            | ScheduleEvent::Stop { .. }
+            | ScheduleEvent::Start { .. }
+            | ScheduleEvent::Spoil { .. }
+            | ScheduleEvent::Damage { .. }
+            | ScheduleEvent::Inner { .. }
+            | ScheduleEvent::Revert { .. }
+            | ScheduleEvent::Fail { .. } => Ok(()),
+        }
+    }
+
+    /// Applies a line of a schedule of as many peers as there are. The world is then the run of the lines
+    /// so far.
+    ///
+    /// # Errors
+    ///
+    /// `MessageLimit` exactly where message 500,001 would be sent, and want of memory. What was sent and
+    /// printed stays at the front of what is.
+    pub fn apply<H: Hasher16>(
+        &mut self,
+        alloc: Global,
+        event: &ScheduleEvent,
+        hasher: &mut H,
+    ) -> Result<(), WorldError>
+        requires line { MayStand (length self.old.peers.items) event.now }
+        ensures ok { OnOk result (run_of self.new ≡ applied event.now (run_of self.old)) }
+        ensures limit { IsErrOf result WorldError.MessageLimit → most_messages < sent_in (applied event.now (run_of self.old)) }
+        ensures within { OnOk result (IsWithin self.old self.new) }
+        ensures begins { Begins self.old self.new }
+        ensures error { IfErr result IsApplyError }
+    {
+        self.effect(alloc, hasher, event)?;
+        self.events = self.events.saturating_add(1);
+        Ok(())
+    }
+}

@@ -1,0 +1,90 @@
+ghost use Rattle.std.specs.Prelude.{◌≡◌, ◌≤◌, length, map, replicate, IfOk, IfErr};
+ghost use Rattle.ens_base.specs.View.{IsPeer};
+ghost use Rattle.world_runs.specs.Nodes.{opening_node};
+ghost use Rattle.world_runs.specs.Runs.{opening_run};
+ghost use Rattle.world_model.specs.Peers.{AreNumbered, node_of};
+ghost use Rattle.world_model.specs.Worlds.{run_of};
+
+use crate::error::WorldError;
+use crate::world::{MemPeer, World};
+use ens_base::{PeerId, View};
+use ens_hashing::Hasher16;
+use ens_outside::{MemBackend, MemNodes};
+use network::Network;
+use peer_core::{Peer, PeerError, Stores};
+use schedule_text::Schedule;
+use std::alloc::Global;
+use world_runs::HeldFact;
+
+/// The peer of this number, started on empty stores.
+fn started<H: Hasher16>(
+    alloc: Global,
+    me: PeerId,
+    view: View,
+    hasher: &mut H,
+) -> Result<MemPeer, WorldError>
+    requires { IsPeer me }
+    ensures me { IfOk result (λ p. p.me ≡ me) }
+    ensures node { IfOk result (λ p. node_of p ≡ opening_node view) }
+    ensures error { IfErr result (λ e. e ≡ WorldError.Memory) }
+{
+    let stores = Stores {
+        backend: MemBackend::new(alloc, Vec::new(alloc)),
+        nodes: MemNodes::new(alloc, Vec::new(alloc)),
+        facts: HeldFact::empty(),
+    };
+    match Peer::start(me, view, stores, hasher) {
+        Ok(peer) => Ok(peer),
+        Err(refused) => match refused.error {
+            PeerError::Memory => Err(WorldError::Memory),
+            _ => unreachable!(),
+        },
+    }
+}
+
+/// So many peers, from 1 on, started on empty stores.
+fn started_peers<H: Hasher16>(
+    alloc: Global,
+    count: u32,
+    view: View,
+    hasher: &mut H,
+) -> Result<Vec<MemPeer>, WorldError>
+    requires { count ≤ 31 }
+    ensures nodes { IfOk result (λ v. map node_of v.items ≡ replicate count (opening_node view)) }
+    ensures numbered { IfOk result (λ v. AreNumbered v.items) }
+    ensures count { IfOk result (λ v. length v.items ≡ count) }
+    ensures error { IfErr result (λ e. e ≡ WorldError.Memory) }
+{
+    let mut peers = Vec::new(alloc);
+    for below in 0..count {
+        let peer = started(alloc, PeerId(below + 1), view, hasher)?;
+        peers.push(peer)?;
+    }
+    Ok(peers)
+}
+
+impl World {
+    /// A world whose peers have started on empty stores. The lines of the schedule before its events say
+    /// how many there are, and the view with which their ensemble opens.
+    ///
+    /// # Errors
+    ///
+    /// Want of memory alone.
+    pub fn open<H: Hasher16>(
+        alloc: Global,
+        schedule: &Schedule,
+        hasher: &mut H,
+    ) -> Result<World, WorldError>
+        requires { schedule.now.peers ≤ 31 }
+        ensures ok { IfOk result (λ w. run_of w ≡ opening_run schedule.now.peers schedule.now.view) }
+        ensures memory { IfErr result (λ e. e ≡ WorldError.Memory) }
+    {
+        Ok(World {
+            peers: started_peers(alloc, schedule.peers, schedule.view, hasher)?,
+            network: Network::new(alloc)?,
+            printed: Vec::new(alloc),
+            notes: Vec::new(alloc),
+            events: 0,
+        })
+    }
+}

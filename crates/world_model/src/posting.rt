@@ -1,0 +1,38 @@
+ghost use Rattle.std.specs.Prelude.{◌≡◌, ◌<◌, ◌≤◌, ◌+◌, map, length, All, OnOk, IfErr, IsErrOf};
+ghost use Rattle.ens_base.specs.View.{IsPeer};
+ghost use Rattle.network.specs.Mail.{most_messages};
+ghost use Rattle.peer_core.specs.Kept.{MaySend};
+ghost use Rattle.world_runs.specs.Runs.{frame_from, posted_all};
+ghost use Rattle.world_model.specs.Messages.{StartsWith};
+ghost use Rattle.world_model.specs.Refusals.{IsApplyError};
+
+use crate::error::WorldError;
+use ens_base::PeerId;
+use network::Network;
+use peer_core::Outgoing;
+use wire_frames::Frame;
+
+/// Sends what a peer sends, until it is all sent or too much was.
+pub(crate) fn post_all(
+    network: &mut Network,
+    from: PeerId,
+    sends: Vec<Outgoing>,
+) -> Result<(), WorldError>
+    requires from { IsPeer from }
+    requires sends { All MaySend sends.items }
+    ensures ok { OnOk result (network.new ≡ posted_all (map (frame_from from) sends.items) network.old) }
+    ensures limit { IsErrOf result WorldError.MessageLimit → most_messages < length network.old.sent + length sends.items }
+    ensures within { OnOk result (length network.old.sent ≤ most_messages → length network.new.sent ≤ most_messages) }
+    ensures begins { StartsWith network.old.sent network.new.sent }
+    ensures error { IfErr result IsApplyError }
+{
+    for outgoing in sends {
+        let Outgoing { to, message } = outgoing;
+        network.send(Frame {
+            from: from.0,
+            to: to.0,
+            message,
+        })?;
+    }
+    Ok(())
+}

@@ -1,0 +1,44 @@
+ghost use Rattle.std.specs.Prelude.{◌≡◌, ◌++◌, map, IfOk};
+ghost use Rattle.world_runs.specs.Runs.{answer_line as line_of_answer, change_line as line_of_change};
+
+use ens_base::PeerId;
+use peer_core::AnswerOut;
+use register_model::{Answer, Printed};
+use std::alloc::{AllocError, Global};
+
+/// The line that an answer prints.
+fn answer_line(event: u64, answer: AnswerOut) -> Printed
+    ensures { result ≡ line_of_answer event answer }
+{
+    let AnswerOut { from: _, id, reply } = answer;
+    Printed::Answer(Answer { id, event, reply })
+}
+
+/// The line that a peer prints on a request to change its view.
+fn change_line(event: u64, peer: PeerId, taken: bool) -> Printed
+    ensures { result ≡ line_of_change event peer taken }
+{
+    Printed::Change { event, peer, taken }
+}
+
+/// The lines that a step of a peer prints, at the event of this number.
+pub(crate) fn lines_of(
+    alloc: Global,
+    event: u64,
+    peer: PeerId,
+    answers: Vec<AnswerOut>,
+    changes: Vec<bool>,
+) -> Result<Vec<Printed>, AllocError>
+    ensures { IfOk result (λ v. v.items ≡ map (line_of_answer event) answers.items ++ map (line_of_change event peer) changes.items) }
+{
+    let mut lines = answers
+        .into_iter()
+        .map(|answer| answer_line(event, answer))
+        .collect::<Vec<Printed>>(alloc)?;
+    let mut words = changes
+        .into_iter()
+        .map(|taken| change_line(event, peer, taken))
+        .collect::<Vec<Printed>>(alloc)?;
+    lines.append(&mut words)?;
+    Ok(lines)
+}

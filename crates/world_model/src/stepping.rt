@@ -1,0 +1,73 @@
+ghost use Rattle.std.specs.Prelude.{◌≡◌, ◌<◌, ◌≤◌, ◌+◌, length, All, OnOk, IfErr, IsErrOf};
+ghost use Rattle.ens_base.specs.View.{IsPeer};
+ghost use Rattle.network.specs.Mail.{most_messages};
+ghost use Rattle.peer_core.specs.Outcomes.{out_of};
+ghost use Rattle.peer_core.specs.Kept.{AllObey};
+ghost use Rattle.peer_core.specs.Steps.{HasSender};
+ghost use Rattle.world_runs.specs.Runs.{stepped};
+ghost use Rattle.world_runs.proofs.Growth.{sent_in};
+ghost use Rattle.world_model.specs.Refusals.{IsApplyError};
+ghost use Rattle.world_model.specs.Worlds.{run_of, Begins, IsWithin, reported};
+
+use crate::error::WorldError;
+use crate::posting::post_all;
+use crate::reporting::lines_of;
+use crate::taking::take;
+use crate::world::World;
+use ens_base::PeerId;
+use ens_hashing::Hasher16;
+use peer_core::{Event, Outbox};
+use std::alloc::Global;
+
+/// No peer takes the event.
+fn ignore(_event: Event) {}
+
+impl World {
+    /// What a step of a peer leaves: its messages are on their way, and what it says is printed.
+    fn report(&mut self, alloc: Global, peer: PeerId, out: Outbox) -> Result<(), WorldError>
+        requires peer { IsPeer peer }
+        requires out { AllObey (out_of out) }
+        ensures ok { OnOk result (run_of self.new ≡ reported peer (out_of out) out.notes.items (run_of self.old)) }
+        ensures limit { IsErrOf result WorldError.MessageLimit → most_messages < length self.old.network.sent + length out.sends.items }
+        ensures within { OnOk result (IsWithin self.old self.new) }
+        ensures begins { Begins self.old self.new }
+        ensures error { IfErr result IsApplyError }
+    {
+        let Outbox {
+            sends,
+            answers,
+            mut notes,
+            changes,
+        } = out;
+        let mut lines = lines_of(alloc, self.events.saturating_add(1), peer, answers, changes)?;
+        post_all(&mut self.network, peer, sends)?;
+        self.printed.append(&mut lines)?;
+        self.notes.append(&mut notes)?;
+        Ok(())
+    }
+
+    /// A step of a peer on an event.
+    pub(crate) fn step_peer<H: Hasher16>(
+        &mut self,
+        alloc: Global,
+        hasher: &mut H,
+        peer: PeerId,
+        event: Event,
+    ) -> Result<(), WorldError>
+        requires peer { IsPeer peer }
+        requires sender { HasSender event }
+        ensures ok { OnOk result (run_of self.new ≡ stepped peer event (run_of self.old)) }
+        ensures limit { IsErrOf result WorldError.MessageLimit → most_messages < sent_in (stepped peer event (run_of self.old)) }
+        ensures within { OnOk result (IsWithin self.old self.new) }
+        ensures begins { Begins self.old self.new }
+        ensures error { IfErr result IsApplyError }
+    {
+        let place = (peer.0 - 1) as usize;
+        if place >= self.peers.len() {
+            ignore(event);
+            return Ok(());
+        }
+        let out = take(alloc, hasher, &mut self.peers[place], event)?;
+        self.report(alloc, peer, out)
+    }
+}

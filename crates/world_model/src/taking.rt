@@ -1,0 +1,49 @@
+ghost use Rattle.std.specs.Prelude.{◌≡◌, IfOk, IfErr};
+ghost use Rattle.peer_core.specs.Outcomes.{out_of};
+ghost use Rattle.peer_core.specs.Steps.{HasSender};
+ghost use Rattle.peer_core.specs.Kept.{AllObey};
+ghost use Rattle.world_runs.specs.Nodes.{Taken, taken};
+ghost use Rattle.world_model.specs.Peers.{node_of};
+ghost use Rattle.world_model.specs.Refusals.{world_error as error_of};
+
+use crate::error::WorldError;
+use crate::world::MemPeer;
+use ens_hashing::Hasher16;
+use peer_core::{Event, Outbox, PeerError};
+use std::alloc::Global;
+
+/// Why a refused step ends the run, if it does. A fault of a store leaves the peer down, and the world
+/// goes on.
+fn world_error(error: PeerError) -> Option<WorldError>
+    ensures { result ≡ error_of error }
+{
+    match error {
+        PeerError::StoreFault | PeerError::Halted | PeerError::BadFact(_) => None,
+        PeerError::Memory => Some(WorldError::Memory),
+        PeerError::Clash { first, second } => Some(WorldError::Clash { first, second }),
+        PeerError::BookFull(bytes) => Some(WorldError::BookFull(bytes)),
+    }
+}
+
+/// One step of one peer, and what it leaves.
+pub(crate) fn take<H: Hasher16>(
+    alloc: Global,
+    hasher: &mut H,
+    peer: &mut MemPeer,
+    event: Event,
+) -> Result<Outbox, WorldError>
+    requires { HasSender event }
+    ensures taken { IfOk result (λ out. record { node = node_of peer.new; out = out_of out; notes = out.notes.items } ≡ taken peer.old.me event (node_of peer.old)) }
+    ensures obey { IfOk result (λ out. AllObey (out_of out)) }
+    ensures me { peer.new.me ≡ peer.old.me }
+    ensures error { IfErr result (λ e. e ≡ WorldError.Memory) }
+{
+    let mut out = Outbox::new(alloc);
+    match peer.step(alloc, event, hasher, &mut out) {
+        Ok(()) => Ok(out),
+        Err(error) => match world_error(error) {
+            None => Ok(out),
+            Some(error) => Err(error),
+        },
+    }
+}

@@ -1,0 +1,25 @@
+ghost use Rattle.std.specs.Prelude.{◌≤◌, length};
+ghost use Rattle.world_model.specs.Peers.{AreNumbered};
+
+use ens_outside::{MemBackend, MemNodes};
+use network::Network;
+use peer_core::Peer;
+use register_model::{Note, Printed};
+use world_runs::HeldFact;
+
+/// A peer over stores in memory.
+pub(crate) type MemPeer = Peer<MemBackend, MemNodes, HeldFact>;
+
+/// Peers over stores in memory, the messages that were ever sent between them, and what they answered
+/// and noted.
+#[derive(Drop)]
+pub struct World {
+    pub(crate) peers: Vec<MemPeer>,
+    pub(crate) network: Network,
+    pub(crate) printed: Vec<Printed>,
+    pub(crate) notes: Vec<Note>,
+    /// How many events were applied.
+    pub(crate) events: u64,
+    ghost numbered: { AreNumbered peers.items },
+    ghost few: { length peers.items ≤ 31 },
+}
