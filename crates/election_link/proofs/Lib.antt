@@ -1,0 +1,17 @@
+pub mod Numbers
+pub mod Keeps
+pub mod Reaching
+pub mod Sets
+pub mod Plans
+pub mod Quiet
+pub mod Saving
+pub mod Elections
+pub mod Promises
+pub mod Announcements
+pub mod Probes
+pub mod Ticks
+pub mod Peers
+pub mod Worlds
+pub mod Openings
+pub mod Consequences
+pub mod Sizes
