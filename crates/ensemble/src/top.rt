@@ -22,7 +22,7 @@ fn is_replay(words: &[&str]) -> bool
 /// All that the program does: the job that the words ask for, over the input and the output that are
 /// handed in.
 ///
-/// The word `replay` reads a schedule and writes the answers of its run and one history for each key.
+/// The word `replay` reads a schedule and writes what its run prints and one history for each key.
 /// Every other list of words is a usage fault.
 pub fn ensemble_main<S: Source, O: Sink>(
     alloc: Global,
@@ -30,8 +30,8 @@ pub fn ensemble_main<S: Source, O: Sink>(
     input: &mut S,
     output: &mut O,
 ) -> Status
-    // What is written, by the status: for a replay that ran to its end, the answers of the machine and
-    // a legal history for each key.
+    // What is written, by the status: for a replay that ran to its end, what the world printed, or the
+    // answers of the machine and a legal history for each key.
     ensures printed { result ≢ Status.WriteFault → (text : List ℕ) × Ends (map (λ w. w.now) words.now) (S.left input.old) result text × Appends (O.written output.old) (O.written output.new) text }
     // A front of it, where the output failed.
     ensures front { result ≡ Status.WriteFault → (status : Status) × (text : List ℕ) × Ends (map (λ w. w.now) words.now) (S.left input.old) status text × AppendsFront (O.written output.old) (O.written output.new) text }

@@ -1,21 +1,19 @@
 -- The calls of the events that are run are those of their schedule.
-use Rattle.std.proofs.Common.{◌≡◌, ℕ, ◌==◌, Bool, true, false, List, [], ◌∷◌, Option, None, Some, Ok, refl, sym, ap, subst, ◌∙◌}
-use Rattle.std.specs.Prelude.{IfSome, if◌then◌else◌, codes, ◌++◌}
+use Rattle.std.proofs.Common.{◌≡◌, ℕ, ◌==◌, Bool, true, false, List, [], ◌∷◌, Option, None, Some, refl, sym, ap, subst, ◌∙◌}
+use Rattle.std.specs.Prelude.{if◌then◌else◌}
 use Rattle.ens_base.specs.Lists.{AreDistinct}
-use Rattle.ens_base.specs.declared.command.Command.{Command}
 use Rattle.ens_base.specs.declared.command.Command.TheVariants as does
 use Rattle.schedule_text.specs.Spelling as schedule
-use Rattle.schedule_text.specs.Reading.{schedule_of}
 use Rattle.schedule_text.specs.declared.event.ScheduleEvent.{ScheduleEvent}
 use Rattle.schedule_text.specs.declared.event.ScheduleEvent.TheVariants as line
 use Rattle.schedule_text.specs.declared.schedule.Schedule.{Schedule}
-use Rattle.schedule_text.proofs.SchedulesRead.{schedule_of-ok}
 use Rattle.ens_base.specs.declared.status.Status.TheVariants as Status
 use Rattle.replay.specs.declared.event.Event.{Event}
 use Rattle.replay.specs.declared.event.Event.TheVariants.{Tick, Read, Write}
 use Rattle.replay.specs.Events.{call_ids}
-use Rattle.replay.specs.Form.{form_event, form_events, form_of, before}
-use Rattle.replay.specs.Jobs.{Prints, IsReplay, IsRunText, IsUnbuilt}
+use Rattle.replay.specs.Form.{form_events, form_of, before}
+use Rattle.replay.specs.Elections.{is_election}
+use Rattle.replay.specs.Jobs.{EndsSo, IsMachineText, IsRunText}
 
 behind : (e : Event) (o : Option (List Event)) (es : List Event) → before (Some e) o ≡ Some es → (rest : List Event) × (o ≡ Some rest) × (es ≡ e ∷ rest)
 behind e None es h = absurd cc
@@ -39,12 +37,7 @@ of_events false o es h = absurd cc
 pub form_distinct : (s : Schedule) (events : List Event) → form_of s ≡ Some events → schedule.IsSchedule s → AreDistinct (call_ids events)
 form_distinct s events is of = let P : List ℕ → Type 0 = AreDistinct in subst P (sym (ids_form s.events events (of_events (s.peers == 1) (form_events s.events) events is))) of.distinct
 
--- what a run prints
-pub done : (source : Option (List ℕ)) (s : Schedule) (text : List ℕ) → (schedule.IsSchedule s → IsRunText s text) → IfSome source (λ bytes. schedule_of bytes ≡ Ok s) → Prints source Status.Done text
-done None s text ran read = tt
-done (Some bytes) s text ran read = let of = (schedule_of-ok bytes s read).0 in (s, read, of, ran of)
-
--- what is printed of a schedule that is not run
-pub unbuilt : (source : Option (List ℕ)) (s : Schedule) (text : List ℕ) → form_of s ≡ None → text ≡ codes "unbuilt" ++ 10 ∷ [] → IfSome source (λ bytes. schedule_of bytes ≡ Ok s) → Prints source Status.Unbuilt text
-unbuilt None s text none is read = (tt, is)
-unbuilt (Some bytes) s text none is read = ((s, read, none), is)
+-- what the machine's run of a schedule prints
+pub machine_done : (s : Schedule) (text : List ℕ) → schedule.IsSchedule s → is_election s ≡ false → IsMachineText s text → EndsSo s Status.Done text
+machine_done s text of other ran None read = tt
+machine_done s text of other ran (Some bytes) read = let P : Bool → Type 0 = λ b. IsRunText b s text in (s, read, of, subst P (sym other) ran)

@@ -5,5 +5,6 @@ pub mod Printed
 pub mod Serving
 pub mod Legal
 pub mod Parts
+pub mod Reached
 pub mod FormSteps
 pub mod Forms

@@ -1,12 +1,12 @@
 -- The lines of a source, taken one after another, are the parts that its bytes are read by.
-use Rattle.std.proofs.Common.{◌≡◌, ◌≢◌, ℕ, zero, suc, ◌+◌, ◌<◌, ◌≤◌, ◌==◌, Bool, true, false, List, [], ◌∷◌, ◌++◌, length, take, Option, None, Some, Result, Ok, Err, refl, sym, ap, subst, ◌∙◌, append_assoc, append-nil, arith, length-append, length-take}
+use Rattle.std.proofs.Common.{◌≡◌, ◌≢◌, ℕ, zero, suc, ◌+◌, ◌<◌, ◌≤◌, ◌==◌, Bool, true, false, List, [], ◌∷◌, ◌++◌, length, take, Option, None, Some, Result, Ok, Err, refl, sym, ap, subst, ◌∙◌, append_assoc, append-nil, arith, length-append}
 use Rattle.std.specs.Prelude.{All, IfSome, IfErr, IsErr, nat_lt, if◌then◌else◌}
-use Rattle.std.specs.List.{slice_split, onto_first}
+use Rattle.std.specs.List.{onto_first}
 use Rattle.std.specs.Io.KnownBytes.{Consumes, Keeps, IsAtEnd, prepend_known}
 use Rattle.std.proofs.lemmas.Bool.Decides.{nat_tests}
 use Rattle.std.proofs.lemmas.List.Elements.{All-head, All-tail, All-weaker}
 use Rattle.std.proofs.lemmas.List.Splits.{slice_split-cons_yes, slice_split-cons_no, slice_split_none, slice_split_at}
-use Rattle.ens_outside.specs.Lines.{HasNoFeed, IsLine, BeginsLong}
+use Rattle.ens_outside.specs.Lines.{HasNoFeed, BeginsLong}
 use Rattle.schedule_words.specs.Causes.{◌>>=◌}
 use Rattle.schedule_words.specs.Words.{parts_of, words_of}
 use Rattle.schedule_words.specs.declared.cause.Cause.{Cause}
@@ -59,7 +59,7 @@ long_part (suc n) (x ∷ xs) fits clear =
 read_more : (p : Progress) (v : List ℕ) (parts : List (List ℕ)) (w : List ℕ) (more : List (List ℕ)) → parts ≡ w ∷ more → read_parts p (v ∷ parts) ≡ and_then (next_line p v) (λ q. read_parts q parts)
 read_more p v parts w more e = let P : List (List ℕ) → Type 0 = λ l. read_parts p (v ∷ l) ≡ and_then (next_line p v) (λ q. read_parts q l) in subst P (sym e) refl
 
-read_line : (p : Progress) (x v y : List ℕ) → HasNoFeed v → x ≡ (v ++ 10 ∷ []) ++ y → read_parts p (parts_of 10 x) ≡ and_then (next_line p v) (λ q. read_parts q (parts_of 10 y))
+pub read_line : (p : Progress) (x v y : List ℕ) → HasNoFeed v → x ≡ (v ++ 10 ∷ []) ++ y → read_parts p (parts_of 10 x) ≡ and_then (next_line p v) (λ q. read_parts q (parts_of 10 y))
 read_line p x v y clear is =
     let part = first_part y in
     ap (λ (l : List ℕ). read_parts p (parts_of 10 l)) is ∙ ap (λ (l : List (List ℕ)). read_parts p l) (parts_line v y clear) ∙ read_more p v (parts_of 10 y) part.0 part.1 part.2
@@ -239,3 +239,13 @@ long_refuses p new t (Err e) long takes = λ rest begins. refuses_long rest p ne
 pub long_errs : (p new : Progress) (t : List ℕ) (r : Result (Unit {0}) ScheduleError) → 4400 < length t → TakesLine p t new r → IsErr r
 long_errs p new t (Ok u) long takes = absurd (long_never p new t long takes)
 long_errs p new t (Err e) long takes = refl
+
+-- a text ends as a schedule only behind a line feed
+pub ended_ok : (p : Progress) (rest : List ℕ) (s : Schedule) → ended p rest ≡ Ok s → ended p [] ≡ Ok s
+ended_ok p [] s ok = ok
+ended_ok p (byte ∷ rest) s ok = absurd (by_lines (lines_so_far p == most_lines) (nat_lt line_limit (length (byte ∷ rest))) ok)
+  where
+    by_lines : (b d : Bool) → (let inner : Result Schedule Cause = if d then Err TooLong else Err Unfinished in let r : Result Schedule ScheduleError = if b then Err Lines else at_next p inner in r ≡ Ok s) → ⊥
+    by_lines true d h = cc
+    by_lines false true h = cc
+    by_lines false false h = cc

@@ -1,4 +1,4 @@
--- The schedules that are run so far: one peer, and events that are ticks, gets and overwrites.
+-- The schedules that the machine runs: one peer, and events that are ticks, gets and overwrites.
 use Rattle.std.specs.Prelude.{◌≡◌, ◌==◌, List, [], ◌∷◌, Option, None, Some, if◌then◌else◌}
 use Rattle.ens_base.specs.declared.command.Command.TheVariants as does
 use Rattle.schedule_text.specs.declared.event.ScheduleEvent.{ScheduleEvent}
@@ -23,6 +23,6 @@ abbrev pub form_events : List ScheduleEvent → Option (List Event)
 form_events [] = Some []
 form_events (event ∷ rest) = before (form_event event) (form_events rest)
 
--- the events of a schedule of the form that is run, if it has that form
+-- the events of a schedule of the form that the machine runs, if it has that form
 abbrev pub form_of : Schedule → Option (List Event)
 form_of s = if s.peers == 1 then form_events s.events else None

@@ -1,5 +1,5 @@
 -- What a job prints, and why it ends as it does.
-use Rattle.std.specs.Prelude.{◌≡◌, ℕ, List, [], ◌∷◌, ◌++◌, codes, Option, None, Some, Ok, Err, IfSome}
+use Rattle.std.specs.Prelude.{◌≡◌, ◌⊎◌, ℕ, Bool, true, false, List, [], ◌∷◌, ◌++◌, codes, Option, None, Some, Ok, Err, IfSome}
 use Rattle.std.specs.Fmt.{decimal}
 use Rattle.schedule_text.specs.Reading.{schedule_of}
 use Rattle.schedule_text.specs.Spelling.{IsSchedule}
@@ -11,38 +11,64 @@ use Rattle.ens_base.specs.declared.status.Status.TheVariants as Status
 use Rattle.register_model.specs.Histories.{IsLegal}
 use Rattle.register_model.specs.declared.history.History.{History}
 use Rattle.replay.specs.declared.event.Event.{Event}
+use Rattle.replay.specs.Elections.{IsPastMessages, IsWithinMessages, is_election, schedule_run}
 use Rattle.replay.specs.Events.{calls_from}
 use Rattle.replay.specs.Form.{form_of}
 use Rattle.replay.specs.Machine.{start, answers_from}
 use Rattle.replay.specs.Histories.{AreHistories}
-use Rattle.replay.specs.Text.{text_of}
+use Rattle.replay.specs.Text.{text_of, text_of_run}
 
 -- every history is legal for its key, over the calls and the answers
 abbrev pub AreLegal : List Event → List History → Type 0
 AreLegal events histories = (h : History) → h ∈ histories → IsLegal (calls_from 1 events) (answers_from start 1 events) h.key h.calls
 
--- the schedule has the form that is run, and the text is that of the machine's answers and of one legal history for each key
-abbrev pub IsRunText : Schedule → List ℕ → Type 0
-IsRunText s text = (events : List Event) × (histories : List History) × (form_of s ≡ Some events) × AreHistories events histories × AreLegal events histories × (text ≡ text_of (answers_from start 1 events) histories)
+-- the schedule has the form that the machine runs, and the text is that of its answers and of one legal history for each key
+abbrev pub IsMachineText : Schedule → List ℕ → Type 0
+IsMachineText s text = (events : List Event) × (histories : List History) × (form_of s ≡ Some events) × AreHistories events histories × AreLegal events histories × (text ≡ text_of (answers_from start 1 events) histories)
+
+-- the run of the schedule in a world sends no more messages than are ever sent, and the text is what it prints
+abbrev pub IsElectionText : Schedule → List ℕ → Type 0
+IsElectionText s text = IsWithinMessages (schedule_run s) × (text ≡ text_of_run (schedule_run s))
+
+-- the text of a run, by whether the schedule is one of elections: what a world prints, or what the machine does
+abbrev pub IsRunText : Bool → Schedule → List ℕ → Type 0
+IsRunText true s text = IsElectionText s text
+IsRunText false s text = IsMachineText s text
 
 -- the bytes are a schedule, and the text is that of its run
 abbrev pub IsReplay : List ℕ → List ℕ → Type 0
-IsReplay bytes text = (s : Schedule) × (schedule_of bytes ≡ Ok s) × IsSchedule s × IsRunText s text
+IsReplay bytes text = (s : Schedule) × (schedule_of bytes ≡ Ok s) × IsSchedule s × IsRunText (is_election s) s text
 
--- the bytes are a schedule, of another form than the one that is run
+-- the bytes are a schedule of elections, whose run sends more messages than are ever sent
+abbrev pub IsPastLimit : List ℕ → Type 0
+IsPastLimit bytes = (s : Schedule) × (schedule_of bytes ≡ Ok s) × (is_election s ≡ true) × IsPastMessages (schedule_run s)
+
+-- the bytes are a schedule, neither one of elections nor of the form that the machine runs
 abbrev pub IsUnbuilt : List ℕ → Type 0
-IsUnbuilt bytes = (s : Schedule) × (schedule_of bytes ≡ Ok s) × (form_of s ≡ None)
+IsUnbuilt bytes = (s : Schedule) × (schedule_of bytes ≡ Ok s) × (is_election s ≡ false) × (form_of s ≡ None)
 
 -- the line of a refusal at the first bad line
 abbrev pub bad_line : ℕ → ℕ → List ℕ
 bad_line line cause = codes "schedule " ++ decimal line ++ codes " " ++ decimal cause ++ 10 ∷ []
 
+-- line 200,001 of the bytes begins, and the text says so
+abbrev pub IsLineLimit : Option (List ℕ) → List ℕ → Type 0
+IsLineLimit source text = IfSome source (λ bytes. schedule_of bytes ≡ Err schedule.Lines) × (text ≡ codes "limit lines 200000" ++ 10 ∷ [])
+
+-- message 500,001 would be sent, and the text says so
+abbrev pub IsMessageLimit : Option (List ℕ) → List ℕ → Type 0
+IsMessageLimit source text = IfSome source IsPastLimit × (text ≡ codes "limit messages 500000" ++ 10 ∷ [])
+
 -- the text with which a replay of these bytes ends, by its status; it ends with no other status than these, but for a fault of the output
 abbrev pub Prints : Option (List ℕ) → Status → List ℕ → Type 0
 Prints source Status.Done text = IfSome source (λ bytes. IsReplay bytes text)
 Prints source Status.Schedule text = (line : ℕ) × (cause : ℕ) × IfSome source (λ bytes. schedule_of bytes ≡ Err (schedule.Bad line cause)) × (text ≡ bad_line line cause)
-Prints source Status.Limit text = IfSome source (λ bytes. schedule_of bytes ≡ Err schedule.Lines) × (text ≡ codes "limit lines 200000" ++ 10 ∷ [])
+Prints source Status.Limit text = IsLineLimit source text ⊎ IsMessageLimit source text
 Prints source Status.Unbuilt text = IfSome source IsUnbuilt × (text ≡ codes "unbuilt" ++ 10 ∷ [])
 Prints source Status.ReadFault text = text ≡ codes "read fault" ++ 10 ∷ []
 Prints source Status.Memory text = text ≡ codes "memory" ++ 10 ∷ []
 Prints source status text = ⊥
+
+-- this schedule ends so, wherever it was read
+abbrev pub EndsSo : Schedule → Status → List ℕ → Type 0
+EndsSo s status text = (source : Option (List ℕ)) → IfSome source (λ bytes. schedule_of bytes ≡ Ok s) → Prints source status text

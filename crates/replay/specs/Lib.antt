@@ -5,5 +5,6 @@ pub mod Runner
 pub mod Histories
 pub mod Text
 pub mod Form
+pub mod Elections
 pub mod Reading
 pub mod Jobs

@@ -1,7 +1,7 @@
 -- What a source still reads as, and why no schedule was read.
-use Rattle.std.specs.Prelude.{◌≡◌, ℕ, List, Option, None, Some, Result, Ok, Err, IfSome}
+use Rattle.std.specs.Prelude.{◌≡◌, ◌++◌, ℕ, List, Option, None, Some, Result, Err, IfSome}
 use Rattle.schedule_words.specs.Words.{parts_of}
-use Rattle.schedule_text.specs.Progress.{Progress}
+use Rattle.schedule_text.specs.Progress.{Progress, Blank}
 use Rattle.schedule_text.specs.Reading.{read_parts}
 use Rattle.schedule_text.specs.declared.error.ScheduleError.{ScheduleError}
 use Rattle.schedule_text.specs.declared.error.ScheduleError.TheVariants as schedule
@@ -29,6 +29,11 @@ abbrev pub ReadsOn : Option (List ℕ) → Progress → Option (List ℕ) → Pr
 ReadsOn None p rest q = Unit {0}
 ReadsOn (Some old) p None q = ⊥
 ReadsOn (Some old) p (Some new) q = read_parts p (parts_of 10 old) ≡ read_parts q (parts_of 10 new)
+
+-- some bytes, read from the beginning, are the lines so far
+pub record IsReached (p : Progress) : Type 0 where
+  pub front : List ℕ
+  pub reads : (rest : List ℕ) → read_parts Blank (parts_of 10 (front ++ rest)) ≡ read_parts p (parts_of 10 rest)
 
 -- what a refusal says of the bytes that follow: their first bad line and its cause, or that there are too many lines
 abbrev pub Refuses : Option (List ℕ) → Progress → ReadError → Type 0

@@ -1,5 +1,5 @@
 -- The text that a run prints.
-use Rattle.std.specs.Prelude.{ℕ, List, [], ◌∷◌, ◌++◌, codes}
+use Rattle.std.specs.Prelude.{ℕ, Bool, true, false, List, [], ◌∷◌, ◌++◌, codes}
 use Rattle.std.specs.List.{flat_map}
 use Rattle.std.specs.Fmt.{decimal}
 use Rattle.ens_base.specs.Words.{version_word, bytes_word, value_word}
@@ -7,6 +7,9 @@ use Rattle.ens_base.specs.declared.reply.Reply.{Reply}
 use Rattle.ens_base.specs.declared.reply.Reply.TheVariants as Reply
 use Rattle.register_model.specs.declared.answer.Answer.{Answer}
 use Rattle.register_model.specs.declared.history.History.{History}
+use Rattle.register_model.specs.declared.printed.Printed.{Printed}
+use Rattle.register_model.specs.declared.printed.Printed.TheVariants as lines
+use Rattle.world_runs.specs.Runs.{Run}
 
 -- a reply, as the last words of its line
 abbrev pub reply_words : Reply → List ℕ
@@ -34,3 +37,21 @@ history_line h = codes "history " ++ bytes_word h.key ++ flat_map next_id h.call
 -- the answers as they were given, then the histories
 abbrev pub text_of : List Answer → List History → List ℕ
 text_of answers histories = flat_map answer_line answers ++ flat_map history_line histories
+
+-- what became of a request to change the view
+abbrev pub taken_word : Bool → List ℕ
+taken_word true = codes "taken"
+taken_word false = codes "refused"
+
+-- change EVENT PEER taken, or change EVENT PEER refused
+abbrev pub change_line : ℕ → ℕ → Bool → List ℕ
+change_line event peer taken = codes "change " ++ decimal event ++ codes " " ++ decimal peer ++ codes " " ++ taken_word taken ++ 10 ∷ []
+
+-- a line that a world printed
+abbrev pub printed_line : Printed → List ℕ
+printed_line (lines.Answer a) = answer_line a
+printed_line (lines.Change event peer taken) = change_line event peer taken
+
+-- what the run of a world printed, in this order
+abbrev pub text_of_run : Run → List ℕ
+text_of_run run = flat_map printed_line run.printed

@@ -1,6 +1,6 @@
 use ens_base::{Key, Value};
 
-/// One event of a schedule in the form that is run.
+/// One event of a schedule in the form that the machine runs.
 #[derive(Debug, Drop)]
 pub enum Event {
     /// So many ticks of the one peer.

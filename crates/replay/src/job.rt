@@ -1,13 +1,14 @@
-ghost use Rattle.std.specs.Prelude.{◌≡◌, ◌≢◌, ◌⊎◌, ℕ, List, Option, None, Some, Ok, IfOk, IfSome, MatchOption, string_bytes};
+ghost use Rattle.std.specs.Prelude.{◌≡◌, ◌≢◌, List, ℕ, IfOk, MatchOption, None, true, false, string_bytes};
 ghost use Rattle.std.specs.Io.KnownBytes.{Appends, IsAtEnd};
 ghost use Rattle.ens_base.specs.Causes.{Rose};
 ghost use Rattle.ens_base.specs.declared.status.Status.{Status};
 ghost use Rattle.ens_outside.specs.Written.{AppendsFront};
-ghost use Rattle.schedule_text.specs.Reading.{schedule_of};
 ghost use Rattle.schedule_text.specs.Spelling.{IsSchedule};
+ghost use Rattle.replay.specs.Elections.{is_election as is_one_of_elections};
 ghost use Rattle.replay.specs.Form.{form_of};
-ghost use Rattle.replay.specs.Jobs.{Prints, IsRunText};
+ghost use Rattle.replay.specs.Jobs.{EndsSo, IsMachineText, Prints};
 
+use crate::elections::{election_text, is_election};
 use crate::form::form_of;
 use crate::read::{ReadError, read_schedule};
 use crate::run::run;
@@ -17,9 +18,9 @@ use ens_outside::{Sink, Source, finish};
 use schedule_text::Schedule;
 use std::alloc::{AllocError, Global};
 
-/// The text of the run of a schedule, or none where it has a form that is not run yet.
-fn run_text(alloc: Global, schedule: Schedule) -> Result<Option<String>, AllocError>
-    ensures { IfOk result (λ o. MatchOption o (form_of schedule ≡ None) (λ text. IsSchedule schedule → IsRunText schedule (string_bytes text))) }
+/// The text of the machine's run of a schedule, or none where it has a form that is not run yet.
+fn machine_text(alloc: Global, schedule: Schedule) -> Result<Option<String>, AllocError>
+    ensures { IfOk result (λ o. MatchOption o (form_of schedule ≡ None) (λ text. IsSchedule schedule → IsMachineText schedule (string_bytes text))) }
 {
     let Some(events) = form_of(alloc, schedule)? else {
         return Ok(None);
@@ -44,18 +45,48 @@ fn ending_with(alloc: Global, status: Status, text: &str) -> Result<Ending, Allo
     })
 }
 
-/// The run of a schedule, or that it has a form that is not run yet.
-fn run_ending(alloc: Global, schedule: Schedule) -> Result<Ending, AllocError>
-    ensures printed { IfOk result (λ e. (source : Option (List ℕ)) → IfSome source (λ bytes. schedule_of bytes ≡ Ok schedule) → Prints source e.status (string_bytes e.text)) }
-    ensures status { IfOk result (λ e. (e.status ≡ Status.Done) ⊎ (e.status ≡ Status.Unbuilt)) }
+/// The run of a schedule of elections in a world, or that it would send too many messages.
+fn election_ending(alloc: Global, schedule: &Schedule) -> Result<Ending, AllocError>
+    requires valid { IsSchedule schedule.now }
+    requires form { is_one_of_elections schedule.now ≡ true }
+    ensures ends { IfOk result (λ e. EndsSo schedule.now e.status (string_bytes e.text)) }
+    ensures status { IfOk result (λ e. e.status ≢ Status.ReadFault) }
 {
-    match run_text(alloc, schedule)? {
+    match election_text(alloc, schedule)? {
+        Some(text) => Ok(Ending {
+            status: Status::Done,
+            text,
+        }),
+        None => ending_with(alloc, Status::Limit, "limit messages 500000\n"),
+    }
+}
+
+/// The run of any other schedule by the machine, or that it has a form that is not run yet.
+fn machine_ending(alloc: Global, schedule: Schedule) -> Result<Ending, AllocError>
+    requires valid { IsSchedule schedule }
+    requires form { is_one_of_elections schedule ≡ false }
+    ensures ends { IfOk result (λ e. EndsSo schedule e.status (string_bytes e.text)) }
+    ensures status { IfOk result (λ e. e.status ≢ Status.ReadFault) }
+{
+    match machine_text(alloc, schedule)? {
         Some(text) => Ok(Ending {
             status: Status::Done,
             text,
         }),
         None => ending_with(alloc, Status::Unbuilt, "unbuilt\n"),
     }
+}
+
+/// The run of a schedule, or why it does not run to its end.
+fn run_ending(alloc: Global, schedule: Schedule) -> Result<Ending, AllocError>
+    requires { IsSchedule schedule }
+    ensures ends { IfOk result (λ e. EndsSo schedule e.status (string_bytes e.text)) }
+    ensures status { IfOk result (λ e. e.status ≢ Status.ReadFault) }
+{
+    if is_election(&schedule) {
+        return election_ending(alloc, &schedule);
+    }
+    machine_ending(alloc, schedule)
 }
 
 /// What a replay of the input ends with, but for want of memory.
@@ -76,11 +107,13 @@ fn replay_ending<S: Source>(alloc: Global, input: &mut S) -> Result<Ending, Allo
     }
 }
 
-/// Reads a schedule from the input, runs it, and writes the answers and the histories to the output.
+/// Reads a schedule from the input, runs it, and writes what the run prints, and then the histories, to
+/// the output.
 ///
 /// A job that ends otherwise writes one line: `read fault` where the input failed, `schedule LINE CAUSE`
-/// where the input is no schedule, `limit lines 200000` where it has too many lines, `unbuilt` where it
-/// is a schedule of a form that is not run yet, and `memory` where memory ran out.
+/// where the input is no schedule, `limit lines 200000` where it has too many lines, `limit messages
+/// 500000` where its run would send more messages, `unbuilt` where it is a schedule of a form that is
+/// not run yet, and `memory` where memory ran out.
 pub fn replay<S: Source, O: Sink>(alloc: Global, input: &mut S, output: &mut O) -> Status
     ensures printed { result ≢ Status.WriteFault → (text : List ℕ) × Prints (S.left input.old) result text × Appends (O.written output.old) (O.written output.new) text }
     ensures front { result ≡ Status.WriteFault → (status : Status) × (text : List ℕ) × Prints (S.left input.old) status text × AppendsFront (O.written output.old) (O.written output.new) text }

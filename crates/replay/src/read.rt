@@ -4,7 +4,8 @@ ghost use Rattle.ens_base.specs.Causes.{Rose};
 ghost use Rattle.ens_outside.specs.Lines.{BeginsLong};
 ghost use Rattle.schedule_text.specs.Progress.{Blank, lines_so_far};
 ghost use Rattle.schedule_text.specs.Reading.{ended, schedule_of};
-ghost use Rattle.replay.specs.Reading.{ReadsAs, ReadsOn, Refuses, of_schedule};
+ghost use Rattle.schedule_text.specs.Spelling.{IsSchedule};
+ghost use Rattle.replay.specs.Reading.{IsReached, ReadsAs, ReadsOn, Refuses, of_schedule};
 
 use ens_outside::{LINE_LIMIT, Lines, Next, NextError, Source};
 use schedule_text::{Reading, Schedule, ScheduleError};
@@ -64,6 +65,7 @@ fn take_line<S: Source>(
 ) -> Result<Option<Vec<u8>>, ReadError>
     ensures line { IfOk result (λ o. IfNone o (ReadsOn (prepend_known lines.old.pending.items (S.left input.old)) reading.old (prepend_known lines.new.pending.items (S.left input.new)) reading.new × (lines_so_far reading.new ≡ lines_so_far reading.old + 1))) }
     ensures rest { IfOk result (λ o. IfSome o (λ v. ReadsAs (prepend_known lines.old.pending.items (S.left input.old)) reading.old (ended reading.old v.items) × IsAtEnd (prepend_known lines.new.pending.items (S.left input.new)) × (reading.new ≡ reading.old))) }
+    ensures reached { OnOk result (IsReached reading.old → IsReached reading.new) }
     ensures bad { IfErr result (Refuses (prepend_known lines.old.pending.items (S.left input.old)) reading.old) }
     ensures later { S.fault_count input.old ≤ S.fault_count input.new }
     ensures failed { IsErrOf result ReadError.Failed → Rose (S.fault_count input.old) (S.fault_count input.new) }
@@ -93,6 +95,7 @@ fn take_long(reading: &mut Reading) -> Result<(), ScheduleError>
 /// 200,001.
 pub fn read_schedule<S: Source>(alloc: Global, input: &mut S) -> Result<Schedule, ReadError>
     ensures ok { IfOk result (λ s. IfSome (S.left input.old) (λ bytes. schedule_of bytes ≡ Ok s)) }
+    ensures valid { IfOk result IsSchedule }
     ensures end { OnOk result (IsAtEnd (S.left input.new)) }
     ensures bad { IfErr result (Refuses (S.left input.old) Blank) }
     ensures later { S.fault_count input.old ≤ S.fault_count input.new }
@@ -114,6 +117,7 @@ pub fn read_schedule<S: Source>(alloc: Global, input: &mut S) -> Result<Schedule
 /// The schedule, given what follows the last line feed.
 fn end_of(reading: Reading, rest: &[u8]) -> Result<Schedule, ReadError>
     ensures ok { IfOk result (λ s. ended reading rest.now ≡ Ok s) }
+    ensures valid { IfOk result (λ s. IsReached reading → IsSchedule s) }
     ensures bad { IfErr result (λ e. (bytes : Option (List ℕ)) → ReadsAs bytes reading (ended reading rest.now) → Refuses bytes reading e) }
     ensures only { result ≢ Err ReadError.Failed }
 {

@@ -1,6 +1,7 @@
 use crate::replay;
 use ens_base::Status;
 use ens_outside::{MemSink, MemSource};
+use std::alloc::Global;
 use std::test::Fail;
 
 /// The event lines of a schedule of one peer, and what a replay of it has to print, with the status.
@@ -35,6 +36,14 @@ const fn unbuilt(lines: &'static str) -> Case {
     }
 }
 
+/// The status of a replay of the schedule, and what it wrote.
+fn replayed(alloc: Global, schedule: &str) -> Result<(Status, MemSink), Fail> {
+    let mut input = MemSource::new(schedule.as_bytes().to_vec(alloc)?, Vec::new(alloc));
+    let mut output = MemSink::new(alloc, 500, Vec::new(alloc))?;
+    let status = replay(alloc, &mut input, &mut output);
+    Ok((status, output))
+}
+
 #[test]
 fn schedules_print_their_text(rt: HostRuntime) -> Result<(), Fail> {
     let alloc = rt.alloc();
@@ -64,14 +73,36 @@ fn schedules_print_their_text(rt: HostRuntime) -> Result<(), Fail> {
     ];
     for case in cases {
         let schedule = format!(in alloc; "ensemble 1\npeers 1\nview 1\n{}", case.lines)?;
-        let mut input = MemSource::new(schedule.as_bytes().to_vec(alloc)?, Vec::new(alloc));
-        let mut output = MemSink::new(alloc, 500, Vec::new(alloc))?;
-        assert_eq!(rt;
-            replay(alloc, &mut input, &mut output),
-            case.status,
-            "{schedule}"
-        );
+        let (status, output) = replayed(alloc, &schedule)?;
+        assert_eq!(rt; status, case.status, "{schedule}");
         assert_eq!(rt; output.bytes(), case.text.as_bytes(), "{schedule}");
     }
+    Ok(())
+}
+
+#[test]
+fn an_election_prints_nothing(rt: HostRuntime) -> Result<(), Fail> {
+    let schedule =
+        "ensemble 1\npeers 3\nview 1 2 3\ntick 1 6\npass 1 2\nlose 1 3\ndeliver 1\ncalm 1 2\ntick 3 6\ncalm\n";
+    let (status, output) = replayed(rt.alloc(), schedule)?;
+    assert_eq!(rt; status, Status::Done);
+    assert_eq!(rt; output.bytes(), b"".as_slice());
+    Ok(())
+}
+
+#[test]
+fn a_leader_of_nine_comes_to_the_limit_of_messages(rt: HostRuntime) -> Result<(), Fail> {
+    let alloc = rt.alloc();
+    let mut schedule = String::from_str(
+        alloc,
+        "ensemble 1\npeers 9\nview 1 2 3 4 5 6 7 8 9\ntick 1 6\ncalm\n",
+    )?;
+    // The leader sends 800 messages on each of these lines: 500,000 on 625 of them.
+    for _line in 0..625 {
+        schedule.push_str("tick 1 100\n")?;
+    }
+    let (status, output) = replayed(alloc, &schedule)?;
+    assert_eq!(rt; status, Status::Limit);
+    assert_eq!(rt; output.bytes(), b"limit messages 500000\n".as_slice());
     Ok(())
 }

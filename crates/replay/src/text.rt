@@ -1,9 +1,9 @@
 ghost use Rattle.std.specs.Prelude.{◌≡◌, ◌++◌, IfOk, OnOk, string_bytes};
 ghost use Rattle.std.specs.List.{flat_map};
-ghost use Rattle.replay.specs.Text.{answer_line, history_line, next_id, reply_words, text_of};
+ghost use Rattle.replay.specs.Text.{answer_line, change_line as line_of_change, history_line, next_id, printed_line, reply_words, taken_word as word_of_taken, text_of};
 
-use ens_base::{Reply, push_bytes, push_value};
-use register_model::{Answer, History};
+use ens_base::{PeerId, Reply, push_bytes, push_value};
+use register_model::{Answer, History, Printed};
 use std::alloc::{AllocError, Global};
 
 fn push_reply(alloc: Global, text: &mut String, reply: &Reply) -> Result<(), AllocError>
@@ -66,6 +66,40 @@ pub fn write_text(
     }
     for history in histories {
         push_history(alloc, &mut text, history)?;
+    }
+    Ok(text)
+}
+
+fn taken_word(taken: bool) -> &'static str
+    ensures { result.now ≡ word_of_taken taken }
+{
+    if taken { "taken" } else { "refused" }
+}
+
+fn push_change(text: &mut String, event: u64, peer: PeerId, taken: bool) -> Result<(), AllocError>
+    ensures { OnOk result (string_bytes text.new ≡ string_bytes text.old ++ line_of_change event peer taken) }
+{
+    let peer = peer.0;
+    let word = taken_word(taken);
+    write!(text, "change {event} {peer} {word}\n")
+}
+
+fn push_printed(alloc: Global, text: &mut String, line: &Printed) -> Result<(), AllocError>
+    ensures { OnOk result (string_bytes text.new ≡ string_bytes text.old ++ printed_line line.now) }
+{
+    match line {
+        Printed::Answer(answer) => push_answer(alloc, text, answer),
+        Printed::Change { event, peer, taken } => push_change(text, *event, *peer, *taken),
+    }
+}
+
+/// The text of what a world printed, in this order.
+pub fn write_printed(alloc: Global, printed: &[Printed]) -> Result<String, AllocError>
+    ensures { IfOk result (λ text. string_bytes text ≡ flat_map printed_line printed.now) }
+{
+    let mut text = String::new(alloc);
+    for line in printed {
+        push_printed(alloc, &mut text, line)?;
     }
     Ok(text)
 }

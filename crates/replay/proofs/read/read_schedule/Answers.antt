@@ -1,6 +1,5 @@
-use Rattle.std.proofs.Common.{◌≡◌, ℕ, List, arith}
-use Rattle.std.specs.Prelude.{Option, OnOk, Result, Ok, Err}
-use Rattle.std.specs.Io.KnownBytes.{Keeps, IsAtEnd, prepend_known}
+use Rattle.std.proofs.Common.{arith}
+use Rattle.std.specs.Prelude.{OnOk, Result, Ok, Err}
 use Rattle.replay.proofs.Parts.{reads_as, too_many, ended_left}
 use Rattle.replay.proofs.read.read_schedule.Goals as goal
 

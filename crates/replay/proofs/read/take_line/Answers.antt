@@ -1,8 +1,8 @@
 use Rattle.std.proofs.Common.{◌≡◌, ℕ, List, refl, subst, Ok, Err}
 use Rattle.std.proofs.lemmas.Result.{err_from_is_err_and}
-use Rattle.schedule_text.specs.Progress.{Progress}
 use Rattle.schedule_text.specs.Reading.{next_line, TakesLine}
 use Rattle.replay.proofs.Parts.{line_taken, line_counts, refuses_line, rest_read}
+use Rattle.replay.proofs.Reached.{reached_next}
 use Rattle.replay.proofs.read.take_line.Goals as goal
 
 pub returns-in_err-line-in-Line-clause-bad : goal.returns-in_err-line-in-Line-clause-bad
@@ -22,3 +22,9 @@ pub returns-in-Rest-clause-rest : goal.returns-in-Rest-clause-rest
 returns-in-Rest-clause-rest g c =
     let next = rw c.in-Rest.is at c.in_ok-line.ensures.next in
     (rest_read _ _ c.args.reading.now c.in-Rest.rest.items next.0.no_feed next.1 next.2, next.2, refl)
+
+pub returns-in_ok-line-in-Line-clause-reached : goal.returns-in_ok-line-in-Line-clause-reached
+returns-in_ok-line-in-Line-clause-reached g c =
+    let next = rw c.in-Line.is at c.in_ok-line.ensures.next in
+    let P : List ℕ → Type 0 = λ v. next_line c.args.reading.now v ≡ Ok c.line.new.self in
+    λ reached. reached_next c.args.reading.now c.line.new.self c.in-Line.line.items next.0.no_feed (subst P c.deref.ensures.value c.in_ok-line-in-Line.ensures) reached

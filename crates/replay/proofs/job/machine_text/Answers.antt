@@ -1,6 +1,5 @@
-use Rattle.std.proofs.Common.{◌≡◌, ℕ, List}
 use Rattle.replay.proofs.Forms.{form_distinct}
-use Rattle.replay.proofs.job.run_text.Goals as goal
+use Rattle.replay.proofs.job.machine_text.Goals as goal
 
 pub returns : goal.returns
 returns c = λ of. let form = rw c.in-Some.is at c.in_ok-events.ensures in (
