@@ -1,0 +1,117 @@
+ghost use Rattle.std.specs.Prelude.{◌≡◌, ◌≢◌, ℕ, List, Option, Ok, IfOk, IfSome, MatchOption, string_bytes};
+ghost use Rattle.std.specs.Io.KnownBytes.{Appends, IsAtEnd};
+ghost use Rattle.ens_base.specs.Causes.{Rose};
+ghost use Rattle.ens_base.specs.declared.status.Status.{Status};
+ghost use Rattle.ens_outside.specs.Written.{AppendsFront};
+ghost use Rattle.replay.specs.Elections.{IsPastMessages, IsWithinMessages, schedule_run};
+ghost use Rattle.replay.specs.Reading.{Refuses};
+ghost use Rattle.schedule_text.specs.Progress.{Blank};
+ghost use Rattle.schedule_text.specs.Reading.{schedule_of};
+ghost use Rattle.schedule_text.specs.Spelling.{IsSchedule};
+ghost use Rattle.trace.specs.Jobs.{Traces};
+ghost use Rattle.trace.specs.Text.{trace_text};
+
+use crate::text::write_trace;
+use ens_base::Status;
+use ens_hashing::PlainHasher;
+use ens_outside::{Sink, Source, finish};
+use replay::{ReadError, is_election, read_schedule};
+use schedule_text::Schedule;
+use std::alloc::{AllocError, Global};
+use world_model::{World, WorldError};
+
+/// The lines of every message that the run of a schedule sends, or none where it would send more than
+/// 500,000.
+fn run_text(alloc: Global, schedule: &Schedule) -> Result<Option<String>, AllocError>
+    requires { IsSchedule schedule.now }
+    ensures { IfOk result (λ o. MatchOption o (IsPastMessages (schedule_run schedule.now)) (λ text. IsWithinMessages (schedule_run schedule.now) × (string_bytes text ≡ trace_text (schedule_run schedule.now).mail.sent))) }
+{
+    let mut hasher = PlainHasher;
+    match World::run(alloc, schedule, &mut hasher) {
+        Ok(world) => Ok(Some(write_trace(alloc, world.sent())?)),
+        Err(WorldError::MessageLimit) => Ok(None),
+        Err(_) => Err(AllocError),
+    }
+}
+
+/// What a trace ends with.
+#[derive(Drop)]
+struct Ending {
+    status: Status,
+    text: String,
+}
+
+/// An ending with this text.
+fn ending_with(alloc: Global, status: Status, text: &str) -> Result<Ending, AllocError>
+    ensures { IfOk result (λ e. (e.status ≡ status) × (string_bytes e.text ≡ text.now)) }
+{
+    let text = String::from_str(alloc, text)?;
+    Ok(Ending { status, text })
+}
+
+/// The messages of a schedule, or why they are not told.
+fn run_ending(alloc: Global, schedule: &Schedule) -> Result<Ending, AllocError>
+    requires { IsSchedule schedule.now }
+    ensures printed { IfOk result (λ e. (source : Option (List ℕ)) → IfSome source (λ bytes. schedule_of bytes ≡ Ok schedule.now) → Traces source e.status (string_bytes e.text)) }
+    ensures status { IfOk result (λ e. e.status ≢ Status.ReadFault) }
+{
+    if !is_election(schedule) {
+        return ending_with(alloc, Status::Unbuilt, "unbuilt\n");
+    }
+    match run_text(alloc, schedule)? {
+        Some(text) => Ok(Ending {
+            status: Status::Done,
+            text,
+        }),
+        None => ending_with(alloc, Status::Limit, "limit messages 500000\n"),
+    }
+}
+
+/// What is said where no schedule was read, but for want of memory.
+fn refusal(alloc: Global, error: ReadError) -> Result<Ending, AllocError>
+    ensures printed { IfOk result (λ e. (source : Option (List ℕ)) → Refuses source Blank error → Traces source e.status (string_bytes e.text)) }
+    ensures status { IfOk result (λ e. (e.status ≢ Status.Done) × (e.status ≡ Status.ReadFault → error ≡ ReadError.Failed)) }
+{
+    match error {
+        ReadError::Failed => ending_with(alloc, Status::ReadFault, "read fault\n"),
+        ReadError::Bad { line, cause } => Ok(Ending {
+            status: Status::Schedule,
+            text: format!(in alloc; "schedule {line} {cause}\n")?,
+        }),
+        ReadError::Lines => ending_with(alloc, Status::Limit, "limit lines 200000\n"),
+        ReadError::Memory => Err(AllocError),
+    }
+}
+
+/// What a trace of the input ends with, but for want of memory.
+fn trace_ending<S: Source>(alloc: Global, input: &mut S) -> Result<Ending, AllocError>
+    ensures printed { IfOk result (λ e. Traces (S.left input.old) e.status (string_bytes e.text)) }
+    ensures end { IfOk result (λ e. e.status ≡ Status.Done → IsAtEnd (S.left input.new)) }
+    ensures read { IfOk result (λ e. e.status ≡ Status.ReadFault → Rose (S.fault_count input.old) (S.fault_count input.new)) }
+{
+    match read_schedule(alloc, input) {
+        Ok(schedule) => run_ending(alloc, &schedule),
+        Err(error) => refusal(alloc, error),
+    }
+}
+
+/// Reads a schedule from the input, runs it, and writes every message that it sends to the output, in
+/// the order of sending: its number from 1, its sender, its receiver, and the bytes of its frame in
+/// hexadecimal digits.
+///
+/// A trace that ends otherwise writes one line: `read fault` where the input failed, `schedule LINE
+/// CAUSE` where the input is no schedule, `limit lines 200000` where it has too many lines, `limit
+/// messages 500000` where its run sends too many messages, `unbuilt` where it has a line that is not
+/// run yet, and `memory` where memory ran out.
+pub fn trace<S: Source, O: Sink>(alloc: Global, input: &mut S, output: &mut O) -> Status
+    ensures printed { result ≢ Status.WriteFault → (text : List ℕ) × Traces (S.left input.old) result text × Appends (O.written output.old) (O.written output.new) text }
+    ensures front { result ≡ Status.WriteFault → (status : Status) × (text : List ℕ) × Traces (S.left input.old) status text × AppendsFront (O.written output.old) (O.written output.new) text }
+    ensures end { result ≡ Status.Done → IsAtEnd (S.left input.new) }
+    ensures read { result ≡ Status.ReadFault → Rose (S.fault_count input.old) (S.fault_count input.new) }
+    ensures write { result ≡ Status.WriteFault → Rose (O.fault_count output.old) (O.fault_count output.new) }
+{
+    match trace_ending(alloc, input) {
+        Ok(ending) => finish(output, ending.text.as_str(), ending.status),
+        Err(_) => finish(output, "memory\n", Status::Memory),
+    }
+}
