@@ -1,9 +1,10 @@
 -- Bytes that are written over those of a file.
-use Rattle.std.proofs.Common.{◌≡◌, ◌⊎◌, inl, inr, ℕ, ◌+◌, ◌-◌, ◌<◌, ◌≤◌, min, length-drop, subst, refl, List, ◌++◌, length, take, drop, replicate, sym, ◌∙◌, ap, arith, length-append}
+use Rattle.std.proofs.Common.{◌≡◌, ◌⊎◌, inl, inr, ℕ, ◌+◌, ◌-◌, ◌<◌, ◌≤◌, min, length-drop, subst, List, ◌++◌, length, take, drop, replicate, sym, ◌∙◌, ap, arith, length-append}
 use Rattle.std.proofs.Math.Seq.{take-append-add}
 use Rattle.std.proofs.lemmas.List.{length-take, take-take, drop-drop, drop_at, take_all, drop_all, take-append-le, take-replicate, length-replicate, append-nil}
 use Rattle.std.proofs.lemmas.Bool.{cases_lt}
 use Rattle.slot_disk.specs.Crash.{written, Torn}
+use Rattle.slot_disk.specs.Images.{filled, partly_written}
 
 -- zeros behind the file, as far as the place
 front : (old : List ℕ) (at n : ℕ) → take at (old ++ replicate (at + n - length old) 0) ≡ take at old ++ replicate (at - length old) 0
@@ -88,10 +89,23 @@ torn_part old bytes at n part le size = record {
         ∙ ap (λ (i : ℕ). drop i full) e
         ∙ back old (at + n)
 
--- the same of a file that was filled up with zeros first
-pub torn_written : (old full new bytes : List ℕ) (at n end : ℕ) → length bytes ≤ n → end ≡ at + n → full ≡ old ++ replicate (end - length old) 0 → new ≡ take at full ++ bytes ++ drop (at + length bytes) full → Torn at n old new
-torn_written old full new bytes at n end le end_is full_is new_is =
-    let filled : full ≡ old ++ replicate (at + n - length old) 0 = full_is ∙ ap (λ (m : ℕ). old ++ replicate (m - length old) 0) end_is in
-    let is : new ≡ take at (old ++ replicate (at + n - length old) 0) ++ bytes ++ drop (at + length bytes) (old ++ replicate (at + n - length old) 0) =
-    new_is ∙ ap (λ (l : List ℕ). take at l ++ bytes ++ drop (at + length bytes) l) filled in
-    subst (λ (l : List ℕ). Torn at n old l) (sym is) (torn_part old bytes at n (length bytes) le refl)
+-- the same, as the file that it leaves is told
+pub partly : (old full new bytes : List ℕ) (at end part : ℕ) → part ≤ length bytes → end ≡ at + length bytes → full ≡ filled old end → new ≡ take at full ++ take part bytes ++ drop (at + length (take part bytes)) full
+    → new ≡ partly_written old at bytes part
+partly old full new bytes at end part le end_is full_is new_is =
+    let filled_is : full ≡ filled old (at + length bytes) = full_is ∙ ap (λ (m : ℕ). filled old m) end_is in
+    let long : at ≤ length full = omega (arith, length-append old (replicate (end - length old) 0), length-replicate {A = ℕ} (end - length old) 0, ap (λ (l : List ℕ). length l) full_is, end_is) in
+    new_is
+    ∙ ap (λ (l : List ℕ). l ++ take part bytes ++ drop (at + length (take part bytes)) full) (sym (append-nil (take at full)) ∙ ap (λ (m : ℕ). take at full ++ replicate m 0) (let e : 0 ≡ at - length full = omega (arith, long) in e))
+    ∙ ap (λ (l : List ℕ). written l at (take part bytes)) filled_is
+
+-- it is one of those that a crash may leave
+pub partly_torn : (old bytes : List ℕ) (at part : ℕ) → part ≤ length bytes → Torn at (length bytes) old (partly_written old at bytes part)
+partly_torn old bytes at part le =
+    let full : List ℕ = filled old (at + length bytes) in
+    let size : length (take part bytes) ≡ part = omega (arith, length-take part bytes, le) in
+    let long : at ≤ length full = omega (arith, length-append old (replicate (at + length bytes - length old) 0), length-replicate {A = ℕ} (at + length bytes - length old) 0) in
+    let same : take at full ++ take part bytes ++ drop (at + part) full ≡ partly_written old at bytes part =
+    ap (λ (l : List ℕ). l ++ take part bytes ++ drop (at + part) full) (sym (append-nil (take at full)) ∙ ap (λ (m : ℕ). take at full ++ replicate m 0) (let e : 0 ≡ at - length full = omega (arith, long) in e))
+    ∙ ap (λ (k : ℕ). (take at full ++ replicate (at - length full) 0) ++ take part bytes ++ drop (at + k) full) (sym size) in
+    subst (λ (l : List ℕ). Torn at (length bytes) old l) same (torn_part old (take part bytes) at (length bytes) part le size)

@@ -4,7 +4,10 @@ use Rattle.std.proofs.lemmas.List.{take_all, take-append-le, drop_at, length-tak
 use Rattle.std.proofs.lemmas.Bool.{cases_lt}
 use Rattle.std.proofs.lemmas.List.{reverse-append}
 use Rattle.slot_disk.specs.Crash.{written, Torn, Cut, Elapses}
-use Rattle.slot_disk.specs.Images.{Advances, IsReplayed}
+use Rattle.slot_disk.specs.Images.{new_part, partly_written, cut_in, image_after, image_of, Advances, IsReplayed}
+use Rattle.slot_disk.specs.declared.image.Image.{Image}
+use Rattle.slot_disk.specs.declared.image.Image.TheVariants as images
+use Rattle.slot_disk.proofs.Files.{partly_torn}
 use Rattle.slot_disk.specs.declared.step.Step.{Step}
 use Rattle.slot_disk.proofs.Recorded.{deeds_push}
 use Rattle.slot_disk.specs.Steps.{deeds, deed_of, Deed, Wrote, CutTo, Synced, seen_of, IsImage, Leaves, LeftSince}
@@ -69,21 +72,43 @@ sync_leaves first later old new same is c left =
     let turned : IsImage first (Synced ∷ reverse old) c = subst (λ (l : List Deed). IsImage first l c) (reverse-append old (Synced ∷ [])) on_push in
     subst (λ (b : List ℕ). IsImage first (reverse old) b) (sym turned) (seen_is_image first (reverse old))
 
--- one call more
-pub advanced : (first : List ℕ) (all : List Deed) (d : Deed) (solid left solid_after left_after : List ℕ) → solid ≡ seen_of first (reverse all) → IsImage first (reverse all) left → Advances d solid left solid_after left_after
-    → (solid_after ≡ seen_of first (d ∷ reverse all)) × IsImage first (d ∷ reverse all) left_after
-advanced first all (Wrote at bytes) solid left solid_after left_after is image by = (by.0 ∙ ap (λ (l : List ℕ). written l at bytes) is, (left, image, by.1))
-advanced first all (CutTo n) solid left solid_after left_after is image by = (by.0 ∙ ap (λ (l : List ℕ). take n l) is, (left, image, by.1))
-advanced first all Synced solid left solid_after left_after is image by = (by.0 ∙ is, by.1 ∙ is)
+part_within : (image : Image) (n : ℕ) → new_part image n ≤ n
+part_within images.Old n = omega arith
+part_within images.New n = omega arith
+part_within images.Half n = omega arith
 
-pub replayed : (first log : List ℕ) (items : List Step) (i : ℕ) (s : Step) (solid left solid_after left_after : List ℕ) → take (i + 1) items ≡ take i items ++ s ∷ []
-    → IsReplayed first log (take i items) solid left → Advances (deed_of log s) solid left solid_after left_after → IsReplayed first log (take (i + 1) items) solid_after left_after
-replayed first log items i s solid left solid_after left_after more before by =
+cut_possible : (image : Image) (old : List ℕ) (n : ℕ) → Cut n old (cut_in image old n)
+cut_possible images.Old old n = cut_none old n
+cut_possible images.New old n = cut_whole old n
+cut_possible images.Half old n = cut_whole old n
+
+after_possible : (image : Image) (first : List ℕ) (all : List Deed) → IsImage first all (image_after image first all)
+after_possible image first [] = refl
+after_possible image first (Wrote at bytes ∷ earlier) =
+    (image_after image first earlier, after_possible image first earlier, partly_torn (image_after image first earlier) bytes at (new_part image (length bytes)) (part_within image (length bytes)))
+after_possible image first (CutTo n ∷ earlier) = (image_after image first earlier, after_possible image first earlier, cut_possible image (image_after image first earlier) n)
+after_possible image first (Synced ∷ earlier) = refl
+
+-- each image is one that a crash may leave
+pub image_possible : (image : Image) (first : List ℕ) (all : List Deed) (left : List ℕ) → left ≡ image_of image first all → Leaves first all left
+image_possible image first all left is = subst (λ (c : List ℕ). Leaves first all c) (sym is) (after_possible image first (reverse all))
+
+-- one call more
+advanced : (image : Image) (first : List ℕ) (all : List Deed) (d : Deed) (solid left solid_after left_after : List ℕ) → solid ≡ seen_of first all → left ≡ image_after image first all → Advances image d solid left solid_after left_after
+    → (solid_after ≡ seen_of first (d ∷ all)) × (left_after ≡ image_after image first (d ∷ all))
+advanced image first all (Wrote at bytes) solid left solid_after left_after is image_is by =
+    (by.0 ∙ ap (λ (l : List ℕ). written l at bytes) is, by.1 ∙ ap (λ (l : List ℕ). partly_written l at bytes (new_part image (length bytes))) image_is)
+advanced image first all (CutTo n) solid left solid_after left_after is image_is by = (by.0 ∙ ap (λ (l : List ℕ). take n l) is, by.1 ∙ ap (λ (l : List ℕ). cut_in image l n) image_is)
+advanced image first all Synced solid left solid_after left_after is image_is by = (by.0 ∙ is, by.1 ∙ is)
+
+pub replayed : (image : Image) (first log : List ℕ) (items : List Step) (i : ℕ) (s : Step) (solid left solid_after left_after : List ℕ) → take (i + 1) items ≡ take i items ++ s ∷ []
+    → IsReplayed image first log (take i items) solid left → Advances image (deed_of log s) solid left solid_after left_after → IsReplayed image first log (take (i + 1) items) solid_after left_after
+replayed image first log items i s solid left solid_after left_after more before by =
     let all = deeds log (take i items) in
     let turned : reverse (deeds log (take (i + 1) items)) ≡ deed_of log s ∷ reverse all =
     ap (λ (l : List Step). reverse (deeds log l)) more ∙ ap (λ (l : List Deed). reverse l) (deeds_push log (take i items) s) ∙ reverse-append all (deed_of log s ∷ []) in
-    let after = advanced first all (deed_of log s) solid left solid_after left_after before.is_solid before.is_left by in
+    let after = advanced image first (reverse all) (deed_of log s) solid left solid_after left_after before.is_solid before.is_left by in
     record {
       is_solid = after.0 ∙ ap (λ (l : List Deed). seen_of first l) (sym turned);
-      is_left = subst (λ (l : List Deed). IsImage first l left_after) (sym turned) after.1;
+      is_left = after.1 ∙ ap (λ (l : List Deed). image_after image first l) (sym turned);
     }

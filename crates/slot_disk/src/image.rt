@@ -1,7 +1,8 @@
 ghost use Rattle.std.specs.Prelude.{◌≡◌, ◌-◌, ◌≤◌, ◌+◌, ◌++◌, List, ℕ, length, take, drop, replicate, OnOk, IfOk};
-ghost use Rattle.slot_disk.specs.Crash.{written, Torn, Cut};
-ghost use Rattle.slot_disk.specs.Steps.{deed_of, deeds, Leaves};
-ghost use Rattle.slot_disk.specs.Images.{Advances};
+ghost use Rattle.slot_disk.specs.Crash.{written};
+ghost use Rattle.slot_disk.specs.MemDisks.{history};
+ghost use Rattle.slot_disk.specs.Steps.{deed_of, Leaves};
+ghost use Rattle.slot_disk.specs.Images.{new_part, filled, partly_written, cut_in, image_of, Advances};
 
 use crate::memory::{MemDisk, overwrite};
 use crate::step::Step;
@@ -22,7 +23,8 @@ pub enum Image {
 impl Image {
     /// How many bytes of a write of so many are new.
     fn part(self, len: usize) -> usize
-        ensures { result ≤ len }
+        ensures part { result ≡ new_part self len }
+        ensures within { result ≤ len }
     {
         match self {
             Image::Old => 0,
@@ -34,7 +36,7 @@ impl Image {
 
 /// Fills the bytes up to a length with zeros.
 fn grow(file: &mut Vec<u8>, end: usize) -> Result<(), AllocError>
-    ensures { OnOk result (file.new.items ≡ file.old.items ++ replicate (end - length file.old.items) 0) }
+    ensures { OnOk result (file.new.items ≡ filled file.old.items end) }
 {
     if file.len() < end {
         return file.resize(end, 0);
@@ -45,7 +47,7 @@ fn grow(file: &mut Vec<u8>, end: usize) -> Result<(), AllocError>
 /// Writes the first bytes of a write that a crash cuts short.
 fn write_part(file: &mut Vec<u8>, at: u64, bytes: &[u8], part: usize) -> Result<(), AllocError>
     requires { part ≤ length bytes.now }
-    ensures { OnOk result (Torn at (length bytes.now) file.old.items file.new.items) }
+    ensures { OnOk result (file.new.items ≡ partly_written file.old.items at bytes.now part) }
 {
     let place = at as usize;
     let end = place.checked_add(bytes.len()).ok_or(AllocError)?;
@@ -84,7 +86,7 @@ struct Replay {
 impl Replay {
     /// One call more.
     fn advance(&mut self, log: &[u8], step: Step, image: Image) -> Result<(), AllocError>
-        ensures { OnOk result (Advances (deed_of log.now step) self.old.solid.items self.old.left.items self.new.solid.items self.new.left.items) }
+        ensures { OnOk result (Advances image (deed_of log.now step) self.old.solid.items self.old.left.items self.new.solid.items self.new.left.items) }
     {
         match step {
             Step::Write { at, from, len } => self.write(at, part_of(log, from, len), image),
@@ -101,16 +103,15 @@ impl Replay {
 
     fn write(&mut self, at: u64, bytes: &[u8], image: Image) -> Result<(), AllocError>
         ensures solid { OnOk result (self.new.solid.items ≡ written self.old.solid.items at bytes.now) }
-        ensures left { OnOk result (Torn at (length bytes.now) self.old.left.items self.new.left.items) }
+        ensures left { OnOk result (self.new.left.items ≡ partly_written self.old.left.items at bytes.now (new_part image (length bytes.now))) }
     {
         write_whole(&mut self.solid, at, bytes)?;
         write_part(&mut self.left, at, bytes, image.part(bytes.len()))
     }
 
-    #[tactic(auto, using(crate::proofs::Moments::cut_whole, crate::proofs::Moments::cut_none))]
     fn cut(&mut self, len: u64, image: Image)
         ensures solid { self.new.solid.items ≡ take len self.old.solid.items }
-        ensures left { Cut len self.old.left.items self.new.left.items }
+        ensures left { self.new.left.items ≡ cut_in image self.old.left.items len }
     {
         self.solid.truncate(len as usize);
         if image != Image::Old {
@@ -122,7 +123,8 @@ impl Replay {
 impl MemDisk {
     /// What a crash leaves now, in one of three ways. Want of memory is the one refusal.
     pub fn crash(&self, alloc: Global, image: Image) -> Result<Vec<u8>, AllocError>
-        ensures { IfOk result (λ v. Leaves self.now.first.items (deeds self.now.log.items self.now.steps.items) v.items) }
+        ensures image { IfOk result (λ v. v.items ≡ image_of image self.now.first.items (history self.now)) }
+        ensures possible { IfOk result (λ v. Leaves self.now.first.items (history self.now) v.items) }
     {
         let mut replay = Replay {
             solid: Vec::from_slice(alloc, &self.first)?,
