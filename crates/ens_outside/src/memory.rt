@@ -1,7 +1,8 @@
-ghost use Rattle.std.specs.Prelude.{◌≡◌, ◌↔◌, ◌<◌, ◌≤◌, List, ℕ, Option, Some, drop, length, IfOk, IsErr, Contains};
+ghost use Rattle.std.specs.Prelude.{◌≡◌, ◌↔◌, ◌⊎◌, ◌<◌, ◌≤◌, ◌-◌, List, [], ℕ, Option, Some, drop, length, min, vec_capacity, IfOk, IsErr, Contains};
 ghost use Rattle.std.specs.Io.{ReadsAtMost, WritesAtMost};
 ghost use Rattle.std.specs.Io.KnownBytes.{ReadConsumes, WriteAppends};
 ghost use Rattle.ens_base.specs.Causes.{HasCause};
+ghost use Rattle.ens_outside.specs.Written.{IsWithoutRoom};
 
 mod backend;
 mod failing_call;
@@ -75,23 +76,31 @@ impl Source for MemSource {
     }
 }
 
-/// A sink in memory, with room taken at the start. A write past it fails, and so do the calls whose
-/// numbers are listed, the first call being 1; with an empty list none of these does.
+/// A sink in memory, with room for so many bytes taken at the start. A write takes what there is room
+/// for, and fails where there is none. So do the calls whose numbers are listed, the first call being 1;
+/// with an empty list none of these does.
 #[derive(Drop)]
 pub struct MemSink {
     bytes: Vec<u8>,
+    room: usize,
     calls: u64,
     failing: Vec<u64>,
     faults: u64,
+    ghost within: { length bytes.items ≤ room },
+    ghost taken: { room ≤ vec_capacity bytes },
 }
 
 impl MemSink {
     pub fn new(alloc: Global, room: usize, failing: Vec<u64>) -> Result<Self, AllocError>
-        ensures { IfOk result (λ s. (s.bytes.items ≡ Rattle.std.specs.Prelude.[]) × (s.failing ≡ failing)) }
+        ensures bytes { IfOk result (λ s. s.bytes.items ≡ []) }
+        ensures room { IfOk result (λ s. s.room ≡ room) }
+        ensures failing { IfOk result (λ s. s.failing ≡ failing) }
+        ensures start { IfOk result (λ s. (s.calls ≡ 0) × (s.faults ≡ 0)) }
     {
         let bytes = Vec::with_capacity(alloc, room)?;
         Ok(MemSink {
             bytes,
+            room,
             calls: 0,
             failing,
             faults: 0,
@@ -114,20 +123,26 @@ impl Sink for MemSink {
         self.faults
     }
 
-    fn write_some(&mut self, bytes: &[u8]) -> Result<usize, Failed> {
-        self.calls = self.calls.saturating_add(1);
-        let room = self.bytes.capacity() - self.bytes.len();
-        let n = bytes.len().min(room);
-        if self.failing.contains(&self.calls) || (n == 0 && !bytes.is_empty()) {
+    fn write_some(&mut self, bytes: &[u8]) -> Result<usize, Failed>
+        ensures bound { WritesAtMost result bytes.now }
+        ensures progress { IfOk result (λ n. 0 < length bytes.now → 0 < n) }
+        ensures bytes { WriteAppends (Some self.old.bytes.items) (Some self.new.bytes.items) result bytes.now }
+        ensures cause { HasCause self.old.faults self.new.faults result }
+        ensures count { IfOk result (λ n. n ≡ min (length bytes.now) (self.old.room - length self.old.bytes.items)) }
+        ensures exactly { IsErr result ↔ (Contains self.old.failing.items self.new.calls ⊎ IsWithoutRoom self.old.room self.old.bytes.items bytes.now) }
+    {
+        let call = self.calls.saturating_add(1);
+        self.calls = call;
+        if self.failing.contains(&call) {
             self.faults = self.faults.saturating_add(1);
             return Err(Failed);
         }
-        match self.bytes.extend_from_slice(&bytes[..n]) {
-            Ok(()) => Ok(n),
-            Err(_) => {
-                self.faults = self.faults.saturating_add(1);
-                Err(Failed)
-            }
+        let n = bytes.len().min(self.room - self.bytes.len());
+        if n == 0 && !bytes.is_empty() {
+            self.faults = self.faults.saturating_add(1);
+            return Err(Failed);
         }
+        self.bytes.extend_from_slice(&bytes[..n]).unwrap();
+        Ok(n)
     }
 }

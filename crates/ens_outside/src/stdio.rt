@@ -1,3 +1,5 @@
+ghost use Rattle.std.specs.Prelude.{◌≡◌};
+
 use crate::sink::Sink;
 use crate::source::Source;
 use ens_base::Failed;
@@ -11,7 +13,10 @@ pub struct Reading<R> {
 }
 
 impl<R> Reading<R> {
-    pub fn new(inner: R) -> Self {
+    /// A source over this reader.
+    pub fn new(inner: R) -> Self
+        ensures { (result.inner ≡ inner) × (result.faults ≡ 0) }
+    {
         Reading { inner, faults: 0 }
     }
 }
@@ -44,7 +49,10 @@ pub struct Writing<W> {
 }
 
 impl<W> Writing<W> {
-    pub fn new(inner: W) -> Self {
+    /// A sink over this writer.
+    pub fn new(inner: W) -> Self
+        ensures { (result.inner ≡ inner) × (result.faults ≡ 0) }
+    {
         Writing { inner, faults: 0 }
     }
 }

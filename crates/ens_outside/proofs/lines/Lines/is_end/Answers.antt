@@ -1,4 +1,4 @@
-use Rattle.std.proofs.Common.{◌≡◌, ◌==◌, false, length, vec_len, arith}
+use Rattle.std.proofs.Common.{◌≡◌, ◌==◌, false, vec_len, arith}
 use Rattle.std.proofs.lemmas.Bool.Decides.{nat_tests}
 use Rattle.ens_outside.proofs.Bytes.{some_pending}
 use Rattle.ens_outside.proofs.lines.Lines.is_end.Goals as goal
