@@ -1,6 +1,6 @@
 -- Counts of faults along a plan.
-use Rattle.std.specs.Prelude.{Option}
-use Rattle.std.proofs.Common.{◌≡◌, ◌≤◌, ◌++◌, ◌∷◌, [], ℕ, List, Result, inl, inr, ap, arith}
+use Rattle.std.specs.Prelude.{Option, Some, None}
+use Rattle.std.proofs.Common.{◌≡◌, ◌≤◌, ◌++◌, ◌∷◌, [], ℕ, List, Result, inl, inr, ◌∙◌, ap, arith}
 use Rattle.ens_base.specs.Causes.{Rose}
 use Rattle.ens_outside.specs.Stores.{BackendCall, BackendAnswer}
 use Rattle.ens_outside.specs.declared.errors.StoreError.{StoreError}
@@ -11,7 +11,8 @@ use Rattle.peer_fact.specs.declared.fact.Fact.{Fact}
 use Rattle.register_model.specs.declared.note.Note.{Note}
 use Rattle.peer_core.specs.Calls.{Call, Load, Save, Find, Enter, ScanTree, ReadNode, Install, Fetch, Put, AnswerOf}
 use Rattle.peer_core.specs.Plans.{Plan, Done, Say, Ask, Stopped, Runs}
-use Rattle.peer_core.specs.Stores.{stores_do, stores_refuse, AreLater, SomeRose, IsCause}
+use Rattle.peer_core.specs.Starts.{start_of, opened}
+use Rattle.peer_core.specs.Stores.{stores_do, stores_refuse, FactsAlone, AreLater, SomeRose, IsCause}
 use Rattle.peer_core.specs.declared.error.PeerError.{PeerError}
 use Rattle.peer_core.specs.declared.error.PeerError.TheVariants as errors
 use Rattle.peer_core.specs.declared.stores.Stores.{Stores}
@@ -55,7 +56,7 @@ module _ {B N F : Type 0} (gives : B → (call : BackendCall) → BackendAnswer 
   pub refusal_cause : (s : Stores B N F) (call : Call) (e : PeerError) (t : Stores B N F) → stores_refuse loses b n drops kept f s call e t → IsCause b n f s t e
   refusal_cause s Load errors.StoreFault t off = inr (inr off.0.rose)
   refusal_cause s Load (errors.BadFact why) t off = tt
-  refusal_cause s Load errors.Memory t off = off.0
+  refusal_cause s Load errors.Memory t off = tt
   refusal_cause s Load errors.Halted t off = off.0
   refusal_cause s Load (errors.Clash first second) t off = off.0
   refusal_cause s Load (errors.BookFull bytes) t off = off.0
@@ -92,4 +93,24 @@ module _ {B N F : Type 0} (gives : B → (call : BackendCall) → BackendAnswer 
   stopped_cause (Ask call next) s ns e t ms ran = elim ran [
     | inl off ↦ stopped_by e off.0 s t off.2 (refusal_cause s call off.0 t off.1)
     | inr on ↦ cause_later s on.1 t e (do_later s call on.0 on.1 on.2) (stopped_cause (next on.0) on.1 ns e t ms on.3)
+  ]
+
+  -- a call of the facts touches them alone
+  loaded_alone : (s m t : Stores B N F) → FactsAlone s m → FactsAlone m t → FactsAlone s t
+  loaded_alone s m t first then = (then.0 ∙ first.0, then.1 ∙ first.1)
+
+  opened_alone : (view : List ℕ) (found : Option Fact) (s : Stores B N F) (ns : List Note) (e : PeerError) (t : Stores B N F) (ms : List Note)
+      → Runs (stores_do gives b n tells kept f) (stores_refuse loses b n drops kept f) (opened view found) s ns (Stopped e) t ms → FactsAlone s t
+  opened_alone view (Some fact) s ns e t ms ran = let none : ⊥ = grind (arith, ran.0) in absurd none
+  opened_alone view None s ns e t ms ran = elim ran [
+    | inl off ↦ off.1.3
+    | inr on ↦ let none : ⊥ = grind (arith, on.3.0) in absurd none
+  ]
+
+  -- a start that is stopped has touched the facts alone
+  pub start_alone : (view : List ℕ) (s : Stores B N F) (ns : List Note) (e : PeerError) (t : Stores B N F) (ms : List Note)
+      → Runs (stores_do gives b n tells kept f) (stores_refuse loses b n drops kept f) (start_of view) s ns (Stopped e) t ms → FactsAlone s t
+  start_alone view s ns e t ms ran = elim ran [
+    | inl off ↦ off.1.2
+    | inr on ↦ loaded_alone s on.1 t on.2.3 (opened_alone view on.0 on.1 ns e t ms on.3)
   ]

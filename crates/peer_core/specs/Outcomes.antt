@@ -3,7 +3,6 @@ use Rattle.std.specs.Prelude.{Result}
 use Rattle.peer_core.specs.Calls.{Call, AnswerOf}
 use Rattle.peer_core.specs.Plans.{Plan, Rest, Out, Did}
 use Rattle.peer_core.specs.declared.error.PeerError.{PeerError}
-use Rattle.peer_core.specs.declared.error.PeerError.TheVariants.{Memory}
 use Rattle.peer_core.specs.declared.machine.Machine.{Machine}
 use Rattle.peer_core.specs.declared.outbox.Outbox.{Outbox}
 use Rattle.peer_core.specs.declared.state.State.{State}
@@ -11,11 +10,6 @@ use Rattle.peer_core.specs.declared.state.State.{State}
 -- what is in the outbox, but for the notes
 abbrev pub out_of : Outbox → Out
 out_of o = record { sends = o.sends.items; answers = o.answers.items; changes = o.changes.items }
-
--- a store refused the call with this error; of want of memory nothing is said
-abbrev pub IsRefusal : {S : Type 0} → (S → Call → PeerError → S → Type 0) → S → Call → PeerError → S → Type 0
-IsRefusal refuses s call Memory t = Unit {0}
-IsRefusal refuses s call e t = refuses s call e t
 
 -- the call did this part of a step
 abbrev pub Acts : {A S : Type 0} → (S → (call : Call) → AnswerOf call → S → Type 0) → (S → Call → PeerError → S → Type 0)

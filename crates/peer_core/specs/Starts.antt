@@ -23,15 +23,10 @@ opened view (Some fact) = Done (first_state fact false) nothing
 abbrev pub start_of : List ℕ → Plan
 start_of view = Ask Load (λ kept. opened view kept)
 
--- the start was stopped by this error; of want of memory nothing is said
+-- the start was stopped by this error, at its load or its save
 abbrev pub IsStopped : {S : Type 0} → (S → (call : Call) → AnswerOf call → S → Type 0) → (S → Call → PeerError → S → Type 0)
     → Plan → S → PeerError → S → Type 0
-IsStopped does refuses plan s errors.Memory t = Unit {0}
-IsStopped does refuses plan s errors.StoreFault t = Runs does refuses plan s [] (Stopped errors.StoreFault) t []
-IsStopped does refuses plan s errors.Halted t = Runs does refuses plan s [] (Stopped errors.Halted) t []
-IsStopped does refuses plan s (errors.Clash first second) t = Runs does refuses plan s [] (Stopped (errors.Clash first second)) t []
-IsStopped does refuses plan s (errors.BookFull bytes) t = Runs does refuses plan s [] (Stopped (errors.BookFull bytes)) t []
-IsStopped does refuses plan s (errors.BadFact why) t = Runs does refuses plan s [] (Stopped (errors.BadFact why)) t []
+IsStopped does refuses plan s e t = Runs does refuses plan s [] (Stopped e) t []
 
 -- the call was the start of a peer
 abbrev pub Starts : {S : Type 0} → (S → (call : Call) → AnswerOf call → S → Type 0) → (S → Call → PeerError → S → Type 0)

@@ -31,15 +31,17 @@ NodesAlone s t = (t.backend ≡ s.backend) × (t.facts ≡ s.facts)
 abbrev pub BackendAlone : {B N F : Type 0} → Stores B N F → Stores B N F → Type 0
 BackendAlone s t = (t.nodes ≡ s.nodes) × (t.facts ≡ s.facts)
 
--- why a fact was not loaded: the keeper failed, or what is kept is no fact
+-- why a fact was not loaded: the keeper failed, what is kept is no fact, or memory was wanted
 abbrev pub IsLoadError : Option (Result Fact FactError) → ℕ → ℕ → PeerError → Type 0
 IsLoadError kept before now errors.StoreFault = HasFailed before now
 IsLoadError kept before now (errors.BadFact why) = (kept ≡ Some (Err why)) × (before ≤ now)
+IsLoadError kept before now errors.Memory = before ≤ now
 IsLoadError kept before now e = ⊥
 
 -- the same, in the words of the keeper
 abbrev pub keeper_error : PeerError → KeepError
 keeper_error (errors.BadFact why) = keeps.Bad why
+keeper_error errors.Memory = keeps.Memory
 keeper_error e = keeps.Failed
 
 -- What a call may be answered: a load gives what is kept, a saved fact is kept from then on, and the backend answers what it may. What a tree answers
@@ -80,11 +82,11 @@ pub record AreLater {B N F : Type 0} (b : B → ℕ) (n : N → ℕ) (f : F → 
 abbrev pub SomeRose : {B N F : Type 0} → (B → ℕ) → (N → ℕ) → (F → ℕ) → Stores B N F → Stores B N F → Type 0
 SomeRose b n f s t = Rose (b s.backend) (b t.backend) ⊎ (Rose (n s.nodes) (n t.nodes) ⊎ Rose (f s.facts) (f t.facts))
 
--- why a plan is stopped: the count of faults of some store has risen, or what is kept is no fact
+-- why a plan is stopped: the count of faults of some store has risen, what is kept is no fact, or memory was wanted to load it
 abbrev pub IsCause : {B N F : Type 0} → (B → ℕ) → (N → ℕ) → (F → ℕ) → Stores B N F → Stores B N F → PeerError → Type 0
 IsCause b n f s t errors.StoreFault = SomeRose b n f s t
 IsCause b n f s t (errors.BadFact why) = Unit {0}
-IsCause b n f s t errors.Memory = ⊥
+IsCause b n f s t errors.Memory = Unit {0}
 IsCause b n f s t errors.Halted = ⊥
 IsCause b n f s t (errors.Clash first second) = ⊥
 IsCause b n f s t (errors.BookFull bytes) = ⊥

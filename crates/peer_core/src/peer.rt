@@ -44,7 +44,7 @@ impl<B: Backend, N: NodeStore, F: FactKeeper> Peer<B, N, F> {
     ghost use Rattle.std.specs.Prelude.{[], IfOk, IfErr};
     ghost use Rattle.peer_core.specs.Plans.{Finished, Runs, nothing};
     ghost use Rattle.peer_core.specs.Starts.{IsStopped, IsStartError, start_of};
-    ghost use Rattle.peer_core.specs.Stores.{SomeRose, stores_do, stores_refuse};
+    ghost use Rattle.peer_core.specs.Stores.{FactsAlone, SomeRose, stores_do, stores_refuse};
 
     /// Rule 1: a peer starts on its stores. Where they keep no fact, the fact of an ensemble of this
     /// view in which nothing has happened is saved, and the peer trusts its tree. Else it goes on from
@@ -53,7 +53,8 @@ impl<B: Backend, N: NodeStore, F: FactKeeper> Peer<B, N, F> {
     /// # Errors
     ///
     /// `BadFact` exactly where the keeper of the fact answers so, `StoreFault` only where the count of
-    /// faults of a store rose in this call, and want of memory. The stores come back.
+    /// faults of a store rose in this call, and want of memory. The stores come back: the backend and
+    /// the nodes as they were, the fact as the load or the save that was refused left it.
     pub fn start<H: Hasher16>(
         me: PeerId,
         opening: View,
@@ -64,6 +65,7 @@ impl<B: Backend, N: NodeStore, F: FactKeeper> Peer<B, N, F> {
         ensures me { IfOk result (λ p. (p.me ≡ me) × (p.halted ≡ false)) }
         ensures started { IfOk result (λ p. Runs (stores_do B.may_answer B.fault_count N.fault_count F.may_answer F.kept F.fault_count) (stores_refuse B.may_refuse B.fault_count N.fault_count F.may_refuse F.kept F.fault_count) (start_of opening) stores [] (Finished p.machine.state nothing) p.machine.stores []) }
         ensures stopped { IfErr result (λ r. IsStopped (stores_do B.may_answer B.fault_count N.fault_count F.may_answer F.kept F.fault_count) (stores_refuse B.may_refuse B.fault_count N.fault_count F.may_refuse F.kept F.fault_count) (start_of opening) stores r.error r.held) }
+        ensures untouched { IfErr result (λ r. FactsAlone stores r.held) }
         ensures rose { IfErr result (λ r. r.error ≡ PeerError.StoreFault → SomeRose B.fault_count N.fault_count F.fault_count stores r.held) }
         ensures only { IfErr result (λ r. IsStartError r.error) }
         ensures hasher { _hasher.new ≡ _hasher.old }

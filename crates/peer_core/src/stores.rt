@@ -1,6 +1,5 @@
 ghost use Rattle.std.specs.Prelude.{◌≡◌, IfOk, IfErr, OnOk, OnErr};
 ghost use Rattle.peer_core.specs.Calls.{Call, Load, Save, AnswerOf};
-ghost use Rattle.peer_core.specs.Outcomes.{IsRefusal};
 ghost use Rattle.peer_core.specs.declared.error.PeerError.{PeerError};
 ghost use Rattle.peer_core.specs.declared.error.PeerError.TheVariants.{StoreFault};
 
@@ -22,7 +21,7 @@ pub trait Store {
     /// The fact that is kept, if there is one.
     fn load(&mut self) -> Result<Option<Fact>, PeerError>
         ensures ok { IfOk result (λ kept. does self.old Load kept self.new) }
-        ensures err { IfErr result (λ e. IsRefusal refuses self.old Load e self.new) };
+        ensures err { IfErr result (λ e. refuses self.old Load e self.new) };
 
     /// Saves a fact.
     fn save(&mut self, fact: &Fact) -> Result<(), Failed>
