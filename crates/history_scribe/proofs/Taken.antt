@@ -1,0 +1,32 @@
+-- Notes that are taken one after the other.
+use Rattle.std.specs.Prelude.{OnErr}
+use Rattle.std.proofs.Common.{◌≡◌, ◌++◌, ◌∷◌, [], ℕ, List, Result, Ok, Err, length, take, refl, sym, ap, ◌∙◌, arith}
+use Rattle.std.proofs.lemmas.List.{append-nil, append_assoc, take-append-le, take_all}
+use Rattle.register_model.specs.declared.note.Note.{Note}
+
+-- some of the notes have been taken, and these are left
+pub record Taking (old all now left : List Note) : Type 0 where
+  pub taken : List Note
+  pub split : all ≡ taken ++ left
+  pub so_far : now ≡ old ++ taken
+
+pub none_taken : (old all : List Note) → Taking old all old all
+none_taken old all = record { taken = []; split = refl; so_far = sym (append-nil old) }
+
+pub one_taken : (old all now left more : List Note) (n : Note) → left ≡ n ∷ more → Taking old all now left → Taking old all (now ++ n ∷ []) more
+one_taken old all now left more n is t = record {
+  taken = t.taken ++ n ∷ [];
+  split = t.split ∙ ap (λ (l : List Note). t.taken ++ l) is ∙ sym (append_assoc t.taken (n ∷ []) more);
+  so_far = ap (λ (l : List Note). l ++ n ∷ []) t.so_far ∙ append_assoc old t.taken (n ∷ []);
+}
+
+pub all_taken : (old all now left : List Note) → left ≡ [] → Taking old all now left → now ≡ old ++ all
+all_taken old all now left is t = t.so_far ∙ ap (λ (l : List Note). old ++ l) (sym (append-nil t.taken) ∙ ap (λ (l : List Note). t.taken ++ l) (sym is) ∙ sym t.split)
+
+front : (taken left all : List Note) → all ≡ taken ++ left → take (length taken) all ≡ taken
+front taken left all split = ap (λ (l : List Note). take (length taken) l) split ∙ take-append-le (length taken) taken left (omega arith) ∙ take_all (length taken) taken (omega arith)
+
+-- where the next note is refused, a front of all has been taken
+pub front_taken : {A E : Type 0} (r : Result A E) (old all now left : List Note) → Taking old all now left → OnErr r ((taken : ℕ) × (now ≡ old ++ take taken all))
+front_taken (Ok a) old all now left t = tt
+front_taken (Err e) old all now left t = (length t.taken, t.so_far ∙ ap (λ (l : List Note). old ++ l) (sym (front t.taken left all t.split)))

@@ -1,0 +1,52 @@
+ghost use Rattle.std.specs.Prelude.{◌≡◌, ◌++◌, ◌∷◌, [], if◌then◌else◌, OnOk, OnErr};
+ghost use Rattle.std.specs.Ordering.{is_eq};
+ghost use Rattle.history_scribe.specs.Lists.{list_at};
+
+use ens_base::Seq;
+use std::alloc::{AllocError, Global};
+use std::collections::BTreeMap;
+
+/// A list for each key; a key that was never named has the empty one.
+#[derive(Drop)]
+pub struct Lists<K: Ord, T> {
+    lists: BTreeMap<K, Seq<T>>,
+}
+
+impl<K: Ord, T> Lists<K, T> {
+    /// No key has anything in its list.
+    pub fn new(alloc: Global) -> Lists<K, T>
+        ensures { (k : K) → list_at K.cmp result.lists k ≡ [] }
+    {
+        Lists {
+            lists: BTreeMap::new(alloc),
+        }
+    }
+
+    /// The list of the key.
+    pub fn of(&self, key: &K) -> &[T]
+        ensures { result.now ≡ list_at K.cmp self.now.lists key.now }
+    {
+        match self.lists.get(key) {
+            Some(list) => list.as_slice(),
+            None => &[],
+        }
+    }
+
+    /// Puts an item at the end of the list of the key.
+    pub fn push(&mut self, alloc: Global, key: K, item: T) -> Result<(), AllocError>
+    where
+        K: Drop,
+        T: Drop,
+        ensures ok { OnOk result ((k : K) → list_at K.cmp self.new.lists k ≡ (if is_eq (K.cmp key k) then list_at K.cmp self.old.lists k ++ item ∷ [] else list_at K.cmp self.old.lists k)) }
+        ensures err { OnErr result ((k : K) → list_at K.cmp self.new.lists k ≡ list_at K.cmp self.old.lists k) }
+    {
+        if let Some(list) = self.lists.get_mut(&key) {
+            list.push(item)?;
+            return Ok(());
+        }
+        let mut list = Seq::new(Vec::new(alloc));
+        list.push(item)?;
+        self.lists.insert(key, list)?;
+        Ok(())
+    }
+}

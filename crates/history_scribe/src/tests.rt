@@ -1,0 +1,120 @@
+use super::*;
+use crate::mark::Mark;
+use ens_base::{Epoch, Key, Seq, Version};
+use register_model::Note;
+use std::alloc::Global;
+use std::test::Fail;
+
+/// The version with this number in the epoch N.N.
+fn version(epoch: u32, seq: u64) -> Version {
+    let count = epoch as u64;
+    Version {
+        epoch: Epoch {
+            count,
+            proposer: epoch,
+        },
+        seq,
+    }
+}
+
+/// A write, by this call; none for a rewrite.
+fn write(of: Version, parent: Option<Version>, call: Option<u64>) -> Mark {
+    Mark::Proposed {
+        version: of,
+        parent,
+        call,
+    }
+}
+
+/// The note that says this of the key `k`.
+fn note_of(alloc: Global, mark: Mark) -> Result<Note, Fail> {
+    let key = Key::new(alloc, b"k")?;
+    Ok(match mark {
+        Mark::Proposed {
+            version,
+            parent,
+            call,
+        } => Note::Proposed {
+            key,
+            version,
+            parent,
+            call,
+        },
+        Mark::Settled(version) => Note::Settled { key, version },
+        Mark::Read { id, base } => Note::Read { id, key, base },
+    })
+}
+
+/// A scribe that was told these of the key `k`.
+fn told(alloc: Global, marks: &[Mark]) -> Result<Scribe, Fail> {
+    let mut scribe = Scribe::new(alloc);
+    for mark in marks {
+        scribe.note(alloc, note_of(alloc, *mark)?)?;
+    }
+    Ok(scribe)
+}
+
+/// The calls on a key, as a scribe that was told these of the key `k` tells them.
+fn calls(alloc: Global, marks: &[Mark], key: &[u8]) -> Result<Seq<u64>, Fail> {
+    let key = Key::new(alloc, key)?;
+    Ok(told(alloc, marks)?.history(alloc, &key)?.calls)
+}
+
+#[test]
+fn a_read_stands_behind_its_write_and_a_rewrite_is_no_call(rt: HostRuntime) -> Result<(), Fail> {
+    let (one, again, two) = (version(1, 1), version(2, 1), version(2, 2));
+    let marks = [
+        write(one, None, Some(1)),
+        Mark::Settled(one),
+        Mark::Read {
+            id: 2,
+            base: Some(one),
+        },
+        write(again, Some(one), None),
+        Mark::Settled(again),
+        write(two, Some(again), Some(3)),
+        Mark::Settled(two),
+    ];
+    assert_eq!(rt;
+        calls(rt.alloc(), &marks, b"k")?.as_slice(),
+        [1, 2, 3].as_slice()
+    );
+    assert!(rt; calls(rt.alloc(), &marks, b"other")?.as_slice().is_empty());
+    Ok(())
+}
+
+#[test]
+fn a_write_stands_where_a_settled_version_comes_from_it(rt: HostRuntime) -> Result<(), Fail> {
+    let (one, two, later) = (version(1, 1), version(1, 2), version(2, 1));
+    let marks = [
+        write(one, None, Some(1)),
+        write(two, Some(one), Some(2)),
+        Mark::Read { id: 3, base: None },
+        write(later, Some(one), Some(4)),
+        Mark::Settled(later),
+    ];
+    assert_eq!(rt;
+        calls(rt.alloc(), &marks[..3], b"k")?.as_slice(),
+        [3].as_slice()
+    );
+    assert_eq!(rt;
+        calls(rt.alloc(), &marks, b"k")?.as_slice(),
+        [3, 1, 4].as_slice()
+    );
+    Ok(())
+}
+
+/// The key of one byte.
+fn key(alloc: Global, byte: u8) -> Result<Key, Fail> {
+    Ok(Key::new(alloc, &[byte])?)
+}
+
+#[test]
+fn each_named_key_has_one_history_and_they_ascend(rt: HostRuntime) -> Result<(), Fail> {
+    let alloc = rt.alloc();
+    let named = vec![in alloc; key(alloc, b'k')?, key(alloc, b'a')?, key(alloc, b'k')?]?;
+    let histories = Scribe::new(alloc).histories(alloc, &named)?;
+    assert!(rt; histories.len() == 2);
+    assert!(rt; histories[0].key < histories[1].key);
+    Ok(())
+}
