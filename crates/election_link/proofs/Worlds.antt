@@ -178,4 +178,4 @@ module _ (view : List ℕ) (steps : List Step) where
   effect_told peers few event w may g = g
 
   pub applied_told : (peers : ℕ) → peers ≤ 31 → (event : ScheduleEvent) (w : Run) → MayStand peers event → GoesOn view steps w → GoesOn view steps (applied event w)
-  applied_told peers few event w may g = resent (effect event w) (counted (effect event w)) refl refl (effect_told peers few event w may g)
+  applied_told peers few event w may g = resent (effect event w) (counted event (effect event w)) refl refl (effect_told peers few event w may g)

@@ -9,6 +9,7 @@ use Rattle.schedule_text.specs.declared.event.ScheduleEvent.{ScheduleEvent}
 use Rattle.world_runs.proofs.Growth.{sent_in, peers_in, applied_same, run_grows}
 use Rattle.world_runs.specs.Lines.{applied, run_from, run_of_schedule}
 use Rattle.world_runs.specs.Runs.{Run, opening_run}
+use Rattle.world_model.proofs.Numbers.{succ}
 
 -- some events have been applied, and the others follow from here
 pub record Running (peers : ℕ) (view : List ℕ) (all : List ScheduleEvent) (place : ℕ) (now : Run) : Type 0 where
@@ -18,9 +19,6 @@ pub record Running (peers : ℕ) (view : List ℕ) (all : List ScheduleEvent) (p
 
 pub running_first : (peers : ℕ) (view : List ℕ) (all : List ScheduleEvent) (now : Run) → now ≡ opening_run peers view → Running peers view all 0 now
 running_first peers view all now is = record { rest = rw is refl; many = rw is (length-replicate {A = _} peers _); within = rw is (omega arith) }
-
-succ : (n : ℕ) → n + 1 ≡ suc n
-succ n = omega arith
 
 drop_one : (all : List ScheduleEvent) (place : ℕ) (event : ScheduleEvent) → slice_get all place ≡ Some event → drop place all ≡ event ∷ drop (place + 1) all
 drop_one all place event here = at all place event here ∙ ap (λ k. event ∷ drop k all) (sym (succ place)) where

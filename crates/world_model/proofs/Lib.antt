@@ -1,3 +1,4 @@
+pub mod Numbers
 pub mod Takes
 pub mod OneByOne
 pub mod Begins

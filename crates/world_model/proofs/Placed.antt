@@ -10,6 +10,7 @@ use Rattle.register_model.specs.declared.note.Note.{Note}
 use Rattle.world_runs.proofs.Growth.{sent_in, length_posted_all}
 use Rattle.world_runs.specs.Nodes.{Taken, taken}
 use Rattle.world_runs.specs.Runs.{Run, frame_from, place_of, stepped}
+use Rattle.world_model.proofs.Numbers.{shifted, shifted_back}
 use Rattle.world_model.specs.Peers.{MemPeer, node_of, AreNumbered}
 use Rattle.world_model.specs.Worlds.{reported}
 
@@ -27,12 +28,6 @@ module _ (peers : List MemPeer) (w : Run) (peer : ℕ) (event : Event) (x new : 
 
 same_number : (x new p : MemPeer) (n : ℕ) → Some new ≡ Some p → new.me ≡ x.me → x.me ≡ n → p.me ≡ n
 same_number x new p n is same numbered = rw (← same_Some new p is) (same ∙ numbered)
-
-shifted : (m q base : ℕ) → m ≡ suc q + base → m ≡ q + (base + 1)
-shifted m q base is = omega (arith, is)
-
-shifted_back : (m q base : ℕ) → m ≡ q + (base + 1) → m ≡ suc q + base
-shifted_back m q base is = omega (arith, is)
 
 still_from : (base : ℕ) (peers : List MemPeer) (place : ℕ) (x new : MemPeer) → slice_get peers place ≡ Some x → new.me ≡ x.me
     → ((q : ℕ) (p : MemPeer) → slice_get peers q ≡ Some p → p.me ≡ q + base) → (q : ℕ) (p : MemPeer) → slice_get (slice_set peers place new) q ≡ Some p → p.me ≡ q + base

@@ -1,8 +1,9 @@
 -- Peers start one after the other.
-use Rattle.std.proofs.Common.{◌≡◌, ◌+◌, ℕ, zero, suc, Some, List, [], ◌∷◌, ◌++◌, length, map, replicate, slice_get, refl, ap, ◌∙◌, sym, arith}
+use Rattle.std.proofs.Common.{◌≡◌, ◌+◌, ℕ, zero, suc, Some, List, [], ◌∷◌, ◌++◌, length, map, replicate, slice_get, refl, ap, ◌∙◌, sym}
 use Rattle.std.proofs.lemmas.List.{map-append, length-append}
 use Rattle.std.proofs.lemmas.Option.{same_Some, none-some}
 use Rattle.world_runs.specs.Nodes.{opening_node}
+use Rattle.world_model.proofs.Numbers.{succ, shifted, shifted_back}
 use Rattle.world_model.specs.Peers.{MemPeer, node_of, AreNumbered}
 
 -- so many peers have started
@@ -17,15 +18,6 @@ none_started view = record { nodes = refl; numbered = λ place p here. absurd (n
 replicate_more : {A : Type 0} (n : ℕ) (x : A) → replicate n x ++ x ∷ [] ≡ replicate (suc n) x
 replicate_more zero x = refl
 replicate_more (suc n) x = ap (λ xs. x ∷ xs) (replicate_more n x)
-
-succ : (n : ℕ) → n + 1 ≡ suc n
-succ n = omega arith
-
-shifted : (m q base : ℕ) → m ≡ suc q + base → m ≡ q + (base + 1)
-shifted m q base is = omega (arith, is)
-
-shifted_back : (m q base : ℕ) → m ≡ q + (base + 1) → m ≡ suc q + base
-shifted_back m q base is = omega (arith, is)
 
 last_number : (p x : MemPeer) (n : ℕ) → Some p ≡ Some x → p.me ≡ n → x.me ≡ n
 last_number p x n is me = rw (← same_Some p x is) me

@@ -11,7 +11,7 @@ use Rattle.world_model.specs.declared.world.World.{World}
 
 -- the run that a world has come to
 abbrev pub run_of : World → Run
-run_of w = record { nodes = map node_of w.peers.items; mail = w.network; printed = w.printed.items; notes = w.notes.items; events = w.events }
+run_of w = record { nodes = map node_of w.peers.items; mail = w.network; printed = w.printed.items; notes = w.scribe.notes.items; events = w.events; called = w.called.items }
 
 -- what was sent and printed before stands at the front of what is now
 pub record Begins (old new : World) : Type 0 where

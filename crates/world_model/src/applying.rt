@@ -101,6 +101,9 @@ impl World {
         ensures error { IfErr result IsApplyError }
     {
         self.effect(alloc, hasher, event)?;
+        if let ScheduleEvent::Call { key, .. } = event {
+            self.called.push(key.copy(alloc)?)?;
+        }
         self.events = self.events.saturating_add(1);
         Ok(())
     }

@@ -10,6 +10,7 @@ use crate::world::{MemPeer, World};
 use ens_base::{PeerId, View};
 use ens_hashing::Hasher16;
 use ens_outside::{MemBackend, MemNodes};
+use history_scribe::Scribe;
 use network::Network;
 use peer_core::{Peer, PeerError, Stores};
 use schedule_text::Schedule;
@@ -83,8 +84,9 @@ impl World {
             peers: started_peers(alloc, schedule.peers, schedule.view, hasher)?,
             network: Network::new(alloc)?,
             printed: Vec::new(alloc),
-            notes: Vec::new(alloc),
+            scribe: Scribe::new(alloc),
             events: 0,
+            called: Vec::new(alloc),
         })
     }
 }

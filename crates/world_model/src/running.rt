@@ -9,9 +9,9 @@ ghost use Rattle.world_model.specs.Worlds.{run_of};
 use crate::error::WorldError;
 use crate::world::World;
 use ens_hashing::Hasher16;
-use register_model::Printed;
+use register_model::{History, Printed};
 use schedule_text::Schedule;
-use std::alloc::Global;
+use std::alloc::{AllocError, Global};
 use wire_frames::Frame;
 
 impl World {
@@ -41,13 +41,22 @@ impl World {
 }
 
 impl World {
-    ghost use Rattle.std.specs.Prelude.{◌≡◌};
+    ghost use Rattle.std.specs.Prelude.{◌≡◌, IfOk};
+    ghost use Rattle.history_scribe.specs.Histories.{AreHistories};
 
     /// What was answered, and what peers said of requests to change their view, in order.
     pub fn printed(&self) -> &[Printed]
         ensures { result.now ≡ (run_of self.now).printed }
     {
         self.printed.as_slice()
+    }
+
+    /// The history of each key that a call line named, the keys ascending: the calls on it in the order
+    /// that the notes of the leaders tell. Want of memory is the one refusal.
+    pub fn histories(&self, alloc: Global) -> Result<Vec<History>, AllocError>
+        ensures { IfOk result (λ v. AreHistories (run_of self.now).notes (run_of self.now).called v.items) }
+    {
+        self.scribe.histories(alloc, &self.called)
     }
 
     /// Every message that was ever sent, in order.

@@ -36,13 +36,13 @@ impl World {
         let Outbox {
             sends,
             answers,
-            mut notes,
+            notes,
             changes,
         } = out;
         let mut lines = lines_of(alloc, self.events.saturating_add(1), peer, answers, changes)?;
         post_all(&mut self.network, peer, sends)?;
         self.printed.append(&mut lines)?;
-        self.notes.append(&mut notes)?;
+        self.scribe.note_all(alloc, notes)?;
         Ok(())
     }
 

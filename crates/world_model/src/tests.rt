@@ -37,5 +37,6 @@ fn an_election_of_three_sends_twelve_messages(rt: HostRuntime) -> Result<(), Fai
     assert!(rt; world.sent().len() == 12);
     assert!(rt; is_sent(&world, 0, "probe") && is_sent(&world, 11, "accepted"));
     assert!(rt; world.printed().is_empty());
+    assert!(rt; world.histories(alloc)?.is_empty());
     Ok(())
 }

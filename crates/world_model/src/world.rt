@@ -1,10 +1,12 @@
 ghost use Rattle.std.specs.Prelude.{◌≤◌, length};
 ghost use Rattle.world_model.specs.Peers.{AreNumbered};
 
+use ens_base::Key;
 use ens_outside::{MemBackend, MemNodes};
+use history_scribe::Scribe;
 use network::Network;
 use peer_core::Peer;
-use register_model::{Note, Printed};
+use register_model::Printed;
 use world_runs::HeldFact;
 
 /// A peer over stores in memory.
@@ -17,9 +19,11 @@ pub struct World {
     pub(crate) peers: Vec<MemPeer>,
     pub(crate) network: Network,
     pub(crate) printed: Vec<Printed>,
-    pub(crate) notes: Vec<Note>,
+    pub(crate) scribe: Scribe,
     /// How many events were applied.
     pub(crate) events: u64,
+    /// The keys of the call lines among them.
+    pub(crate) called: Vec<Key>,
     ghost numbered: { AreNumbered peers.items },
     ghost few: { length peers.items ≤ 31 },
 }

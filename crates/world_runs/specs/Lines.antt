@@ -1,8 +1,8 @@
 -- What each line of a schedule does, and the run of a schedule.
-use Rattle.std.specs.Prelude.{ℕ, zero, suc, ◌+◌, ◌-◌, Bool, true, false, List, [], ◌∷◌, length, replicate, slice_index_or, slice_set}
+use Rattle.std.specs.Prelude.{ℕ, zero, suc, ◌+◌, ◌-◌, Bool, true, false, List, [], ◌∷◌, ◌++◌, length, replicate, slice_index_or, slice_set}
 use Rattle.network.specs.Mail.{lost, goes, oldest, most_messages}
 use Rattle.schedule_text.specs.declared.event.ScheduleEvent.{ScheduleEvent}
-use Rattle.schedule_text.specs.declared.event.ScheduleEvent.TheVariants.{Tick, Deliver, Pass, Lose, Calm, CalmAmong}
+use Rattle.schedule_text.specs.declared.event.ScheduleEvent.TheVariants.{Call, Tick, Deliver, Pass, Lose, Calm, CalmAmong}
 use Rattle.world_runs.specs.Runs.{Run, next_event, opening_run, ticked, delivered, delivered_if, calmed}
 
 -- the set of the first of these peers, as many as this
@@ -27,7 +27,8 @@ everyone = up_to 31
 abbrev pub with_loss : ℕ → ℕ → Run → Run
 with_loss sender receiver w = record w { mail = lost sender receiver w.mail }
 
--- what a line does. In a calm as many messages may be delivered as are ever sent. The other lines are not there yet, and do nothing
+-- what a line does to the peers and the messages. In a calm as many messages may be delivered as are ever sent. The other lines are not there
+-- yet, and do nothing
 abbrev pub effect : ScheduleEvent → Run → Run
 effect (Tick peer ticks) w = ticked peer ticks w
 effect (Deliver message) w = delivered (message - 1) w
@@ -37,13 +38,18 @@ effect Calm w = calmed everyone most_messages w
 effect (CalmAmong members) w = calmed (set_of members) most_messages w
 effect other w = w
 
--- one more event has been applied
-abbrev pub counted : Run → Run
-counted w = record w { events = next_event w.events }
+-- the key that a call line names
+abbrev pub keys_in : ScheduleEvent → List (List ℕ)
+keys_in (Call peer id key command) = key ∷ []
+keys_in other = []
+
+-- one more event has been applied, and a call line has named its key
+abbrev pub counted : ScheduleEvent → Run → Run
+counted event w = record w { events = next_event w.events; called = w.called ++ keys_in event }
 
 -- the world after a line
 abbrev pub applied : ScheduleEvent → Run → Run
-applied event w = counted (effect event w)
+applied event w = counted event (effect event w)
 
 -- the world after these lines
 abbrev pub run_from : List ScheduleEvent → Run → Run

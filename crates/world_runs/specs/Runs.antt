@@ -12,17 +12,19 @@ use Rattle.register_model.specs.declared.printed.Printed.TheVariants as lines
 use Rattle.wire_frames.specs.declared.frame.Frame.{Frame}
 use Rattle.world_runs.specs.Nodes.{Node, Taken, taken, opening_node}
 
--- the peers 1, 2, .. in this order, the messages, what was answered and told of changes, what was noted, and how many events there were
+-- the peers 1, 2, .. in this order, the messages, what was answered and told of changes, what was noted, how many events there were, and the
+-- keys of the call lines
 pub record Run : Type 0 where
   pub nodes : List Node
   pub mail : Mail
   pub printed : List Printed
   pub notes : List Note
   pub events : ℕ
+  pub called : List (List ℕ)
 
 -- before the first event: so many peers have started on empty stores
 abbrev pub opening_run : ℕ → List ℕ → Run
-opening_run peers view = record { nodes = replicate peers (opening_node view); mail = no_mail; printed = []; notes = []; events = 0 }
+opening_run peers view = record { nodes = replicate peers (opening_node view); mail = no_mail; printed = []; notes = []; events = 0; called = [] }
 
 -- the number of the event that comes after so many, up to the greatest u64
 abbrev pub next_event : ℕ → ℕ

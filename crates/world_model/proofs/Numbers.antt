@@ -1,0 +1,12 @@
+-- Numbers that count by one.
+use Rattle.std.proofs.Common.{◌≡◌, ◌+◌, ℕ, suc, arith}
+
+pub succ : (n : ℕ) → n + 1 ≡ suc n
+succ n = omega arith
+
+-- a number so far above a base, and the same above the next base
+pub shifted : (m q base : ℕ) → m ≡ suc q + base → m ≡ q + (base + 1)
+shifted m q base is = omega (arith, is)
+
+pub shifted_back : (m q base : ℕ) → m ≡ q + (base + 1) → m ≡ suc q + base
+shifted_back m q base is = omega (arith, is)
