@@ -1,5 +1,5 @@
 -- The events so far, in front of those to come.
-use Rattle.std.proofs.Common.{◌≡◌, List, [], ◌∷◌, ◌++◌, Option, None, Some, refl, sym, ap, ◌∙◌, append_assoc, append-nil}
+use Rattle.std.proofs.Common.{◌≡◌, List, [], ◌∷◌, ◌++◌, Option, None, Some, refl, sym, ap, append_assoc}
 use Rattle.replay.specs.declared.event.Event.{Event}
 use Rattle.replay.specs.Form.{before}
 

@@ -1,13 +1,12 @@
 -- The histories of the machine are legal.
-use Rattle.std.proofs.Common.{◌≡◌, ℕ, zero, suc, ◌+◌, ◌<◌, ◌≤◌, Bool, true, false, ◌&&◌, List, [], ◌∷◌, map, Some, refl, sym, ap, subst, ◌∙◌, inl, inr, ◌⊎◌, arith}
+use Rattle.std.proofs.Common.{◌≡◌, ℕ, ◌+◌, ◌<◌, ◌≤◌, Bool, true, false, ◌&&◌, List, [], ◌∷◌, Some, refl, sym, ap, subst, ◌∙◌, inl, inr, arith}
 use Rattle.std.specs.Prelude.{if◌then◌else◌, slice_get}
 use Rattle.ens_base.specs.Lists.{◌∈◌, AreDistinct, same_bytes}
 use Rattle.ens_base.specs.declared.epoch.Version.{Version}
 use Rattle.ens_base.specs.declared.command.Command.TheVariants.{Get, Over}
 use Rattle.ens_base.specs.declared.reply.Reply.{Reply}
-use Rattle.ens_base.specs.declared.reply.Reply.TheVariants as Reply
 use Rattle.register_model.specs.Registers.{Steps, stamps_after}
-use Rattle.register_model.specs.Histories.{IsDone, IsRefused, MayHave, RunsFrom, StandsBefore, IsLegal}
+use Rattle.register_model.specs.Histories.{IsDone, IsRefused, MayHave, RunsFrom, IsLegal}
 use Rattle.register_model.specs.declared.register.Register.{Register}
 use Rattle.register_model.specs.declared.register.Register.TheVariants.{Absent, Present}
 use Rattle.register_model.specs.declared.call.Call.{Call}
@@ -22,8 +21,7 @@ use Rattle.replay.specs.Machine.{Machine, start, leads, stamp_of, set_register, 
 use Rattle.replay.proofs.Lookups.{bytes_same}
 use Rattle.replay.proofs.Printed.{same_itself}
 use Rattle.replay.proofs.Machines.{taken, not_taken}
-use Rattle.replay.proofs.Members.{in-map}
-use Rattle.replay.proofs.Serving.{ids, serve, in-ids, serve-cases, served-later, served-here, serve-distinct, both, and_true, of_call, completed_call, refused_call, before_call}
+use Rattle.replay.proofs.Serving.{ids, serve, in-ids, serve-distinct, both, and_true, of_call, completed_call, refused_call, before_call}
 
 -- an answer is to a call of the same event
 pub answered : (m : Machine) (n : ℕ) (events : List Event) (a : Answer) → a ∈ answers_from m n events → (c : Call) × (c ∈ calls_from n events) × (c.id ≡ a.id) × (c.event ≡ a.event)

@@ -8,3 +8,4 @@ pub mod Parts
 pub mod Reached
 pub mod FormSteps
 pub mod Forms
+pub mod Unread

@@ -1,5 +1,5 @@
 -- Machines with equal registers are equal.
-use Rattle.std.proofs.Common.{◌≡◌, ℕ, Bool, true, false, List, refl, sym, ap, ◌∙◌}
+use Rattle.std.proofs.Common.{◌≡◌, ℕ, Bool, true, false, List, refl}
 use Rattle.std.specs.Prelude.{if◌then◌else◌}
 use Rattle.ens_base.specs.Lists.{same_bytes}
 use Rattle.register_model.specs.declared.register.Register.{Register}

@@ -1,7 +1,7 @@
 -- The map of keys gives the histories that are printed.
-use Rattle.std.proofs.Common.{◌≡◌, ℕ, ◌+◌, Bool, true, false, ◌||◌, List, [], ◌∷◌, ◌++◌, Option, None, Some, map, refl, sym, ap, subst, ◌∙◌, inl, inr, ◌⊎◌, arith}
+use Rattle.std.proofs.Common.{◌≡◌, ℕ, ◌+◌, Bool, true, false, ◌||◌, List, [], ◌∷◌, ◌++◌, Option, None, Some, map, refl, sym, ap, subst, ◌∙◌, inl, inr, ◌⊎◌}
 use Rattle.std.specs.Prelude.{is_some}
-use Rattle.std.specs.BTreeMap.{get, BTreeMap, IsOrdered, keys}
+use Rattle.std.specs.BTreeMap.{get, IsOrdered}
 use Rattle.std.specs.List.Sorted.{IsStrictlySortedBy}
 use Rattle.std.proofs.lemmas.Cmp.{nat_list_cmp_total}
 use Rattle.std.proofs.lemmas.Map.Lookups.{exact_bytes}
@@ -17,7 +17,7 @@ use Rattle.replay.specs.declared.keys.Keys.{Keys}
 use Rattle.replay.specs.declared.keys.KeyState.{KeyState}
 use Rattle.replay.specs.Events.{calls_from}
 use Rattle.replay.specs.Keys.{served_in, served_of, is_known, history_at}
-use Rattle.replay.specs.Machine.{start, history_from, named, names}
+use Rattle.replay.specs.Machine.{start, history_from, named}
 use Rattle.replay.specs.Histories.{AreHistories}
 use Rattle.replay.proofs.Lookups.{bytes_same}
 use Rattle.replay.proofs.Members.{in_from_Contains, Contains_from_in, in-map, from_map}

@@ -1,5 +1,5 @@
 -- The events of the form of schedule that the machine runs: ticks, gets and overwrites at one peer.
-use Rattle.std.specs.Prelude.{◌≡◌, ℕ, ◌+◌, List, [], ◌∷◌}
+use Rattle.std.specs.Prelude.{ℕ, ◌+◌, List, [], ◌∷◌}
 use Rattle.ens_base.specs.declared.command.Command.TheVariants.{Get, Over}
 use Rattle.register_model.specs.declared.call.Call.{Call}
 use Rattle.replay.specs.declared.event.Event.{Event}

@@ -1,5 +1,5 @@
 -- The schedules that the machine runs: one peer, and events that are ticks, gets and overwrites.
-use Rattle.std.specs.Prelude.{◌≡◌, ◌==◌, List, [], ◌∷◌, Option, None, Some, if◌then◌else◌}
+use Rattle.std.specs.Prelude.{◌==◌, List, [], ◌∷◌, Option, None, Some, if◌then◌else◌}
 use Rattle.ens_base.specs.declared.command.Command.TheVariants as does
 use Rattle.schedule_text.specs.declared.event.ScheduleEvent.{ScheduleEvent}
 use Rattle.schedule_text.specs.declared.event.ScheduleEvent.TheVariants as line

@@ -1,5 +1,5 @@
 -- The histories that are printed: one for each key that a call named.
-use Rattle.std.specs.Prelude.{◌≡◌, ℕ, List, map}
+use Rattle.std.specs.Prelude.{◌≡◌, List, map}
 use Rattle.std.specs.List.Sorted.{IsStrictlySortedBy}
 use Rattle.ens_base.specs.Lists.{◌∈◌, bytes_cmp}
 use Rattle.register_model.specs.declared.call.Call.{Call}

@@ -7,7 +7,6 @@ use Rattle.schedule_text.specs.declared.error.ScheduleError.TheVariants as sched
 use Rattle.schedule_text.specs.declared.schedule.Schedule.{Schedule}
 use Rattle.ens_base.specs.Lists.{◌∈◌}
 use Rattle.ens_base.specs.declared.status.Status.{Status}
-use Rattle.ens_base.specs.declared.status.Status.TheVariants as Status
 use Rattle.register_model.specs.Histories.{IsLegal}
 use Rattle.register_model.specs.declared.history.History.{History}
 use Rattle.replay.specs.declared.event.Event.{Event}
@@ -59,10 +58,21 @@ IsLineLimit source text = IfSome source (λ bytes. schedule_of bytes ≡ Err sch
 abbrev pub IsMessageLimit : Option (List ℕ) → List ℕ → Type 0
 IsMessageLimit source text = IfSome source IsPastLimit × (text ≡ codes "limit messages 500000" ++ 10 ∷ [])
 
+-- the first bad line of the bytes, and its cause, and the text says so
+abbrev pub IsBadLine : Option (List ℕ) → List ℕ → Type 0
+IsBadLine source text = (line : ℕ) × (cause : ℕ) × IfSome source (λ bytes. schedule_of bytes ≡ Err (schedule.Bad line cause)) × (text ≡ bad_line line cause)
+
+-- the text where no schedule was read, by the status
+abbrev pub IsUnread : Option (List ℕ) → Status → List ℕ → Type 0
+IsUnread source Status.Schedule text = IsBadLine source text
+IsUnread source Status.Limit text = IsLineLimit source text
+IsUnread source Status.ReadFault text = text ≡ codes "read fault" ++ 10 ∷ []
+IsUnread source status text = ⊥
+
 -- the text with which a replay of these bytes ends, by its status; it ends with no other status than these, but for a fault of the output
 abbrev pub Prints : Option (List ℕ) → Status → List ℕ → Type 0
 Prints source Status.Done text = IfSome source (λ bytes. IsReplay bytes text)
-Prints source Status.Schedule text = (line : ℕ) × (cause : ℕ) × IfSome source (λ bytes. schedule_of bytes ≡ Err (schedule.Bad line cause)) × (text ≡ bad_line line cause)
+Prints source Status.Schedule text = IsBadLine source text
 Prints source Status.Limit text = IsLineLimit source text ⊎ IsMessageLimit source text
 Prints source Status.Unbuilt text = IfSome source IsUnbuilt × (text ≡ codes "unbuilt" ++ 10 ∷ [])
 Prints source Status.ReadFault text = text ≡ codes "read fault" ++ 10 ∷ []

@@ -1,5 +1,5 @@
 -- What the map of keys holds.
-use Rattle.std.specs.Prelude.{◌≡◌, ℕ, Bool, List, [], Option, None, Some, is_some}
+use Rattle.std.specs.Prelude.{ℕ, Bool, List, [], Option, None, Some, is_some}
 use Rattle.std.specs.BTreeMap.{get}
 use Rattle.ens_base.specs.Lists.{bytes_cmp}
 use Rattle.register_model.specs.declared.register.Register.{Register}

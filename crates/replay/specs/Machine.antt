@@ -1,9 +1,8 @@
 -- The machine that answers: one peer, which leads from its sixth tick on.
-use Rattle.std.specs.Prelude.{◌≡◌, ℕ, ◌+◌, ◌&&◌, ◌||◌, min, Bool, false, nat_le, if◌then◌else◌, List, [], ◌∷◌}
+use Rattle.std.specs.Prelude.{ℕ, ◌+◌, ◌&&◌, ◌||◌, min, Bool, false, nat_le, if◌then◌else◌, List, [], ◌∷◌}
 use Rattle.ens_base.specs.Lists.{same_bytes}
 use Rattle.ens_base.specs.declared.epoch.Version.{Version}
 use Rattle.ens_base.specs.declared.reply.Reply.{Reply}
-use Rattle.ens_base.specs.declared.reply.Reply.TheVariants as Reply
 use Rattle.register_model.specs.declared.register.Register.{Register}
 use Rattle.register_model.specs.declared.register.Register.TheVariants.{Absent, Present}
 use Rattle.register_model.specs.declared.answer.Answer.{Answer}

@@ -4,7 +4,6 @@ use Rattle.std.specs.List.{flat_map}
 use Rattle.std.specs.Fmt.{decimal}
 use Rattle.ens_base.specs.Words.{version_word, bytes_word, value_word}
 use Rattle.ens_base.specs.declared.reply.Reply.{Reply}
-use Rattle.ens_base.specs.declared.reply.Reply.TheVariants as Reply
 use Rattle.register_model.specs.declared.answer.Answer.{Answer}
 use Rattle.register_model.specs.declared.history.History.{History}
 use Rattle.register_model.specs.declared.printed.Printed.{Printed}

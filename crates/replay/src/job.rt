@@ -9,8 +9,9 @@ ghost use Rattle.replay.specs.Form.{form_of};
 ghost use Rattle.replay.specs.Jobs.{EndsSo, IsMachineText, Prints};
 
 use crate::elections::{election_text, is_election};
+use crate::ending::Ending;
 use crate::form::form_of;
-use crate::read::{ReadError, read_schedule};
+use crate::read::read_schedule;
 use crate::run::run;
 use crate::text::write_text;
 use ens_base::Status;
@@ -29,22 +30,6 @@ fn machine_text(alloc: Global, schedule: Schedule) -> Result<Option<String>, All
     Ok(Some(write_text(alloc, &record.answers, &record.histories)?))
 }
 
-/// What a job ends with.
-#[derive(Drop)]
-struct Ending {
-    status: Status,
-    text: String,
-}
-
-fn ending_with(alloc: Global, status: Status, text: &str) -> Result<Ending, AllocError>
-    ensures { IfOk result (λ e. (e.status ≡ status) × (string_bytes e.text ≡ text.now)) }
-{
-    Ok(Ending {
-        status,
-        text: String::from_str(alloc, text)?,
-    })
-}
-
 /// The run of a schedule of elections in a world, or that it would send too many messages.
 fn election_ending(alloc: Global, schedule: &Schedule) -> Result<Ending, AllocError>
     requires valid { IsSchedule schedule.now }
@@ -57,7 +42,7 @@ fn election_ending(alloc: Global, schedule: &Schedule) -> Result<Ending, AllocEr
             status: Status::Done,
             text,
         }),
-        None => ending_with(alloc, Status::Limit, "limit messages 500000\n"),
+        None => Ending::new(alloc, Status::Limit, "limit messages 500000\n"),
     }
 }
 
@@ -73,7 +58,7 @@ fn machine_ending(alloc: Global, schedule: Schedule) -> Result<Ending, AllocErro
             status: Status::Done,
             text,
         }),
-        None => ending_with(alloc, Status::Unbuilt, "unbuilt\n"),
+        None => Ending::new(alloc, Status::Unbuilt, "unbuilt\n"),
     }
 }
 
@@ -90,6 +75,7 @@ fn run_ending(alloc: Global, schedule: Schedule) -> Result<Ending, AllocError>
 }
 
 /// What a replay of the input ends with, but for want of memory.
+#[tactic(auto, using(crate::proofs::Unread::unread_prints))]
 fn replay_ending<S: Source>(alloc: Global, input: &mut S) -> Result<Ending, AllocError>
     ensures printed { IfOk result (λ e. Prints (S.left input.old) e.status (string_bytes e.text)) }
     ensures end { IfOk result (λ e. e.status ≡ Status.Done → IsAtEnd (S.left input.new)) }
@@ -97,13 +83,7 @@ fn replay_ending<S: Source>(alloc: Global, input: &mut S) -> Result<Ending, Allo
 {
     match read_schedule(alloc, input) {
         Ok(schedule) => run_ending(alloc, schedule),
-        Err(ReadError::Failed) => ending_with(alloc, Status::ReadFault, "read fault\n"),
-        Err(ReadError::Bad { line, cause }) => Ok(Ending {
-            status: Status::Schedule,
-            text: format!(in alloc; "schedule {line} {cause}\n")?,
-        }),
-        Err(ReadError::Lines) => ending_with(alloc, Status::Limit, "limit lines 200000\n"),
-        Err(ReadError::Memory) => Err(AllocError),
+        Err(error) => Ending::unread(alloc, error),
     }
 }
 

@@ -9,6 +9,7 @@
 #![tactic(auto)]
 
 mod elections;
+mod ending;
 mod event;
 mod form;
 mod job;
@@ -19,6 +20,7 @@ mod runner;
 mod text;
 
 pub use elections::is_election;
+pub use ending::Ending;
 pub use event::Event;
 pub use job::replay;
 pub use read::{ReadError, read_schedule};

@@ -1,24 +1,15 @@
 -- What a trace prints, and why it ends as it does.
-use Rattle.std.specs.Prelude.{◌≡◌, ◌⊎◌, ℕ, true, false, List, [], ◌∷◌, ◌++◌, codes, Option, Ok, Err, IfSome}
+use Rattle.std.specs.Prelude.{◌≡◌, ◌⊎◌, ℕ, true, false, List, [], ◌∷◌, ◌++◌, codes, Option, Ok, IfSome}
 use Rattle.ens_base.specs.declared.status.Status.{Status}
-use Rattle.replay.specs.Elections.{IsPastMessages, IsWithinMessages, is_election, schedule_run}
-use Rattle.replay.specs.Jobs.{bad_line}
+use Rattle.replay.specs.Elections.{IsWithinMessages, is_election, schedule_run}
+use Rattle.replay.specs.Jobs.{IsBadLine, IsLineLimit, IsMessageLimit}
 use Rattle.schedule_text.specs.Reading.{schedule_of}
-use Rattle.schedule_text.specs.declared.error.ScheduleError.TheVariants as schedule
 use Rattle.schedule_text.specs.declared.schedule.Schedule.{Schedule}
 use Rattle.trace.specs.Text.{trace_text}
 
 -- the bytes are a schedule of elections, whose run sends no more messages than are ever sent, and the text tells them
 abbrev pub IsTrace : List ℕ → List ℕ → Type 0
 IsTrace bytes text = (s : Schedule) × (schedule_of bytes ≡ Ok s) × (is_election s ≡ true) × IsWithinMessages (schedule_run s) × (text ≡ trace_text (schedule_run s).mail.sent)
-
--- the bytes are a schedule of elections, whose run sends more
-abbrev pub HasManyMessages : List ℕ → Type 0
-HasManyMessages bytes = (s : Schedule) × (schedule_of bytes ≡ Ok s) × (is_election s ≡ true) × IsPastMessages (schedule_run s)
-
--- the bytes are more lines than a schedule may have, none of them bad
-abbrev pub HasManyLines : List ℕ → Type 0
-HasManyLines bytes = schedule_of bytes ≡ Err schedule.Lines
 
 -- the bytes are a schedule with another line
 abbrev pub IsUnbuilt : List ℕ → Type 0
@@ -27,10 +18,8 @@ IsUnbuilt bytes = (s : Schedule) × (schedule_of bytes ≡ Ok s) × (is_election
 -- the text with which a trace of these bytes ends, by its status; it ends with no other status than these, but for a fault of the output
 abbrev pub Traces : Option (List ℕ) → Status → List ℕ → Type 0
 Traces source Status.Done text = IfSome source (λ bytes. IsTrace bytes text)
-Traces source Status.Schedule text = (line : ℕ) × (cause : ℕ) × IfSome source (λ bytes. schedule_of bytes ≡ Err (schedule.Bad line cause)) × (text ≡ bad_line line cause)
-Traces source Status.Limit text =
-    (IfSome source HasManyLines × (text ≡ codes "limit lines 200000" ++ 10 ∷ []))
-    ⊎ (IfSome source HasManyMessages × (text ≡ codes "limit messages 500000" ++ 10 ∷ []))
+Traces source Status.Schedule text = IsBadLine source text
+Traces source Status.Limit text = IsLineLimit source text ⊎ IsMessageLimit source text
 Traces source Status.Unbuilt text = IfSome source IsUnbuilt × (text ≡ codes "unbuilt" ++ 10 ∷ [])
 Traces source Status.ReadFault text = text ≡ codes "read fault" ++ 10 ∷ []
 Traces source Status.Memory text = text ≡ codes "memory" ++ 10 ∷ []

@@ -4,8 +4,6 @@ ghost use Rattle.ens_base.specs.Causes.{Rose};
 ghost use Rattle.ens_base.specs.declared.status.Status.{Status};
 ghost use Rattle.ens_outside.specs.Written.{AppendsFront};
 ghost use Rattle.replay.specs.Elections.{IsPastMessages, IsWithinMessages, schedule_run};
-ghost use Rattle.replay.specs.Reading.{Refuses};
-ghost use Rattle.schedule_text.specs.Progress.{Blank};
 ghost use Rattle.schedule_text.specs.Reading.{schedule_of};
 ghost use Rattle.schedule_text.specs.Spelling.{IsSchedule};
 ghost use Rattle.trace.specs.Jobs.{Traces};
@@ -15,7 +13,7 @@ use crate::text::write_trace;
 use ens_base::Status;
 use ens_hashing::PlainHasher;
 use ens_outside::{Sink, Source, finish};
-use replay::{ReadError, is_election, read_schedule};
+use replay::{Ending, is_election, read_schedule};
 use schedule_text::Schedule;
 use std::alloc::{AllocError, Global};
 use world_model::{World, WorldError};
@@ -34,21 +32,6 @@ fn run_text(alloc: Global, schedule: &Schedule) -> Result<Option<String>, AllocE
     }
 }
 
-/// What a trace ends with.
-#[derive(Drop)]
-struct Ending {
-    status: Status,
-    text: String,
-}
-
-/// An ending with this text.
-fn ending_with(alloc: Global, status: Status, text: &str) -> Result<Ending, AllocError>
-    ensures { IfOk result (λ e. (e.status ≡ status) × (string_bytes e.text ≡ text.now)) }
-{
-    let text = String::from_str(alloc, text)?;
-    Ok(Ending { status, text })
-}
-
 /// The messages of a schedule, or why they are not told.
 fn run_ending(alloc: Global, schedule: &Schedule) -> Result<Ending, AllocError>
     requires { IsSchedule schedule.now }
@@ -56,34 +39,19 @@ fn run_ending(alloc: Global, schedule: &Schedule) -> Result<Ending, AllocError>
     ensures status { IfOk result (λ e. e.status ≢ Status.ReadFault) }
 {
     if !is_election(schedule) {
-        return ending_with(alloc, Status::Unbuilt, "unbuilt\n");
+        return Ending::new(alloc, Status::Unbuilt, "unbuilt\n");
     }
     match run_text(alloc, schedule)? {
         Some(text) => Ok(Ending {
             status: Status::Done,
             text,
         }),
-        None => ending_with(alloc, Status::Limit, "limit messages 500000\n"),
-    }
-}
-
-/// What is said where no schedule was read, but for want of memory.
-fn refusal(alloc: Global, error: ReadError) -> Result<Ending, AllocError>
-    ensures printed { IfOk result (λ e. (source : Option (List ℕ)) → Refuses source Blank error → Traces source e.status (string_bytes e.text)) }
-    ensures status { IfOk result (λ e. (e.status ≢ Status.Done) × (e.status ≡ Status.ReadFault → error ≡ ReadError.Failed)) }
-{
-    match error {
-        ReadError::Failed => ending_with(alloc, Status::ReadFault, "read fault\n"),
-        ReadError::Bad { line, cause } => Ok(Ending {
-            status: Status::Schedule,
-            text: format!(in alloc; "schedule {line} {cause}\n")?,
-        }),
-        ReadError::Lines => ending_with(alloc, Status::Limit, "limit lines 200000\n"),
-        ReadError::Memory => Err(AllocError),
+        None => Ending::new(alloc, Status::Limit, "limit messages 500000\n"),
     }
 }
 
 /// What a trace of the input ends with, but for want of memory.
+#[tactic(auto, using(crate::proofs::Unread::unread_traces))]
 fn trace_ending<S: Source>(alloc: Global, input: &mut S) -> Result<Ending, AllocError>
     ensures printed { IfOk result (λ e. Traces (S.left input.old) e.status (string_bytes e.text)) }
     ensures end { IfOk result (λ e. e.status ≡ Status.Done → IsAtEnd (S.left input.new)) }
@@ -91,7 +59,7 @@ fn trace_ending<S: Source>(alloc: Global, input: &mut S) -> Result<Ending, Alloc
 {
     match read_schedule(alloc, input) {
         Ok(schedule) => run_ending(alloc, &schedule),
-        Err(error) => refusal(alloc, error),
+        Err(error) => Ending::unread(alloc, error),
     }
 }
 

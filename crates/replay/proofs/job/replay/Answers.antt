@@ -1,4 +1,4 @@
-use Rattle.std.proofs.Common.{◌≡◌, refl}
+use Rattle.std.proofs.Common.{refl}
 use Rattle.ens_base.specs.declared.status.Status.TheVariants as Status
 use Rattle.replay.proofs.job.replay.Goals as goal
 

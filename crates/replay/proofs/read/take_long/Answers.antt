@@ -1,4 +1,4 @@
-use Rattle.std.proofs.Common.{ℕ, ◌<◌, length, replicate, arith}
+use Rattle.std.proofs.Common.{ℕ, replicate, arith}
 use Rattle.std.proofs.lemmas.List.{length-replicate}
 use Rattle.replay.proofs.Parts.{long_refuses, long_errs}
 use Rattle.replay.proofs.read.take_long.Goals as goal

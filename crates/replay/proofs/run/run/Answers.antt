@@ -1,8 +1,5 @@
-use Rattle.std.proofs.Common.{◌≡◌, ℕ, List, [], ◌∷◌, ◌++◌, ◌||◌, length, refl, arith}
+use Rattle.std.proofs.Common.{◌≡◌, List, [], ◌∷◌, length, refl, arith}
 use Rattle.std.specs.Vec.Iter.{into_iter_items}
-use Rattle.replay.specs.Keys.{served_in, is_known}
-use Rattle.replay.specs.Machine.{start, history_from, named}
-use Rattle.replay.specs.Runner.{model_of}
 use Rattle.replay.proofs.Printed.{are_histories}
 use Rattle.replay.proofs.Legal.{all_legal}
 use Rattle.replay.proofs.run.run.Goals as goal

@@ -1,4 +1,4 @@
-use Rattle.std.proofs.Common.{◌≡◌, refl, sym, ◌∙◌}
+use Rattle.std.proofs.Common.{refl, sym, ◌∙◌}
 use Rattle.replay.proofs.Lookups.{get_inserted, none_there, register_opened, served_opened, known_opened}
 use Rattle.replay.proofs.keys.Keys.open.Goals as goal
 

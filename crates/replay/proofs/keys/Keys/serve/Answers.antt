@@ -1,4 +1,4 @@
-use Rattle.std.proofs.Common.{refl, ◌++◌, ◌∷◌, []}
+use Rattle.std.proofs.Common.{refl, ◌∷◌, []}
 use Rattle.replay.proofs.Lookups.{get_written, some_there, register_kept, served_pushed, known_kept}
 use Rattle.replay.specs.declared.keys.KeyState.{KeyState}
 use Rattle.replay.proofs.keys.Keys.serve.Goals as goal
