@@ -20,6 +20,3 @@ pub use laws::{
     a_ballot_only_rises, a_quorum_elects, a_quorum_lets_lead, the_base_is_the_newest_promised,
 };
 pub use preparing::rule_10;
-
-#[cfg(test)]
-mod tests;

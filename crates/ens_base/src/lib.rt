@@ -41,6 +41,3 @@ pub use value::Value;
 pub use view::{View, ViewError};
 pub use views::Views;
 pub use words::{push_bytes, push_value};
-
-#[cfg(test)]
-mod tests;

@@ -17,6 +17,3 @@ pub use digest::digest_of;
 pub use error::HashError;
 pub use hasher::Hasher16;
 pub use plain::PlainHasher;
-
-#[cfg(test)]
-mod tests;

@@ -37,10 +37,3 @@ pub use sink::{Sink, write_all};
 pub use source::Source;
 pub use stdio::{Reading, Writing};
 pub use ticker::Ticker;
-
-#[cfg(test)]
-mod link_tests;
-#[cfg(test)]
-mod store_tests;
-#[cfg(test)]
-mod tests;

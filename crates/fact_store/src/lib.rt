@@ -17,6 +17,3 @@ pub use file::FactFile;
 pub use keeper::FactKeeper;
 pub use kept::Kept;
 pub use memory::MemFacts;
-
-#[cfg(test)]
-mod tests;

@@ -21,6 +21,3 @@ pub use follower::Follower;
 pub use laws::{ballots_never_fall, damage_ends_trust, distrust_waits, epochs_are_accepted};
 pub use puts::rule_22;
 pub use requests::{rule_20, rule_21, rule_23};
-
-#[cfg(test)]
-mod tests;

@@ -13,6 +13,3 @@ mod scribe;
 mod told;
 
 pub use scribe::Scribe;
-
-#[cfg(test)]
-mod tests;

@@ -16,6 +16,3 @@ pub use answers::{refuse, refuse_below, save_and_send, send, silent};
 pub use laws::tests_are_the_orders;
 pub use orders::{is_below, is_newer, may_accept};
 pub use peers::{alone, is_member, joined, members, others_of, others_outside, with_members};
-
-#[cfg(test)]
-mod tests;

@@ -12,6 +12,3 @@ mod probing;
 
 pub use laws::{a_quorum_was_heard, the_best_is_the_newest_heard};
 pub use probing::{Probing, rule_7, rule_8_probe};
-
-#[cfg(test)]
-mod tests;

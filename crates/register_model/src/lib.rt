@@ -20,6 +20,3 @@ pub use history::History;
 pub use note::Note;
 pub use printed::Printed;
 pub use register::Register;
-
-#[cfg(test)]
-mod tests;

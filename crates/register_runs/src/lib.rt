@@ -18,6 +18,3 @@ mod walk;
 pub use error::RunError;
 pub use places::are_distinct;
 pub use run::is_run;
-
-#[cfg(test)]
-mod tests;

@@ -31,6 +31,3 @@ pub use refused::Refused;
 pub use slot::Slot;
 pub use slot_file::{RECORD_LIMIT, SlotFile};
 pub use step::{Room, Step};
-
-#[cfg(test)]
-mod tests;

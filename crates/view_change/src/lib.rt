@@ -13,6 +13,3 @@ mod laws;
 pub use changes::{rule_24, rule_25};
 pub use finishing::Finishing;
 pub use laws::{changes_keep_the_epoch, epochs_end_by_quorums};
-
-#[cfg(test)]
-mod tests;

@@ -1,5 +1,5 @@
-use crate::{FactFile, FactKeeper, KeepError, Kept, MemFacts};
 use ens_base::{Epoch, PeerId, View};
+use fact_store::{FactFile, FactKeeper, KeepError, Kept, MemFacts};
 use peer_fact::{Change, Fact, FactError};
 use slot_disk::{Disk, Failing, Image, MemDisk, Room};
 use std::alloc::Global;

@@ -1,5 +1,10 @@
-use super::*;
+use super::{fact, joint, refuses, tells};
+use crate::builders::{Answer, Said, epoch, silent, summary};
+use ens_base::{Epoch, PeerId};
+use following::{rule_16, rule_18, rule_19};
+use peer_fact::Fact;
 use std::test::Fail;
+use wire_frames::{NackCause, Then};
 
 fn announce(fact: &Fact, me: u32, trusted: bool, sync_runs: bool, new: &Fact) -> Answer {
     summary(rule_16(*fact, PeerId(me), trusted, sync_runs, PeerId(4), *new))
@@ -139,7 +144,7 @@ fn a_commit_is_saved_once_and_acknowledged_each_time(rt: HostRuntime) -> Result<
 #[test]
 fn a_commit_that_is_not_taken(rt: HostRuntime) -> Result<(), Fail> {
     let second = fact(epoch(3, 2), epoch(3, 2), 2)?;
-    let untrusted = Said::Refused(epoch(3, 2), NackCause::Untrusted);
+    let untrusted = Said::Nack(epoch(3, 2), NackCause::Untrusted);
     for (accepted, trusted, expected) in [
         (epoch(2, 2), true, silent(Then::Stay)),
         (epoch(2, 2), false, silent(Then::Stay)),

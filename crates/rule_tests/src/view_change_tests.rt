@@ -1,11 +1,12 @@
 ghost use Rattle.ens_base.specs.View.{IsPeer};
 
-use super::*;
+use crate::builders::{Answer, Said, silent, summary};
 use ens_base::{Epoch, PeerId, PeerSet, View, ViewError, Views};
 use peer_fact::{Change, Fact};
 use phase_rows::{alone, joined};
 use std::test::Fail;
-use wire_frames::{Message, PhaseOut, Then};
+use view_change::{Finishing, rule_24, rule_25};
+use wire_frames::Then;
 
 /// The epoch 4.2.
 const EPOCH: Epoch = Epoch {
@@ -40,47 +41,6 @@ fn three(a: u32, b: u32, c: u32) -> PeerSet
     requires { IsPeer a × IsPeer b × IsPeer c }
 {
     joined(joined(alone(PeerId(a)), PeerId(b)), PeerId(c))
-}
-
-/// What a rule answers.
-#[derive(Clone, Copy, Debug, PartialEq, Eq)]
-struct Answer {
-    leave: bool,
-    save: Option<Fact>,
-    to: PeerSet,
-    commit: Option<Fact>,
-    then: Then,
-}
-
-/// The fact that is sent in a Commit.
-fn committed(message: &Message) -> Option<Fact> {
-    match message {
-        Message::Commit(fact) => Some(*fact),
-        _ => None,
-    }
-}
-
-fn summary(out: PhaseOut) -> Answer {
-    Answer {
-        leave: out.leave,
-        save: out.save,
-        to: out.to,
-        commit: match &out.message {
-            None => None,
-            Some(message) => committed(message),
-        },
-        then: out.then,
-    }
-}
-
-fn silent(then: Then) -> Answer {
-    Answer {
-        leave: false,
-        save: None,
-        to: PeerSet::empty(),
-        commit: None,
-        then,
-    }
 }
 
 /// Whether the request is taken, where the answer fits that.
@@ -127,7 +87,7 @@ fn a_change_begins(rt: HostRuntime) -> Result<(), Fail> {
         let expected = Answer {
             save: Some(second),
             to: joined(alone(PeerId(4)), PeerId(9)),
-            commit: Some(second),
+            said: Said::Commit(second),
             ..silent(Then::Stay)
         };
         assert!(rt; answer == expected);

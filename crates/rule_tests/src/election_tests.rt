@@ -1,28 +1,10 @@
-use super::*;
-use ens_base::{Epoch, PeerId, PeerSet, View, Views};
+use crate::builders::{Answer, Said, epoch, set, silent, summary, view};
+use election::{Election, rule_10, rule_11, rule_15};
+use ens_base::{Epoch, PeerId, PeerSet, Views};
 use peer_fact::{Change, Fact};
 use std::test::Fail;
 use tree_node::Position;
-use wire_frames::{Message, NackCause, PhaseOut, Then};
-
-fn set(numbers: &[u32]) -> PeerSet {
-    let mut set = PeerSet::empty();
-    for number in numbers {
-        if 1 <= *number && *number <= 31 {
-            set.insert(PeerId(*number));
-        }
-    }
-    set
-}
-
-fn view(numbers: &[u32; 3]) -> Result<View, Fail> {
-    let [a, b, c] = *numbers;
-    Ok(View::new(&[PeerId(a), PeerId(b), PeerId(c)])?)
-}
-
-fn epoch(count: u64, proposer: u32) -> Epoch {
-    Epoch { count, proposer }
-}
+use wire_frames::{NackCause, Then};
 
 /// The fact of number 1 in epoch 2.2, on the views 1 2 3, at ballot 7.2.
 fn saved() -> Result<Fact, Fail> {
@@ -58,60 +40,8 @@ fn starting(fact: Fact, accepts: &[u32]) -> Election {
     }
 }
 
-/// What a rule answers, in values that are copied.
-#[derive(Clone, Copy)]
-struct Answer {
-    leave: bool,
-    save: Option<Fact>,
-    to: PeerSet,
-    sends: bool,
-    word: &'static str,
-    ballot: Option<Epoch>,
-    fact: Option<Fact>,
-    greater: Option<Epoch>,
-    then: Then,
-}
-
-/// The word for the message, and the ballot or fact that it tells.
-fn told(message: &Option<Message>) -> (&'static str, Option<Epoch>, Option<Fact>) {
-    match message {
-        None => ("nothing", None, None),
-        Some(Message::Prepare(ballot)) => ("prepare", Some(*ballot), None),
-        Some(Message::Promise(ballot, fact)) => ("promise", Some(*ballot), Some(*fact)),
-        Some(Message::Nack(ballot, _cause)) => ("nack", Some(*ballot), None),
-        Some(Message::NewEpoch(fact)) => ("new epoch", None, Some(*fact)),
-        Some(_other) => ("other", None, None),
-    }
-}
-
-fn greater_in(message: &Option<Message>) -> Option<Epoch> {
-    match message {
-        Some(Message::Nack(_ballot, NackCause::Greater(ballot))) => Some(*ballot),
-        _ => None,
-    }
-}
-
-fn summary(out: PhaseOut) -> Answer {
-    let (word, ballot, fact) = told(&out.message);
-    Answer {
-        leave: out.leave,
-        save: out.save,
-        to: out.to,
-        sends: out.message.is_some(),
-        word,
-        ballot,
-        fact,
-        greater: greater_in(&out.message),
-        then: out.then,
-    }
-}
-
-fn said(out: &Answer) -> (&'static str, Option<Epoch>, Option<Fact>) {
-    (out.word, out.ballot, out.fact)
-}
-
 fn is_silent(out: &Answer, then: Then) -> bool {
-    !out.leave && out.save.is_none() && out.to == PeerSet::empty() && !out.sends && out.then == then
+    *out == silent(then)
 }
 
 #[test]
@@ -121,7 +51,7 @@ fn rule_11_promises_a_greater_ballot(rt: HostRuntime) -> Result<(), Fail> {
         let mut promised = saved()?;
         promised.ballot = ballot;
         let out = summary(rule_11(saved()?, PeerId(3), ballot));
-        assert_eq!(rt; said(&out), ("promise", Some(ballot), Some(promised)));
+        assert_eq!(rt; out.said, Said::Promise(ballot, promised));
         assert_eq!(rt; (out.leave, out.save), (true, Some(promised)));
         assert_eq!(rt; (out.to, out.then), (set(&[3]), Then::Follow));
     }
@@ -139,8 +69,8 @@ fn rule_11_promises_no_other_ballot(rt: HostRuntime) -> Result<(), Fail> {
     for (count, proposer) in [(7, 1), (6, 31), (0, 0)] {
         let ballot = epoch(count, proposer);
         let out = summary(rule_11(saved()?, PeerId(3), ballot));
-        assert_eq!(rt; said(&out), ("nack", Some(ballot), None));
-        assert_eq!(rt; out.greater, Some(epoch(7, 2)));
+        let greater = NackCause::Greater(epoch(7, 2));
+        assert_eq!(rt; out.said, Said::Nack(ballot, greater));
         assert_eq!(rt; (out.leave, out.save), (false, None));
         assert_eq!(rt; (out.to, out.then), (set(&[3]), Then::Stay));
     }
@@ -220,7 +150,7 @@ fn rule_10_prepares_the_next_ballot(rt: HostRuntime) -> Result<(), Fail> {
             age: 0,
         };
         assert_eq!(rt; entered, Some(state));
-        assert_eq!(rt; said(&out), ("prepare", Some(ballot), None));
+        assert_eq!(rt; out.said, Said::Prepare(ballot));
         assert_eq!(rt; (out.leave, out.save), (false, Some(save)));
         assert_eq!(rt; (out.to, out.then), (set(&[1, 3, 4, 5, 6]), Then::Rule(13)));
     }
@@ -295,7 +225,11 @@ fn rule_12_takes_the_newer_base(rt: HostRuntime) -> Result<(), Fail> {
             preparing(base, &[2, 3]),
             "{count} {proposer} {seq}"
         );
-        assert_eq!(rt; out.sends, newer, "{count} {proposer} {seq}");
+        assert_eq!(rt;
+            out.said != Said::Nothing,
+            newer,
+            "{count} {proposer} {seq}"
+        );
         assert_eq!(rt; (out.to, out.then), (PeerSet::empty(), Then::Rule(13)));
     }
     Ok(())
@@ -314,7 +248,7 @@ fn rule_12_asks_the_members_of_newer_views(rt: HostRuntime) -> Result<(), Fail> 
         age: 0,
     };
     assert_eq!(rt; election, after);
-    assert_eq!(rt; said(&out), ("prepare", Some(epoch(7, 2)), None));
+    assert_eq!(rt; out.said, Said::Prepare(epoch(7, 2)));
     assert_eq!(rt; (out.to, out.then), (set(&[4, 6]), Then::Rule(13)));
     Ok(())
 }
@@ -401,7 +335,7 @@ fn rule_13_starts_and_accepts(rt: HostRuntime) -> Result<(), Fail> {
         let out = summary(election.rule_13(saved()?, PeerId(me), true));
         let new = first(&base, me)?;
         assert_eq!(rt; election, starting(new, &[me]), "{me}");
-        assert_eq!(rt; said(&out), ("new epoch", None, Some(new)));
+        assert_eq!(rt; out.said, Said::NewEpoch(new));
         assert_eq!(rt; (out.leave, out.save), (false, Some(new)));
         assert_eq!(rt; (out.to, out.then), (to, Then::Rule(14)), "{me}");
     }
@@ -425,7 +359,7 @@ fn rule_13_starts_with_a_sync(rt: HostRuntime) -> Result<(), Fail> {
         let out = summary(election.rule_13(saved()?, PeerId(me), trusted));
         let new = first(&base, me)?;
         assert_eq!(rt; election, starting(new, &[]), "{me} {trusted}");
-        assert_eq!(rt; said(&out), ("new epoch", None, Some(new)));
+        assert_eq!(rt; out.said, Said::NewEpoch(new));
         assert_eq!(rt; (out.leave, out.save), (false, None));
         assert_eq!(rt;
             (out.to, out.then),
@@ -465,8 +399,12 @@ fn rule_4_insists_until_8(rt: HostRuntime) -> Result<(), Fail> {
         let (fact, accepts) = (joint()?, set(&[3, 5]));
         let mut election = Election::Starting { fact, accepts, age };
         let out = summary(election.rule_4(PeerId(2), sync_runs));
-        let told = if age < 7 { Some(fact) } else { None };
-        assert_eq!(rt; said(&out).2, told, "{age}");
+        let told = if age < 7 {
+            Said::NewEpoch(fact)
+        } else {
+            Said::Nothing
+        };
+        assert_eq!(rt; out.said, told, "{age}");
         assert_eq!(rt; (out.save, out.to, out.then), (None, to, then), "{age}");
         assert_eq!(rt;
             election,

@@ -1,10 +1,12 @@
-use super::*;
-use ens_base::{Digest, Entry, Key};
+use super::{fact, refuses, tells};
+use crate::builders::{Answer, Said, epoch, silent, summary};
+use ens_base::{Digest, Entry, Epoch, Key, PeerId, Version};
 use ens_object::Object;
+use following::rule_22;
 use std::alloc::Global;
 use std::test::Fail;
 use tree_node::Position;
-use wire_frames::Seen;
+use wire_frames::{NackCause, Seen, Then};
 
 fn version(count: u64, proposer: u32, seq: u64) -> Version {
     Version {
@@ -48,7 +50,7 @@ fn put(alloc: Global, trusted: bool, d: Epoch, seen: Seen) -> Result<Answer, Fai
 
 /// The object is acknowledged.
 fn written(then: Then) -> Answer {
-    tells(Said::Written(epoch(4, 2), version(4, 2, 5)), then)
+    tells(Said::PutReply(epoch(4, 2), version(4, 2, 5)), then)
 }
 
 #[test]
@@ -86,7 +88,7 @@ fn damaged(place: Position) -> Answer {
     Answer {
         leave: true,
         ..tells(
-            Said::Refused(epoch(4, 2), NackCause::Damaged(place)),
+            Said::Nack(epoch(4, 2), NackCause::Damaged(place)),
             Then::Untrust,
         )
     }
@@ -103,7 +105,7 @@ fn a_put_on_a_damaged_path(rt: HostRuntime) -> Result<(), Fail> {
 
 #[test]
 fn a_put_that_is_not_taken(rt: HostRuntime) -> Result<(), Fail> {
-    let untrusted = tells(Said::Refused(epoch(4, 2), NackCause::Untrusted), Then::Stay);
+    let untrusted = tells(Said::Nack(epoch(4, 2), NackCause::Untrusted), Then::Stay);
     for (d, trusted, expected) in [
         (epoch(4, 1), true, refuses(epoch(4, 1), epoch(4, 2))),
         (epoch(4, 2), false, untrusted),

@@ -1,4 +1,4 @@
-use super::*;
+use ens_base::*;
 use std::test::Fail;
 
 fn view(members: &[u32]) -> Result<View, ViewError> {

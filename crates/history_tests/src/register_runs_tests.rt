@@ -1,6 +1,6 @@
-use super::*;
 use ens_base::{Command, Epoch, Key, Reply, Value, Version};
 use register_model::{Answer, Call};
+use register_runs::*;
 use std::alloc::Global;
 use std::test::Fail;
 

@@ -1,5 +1,5 @@
-use crate::{Backend, FailingCall, Leaves, MemBackend, MemNodes, NodeStore, StoreError};
 use ens_base::{Digest, Key};
+use ens_outside::{Backend, FailingCall, Leaves, MemBackend, MemNodes, NodeStore, StoreError};
 use std::alloc::{AllocError, Global};
 use std::test::Fail;
 

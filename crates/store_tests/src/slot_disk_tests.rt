@@ -1,5 +1,5 @@
-use crate::{Disk, Failing, Image, MemDisk, Room, SlotError, SlotFile};
 use ens_base::Failed;
+use slot_disk::{Disk, Failing, Image, MemDisk, Room, SlotError, SlotFile};
 use std::alloc::Global;
 use std::test::Fail;
 

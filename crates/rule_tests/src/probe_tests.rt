@@ -1,23 +1,9 @@
-use super::*;
-use ens_base::{Epoch, PeerId, PeerSet, View, Views};
+use crate::builders::{Said, set, summary, view};
+use ens_base::{Epoch, PeerId, PeerSet, Views};
 use peer_fact::Fact;
+use probe::{Probing, rule_7, rule_8_probe};
 use std::test::Fail;
-use wire_frames::{Message, PhaseOut, Then};
-
-fn set(numbers: &[u32]) -> PeerSet {
-    let mut set = PeerSet::empty();
-    for number in numbers {
-        if 1 <= *number && *number <= 31 {
-            set.insert(PeerId(*number));
-        }
-    }
-    set
-}
-
-fn view(numbers: &[u32; 3]) -> Result<View, Fail> {
-    let [a, b, c] = *numbers;
-    Ok(View::new(&[PeerId(a), PeerId(b), PeerId(c)])?)
-}
+use wire_frames::Then;
 
 /// The fact of number 1 in epoch 2.2, on the views 1 2 3, at ballot 7.1.
 fn saved() -> Result<Fact, Fail> {
@@ -45,33 +31,6 @@ fn started(me: u32) -> Result<Probing, Fail> {
     Ok(probing)
 }
 
-/// What a rule answers, in values that are copied.
-#[derive(Clone, Copy)]
-struct Answer {
-    leave: bool,
-    save: Option<Fact>,
-    to: PeerSet,
-    asks: bool,
-    told: Option<Fact>,
-    then: Then,
-}
-
-fn summary(out: PhaseOut) -> Answer {
-    let (asks, told) = match &out.message {
-        Some(Message::Probe) => (true, None),
-        Some(Message::ProbeReply(fact)) => (false, Some(*fact)),
-        _ => (false, None),
-    };
-    Answer {
-        leave: out.leave,
-        save: out.save,
-        to: out.to,
-        asks,
-        told,
-        then: out.then,
-    }
-}
-
 #[test]
 fn rule_3_begins_anew_at_6(rt: HostRuntime) -> Result<(), Fail> {
     for (age, then) in [(0, Then::Stay), (4, Then::Stay), (5, Then::Rule(7))] {
@@ -91,7 +50,7 @@ fn rule_7_asks_the_others(rt: HostRuntime) -> Result<(), Fail> {
     let out = summary(given);
     assert_eq!(rt; state, Some(started(2)?));
     assert_eq!(rt; out.to, set(&[1, 3]));
-    assert!(rt; out.asks);
+    assert_eq!(rt; out.said, Said::Probe);
     assert_eq!(rt;
         (out.leave, out.save, out.then),
         (false, None, Then::Rule(9))
@@ -136,7 +95,7 @@ fn rule_8_takes_the_newer_fact(rt: HostRuntime) -> Result<(), Fail> {
             best.seq = seq;
         }
         assert_eq!(rt; probing.best, best, "{count} {proposer} {seq}");
-        assert_eq!(rt; out.asks, newer, "{count} {proposer} {seq}");
+        assert_eq!(rt; out.said == Said::Probe, newer, "{count} {proposer} {seq}");
         assert_eq!(rt; (out.to, out.then), (PeerSet::empty(), Then::Rule(9)));
         assert_eq!(rt; probing.heard, set(&[1, 3]));
     }
@@ -163,7 +122,7 @@ fn rule_8_asks_the_members_of_newer_views(rt: HostRuntime) -> Result<(), Fail> {
     reply.views = Views::two(view(&[3, 4, 5])?, view(&[1, 3, 6])?);
     let mut probing = started(4)?;
     let out = summary(probing.rule_8(PeerId(4), PeerId(2), reply));
-    assert!(rt; out.asks);
+    assert_eq!(rt; out.said, Said::Probe);
     assert_eq!(rt; (out.to, out.then), (set(&[5, 6]), Then::Rule(9)));
     assert_eq!(rt; probing.asked, set(&[1, 2, 3, 4, 5, 6]));
     assert_eq!(rt; (probing.best, probing.heard), (reply, set(&[2, 4])));
@@ -173,7 +132,7 @@ fn rule_8_asks_the_members_of_newer_views(rt: HostRuntime) -> Result<(), Fail> {
 #[test]
 fn rule_8_answers_a_probe(rt: HostRuntime) -> Result<(), Fail> {
     let out = summary(rule_8_probe(saved()?, PeerId(3)));
-    assert_eq!(rt; out.told, Some(saved()?));
+    assert_eq!(rt; out.said, Said::ProbeReply(saved()?));
     assert_eq!(rt; (out.to, out.then), (set(&[3]), Then::Stay));
     Ok(())
 }

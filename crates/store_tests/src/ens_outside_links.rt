@@ -1,5 +1,5 @@
-use crate::{Link, LinkError, MemLink, MemTicker, Ticker};
 use ens_base::Bytes;
+use ens_outside::{Link, LinkError, MemLink, MemTicker, Ticker};
 use std::alloc::{AllocError, Global};
 use std::test::Fail;
 

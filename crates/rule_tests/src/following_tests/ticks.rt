@@ -1,7 +1,12 @@
 ghost use Rattle.std.specs.Prelude.{◌<◌};
 
-use super::*;
+use super::{fact, joint};
+use crate::builders::{Answer, epoch, silent, summary};
+use ens_base::PeerId;
+use following::Follower;
+use peer_fact::Fact;
 use std::test::Fail;
+use wire_frames::Then;
 
 /// The answer to a tick, and the quiet ticks after it.
 fn tick(fact: &Fact, me: u32, quiet: u8) -> (Answer, u8)

@@ -1,9 +1,23 @@
-use super::*;
-use crate::mark::Mark;
 use ens_base::{Epoch, Key, Seq, Version};
+use history_scribe::*;
 use register_model::Note;
 use std::alloc::Global;
 use std::test::Fail;
+
+/// A note without its key.
+#[derive(Clone, Copy)]
+enum Mark {
+    Proposed {
+        version: Version,
+        parent: Option<Version>,
+        call: Option<u64>,
+    },
+    Settled(Version),
+    Read {
+        id: u64,
+        base: Option<Version>,
+    },
+}
 
 /// The version with this number in the epoch N.N.
 fn version(epoch: u32, seq: u64) -> Version {

@@ -1,5 +1,5 @@
-use super::*;
 use ens_base::{Command, Epoch, Key, PeerId, Reply, Seq, Value, Version};
+use register_model::*;
 use std::test::Fail;
 
 #[test]

@@ -1,7 +1,7 @@
-use crate::{
+use ens_base::{Failed, Status};
+use ens_outside::{
     Lines, MemSink, MemSource, Next, NextError, Reading, Sink, Source, Writing, finish, write_all,
 };
-use ens_base::{Failed, Status};
 use std::test::Fail;
 
 #[test]

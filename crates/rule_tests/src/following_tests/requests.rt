@@ -1,9 +1,12 @@
-use super::*;
-use ens_base::{Key, Seq};
+use super::{fact, refuses, tells};
+use crate::builders::{Answer, Said, epoch, silent, summary};
+use ens_base::{Epoch, Key, PeerId, Seq};
+use following::{rule_20, rule_21, rule_23};
+use peer_fact::Fact;
 use std::alloc::Global;
 use std::test::Fail;
-use tree_node::Position;
-use wire_frames::Seen;
+use tree_node::{Position, TreeBody};
+use wire_frames::{NackCause, Seen, Then};
 
 /// A segment of the tree.
 const PLACE: Position = Position { level: 3, index: 9 };
@@ -15,7 +18,7 @@ fn check(fact: &Fact, d: Epoch) -> Answer {
 #[test]
 fn a_check_by_its_ballot(rt: HostRuntime) -> Result<(), Fail> {
     let saved = fact(epoch(4, 2), epoch(3, 2), 1)?;
-    let confirmed = Said::Confirmed(epoch(4, 2), 7);
+    let confirmed = Said::CheckReply(epoch(4, 2), 7);
     for (d, expected) in [
         (epoch(4, 1), refuses(epoch(4, 1), epoch(4, 2))),
         (epoch(4, 2), tells(confirmed, Then::Stay)),
@@ -38,7 +41,7 @@ fn get(alloc: Global, trusted: bool, d: Epoch, seen: Seen) -> Result<Answer, Fai
 
 #[test]
 fn a_get_that_is_not_answered(rt: HostRuntime) -> Result<(), Fail> {
-    let untrusted = tells(Said::Refused(epoch(4, 2), NackCause::Untrusted), Then::Stay);
+    let untrusted = tells(Said::Nack(epoch(4, 2), NackCause::Untrusted), Then::Stay);
     for (d, trusted, expected) in [
         (epoch(4, 1), true, refuses(epoch(4, 1), epoch(4, 2))),
         (epoch(4, 1), false, refuses(epoch(4, 1), epoch(4, 2))),
@@ -56,7 +59,7 @@ fn a_get_that_is_not_answered(rt: HostRuntime) -> Result<(), Fail> {
 
 #[test]
 fn a_get_is_answered_with_what_is_held(rt: HostRuntime) -> Result<(), Fail> {
-    let reply = Said::Held(epoch(4, 2), 7, false);
+    let reply = Said::GetReply(epoch(4, 2), 7, false);
     for (d, expected) in [(epoch(4, 2), tells(reply, Then::Stay))] {
         let seen = Seen::Held {
             entry: None,
@@ -77,7 +80,7 @@ fn damaged(said: Said) -> Answer {
 
 #[test]
 fn a_get_on_a_damaged_path(rt: HostRuntime) -> Result<(), Fail> {
-    let damage = Said::Refused(epoch(4, 2), NackCause::Damaged(PLACE));
+    let damage = Said::Nack(epoch(4, 2), NackCause::Damaged(PLACE));
     for (d, expected) in [(epoch(4, 2), damaged(damage))] {
         assert!(rt; get(rt.alloc(), true, d, Seen::Damaged(PLACE))? == expected);
     }
@@ -108,7 +111,7 @@ fn a_node_is_asked_at_another_ballot(rt: HostRuntime) -> Result<(), Fail> {
 
 #[test]
 fn a_damaged_node_ends_the_trust(rt: HostRuntime) -> Result<(), Fail> {
-    let given = Said::Given(epoch(4, 2), false, true);
+    let given = Said::TreeGive(epoch(4, 2), false, true);
     for (trusted, expected) in [(true, damaged(given)), (false, damaged(given))] {
         let body = Some(TreeBody::Damaged(PLACE));
         assert!(rt; ask(trusted, epoch(4, 2), body)? == expected);
@@ -124,7 +127,7 @@ fn a_node_is_given_with_the_word_of_trust(rt: HostRuntime) -> Result<(), Fail> {
             entries,
             more: false,
         });
-        let given = tells(Said::Given(epoch(4, 2), trusted, false), then);
+        let given = tells(Said::TreeGive(epoch(4, 2), trusted, false), then);
         assert!(rt; ask(trusted, epoch(4, 2), body)? == given);
     }
     Ok(())

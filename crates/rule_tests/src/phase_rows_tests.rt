@@ -1,22 +1,15 @@
-use super::*;
-use ens_base::{Epoch, PeerId, PeerSet, View, Views};
+use crate::builders::{epoch, set};
+use ens_base::{PeerId, PeerSet, View, Views};
 use peer_fact::Fact;
+use phase_rows::{
+    alone, is_below, is_member, is_newer, joined, may_accept, members, others_of, others_outside,
+    silent, with_members,
+};
 use std::test::Fail;
 use wire_frames::Then;
 
 fn view_of(members: &[PeerId]) -> Result<View, Fail> {
     Ok(View::new(members).ok().ok_or("no view")?)
-}
-
-/// The set of these peers.
-fn set_of(peers: &[u32]) -> PeerSet {
-    let mut set = PeerSet::empty();
-    for peer in peers {
-        if 1 <= *peer && *peer <= 31 {
-            set.insert(PeerId(*peer));
-        }
-    }
-    set
 }
 
 #[test]
@@ -27,14 +20,14 @@ fn sets_of_two_views(rt: HostRuntime) -> Result<(), Fail> {
     );
     assert!(rt; is_member(&views, PeerId(4)) && is_member(&views, PeerId(31)));
     assert!(rt; !is_member(&views, PeerId(3)));
-    assert_eq!(rt; members(&views), set_of(&[1, 2, 4, 31]));
+    assert_eq!(rt; members(&views), set(&[1, 2, 4, 31]));
     assert_eq!(rt;
         others_outside(PeerId(1), &alone(PeerId(4)), &views),
-        set_of(&[2, 31])
+        set(&[2, 31])
     );
     assert_eq!(rt;
         with_members(&alone(PeerId(7)), &views),
-        set_of(&[1, 2, 4, 7, 31])
+        set(&[1, 2, 4, 7, 31])
     );
     let two = joined(alone(PeerId(7)), PeerId(1));
     assert_eq!(rt; others_of(PeerId(1), &two), alone(PeerId(7)));
@@ -50,15 +43,7 @@ fn epochs_by_count_then_proposer(rt: HostRuntime) {
         ((1, 1), (1, 1), false),
     ];
     for (a, b, below) in cases {
-        let first = Epoch {
-            count: a.0,
-            proposer: a.1,
-        };
-        let second = Epoch {
-            count: b.0,
-            proposer: b.1,
-        };
-        assert_eq!(rt; is_below(first, second), below);
+        assert_eq!(rt; is_below(epoch(a.0, a.1), epoch(b.0, b.1)), below);
     }
 }
 

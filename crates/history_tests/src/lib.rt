@@ -1,0 +1,12 @@
+//! Tests of registers, of histories and of the test whether an order is a run, a file for each tested
+//! crate.
+//!
+//! The tests use public calls alone.
+#![tactic(auto)]
+
+#[cfg(test)]
+mod history_scribe_tests;
+#[cfg(test)]
+mod register_model_tests;
+#[cfg(test)]
+mod register_runs_tests;

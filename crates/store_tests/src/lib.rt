@@ -1,0 +1,18 @@
+//! Tests of the outside, of the hasher and of what a peer keeps, a file for each part of a tested crate.
+//!
+//! They show what no contract says: outside vectors, printed text, and each implementation once
+//! through its trait. The tests use public calls alone.
+#![tactic(auto)]
+
+#[cfg(test)]
+mod ens_hashing_tests;
+#[cfg(test)]
+mod ens_outside_links;
+#[cfg(test)]
+mod ens_outside_stores;
+#[cfg(test)]
+mod ens_outside_tests;
+#[cfg(test)]
+mod fact_store_tests;
+#[cfg(test)]
+mod slot_disk_tests;
