@@ -4,8 +4,6 @@ pub mod Members
 pub mod Printed
 pub mod Serving
 pub mod Legal
-pub mod Parts
-pub mod Reached
 pub mod FormSteps
 pub mod Forms
 pub mod Unread

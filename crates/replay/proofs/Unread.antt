@@ -1,7 +1,8 @@
 -- Where no schedule was read, what is printed says so.
 use Rattle.std.proofs.Common.{ℕ, List, Option, inl}
 use Rattle.ens_base.specs.declared.status.Status.{Status}
-use Rattle.replay.specs.Jobs.{IsUnread, Prints}
+use Rattle.schedule_input.specs.Endings.{IsUnread}
+use Rattle.replay.specs.Jobs.{Prints}
 
 pub unread_prints : (source : Option (List ℕ)) (status : Status) (text : List ℕ) → IsUnread source status text → Prints source status text
 unread_prints source Status.Schedule text unread = unread

@@ -1,14 +1,13 @@
 -- What a job prints, and why it ends as it does.
-use Rattle.std.specs.Prelude.{◌≡◌, ◌⊎◌, ℕ, Bool, true, false, List, [], ◌∷◌, ◌++◌, codes, Option, None, Some, Ok, Err, IfSome}
-use Rattle.std.specs.Fmt.{decimal}
+use Rattle.std.specs.Prelude.{◌≡◌, ◌⊎◌, ℕ, Bool, true, false, List, [], ◌∷◌, ◌++◌, codes, Option, None, Some, Ok, IfSome}
 use Rattle.schedule_text.specs.Reading.{schedule_of}
 use Rattle.schedule_text.specs.Spelling.{IsSchedule}
-use Rattle.schedule_text.specs.declared.error.ScheduleError.TheVariants as schedule
 use Rattle.schedule_text.specs.declared.schedule.Schedule.{Schedule}
 use Rattle.ens_base.specs.Lists.{◌∈◌}
 use Rattle.ens_base.specs.declared.status.Status.{Status}
 use Rattle.register_model.specs.Histories.{IsLegal}
 use Rattle.register_model.specs.declared.history.History.{History}
+use Rattle.schedule_input.specs.Endings.{IsBadLine, IsLineLimit}
 use Rattle.replay.specs.declared.event.Event.{Event}
 use Rattle.replay.specs.Elections.{IsPastMessages, IsWithinMessages, is_election, schedule_run}
 use Rattle.replay.specs.Events.{calls_from}
@@ -46,28 +45,9 @@ IsPastLimit bytes = (s : Schedule) × (schedule_of bytes ≡ Ok s) × (is_electi
 abbrev pub IsUnbuilt : List ℕ → Type 0
 IsUnbuilt bytes = (s : Schedule) × (schedule_of bytes ≡ Ok s) × (is_election s ≡ false) × (form_of s ≡ None)
 
--- the line of a refusal at the first bad line
-abbrev pub bad_line : ℕ → ℕ → List ℕ
-bad_line line cause = codes "schedule " ++ decimal line ++ codes " " ++ decimal cause ++ 10 ∷ []
-
--- line 200,001 of the bytes begins, and the text says so
-abbrev pub IsLineLimit : Option (List ℕ) → List ℕ → Type 0
-IsLineLimit source text = IfSome source (λ bytes. schedule_of bytes ≡ Err schedule.Lines) × (text ≡ codes "limit lines 200000" ++ 10 ∷ [])
-
 -- message 500,001 would be sent, and the text says so
 abbrev pub IsMessageLimit : Option (List ℕ) → List ℕ → Type 0
 IsMessageLimit source text = IfSome source IsPastLimit × (text ≡ codes "limit messages 500000" ++ 10 ∷ [])
-
--- the first bad line of the bytes, and its cause, and the text says so
-abbrev pub IsBadLine : Option (List ℕ) → List ℕ → Type 0
-IsBadLine source text = (line : ℕ) × (cause : ℕ) × IfSome source (λ bytes. schedule_of bytes ≡ Err (schedule.Bad line cause)) × (text ≡ bad_line line cause)
-
--- the text where no schedule was read, by the status
-abbrev pub IsUnread : Option (List ℕ) → Status → List ℕ → Type 0
-IsUnread source Status.Schedule text = IsBadLine source text
-IsUnread source Status.Limit text = IsLineLimit source text
-IsUnread source Status.ReadFault text = text ≡ codes "read fault" ++ 10 ∷ []
-IsUnread source status text = ⊥
 
 -- the text with which a replay of these bytes ends, by its status; it ends with no other status than these, but for a fault of the output
 abbrev pub Prints : Option (List ℕ) → Status → List ℕ → Type 0

@@ -6,5 +6,4 @@ pub mod Histories
 pub mod Text
 pub mod Form
 pub mod Elections
-pub mod Reading
 pub mod Jobs

@@ -9,13 +9,12 @@ ghost use Rattle.replay.specs.Form.{form_of};
 ghost use Rattle.replay.specs.Jobs.{EndsSo, IsMachineText, Prints};
 
 use crate::elections::{election_text, is_election};
-use crate::ending::Ending;
 use crate::form::form_of;
-use crate::read::read_schedule;
 use crate::run::run;
 use crate::text::write_text;
 use ens_base::Status;
 use ens_outside::{Sink, Source, finish};
+use schedule_input::{Ending, read_schedule};
 use schedule_text::Schedule;
 use std::alloc::{AllocError, Global};
 

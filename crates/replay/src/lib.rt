@@ -9,21 +9,14 @@
 #![tactic(auto)]
 
 mod elections;
-mod ending;
 mod event;
 mod form;
 mod job;
 mod keys;
-mod read;
 mod run;
 mod runner;
 mod text;
 
 pub use elections::is_election;
-pub use ending::Ending;
 pub use event::Event;
 pub use job::replay;
-pub use read::{ReadError, read_schedule};
-
-#[cfg(test)]
-mod tests;

@@ -1,7 +1,7 @@
 -- Where no schedule was read, what is printed says so.
 use Rattle.std.proofs.Common.{ℕ, List, Option, inl}
 use Rattle.ens_base.specs.declared.status.Status.{Status}
-use Rattle.replay.specs.Jobs.{IsUnread}
+use Rattle.schedule_input.specs.Endings.{IsUnread}
 use Rattle.trace.specs.Jobs.{Traces}
 
 pub unread_traces : (source : Option (List ℕ)) (status : Status) (text : List ℕ) → IsUnread source status text → Traces source status text

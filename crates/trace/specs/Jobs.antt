@@ -2,7 +2,8 @@
 use Rattle.std.specs.Prelude.{◌≡◌, ◌⊎◌, ℕ, true, false, List, [], ◌∷◌, ◌++◌, codes, Option, Ok, IfSome}
 use Rattle.ens_base.specs.declared.status.Status.{Status}
 use Rattle.replay.specs.Elections.{IsWithinMessages, is_election, schedule_run}
-use Rattle.replay.specs.Jobs.{IsBadLine, IsLineLimit, IsMessageLimit}
+use Rattle.replay.specs.Jobs.{IsMessageLimit}
+use Rattle.schedule_input.specs.Endings.{IsBadLine, IsLineLimit}
 use Rattle.schedule_text.specs.Reading.{schedule_of}
 use Rattle.schedule_text.specs.declared.schedule.Schedule.{Schedule}
 use Rattle.trace.specs.Text.{trace_text}

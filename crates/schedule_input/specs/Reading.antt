@@ -8,8 +8,8 @@ use Rattle.schedule_text.specs.declared.error.ScheduleError.TheVariants as sched
 use Rattle.schedule_text.specs.declared.schedule.Schedule.{Schedule}
 use Rattle.ens_outside.specs.declared.lines.NextError.{NextError}
 use Rattle.ens_outside.specs.declared.lines.NextError.TheVariants as next
-use Rattle.replay.specs.declared.read.ReadError.{ReadError}
-use Rattle.replay.specs.declared.read.ReadError.TheVariants as read
+use Rattle.schedule_input.specs.declared.read.ReadError.{ReadError}
+use Rattle.schedule_input.specs.declared.read.ReadError.TheVariants as read
 
 abbrev pub of_next : NextError → ReadError
 of_next next.Failed = read.Failed

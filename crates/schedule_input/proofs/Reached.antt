@@ -8,8 +8,8 @@ use Rattle.schedule_text.specs.Reading.{and_then, ended, next_line, read_parts}
 use Rattle.schedule_text.specs.Spelling.{IsSchedule}
 use Rattle.schedule_text.specs.declared.error.ScheduleError.{ScheduleError}
 use Rattle.schedule_text.specs.declared.schedule.Schedule.{Schedule}
-use Rattle.replay.specs.Reading.{IsReached}
-use Rattle.replay.proofs.Parts.{ended_ok, read_line}
+use Rattle.schedule_input.specs.Reading.{IsReached}
+use Rattle.schedule_input.proofs.Parts.{ended_ok, read_line}
 
 -- no line yet
 pub reached_first : IsReached Blank

@@ -5,7 +5,7 @@ ghost use Rattle.ens_outside.specs.Lines.{BeginsLong};
 ghost use Rattle.schedule_text.specs.Progress.{Blank, lines_so_far};
 ghost use Rattle.schedule_text.specs.Reading.{ended, schedule_of};
 ghost use Rattle.schedule_text.specs.Spelling.{IsSchedule};
-ghost use Rattle.replay.specs.Reading.{IsReached, ReadsAs, ReadsOn, Refuses, of_schedule};
+ghost use Rattle.schedule_input.specs.Reading.{IsReached, ReadsAs, ReadsOn, Refuses, of_schedule};
 
 use ens_outside::{LINE_LIMIT, Lines, Next, NextError, Source};
 use schedule_text::{Reading, Schedule, ScheduleError};
@@ -29,7 +29,7 @@ pub enum ReadError {
 
 impl From<NextError> for ReadError {
     ghost use Rattle.std.specs.Prelude.{◌≡◌};
-    ghost use Rattle.replay.specs.Reading.{of_next};
+    ghost use Rattle.schedule_input.specs.Reading.{of_next};
 
     ghost from_gives = { λ e r. r ≡ of_next e };
 
@@ -43,7 +43,7 @@ impl From<NextError> for ReadError {
 
 impl From<ScheduleError> for ReadError {
     ghost use Rattle.std.specs.Prelude.{◌≡◌};
-    ghost use Rattle.replay.specs.Reading.{of_schedule};
+    ghost use Rattle.schedule_input.specs.Reading.{of_schedule};
 
     ghost from_gives = { λ e r. r ≡ of_schedule e };
 

@@ -21,9 +21,9 @@ use Rattle.schedule_text.specs.declared.error.ScheduleError.TheVariants.{Bad, Li
 use Rattle.schedule_text.specs.declared.schedule.Schedule.{Schedule}
 use Rattle.schedule_text.specs.declared.event.ScheduleEvent.{ScheduleEvent}
 use Rattle.ens_base.specs.Lists.{same_bytes}
-use Rattle.replay.specs.declared.read.ReadError.{ReadError}
-use Rattle.replay.specs.declared.read.ReadError.TheVariants as read
-use Rattle.replay.specs.Reading.{ReadsAs, ReadsOn, Refuses, of_schedule}
+use Rattle.schedule_input.specs.declared.read.ReadError.{ReadError}
+use Rattle.schedule_input.specs.declared.read.ReadError.TheVariants as read
+use Rattle.schedule_input.specs.Reading.{ReadsAs, ReadsOn, Refuses, of_schedule}
 
 is_feed_of : (b : ℕ) → b ≢ 10 → (b == 10) ≡ false
 is_feed_of b apart = grind (arith, nat_tests)

@@ -1,7 +1,7 @@
 use Rattle.std.proofs.Common.{arith}
 use Rattle.std.specs.Prelude.{OnOk, Result, Ok, Err}
-use Rattle.replay.proofs.Parts.{reads_as, too_many, ended_left}
-use Rattle.replay.proofs.read.read_schedule.Goals as goal
+use Rattle.schedule_input.proofs.Parts.{reads_as, too_many, ended_left}
+use Rattle.schedule_input.proofs.read.read_schedule.Goals as goal
 
 -- what holds anyway, holds where there is an answer
 anyway : {T E : Type 0} {P : Type 0} (r : Result T E) → P → OnOk r P

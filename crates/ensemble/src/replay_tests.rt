@@ -1,6 +1,6 @@
-use crate::replay;
 use ens_base::Status;
 use ens_outside::{MemSink, MemSource};
+use replay::replay;
 use std::alloc::Global;
 use std::test::Fail;
 

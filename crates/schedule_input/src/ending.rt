@@ -1,8 +1,8 @@
 ghost use Rattle.std.specs.Prelude.{◌≡◌, ◌≢◌, ℕ, List, Option, IfOk, string_bytes};
 ghost use Rattle.ens_base.specs.declared.status.Status.{Status};
 ghost use Rattle.schedule_text.specs.Progress.{Blank};
-ghost use Rattle.replay.specs.Jobs.{IsUnread};
-ghost use Rattle.replay.specs.Reading.{Refuses};
+ghost use Rattle.schedule_input.specs.Endings.{IsUnread};
+ghost use Rattle.schedule_input.specs.Reading.{Refuses};
 
 use crate::read::ReadError;
 use ens_base::Status;

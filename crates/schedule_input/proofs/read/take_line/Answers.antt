@@ -1,9 +1,9 @@
 use Rattle.std.proofs.Common.{◌≡◌, ℕ, List, refl, subst, Ok, Err}
 use Rattle.std.proofs.lemmas.Result.{err_from_is_err_and}
 use Rattle.schedule_text.specs.Reading.{next_line, TakesLine}
-use Rattle.replay.proofs.Parts.{line_taken, line_counts, refuses_line, rest_read}
-use Rattle.replay.proofs.Reached.{reached_next}
-use Rattle.replay.proofs.read.take_line.Goals as goal
+use Rattle.schedule_input.proofs.Parts.{line_taken, line_counts, refuses_line, rest_read}
+use Rattle.schedule_input.proofs.Reached.{reached_next}
+use Rattle.schedule_input.proofs.read.take_line.Goals as goal
 
 pub returns-in_err-line-in-Line-clause-bad : goal.returns-in_err-line-in-Line-clause-bad
 returns-in_err-line-in-Line-clause-bad g c =

@@ -1,8 +1,8 @@
 use Rattle.std.proofs.Common.{◌≡◌, ◌≤◌}
 use Rattle.std.specs.Io.KnownBytes.{prepend_known}
 use Rattle.schedule_text.specs.Progress.{Blank, lines_so_far}
-use Rattle.replay.specs.Reading.{IsReached, ReadsOn}
-use Rattle.replay.proofs.read.read_schedule.Given as goal
+use Rattle.schedule_input.specs.Reading.{IsReached, ReadsOn}
+use Rattle.schedule_input.proofs.read.read_schedule.Given as goal
 
 abbrev pub invariant-loop-turn : goal.invariant-loop-turn
 invariant-loop-turn g l = record {
