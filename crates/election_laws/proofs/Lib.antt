@@ -1,3 +1,4 @@
 pub mod Sound
 pub mod Epochs
 pub mod Rising
+pub mod Prepared

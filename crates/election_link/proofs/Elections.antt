@@ -4,7 +4,7 @@ use Rattle.std.proofs.lemmas.Bool.Decides.{nat_tests}
 use Rattle.joint_views.specs.Quorums.{is_quorum}
 use Rattle.abstract_protocol.specs.Ledger.{Ledger, Place, elect, accept, next_views, IsFact, MayElect}
 use Rattle.abstract_protocol.specs.Numbers.{epoch_number}
-use Rattle.ballot_laws.specs.Preparing.{proposer_of}
+use Rattle.election_laws.specs.Preparing.{proposer_of}
 use Rattle.election.specs.Preparing.{promised_by, starts, elected, first_fact, ignored}
 use Rattle.election.specs.declared.election.Election.{Election}
 use Rattle.election.specs.declared.election.Election.TheVariants.{Preparing, Starting}

@@ -6,7 +6,7 @@ use Rattle.std.proofs.lemmas.List.Elements.{All-weaker}
 use Rattle.joint_views.proofs.Majorities.{quorum_more}
 use Rattle.abstract_protocol.specs.Ledger.{Ledger, Place, is_established, raise, elect, accept}
 use Rattle.abstract_protocol.specs.Numbers.{epoch_number, IsEpoch}
-use Rattle.ballot_laws.specs.Preparing.{proposer_of}
+use Rattle.election_laws.specs.Preparing.{proposer_of}
 use Rattle.election.specs.declared.election.Election.TheVariants.{Preparing, Starting}
 use Rattle.peer_core.specs.declared.outbox.Outgoing.{Outgoing}
 use Rattle.peer_core.specs.declared.state.Leadership.{Leadership}

@@ -3,7 +3,7 @@ use Rattle.std.proofs.Common.{◌≡◌, ℕ, ◌<◌, ◌≤◌, Bool, true, fa
 use Rattle.std.proofs.lemmas.Bool.Decides.{nat_tests}
 use Rattle.abstract_protocol.specs.Ledger.{Ledger, Place, raise, elect, accept, next_views, IsNew, MayElect, MayAccept}
 use Rattle.abstract_protocol.specs.Protocol.{Step, Raise, Elect, Accept, IsRun}
-use Rattle.ballot_laws.specs.Preparing.{proposer_of}
+use Rattle.election_laws.specs.Preparing.{proposer_of}
 use Rattle.election_laws.specs.Elections.{ElectionsAreSafe}
 use Rattle.election_laws.proofs.Epochs.{run_elections}
 use Rattle.election_laws.proofs.Rising.{put_rises}

@@ -2,7 +2,7 @@
 use Rattle.std.specs.Prelude.{◌≡◌, ℕ, ◌<◌, ◌≤◌, Bool, true, false, List, [], ◌∷◌, Some, None, ◌==◌, if◌then◌else◌}
 use Rattle.abstract_protocol.specs.Ledger.{Ledger, Place, is_established}
 use Rattle.abstract_protocol.specs.Numbers.{epoch_number, IsEpoch}
-use Rattle.ballot_laws.specs.Preparing.{proposer_of}
+use Rattle.election_laws.specs.Preparing.{proposer_of}
 use Rattle.election.specs.declared.election.Election.{Election}
 use Rattle.election.specs.declared.election.Election.TheVariants.{Preparing, Starting}
 use Rattle.ens_base.specs.PeerSet.{holds}

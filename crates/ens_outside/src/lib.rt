@@ -35,5 +35,5 @@ pub use memory::{
 pub use node_store::NodeStore;
 pub use sink::{Sink, write_all};
 pub use source::Source;
-pub use stdio::{Reading, Writing};
+pub use stdio::{ReaderSource, WriterSink};
 pub use ticker::Ticker;

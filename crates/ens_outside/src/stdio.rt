@@ -7,21 +7,21 @@ use std::io::{Read, Write};
 
 /// Any reader of std as a source. Over standard input it tells nothing of the bytes.
 #[derive(Drop)]
-pub struct Reading<R> {
+pub struct ReaderSource<R> {
     inner: R,
     faults: u64,
 }
 
-impl<R> Reading<R> {
+impl<R> ReaderSource<R> {
     /// A source over this reader.
     pub fn new(inner: R) -> Self
         ensures { (result.inner ≡ inner) × (result.faults ≡ 0) }
     {
-        Reading { inner, faults: 0 }
+        ReaderSource { inner, faults: 0 }
     }
 }
 
-impl<R: Read> Source for Reading<R> {
+impl<R: Read> Source for ReaderSource<R> {
     ghost left = { λ s. R.remaining s.inner };
 
     ghost fault_count = { λ s. s.faults };
@@ -43,21 +43,21 @@ impl<R: Read> Source for Reading<R> {
 
 /// Any writer of std as a sink. One that takes nothing of a piece that is not empty has failed.
 #[derive(Drop)]
-pub struct Writing<W> {
+pub struct WriterSink<W> {
     inner: W,
     faults: u64,
 }
 
-impl<W> Writing<W> {
+impl<W> WriterSink<W> {
     /// A sink over this writer.
     pub fn new(inner: W) -> Self
         ensures { (result.inner ≡ inner) × (result.faults ≡ 0) }
     {
-        Writing { inner, faults: 0 }
+        WriterSink { inner, faults: 0 }
     }
 }
 
-impl<W: Write> Sink for Writing<W> {
+impl<W: Write> Sink for WriterSink<W> {
     ghost written = { λ s. W.contents s.inner };
 
     ghost fault_count = { λ s. s.faults };

@@ -8,9 +8,10 @@
 mod top;
 
 use ens_base::Status;
-use ens_outside::{Reading, Writing};
+use ens_outside::{ReaderSource, WriterSink, finish};
 use std::alloc::{AllocError, Global};
 use std::env;
+use std::io::Write;
 use std::process::ExitCode;
 use top::ensemble_main;
 
@@ -23,20 +24,25 @@ fn words_of(alloc: Global, all: &[String]) -> Result<Vec<&str>, AllocError> {
     Ok(words)
 }
 
+/// Ends the program that could not read its words.
+fn out_of_memory<W: Write>(output: &mut WriterSink<W>) -> ExitCode {
+    ExitCode::from(finish(output, "memory\n", Status::Memory).number())
+}
+
 fn main(rt: HostRuntime) -> ExitCode {
     let alloc = rt.alloc();
-    let mut input = Reading::new(rt.stdin());
-    let mut output = Writing::new(rt.stdout());
+    let mut input = ReaderSource::new(rt.stdin());
+    let mut output = WriterSink::new(rt.stdout());
     let Ok(args) = env::args(&rt) else {
         // A word that is no text is no form.
         let status = ensemble_main(alloc, &[], &mut input, &mut output);
         return ExitCode::from(status.number());
     };
     let Ok(all) = args.collect::<Vec<String>>(alloc) else {
-        return ExitCode::from(Status::Memory.number());
+        return out_of_memory(&mut output);
     };
     let Ok(words) = words_of(alloc, &all) else {
-        return ExitCode::from(Status::Memory.number());
+        return out_of_memory(&mut output);
     };
     ExitCode::from(ensemble_main(alloc, &words, &mut input, &mut output).number())
 }

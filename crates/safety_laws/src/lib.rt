@@ -8,9 +8,9 @@
 
 mod histories;
 
-pub use ballot_laws::ballots_are_prepared_once;
 pub use election_laws::{
-    elections_are_safe, elections_stay, lists_share_a_view, two_leaders_of_an_epoch_are_one,
+    ballots_are_prepared_once, elections_are_safe, elections_stay, lists_share_a_view,
+    two_leaders_of_an_epoch_are_one,
 };
 pub use entry_laws::entries_are_safe;
 pub use histories::histories_are_legal;

@@ -1,6 +1,7 @@
 use ens_base::{Failed, Status};
 use ens_outside::{
-    Lines, MemSink, MemSource, Next, NextError, Reading, Sink, Source, Writing, finish, write_all,
+    Lines, MemSink, MemSource, Next, NextError, ReaderSource, Sink, Source, WriterSink, finish,
+    write_all,
 };
 use std::test::Fail;
 
@@ -70,12 +71,12 @@ fn the_end_is_seen_and_the_ending_written(rt: HostRuntime) -> Result<(), Fail> {
 #[test]
 fn readers_and_writers_of_std_are_outsides(rt: HostRuntime) -> Result<(), Fail> {
     let alloc = rt.alloc();
-    let mut source = Reading::new(b"ab".as_slice());
+    let mut source = ReaderSource::new(b"ab".as_slice());
     let mut buf = [0u8; 4];
     assert_eq!(rt; source.read_some(&mut buf), Ok(2));
     assert_eq!(rt; source.read_some(&mut buf), Ok(0));
     assert_eq!(rt; source.faults(), 0);
-    let mut sink = Writing::new(Vec::new(alloc));
+    let mut sink = WriterSink::new(Vec::new(alloc));
     assert_eq!(rt; write_all(&mut sink, b"abc"), Ok(()));
     assert_eq!(rt; sink.faults(), 0);
     Ok(())

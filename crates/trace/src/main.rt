@@ -8,14 +8,14 @@
 mod job;
 mod text;
 
-use ens_outside::{Reading, Writing};
+use ens_outside::{ReaderSource, WriterSink};
 use job::trace;
 use std::process::ExitCode;
 
 fn main(rt: HostRuntime) -> ExitCode {
     let alloc = rt.alloc();
-    let mut input = Reading::new(rt.stdin());
-    let mut output = Writing::new(rt.stdout());
+    let mut input = ReaderSource::new(rt.stdin());
+    let mut output = WriterSink::new(rt.stdout());
     ExitCode::from(trace(alloc, &mut input, &mut output).number())
 }
 

@@ -4,7 +4,7 @@ use Rattle.std.proofs.lemmas.Bool.{false≢true}
 use Rattle.std.proofs.lemmas.Bool.Decides.{nat_tests}
 use Rattle.abstract_protocol.specs.Ledger.{Ledger, put}
 use Rattle.abstract_protocol.specs.Protocol.{Step, Begin, Ask, Raise, Elect, Accept, Commit, Adopt, Write, Acknowledge, Install, EndSync, Propose, Settle, Note, Answer, Lose, Revert, state_after, IsRun}
-use Rattle.ballot_laws.specs.Preparing.{proposer_of, prepares, times_prepared}
+use Rattle.election_laws.specs.Preparing.{proposer_of, prepares, times_prepared}
 
 same_raise : (p e q d : ℕ) → p ≡ q → e ≡ d → Raise p e ≡ Raise q d
 same_raise p e q d a b = rw a (rw b refl)

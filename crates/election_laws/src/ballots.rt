@@ -1,6 +1,6 @@
 ghost use Rattle.std.specs.Prelude.{◌≡◌, ◌≤◌, ℕ, true, List, ◌∷◌};
 ghost use Rattle.abstract_protocol.specs.Protocol.{Step, Raise, state_after, IsRun};
-ghost use Rattle.ballot_laws.specs.Preparing.{proposer_of, prepares, times_prepared};
+ghost use Rattle.election_laws.specs.Preparing.{proposer_of, prepares, times_prepared};
 
 /// In each run a ballot is prepared by its proposer alone, and once at most: the proposer's own ballot
 /// comes to it by one step.
