@@ -1,4 +1,4 @@
--- How long keys and values may be.
+-- The lengths of keys and of values.
 use Rattle.std.specs.Prelude.{ℕ, ◌≤◌}
 
 -- a key has 1 to 64 bytes

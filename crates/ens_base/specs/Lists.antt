@@ -1,25 +1,25 @@
--- Lists: equal bytes, membership, and repetition.
+-- Lists: equality of bytes, membership, and distinct items.
 use Rattle.std.specs.Prelude.{◌≡◌, ◌⊎◌, ℕ, Bool, List, [], ◌∷◌, nat_eq}
 use Rattle.std.specs.Cmp.Lexicographic.{slice_cmp}
 use Rattle.std.specs.Ordering.{nat_cmp}
 use Rattle.std.specs.declared.cmp.Ordering.{Ordering}
 use lib.Pointwise.{pointwise}
 
--- whether two lists of bytes are one
+-- whether two lists of bytes are equal
 abbrev pub same_bytes : List ℕ → List ℕ → Bool
 same_bytes = pointwise nat_eq
 
--- whether something stands in a list
+-- x is an item of the list
 infix 45 ◌∈◌
 abbrev pub ◌∈◌ : {A : Type 0} → A → List A → Type 0
 x ∈ [] = ⊥
 x ∈ (y ∷ ys) = (x ≡ y) ⊎ (x ∈ ys)
 
--- nothing stands twice in the list
+-- no item occurs twice
 abbrev pub AreDistinct : {A : Type 0} → List A → Type 0
 AreDistinct [] = Unit {0}
 AreDistinct (x ∷ xs) = ¬ (x ∈ xs) × AreDistinct xs
 
--- the order of bytes: by the first byte that differs, and a list before those that it begins
+-- the order of byte strings: by the first byte that differs, and a proper prefix first
 abbrev pub bytes_cmp : List ℕ → List ℕ → Ordering
 bytes_cmp = slice_cmp nat_cmp

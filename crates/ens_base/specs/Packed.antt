@@ -1,4 +1,4 @@
--- How a view lies in memory: its members at the front, and zeros behind them.
+-- The layout of a view in memory: its members at the front, zeros after them.
 use Rattle.std.specs.Prelude.{◌≡◌, ◌-◌, ◌≤◌, ℕ, List, ◌++◌, length, take, drop, replicate}
 use Rattle.std.proofs.Common.{sym, ap, ◌∙◌, arith, take-append-drop}
 use Rattle.std.proofs.lemmas.List.{length-take}

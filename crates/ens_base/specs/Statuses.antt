@@ -3,7 +3,7 @@ use Rattle.std.specs.Prelude.{ℕ}
 use Rattle.ens_base.specs.declared.status.Status.{Status}
 use Rattle.ens_base.specs.declared.status.Status.TheVariants.{Done, Usage, Schedule, Premise, ReadFault, WriteFault, Clash, StoreFault, LinkFault, Limit, Memory, Unbuilt}
 
--- the number that the process ends with
+-- the exit status of the process
 abbrev pub status_number : Status → ℕ
 status_number Done = 0
 status_number Usage = 1

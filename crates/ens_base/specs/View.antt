@@ -2,15 +2,15 @@
 use Rattle.std.specs.Prelude.{◌≤◌, ℕ, List, length, All}
 use Rattle.std.specs.List.Sorted.{IsStrictlyIncreasing}
 
--- a number that a peer may have
+-- a valid number of a peer
 abbrev pub IsPeer : ℕ → Type 0
 IsPeer m = (1 ≤ m) × (m ≤ 31)
 
--- how many members a view may have
+-- a valid number of members
 abbrev pub IsViewSize : ℕ → Type 0
 IsViewSize n = (1 ≤ n) × (n ≤ 9)
 
--- 1 to 9 peers, ascending
+-- 1 to 9 peers, strictly ascending
 pub record IsView (xs : List ℕ) : Type 0 where
   pub size : IsViewSize (length xs)
   pub peers : All IsPeer xs

@@ -1,4 +1,4 @@
--- A list of views: one view, or two, the new one first.
+-- The views of an epoch: one view, or two, the new one first.
 use Rattle.std.specs.Prelude.{◌≡◌, ℕ, List, [], ◌∷◌, Option, None, Some}
 use Rattle.std.proofs.Common.{refl}
 use Rattle.ens_base.specs.declared.views.Views.TheInside.{Inside}
@@ -18,7 +18,7 @@ abbrev views_of : List ℕ → Option (List ℕ) → List (List ℕ)
 views_of first None = first ∷ []
 views_of first (Some last) = first ∷ last ∷ []
 
--- how a list of views lies in memory
+-- the list of views that the fields stand for
 abbrev pub views_list : Inside → List (List ℕ)
 views_list v = views_of v.first v.second
 

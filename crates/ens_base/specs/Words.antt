@@ -9,7 +9,7 @@ use Rattle.ens_base.specs.declared.epoch.Version.{Version}
 abbrev pub bytes_word : List ℕ → List ℕ
 bytes_word bytes = encode_lower bytes
 
--- a value: its bytes, or a dash where it has none
+-- a value: its bytes in hexadecimal, or a dash if it is empty
 abbrev pub value_word : List ℕ → List ℕ
 value_word [] = codes "-"
 value_word (byte ∷ rest) = encode_lower (byte ∷ rest)

@@ -10,7 +10,7 @@ use std::alloc::{AllocError, Global};
 use std::cmp::Ordering;
 use std::marker::Model;
 
-/// Bytes on the heap. Contracts see the list of them.
+/// A string of bytes on the heap. Contracts see it as a list of bytes.
 #[derive(Debug, Drop)]
 pub struct Bytes {
     bytes: Vec<u8>,
@@ -25,12 +25,14 @@ impl Model for Bytes {
 }
 
 impl Bytes {
+    /// Wraps a vector, without copying it.
     pub fn new(bytes: Vec<u8>) -> Self
         ensures { result ≡ bytes.items }
     {
         Bytes { bytes }
     }
 
+    /// Copies a slice. Fails only when out of memory.
     pub fn from_slice(alloc: Global, bytes: &[u8]) -> Result<Self, AllocError>
         ensures { IfOk result (λ b. b ≡ bytes.now) }
     {
@@ -39,12 +41,14 @@ impl Bytes {
         })
     }
 
+    /// Returns the bytes.
     pub fn as_slice(&self) -> &[u8]
         ensures { result.now ≡ self.now }
     {
         self.bytes.as_slice()
     }
 
+    /// Unwraps the vector, without copying it.
     pub fn into_vec(self) -> Vec<u8>
         ensures { result.items ≡ self }
     {
@@ -52,6 +56,7 @@ impl Bytes {
         bytes
     }
 
+    /// Returns a copy. Fails only when out of memory.
     pub fn copy(&self, alloc: Global) -> Result<Self, AllocError>
         ensures { IfOk result (λ b. b ≡ self.now) }
     {

@@ -5,29 +5,30 @@ use crate::epoch::Version;
 use crate::value::Value;
 use std::alloc::Global;
 
-/// What a call asks of the register of its key.
+/// What a call asks of the register of its key. A stamp is the version under which a register was
+/// last written.
 #[derive(Debug, PartialEq, Eq, Drop)]
 pub enum Command {
-    /// Read the value.
+    /// Reads the value.
     Get,
-    /// Write the value where the register is absent.
+    /// Writes the value if the register is absent.
     PutOnce(Value),
-    /// Write the value where the register has this stamp.
+    /// Writes the value if the register has this stamp.
     Update(Version, Value),
-    /// Add the bytes at the end of the value.
+    /// Appends the bytes to the value.
     Append(Value),
-    /// Add to the big-endian number of 8 bytes that the value is.
+    /// Adds to the value, which must be a big-endian number of 8 bytes.
     Add(u64),
-    /// Write the second value where the register has the first one.
+    /// Writes the second value if the register holds the first.
     Swap(Value, Value),
-    /// Write the value, whatever is there.
+    /// Writes the value, whatever the register holds.
     Over(Value),
-    /// Make the register absent, whatever is there.
+    /// Makes the register absent, whatever it holds.
     Delete,
 }
 
 impl Command {
-    /// An equal command.
+    /// Returns a copy. Fails only when out of memory.
     pub fn copy(&self, alloc: Global) -> Result<Command, CopyError>
         ensures { IfOk result (λ c. c ≡ self.now) }
     {

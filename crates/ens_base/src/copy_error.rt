@@ -4,10 +4,10 @@ ghost use Rattle.ens_base.specs.declared.copy_error.LengthError.TheVariants.{Mem
 
 use std::alloc::{AllocError, AllocFailed};
 
-/// Why a value is not copied: want of memory alone.
+/// The error of a copy.
 #[derive(Clone, Copy, Debug, PartialEq, Eq)]
 pub enum CopyError {
-    /// Memory ran out.
+    /// Out of memory.
     Memory,
 }
 
@@ -33,12 +33,12 @@ impl From<CopyError> for AllocError {
     }
 }
 
-/// Why bytes are not taken as a key or a value.
+/// Why bytes were rejected as a key or a value.
 #[derive(Clone, Copy, Debug, PartialEq, Eq)]
 pub enum LengthError {
-    /// The length in bytes, which is out of the range of the type.
+    /// The length in bytes is out of range for the type. Holds that length.
     Length(u64),
-    /// Memory ran out.
+    /// Out of memory.
     Memory,
 }
 

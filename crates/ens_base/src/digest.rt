@@ -1,6 +1,6 @@
 use std::marker::Model;
 
-/// The MD5 of a string of bytes (RFC 1321). Contracts see its 16 bytes.
+/// An MD5 digest (RFC 1321). Contracts see its 16 bytes.
 #[derive(Clone, Copy, Debug, PartialEq, Eq, PartialOrd, Ord, Hash)]
 pub struct Digest(pub [u8; 16]);
 

@@ -6,7 +6,7 @@ use crate::epoch::Version;
 use crate::key::Key;
 use std::alloc::Global;
 
-/// What the tree keeps of an object: its key, its version, and the MD5 of its spelling.
+/// What the tree keeps of an object: its key, its version, and the MD5 of its encoding.
 #[derive(Debug, PartialEq, Eq, Drop)]
 pub struct Entry {
     pub key: Key,
@@ -15,7 +15,7 @@ pub struct Entry {
 }
 
 impl Entry {
-    /// An equal entry.
+    /// Returns a copy. Fails only when out of memory.
     pub fn copy(&self, alloc: Global) -> Result<Entry, CopyError>
         ensures { IfOk result (λ e. e ≡ self.now) }
     {

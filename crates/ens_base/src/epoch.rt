@@ -1,7 +1,8 @@
 use std::fmt;
 
-/// A round of leadership: which count it has, and which peer proposed it. Epochs are ordered by the
-/// count, then by the proposer. The opening epoch is 0.0. It is printed as `count.proposer`.
+/// An epoch: a period with at most one leader. It consists of a count and the number of the peer
+/// that proposed it. Epochs are ordered by count, then by proposer. The opening epoch is 0.0.
+/// Displayed as `count.proposer`.
 #[derive(Clone, Copy, Debug, PartialEq, Eq, PartialOrd, Ord, Hash)]
 pub struct Epoch {
     pub count: u64,
@@ -21,8 +22,9 @@ impl fmt::Display for Epoch {
     }
 }
 
-/// One write: the epoch in which it was proposed, and its number in that epoch. Versions are ordered
-/// by the epoch, then by the number. It is printed as `count.proposer.seq`.
+/// The version of a write: the epoch in which it was proposed, and its sequence number in that
+/// epoch. Versions are ordered by epoch, then by sequence number. Displayed as
+/// `count.proposer.seq`.
 #[derive(Clone, Copy, Debug, PartialEq, Eq, PartialOrd, Ord, Hash)]
 pub struct Version {
     pub epoch: Epoch,

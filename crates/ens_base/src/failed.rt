@@ -1,3 +1,3 @@
-/// A call to the outside failed. The count of faults of what was called has risen.
+/// A call to a source, a sink or a disk failed. The fault count of the callee has risen.
 #[derive(Clone, Copy, Debug, PartialEq, Eq)]
 pub struct Failed;

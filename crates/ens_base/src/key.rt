@@ -6,7 +6,7 @@ use crate::copy_error::{CopyError, LengthError};
 use std::alloc::Global;
 use std::marker::Model;
 
-/// The name of an object: 1 to 64 bytes, ordered byte by byte. Contracts see the bytes.
+/// The key of an object: 1 to 64 bytes. Keys are ordered byte by byte. Contracts see the bytes.
 #[derive(Debug, PartialEq, Eq, PartialOrd, Ord, Drop)]
 pub struct Key {
     bytes: Bytes,
@@ -26,13 +26,14 @@ impl Model for Key {
 }
 
 impl Key {
-    /// The fewest bytes of a key.
+    /// The shortest length of a key, in bytes.
     pub const LEAST: usize = 1;
 
-    /// The most bytes of a key.
+    /// The greatest length of a key, in bytes.
     pub const MOST: usize = 64;
 
-    /// The key with these bytes.
+    /// Makes a key of a copy of `bytes`. Returns `Length` if there are not 1 to 64 bytes, `Memory`
+    /// when out of memory.
     pub fn new(alloc: Global, bytes: &[u8]) -> Result<Key, LengthError>
         ensures ok { IfOk result (λ k. (k ≡ bytes.now) × IsKeyLength (length bytes.now)) }
         ensures length { IfErr result (λ e. (e ≡ LengthError.Memory) ⊎ ((e ≡ LengthError.Length (length bytes.now)) × ¬ IsKeyLength (length bytes.now))) }
@@ -45,7 +46,7 @@ impl Key {
         })
     }
 
-    /// The bytes.
+    /// Returns the bytes, 1 to 64 of them.
     pub fn bytes(&self) -> &[u8]
         ensures bytes { result.now ≡ self.now }
         ensures length { IsKeyLength (length self.now) }
@@ -53,7 +54,7 @@ impl Key {
         self.bytes.as_slice()
     }
 
-    /// An equal key.
+    /// Returns a copy. Fails only when out of memory.
     pub fn copy(&self, alloc: Global) -> Result<Key, CopyError>
         ensures { IfOk result (λ k. k ≡ self.now) }
     {

@@ -1,9 +1,9 @@
-//! The words that every other crate speaks: peers, epochs and versions, keys and values, views and
-//! sets of peers, commands and replies, and how a program ends.
+//! The vocabulary of every other crate: peers, epochs and versions, keys and values, views and sets
+//! of peers, commands and replies, and the exit statuses of the programs.
 //!
-//! Each type is seen by contracts as what it stands for: a key as its bytes, a view as the ascending
-//! list of its members, an epoch as two numbers in their order. Nothing here knows a rule of the
-//! protocol. The definitions stand in `specs/`, one file a noun.
+//! A contract sees each type as the value it stands for: a key as its bytes, a view as the
+//! ascending list of its members, a set of peers as one flag for each number. This crate knows no
+//! rule of the protocol. The definitions stand in `specs/`, one file for each noun.
 #![tactic(auto)]
 
 mod bytes;

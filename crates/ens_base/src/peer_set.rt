@@ -4,7 +4,7 @@ ghost use Rattle.ens_base.specs.PeerSet.{holds};
 use crate::peer::PeerId;
 use std::marker::Model;
 
-/// A set of peers. Contracts see one flag for each number below 32.
+/// A set of peers. Contracts see 32 flags, one for each number from 0 to 31.
 #[derive(Clone, Copy, Debug, PartialEq, Eq)]
 pub struct PeerSet {
     flags: [bool; 32],
@@ -21,14 +21,14 @@ impl Model for PeerSet {
 }
 
 impl PeerSet {
-    /// The set of nobody.
+    /// Returns the empty set.
     pub fn empty() -> PeerSet
         ensures { result ≡ replicate 32 false }
     {
         PeerSet { flags: [false; 32] }
     }
 
-    /// Adds a peer, which may be there already.
+    /// Adds `peer`, which must be 1 to 31. Adding a member again changes nothing.
     pub fn insert(&mut self, peer: PeerId)
         requires { (1 ≤ peer) × (peer ≤ 31) }
         ensures set { self.new ≡ slice_set self.old peer true }
@@ -37,7 +37,7 @@ impl PeerSet {
         self.flags[peer.0 as usize] = true;
     }
 
-    /// Whether the peer is in the set. No number above 31 is.
+    /// Returns whether the set contains `peer`. It contains no number above 31.
     pub fn has(&self, peer: PeerId) -> bool
         ensures { result ≡ holds self.now peer }
     {

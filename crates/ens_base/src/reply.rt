@@ -5,29 +5,29 @@ use crate::epoch::Version;
 use crate::value::Value;
 use std::alloc::Global;
 
-/// What a call is answered.
+/// The reply to a call.
 #[derive(Debug, PartialEq, Eq, Drop)]
 pub enum Reply {
     /// The register holds this value, written under this stamp.
     Value(Version, Value),
     /// The register is absent.
     NotFound,
-    /// The write was done under this stamp.
+    /// The write took effect under this stamp.
     Ok(Version),
     /// The command does not apply to what the register holds.
     Failed,
-    /// The peer leads no ensemble, or is ending its epoch. The call had no effect.
+    /// The peer is not leading, or is ending its epoch. The call had no effect.
     Unavailable,
-    /// The key has too many unanswered calls. The call had no effect.
+    /// Too many calls on the key are unanswered. The call had no effect.
     Busy,
     /// No peer has the object that the register should hold. The call had no effect.
     Lost,
-    /// The call took too long. Whether it had an effect is not known.
+    /// The call took too long. It may or may not have taken effect.
     Timeout,
 }
 
 impl Reply {
-    /// An equal reply.
+    /// Returns a copy. Fails only when out of memory.
     pub fn copy(&self, alloc: Global) -> Result<Reply, CopyError>
         ensures { IfOk result (λ r. r ≡ self.now) }
     {

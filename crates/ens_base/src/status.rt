@@ -1,37 +1,37 @@
 ghost use Rattle.std.specs.Prelude.{◌≡◌};
 ghost use Rattle.ens_base.specs.Statuses.{status_number};
 
-/// How a job of the program ended. Its number is the exit status of the process.
+/// How a job of a program ended. Its number is the exit status of the process.
 #[derive(Clone, Copy, Debug, PartialEq, Eq)]
 pub enum Status {
     /// 0: the job ran to its end.
     Done,
-    /// 1: the words are no form of the command line.
+    /// 1: the arguments are not a valid command line.
     Usage,
-    /// 2: a line of the schedule is bad.
+    /// 2: the schedule has a bad line.
     Schedule,
-    /// 3: a view has too many reverted members.
+    /// 3: too many members of a view were reverted.
     Premise,
-    /// 4: the input failed.
+    /// 4: reading the input failed.
     ReadFault,
-    /// 5: the output failed.
+    /// 5: writing the output failed.
     WriteFault,
-    /// 6: two different strings have one MD5.
+    /// 6: two different strings have the same MD5.
     Clash,
-    /// 7: a disk failed, or what the fact file holds is no fact.
+    /// 7: a disk failed, or the fact file does not hold a fact.
     StoreFault,
     /// 8: the network failed.
     LinkFault,
-    /// 9: a limit on lines, messages or kept strings was passed.
+    /// 9: a limit on lines, messages or kept strings was exceeded.
     Limit,
-    /// 10: memory ran out.
+    /// 10: out of memory.
     Memory,
-    /// 11: the schedule has a form that this version does not run yet.
+    /// 11: this version does not run schedules of this form yet.
     Unbuilt,
 }
 
 impl Status {
-    /// The exit status, from 0 to 11.
+    /// Returns the exit status, from 0 to 11.
     pub fn number(self) -> u8
         ensures { result ≡ status_number self }
     {

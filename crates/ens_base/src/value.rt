@@ -6,7 +6,7 @@ use crate::copy_error::{CopyError, LengthError};
 use std::alloc::Global;
 use std::marker::Model;
 
-/// What an object holds: 0 to 1,024 bytes. Contracts see the bytes.
+/// The content of an object: 0 to 1,024 bytes. Contracts see the bytes.
 #[derive(Debug, PartialEq, Eq, Drop)]
 pub struct Value {
     bytes: Bytes,
@@ -26,10 +26,11 @@ impl Model for Value {
 }
 
 impl Value {
-    /// The most bytes of a value.
+    /// The greatest length of a value, in bytes.
     pub const MOST: usize = 1024;
 
-    /// The value with these bytes.
+    /// Makes a value of a copy of `bytes`. Returns `Length` if there are more than 1,024 bytes,
+    /// `Memory` when out of memory.
     pub fn new(alloc: Global, bytes: &[u8]) -> Result<Value, LengthError>
         ensures ok { IfOk result (λ v. (v ≡ bytes.now) × IsValueLength (length bytes.now)) }
         ensures length { IfErr result (λ e. (e ≡ LengthError.Memory) ⊎ ((e ≡ LengthError.Length (length bytes.now)) × ¬ IsValueLength (length bytes.now))) }
@@ -42,7 +43,7 @@ impl Value {
         })
     }
 
-    /// The bytes.
+    /// Returns the bytes, at most 1,024.
     pub fn bytes(&self) -> &[u8]
         ensures bytes { result.now ≡ self.now }
         ensures length { IsValueLength (length self.now) }
@@ -50,7 +51,7 @@ impl Value {
         self.bytes.as_slice()
     }
 
-    /// An equal value.
+    /// Returns a copy. Fails only when out of memory.
     pub fn copy(&self, alloc: Global) -> Result<Value, CopyError>
         ensures { IfOk result (λ v. v ≡ self.now) }
     {

@@ -5,18 +5,18 @@ ghost use Rattle.ens_base.specs.View.{IsView, IsViewSize, IsPeer};
 use crate::peer::PeerId;
 use std::marker::Model;
 
-/// Why a list of peers is no view. The causes are tested in this order.
+/// Why a list of peers is not a view. The causes are tested in this order.
 #[derive(Clone, Copy, Debug, PartialEq, Eq)]
 pub enum ViewError {
     /// There are not 1 to 9 members.
     Size,
-    /// A number is not 1 to 31.
+    /// A number is not in the range 1 to 31.
     Range,
-    /// The numbers do not strictly ascend.
+    /// The numbers are not strictly ascending.
     Order,
 }
 
-/// 1 to 9 peers. Contracts see the ascending list of their numbers.
+/// A view: 1 to 9 peers. Contracts see the ascending list of their numbers.
 #[derive(Clone, Copy, Debug, PartialEq, Eq)]
 pub struct View {
     buf: [PeerId; 9],
@@ -57,7 +57,8 @@ fn in_range(members: &[PeerId]) -> bool
 }
 
 impl View {
-    /// The view of these members.
+    /// Makes a view of `members`. Returns the first cause that applies: `Size`, `Range`, then
+    /// `Order`.
     pub fn new(members: &[PeerId]) -> Result<View, ViewError>
         ensures ok { IfOk result (λ v. v ≡ members.now) }
         ensures valid { IsOk result ↔ IsView members.now }
@@ -82,10 +83,10 @@ impl View {
         })
     }
 
-    /// The most members of a view.
+    /// The greatest number of members.
     pub const MOST: usize = 9;
 
-    /// The members, ascending.
+    /// Returns the members in ascending order.
     pub fn members(&self) -> &[PeerId]
         ensures members { result.now ≡ self.now }
         ensures view { IsView self.now }
@@ -93,7 +94,7 @@ impl View {
         &self.buf[..self.len]
     }
 
-    /// Whether the peer is a member.
+    /// Returns whether `peer` is a member.
     pub fn has(&self, peer: PeerId) -> bool
         ensures { IsTrue result ↔ Contains self.now peer }
     {

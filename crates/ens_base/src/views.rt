@@ -27,7 +27,7 @@ impl Model for Views {
 }
 
 impl Views {
-    /// The list of this view alone.
+    /// Makes a list of one view.
     pub fn one(view: View) -> Views
         ensures { result ≡ view ∷ [] }
     {
@@ -37,7 +37,7 @@ impl Views {
         }
     }
 
-    /// The list of a new view and an old one.
+    /// Makes a list of two views: the new one, then the old one.
     pub fn two(first: View, last: View) -> Views
         ensures { result ≡ first ∷ last ∷ [] }
     {
@@ -47,21 +47,21 @@ impl Views {
         }
     }
 
-    /// The new view, or the only one.
+    /// Returns the new view, or the only one.
     pub fn first(&self) -> View
         ensures { result ≡ first_view self.now }
     {
         self.first
     }
 
-    /// The old view, or the only one.
+    /// Returns the old view, or the only one.
     pub fn last(&self) -> View
         ensures { result ≡ last_view self.now }
     {
         self.second.unwrap_or(self.first)
     }
 
-    /// The second view, where there are two.
+    /// Returns the old view if there are two.
     pub fn second(&self) -> Option<View>
         ensures { MatchOption result (self.now ≡ first_view self.now ∷ []) (λ second. self.now ≡ first_view self.now ∷ second ∷ []) }
     {

@@ -1,4 +1,4 @@
--- What a look-up by digest says of the kept strings.
+-- What a lookup by digest says of the kept strings.
 use Rattle.std.proofs.Common.{◌≡◌, ◌≢◌, ℕ, Bool, true, false, cond, List, [], ◌∷◌, ◌++◌, None, Some, Vec, Contains, All, length, ◌+◌, sym, ap, subst, ◌∙◌, arith, refl}
 use Rattle.std.specs.List.{AllByRecursion}
 use Rattle.std.specs.Map.{lookup}

@@ -1,4 +1,4 @@
--- The strings of a book, and what a book answers exactly.
+-- The strings of a book, and the exact answers of a book.
 use Rattle.std.specs.Prelude.{◌≡◌, ◌≢◌, ◌⊎◌, ◌+◌, ◌-◌, ◌^◌, ◌<◌, ◌≤◌, min, ℕ, List, map, length, sum_by, All, Vec, Contains, Result, Ok, Err}
 use Rattle.std.specs.declared.alloc.Global.{Global}
 use Rattle.md5.specs.Md5.{md5}
@@ -6,18 +6,18 @@ use Rattle.ens_hashing.specs.Hashing.{IsClash}
 use Rattle.ens_hashing.specs.declared.error.HashError.{HashError}
 use Rattle.ens_hashing.specs.declared.error.HashError.TheVariants.{Clash, BookFull, Memory}
 
--- the entries of the map: a digest, and the string that has it
+-- the entries of the map: pairs of a digest and the string that has it
 abbrev pub Entries : Type 0
 Entries = List (List ℕ × Vec ℕ Global)
 
 abbrev pub strings_of : Entries → List (List ℕ)
 strings_of es = map (λ e. e.1.items) es
 
--- each string stands under its digest
+-- each string is stored under its own digest
 abbrev pub IsKeyed : Entries → Type 0
 IsKeyed es = All (λ e. e.0 ≡ md5 e.1.items) es
 
--- the bytes that are kept
+-- the number of bytes kept
 abbrev pub total : List (List ℕ) → ℕ
 total xs = sum_by (λ s. length s) xs
 
@@ -25,18 +25,19 @@ total xs = sum_by (λ s. length s) xs
 abbrev pub IsNew : List (List ℕ) → List ℕ → Type 0
 IsNew kept bytes = All (λ s. md5 s ≢ md5 bytes) kept
 
--- what a book with this limit answers: a kept string is taken, one that clashes with a kept one is refused, and a new one is taken exactly where it does not pass the limit
+-- the answer of a book with this limit: a kept string is admitted, a string that clashes with a
+-- kept one is rejected, and a new string is admitted exactly if it does not exceed the limit
 abbrev pub BookAnswers : {T : Type 0} → ℕ → List (List ℕ) → List ℕ → Result T HashError → Type 0
 BookAnswers limit kept bytes (Ok x) = Contains kept bytes ⊎ (IsNew kept bytes × (total kept + length bytes ≤ limit))
 BookAnswers limit kept bytes (Err (Clash first second)) = Contains kept first.items × IsClash first.items bytes × (second.items ≡ bytes)
 BookAnswers limit kept bytes (Err (BookFull n)) = IsNew kept bytes × (n ≡ total kept) × (limit < total kept + length bytes)
 BookAnswers limit kept bytes (Err Memory) = Unit {0}
 
--- one more, up to the greatest u64
+-- one more, but never above the greatest u64
 abbrev pub counted : ℕ → ℕ
 counted n = min (n + 1) (2 ^ 64 - 1)
 
--- each refusal is counted once, under its own name
+-- each rejection is counted once, under its own cause
 abbrev pub Counts : {T : Type 0} → ℕ → ℕ → ℕ → ℕ → Result T HashError → Type 0
 Counts clashes clashes_now fulls fulls_now (Err (Clash first second)) = (clashes_now ≡ counted clashes) × (fulls_now ≡ fulls)
 Counts clashes clashes_now fulls fulls_now (Err (BookFull n)) = (clashes_now ≡ clashes) × (fulls_now ≡ counted fulls)

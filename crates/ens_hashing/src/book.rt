@@ -10,8 +10,9 @@ use ens_base::Digest;
 use indexmap::IndexMap;
 use std::alloc::Global;
 
-/// Keeps each different string that it was given, up to a limit of bytes in all, and refuses a string
-/// that has the digest of another. It counts its refusals, up to the greatest u64.
+/// A hasher that keeps each different string that it was given, up to a limit of bytes in all, and
+/// rejects a string that has the digest of a different one. It counts the strings that it rejects
+/// for either reason; the counts stop at the greatest u64.
 #[derive(Drop)]
 pub struct HashBook {
     kept: IndexMap<Digest, Vec<u8>>,
@@ -24,7 +25,7 @@ pub struct HashBook {
 }
 
 impl HashBook {
-    /// A book that keeps nothing yet, and at most `limit` bytes in all.
+    /// Makes an empty book that keeps at most `limit` bytes in all.
     pub fn new(alloc: Global, limit: u64) -> HashBook
         ensures empty { strings_of result.kept.entries ≡ [] }
         ensures limit { result.limit ≡ limit }
@@ -39,7 +40,7 @@ impl HashBook {
         }
     }
 
-    /// The kept string that has the digest, if there is one.
+    /// Returns the kept string with this digest, if there is one.
     fn find(&self, digest: &Digest) -> Option<&[u8]>
         ensures found { IfSome result (λ s. Contains (strings_of self.now.kept.entries) s.now × (md5 s.now ≡ digest.now)) }
         ensures none { IfNone result (All (λ s. md5 s ≢ digest.now) (strings_of self.now.kept.entries)) }
@@ -50,7 +51,7 @@ impl HashBook {
         }
     }
 
-    /// Keeps a string whose digest no kept string has.
+    /// Keeps a string whose digest no kept string has. When out of memory, keeps nothing.
     fn keep(&mut self, alloc: Global, bytes: &[u8], digest: &Digest) -> Result<(), HashError>
         requires digest { digest.now ≡ md5 bytes.now }
         requires fresh { IsNew (strings_of self.old.kept.entries) bytes.now }

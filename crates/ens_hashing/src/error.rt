@@ -3,14 +3,14 @@ ghost use Rattle.ens_hashing.specs.declared.error.HashError.TheVariants.{Memory}
 
 use std::alloc::{AllocError, AllocFailed};
 
-/// Why a string was not taken.
+/// Why a string was rejected.
 #[derive(Debug, PartialEq, Eq, Drop)]
 pub enum HashError {
-    /// Two different strings have one digest: the kept one, and the new one.
+    /// Two different strings have the same digest: `first` is the kept one, `second` the new one.
     Clash { first: Vec<u8>, second: Vec<u8> },
-    /// How many bytes are kept, where the new string would pass the limit.
+    /// The new string would exceed the limit. Holds the number of bytes kept.
     BookFull(u64),
-    /// Memory ran out.
+    /// Out of memory.
     Memory,
 }
 

@@ -6,23 +6,25 @@ use crate::error::HashError;
 use ens_base::Digest;
 use std::alloc::Global;
 
-/// Gives digests, and may keep the strings that it was given.
+/// Computes digests, and may keep the strings that it was given.
 pub trait Hasher16 {
-    /// The different strings that were taken, the oldest first, where that is told.
+    /// The different strings admitted, the oldest first; `None` if unknown.
     ghost kept: { Self → Option (List (List ℕ)) };
 
-    /// How often a clash was answered, up to the greatest u64.
+    /// The number of clashes found; the count stops at the greatest u64.
     ghost clashes: { Self → ℕ };
 
-    /// How often a full book was answered, up to the greatest u64.
+    /// The number of strings rejected because the book was full; the count stops at the greatest
+    /// u64.
     ghost fulls: { Self → ℕ };
 
-    /// The MD5 of the bytes (RFC 1321), which are taken. A refusal takes nothing.
+    /// Returns the MD5 of `bytes` (RFC 1321), and admits the string. On an error nothing is
+    /// admitted.
     fn digest(&mut self, alloc: Global, bytes: &[u8]) -> Result<Digest, HashError>
         ensures digest { IfOk result (λ d. d ≡ md5 bytes.now) }
         ensures admits { Admits bytes.now (kept self.old) (kept self.new) (clashes self.old) (clashes self.new) (fulls self.old) (fulls self.new) result };
 
-    /// Takes bytes whose digest is known. A refusal takes nothing.
+    /// Admits a string whose digest is known. On an error nothing is admitted.
     fn admit(&mut self, alloc: Global, bytes: &[u8], digest: &Digest) -> Result<(), HashError>
         requires { digest.now ≡ md5 bytes.now }
         ensures admits { Admits bytes.now (kept self.old) (kept self.new) (clashes self.old) (clashes self.new) (fulls self.old) (fulls self.new) result };

@@ -1,9 +1,9 @@
-//! Digests, and a book of the strings that were hashed.
+//! MD5 digests (RFC 1321), and a book of the strings that were hashed.
 //!
-//! All that the tree promises rests on the premise that no two different strings have one MD5. A
-//! `HashBook` checks that premise: it keeps each string that it was given, and refuses a second string
-//! with the digest of a kept one. A `PlainHasher` keeps nothing and refuses nothing. Those who hash
-//! are proved over the trait `Hasher16` alone. The definitions stand in `specs/`.
+//! The tree relies on the premise that no two different strings have the same MD5. A `HashBook`
+//! checks the premise: it keeps each string that it was given, and rejects a string that has the
+//! digest of a different one. A `PlainHasher` keeps nothing and rejects nothing. Callers are proved
+//! over the trait `Hasher16` alone. The definitions stand in `specs/`.
 #![tactic(auto)]
 
 mod book;

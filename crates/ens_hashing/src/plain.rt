@@ -8,7 +8,7 @@ use crate::hasher::Hasher16;
 use ens_base::Digest;
 use std::alloc::Global;
 
-/// Keeps nothing and refuses nothing.
+/// A hasher that keeps nothing and rejects nothing.
 #[derive(Clone, Copy, Debug, PartialEq, Eq)]
 pub struct PlainHasher;
 

@@ -1,4 +1,4 @@
--- Runs of reads and writes go on.
+-- Sequences of reads and of writes compose.
 use Rattle.std.proofs.Common.{◌≡◌, ℕ, ◌+◌, List, [], ◌∷◌, ◌++◌, length, take, drop, Option, Some, None, refl, sym, ap, ◌∙◌, append_assoc, arith}
 use Rattle.std.proofs.lemmas.Grind.{common_steps}
 use Rattle.std.proofs.Math.Seq.{take-add}
@@ -21,7 +21,7 @@ pub appends_none : (a : Option (List ℕ)) (xs : List ℕ) → Appends a a (take
 appends_none None xs = tt
 appends_none (Some x) xs = grind (arith, common_steps)
 
--- where bytes are pending, bytes are left
+-- if bytes are pending, bytes are left
 pub some_pending : (p : List ℕ) (left : Option (List ℕ)) → ¬ (length p ≡ 0) → IfSome (prepend_known p left) (λ rest. rest ≢ [])
 some_pending p None some = tt
 some_pending [] (Some y) some = absurd (some refl)

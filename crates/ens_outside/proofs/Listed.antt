@@ -1,4 +1,4 @@
--- Which calls are to fail.
+-- The planned failures.
 use Rattle.std.proofs.Common.{◌≡◌, ◌≢◌, ℕ, Bool, true, false, ◌==◌, if◌then◌else◌, List, [], ◌∷◌, None, Some, map, inl, inr, refl, sym, eq-eqb}
 use Rattle.std.proofs.lemmas.Bool.{eqb-true}
 use Rattle.ens_base.specs.Lists.{◌∈◌}

@@ -1,4 +1,4 @@
--- One look more.
+-- The results of one look more.
 use Rattle.std.proofs.Common.{◌≡◌, ℕ, ◌+◌, ◌-◌, ◌<◌, ◌≤◌, List, [], ◌∷◌, ◌++◌, length, replicate, Option, None, inl, inr, sym, append_assoc, rules, arith}
 use Rattle.std.proofs.lemmas.Bool.{cases_lt}
 use Rattle.std.proofs.lemmas.Grind.{replicate_next}
@@ -8,14 +8,14 @@ use Rattle.ens_outside.specs.MemLink.{first_looks, look_at}
 abbrev Looked : Type 0
 Looked = List (Option (List ℕ))
 
--- where the list is not at its end
+-- before the end of the list
 within : (n : ℕ) (xs : Looked) → n < length xs → first_looks (n + 1) xs ≡ first_looks n xs ++ look_at n xs ∷ []
 within n xs lt =
     let left : (n + 1) - length xs ≡ 0 = omega arith in
     let before : n - length xs ≡ 0 = omega arith in
     rw (left, before, take_more xs n None lt) (search rules)
 
--- where it is
+-- after the end of the list
 past : (n : ℕ) (xs : Looked) → length xs ≤ n → first_looks (n + 1) xs ≡ first_looks n xs ++ look_at n xs ∷ []
 past n xs le =
     let one : (n + 1) - length xs ≡ (n - length xs) + 1 = omega arith in

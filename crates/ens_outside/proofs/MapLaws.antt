@@ -1,4 +1,4 @@
--- What is found after a put.
+-- A lookup after a put.
 use Rattle.std.proofs.Common.{◌≡◌, ◌≢◌, ℕ, Bool, true, false, cond, List, [], ◌∷◌, None, Some, sym, ap, ◌∙◌, refl}
 use Rattle.std.proofs.lemmas.Map.Lookups.{exact_bytes}
 use Rattle.std.proofs.lemmas.Map.Text.{is_eq-slice_cmp}
@@ -9,11 +9,11 @@ use Rattle.std.specs.declared.cmp.Ordering.TheVariants.{Less, Equal, Greater}
 use Rattle.ens_base.specs.Lists.{bytes_cmp}
 use Rattle.ens_outside.specs.Maps.{Entries, value_at, with_value}
 
--- a key is at itself
+-- a key equals itself
 at_itself : (key : List ℕ) → is_eq (bytes_cmp key key) ≡ true
 at_itself key = is_eq-slice_cmp key key ∙ (bytes_eq-Decides key key).1 refl
 
--- and at no other
+-- and no other key
 apart : (other key : List ℕ) → other ≢ key → is_eq (bytes_cmp other key) ≡ false
 apart other key ne = by (is_eq (bytes_cmp other key)) refl
   where

@@ -1,25 +1,26 @@
--- Which calls of a store in memory are to fail, and what is counted.
+-- The planned failures of a store in memory, and its counts.
 use Rattle.std.specs.Prelude.{ℕ, ◌+◌, ◌-◌, ◌^◌, ◌==◌, if◌then◌else◌, min, List, [], ◌∷◌, Option, None, Some}
 use Rattle.ens_outside.specs.declared.memory.failing_call.Leaves.{Leaves}
 use Rattle.ens_outside.specs.declared.memory.failing_call.Leaves.TheVariants.{Old, New}
 use Rattle.ens_outside.specs.declared.memory.failing_call.FailingCall.{FailingCall}
 
--- the calls that are to fail, how many calls came, and how many of them failed
+-- the planned failures, the number of calls so far, and the number of those that failed
 pub record Plan : Type 0 where
   pub listed : List FailingCall
   pub calls : ℕ
   pub faults : ℕ
 
--- what the call of this number leaves, if it is listed; the first place in the list counts
+-- what the call of this number leaves behind, if it is listed; the first entry with its number
+-- counts
 abbrev pub planned : ℕ → List FailingCall → Option Leaves
 planned call [] = None
 planned call (f ∷ fs) = if f.call == call then Some f.leaves else planned call fs
 
--- one more, up to the greatest u64
+-- one more, but never above the greatest u64
 abbrev pub counted : ℕ → ℕ
 counted n = min (n + 1) (2 ^ 64 - 1)
 
--- what the next call leaves, if it is to fail
+-- what the next call leaves behind, if it is planned to fail
 abbrev pub next_failure : Plan → Option Leaves
 next_failure p = planned (counted p.calls) p.listed
 
@@ -31,7 +32,7 @@ called p = record p { calls = counted p.calls }
 abbrev pub failed : Plan → Plan
 failed p = record p { calls = counted p.calls; faults = counted p.faults }
 
--- what a call that failed leaves of what stood before and what it would have left
+-- the state that a failed call leaves: the one before the call, or the one after its effect
 abbrev pub left_by : {S : Type 0} → Leaves → S → S → S
 left_by Old before after = before
 left_by New before after = after

@@ -6,8 +6,8 @@ ghost use Rattle.ens_outside.specs.Written.{AppendsFront};
 use crate::sink::{Sink, write_all};
 use ens_base::Status;
 
-/// Writes the text with which a job ends, and answers its status, or that the output failed. A front
-/// of the text is written then.
+/// Writes the text with which a job ends. Returns `status`, or `WriteFault` if the output failed;
+/// then a prefix of the text was written.
 pub fn finish<O: Sink>(output: &mut O, text: &str, status: Status) -> Status
     requires { status ≢ Status.WriteFault }
     ensures written { result ≢ Status.WriteFault → (result ≡ status) × Appends (O.written output.old) (O.written output.new) text.now }

@@ -8,9 +8,9 @@ use std::alloc::{AllocError, AllocFailed};
 /// Why a store did not do what it was asked.
 #[derive(Clone, Copy, Debug, PartialEq, Eq)]
 pub enum StoreError {
-    /// The store failed. Its count of faults has risen.
+    /// The store failed. Its fault count has risen.
     Failed,
-    /// Memory ran out. The count of faults stands.
+    /// Out of memory. The fault count is unchanged.
     Memory,
 }
 
@@ -38,12 +38,12 @@ impl From<CopyError> for StoreError {
     }
 }
 
-/// Why a frame was not sent, or a look was refused.
+/// Why a frame was not sent, or a look failed.
 #[derive(Clone, Copy, Debug, PartialEq, Eq)]
 pub enum LinkError {
-    /// The link failed. Its count of faults has risen.
+    /// The link failed. Its fault count has risen.
     Failed,
-    /// Memory ran out. The count of faults stands.
+    /// Out of memory. The fault count is unchanged.
     Memory,
 }
 

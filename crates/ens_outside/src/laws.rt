@@ -4,14 +4,15 @@ ghost use Rattle.ens_outside.specs.Maps.{Entries, value_at, with_value};
 ghost use Rattle.ens_outside.specs.Failures.{planned};
 ghost use Rattle.ens_outside.specs.declared.memory.failing_call.FailingCall.{FailingCall};
 
-/// What was put under a key is what is found under it, and what stands under every other key stays.
+/// A lookup finds the bytes that were last stored under its key, and storing under one key changes
+/// no other key. The empty map has no entry.
 pub fn what_was_put_is_found()
     ensures found { (key bytes : List ℕ) (es : Entries) → value_at key (with_value key bytes es) ≡ Some bytes }
     ensures others { (key other bytes : List ℕ) (es : Entries) → other ≢ key → value_at other (with_value key bytes es) ≡ value_at other es }
     ensures empty { (key : List ℕ) → value_at key [] ≡ None }
 {}
 
-/// Exactly the calls whose numbers are listed are to fail.
+/// Exactly the calls whose numbers are listed are planned to fail.
 pub fn exactly_the_listed_fail()
     ensures { (call : ℕ) (listed : List FailingCall) → (planned call listed ≢ None) ↔ (call ∈ map (λ f. f.call) listed) }
 {}

@@ -1,13 +1,14 @@
-//! The outside, as traits with meanings: where bytes come from and where they go, the stores of a
+//! The outside of a peer, as traits with contracts: sources and sinks of bytes, the stores of a
 //! peer, the network and the clock.
 //!
-//! Each trait tells of its content what its maker can tell, and counts its faults: the count never
-//! falls, and a call answers `Failed` only where it rose in that call. A backend and a store of nodes
-//! say by two relations what a call may be answered and what a refused call may leave, so a store that
-//! lies is one of them too. The layers above are proved over these traits alone. Here are also their
-//! implementations in memory, which fail at a list of calls and nowhere else, and the thin ones over
-//! std's readers and writers. The definitions stand in `specs/`, and the meaning of a count in
-//! ens_base's `specs/Causes`.
+//! Each trait describes its content as far as an implementation can know it, and counts its faults:
+//! the count never falls, and a call returns `Failed` only if the count rose in that call. A
+//! backend and a node store state by two relations what a call may return and what a refused call
+//! may leave behind, so a store that lies is an implementation too. The layers above are proved
+//! over these traits alone. This crate also has implementations in memory, which fail at a given
+//! list of calls and nowhere else, and thin adapters over std's readers and writers. The
+//! definitions stand in `specs/`; the meaning of a fault count stands in `specs/Causes` of
+//! ens_base.
 #![tactic(auto)]
 
 mod backend;

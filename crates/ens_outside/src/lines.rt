@@ -8,28 +8,29 @@ use ens_base::Failed;
 use std::alloc::{AllocError, Global};
 use std::mem;
 
-/// The longest line, without its line feed.
+/// The greatest length of a line in bytes, without its line feed.
 pub const LINE_LIMIT: usize = 4400;
 
 const PIECE: usize = 512;
 
-/// What comes next.
+/// What a source gave next.
 #[derive(Debug, Drop)]
 pub enum Next {
     /// A line, without its line feed.
     Line(Vec<u8>),
-    /// The bytes behind the last line feed. The source is at its end.
+    /// The bytes after the last line feed. The source is at its end.
     Rest(Vec<u8>),
     TooLong,
 }
 
+/// Why the next line was not read: the source failed, or out of memory.
 #[derive(Clone, Copy, Debug, PartialEq, Eq)]
 pub enum NextError {
     Failed,
     Memory,
 }
 
-/// The lines of a source. It keeps what was read and not yet given.
+/// Splits a source into lines. Keeps the bytes that were read and not yet returned.
 #[derive(Drop)]
 pub struct Lines {
     pub pending: Vec<u8>,
@@ -50,6 +51,7 @@ fn find_feed(bytes: &[u8]) -> Option<usize>
 }
 
 impl Lines {
+    /// Makes a reader with nothing pending.
     pub fn new(alloc: Global) -> Self
         ensures { result.pending.items ≡ [] }
     {
@@ -58,7 +60,8 @@ impl Lines {
         }
     }
 
-    /// Takes out the bytes before the line feed at `k`.
+    /// Takes out the bytes before the line feed at index `k`, and drops the line feed. When out of
+    /// memory, leaves the pending bytes unchanged.
     fn take_line(&mut self, alloc: Global, k: usize) -> Result<Vec<u8>, AllocError>
         requires place { k < length self.old.pending.items }
         requires feed { slice_index self.old.pending.items k ≡ 10 }
@@ -72,7 +75,8 @@ impl Lines {
         Ok(line)
     }
 
-    /// What is next by the pending bytes alone: a line, or that it is too long.
+    /// Returns what the pending bytes alone decide: a line, or `TooLong`. Returns `None` if they do
+    /// not decide it, and leaves them unchanged then.
     fn ready(&mut self, alloc: Global) -> Result<Option<Next>, NextError>
         ensures next { IfOk result (λ o. IfSome o (IsReady self.old.pending.items self.new.pending.items)) }
         ensures none { IfOk result (λ o. IfNone o ((self.new.pending.items ≡ self.old.pending.items) × IsLine self.old.pending.items)) }
@@ -90,7 +94,7 @@ impl Lines {
         }
     }
 
-    /// Reads one piece behind what is pending, and says whether there was any.
+    /// Reads one piece after the pending bytes. Returns whether there was any.
     fn fill<S: Source>(&mut self, source: &mut S) -> Result<bool, NextError>
         ensures bytes { Keeps (prepend_known self.old.pending.items (S.left source.old)) (prepend_known self.new.pending.items (S.left source.new)) }
         ensures end { IfOk result (λ more. more ≡ false → (self.new.pending.items ≡ self.old.pending.items) × IsAtEnd (S.left source.new)) }
@@ -112,7 +116,10 @@ impl Lines {
         }
     }
 
-    /// What comes next. Each turn reads at least one byte or ends, so 4,402 turns are enough.
+    /// Returns the next line, the rest after the last line feed, or `TooLong` if more than 4,400
+    /// bytes come without a line feed. An error loses no byte, and neither does `TooLong`.
+    ///
+    /// Each turn reads at least one byte or returns, so 4,402 turns are enough.
     pub fn next<S: Source>(&mut self, alloc: Global, source: &mut S) -> Result<Next, NextError>
         ensures next { IfOk result (λ n. IsNext (prepend_known self.old.pending.items (S.left source.old))
             (prepend_known self.new.pending.items (S.left source.new)) n) }
@@ -133,7 +140,7 @@ impl Lines {
         unreachable!()
     }
 
-    /// Whether nothing is left. It reads one piece at most, and gives nothing away.
+    /// Returns whether nothing is left to read. Reads at most one piece, and consumes nothing.
     pub fn is_end<S: Source>(&mut self, source: &mut S) -> Result<bool, NextError>
         ensures end { IfOk result (λ end. end ≡ true → IsAtEnd (prepend_known self.new.pending.items (S.left source.new))) }
         ensures more { IfOk result (λ end. end ≡ false → IfSome (prepend_known self.old.pending.items (S.left source.old)) (λ rest. rest ≢ [])) }

@@ -21,8 +21,8 @@ pub use nodes::MemNodes;
 use std::alloc::{AllocError, Global};
 pub use ticker::MemTicker;
 
-/// A source over bytes in memory. The calls whose numbers are listed fail, the first call being 1;
-/// with an empty list none does.
+/// A source over bytes in memory. Exactly the calls whose numbers are listed fail. The first call
+/// is number 1.
 #[derive(Drop)]
 pub struct MemSource {
     bytes: Vec<u8>,
@@ -34,6 +34,7 @@ pub struct MemSource {
 }
 
 impl MemSource {
+    /// Makes a source that gives `bytes` and fails at the calls listed in `failing`.
     pub fn new(bytes: Vec<u8>, failing: Vec<u64>) -> Self
         ensures bytes { result.bytes ≡ bytes }
         ensures failing { result.failing ≡ failing }
@@ -76,9 +77,9 @@ impl Source for MemSource {
     }
 }
 
-/// A sink in memory, with room for so many bytes taken at the start. A write takes what there is room
-/// for, and fails where there is none. So do the calls whose numbers are listed, the first call being 1;
-/// with an empty list none of these does.
+/// A sink in memory, with its room allocated at the start. A write takes as many bytes as there is
+/// room for. Exactly the calls whose numbers are listed fail, and those with bytes to write and no
+/// room. The first call is number 1.
 #[derive(Drop)]
 pub struct MemSink {
     bytes: Vec<u8>,
@@ -91,6 +92,8 @@ pub struct MemSink {
 }
 
 impl MemSink {
+    /// Makes an empty sink with room for `room` bytes, which fails at the calls listed in
+    /// `failing`.
     pub fn new(alloc: Global, room: usize, failing: Vec<u64>) -> Result<Self, AllocError>
         ensures bytes { IfOk result (λ s. s.bytes.items ≡ []) }
         ensures room { IfOk result (λ s. s.room ≡ room) }
@@ -107,6 +110,7 @@ impl MemSink {
         })
     }
 
+    /// Returns the bytes written.
     pub fn bytes(&self) -> &[u8]
         ensures { result.now ≡ self.now.bytes.items }
     {

@@ -6,18 +6,21 @@ ghost use Rattle.ens_outside.specs.Written.{AppendsFront};
 
 use ens_base::Failed;
 
-/// Where bytes go.
+/// A sink of bytes.
 pub trait Sink {
-    /// The bytes that were written, where that is told.
+    /// The bytes written; `None` if unknown.
     ghost written: { Self → Option (List ℕ) };
 
-    /// How often a call has failed.
+    /// The number of calls that failed.
     ghost fault_count: { Self → ℕ };
 
+    /// Returns the fault count. It never falls. Once it has reached the greatest u64 it stays
+    /// there, and counts as risen.
     fn faults(&self) -> u64
         ensures { result ≡ fault_count self.now };
 
-    /// Takes some bytes from the front, at least one of a piece that is not empty.
+    /// Writes some bytes from the front of `bytes`: at least one, unless `bytes` is empty. Returns
+    /// how many.
     fn write_some(&mut self, bytes: &[u8]) -> Result<usize, Failed>
         ensures bound { WritesAtMost result bytes.now }
         ensures progress { IfOk result (λ n. 0 < length bytes.now → 0 < n) }
@@ -25,7 +28,7 @@ pub trait Sink {
         ensures cause { HasCause (fault_count self.old) (fault_count self.new) result };
 }
 
-/// Writes all of the bytes, or a front of them where a call fails.
+/// Writes all of `bytes`. If a call fails, a prefix of them was written.
 pub fn write_all<O: Sink>(output: &mut O, bytes: &[u8]) -> Result<(), Failed>
     ensures ok { OnOk result (Appends (O.written output.old) (O.written output.new) bytes.now) }
     ensures front { AppendsFront (O.written output.old) (O.written output.new) bytes.now }

@@ -5,19 +5,21 @@ ghost use Rattle.ens_base.specs.Causes.{HasCause};
 
 use ens_base::Failed;
 
-/// Where bytes come from.
+/// A source of bytes.
 pub trait Source {
-    /// The bytes that are left, where that is told.
+    /// The bytes still to be read; `None` if unknown.
     ghost left: { Self → Option (List ℕ) };
 
-    /// How often a call has failed.
+    /// The number of calls that failed.
     ghost fault_count: { Self → ℕ };
 
-    /// The count of faults. It never falls; at the greatest number it stays, and counts as risen.
+    /// Returns the fault count. It never falls. Once it has reached the greatest u64 it stays
+    /// there, and counts as risen.
     fn faults(&self) -> u64
         ensures { result ≡ fault_count self.now };
 
-    /// Reads some bytes to the front of `buf`. 0 for a buffer that is not empty is the end.
+    /// Reads some bytes into the front of `buf`. Returns how many; 0 means the end, unless `buf` is
+    /// empty.
     fn read_some(&mut self, buf: &mut [u8]) -> Result<usize, Failed>
         ensures bound { ReadsAtMost result buf.new }
         ensures bytes { ReadConsumes (left self.old) (left self.new) result buf.new }

@@ -5,7 +5,7 @@ use crate::source::Source;
 use ens_base::Failed;
 use std::io::{Read, Write};
 
-/// Any reader of std as a source. Over standard input it tells nothing of the bytes.
+/// A source over any reader of std. Over standard input nothing is known of the bytes.
 #[derive(Drop)]
 pub struct ReaderSource<R> {
     inner: R,
@@ -13,7 +13,7 @@ pub struct ReaderSource<R> {
 }
 
 impl<R> ReaderSource<R> {
-    /// A source over this reader.
+    /// Makes a source over `inner`.
     pub fn new(inner: R) -> Self
         ensures { (result.inner ≡ inner) × (result.faults ≡ 0) }
     {
@@ -41,7 +41,7 @@ impl<R: Read> Source for ReaderSource<R> {
     }
 }
 
-/// Any writer of std as a sink. One that takes nothing of a piece that is not empty has failed.
+/// A sink over any writer of std. A write that takes none of a nonempty piece is a failure.
 #[derive(Drop)]
 pub struct WriterSink<W> {
     inner: W,
@@ -49,7 +49,7 @@ pub struct WriterSink<W> {
 }
 
 impl<W> WriterSink<W> {
-    /// A sink over this writer.
+    /// Makes a sink over `inner`.
     pub fn new(inner: W) -> Self
         ensures { (result.inner ≡ inner) × (result.faults ≡ 0) }
     {

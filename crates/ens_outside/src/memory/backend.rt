@@ -12,9 +12,9 @@ use std::alloc::Global;
 use std::collections::BTreeMap;
 use std::marker::Model;
 
-/// A backend in memory: a finite map, in which a put that is answered is what the next get of that key
-/// gives. Exactly the listed calls fail, and with an empty list none does. Want of memory leaves the
-/// map as it was.
+/// A backend in memory: a finite map in which a get returns what the last successful put of its key
+/// stored. Exactly the listed calls fail, with or without their effect. When out of memory, a call
+/// leaves the map unchanged.
 #[derive(Drop)]
 pub struct MemBackend {
     objects: BTreeMap<Key, Bytes>,
@@ -30,7 +30,7 @@ impl Model for MemBackend {
 }
 
 impl MemBackend {
-    /// An empty backend, whose listed calls are to fail.
+    /// Makes an empty backend that fails at the listed calls.
     pub fn new(alloc: Global, failing: Vec<FailingCall>) -> Self
         ensures empty { result.entries ≡ [] }
         ensures plan { result.plan ≡ record { listed = failing.items; calls = 0; faults = 0 } }
@@ -41,6 +41,7 @@ impl MemBackend {
         }
     }
 
+    /// Looks up the bytes under `key`.
     fn find(&self, alloc: Global, key: &Key) -> Result<Option<Vec<u8>>, StoreError>
         ensures found { IfOk result (λ o. bytes_of o ≡ value_at key.now self.now.entries) }
         ensures memory { IfErr result (λ e. e ≡ StoreError.Memory) }
@@ -51,6 +52,7 @@ impl MemBackend {
         }
     }
 
+    /// Stores `bytes` under `key`. When out of memory, leaves the map unchanged.
     fn keep(&mut self, alloc: Global, key: &Key, bytes: &[u8]) -> Result<(), StoreError>
         ensures kept { OnOk result (self.new ≡ record self.old { entries = with_value key.now bytes.now self.old.entries }) }
         ensures err { OnErr result (self.new ≡ self.old) }

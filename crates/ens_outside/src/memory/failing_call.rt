@@ -1,16 +1,16 @@
-/// What a call that fails leaves. Where the call only reads, both are one.
+/// What a failing call leaves behind. For a call that only reads, both are the same.
 #[derive(Clone, Copy, Debug, PartialEq, Eq)]
 pub enum Leaves {
-    /// What stood before, as if the call had not come.
+    /// The state before the call: the call had no effect.
     Old,
-    /// What the call was to leave: it took effect, and says that it failed.
+    /// The state after the call: it took effect, and still reports a failure.
     New,
 }
 
-/// A call that is to fail.
+/// A call that is planned to fail.
 #[derive(Clone, Copy, Debug, PartialEq, Eq)]
 pub struct FailingCall {
-    /// The number of the call among all calls of its store, the first being 1.
+    /// The number of the call among all calls of its store. The first call is number 1.
     pub call: u64,
     pub leaves: Leaves,
 }

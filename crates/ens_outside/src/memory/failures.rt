@@ -5,7 +5,7 @@ ghost use Rattle.ens_outside.specs.Failures.{planned, counted, next_failure, cal
 use crate::memory::failing_call::{FailingCall, Leaves};
 use std::marker::Model;
 
-/// The calls of a store that are to fail, with its counts of calls and of faults.
+/// The planned failures of a store, with its counts of calls and of faults.
 #[derive(Drop)]
 pub(crate) struct Failures {
     listed: Vec<FailingCall>,
@@ -21,7 +21,7 @@ impl Model for Failures {
     ghost view = { λ f. record { listed = f.listed.items; calls = f.calls; faults = f.faults } };
 }
 
-/// What the call of this number leaves, if it is listed.
+/// Returns what the call of this number leaves behind if it is planned to fail.
 fn planned(call: u64, listed: &[FailingCall]) -> Option<Leaves>
     ensures { result ≡ Rattle.ens_outside.specs.Failures.planned call listed.now }
 {
@@ -50,7 +50,7 @@ impl Failures {
         self.faults
     }
 
-    /// Counts a call, and says what it leaves if it is to fail.
+    /// Counts a call. Returns what it leaves behind if it is planned to fail.
     pub(crate) fn call(&mut self) -> Option<Leaves>
         ensures failure { result ≡ next_failure self.old }
         ensures plan { self.new ≡ called self.old }

@@ -10,10 +10,10 @@ use ens_base::Bytes;
 use std::alloc::Global;
 use std::marker::Model;
 
-/// A link in memory. What each look finds is given when it is made, and past the end of that list
-/// nothing waits; the frames that are sent are kept. Exactly the calls whose numbers are listed fail,
-/// the first call being 1, and with an empty list none does. Want of memory leaves all as it was, and
-/// so does a look that can no more be counted.
+/// A link in memory. The result of each look is given in advance; after the last of them nothing
+/// waits. Sent frames are kept. Exactly the calls whose numbers are listed fail; the first call is
+/// number 1. When out of memory, a call changes nothing but the count of calls; so does a look that
+/// can no longer be counted.
 #[derive(Drop)]
 pub struct MemLink {
     looks: Vec<Option<Bytes>>,
@@ -33,7 +33,8 @@ impl Model for MemLink {
 }
 
 impl MemLink {
-    /// A link whose looks find these, and whose listed calls are to fail.
+    /// Makes a link whose looks give `looks` in order, and which fails at the calls listed in
+    /// `failing`.
     pub fn new(alloc: Global, looks: Vec<Option<Bytes>>, failing: Vec<u64>) -> Self
         ensures { result ≡ record { looks = looks.items; looked = 0; sent = []; failing = failing.items; calls = 0; faults = 0 } }
     {
@@ -47,14 +48,14 @@ impl MemLink {
         }
     }
 
-    /// The frames that were sent, each with the number it was sent to, the oldest first.
+    /// Returns the frames sent, each with the number it was sent to, the oldest first.
     pub fn sent(&self) -> &[(u32, Bytes)]
         ensures { result.now ≡ self.now.sent }
     {
         self.sent.as_slice()
     }
 
-    /// Counts a call, and a fault if it is listed.
+    /// Counts a call, and a fault if the call is listed. Returns whether it is.
     fn fails(&mut self) -> bool
         ensures listed { IsTrue result ↔ FailsNext self.old }
         ensures link { self.new ≡ (if result then link_failed self.old else link_called self.old) }
@@ -68,7 +69,7 @@ impl MemLink {
         listed
     }
 
-    /// A copy of what the next look finds.
+    /// Returns a copy of what the next look finds.
     fn find(&self, alloc: Global) -> Result<Option<Vec<u8>>, LinkError>
         ensures found { IfOk result (λ o. bytes_of o ≡ look_at self.now.looked self.now.looks) }
         ensures memory { IfErr result (λ e. e ≡ LinkError.Memory) }
@@ -82,7 +83,7 @@ impl MemLink {
         }
     }
 
-    /// Keeps a frame as sent.
+    /// Records a frame as sent. When out of memory, records nothing.
     fn keep(&mut self, alloc: Global, to: u32, frame: &[u8]) -> Result<(), LinkError>
         ensures kept { OnOk result (self.new ≡ record self.old { sent = self.old.sent ++ (to, frame.now) ∷ [] }) }
         ensures err { OnErr result (self.new ≡ self.old) }

@@ -12,9 +12,10 @@ use std::alloc::Global;
 use std::collections::BTreeMap;
 use std::marker::Model;
 
-/// A store of nodes in memory: a finite map, in which a write that is answered is what the next read
-/// of that digest gives, and a top record, which it always tells. Exactly the listed calls fail, and
-/// with an empty list none does. Want of memory leaves all as it was.
+/// A node store in memory: a finite map in which a read returns what the last successful write of
+/// its digest stored, and a top record, which is always known. Exactly the listed calls fail, with
+/// or without their effect. When out of memory, a call leaves the nodes and the top record
+/// unchanged.
 #[derive(Drop)]
 pub struct MemNodes {
     nodes: BTreeMap<Digest, Bytes>,
@@ -31,7 +32,7 @@ impl Model for MemNodes {
 }
 
 impl MemNodes {
-    /// A store without nodes and without a top record, whose listed calls are to fail.
+    /// Makes a store without nodes and without a top record, which fails at the listed calls.
     pub fn new(alloc: Global, failing: Vec<FailingCall>) -> Self
         ensures empty { result.held ≡ record { entries = []; top = None } }
         ensures plan { result.plan ≡ record { listed = failing.items; calls = 0; faults = 0 } }
@@ -43,6 +44,7 @@ impl MemNodes {
         }
     }
 
+    /// Looks up the bytes under `digest`.
     fn find(&self, alloc: Global, digest: &Digest) -> Result<Option<Vec<u8>>, StoreError>
         ensures found { IfOk result (λ o. bytes_of o ≡ value_at digest.now self.now.held.entries) }
         ensures memory { IfErr result (λ e. e ≡ StoreError.Memory) }
@@ -53,6 +55,7 @@ impl MemNodes {
         }
     }
 
+    /// Stores `bytes` under `digest`. When out of memory, leaves the store unchanged.
     fn keep(&mut self, alloc: Global, digest: &Digest, bytes: &[u8]) -> Result<(), StoreError>
         ensures kept { OnOk result (self.new ≡ record self.old { held = record self.old.held { entries = with_value digest.now bytes.now self.old.held.entries } }) }
         ensures err { OnErr result (self.new ≡ self.old) }
@@ -63,6 +66,7 @@ impl MemNodes {
         Ok(())
     }
 
+    /// Sets the top record.
     fn keep_top(&mut self, digest: &Digest)
         ensures { self.new ≡ record self.old { held = record self.old.held { top = Some digest.now } } }
     {

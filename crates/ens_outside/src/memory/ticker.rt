@@ -4,7 +4,7 @@ ghost use Rattle.ens_outside.specs.Links.{AnswersNext};
 
 use crate::ticker::Ticker;
 
-/// A ticker that gives these answers in order, and then is not due.
+/// A ticker that gives these answers in order, and after them is never due.
 #[derive(Drop)]
 pub struct MemTicker {
     answers: Vec<bool>,
@@ -13,6 +13,7 @@ pub struct MemTicker {
 }
 
 impl MemTicker {
+    /// Makes a ticker that gives `answers` in order.
     pub fn new(answers: Vec<bool>) -> Self
         ensures answers { result.answers ≡ answers }
         ensures start { result.at ≡ 0 }
