@@ -1,4 +1,4 @@
--- A record that spells a fact.
+-- A record that encodes a fact.
 use Rattle.std.proofs.Common.{◌≡◌, inl, inr, ⊎_elim, ℕ, List, ◌++◌, length, take, Option, Some, Result, Ok, sym, ◌∙◌, ap}
 use Rattle.std.specs.Prelude.{OnOk, Err}
 use Rattle.std.proofs.lemmas.List.{take_at}
@@ -8,18 +8,18 @@ use Rattle.peer_fact.specs.declared.error.FactError.{FactError}
 use Rattle.peer_fact.specs.FactBytes.{fact_of, fact_spelling}
 use Rattle.fact_store.specs.Keeping.{fact_in, IsOldOrNewIn}
 
--- the front of a buffer that was spelled into
+-- the front of a buffer that a fact was encoded into
 pub front_spelled : (fact : Fact) (out rest : List ℕ) (n : ℕ) → out ≡ fact_spelling fact ++ rest → n ≡ length (fact_spelling fact) → take n out ≡ fact_spelling fact
 front_spelled fact out rest n is size = ap (λ (l : List ℕ). take n l) is ∙ take_at (fact_spelling fact) rest n (sym size)
 
 pub fact_kept : (fact : Fact) (bytes : List ℕ) → bytes ≡ fact_spelling fact → fact_of (fact_spelling fact) ≡ Ok fact → (held : Option (List ℕ)) → held ≡ Some bytes → fact_in held ≡ Some (Ok fact)
 fact_kept fact bytes spelled again held is = ap fact_in (is ∙ ap (λ (l : List ℕ). Some l) spelled) ∙ ap (λ (r : Result Fact FactError). Some r) again
 
--- the old record or the new one stands for the old fact or the new one
+-- the old record or the new one encodes the old fact or the new one
 pub facts_too : (old : Option (List ℕ)) (fact : Fact) (bytes file : List ℕ) → bytes ≡ fact_spelling fact → fact_of (fact_spelling fact) ≡ Ok fact → IsOldOrNewRecord old bytes file → IsOldOrNewIn (fact_in old) fact file
 facts_too old fact bytes file spelled again is = ⊎_elim (λ e. inl (ap fact_in e)) (λ e. inr (fact_kept fact bytes spelled again (record_of file) e)) is
 
--- what follows from what holds after an Ok
+-- a fact after success, weakened
 pub on_ok : {T E : Type 0} (r : Result T E) (P Q : Type 0) → (P → Q) → OnOk r P → OnOk r Q
 on_ok (Ok x) P Q implies p = implies p
 on_ok (Err e) P Q implies p = p

@@ -1,4 +1,4 @@
--- What a keeper of facts answers.
+-- The answers of a fact keeper.
 use Rattle.std.specs.Prelude.{◌≡◌, ◌-◌, ◌^◌, ◌⊎◌, ℕ, List, Option, Some, None, Result, Ok, Err}
 use Rattle.std.specs.Option.{option_map}
 use Rattle.ens_base.specs.Causes.{Rose}
@@ -16,12 +16,13 @@ pub data KeeperCall : Type 0 where
   Load : KeeperCall
   Save : (fact : Fact) → KeeperCall
 
--- what a call of a keeper is answered with
+-- the type of the answer to a call of a keeper
 abbrev pub KeeperAnswer : KeeperCall → Type 0
 KeeperAnswer Load = Option Fact
 KeeperAnswer (Save fact) = Unit {0}
 
--- what a load answers of what is kept, want of memory aside; the counts of faults are those before and after
+-- the result of loading what is kept, from the fault counts before and after; `Memory` may always
+-- be returned
 abbrev pub Loads : Option (Result Fact FactError) → ℕ → ℕ → Result (Option Fact) KeepError → Type 0
 Loads kept before now (Ok None) = kept ≡ None
 Loads kept before now (Ok (Some f)) = kept ≡ Some (Ok f)
@@ -29,35 +30,35 @@ Loads kept before now (Err errors.Failed) = Rose before now
 Loads kept before now (Err errors.Memory) = Unit {0}
 Loads kept before now (Err (errors.Bad e)) = kept ≡ Some (Err e)
 
--- what is kept after a save that failed
+-- what is kept after a failed save: the same as before, or this fact
 abbrev pub IsOldOrNew : Option (Result Fact FactError) → Fact → Option (Result Fact FactError) → Type 0
 IsOldOrNew old fact new = (new ≡ old) ⊎ (new ≡ Some (Ok fact))
 
--- what a record stands for
+-- the fact that a record encodes, if there is a record
 abbrev pub fact_in : Option (List ℕ) → Option (Result Fact FactError)
 fact_in bytes = option_map fact_of bytes
 
--- what a file of two slots stands for
+-- the fact that a file of two slots holds, if there is one
 abbrev pub file_fact : List ℕ → Option (Result Fact FactError)
 file_fact file = fact_in (record_of file)
 
--- the file stands for what was kept, or for this fact
+-- the file holds what was kept, or this fact
 abbrev pub IsOldOrNewIn : Option (Result Fact FactError) → Fact → List ℕ → Type 0
 IsOldOrNewIn old fact file = IsOldOrNew old fact (file_fact file)
 
--- why a fact was not saved in a slot file, by the counts of faults and the last serial number
+-- why a fact was not saved in a slot file, from the fault counts and the last serial number
 abbrev pub IsPutError : ℕ → ℕ → ℕ → SlotError → Type 0
 IsPutError before now last slots.Failed = Rose before now
 IsPutError before now last slots.Spent = last ≡ 2 ^ 64 - 1
 IsPutError before now last e = ⊥
 
--- why a file was not opened
+-- why a fact file was not opened
 abbrev pub IsOpenError : ℕ → ℕ → KeepError → Type 0
 IsOpenError before now errors.Failed = Rose before now
 IsOpenError before now errors.Memory = Unit {0}
 IsOpenError before now (errors.Bad e) = ⊥
 
--- the same refusal in this crate's words
+-- the error of opening the slot file, as one of the fact file
 abbrev pub opened_with : SlotError → KeepError
 opened_with slots.Memory = errors.Memory
 opened_with e = errors.Failed

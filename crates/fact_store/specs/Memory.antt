@@ -1,4 +1,4 @@
--- What a keeper in memory keeps.
+-- The content of a keeper in memory.
 use Rattle.std.specs.Prelude.{Option, Some, None, Result, Ok, Err}
 use Rattle.peer_fact.specs.declared.fact.Fact.{Fact}
 use Rattle.peer_fact.specs.declared.error.FactError.{FactError}

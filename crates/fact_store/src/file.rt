@@ -13,14 +13,14 @@ use peer_fact::{Change, Fact, FactError};
 use slot_disk::{Disk, Refused, SlotError, SlotFile};
 use std::alloc::Global;
 
-/// A fact on a disk, in a slot file. It is replaced whole or not at all, whenever a crash comes.
+/// A fact on a disk, in a slot file. A save replaces it atomically, whenever a crash comes.
 #[derive(Drop)]
 pub struct FactFile<D: Disk> {
     slots: SlotFile<D>,
     spent: u64,
 }
 
-/// What is loaded of a record.
+/// Decodes a record.
 fn loaded(bytes: &[u8]) -> Result<Option<Fact>, KeepError>
     ensures { (before now : ℕ) → Loads (Some (fact_of bytes.now)) before now result }
 {
@@ -30,7 +30,7 @@ fn loaded(bytes: &[u8]) -> Result<Option<Fact>, KeepError>
     }
 }
 
-/// Saves the spelling of a fact.
+/// Saves the encoding of a fact.
 fn put<D: Disk>(slots: &mut SlotFile<D>, fact: &Fact) -> Result<(), SlotError>
     ensures any_moment { IsAtRest D.seen D.may_leave slots.old → LeavesOnly D.moment D.left_since slots.old.disk slots.new.disk (IsOldOrNewIn (fact_in (record_in (remembered slots.old))) fact.now) }
     ensures seen { IsAtRest D.seen D.may_leave slots.old → SeenIn D.seen slots.new.disk (IsOldOrNewIn (fact_in (record_in (remembered slots.old))) fact.now) }
@@ -48,12 +48,12 @@ fn put<D: Disk>(slots: &mut SlotFile<D>, fact: &Fact) -> Result<(), SlotError>
 impl<D: Disk> FactFile<D> {
     ghost use Rattle.fact_store.specs.Files.{disk_after};
 
-    /// Opens the file of a disk. The fact that is then kept is the one that a crash leaves.
+    /// Opens the fact file on `disk`. The fact then kept is the one that a crash leaves.
     ///
     /// # Errors
     ///
-    /// `Failed` only where the disk's count of faults rose, or want of memory. The disk comes back,
-    /// with the bytes that it had.
+    /// `Failed` only if the fault count of the disk rose, or `Memory`. The error returns the disk,
+    /// with its bytes unchanged.
     pub fn open(alloc: Global, disk: D) -> Result<FactFile<D>, Refused<D, KeepError>>
         ensures at_rest { IfOk result (λ f. Told (D.seen disk) (λ bytes. IsAtRest D.seen D.may_leave f.slots × (fact_in (record_in (remembered f.slots)) ≡ file_fact bytes))) }
         ensures spent { IfOk result (λ f. f.spent ≡ 0) }
@@ -72,7 +72,7 @@ impl<D: Disk> FactFile<D> {
         }
     }
 
-    /// The disk. It takes no memory.
+    /// Returns the disk.
     pub fn into_disk(self) -> D
         ensures { result ≡ self.slots.disk }
     {
@@ -80,7 +80,7 @@ impl<D: Disk> FactFile<D> {
     }
 }
 
-/// Why a file was not opened.
+/// Translates the error of opening a slot file.
 fn open_error(e: SlotError) -> KeepError
     ensures { result ≡ opened_with e }
 {
@@ -93,7 +93,7 @@ fn open_error(e: SlotError) -> KeepError
 }
 
 impl<D: Disk> FactKeeper for FactFile<D> {
-    // What a file keeps is told by `kept` alone.
+    // `kept` alone describes the content of a file.
     ghost may_answer = { λ f call answer g. Unit {0} };
 
     ghost may_refuse = { λ f call error g. Unit {0} };
@@ -120,7 +120,7 @@ impl<D: Disk> FactKeeper for FactFile<D> {
         ensures answer { OnOk result (Unit {0}) }
         ensures refusal { IfErr result (λ e. Unit {0}) }
         ensures cause { HasCause (min (D.fault_count self.old.slots.disk + self.old.spent) (2 ^ 64 - 1)) (min (D.fault_count self.new.slots.disk + self.new.spent) (2 ^ 64 - 1)) result }
-        // The file is replaced whole or not at all.
+        // A save replaces the record of the file atomically.
         ensures any_moment { IsAtRest D.seen D.may_leave self.old.slots → LeavesOnly D.moment D.left_since self.old.slots.disk self.new.slots.disk (IsOldOrNewIn (fact_in (record_in (remembered self.old.slots))) fact.now) }
         ensures seen { IsAtRest D.seen D.may_leave self.old.slots → SeenIn D.seen self.new.slots.disk (IsOldOrNewIn (fact_in (record_in (remembered self.old.slots))) fact.now) }
         ensures at_rest { OnOk result (IsAtRest D.seen D.may_leave self.old.slots → IsAtRest D.seen D.may_leave self.new.slots) }

@@ -9,30 +9,32 @@ ghost use Rattle.fact_store.specs.declared.error.KeepError.TheVariants as errors
 use crate::error::KeepError;
 use peer_fact::{Change, Fact, FactError};
 
-/// Where a peer keeps its fact over a stop. The count of faults never falls, and a call fails only
-/// where it rose in that call.
+/// Durable storage for the fact of a peer. The fault count never falls, and a call fails only if
+/// the count rose in that call.
 pub trait FactKeeper {
-    /// The call may be answered so, and leave the keeper so.
+    /// The call may return this answer and leave the keeper in this state.
     ghost may_answer: { Self → (call : KeeperCall) → KeeperAnswer call → Self → Type 0 };
 
-    /// The call may be refused with this error, and leave the keeper so.
+    /// The call may fail with this error and leave the keeper in this state.
     ghost may_refuse: { Self → KeeperCall → KeepError → Self → Type 0 };
 
-    /// What is kept: nothing where none was ever saved, a fact, or why it is no fact.
+    /// What is kept: `None` if no fact was ever saved; otherwise a fact, or why the bytes are not
+    /// one.
     ghost kept: { Self → Option (Result Fact FactError) };
 
-    /// How often a call has failed.
+    /// The number of calls that failed.
     ghost fault_count: { Self → ℕ };
 
-    /// How often a call has failed. The greatest u64 stays.
+    /// Returns the fault count. Once it has reached the greatest u64 it stays there.
     fn faults(&self) -> u64
         ensures { result ≡ fault_count self.now };
 
-    /// The fact that is kept, `None` where none was ever saved.
+    /// Returns the fact that is kept, or `None` if none was ever saved. Leaves it unchanged.
     ///
     /// # Errors
     ///
-    /// `Bad` exactly where what is kept is no fact, unless it is `Failed` or want of memory.
+    /// `Bad` only if what is kept is not a fact; `Failed` only if the fault count rose; `Memory`
+    /// when out of memory.
     fn load(&mut self) -> Result<Option<Fact>, KeepError>
         ensures loads { Loads (kept self.old) (fault_count self.old) (fault_count self.new) result }
         ensures answer { IfOk result (λ o. may_answer self.old Load o self.new) }
@@ -40,8 +42,8 @@ pub trait FactKeeper {
         ensures kept { kept self.new ≡ kept self.old }
         ensures later { fault_count self.old ≤ fault_count self.new };
 
-    /// Keeps a fact in place of what was kept. It takes no memory. Where it fails, the old fact is
-    /// kept or the new one.
+    /// Replaces what is kept by `fact`. Allocates nothing. `Failed` is its only error; after it the
+    /// old fact or the new one is kept.
     fn save(&mut self, fact: &Fact) -> Result<(), KeepError>
         ensures ok { OnOk result (kept self.new ≡ Some (Ok fact.now)) }
         ensures failed { OnErr result (IsOldOrNew (kept self.old) fact.now (kept self.new)) }

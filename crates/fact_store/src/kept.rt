@@ -7,6 +7,6 @@ pub enum Kept {
     Nothing,
     /// A fact.
     Fact(Fact),
-    /// Bytes that are no fact, and why.
+    /// Bytes that are not a fact. Holds the cause.
     Bad(FactError),
 }

@@ -14,7 +14,7 @@ use crate::kept::Kept;
 use peer_fact::{Change, Fact, FactError};
 use slot_disk::{Failing, Fate};
 
-/// A keeper in memory. The listed calls fail and no others, the first call being 1.
+/// A fact keeper in memory. Exactly the listed calls fail. The first call is number 1.
 #[derive(Drop)]
 pub struct MemFacts {
     kept: Kept,
@@ -24,7 +24,7 @@ pub struct MemFacts {
 }
 
 impl MemFacts {
-    /// One that keeps this.
+    /// Makes a keeper with this content, which fails at the calls listed in `failing`.
     pub fn new(kept: Kept, failing: Failing) -> MemFacts
         ensures kept { (result.kept ≡ kept) × (result.failing ≡ failing) }
         ensures counts { (result.calls ≡ 0) × (result.faults ≡ 0) }
@@ -37,7 +37,7 @@ impl MemFacts {
         }
     }
 
-    /// Counts a call, and says what becomes of it.
+    /// Counts a call, and returns its planned outcome.
     fn next_fate(&mut self) -> Fate
         ensures fate { result ≡ fate_of self.old.failing.undone.items self.old.failing.done.items self.new.calls }
         ensures calls { self.new.calls ≡ next_call self.old.calls }
@@ -60,7 +60,7 @@ impl MemFacts {
     }
 }
 
-/// What is loaded of what is kept.
+/// Returns the result of loading this content.
 fn loaded(kept: Kept) -> Result<Option<Fact>, KeepError>
     ensures loads { (before now : ℕ) → Loads (kept_of kept) before now result }
     ensures works { IfErr result (λ e. e ≢ errors.Failed) }
@@ -114,7 +114,7 @@ impl FactKeeper for MemFacts {
         ensures works { OnOk result (fate_next self.old ≡ Works) }
         ensures fails { OnErr result (fate_next self.old ≢ Works) }
         ensures calls { self.new.calls ≡ next_call self.old.calls }
-        // A failure has its effect or has none, as it is listed.
+        // A failed call has its effect or not, as listed.
         ensures undone { fate_next self.old ≡ Fails → kept_of self.new.kept ≡ kept_of self.old.kept }
         ensures done { fate_next self.old ≡ FailsDone → kept_of self.new.kept ≡ Some (Ok fact.now) }
     {

@@ -1,4 +1,4 @@
--- Bytes that are written over those of a file.
+-- Bytes written over those of a file.
 use Rattle.std.proofs.Common.{◌≡◌, ◌⊎◌, inl, inr, ℕ, ◌+◌, ◌-◌, ◌<◌, ◌≤◌, min, length-drop, subst, List, ◌++◌, length, take, drop, replicate, sym, ◌∙◌, ap, arith, length-append}
 use Rattle.std.proofs.Math.Seq.{take-append-add}
 use Rattle.std.proofs.lemmas.List.{length-take, take-take, drop-drop, drop_at, take_all, drop_all, take-append-le, take-replicate, length-replicate, append-nil}
@@ -6,7 +6,7 @@ use Rattle.std.proofs.lemmas.Bool.{cases_lt}
 use Rattle.slot_disk.specs.Crash.{written, Torn}
 use Rattle.slot_disk.specs.Images.{filled, partly_written}
 
--- zeros behind the file, as far as the place
+-- zeros after the file, up to the place
 front : (old : List ℕ) (at n : ℕ) → take at (old ++ replicate (at + n - length old) 0) ≡ take at old ++ replicate (at - length old) 0
 front old at n = by (cases_lt at (length old))
   where
@@ -23,7 +23,7 @@ front old at n = by (cases_lt at (length old))
     by (inl within) = take-append-le at old zeros (omega arith) ∙ sym (append-nil (take at old)) ∙ ap (λ (m : ℕ). take at old ++ replicate m 0) (let e : 0 ≡ at - length old = omega arith in e)
     by (inr le) = past (at - length old) (omega arith)
 
--- nothing but the file's own bytes lies behind the end
+-- past the end of the file lies nothing
 back : (old : List ℕ) (end : ℕ) → drop end (old ++ replicate (end - length old) 0) ≡ drop end old
 back old end = by (cases_lt (length old) end)
   where
@@ -34,7 +34,7 @@ back old end = by (cases_lt (length old) end)
     by (inl past) = drop_all end (old ++ zeros) (omega (arith, length-append old zeros, length-replicate {A = ℕ} (end - length old) 0)) ∙ sym (drop_all end old (omega arith))
     by (inr le) = ap (λ (m : ℕ). drop end (old ++ replicate m 0)) (let e : end - length old ≡ 0 = omega arith in e) ∙ ap (λ (l : List ℕ). drop end l) (append-nil old)
 
--- a file that was filled up with zeros first
+-- a file that was first extended with zeros
 pub written_over : (old : List ℕ) (at : ℕ) (bytes : List ℕ)
     → take at (old ++ replicate (at + length bytes - length old) 0) ++ bytes ++ drop (at + length bytes) (old ++ replicate (at + length bytes - length old) 0) ≡ written old at bytes
 written_over old at bytes =
@@ -89,7 +89,7 @@ torn_part old bytes at n part le size = record {
         ∙ ap (λ (i : ℕ). drop i full) e
         ∙ back old (at + n)
 
--- the same, as the file that it leaves is told
+-- the same law, stated for the file that it leaves
 pub partly : (old full new bytes : List ℕ) (at end part : ℕ) → part ≤ length bytes → end ≡ at + length bytes → full ≡ filled old end → new ≡ take at full ++ take part bytes ++ drop (at + length (take part bytes)) full
     → new ≡ partly_written old at bytes part
 partly old full new bytes at end part le end_is full_is new_is =
@@ -99,7 +99,7 @@ partly old full new bytes at end part le end_is full_is new_is =
     ∙ ap (λ (l : List ℕ). l ++ take part bytes ++ drop (at + length (take part bytes)) full) (sym (append-nil (take at full)) ∙ ap (λ (m : ℕ). take at full ++ replicate m 0) (let e : 0 ≡ at - length full = omega (arith, long) in e))
     ∙ ap (λ (l : List ℕ). written l at (take part bytes)) filled_is
 
--- it is one of those that a crash may leave
+-- it is one of the files that a crash may leave
 pub partly_torn : (old bytes : List ℕ) (at part : ℕ) → part ≤ length bytes → Torn at (length bytes) old (partly_written old at bytes part)
 partly_torn old bytes at part le =
     let full : List ℕ = filled old (at + length bytes) in

@@ -1,4 +1,4 @@
--- What a crash leaves after one call more of a disk that records its calls.
+-- What a crash leaves after one more call of a disk that records its calls.
 use Rattle.std.proofs.Common.{◌≡◌, ◌⊎◌, inl, inr, ℕ, ◌+◌, ◌-◌, ◌<◌, ◌≤◌, min, List, [], ◌∷◌, ◌++◌, length, take, drop, replicate, reverse, refl, sym, ◌∙◌, ap, subst, arith, length-append, length-drop}
 use Rattle.std.proofs.lemmas.List.{take_all, take-append-le, drop_at, length-take, take-take, length-replicate}
 use Rattle.std.proofs.lemmas.Bool.{cases_lt}
@@ -12,7 +12,7 @@ use Rattle.slot_disk.specs.declared.step.Step.{Step}
 use Rattle.slot_disk.proofs.Recorded.{deeds_push}
 use Rattle.slot_disk.specs.Steps.{deeds, deed_of, Deed, Wrote, CutTo, Synced, seen_of, IsImage, Leaves, LeftSince}
 
--- time after one call more
+-- time after one more call
 pub elapses : (first later : List ℕ) (old new : List Deed) (d : Deed) → later ≡ first → new ≡ old ++ d ∷ [] → Elapses (length old) (length new) (LeftSince first old) (LeftSince later new) (Leaves later new)
 elapses first later old new d same is =
     subst (λ (f : List ℕ). Elapses (length old) (length new) (LeftSince first old) (LeftSince f new) (Leaves f new)) (sym same)
@@ -35,7 +35,7 @@ length-put old at bytes = omega (arith, length-append (take at old ++ replicate 
 pub length-written : (old : List ℕ) (at : ℕ) (bytes : List ℕ) → length (written old at bytes) ≡ at + length bytes + (length old - (at + length bytes))
 length-written old at bytes = omega (arith, length-append ((take at old ++ replicate (at - length old) 0) ++ bytes) (drop (at + length bytes) old), length-put old at bytes, length-drop (at + length bytes) old)
 
--- a whole write is one of those that a crash may leave
+-- a complete write is one of the outcomes of a crash
 pub torn_whole : (old : List ℕ) (at : ℕ) (bytes : List ℕ) → Torn at (length bytes) old (written old at bytes)
 torn_whole old at bytes = record {
   before = take-append-le (min at (length old)) ((take at old ++ replicate (at - length old) 0) ++ bytes) (drop (at + length bytes) old) (omega (arith, length-put old at bytes))
@@ -58,7 +58,7 @@ cut_whole old n = record { no_shorter = omega (arith, length-take n old); front 
 pub cut_none : (old : List ℕ) (n : ℕ) → Cut n old old
 cut_none old n = record { no_shorter = omega arith; front = take_all (length old) old (omega arith) }
 
--- what a read gives is one of those too
+-- the file that a read returns is one of the outcomes too
 pub seen_is_image : (first : List ℕ) (all : List Deed) → IsImage first all (seen_of first all)
 seen_is_image first [] = refl
 seen_is_image first (Wrote at bytes ∷ earlier) = (seen_of first earlier, seen_is_image first earlier, torn_whole (seen_of first earlier) at bytes)
@@ -93,7 +93,7 @@ after_possible image first (Synced ∷ earlier) = refl
 pub image_possible : (image : Image) (first : List ℕ) (all : List Deed) (left : List ℕ) → left ≡ image_of image first all → Leaves first all left
 image_possible image first all left is = subst (λ (c : List ℕ). Leaves first all c) (sym is) (after_possible image first (reverse all))
 
--- one call more
+-- one more call
 advanced : (image : Image) (first : List ℕ) (all : List Deed) (d : Deed) (solid left solid_after left_after : List ℕ) → solid ≡ seen_of first all → left ≡ image_after image first all → Advances image d solid left solid_after left_after
     → (solid_after ≡ seen_of first (d ∷ all)) × (left_after ≡ image_after image first (d ∷ all))
 advanced image first all (Wrote at bytes) solid left solid_after left_after is image_is by =

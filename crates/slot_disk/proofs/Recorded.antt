@@ -1,4 +1,4 @@
--- One call more on a disk that records its calls.
+-- One more call on a disk that records its calls.
 use Rattle.std.proofs.Common.{◌≡◌, ℕ, ◌+◌, ◌≤◌, List, [], ◌∷◌, ◌++◌, length, take, drop, reverse, refl, ◌∙◌, ap, arith, length-append, length-drop, true}
 use Rattle.std.proofs.Math.Seq.{drop-append_seam}
 use Rattle.std.proofs.lemmas.List.{take_all, take-append-le, drop-append-le, reverse-append}
@@ -50,7 +50,7 @@ reverse_push all d = reverse-append all (d ∷ [])
 pub seen_push : (first : List ℕ) (all : List Deed) (d : Deed) → seen_of first (reverse (all ++ d ∷ [])) ≡ seen_of first (d ∷ reverse all)
 seen_push first all d = ap (λ (l : List Deed). seen_of first l) (reverse_push all d)
 
--- the record after one call more
+-- the record after one more call
 pub record Recorded (first old_log new_log : List ℕ) (old new : List Step) (d : Deed) : Type 0 where
   pub all : deeds new_log new ≡ deeds old_log old ++ d ∷ []
   pub seen : seen_of first (reverse (deeds new_log new)) ≡ seen_of first (d ∷ reverse (deeds old_log old))
@@ -72,7 +72,7 @@ pub sync_recorded : (first log : List ℕ) (old new : List Step) → new ≡ old
 sync_recorded first log old new is within =
     recorded first log log old new Synced (ap (λ (l : List Step). deeds log l) is ∙ deeds_push log old steps.Sync) (rw is (within_push (length log) old steps.Sync within refl))
 
--- a write, whose bytes stand behind those of the earlier ones
+-- a write, whose bytes come after those of the earlier ones in the log
 pub write_recorded : (first old_log bytes new_log : List ℕ) (old new : List Step) (at : ℕ) → new_log ≡ old_log ++ bytes → new ≡ old ++ steps.Write at (length old_log) (length bytes) ∷ [] → are_within (length old_log) old ≡ true → Recorded first old_log new_log old new (Wrote at bytes)
 write_recorded first old_log bytes new_log old new at log_is is within =
     let size : length new_log ≡ length old_log + length bytes = ap (λ (l : List ℕ). length l) log_is ∙ length-append old_log bytes in

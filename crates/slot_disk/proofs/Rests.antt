@@ -1,4 +1,4 @@
--- A slot file at rest, before a save and after it.
+-- A slot file at rest, before and after a save.
 use Rattle.std.proofs.Common.{◌≡◌, inl, inr, ⊎_elim, ℕ, ◌+◌, ◌-◌, ◌^◌, ◌<◌, ◌≤◌, List, length, Option, Some, Bool, false, sym, ◌∙◌, ap, subst, arith}
 use Rattle.slot_disk.specs.Crash.{IsOn, SeenIn}
 use Rattle.slot_disk.specs.Slots.{current, record_in, record_of, last_serial, next_slot, other, shut_at, body, IsOldOrNew, IsSaved}
@@ -9,7 +9,7 @@ use Rattle.slot_disk.specs.declared.slot.Slot.TheVariants.{A, B}
 use Rattle.slot_disk.specs.declared.slot_file.SlotFile.{SlotFile}
 
 module _ {D : Type 0} (seen : D → Option (List ℕ)) (may_leave : D → List ℕ → Type 0) (file : SlotFile D) (rest : IsAtRest seen may_leave file) where
-  -- where nothing was done
+  -- if nothing was done
   pub still_seen : (bytes : List ℕ) → SeenIn seen file.disk (IsOldOrNew (record_in (remembered file)) bytes)
   still_seen bytes = (rest.bytes, rest.on.told, inl (sym (ap record_in rest.now)))
 
@@ -21,7 +21,7 @@ module _ {D : Type 0} (seen : D → Option (List ℕ)) (may_leave : D → List �
       let serial : last ≡ last_serial (current rest.bytes) = is ∙ ap last_serial rest.now in
       record { spelled_so = so ∙ ap (λ (n : ℕ). body (n + 1) bytes) serial; short = short; serial = omega (arith, serial) }
 
-  -- what is seen after the writes
+  -- what a read returns after the writes
   pub seen_after : (bytes : List ℕ) (disk : D) → SeenIn seen disk (IsOldOrNew (record_of rest.bytes) bytes) → SeenIn seen disk (IsOldOrNew (record_in (remembered file)) bytes)
   seen_after bytes disk there = (there.0, there.1, ⊎_elim (λ e. inl (e ∙ sym (ap record_in rest.now))) (λ e. inr e) there.2)
 

@@ -1,9 +1,9 @@
--- How a run of calls of a disk goes on.
+-- How sequences of calls of a disk compose.
 use Rattle.std.proofs.Common.{inl, inr, ⊎_elim, ℕ, List, arith}
 use Rattle.slot_disk.specs.Crash.{LeavesOnly}
 
 module _ {D : Type 0} (moment : D → ℕ) (left_since : D → ℕ → List ℕ → Type 0) where
-  -- two runs, one after the other
+  -- two sequences, one after the other
   pub then_on : (old mid new : D) (P : List ℕ → Type 0) → LeavesOnly moment left_since old mid P → LeavesOnly moment left_since mid new P → LeavesOnly moment left_since old new P
   then_on old mid new P first second = record {
     later = omega (arith, first.later, second.later);
@@ -11,7 +11,7 @@ module _ {D : Type 0} (moment : D → ℕ) (left_since : D → ℕ → List ℕ 
     before = λ t c le left. ⊎_elim (first.before t c le) (λ p. inr p) (second.before t c (omega (arith, le, first.later)) left);
   }
 
-  -- what has P has Q
+  -- a property may be weakened
   pub weaker : (old new : D) (P Q : List ℕ → Type 0) → ((c : List ℕ) → P c → Q c) → LeavesOnly moment left_since old new P → LeavesOnly moment left_since old new Q
   weaker old new P Q implies run = record {
     later = run.later;

@@ -1,4 +1,4 @@
--- What a slot holds, by its bytes.
+-- What a slot holds, from its bytes.
 use Rattle.std.proofs.Common.{◌≡◌, ◌⊎◌, inl, inr, ℕ, ◌+◌, ◌<◌, ◌≤◌, ◌^◌, List, [], ◌∷◌, ◌++◌, length, take, None, Some, Bool, true, false, refl, sym, ◌∙◌, ap, arith, length-append}
 use Rattle.std.specs.Prelude.{nat_le, ◌==◌}
 use Rattle.std.specs.Int.{w16, w64, from_be_bytes, to_be_bytes}
@@ -23,11 +23,11 @@ held_more is_open serial size rest more le =
     let fits_too : nat_le size (length rest) ≡ true = grind (arith, nat_tests) in
     grind (arith, same, fits, fits_too)
 
--- more bytes behind a slot that holds something change nothing
+-- more bytes after a slot that holds something change nothing
 held_grows : (is_open : Bool) (serial size : ℕ) (rest more : List ℕ) (s : ℕ × List ℕ) → held is_open serial size rest ≡ Some s → held is_open serial size (rest ++ more) ≡ Some s
 held_grows is_open serial size rest more s is = grind (arith, nat_tests, held_more is_open serial size rest more)
 
--- nor do they where all the bytes that a slot may have are there
+-- nor do they if all the bytes that a slot may have are there
 held_whole : (is_open : Bool) (serial size : ℕ) (rest more : List ℕ) → 480 ≤ length rest → held is_open serial size (rest ++ more) ≡ held is_open serial size rest
 held_whole is_open serial size rest more long = by (cases_lt 480 size)
   where
@@ -63,7 +63,7 @@ slot_whole (gate ∷ a ∷ b ∷ c ∷ d ∷ e ∷ f ∷ g ∷ []) more long = a
 slot_whole (gate ∷ a ∷ b ∷ c ∷ d ∷ e ∷ f ∷ g ∷ h ∷ []) more long = absurd (omega arith)
 slot_whole (gate ∷ a ∷ b ∷ c ∷ d ∷ e ∷ f ∷ g ∷ h ∷ m ∷ []) more long = absurd (omega arith)
 
--- a closed gate holds nothing
+-- a slot with a closed gate holds nothing
 slot_closed : (gate : ℕ) (rest : List ℕ) → (gate == 1) ≡ false → slot (gate ∷ rest) ≡ None
 slot_closed gate (a ∷ b ∷ c ∷ d ∷ e ∷ f ∷ g ∷ h ∷ m ∷ n ∷ rest) is = grind (arith, is)
 slot_closed gate [] is = refl
@@ -81,7 +81,7 @@ pub slot_shut : (bytes : List ℕ) → shut bytes ≡ true → slot bytes ≡ No
 slot_shut [] is = refl
 slot_shut (gate ∷ rest) is = slot_closed gate rest (let e : (gate == 1) ≡ false = grind (arith, is) in e)
 
--- any gate in front: nothing is held, or what an open one holds
+-- with any gate in front, a slot holds nothing or what an open one holds
 pub slot_gate : (gate : ℕ) (rest : List ℕ) → (slot (gate ∷ rest) ≡ None) ⊎ (slot (gate ∷ rest) ≡ slot (1 ∷ rest))
 slot_gate gate rest = by (gate == 1) refl
   where
@@ -89,7 +89,7 @@ slot_gate gate rest = by (gate == 1) refl
     by false is = inl (slot_closed gate rest is)
     by true is = inr (ap (λ (g : ℕ). slot (g ∷ rest)) (let e : gate ≡ 1 = grind (arith, nat_tests) in e))
 
--- what is spelled behind an open gate is held
+-- a slot with an open gate holds what its bytes encode
 pub slot_spelled : (serial : ℕ) (bytes rest : List ℕ) → serial < 2 ^ 64 → length bytes ≤ 480 → slot (1 ∷ body serial bytes ++ rest) ≡ Some (serial, bytes)
 slot_spelled serial bytes rest small short =
     let wide : from_be_bytes w64 (to_be_bytes w64 serial) ≡ serial = from_be_bytes-to_be_bytes_8 serial small in

@@ -9,7 +9,7 @@ use Rattle.slot_disk.specs.Slots.{slot, newer, last_serial, next_slot}
 use Rattle.slot_disk.specs.declared.slot.Slot.TheVariants.{A, B}
 use Rattle.slot_disk.proofs.SlotBytes.{slot_grows, slot_whole}
 
--- behind a write that was cut short nothing has changed
+-- after the range of a write that was cut short nothing has changed
 pub torn_behind : (k at n : ℕ) (old new : List ℕ) → Torn at n old new → at + n ≤ k → drop k new ≡ drop k old
 torn_behind k at n old new torn le =
     let e : at + n + (k - (at + n)) ≡ k = omega arith in
@@ -19,7 +19,7 @@ torn_behind k at n old new torn le =
 pub torn_before : (k at n : ℕ) (old new : List ℕ) → Torn at n old new → k ≤ min at (length old) → take k new ≡ take k old
 torn_before k at n old new torn le = sym (take-take k (min at (length old)) new le) ∙ ap (λ (l : List ℕ). take k l) torn.before ∙ take-take k (min at (length old)) old le
 
--- a record in slot A outlives a write in slot B
+-- a record in slot A survives a write in slot B
 pub first_kept : (at n : ℕ) (old new : List ℕ) (s : ℕ × List ℕ) → Torn at n old new → 512 ≤ at → slot old ≡ Some s → slot new ≡ Some s
 first_kept at n old new s torn far is = by (cases_lt at (length old))
   where
@@ -33,7 +33,7 @@ first_kept at n old new s torn far is = by (cases_lt at (length old))
     by (inr le) =
         ap slot (whole (length old) (omega arith) ∙ ap (λ (l : List ℕ). l ++ drop (length old) new) (take_all (length old) old (omega arith))) ∙ slot_grows old (drop (length old) new) s is
 
--- which slot is current decides which one is written next
+-- the current slot determines the next one to be written
 pub first_current : (a b : Option (ℕ × List ℕ)) → next_slot (newer a b) ≡ B → (s : ℕ × List ℕ) × (a ≡ Some s)
 first_current None None is = absurd (a_is_b is)
   where
@@ -46,7 +46,7 @@ first_current None (Some b) is = absurd (a_is_b is)
 first_current (Some a) None is = (a, refl)
 first_current (Some a) (Some b) is = (a, refl)
 
--- the current slot stays current where the other one holds nothing
+-- the current slot stays current if the other one holds nothing
 pub newer_without_a : (a b : Option (ℕ × List ℕ)) → next_slot (newer a b) ≡ A → newer None b ≡ newer a b
 newer_without_a None b is = refl
 newer_without_a (Some a) None is = absurd (b_is_a is)
@@ -72,7 +72,7 @@ newer_without_b (Some a) (Some b) is = by (nat_lt a.0 b.0) refl is
     by true e is = grind (arith, e)
     by false e is = grind (arith, e)
 
--- and the other one becomes current with the next serial number
+-- the other one becomes current with the next serial number
 pub newer_with_a : (a b : Option (ℕ × List ℕ)) (bytes : List ℕ) → next_slot (newer a b) ≡ A → newer (Some (last_serial (newer a b) + 1, bytes)) b ≡ Some (A, (last_serial (newer a b) + 1, bytes))
 newer_with_a None None bytes is = refl
 newer_with_a None (Some b) bytes is = grind (arith, nat_tests)

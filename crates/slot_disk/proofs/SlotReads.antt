@@ -1,4 +1,4 @@
--- A slot that is read as far as the file has it.
+-- Reading a slot as far as the file reaches.
 use Rattle.std.proofs.Common.{◌≡◌, ◌⊎◌, inl, inr, ℕ, ◌-◌, ◌<◌, ◌≤◌, min, List, length, take, drop, sym, ◌∙◌, ap, arith, length-drop}
 use Rattle.std.proofs.lemmas.List.{take_all, take-append-drop, take-take, length-take}
 use Rattle.std.proofs.lemmas.Bool.{cases_lt}
@@ -7,7 +7,7 @@ use Rattle.slot_disk.specs.Saving.{IsSlotOf}
 use Rattle.slot_disk.specs.declared.slot.Slot.{Slot}
 use Rattle.slot_disk.proofs.SlotBytes.{slot_whole, shut_front}
 
--- the first bytes tell all, if they are as many as a slot may have or all there are
+-- the first bytes determine a slot, if they are as many as a slot may have or all there are
 front_tells : (bytes : List ℕ) (n : ℕ) → n ≡ min 491 (length bytes) → (slot (take n bytes) ≡ slot bytes) × (shut (take n bytes) ≡ shut bytes)
 front_tells bytes n is = by (cases_lt (length bytes) 491)
   where

@@ -18,7 +18,7 @@ drop-written old at bytes =
     let front = take at old ++ replicate (at - length old) 0 in
     ap (λ (l : List ℕ). drop at l) (append_assoc front bytes (drop (at + length bytes) old)) ∙ drop_at front (bytes ++ drop (at + length bytes) old) at (length-front old at)
 
--- after a write of one byte that was cut short: nothing, or what stands behind an open gate
+-- after a crash during a write of the gate: the slot holds nothing, or what an open gate shows
 torn_gate : (at : ℕ) (old new : List ℕ) → Torn at 1 old new → (slot (drop at new) ≡ None) ⊎ (slot (drop at new) ≡ slot (1 ∷ drop (at + 1) old))
 torn_gate at old new torn = by (drop at new) refl
   where
@@ -29,7 +29,7 @@ torn_gate at old new torn = by (drop at new) refl
         let here : drop at new ≡ gate ∷ drop (at + 1) old = is ∙ ap (λ (l : List ℕ). gate ∷ l) behind in
         ⊎_elim (λ e. inl (ap slot here ∙ e)) (λ e. inr (ap slot here ∙ e)) (slot_gate gate (drop (at + 1) old))
 
--- a write behind a closed gate leaves it closed
+-- a write after a closed gate leaves it closed
 torn_body : (at n : ℕ) (old new : List ℕ) → Torn (at + 1) n old new → shut (drop at old) ≡ true → shut (drop at new) ≡ true
 torn_body at n old new torn closed = by (cases_lt at (length old))
   where
@@ -51,7 +51,7 @@ IsIn B at n = 512 ≤ at
 pub kept_first : (first : List ℕ) (s : Slot) → IsKept first s first
 kept_first first s = record { held = refl; gate = refl }
 
--- a write in the slot that is not current leaves the other one as it was
+-- a write in the slot that is not current leaves the other one unchanged
 kept_by : (s : Slot) (first file new : List ℕ) (at n : ℕ) → next_slot (current first) ≡ s → IsKept first s file → IsIn s at n → Torn at n file new → IsKept first s new
 kept_by A first file new at n is kept inside torn =
     let same = torn_behind 512 at n file new torn inside in
@@ -61,26 +61,26 @@ kept_by B first file new at n is kept inside torn =
     let there = first_kept at n file new here.0 torn inside (kept.held ∙ here.1) in
     record { held = there ∙ sym here.1; gate = slot_open new here.0 there ∙ sym (slot_open first here.0 here.1) }
 
--- where the other slot is as it was and this one holds nothing, the current slot is as it was
+-- if the other slot is unchanged and this one holds nothing, the current slot is unchanged
 current_without : (s : Slot) (first file : List ℕ) → next_slot (current first) ≡ s → IsKept first s file → slot_at file s ≡ None → current file ≡ current first
 current_without A first file is kept none =
     ap (λ o. newer o (slot_at file B)) none ∙ ap (λ o. newer None o) kept.held ∙ newer_without_a (slot_at first A) (slot_at first B) is
 current_without B first file is kept none =
     ap (λ o. newer (slot_at file A) o) none ∙ ap (λ o. newer o None) kept.held ∙ newer_without_b (slot_at first A) (slot_at first B) is
 
--- so it is where this slot is as it was too
+-- so it is if this slot is unchanged too
 current_same : (s : Slot) (first file : List ℕ) → IsKept first s file → slot_at file s ≡ slot_at first s → current file ≡ current first
 current_same A first file kept same = ap (λ o. newer o (slot_at file B)) same ∙ ap (λ o. newer (slot_at first A) o) kept.held
 current_same B first file kept same = ap (λ o. newer (slot_at file A) o) same ∙ ap (λ o. newer o (slot_at first B)) kept.held
 
--- where this slot holds a record with the next serial number, it is current
+-- if this slot holds a record with the next serial number, it is current
 current_with : (s : Slot) (first file bytes : List ℕ) → next_slot (current first) ≡ s → IsKept first s file → slot_at file s ≡ Some (last_serial (current first) + 1, bytes) → current file ≡ Some (s, (last_serial (current first) + 1, bytes))
 current_with A first file bytes is kept some =
     ap (λ o. newer o (slot_at file B)) some ∙ ap (λ o. newer (Some (last_serial (current first) + 1, bytes)) o) kept.held ∙ newer_with_a (slot_at first A) (slot_at first B) bytes is
 current_with B first file bytes is kept some =
     ap (λ o. newer (slot_at file A) o) some ∙ ap (λ o. newer o (Some (last_serial (current first) + 1, bytes))) kept.held ∙ newer_with_b (slot_at first A) (slot_at first B) bytes is
 
--- an open gate, or one that is not there, holds what an open one would
+-- a slot with an open gate, or with none, holds what one with an open gate would
 gate_open : (bytes : List ℕ) → shut bytes ≡ false → slot (1 ∷ drop 1 bytes) ≡ slot bytes
 gate_open [] is = refl
 gate_open (gate ∷ rest) is = ap (λ (g : ℕ). slot (g ∷ rest)) (let e : 1 ≡ gate = grind (arith, nat_tests, is) in e)
@@ -97,7 +97,7 @@ body_in B n le = omega arith
 pub closed_current : (s : Slot) (first file : List ℕ) → next_slot (current first) ≡ s → IsClosed first s file → current file ≡ current first
 closed_current s first file is stage = current_without s first file is stage.kept (slot_shut (drop (start s) file) stage.closed)
 
--- first write: the gate is closed
+-- the first write closes the gate
 pub closing_current : (s : Slot) (first new : List ℕ) → next_slot (current first) ≡ s → shut_at first s ≡ false → Torn (start s) 1 first new → current new ≡ current first
 closing_current s first new is open_gate torn =
     let kept = kept_by s first first new (start s) 1 is (kept_first first s) (gate_in s) torn in
@@ -111,20 +111,20 @@ closing_done s first is = record {
   closed = ap shut (drop-written first (start s) (0 ∷ []));
 }
 
--- second write: the body
+-- the second write writes the body
 pub body_closed : (s : Slot) (first file new : List ℕ) (n : ℕ) → next_slot (current first) ≡ s → n ≤ 490 → IsClosed first s file → Torn (start s + 1) n file new → IsClosed first s new
 body_closed s first file new n is short stage torn = record {
   kept = kept_by s first file new (start s + 1) n is stage.kept (body_in s n short) torn;
   closed = torn_body (start s) n file new torn stage.closed;
 }
 
--- what stands behind the gate after it
+-- the bytes after the gate then
 pub body_spelled : (s : Slot) (file : List ℕ) (serial : ℕ) (bytes : List ℕ) → serial < 2 ^ 64 → length bytes ≤ 480
     → slot (1 ∷ drop (start s + 1) (written file (start s + 1) (body serial bytes))) ≡ Some (serial, bytes)
 body_spelled s file serial bytes small short =
     ap (λ (l : List ℕ). slot (1 ∷ l)) (drop-written file (start s + 1) (body serial bytes)) ∙ slot_spelled serial bytes (drop (start s + 1 + length (body serial bytes)) file) small short
 
--- third write: the gate is opened
+-- the third write opens the gate
 pub opening_current : (s : Slot) (first file new bytes : List ℕ) → next_slot (current first) ≡ s → IsClosed first s file → slot (1 ∷ drop (start s + 1) file) ≡ Some (last_serial (current first) + 1, bytes) → Torn (start s) 1 file new
     → (current new ≡ current first) ⊎ (current new ≡ Some (s, (last_serial (current first) + 1, bytes)))
 opening_current s first file new bytes is stage behind torn =

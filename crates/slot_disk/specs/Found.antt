@@ -8,7 +8,7 @@ use Rattle.slot_disk.specs.declared.current.Current.{Current}
 use Rattle.slot_disk.specs.declared.slot.Slot.{Slot}
 use Rattle.slot_disk.specs.declared.slot.Slot.TheVariants.{A, B}
 
--- both slots are as the file has them
+-- both slots were read as the file has them
 pub record AreSlots (file : List ℕ) (both : Both) : Type 0 where
   pub a_held : held_slot both.a.held ≡ slot_at file A
   pub b_held : held_slot both.b.held ≡ slot_at file B
@@ -19,6 +19,6 @@ pub record AreSlots (file : List ℕ) (both : Both) : Type 0 where
 abbrev pub picked : Picked → Slot × (ℕ × List ℕ)
 picked p = (p.slot, (p.held.serial, p.held.content.items))
 
--- the same, by the slot and the serial number that are kept and by the record
+-- the current slot, its serial number and its record, from the fields that keep them
 abbrev pub kept_now : Option Current → List ℕ → Option (Slot × (ℕ × List ℕ))
 kept_now now bytes = option_map (λ c. (c.slot, (c.serial, bytes))) now

@@ -1,4 +1,4 @@
--- What a save is to do to a file of two slots.
+-- What a save does to a file of two slots.
 use Rattle.std.specs.Prelude.{◌≡◌, ℕ, ◌+◌, ◌≤◌, ◌<◌, ◌^◌, List, length, Bool, true}
 use Rattle.slot_disk.specs.Slots.{slot, shut, current, last_serial, next_slot, shut_at, slot_at, other, body}
 use Rattle.ens_base.specs.Causes.{Rose}
@@ -6,12 +6,12 @@ use Rattle.slot_disk.specs.declared.error.SlotError.{SlotError}
 use Rattle.slot_disk.specs.declared.error.SlotError.TheVariants as errors
 use Rattle.slot_disk.specs.declared.slot.Slot.{Slot}
 
--- the next save takes this slot, and its gate is known
+-- the next save takes this slot, and `is_shut` is the state of its gate
 pub record IsFree (file : List ℕ) (s : Slot) (is_shut : Bool) : Type 0 where
   pub next : next_slot (current file) ≡ s
   pub gate : is_shut ≡ shut_at file s
 
--- these bytes are the slot, but for its gate, that makes this record the current one
+-- these bytes, after an open gate, make this record the current one
 pub record IsBody (file bytes spelled : List ℕ) : Type 0 where
   pub spelled_so : spelled ≡ body (last_serial (current file) + 1) bytes
   pub short : length bytes ≤ 480
@@ -22,18 +22,18 @@ pub record IsKept (first : List ℕ) (s : Slot) (file : List ℕ) : Type 0 where
   pub held : slot_at file (other s) ≡ slot_at first (other s)
   pub gate : shut_at file (other s) ≡ shut_at first (other s)
 
--- so it is, and this slot is closed
+-- the other slot is as it was at first, and the gate of this slot is closed
 pub record IsClosed (first : List ℕ) (s : Slot) (file : List ℕ) : Type 0 where
   pub kept : IsKept first s file
   pub closed : shut_at file s ≡ true
 
--- why a slot was not read: the disk failed, or memory ran out
+-- why a slot was not read: the disk failed, or out of memory
 abbrev pub IsReadError : ℕ → ℕ → SlotError → Type 0
 IsReadError before now errors.Failed = Rose before now
 IsReadError before now errors.Memory = Unit {0}
 IsReadError before now e = ⊥
 
--- these bytes tell what the slot holds, and its gate
+-- these bytes determine what the slot holds, and its gate
 pub record IsSlotOf (file : List ℕ) (s : Slot) (bytes : List ℕ) : Type 0 where
   pub held : slot bytes ≡ slot_at file s
   pub gate : shut bytes ≡ shut_at file s

@@ -3,7 +3,7 @@ ghost use Rattle.slot_disk.specs.Slots.{body};
 
 use std::alloc::{AllocError, Global};
 
-/// Bytes with room for a slot, taken when it is made.
+/// A buffer of bytes with capacity for a slot, allocated when it is made.
 #[derive(Debug, Drop)]
 pub(crate) struct Buffer {
     bytes: Vec<u8>,
@@ -11,7 +11,7 @@ pub(crate) struct Buffer {
 }
 
 impl Buffer {
-    /// An empty one.
+    /// Makes an empty buffer. Fails only when out of memory.
     pub fn new(alloc: Global) -> Result<Buffer, AllocError>
         ensures { IfOk result (λ b. b.bytes.items ≡ []) }
     {
@@ -20,7 +20,7 @@ impl Buffer {
         })
     }
 
-    /// One with these bytes.
+    /// Makes a buffer that holds a copy of `bytes`. Fails only when out of memory.
     pub fn of(alloc: Global, bytes: &[u8]) -> Result<Buffer, AllocError>
         ensures { IfOk result (λ b. b.bytes.items ≡ bytes.now) }
     {
@@ -29,14 +29,14 @@ impl Buffer {
         Ok(Buffer { bytes: own })
     }
 
-    /// The bytes.
+    /// Returns the bytes.
     pub fn as_slice(&self) -> &[u8]
         ensures { result.now ≡ self.now.bytes.items }
     {
         &self.bytes
     }
 
-    /// Takes these bytes in place of its own.
+    /// Replaces the content by `bytes`, at most 490. Allocates nothing.
     pub fn set(&mut self, bytes: &[u8])
         requires { length bytes.now ≤ 490 }
         ensures { self.new.bytes.items ≡ bytes.now }
@@ -45,7 +45,8 @@ impl Buffer {
         self.bytes.extend_from_slice(bytes).unwrap();
     }
 
-    /// Takes a slot without its gate in place of its own bytes.
+    /// Replaces the content by the encoding of a slot without its gate: serial number, length and
+    /// record. Allocates nothing.
     pub fn set_body(&mut self, serial: u64, content: &[u8])
         requires { length content.now ≤ 480 }
         ensures { self.new.bytes.items ≡ body serial content.now }

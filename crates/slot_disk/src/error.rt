@@ -4,18 +4,18 @@ ghost use Rattle.slot_disk.specs.declared.error.SlotError.TheVariants.{Failed as
 use ens_base::Failed;
 use std::alloc::AllocError;
 
-/// Why a call of a slot file was refused.
+/// Why a slot file rejected a call.
 #[derive(Clone, Copy, Debug, PartialEq, Eq)]
 pub enum SlotError {
-    /// The disk failed: its count of faults has risen in this call.
+    /// The disk failed: its fault count rose in this call.
     Failed,
     /// The record has more than 480 bytes.
     TooLong,
     /// No slot holds a record.
     NoRecord,
-    /// Memory ran out.
+    /// Out of memory.
     Memory,
-    /// The last serial number is the greatest u64.
+    /// The last serial number is the greatest u64, so no further save is possible.
     Spent,
 }
 

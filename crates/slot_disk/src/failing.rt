@@ -3,28 +3,28 @@ ghost use Rattle.slot_disk.specs.Failing.{fate_of};
 
 use std::alloc::Global;
 
-/// What becomes of a call.
+/// The planned outcome of a call.
 #[derive(Clone, Copy, Debug, PartialEq, Eq)]
 pub enum Fate {
-    /// It does its work, if there is room.
+    /// The call works, if there is room.
     Works,
-    /// It fails and has no effect.
+    /// The call fails without effect.
     Fails,
-    /// It fails, and what it was to do is done.
+    /// The call takes effect and fails all the same.
     FailsDone,
 }
 
-/// The calls that are to fail, the first call being 1.
+/// The calls that are planned to fail. The first call is number 1.
 #[derive(Debug, Drop)]
 pub struct Failing {
-    /// These have no effect.
+    /// The calls that fail without effect.
     pub undone: Vec<u64>,
-    /// These do their work and fail all the same. A call that is in both lists has no effect.
+    /// The calls that take effect and fail all the same. A call in both lists has no effect.
     pub done: Vec<u64>,
 }
 
 impl Failing {
-    /// No call is to fail.
+    /// Plans no failures.
     pub fn never(alloc: Global) -> Failing
         ensures undone { result.undone.items ≡ Rattle.std.specs.Prelude.[] }
         ensures done { result.done.items ≡ Rattle.std.specs.Prelude.[] }
@@ -35,7 +35,7 @@ impl Failing {
         }
     }
 
-    /// What becomes of the call of this number.
+    /// Returns the planned outcome of the call of this number.
     pub fn fate(&self, call: u64) -> Fate
         ensures { result ≡ fate_of self.now.undone.items self.now.done.items call }
     {

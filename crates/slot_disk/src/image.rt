@@ -8,20 +8,20 @@ use crate::memory::{MemDisk, overwrite};
 use crate::step::Step;
 use std::alloc::{AllocError, Global};
 
-/// What a crash leaves of each range that was written since the last sync. Bytes past the old end
-/// that are not new are zeros.
+/// Which of the writes since the last sync a crash keeps. Bytes past the old end that a crash does
+/// not keep are zeros.
 #[derive(Clone, Copy, Debug, PartialEq, Eq)]
 pub enum Image {
-    /// The old bytes. A cut is not done.
+    /// None: the old bytes stay, and a cut is not done.
     Old,
-    /// The new bytes.
+    /// All: the new bytes are there, and a cut is done.
     New,
-    /// New bytes in the first half, and old ones behind it.
+    /// The first half of each write: its other bytes are old. A cut is done.
     Half,
 }
 
 impl Image {
-    /// How many bytes of a write of so many are new.
+    /// Returns how many bytes of a write of `len` bytes the crash keeps.
     fn part(self, len: usize) -> usize
         ensures part { result ≡ new_part self len }
         ensures within { result ≤ len }
@@ -34,7 +34,7 @@ impl Image {
     }
 }
 
-/// Fills the bytes up to a length with zeros.
+/// Extends the file with zeros up to a length.
 fn grow(file: &mut Vec<u8>, end: usize) -> Result<(), AllocError>
     ensures { OnOk result (file.new.items ≡ filled file.old.items end) }
 {
@@ -44,7 +44,7 @@ fn grow(file: &mut Vec<u8>, end: usize) -> Result<(), AllocError>
     Ok(())
 }
 
-/// Writes the first bytes of a write that a crash cuts short.
+/// Writes the first `part` bytes of a write that a crash cuts short.
 fn write_part(file: &mut Vec<u8>, at: u64, bytes: &[u8], part: usize) -> Result<(), AllocError>
     requires { part ≤ length bytes.now }
     ensures { OnOk result (file.new.items ≡ partly_written file.old.items at bytes.now part) }
@@ -56,7 +56,7 @@ fn write_part(file: &mut Vec<u8>, at: u64, bytes: &[u8], part: usize) -> Result<
     Ok(())
 }
 
-/// Writes.
+/// Writes `bytes` at byte `at`.
 #[tactic(auto, using(crate::proofs::Files::written_over))]
 fn write_whole(file: &mut Vec<u8>, at: u64, bytes: &[u8]) -> Result<(), AllocError>
     ensures { OnOk result (file.new.items ≡ written file.old.items at bytes.now) }
@@ -68,7 +68,7 @@ fn write_whole(file: &mut Vec<u8>, at: u64, bytes: &[u8]) -> Result<(), AllocErr
     Ok(())
 }
 
-/// The bytes of a write among those of all.
+/// Returns the bytes of one write, out of the log of all written bytes.
 fn part_of(log: &[u8], from: usize, len: usize) -> &[u8]
     ensures { result.now ≡ take len (drop from log.now) }
 {
@@ -76,7 +76,7 @@ fn part_of(log: &[u8], from: usize, len: usize) -> &[u8]
     &rest[..len.min(rest.len())]
 }
 
-/// What a read gives, and what a crash leaves.
+/// The file that a read returns, and the one that a crash leaves.
 #[derive(Debug, Drop)]
 struct Replay {
     solid: Vec<u8>,
@@ -84,7 +84,7 @@ struct Replay {
 }
 
 impl Replay {
-    /// One call more.
+    /// Applies one recorded call.
     fn advance(&mut self, log: &[u8], step: Step, image: Image) -> Result<(), AllocError>
         ensures { OnOk result (Advances image (deed_of log.now step) self.old.solid.items self.old.left.items self.new.solid.items self.new.left.items) }
     {
@@ -101,6 +101,7 @@ impl Replay {
         }
     }
 
+    /// Applies a write to both files.
     fn write(&mut self, at: u64, bytes: &[u8], image: Image) -> Result<(), AllocError>
         ensures solid { OnOk result (self.new.solid.items ≡ written self.old.solid.items at bytes.now) }
         ensures left { OnOk result (self.new.left.items ≡ partly_written self.old.left.items at bytes.now (new_part image (length bytes.now))) }
@@ -109,6 +110,7 @@ impl Replay {
         write_part(&mut self.left, at, bytes, image.part(bytes.len()))
     }
 
+    /// Applies a cut to both files.
     fn cut(&mut self, len: u64, image: Image)
         ensures solid { self.new.solid.items ≡ take len self.old.solid.items }
         ensures left { self.new.left.items ≡ cut_in image self.old.left.items len }
@@ -121,7 +123,7 @@ impl Replay {
 }
 
 impl MemDisk {
-    /// What a crash leaves now, in one of three ways. Want of memory is the one refusal.
+    /// Returns one of the images that a crash may leave now. Fails only when out of memory.
     pub fn crash(&self, alloc: Global, image: Image) -> Result<Vec<u8>, AllocError>
         ensures image { IfOk result (λ v. v.items ≡ image_of image self.now.first.items (history self.now)) }
         ensures possible { IfOk result (λ v. Leaves self.now.first.items (history self.now) v.items) }

@@ -1,11 +1,12 @@
-//! Disks with their crashes, and a record on a disk that is replaced whole or not at all.
+//! Disks with crashes, and a record on a disk that is replaced atomically.
 //!
-//! A `Disk` tells what a read gives, what a crash may leave now, and what one may have left since a
-//! moment. `MemDisk` is one in memory: it records its calls, fails at those that are listed, and gives
-//! images of a crash. A `SlotFile` keeps one record of at most 480 bytes: after `Ok` of a save a crash
-//! leaves the new record, and a crash at any moment of a save, or after its failure, leaves the old
-//! one or the new one. The disk is defined in `specs/Crash`, the file in `specs/Slots` and
-//! `specs/SlotFiles`, the record of calls in `specs/Steps`.
+//! The trait `Disk` describes a file by what a read returns, what a crash may leave now, and what a
+//! crash may have left since an earlier moment. `MemDisk` is a disk in memory: it records its
+//! calls, fails at a given list of them, and builds images of a crash. A `SlotFile` keeps one
+//! record of at most 480 bytes. After a successful save a crash leaves the new record; a crash
+//! during a save, or after a failed one, leaves the old record or the new one. `specs/Crash`
+//! defines the disk, `specs/Slots` and `specs/SlotFiles` define the file, and `specs/Steps` defines
+//! the recorded calls.
 #![tactic(auto)]
 
 mod buffer;

@@ -12,9 +12,10 @@ use crate::step::{Room, Step};
 use ens_base::Failed;
 use std::alloc::{AllocError, Global};
 
-/// A disk in memory that records every call which changed it, so that it tells what a crash may leave
-/// and what one may have left. The listed calls fail, and no others but a write past the room, and a
-/// write, cut or sync past the room for its record. It takes all its memory when it is made.
+/// A disk in memory. It records every call that changed it, and so defines what a crash may leave
+/// now and what one may have left earlier. Exactly the listed calls fail, and those without room: a
+/// write past the room for bytes, and a write, cut or sync past the room for its record. All its
+/// memory is allocated when it is made.
 #[derive(Drop)]
 pub struct MemDisk {
     pub(crate) first: Vec<u8>,
@@ -32,7 +33,7 @@ pub struct MemDisk {
     ghost steps_fit: { room.calls ≤ vec_capacity steps },
 }
 
-/// Fills the bytes up to a length with zeros.
+/// Extends the file with zeros up to a length, within its capacity.
 fn stretch(file: &mut Vec<u8>, end: usize)
     requires { end ≤ vec_capacity file.old }
     ensures zeros { file.new.items ≡ file.old.items ++ replicate (end - length file.old.items) 0 }
@@ -43,7 +44,7 @@ fn stretch(file: &mut Vec<u8>, end: usize)
     }
 }
 
-/// Writes bytes over those that are there.
+/// Overwrites bytes of the file in place.
 pub(crate) fn overwrite(file: &mut Vec<u8>, at: usize, bytes: &[u8])
     requires { at + length bytes.now ≤ length file.old.items }
     ensures over { file.new.items ≡ take at file.old.items ++ bytes.now ++ drop (at + length bytes.now) file.old.items }
@@ -52,7 +53,7 @@ pub(crate) fn overwrite(file: &mut Vec<u8>, at: usize, bytes: &[u8])
     file[at..at + bytes.len()].copy_from_slice(bytes);
 }
 
-/// Writes bytes over those that are there and past the end, with zeros up to their place.
+/// Writes `bytes` at byte `at`, within the capacity of the file; a gap is filled with zeros.
 #[tactic(auto, using(crate::proofs::Files::written_over))]
 fn put(file: &mut Vec<u8>, at: usize, bytes: &[u8])
     requires { at + length bytes.now ≤ vec_capacity file.old }
@@ -63,7 +64,7 @@ fn put(file: &mut Vec<u8>, at: usize, bytes: &[u8])
     overwrite(file, at, bytes);
 }
 
-/// Adds a step to those recorded, where there is room.
+/// Records a step, within the capacity of the list.
 fn add_step(taken: &mut Vec<Step>, step: Step)
     requires { length taken.old.items < vec_capacity taken.old }
     ensures items { taken.new.items ≡ taken.old.items ++ step ∷ [] }
@@ -72,7 +73,7 @@ fn add_step(taken: &mut Vec<Step>, step: Step)
     taken.push(step).unwrap();
 }
 
-/// Adds the bytes of a write to those recorded, where there is room.
+/// Appends the bytes of a write to the log, within its capacity.
 fn add_bytes(log: &mut Vec<u8>, bytes: &[u8])
     requires { length log.old.items + length bytes.now ≤ vec_capacity log.old }
     ensures items { log.new.items ≡ log.old.items ++ bytes.now }
@@ -82,7 +83,7 @@ fn add_bytes(log: &mut Vec<u8>, bytes: &[u8])
 }
 
 impl MemDisk {
-    /// A disk that holds these bytes, all of them on the disk. Want of memory is the one refusal.
+    /// Makes a disk on which these bytes are durable. Fails only when out of memory.
     pub fn holding(
         alloc: Global,
         bytes: &[u8],
@@ -108,7 +109,7 @@ impl MemDisk {
         })
     }
 
-    /// An empty disk. Want of memory is the one refusal.
+    /// Makes an empty disk. Fails only when out of memory.
     pub fn new(alloc: Global, room: Room, failing: Failing) -> Result<MemDisk, AllocError>
         ensures bytes { IfOk result (λ d. (d.first.items ≡ []) × (d.file.items ≡ [])) }
         ensures steps { IfOk result (λ d. (d.steps.items ≡ []) × (d.log.items ≡ [])) }
@@ -118,7 +119,7 @@ impl MemDisk {
         MemDisk::holding(alloc, &[], room, failing)
     }
 
-    /// The bytes that a read gives.
+    /// Returns the bytes that a read returns.
     pub fn bytes(&self) -> &[u8]
         ensures { result.now ≡ self.now.file.items }
     {
@@ -127,7 +128,7 @@ impl MemDisk {
 }
 
 impl MemDisk {
-    /// Counts a call, and says what becomes of it.
+    /// Counts a call, and returns its planned outcome.
     fn next_fate(&mut self) -> Fate
         ensures fate { result ≡ fate_of self.old.failing.undone.items self.old.failing.done.items self.new.calls }
         ensures calls { self.new.calls ≡ next_call self.old.calls }
@@ -152,7 +153,8 @@ impl MemDisk {
         Failed
     }
 
-    /// The answer of a call that did its work.
+    /// Returns the result of a call that took effect; counts a fault if the call is planned to
+    /// fail.
     fn answer(&mut self, fate: Fate) -> Result<(), Failed>
         ensures cause { HasCause self.old.faults self.new.faults result }
         ensures ok { OnOk result (fate ≢ FailsDone) }
@@ -168,14 +170,14 @@ impl MemDisk {
         }
     }
 
-    /// Whether one more call can be recorded.
+    /// Returns whether there is room to record one more call.
     fn has_step(&self) -> bool
         ensures { IsTrue result ↔ HasStep self.now.room self.now.steps.items }
     {
         self.steps.len() < self.room.calls
     }
 
-    /// Whether a write of so many bytes at this place can be done and recorded.
+    /// Returns whether there is room for a write of `len` bytes at byte `at`, and for its record.
     fn has_room(&self, at: u64, len: usize) -> bool
         ensures { IsTrue result ↔ HasRoom self.now.room self.now.steps.items self.now.log.items at len }
     {
@@ -187,7 +189,7 @@ impl MemDisk {
             && len <= self.room.written - self.log.len()
     }
 
-    /// Writes, and records it.
+    /// Writes, and records the write.
     #[tactic(auto, using(crate::proofs::Recorded::write_recorded))]
     fn write(&mut self, at: u64, bytes: &[u8])
         requires { HasRoom self.old.room self.old.steps.items self.old.log.items at (length bytes.now) }
@@ -208,7 +210,7 @@ impl MemDisk {
         add_step(&mut self.steps, step);
     }
 
-    /// Cuts, and records it.
+    /// Cuts the file, and records the cut.
     #[tactic(auto, using(crate::proofs::Recorded::cut_recorded))]
     fn shorten(&mut self, len: u64)
         requires { HasStep self.old.room self.old.steps.items }
@@ -306,7 +308,7 @@ impl Disk for MemDisk {
         ensures works { OnOk result ((fate_next self.old ≡ Works) × HasRoomFor self.old at (length bytes.now)) }
         ensures fails { OnErr result ((fate_next self.old ≢ Works) ⊎ (HasRoomFor self.old at (length bytes.now) → ⊥)) }
         ensures calls { self.new.calls ≡ next_call self.old.calls }
-        // A failure has its effect or has none, as it is listed.
+        // A failed call has its effect or not, as listed.
         ensures undone { fate_next self.old ≡ Fails → history self.new ≡ history self.old }
         ensures done { fate_next self.old ≢ Fails → HasRoomFor self.old at (length bytes.now) → history self.new ≡ history self.old ++ Wrote at bytes.now ∷ [] }
     {
@@ -328,7 +330,7 @@ impl Disk for MemDisk {
         ensures works { OnOk result ((fate_next self.old ≡ Works) × HasOneMore self.old) }
         ensures fails { OnErr result ((fate_next self.old ≢ Works) ⊎ (HasOneMore self.old → ⊥)) }
         ensures calls { self.new.calls ≡ next_call self.old.calls }
-        // A failure has its effect or has none, as it is listed.
+        // A failed call has its effect or not, as listed.
         ensures undone { fate_next self.old ≡ Fails → history self.new ≡ history self.old }
         ensures done { fate_next self.old ≢ Fails → HasOneMore self.old → history self.new ≡ history self.old ++ CutTo len ∷ [] }
     {
@@ -350,7 +352,7 @@ impl Disk for MemDisk {
         ensures works { OnOk result ((fate_next self.old ≡ Works) × HasOneMore self.old) }
         ensures fails { OnErr result ((fate_next self.old ≢ Works) ⊎ (HasOneMore self.old → ⊥)) }
         ensures calls { self.new.calls ≡ next_call self.old.calls }
-        // A failure has its effect or has none, as it is listed.
+        // A failed call has its effect or not, as listed.
         ensures undone { fate_next self.old ≡ Fails → history self.new ≡ history self.old }
         ensures done { fate_next self.old ≢ Fails → HasOneMore self.old → history self.new ≡ history self.old ++ Synced ∷ [] }
     {

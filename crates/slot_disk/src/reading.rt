@@ -11,25 +11,25 @@ use crate::slot::Slot;
 use ens_base::Failed;
 use std::alloc::{AllocError, Global};
 
-/// The bytes of a slot with the longest record.
+/// The length in bytes of a slot that holds the longest record.
 const SLOT_BYTES: usize = 491;
 
-/// What a slot holds.
+/// The serial number and the record that a slot holds.
 #[derive(Debug, Drop)]
 pub(crate) struct Held {
     pub serial: u64,
     pub content: Vec<u8>,
 }
 
-/// A slot as it stands on the disk.
+/// A slot as read from the disk.
 #[derive(Debug, Drop)]
 pub(crate) struct Found {
-    /// Its gate is there and closed.
+    /// Whether its gate is present and closed.
     pub is_shut: bool,
     pub held: Option<Held>,
 }
 
-/// What a slot holds, by the bytes from its first one on.
+/// Decodes a slot from the bytes that begin at it. Returns `None` if it holds nothing.
 fn parse(alloc: Global, bytes: &[u8]) -> Result<Option<Held>, AllocError>
     ensures { IfOk result (λ h. held_slot h ≡ slot bytes.now) }
 {
@@ -45,7 +45,7 @@ fn parse(alloc: Global, bytes: &[u8]) -> Result<Option<Held>, AllocError>
     Ok(Some(Held { serial, content }))
 }
 
-/// Whether the gate is there and closed.
+/// Returns whether the gate is present and closed.
 fn is_shut(bytes: &[u8]) -> bool
     ensures { result ≡ shut bytes.now }
 {
@@ -55,7 +55,7 @@ fn is_shut(bytes: &[u8]) -> bool
     }
 }
 
-/// What was read of a slot, by the bytes from its first one on.
+/// Decodes a slot and its gate from the bytes that begin at it.
 fn found_in(alloc: Global, bytes: &[u8]) -> Result<Found, AllocError>
     ensures held { IfOk result (λ f. held_slot f.held ≡ slot bytes.now) }
     ensures gate { IfOk result (λ f. f.is_shut ≡ shut bytes.now) }
@@ -65,7 +65,7 @@ fn found_in(alloc: Global, bytes: &[u8]) -> Result<Found, AllocError>
     Ok(Found { is_shut, held })
 }
 
-/// Reads the bytes of a slot, as far as the file has them, and answers how many.
+/// Reads the bytes of a slot, as far as the file reaches. Returns how many.
 #[tactic(auto, using(crate::proofs::SlotReads::slot_read))]
 fn read_bytes<D: Disk>(
     disk: &mut D,
@@ -101,14 +101,14 @@ pub(crate) fn read_slot<D: Disk>(
     Ok(found)
 }
 
-/// The two slots as they stand on the disk.
+/// Both slots as read from the disk.
 #[derive(Debug, Drop)]
 pub(crate) struct Both {
     pub a: Found,
     pub b: Found,
 }
 
-/// Brings everything onto the disk, and reads the two slots.
+/// Syncs the disk, and then reads both slots.
 pub(crate) fn read_both<D: Disk>(alloc: Global, disk: &mut D) -> Result<Both, SlotError>
     ensures found { IfOk result (λ r. Told (D.seen disk.old) (λ file. AreSlots file r)) }
     ensures durable { OnOk result (Told (D.seen disk.old) (λ file. IsOn D.seen D.may_leave disk.new file)) }
@@ -124,14 +124,14 @@ pub(crate) fn read_both<D: Disk>(alloc: Global, disk: &mut D) -> Result<Both, Sl
     Ok(Both { a, b })
 }
 
-/// The current slot and what it holds.
+/// The current slot and its content.
 #[derive(Debug, Drop)]
 pub(crate) struct Picked {
     pub slot: Slot,
     pub held: Held,
 }
 
-/// The slot with the greater serial number, A where they are equal.
+/// Picks the slot with the greater serial number, or A if they are equal.
 pub(crate) fn pick(a: Option<Held>, b: Option<Held>) -> Option<Picked>
     ensures { option_map picked result ≡ newer (held_slot a) (held_slot b) }
 {
@@ -156,7 +156,7 @@ pub(crate) fn pick(a: Option<Held>, b: Option<Held>) -> Option<Picked>
     })
 }
 
-/// Slot B, where it alone may hold something.
+/// Picks slot B if it holds something, where A holds nothing.
 fn alone(b: Option<Held>) -> Option<Picked>
     ensures { option_map picked result ≡ newer None (held_slot b) }
 {

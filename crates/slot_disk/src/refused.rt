@@ -1,8 +1,8 @@
-/// The refusal of a call that hands back what it was given.
+/// An error of a call that hands back its argument.
 #[derive(Debug, Drop)]
 pub struct Refused<T, E> {
-    /// Why it was refused.
+    /// The cause.
     pub error: E,
-    /// What was given.
+    /// The argument.
     pub held: T,
 }

@@ -11,7 +11,7 @@ pub enum Slot {
 }
 
 impl Slot {
-    /// The place of its first byte.
+    /// Returns the offset of its first byte.
     pub fn start(self) -> u64
         ensures { result ≡ place_of self }
     {
@@ -21,7 +21,7 @@ impl Slot {
         }
     }
 
-    /// The other one.
+    /// Returns the other slot.
     pub fn other(self) -> Slot
         ensures { result ≡ other_one self }
     {

@@ -17,11 +17,12 @@ use crate::slot::Slot;
 use crate::writing::replace;
 use std::alloc::{AllocError, Global};
 
-/// The most bytes of a record.
+/// The greatest length of a record in bytes.
 pub const RECORD_LIMIT: usize = 480;
 
-/// A record on a disk, in one of two slots. It is replaced whole or not at all, whenever a crash
-/// comes. What it holds it also keeps in memory. After a failure it is to be opened again.
+/// A record on a disk, kept in one of two slots. A save replaces it atomically, whenever a crash
+/// comes. The record is also kept in memory. After `Failed`, open the file again before the next
+/// save, since the guarantees of a save hold for a file at rest.
 #[derive(Drop)]
 pub struct SlotFile<D: Disk> {
     alloc: Global,
@@ -33,7 +34,7 @@ pub struct SlotFile<D: Disk> {
     spelled: Buffer,
 }
 
-/// What a slot file keeps beside its disk.
+/// The fields of a slot file beside its disk.
 #[derive(Drop)]
 struct Parts {
     current: Option<Current>,
@@ -43,7 +44,7 @@ struct Parts {
     spelled: Buffer,
 }
 
-/// What is kept of two slots that were read.
+/// Builds the fields from the two slots as read.
 fn parts_of(alloc: Global, both: Both) -> Result<Parts, AllocError>
     ensures now { IfOk result (λ p. kept_now p.current p.content.bytes.items ≡ newer (held_slot both.a.held) (held_slot both.b.held)) }
     ensures a { IfOk result (λ p. p.a_is_shut ≡ both.a.is_shut) }
@@ -73,7 +74,7 @@ fn parts_of(alloc: Global, both: Both) -> Result<Parts, AllocError>
     }
 }
 
-/// Brings everything onto the disk, and reads what a slot file keeps.
+/// Syncs the disk, and reads the fields of a slot file.
 fn prepare<D: Disk>(alloc: Global, disk: &mut D) -> Result<Parts, SlotError>
     ensures now { IfOk result (λ p. Told (D.seen disk.old) (λ file. kept_now p.current p.content.bytes.items ≡ current file)) }
     ensures gates { IfOk result (λ p. Told (D.seen disk.old) (λ file. (p.a_is_shut ≡ shut_at file A) × (p.b_is_shut ≡ shut_at file B))) }
@@ -92,13 +93,13 @@ fn prepare<D: Disk>(alloc: Global, disk: &mut D) -> Result<Parts, SlotError>
 impl<D: Disk> SlotFile<D> {
     ghost use Rattle.slot_disk.specs.SlotFiles.{remembered, remembers_shut, IsAtRest, IsSaveError, Loads, disk_after};
 
-    /// Opens the file of a disk. It syncs before it reads, so that the record which is then held is
-    /// the one that a crash leaves. A disk without an open slot holds no record.
+    /// Opens the file on `disk`. Syncs before reading, so that the record found is the one that a
+    /// crash leaves. A disk without an open slot holds no record.
     ///
     /// # Errors
     ///
-    /// `Failed` only where the disk's count of faults rose, or want of memory. The disk comes back,
-    /// with the bytes that it had.
+    /// `Failed` only if the fault count of the disk rose, or `Memory`. The error returns the disk,
+    /// with its bytes unchanged.
     pub fn open(alloc: Global, disk: D) -> Result<SlotFile<D>, Refused<D, SlotError>>
         ensures at_rest { IfOk result (λ file. Told (D.seen disk) (λ bytes. IsAtRest D.seen D.may_leave file × (remembered file ≡ current bytes))) }
         ensures error { IfErr result (λ r. IsReadError (D.fault_count disk) (D.fault_count r.held) r.error) }
@@ -123,15 +124,15 @@ impl<D: Disk> SlotFile<D> {
         })
     }
 
-    /// Saves a record, at most 480 bytes, in place of the one that is held. It takes no memory. After
-    /// `Ok` a crash leaves the new record. A crash at any moment of the call, or after a failure,
-    /// leaves the old record or the new one.
+    /// Replaces the record by `bytes`, at most 480. Allocates nothing. On a file at rest, as a
+    /// successful `open` or `save` leaves it, a crash after `Ok` leaves the new record; a crash at
+    /// any moment of the call, or after an error, leaves the old record or the new one.
     ///
     /// # Errors
     ///
-    /// `TooLong` exactly where there are more than 480 bytes. `Spent` exactly where there are not and
-    /// the last serial number is the greatest u64. `Failed` only where the disk's count of faults
-    /// rose.
+    /// `TooLong` exactly if there are more than 480 bytes. `Spent` exactly if there are at most 480
+    /// and the last serial number is the greatest u64. `Failed` only if the fault count of the disk
+    /// rose. `TooLong` and `Spent` leave the disk untouched.
     pub fn save(&mut self, bytes: &[u8]) -> Result<(), SlotError>
         ensures any_moment { IsAtRest D.seen D.may_leave self.old → LeavesOnly D.moment D.left_since self.old.disk self.new.disk (IsOldOrNew (record_in (remembered self.old)) bytes.now) }
         ensures seen { IsAtRest D.seen D.may_leave self.old → SeenIn D.seen self.new.disk (IsOldOrNew (record_in (remembered self.old)) bytes.now) }
@@ -164,7 +165,7 @@ impl<D: Disk> SlotFile<D> {
         }
     }
 
-    /// The serial number of the current slot, 0 where none is.
+    /// Returns the serial number of the current slot, or 0 if there is none.
     fn last_serial(&self) -> u64
         ensures { result ≡ last_serial (remembered self.now) }
     {
@@ -174,7 +175,7 @@ impl<D: Disk> SlotFile<D> {
         }
     }
 
-    /// The slot that is not current, A where none is.
+    /// Returns the slot that is not current, or A if none is.
     fn next_slot(&self) -> Slot
         ensures { result ≡ next_slot (remembered self.now) }
     {
@@ -184,7 +185,7 @@ impl<D: Disk> SlotFile<D> {
         }
     }
 
-    /// Whether the gate of a slot is there and closed.
+    /// Returns whether the gate of a slot is present and closed.
     fn is_shut(&self, slot: Slot) -> bool
         ensures { result ≡ remembers_shut self.now slot }
     {
@@ -194,7 +195,7 @@ impl<D: Disk> SlotFile<D> {
         }
     }
 
-    /// Remembers that a slot has become the current one.
+    /// Notes that a slot has become the current one.
     fn note(&mut self, slot: Slot, serial: u64, bytes: &[u8])
         requires { length bytes.now ≤ 480 }
         ensures now { remembered self.new ≡ Some (slot, (serial, bytes.now)) }
@@ -210,7 +211,7 @@ impl<D: Disk> SlotFile<D> {
         }
     }
 
-    /// The record that is held, where there is one.
+    /// Returns the record, if there is one. Reads nothing from the disk.
     pub fn record(&self) -> Option<&[u8]>
         ensures { option_map (λ r. r.now) result ≡ record_in (remembered self.now) }
     {
@@ -220,12 +221,12 @@ impl<D: Disk> SlotFile<D> {
         }
     }
 
-    /// A copy of the record.
+    /// Returns a copy of the record. Reads nothing from the disk.
     ///
     /// # Errors
     ///
-    /// `NoRecord` exactly where no slot held one when the file was opened, and none was saved since;
-    /// or want of memory.
+    /// `NoRecord` exactly if no slot held a record when the file was opened and none was saved
+    /// since; `Memory` when out of memory.
     pub fn load(&self) -> Result<Vec<u8>, SlotError>
         ensures { Loads (λ v. v.items) (record_in (remembered self.now)) result }
     {
@@ -235,14 +236,14 @@ impl<D: Disk> SlotFile<D> {
         }
     }
 
-    /// The count of the disk's faults.
+    /// Returns the fault count of the disk.
     pub fn faults(&self) -> u64
         ensures { result ≡ D.fault_count self.now.disk }
     {
         self.disk.faults()
     }
 
-    /// The disk. It takes no memory.
+    /// Returns the disk.
     pub fn into_disk(self) -> D
         ensures { result ≡ self.disk }
     {

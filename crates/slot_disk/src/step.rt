@@ -1,7 +1,7 @@
-/// A call that changed a disk in memory, as it is recorded.
+/// A recorded call that changed a disk in memory.
 #[derive(Clone, Copy, Debug, PartialEq, Eq)]
 pub enum Step {
-    /// A write at this place, of `len` of the bytes of all writes from `from` on.
+    /// A write at byte `at`. Its bytes are the `len` bytes of the log from index `from` on.
     Write { at: u64, from: usize, len: usize },
     /// A cut to this length.
     Cut(u64),
@@ -9,13 +9,13 @@ pub enum Step {
     Sync,
 }
 
-/// How much room a disk in memory has.
+/// The room of a disk in memory.
 #[derive(Clone, Copy, Debug, PartialEq, Eq)]
 pub struct Room {
-    /// So many bytes it holds at most.
+    /// The greatest length of the file, in bytes.
     pub bytes: usize,
-    /// So many bytes of writes it records at most, all writes together.
+    /// The greatest total of written bytes that it records.
     pub written: usize,
-    /// So many writes, cuts and syncs it records at most.
+    /// The greatest number of writes, cuts and syncs that it records.
     pub calls: usize,
 }

@@ -8,7 +8,7 @@ use crate::disk::Disk;
 use crate::slot::Slot;
 use ens_base::Failed;
 
-/// Writes, and brings it onto the disk.
+/// Writes, and then syncs.
 fn write_synced<D: Disk>(disk: &mut D, at: u64, bytes: &[u8]) -> Result<(), Failed>
     ensures done { OnOk result ((file : List ℕ) → IsOn D.seen D.may_leave disk.old file → IsOn D.seen D.may_leave disk.new (written file at bytes.now)) }
     ensures seen { (file : List ℕ) → IsOn D.seen D.may_leave disk.old file → SeenIn D.seen disk.new (Torn at (length bytes.now) file) }
@@ -19,7 +19,7 @@ fn write_synced<D: Disk>(disk: &mut D, at: u64, bytes: &[u8]) -> Result<(), Fail
     disk.sync()
 }
 
-/// Closes the gate of the slot that the next save takes, where it is open or not there.
+/// Closes the gate of the slot that the next save takes, unless it is present and closed.
 fn close<D: Disk>(disk: &mut D, slot: Slot, is_shut: bool) -> Result<(), Failed>
     ensures done { OnOk result ((file : List ℕ) → IsOn D.seen D.may_leave disk.old file → IsFree file slot is_shut → (after : List ℕ) × IsOn D.seen D.may_leave disk.new after × IsClosed file slot after) }
     ensures seen { (file : List ℕ) → IsOn D.seen D.may_leave disk.old file → IsFree file slot is_shut → SeenIn D.seen disk.new (λ c. current c ≡ current file) }
@@ -32,7 +32,8 @@ fn close<D: Disk>(disk: &mut D, slot: Slot, is_shut: bool) -> Result<(), Failed>
     write_synced(disk, slot.start(), &[0])
 }
 
-/// Replaces the slot that is not current: closes its gate, writes what stands behind it, opens it.
+/// Replaces the slot that is not current: closes its gate, writes the bytes after the gate, and
+/// opens the gate. Syncs after each write.
 pub(crate) fn replace<D: Disk>(
     disk: &mut D,
     slot: Slot,
