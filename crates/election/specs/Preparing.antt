@@ -16,11 +16,11 @@ use Rattle.phase_rows.specs.Rows.{silent, sends, saves_and_sends, at_ballot}
 use Rattle.election.specs.declared.election.Election.{Election}
 use Rattle.election.specs.declared.election.Election.TheVariants.{Preparing, Starting}
 
--- the state stays, and nothing is done
+-- the state is unchanged, and nothing is done
 abbrev pub ignored : Election → Election × PhaseOut
 ignored election = (election, silent Stay)
 
--- a peer that prepares is below the age of 6
+-- a peer that prepares has an age below 6
 abbrev pub PreparesBelow6 : Election → Type 0
 PreparesBelow6 (Preparing base promises asked age) = age < 6
 PreparesBelow6 (Starting new accepts age) = Unit {0}
@@ -29,31 +29,32 @@ PreparesBelow6 (Starting new accepts age) = Unit {0}
 abbrev pub anew_at_6 : ℕ → Then
 anew_at_6 age = if age == 6 then Rule 7 else Stay
 
--- rule 3: at a tick the age of a peer that prepares rises by 1, and at 6 rule 7 runs
+-- rule 3: on a tick the age of a peer that prepares rises by 1, and at 6 rule 7 runs
 abbrev pub row_3 : Election → Election × PhaseOut
 row_3 (Preparing base promises asked age) = (Preparing base promises asked (age + 1), silent (anew_at_6 (age + 1)))
 row_3 (Starting new accepts age) = ignored (Starting new accepts age)
 
--- the ballot that a peer asks for after this count
+-- the ballot to ask for after this count
 abbrev pub next_ballot : ℕ → ℕ → Epoch
 next_ballot count me = record { count = count + 1; proposer = me }
 
--- the ballot is saved and promised by `me`, and the other members of the base's views are asked for their promise
+-- the ballot is saved and promised by `me`, and the other members of the base's views are asked to
+-- promise it
 abbrev pub prepares : Fact → ℕ → Fact → Epoch → PhaseOut × Option Election
 prepares fact me base ballot = (
   saves_and_sends (at_ballot fact ballot) (others_of me (members base.views)) (Prepare ballot) (Rule 13),
   Some (Preparing base (alone me) (members base.views) 0),
 )
 
--- rule 10: a peer that is in none of the views that follow the best fact, or for which there is no greater
--- count, follows; any other prepares the next ballot, and then rule 13
+-- rule 10: a peer that is in none of the views that follow the best fact, or whose count is the
+-- greatest u64, follows; any other prepares the next ballot, and then runs rule 13
 abbrev pub row_10 : Fact → ℕ → Fact → ℕ → PhaseOut × Option Election
 row_10 fact me best count =
     if not (is_member (views_after best) me) || count == 2 ^ 64 - 1
     then (silent Follow, None)
     else prepares fact me best (next_ballot count me)
 
--- a promise counts; where its fact is newer than the base, it is the base from now on, and Prepare goes to
+-- a promise counts; if its fact is newer than the base, it becomes the base, and Prepare goes to
 -- the members of its views not asked before; then rule 13
 abbrev pub promised_by : Fact → List Bool → List Bool → ℕ → ℕ → ℕ → Epoch → Fact → Election × PhaseOut
 promised_by base promises asked age me from ballot promised =
@@ -73,20 +74,22 @@ row_12 (Starting new accepts age) fact me from ballot promised = ignored (Starti
 abbrev pub first_fact : Fact → ℕ → List (List ℕ) → Fact
 first_fact fact me views = record { ballot = fact.ballot; epoch = fact.ballot; seq = 1; leader = me; views = views; change = changes.None }
 
--- the epoch of the new fact begins: the fact goes to the other members of its views; where `me` may accept
--- it, it is saved and `me` is among those who accept, and then rule 14; otherwise a sync on it begins
+-- the epoch of the new fact begins: NewEpoch goes to the other members of its views; if `me` may
+-- accept the fact, it is saved, `me` counts as the first to accept, and rule 14 runs; otherwise a
+-- sync on it begins
 unfoldable pub starts : Bool → ℕ → Fact → Election × PhaseOut
 starts trusted me new =
     if may_accept trusted me new
     then (Starting new (alone me) 0, saves_and_sends new (others_of me (members new.views)) (NewEpoch new) (Rule 14))
     else (Starting new nobody 0, sends (others_of me (members new.views)) (NewEpoch new) (SyncOn new))
 
--- the epoch begins on these views, or the peer follows where it is in none of them
+-- the epoch begins on these views, or the peer follows if it is in none of them
 abbrev pub elected : Election → Fact → ℕ → Bool → List (List ℕ) → Election × PhaseOut
 elected election fact me trusted views =
     if is_member views me then starts trusted me (first_fact fact me views) else (election, silent Follow)
 
--- rule 13: where a quorum of the base's views promised, the epoch begins on the views that follow the base
+-- rule 13: once a quorum of the base's views promised, the epoch begins on the views that follow
+-- the base
 abbrev pub row_13 : Election → Fact → ℕ → Bool → Election × PhaseOut
 row_13 (Preparing base promises asked age) fact me trusted =
     if is_quorum (holds promises) base.views

@@ -9,21 +9,21 @@ use peer_fact::Fact;
 use phase_rows::{alone, is_below, refuse_below, save_and_send, silent};
 use wire_frames::{Message, NackCause, PhaseOut, Then};
 
-/// Whether two epochs are one.
+/// Returns whether two epochs are equal.
 pub(crate) fn is_same(a: Epoch, b: Epoch) -> bool
     ensures { result ≡ same a b }
 {
     a == b
 }
 
-/// The fact, at this ballot.
+/// Returns the fact with this ballot.
 pub(crate) fn at_ballot(fact: &Fact, ballot: Epoch) -> Fact
     ensures { result ≡ with_ballot fact.now ballot }
 {
     Fact { ballot, ..*fact }
 }
 
-/// The fact of a new ballot is saved and promised to the sender.
+/// Saves the fact with the new ballot, and sends the promise to `from`.
 fn promise(promised: &Fact, from: PeerId) -> PhaseOut
     requires { IsPeer from }
     ensures { result ≡ promises_to from promised.now }
@@ -35,8 +35,8 @@ fn promise(promised: &Fact, from: PeerId) -> PhaseOut
     }
 }
 
-/// Rule 11: a ballot above the saved one is promised, by a peer that leads and asks no more; the same
-/// one is ignored; one below is refused.
+/// Rule 11: promise a ballot above the saved one, step down if leading, and follow. Ignore an equal
+/// ballot; refuse one below.
 pub fn rule_11(fact: Fact, from: PeerId, ballot: Epoch) -> PhaseOut
     requires { IsPeer from }
     ensures { result ≡ row_11 fact from ballot }
@@ -50,8 +50,8 @@ pub fn rule_11(fact: Fact, from: PeerId, ballot: Epoch) -> PhaseOut
     }
 }
 
-/// Rule 15: a peer whose ballot was refused for a greater one leads and asks no more, but follows.
-/// Any other refusal is ignored.
+/// Rule 15: if this peer's ballot was refused for a greater one, step down if leading, and follow.
+/// Ignore any other `Nack`.
 pub fn rule_15(fact: Fact, ballot: Epoch, cause: NackCause) -> PhaseOut
     ensures { result ≡ row_15 fact ballot cause }
 {

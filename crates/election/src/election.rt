@@ -1,28 +1,28 @@
 use ens_base::PeerSet;
 use peer_fact::Fact;
 
-/// The state of a peer that asks for a ballot, and then starts the ballot's epoch. The ballot is that
-/// of its saved fact.
+/// The state of a peer that asks for a ballot, and then starts the ballot's epoch. The ballot is
+/// that of its saved fact.
 #[derive(Clone, Copy, Debug, PartialEq, Eq)]
 pub enum Election {
-    /// It waits for promises.
+    /// The peer waits for promises.
     Preparing {
-        /// The newest fact that was found, whose epoch the new one follows.
+        /// The newest fact found, which the new epoch follows.
         base: Fact,
-        /// Who promised the ballot, `me` included.
+        /// The peers that promised the ballot, including `me`.
         promises: PeerSet,
-        /// Who was asked for a promise, `me` included where it is a member.
+        /// The peers asked for a promise, including `me` if it is a member.
         asked: PeerSet,
-        /// For how many ticks it has prepared, 0 to 6.
+        /// The number of ticks since it began to prepare, 0 to 6.
         age: u8,
     },
-    /// It waits until its epoch's first fact is accepted.
+    /// The peer waits until the first fact of its epoch is accepted.
     Starting {
         /// The first fact of the epoch.
         fact: Fact,
-        /// Who accepted it.
+        /// The peers that accepted it.
         accepts: PeerSet,
-        /// For how many ticks it has been starting, 0 to 8.
+        /// The number of ticks since it started, 0 to 8.
         age: u8,
     },
 }

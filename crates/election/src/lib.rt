@@ -1,11 +1,11 @@
-//! Elections: how a ballot is asked for and promised, and how the peer that has the promises of a
-//! quorum starts its epoch and comes to lead it.
+//! Elections: how a peer asks for a ballot, how others promise it, and how the peer that has the
+//! promises of a quorum starts its epoch and comes to lead it.
 //!
-//! Each call is a rule of the protocol, by its number, and its contract is that the answer and the new
-//! state are the rule's row. The rows stand in `specs/`: `Ballots` has what any peer answers to one
-//! that asks, `Preparing` and `Starting` the two states of an election, and `Laws` what the rows keep:
-//! a ballot only rises, an epoch starts only on the promises of a quorum of its base, and a peer leads
-//! only what a quorum accepted.
+//! Each call is a rule of the protocol with its number in the name; its contract is that the new
+//! state and the answer are the rule's row. The rows stand in `specs/`: `Ballots` has the answers
+//! of any peer to one that asks, `Preparing` and `Starting` the two states of an election, and
+//! `Laws` the laws of the rows: a ballot only rises, an epoch starts only with the promises of a
+//! quorum of its base, and a peer leads only what a quorum accepted.
 #![tactic(auto)]
 
 mod ballots;

@@ -15,14 +15,14 @@ use phase_rows::{
 };
 use wire_frames::{Message, PhaseOut, Then};
 
-/// What follows at this age.
+/// Returns what to run at this age.
 fn anew_at_6(age: u8) -> Then
     ensures { result ≡ then_at age }
 {
     if age == 6 { Then::Rule(7) } else { Then::Stay }
 }
 
-/// Whether these peers are a quorum of the views.
+/// Returns whether these peers are a quorum of the views.
 pub(crate) fn is_enough(peers: &PeerSet, views: &Views) -> bool
     ensures { result ≡ is_quorum (holds peers.now) views.now }
 {
@@ -33,7 +33,7 @@ pub(crate) fn is_enough(peers: &PeerSet, views: &Views) -> bool
     tally.is_quorum()
 }
 
-/// The ballot is saved and promised by `me`, and the other members of the base's views are asked.
+/// Saves the ballot, promises it for `me`, and asks the other members of the base's views.
 fn prepare(fact: Fact, me: PeerId, base: Fact, ballot: Epoch) -> (PhaseOut, Option<Election>)
     requires { IsPeer me }
     ensures { result ≡ prepares fact me base ballot }
@@ -54,8 +54,8 @@ fn prepare(fact: Fact, me: PeerId, base: Fact, ballot: Epoch) -> (PhaseOut, Opti
     (out, Some(state))
 }
 
-/// Rule 10: the peer asks for the ballot after this count. One that is in none of the views that follow
-/// the best fact, or for which there is no greater count, follows.
+/// Rule 10: ask for the ballot after this count. A peer that is in none of the views that follow
+/// the best fact follows instead, and so does one whose count is the greatest u64.
 pub fn rule_10(fact: Fact, me: PeerId, best: Fact, count: u64) -> (PhaseOut, Option<Election>)
     requires { IsPeer me }
     ensures { result ≡ row_10 fact me best count }
@@ -70,7 +70,7 @@ pub fn rule_10(fact: Fact, me: PeerId, best: Fact, count: u64) -> (PhaseOut, Opt
     prepare(fact, me, best, ballot)
 }
 
-/// The first fact of the epoch that begins at the saved ballot.
+/// Returns the first fact of the epoch that begins at the saved ballot.
 fn first_fact(fact: &Fact, me: PeerId, views: Views) -> Fact
     ensures { result ≡ first fact.now me views }
 {
@@ -84,7 +84,7 @@ fn first_fact(fact: &Fact, me: PeerId, views: Views) -> Fact
     }
 }
 
-/// The epoch of the new fact begins.
+/// Begins the epoch of the new fact.
 #[tactic(auto, unfolding(crate::specs::Preparing::starts))]
 fn start(trusted: bool, me: PeerId, new: Fact) -> (Election, PhaseOut)
     requires { IsPeer me }
@@ -110,7 +110,7 @@ fn start(trusted: bool, me: PeerId, new: Fact) -> (Election, PhaseOut)
 }
 
 impl Election {
-    /// Rule 3: at a tick the age of a peer that prepares rises by 1, and at 6 probing begins anew.
+    /// Rule 3, on a tick: the age of a peer that prepares rises by 1, and at 6 probing begins anew.
     pub fn rule_3(&mut self) -> PhaseOut
         requires { PreparesBelow6 self.old }
         ensures { (self.new, result) ≡ row_3 self.old }
@@ -124,9 +124,9 @@ impl Election {
         }
     }
 
-    /// Rule 12: a peer that prepares counts a promise of its ballot. Where the promise tells of a newer
-    /// fact, that is the base from now on, and the members of its views that were not asked before are
-    /// asked. Any other promise is ignored.
+    /// Rule 12: count a promise of this peer's ballot while preparing. If the promised fact is
+    /// newer than the base, it becomes the base, and the members of its views that were not asked
+    /// before are asked. Ignore any other promise.
     pub fn rule_12(
         &mut self,
         fact: Fact,
@@ -163,7 +163,7 @@ impl Election {
         }
     }
 
-    /// The epoch begins on these views, or the peer follows where it is in none of them.
+    /// Begins the epoch on these views, or follows if the peer is in none of them.
     fn elect(&mut self, fact: &Fact, me: PeerId, trusted: bool, views: Views) -> PhaseOut
         requires { IsPeer me }
         ensures { (self.new, result) ≡ elected self.old fact.now me trusted views }
@@ -177,8 +177,8 @@ impl Election {
         }
     }
 
-    /// Rule 13: where a quorum of the base's views promised, the epoch begins on the views that follow
-    /// the base. A peer that is in none of them follows.
+    /// Rule 13: once a quorum of the base's views promised, begin the epoch on the views that
+    /// follow the base. A peer that is in none of them follows.
     pub fn rule_13(&mut self, fact: Fact, me: PeerId, trusted: bool) -> PhaseOut
         requires { IsPeer me }
         ensures { (self.new, result) ≡ row_13 self.old fact me trusted }

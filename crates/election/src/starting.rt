@@ -10,14 +10,14 @@ use peer_fact::Fact;
 use phase_rows::{others_outside, send, silent};
 use wire_frames::{Message, PhaseOut, Then};
 
-/// A sync that runs goes on.
+/// Resumes a running sync.
 fn resume(sync_runs: bool) -> Then
     ensures { result ≡ resumes sync_runs }
 {
     if sync_runs { Then::Resume } else { Then::Stay }
 }
 
-/// What a peer does that has been starting for so long.
+/// Returns what a starting peer does at this age.
 fn insist(new: &Fact, accepts: &PeerSet, age: u8, me: PeerId, sync_runs: bool) -> PhaseOut
     ensures { result ≡ insists new.now accepts.now age me sync_runs }
 {
@@ -29,8 +29,9 @@ fn insist(new: &Fact, accepts: &PeerSet, age: u8, me: PeerId, sync_runs: bool) -
 }
 
 impl Election {
-    /// Rule 4: at a tick the age of a peer that starts rises by 1. At 8 it gives up and follows; before
-    /// that the fact goes again to the members that have not accepted it, and a sync that runs goes on.
+    /// Rule 4, on a tick: the age of a starting peer rises by 1. At 8 it gives up and follows.
+    /// Before that, send the fact again to the members that have not accepted it, and resume a
+    /// running sync.
     pub fn rule_4(&mut self, me: PeerId, sync_runs: bool) -> PhaseOut
         requires { StartsBelow8 self.old }
         ensures { (self.new, result) ≡ row_4 self.old me sync_runs }
@@ -44,8 +45,7 @@ impl Election {
         }
     }
 
-    /// Rule 14: a peer that starts leads where it accepted the fact itself, as did a quorum of the
-    /// fact's views.
+    /// Rule 14: lead, once this peer and a quorum of the fact's views have accepted the fact.
     pub fn rule_14(&mut self, me: PeerId) -> PhaseOut
         ensures { (self.new, result) ≡ row_14 self.old me }
     {
@@ -61,8 +61,8 @@ impl Election {
         }
     }
 
-    /// Rule 17: a peer that starts counts who accepted the first fact of its ballot. Any other
-    /// acceptance is ignored.
+    /// Rule 17: count an acceptance of the first fact of this peer's ballot while starting. Ignore
+    /// any other acceptance.
     pub fn rule_17(&mut self, fact: Fact, from: PeerId, ballot: Epoch, seq: u64) -> PhaseOut
         requires { IsPeer from }
         ensures { (self.new, result) ≡ row_17 self.old fact from ballot seq }

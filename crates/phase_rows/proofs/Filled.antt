@@ -7,7 +7,7 @@ use Rattle.std.proofs.lemmas.List.FromFn.{get_or-map-range_with_len}
 use Rattle.ens_base.specs.PeerSet.{holds}
 use Rattle.phase_rows.specs.Peers.{those, nobody}
 
--- the set has the peers below this number for which the test holds
+-- the set has exactly the peers below this number that pass the test
 pub record IsFilled (test : ℕ → Bool) (below : ℕ) (set : List Bool) : Type 0 where
   pub size : length set ≡ 32
   pub at : (p : ℕ) → p < 32 → holds set p ≡ (nat_lt 0 p && nat_lt p below && test p)

@@ -1,4 +1,4 @@
--- Whether a peer is a member, as a test.
+-- Membership in a view, as a test.
 use Rattle.std.specs.Prelude.{slice_index_or, Contains, ◌||◌, ◌↔◌}
 use Rattle.std.proofs.Common.{◌≡◌, ℕ, zero, suc, ◌<◌, ◌⊎◌, Bool, true, ◌==◌, List, [], ◌∷◌, length, arith, inl, inr}
 use Rattle.std.proofs.lemmas.Bool.{false≢true}

@@ -1,21 +1,21 @@
--- Sets of peers in the words of the rules. A set is one flag for each number below 32.
+-- Sets of peers, as the rules use them. A set is one flag for each number from 0 to 31.
 use Rattle.std.specs.Prelude.{ℕ, Bool, true, false, not, ◌&&◌, ◌||◌, ◌==◌, List, [], ◌∷◌, map, replicate, slice_set}
 use Rattle.std.specs.List.{range_with_len}
 use Rattle.ens_base.specs.PeerSet.{holds}
 
--- the peers, 1 to 31, for which the test holds
+-- the peers, 1 to 31, that pass the test
 abbrev pub those : (ℕ → Bool) → List Bool
 those test = false ∷ map test (range_with_len 1 31)
 
--- no peer
+-- the empty set
 abbrev pub nobody : List Bool
 nobody = replicate 32 false
 
--- the set and this peer
+-- the set with this peer added
 abbrev pub joined : ℕ → List Bool → List Bool
 joined peer set = slice_set set peer true
 
--- this peer alone
+-- the set of this peer alone
 abbrev pub alone : ℕ → List Bool
 alone peer = joined peer nobody
 
@@ -24,23 +24,23 @@ abbrev pub is_in : List ℕ → ℕ → Bool
 is_in [] peer = false
 is_in (member ∷ view) peer = (peer == member) || is_in view peer
 
--- whether the peer is a member of some view
+-- whether the peer is a member of any of the views
 abbrev pub is_member : List (List ℕ) → ℕ → Bool
 is_member [] peer = false
 is_member (view ∷ views) peer = is_in view peer || is_member views peer
 
--- the members of all views
+-- the members of all the views
 abbrev pub members : List (List ℕ) → List Bool
 members views = those (is_member views)
 
--- the members of the views that are not in the set, but for `me`
+-- the members of the views that are not in the set, except `me`
 abbrev pub others_outside : ℕ → List Bool → List (List ℕ) → List Bool
 others_outside me set views = those (λ p. is_member views p && not (p == me) && not (holds set p))
 
--- the set and the members of the views
+-- the union of the set and the members of the views
 abbrev pub with_members : List Bool → List (List ℕ) → List Bool
 with_members set views = those (λ p. holds set p || is_member views p)
 
--- the set but for `me`
+-- the set without `me`
 abbrev pub others_of : ℕ → List Bool → List Bool
 others_of me set = those (λ p. holds set p && not (p == me))

@@ -1,4 +1,4 @@
--- What rules answer, in their words.
+-- The answers of rules.
 use Rattle.std.specs.Prelude.{ℕ, Bool, true, false, List, Some, None}
 use Rattle.ens_base.specs.declared.epoch.Epoch.{Epoch}
 use Rattle.peer_fact.specs.declared.fact.Fact.{Fact}
@@ -11,30 +11,30 @@ use Rattle.wire_frames.specs.declared.phase.Then.{Then}
 use Rattle.wire_frames.specs.declared.phase.Then.TheVariants.{Stay}
 use Rattle.phase_rows.specs.Peers.{nobody, alone}
 
--- nothing is saved and nothing sent
+-- save nothing and send nothing
 abbrev pub silent : Then → PhaseOut
 silent next = record { leave = false; save = None; to = nobody; message = None; then = next }
 
--- the message goes to the peers
+-- send the message to the peers
 abbrev pub sends : List Bool → Message → Then → PhaseOut
 sends peers message next = record { leave = false; save = None; to = peers; message = Some message; then = next }
 
--- the fact is saved, and then the message goes to the peers
+-- save the fact, and then send the message to the peers
 abbrev pub saves_and_sends : Fact → List Bool → Message → Then → PhaseOut
 saves_and_sends fact peers message next = record { leave = false; save = Some fact; to = peers; message = Some message; then = next }
 
--- the same, but a leader leaves leading first
+-- the same answer, but a leader steps down first
 abbrev pub leaves_leading : PhaseOut → PhaseOut
 leaves_leading out = record out { leave = true }
 
--- the peer is told why not, and nothing else happens
+-- send the peer a `Nack` with this cause, and do nothing else
 abbrev pub refuses : ℕ → Epoch → NackCause → PhaseOut
 refuses peer ballot cause = sends (alone peer) (Nack ballot cause) Stay
 
--- the peer is told of the greater ballot that was promised
+-- send the peer a `Nack` with the greater ballot that was promised
 abbrev pub refuses_below : ℕ → Epoch → Fact → PhaseOut
 refuses_below peer ballot fact = refuses peer ballot (Greater fact.ballot)
 
--- the fact, at this ballot
+-- the fact with this ballot
 abbrev pub at_ballot : Fact → Epoch → Fact
 at_ballot fact ballot = record fact { ballot = ballot }

@@ -7,7 +7,7 @@ use ens_base::{Epoch, PeerId, PeerSet};
 use peer_fact::Fact;
 use wire_frames::{Message, NackCause, PhaseOut, Then};
 
-/// Nothing is saved and nothing sent.
+/// Saves nothing and sends nothing.
 pub fn silent(then: Then) -> PhaseOut
     ensures { result ≡ is_silent then }
 {
@@ -20,7 +20,7 @@ pub fn silent(then: Then) -> PhaseOut
     }
 }
 
-/// The message goes to the peers.
+/// Sends the message to the peers in `to`.
 pub fn send(to: PeerSet, message: Message, then: Then) -> PhaseOut
     ensures { result ≡ sends to message then }
 {
@@ -33,7 +33,7 @@ pub fn send(to: PeerSet, message: Message, then: Then) -> PhaseOut
     }
 }
 
-/// The fact is saved, and then the message goes to the peers.
+/// Saves the fact, and then sends the message to the peers in `to`.
 pub fn save_and_send(fact: Fact, to: PeerSet, message: Message, then: Then) -> PhaseOut
     ensures { result ≡ saves_and_sends fact to message then }
 {
@@ -46,7 +46,7 @@ pub fn save_and_send(fact: Fact, to: PeerSet, message: Message, then: Then) -> P
     }
 }
 
-/// The peer, of number 1 to 31, is told why not, and nothing else happens.
+/// Sends `peer` (1 to 31) a `Nack` with the cause, and does nothing else.
 pub fn refuse(peer: PeerId, ballot: Epoch, cause: NackCause) -> PhaseOut
     requires { IsPeer peer }
     ensures { result ≡ refuses peer ballot cause }
@@ -54,7 +54,8 @@ pub fn refuse(peer: PeerId, ballot: Epoch, cause: NackCause) -> PhaseOut
     send(alone(peer), Message::Nack(ballot, cause), Then::Stay)
 }
 
-/// The peer, of number 1 to 31, is told of the greater ballot that this fact promised.
+/// Sends `peer` (1 to 31) a `Nack` with the greater ballot that this fact promised, and does
+/// nothing else.
 pub fn refuse_below(peer: PeerId, ballot: Epoch, fact: &Fact) -> PhaseOut
     requires { IsPeer peer }
     ensures { result ≡ refuses_below peer ballot fact.now }

@@ -1,10 +1,11 @@
-//! The words in which the rules of the phases are written.
+//! The vocabulary in which the rules of the phases are written.
 //!
-//! A rule is a pure call: it is given the state of its phase, the saved fact and what came, and it
-//! answers who leaves, what is saved, to whom which message goes, and what runs next. What it must
-//! answer is its row, a definition in the specs of the rule's crate. Here are the sets of peers, the
-//! tests and the answers that all rows are made of, as definitions in `specs/`, and the calls that
-//! give exactly these.
+//! A rule is a pure function. Its arguments are the state of its phase, the saved fact and the
+//! event that came; its result says whether a leader steps down, what to save, which message to
+//! send to whom, and what to run next. Its contract is that the result is the rule's row, a
+//! definition in the specs of the rule's crate. This crate has the sets of peers, the tests and the
+//! answers from which all rows are built: as definitions in `specs/`, and as functions that compute
+//! exactly these.
 #![tactic(auto)]
 
 mod answers;

@@ -5,22 +5,22 @@ use crate::peers::is_in;
 use ens_base::{Epoch, PeerId};
 use peer_fact::Fact;
 
-/// Whether the first epoch is below the second: by the count, then by the proposer.
+/// Returns whether the first epoch is below the second: by count, then by proposer.
 pub fn is_below(a: Epoch, b: Epoch) -> bool
     ensures { result ≡ below a b }
 {
     a.count < b.count || (a.count == b.count && a.proposer < b.proposer)
 }
 
-/// Whether the first fact is newer: by the epoch, then by the number in it.
+/// Returns whether the first fact is newer than the second: by epoch, then by sequence number.
 pub fn is_newer(first: &Fact, second: &Fact) -> bool
     ensures { result ≡ newer first.now second.now }
 {
     is_below(second.epoch, first.epoch) || (second.epoch == first.epoch && second.seq < first.seq)
 }
 
-/// Whether the peer may accept the fact: where it trusts its tree, but in a joint epoch not as a
-/// member of the new view, which is to accept at the end of a sync.
+/// Returns whether the peer may accept the fact: if it trusts its tree, and is not a member of the
+/// new view of a joint epoch. Such a member accepts at the end of a sync.
 pub fn may_accept(trusted: bool, me: PeerId, new: &Fact) -> bool
     ensures { result ≡ may trusted me new.now }
 {

@@ -4,14 +4,14 @@ ghost use Rattle.phase_rows.specs.Peers.{is_in as is_in_list, is_member as is_me
 
 use ens_base::{PeerId, PeerSet, View, Views};
 
-/// Whether the peer is a member of the view.
+/// Returns whether the peer is a member of the view.
 pub(crate) fn is_in(view: &View, peer: PeerId) -> bool
     ensures { result ≡ is_in_list view.now peer }
 {
     view.has(peer)
 }
 
-/// Whether the peer is a member of some view.
+/// Returns whether the peer is a member of any of the views.
 pub fn is_member(views: &Views, peer: PeerId) -> bool
     ensures { result ≡ is_member_of views.now peer }
 {
@@ -22,7 +22,7 @@ pub fn is_member(views: &Views, peer: PeerId) -> bool
     }
 }
 
-/// The set of this peer alone. Its number is 1 to 31.
+/// Returns the set of this peer alone. Its number is 1 to 31.
 pub fn alone(peer: PeerId) -> PeerSet
     requires { IsPeer peer }
     ensures { result ≡ alone_set peer }
@@ -30,7 +30,7 @@ pub fn alone(peer: PeerId) -> PeerSet
     joined(PeerSet::empty(), peer)
 }
 
-/// The set and this peer. Its number is 1 to 31.
+/// Returns the set with this peer added. Its number is 1 to 31.
 pub fn joined(set: PeerSet, peer: PeerId) -> PeerSet
     requires { IsPeer peer }
     ensures { result ≡ joined_set peer set }
@@ -40,7 +40,7 @@ pub fn joined(set: PeerSet, peer: PeerId) -> PeerSet
     joined
 }
 
-/// The members of all views.
+/// Returns the members of all the views.
 pub fn members(views: &Views) -> PeerSet
     ensures { result ≡ members_set views.now }
 {
@@ -53,7 +53,7 @@ pub fn members(views: &Views) -> PeerSet
     set
 }
 
-/// The members of the views that are not in the set, but for `me`.
+/// Returns the members of the views that are not in the set, except `me`.
 pub fn others_outside(me: PeerId, set: &PeerSet, views: &Views) -> PeerSet
     ensures { result ≡ outside_set me set.now views.now }
 {
@@ -67,7 +67,7 @@ pub fn others_outside(me: PeerId, set: &PeerSet, views: &Views) -> PeerSet
     others
 }
 
-/// The set and the members of the views.
+/// Returns the union of the set and the members of the views.
 pub fn with_members(set: &PeerSet, views: &Views) -> PeerSet
     ensures { result ≡ with_set set.now views.now }
 {
@@ -81,7 +81,7 @@ pub fn with_members(set: &PeerSet, views: &Views) -> PeerSet
     all
 }
 
-/// The set but for `me`.
+/// Returns the set without `me`.
 pub fn others_of(me: PeerId, set: &PeerSet) -> PeerSet
     ensures { result ≡ others_set me set.now }
 {

@@ -1,4 +1,4 @@
--- The rules by which a peer asks for the facts of others: 3, 7, 8 and 9.
+-- The rules by which a peer asks the others for their facts: 3, 7, 8 and 9.
 use Rattle.std.specs.Prelude.{ℕ, ◌+◌, ◌==◌, if◌then◌else◌, max, Option, Some}
 use Rattle.ens_base.specs.PeerSet.{holds}
 use Rattle.joint_views.specs.Quorums.{is_quorum}
@@ -16,28 +16,29 @@ use Rattle.probe.specs.declared.probing.Probing.{Probing}
 abbrev pub anew_at_6 : ℕ → Then
 anew_at_6 age = if age == 6 then Rule 7 else Stay
 
--- rule 3: at a tick the age rises by 1, and at 6 rule 7 runs
+-- rule 3: on a tick the age rises by 1, and at 6 rule 7 runs
 abbrev pub row_3 : Probing → Probing × PhaseOut
 row_3 probing = (record probing { age = probing.age + 1 }, silent (anew_at_6 (probing.age + 1)))
 
--- probing begins with the saved fact as the best, its count, `me` heard, and the members of its views asked
+-- the first state of probing: the saved fact is the best, the count that of its ballot, `me` is
+-- heard, and the members of its views are asked
 abbrev pub first_probing : Fact → ℕ → Probing
 first_probing fact me = record { best = fact; count = fact.ballot.count; heard = alone me; asked = members fact.views; age = 0 }
 
--- rule 7: probing begins; the other members of the fact's views are asked; then rule 9
+-- rule 7: probing begins, and the other members of the fact's views are asked; then rule 9
 abbrev pub row_7 : Fact → ℕ → PhaseOut × Option Probing
 row_7 fact me = (sends (others_of me (members fact.views)) Probe (Rule 9), Some (first_probing fact me))
 
--- the sender is heard, and the count is the greater one
+-- the sender is heard, and the count is at least that of its ballot
 abbrev pub heard_from : Probing → ℕ → Fact → Probing
 heard_from probing from reply = record probing { heard = joined from probing.heard; count = max probing.count reply.ballot.count }
 
--- the fact is the best one from now on, and the members of its views are asked
+-- the fact becomes the best one, and the members of its views are asked
 abbrev pub bettered : Probing → Fact → Probing
 bettered probing reply = record probing { best = reply; asked = with_members probing.asked reply.views }
 
--- rule 8, on a reply: the sender is heard; where its fact is newer than the best, it is the best from now
--- on, and Probe goes to the members of its views not asked before; then rule 9
+-- rule 8, on a reply: the sender is heard; if its fact is newer than the best one, it becomes the
+-- best, and Probe goes to the members of its views not asked before; then rule 9
 abbrev pub row_8 : Probing → ℕ → ℕ → Fact → Probing × PhaseOut
 row_8 probing me from reply =
     if is_newer reply probing.best
@@ -48,6 +49,6 @@ row_8 probing me from reply =
 abbrev pub row_8_probe : Fact → ℕ → PhaseOut
 row_8_probe fact from = sends (alone from) (ProbeReply fact) Stay
 
--- rule 9: where a quorum of the best fact's views was heard, rule 10 runs
+-- rule 9: once a quorum of the best fact's views was heard, rule 10 runs
 abbrev pub row_9 : Probing → Probing × PhaseOut
 row_9 probing = (probing, silent (if is_quorum (holds probing.heard) probing.best.views then Rule 10 else Stay))

@@ -7,14 +7,14 @@ ghost use Rattle.probe.specs.declared.probing.Probing.{Probing};
 ghost use Rattle.probe.specs.Laws.{HasGrown, HasReckonedWith};
 ghost use Rattle.probe.specs.Probing.{row_8, row_9};
 
-/// A reply makes the best fact no older and the count no less, and then no fact that was told is newer
-/// than the best, nor the count of its ballot greater.
+/// A reply never makes the best fact older or the count less. After it the best fact is at least as
+/// new as the fact of the reply, and the count at least that of its ballot.
 pub fn the_best_is_the_newest_heard()
     ensures grown { (probing : Probing) (me from : ℕ) (reply : Fact) → HasGrown probing (row_8 probing me from reply).0 }
     ensures heard { (probing : Probing) (me from : ℕ) (reply : Fact) → HasReckonedWith (row_8 probing me from reply).0 reply }
 {}
 
-/// A ballot is asked for only once a quorum of the best fact's views was heard.
+/// A peer asks for a ballot only once it has heard from a quorum of the best fact's views.
 pub fn a_quorum_was_heard()
     ensures { (probing : Probing) → (row_9 probing).1.then ≡ Rule 10 → is_quorum (holds probing.heard) probing.best.views ≡ true }
 {}

@@ -1,10 +1,11 @@
-//! Probing: how a peer that misses a leader learns what the others have, before it asks for a ballot.
+//! Probing: how a peer that misses a leader learns what the others have, before it asks for a
+//! ballot.
 //!
-//! It asks the members of its fact's views for their facts, keeps the newest one and the greatest
-//! count, asks the members of newer views too, and goes on once a quorum of the best fact's views has
-//! answered. Each call is a rule of the protocol, by its number, and its contract is that the answer
-//! and the new state are the rule's row. The rows stand in `specs/Probing`, and what they keep in
-//! `specs/Laws`.
+//! The peer asks the members of its fact's views for their facts. It keeps the newest fact and the
+//! greatest count, also asks the members of newer views, and goes on once a quorum of the best
+//! fact's views has answered. Each call is a rule of the protocol with its number in the name; its
+//! contract is that the new state and the answer are the rule's row. The rows stand in
+//! `specs/Probing`, and their laws in `specs/Laws`.
 #![tactic(auto)]
 
 mod laws;

@@ -10,29 +10,29 @@ use peer_fact::Fact;
 use phase_rows::{alone, is_newer, members, others_of, others_outside, send, silent, with_members};
 use wire_frames::{Message, PhaseOut, Then};
 
-/// The state of a peer that asks for the facts of others.
+/// The state of a peer that is probing.
 #[derive(Clone, Copy, Debug, PartialEq, Eq)]
 pub struct Probing {
-    /// The newest fact that was heard, the own one included.
+    /// The newest fact heard, including its own.
     pub best: Fact,
-    /// The greatest count of a ballot that was heard.
+    /// The greatest count of a ballot heard.
     pub count: u64,
-    /// Who told its fact, `me` included.
+    /// The peers that told their fact, including `me`.
     pub heard: PeerSet,
-    /// Who was asked for its fact, `me` included where it is a member.
+    /// The peers asked for their fact, including `me` if it is a member.
     pub asked: PeerSet,
-    /// How many ticks ago probing began, 0 to 6.
+    /// The number of ticks since probing began, 0 to 6.
     pub age: u8,
 }
 
-/// What follows at this age.
+/// Returns what to run at this age.
 fn anew_at_6(age: u8) -> Then
     ensures { result ≡ then_at age }
 {
     if age == 6 { Then::Rule(7) } else { Then::Stay }
 }
 
-/// Rule 7: probing begins. The other members of the fact's views are asked.
+/// Rule 7: begin to probe. Asks the other members of the fact's views.
 pub fn rule_7(fact: Fact, me: PeerId) -> (PhaseOut, Option<Probing>)
     requires { IsPeer me }
     ensures { result ≡ row_7 fact me }
@@ -49,7 +49,7 @@ pub fn rule_7(fact: Fact, me: PeerId) -> (PhaseOut, Option<Probing>)
     (out, Some(probing))
 }
 
-/// Rule 8, on a probe: the saved fact goes to the sender.
+/// Rule 8, on a probe: send the saved fact to `from`.
 pub fn rule_8_probe(fact: Fact, from: PeerId) -> PhaseOut
     requires { IsPeer from }
     ensures { result ≡ row_8_probe fact from }
@@ -58,7 +58,7 @@ pub fn rule_8_probe(fact: Fact, from: PeerId) -> PhaseOut
 }
 
 impl Probing {
-    /// Rule 3: at a tick the age rises by 1, and at 6 probing begins anew.
+    /// Rule 3, on a tick: the age rises by 1, and at 6 probing begins anew.
     pub fn rule_3(&mut self) -> PhaseOut
         requires { self.old.age < 6 }
         ensures { (self.new, result) ≡ row_3 self.old }
@@ -67,8 +67,8 @@ impl Probing {
         silent(anew_at_6(self.age))
     }
 
-    /// Rule 8, on a reply: the sender is heard, and where its fact is newer than the best, it is the
-    /// best from now on, and the members of its views that were not asked before are asked.
+    /// Rule 8, on a reply: count `from` as heard. If its fact is newer than the best one, it
+    /// becomes the best, and the members of its views that were not asked before are asked.
     pub fn rule_8(&mut self, me: PeerId, from: PeerId, reply: Fact) -> PhaseOut
         requires { IsPeer from }
         ensures { (self.new, result) ≡ row_8 self.old me from reply }
@@ -85,7 +85,7 @@ impl Probing {
         }
     }
 
-    /// Whether a quorum of the best fact's views was heard.
+    /// Returns whether a quorum of the best fact's views was heard.
     fn is_enough(&self) -> bool
         ensures { result ≡ is_quorum (holds self.now.heard) self.now.best.views }
     {
@@ -96,7 +96,7 @@ impl Probing {
         tally.is_quorum()
     }
 
-    /// Rule 9: where a quorum of the best fact's views was heard, the peer asks for a ballot.
+    /// Rule 9: once a quorum of the best fact's views was heard, ask for a ballot.
     pub fn rule_9(&mut self) -> PhaseOut
         ensures { (self.new, result) ≡ row_9 self.old }
     {
