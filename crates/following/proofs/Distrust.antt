@@ -1,4 +1,4 @@
--- Where a leader leaves leading because its tree is trusted no more.
+-- A leader steps down because its tree becomes untrusted.
 use Rattle.std.proofs.Common.{arith, refl, ◌≡◌, ℕ, Bool, Option, Some, None}
 use Rattle.ens_base.specs.declared.epoch.Epoch.{Epoch}
 use Rattle.ens_base.specs.declared.epoch.Version.{Version}

@@ -1,8 +1,8 @@
--- What the answer of a rule does to the trust in the tree.
+-- How the answer of a rule affects the trust in the tree.
 use Rattle.std.specs.Prelude.{◌≡◌, ◌↔◌, true}
 use Rattle.wire_frames.specs.declared.phase.PhaseOut.{PhaseOut}
 use Rattle.wire_frames.specs.declared.phase.Then.TheVariants.{Untrust}
 
--- a leader leaves leading exactly where the tree is trusted no more
+-- a leader steps down exactly if the tree becomes untrusted
 abbrev pub LeavesOnDistrust : PhaseOut → Type 0
 LeavesOnDistrust out = (out.leave ≡ true) ↔ (out.then ≡ Untrust)

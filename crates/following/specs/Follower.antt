@@ -7,7 +7,8 @@ use Rattle.phase_rows.specs.Peers.{is_member}
 use Rattle.phase_rows.specs.Rows.{silent}
 use Rattle.following.specs.declared.follower.Follower.{Follower}
 
--- rule 2, a tick: where the peer is a member of its views, quiet rises by one, and at 6 rule 7 runs; otherwise nothing happens
+-- rule 2, on a tick: a member of its views counts one more quiet tick, and at the sixth runs rule
+-- 7; any other peer does nothing
 abbrev pub row_2 : Follower → Fact → ℕ → Follower × PhaseOut
 row_2 follower fact me =
     if is_member fact.views me

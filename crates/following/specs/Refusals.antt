@@ -1,4 +1,4 @@
--- Why a peer does not do what the leader of an epoch asks of it, and what it does on damage.
+-- Why a peer does not do what the leader of an epoch asks, and what it does on damage.
 use Rattle.std.specs.Prelude.{ℕ, Bool, not, Option, Some, None, if◌then◌else◌}
 use Rattle.ens_base.specs.declared.epoch.Epoch.{Epoch}
 use Rattle.peer_fact.specs.declared.fact.Fact.{Fact}
@@ -11,8 +11,8 @@ use Rattle.phase_rows.specs.Orders.{is_below, is_same}
 use Rattle.phase_rows.specs.Peers.{alone}
 use Rattle.phase_rows.specs.Rows.{silent, sends, leaves_leading, refuses, refuses_below}
 
--- what a peer answers in place of what is asked: it promised a greater ballot and says so, or it accepted another
--- epoch and is silent, or it does not trust its tree and says so
+-- the answer of a peer that does not do what is asked: it promised a greater ballot and says so, or
+-- it accepted another epoch and is silent, or it does not trust its tree and says so
 abbrev pub refusal : Fact → Bool → ℕ → Epoch → Option PhaseOut
 refusal fact trusted from ballot =
     if is_below ballot fact.ballot then Some (refuses_below from ballot fact)
@@ -20,15 +20,15 @@ refusal fact trusted from ballot =
     else (if not trusted then Some (refuses from ballot causes.Untrusted)
     else None))
 
--- the refusal, where there is one, and otherwise the answer
+-- the refusal, if there is one, and otherwise the answer
 abbrev pub unless_refused : Option PhaseOut → PhaseOut → PhaseOut
 unless_refused (Some out) answer = out
 unless_refused None answer = answer
 
--- the fact is saved, and nothing sent
+-- save the fact, and send nothing
 abbrev pub saves : Fact → Then → PhaseOut
 saves fact next = record (silent next) { save = Some fact }
 
--- the peer is told of damage, after the calls of a leader were answered, and then the tree is trusted no more
+-- a leader steps down, the damage is reported to the peer, and the tree becomes untrusted
 abbrev pub tells_damage : ℕ → Message → PhaseOut
 tells_damage peer message = leaves_leading (sends (alone peer) message Untrust)

@@ -8,7 +8,7 @@ use peer_fact::Fact;
 use phase_rows::{alone, is_below, may_accept, refuse_below, save_and_send, send, silent};
 use wire_frames::{Message, PhaseOut, Then};
 
-/// What a peer does that may not accept the fact now.
+/// Returns what a peer does that may not accept the fact yet.
 fn await_sync(fact: &Fact, sync_runs: bool, new: Fact) -> PhaseOut
     ensures { result ≡ awaits_sync fact.now sync_runs new }
 {
@@ -25,7 +25,7 @@ fn await_sync(fact: &Fact, sync_runs: bool, new: Fact) -> PhaseOut
     }
 }
 
-/// The fact is accepted.
+/// Accepts the fact.
 fn accept(from: PeerId, new: Fact) -> PhaseOut
     requires { IsPeer from }
     ensures { result ≡ accepts from new }
@@ -38,7 +38,7 @@ fn accept(from: PeerId, new: Fact) -> PhaseOut
     )
 }
 
-/// The fact is accepted where it may be, and otherwise a sync is awaited.
+/// Accepts the fact if the peer may, and otherwise waits for a sync.
 fn take_epoch(
     fact: &Fact,
     me: PeerId,
@@ -57,7 +57,7 @@ fn take_epoch(
     }
 }
 
-/// A leader announces the fact of its epoch. `from` is 1 to 31.
+/// Rule 16: a leader announces the fact of its epoch. `from` is 1 to 31.
 pub fn rule_16(
     fact: Fact,
     me: PeerId,
@@ -78,7 +78,7 @@ pub fn rule_16(
     }
 }
 
-/// What a peer does that accepted the epoch of the second fact and trusts its tree.
+/// Returns the answer to a second fact, of a peer that accepted its epoch and trusts its tree.
 fn take_commit(fact: &Fact, from: PeerId, commit: Fact) -> PhaseOut
     requires { IsPeer from }
     ensures { result ≡ commits fact.now from commit }
@@ -91,7 +91,7 @@ fn take_commit(fact: &Fact, from: PeerId, commit: Fact) -> PhaseOut
     }
 }
 
-/// A leader announces the second fact of its epoch, with the change. `from` is 1 to 31.
+/// Rule 18: a leader announces the second fact of its epoch, with the change. `from` is 1 to 31.
 pub fn rule_18(fact: Fact, trusted: bool, from: PeerId, commit: Fact) -> PhaseOut
     requires { IsPeer from }
     ensures { result ≡ row_18 fact trusted from commit }
@@ -102,7 +102,7 @@ pub fn rule_18(fact: Fact, trusted: bool, from: PeerId, commit: Fact) -> PhaseOu
     }
 }
 
-/// The leader of the epoch is there. `from` is 1 to 31.
+/// Rule 19: the leader of an epoch shows that it is alive. `from` is 1 to 31.
 pub fn rule_19(fact: Fact, trusted: bool, from: PeerId, ballot: Epoch) -> PhaseOut
     requires { IsPeer from }
     ensures { result ≡ row_19 fact trusted from ballot }

@@ -3,10 +3,10 @@ ghost use Rattle.following.specs.declared.error.PhaseError.TheVariants.{Memory};
 
 use ens_base::CopyError;
 
-/// Why a rule did not answer: want of memory alone.
+/// Why a rule did not answer.
 #[derive(Clone, Copy, Debug, PartialEq, Eq)]
 pub enum PhaseError {
-    /// Memory ran out.
+    /// Out of memory.
     Memory,
 }
 

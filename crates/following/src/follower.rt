@@ -5,20 +5,21 @@ use peer_fact::Fact;
 use phase_rows::{is_member, silent};
 use wire_frames::{PhaseOut, Then};
 
-/// The phase of a peer that follows: how many ticks have come since it last heard from a leader, 0 to 6.
+/// The state of a peer that follows: the number of ticks since it last heard from a leader, 0 to 6.
 #[derive(Clone, Copy, Debug, PartialEq, Eq)]
 pub struct Follower {
     pub quiet: u8,
 }
 
-/// The ticks in quiet after which a peer asks the others what they know.
+/// The number of quiet ticks after which a peer asks the others for their facts.
 const PATIENCE: u8 = 6;
 
 impl Follower {
     ghost use Rattle.following.specs.Follower.{row_2};
 
-    /// A tick. A member of its views that has waited in quiet for six ticks goes on to rule 7. `quiet`
-    /// is to be below 6.
+    /// Rule 2, on a tick: a member of the views of its fact counts a quiet tick, and at the sixth
+    /// runs rule
+    /// 7. `quiet` must be below 6.
     pub fn rule_2(&mut self, fact: Fact, me: PeerId) -> PhaseOut
         requires { self.old.quiet < 6 }
         ensures { (self.new, result) ≡ row_2 self.old fact me }

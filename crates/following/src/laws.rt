@@ -15,19 +15,22 @@ ghost use Rattle.following.specs.Announcements.{row_16, row_18, row_19};
 ghost use Rattle.following.specs.Requests.{row_20, row_21, row_22, row_23};
 ghost use Rattle.following.specs.declared.follower.Follower.{Follower};
 
-/// Rule 16 accepts only what may be accepted, and a sync is on what may not.
+/// Rule 16 accepts only a fact that the peer may accept, and begins a sync only on one that it may
+/// not.
 pub fn epochs_are_accepted()
-    // What is saved is the announced fact, where the peer may accept it, or its own at a greater ballot.
+    // What is saved is the announced fact if the peer may accept it, and otherwise its own at a
+    // greater ballot.
     ensures accepted { (fact new save : Fact) (me from : ℕ) (trusted sync_runs : Bool) → (row_16 fact me trusted sync_runs from new).save ≡ Some save → may_accept trusted me new ≡ true → save ≡ new }
     ensures promised { (fact new save : Fact) (me from : ℕ) (trusted sync_runs : Bool) → (row_16 fact me trusted sync_runs from new).save ≡ Some save → may_accept trusted me new ≡ false → (save ≡ at_ballot fact new.epoch) × (is_below fact.ballot new.epoch ≡ true) }
     // A peer that does not trust its tree accepts nothing.
     ensures untrusted { (fact new save : Fact) (me from : ℕ) (sync_runs : Bool) → (row_16 fact me false sync_runs from new).save ≡ Some save → save ≡ at_ballot fact new.epoch }
-    // A sync begins on what is announced, where it may not be accepted, and not at the accepted epoch.
+    // A sync begins only on the announced fact, if the peer may not accept it, and not at the
+    // accepted epoch.
     ensures synced { (fact new onto : Fact) (me from : ℕ) (trusted sync_runs : Bool) → (row_16 fact me trusted sync_runs from new).then ≡ SyncOn onto → (onto ≡ new) × (may_accept trusted me new ≡ false) × (is_same new.epoch fact.epoch ≡ false) }
 {}
 
-/// What these rules save has the announced epoch as ballot, if the announced fact has, and that is not
-/// below the saved one.
+/// What these rules save has the announced epoch as its ballot, provided that the announced fact
+/// has; that ballot is not below the saved one.
 pub fn ballots_never_fall()
     ensures announced { (fact new save : Fact) (me from : ℕ) (trusted sync_runs : Bool) → new.ballot ≡ new.epoch → (row_16 fact me trusted sync_runs from new).save ≡ Some save → (save.ballot ≡ new.epoch) × (is_below new.epoch fact.ballot ≡ false) }
     ensures committed { (fact commit save : Fact) (from : ℕ) (trusted : Bool) → commit.ballot ≡ commit.epoch → (row_18 fact trusted from commit).save ≡ Some save → (save.ballot ≡ commit.epoch) × (is_below commit.epoch fact.ballot ≡ false) }
@@ -38,8 +41,8 @@ pub fn ballots_never_fall()
     ensures given { (fact : Fact) (trusted : Bool) (from : ℕ) (ballot : Epoch) (at : Position) (after : Option (List ℕ)) (body : Option TreeBody) → (row_23 fact trusted from ballot at after body).save ≡ None }
 {}
 
-/// A peer that does not trust its tree takes no second fact and goes on counting quiet ticks, and one
-/// that is no member of its views counts none.
+/// A peer that does not trust its tree takes no second fact, and goes on counting quiet ticks. A
+/// peer that is not a member of its views counts none.
 pub fn distrust_waits()
     ensures committed { (fact commit : Fact) (from : ℕ) → (row_18 fact false from commit).save ≡ None }
     ensures follows { (fact commit : Fact) (from : ℕ) → (row_18 fact false from commit).then ≡ Stay }
@@ -47,7 +50,7 @@ pub fn distrust_waits()
     ensures outsider { (follower : Follower) (fact : Fact) (me : ℕ) → is_member fact.views me ≡ false → row_2 follower fact me ≡ (follower, silent Stay) }
 {}
 
-/// A leader leaves leading by the rules 21 to 23 exactly where the tree is trusted no more.
+/// In rules 21 to 23 a leader steps down exactly if the tree becomes untrusted.
 pub fn damage_ends_trust()
     ensures got { (fact : Fact) (trusted : Bool) (from : ℕ) (ballot : Epoch) (round : ℕ) (key : List ℕ) (seen : Seen) → LeavesOnDistrust (row_21 fact trusted from ballot round key seen) }
     ensures written { (fact : Fact) (trusted : Bool) (from : ℕ) (ballot : Epoch) (object : Object) (seen : Seen) → LeavesOnDistrust (row_22 fact trusted from ballot object seen) }

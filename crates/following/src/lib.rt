@@ -1,10 +1,11 @@
-//! The rules of a peer that follows: its ticks, and what it does on the words of a leader.
+//! The rules of a peer that follows: its ticks, and its answers to a leader.
 //!
-//! Each call is a rule of this number, and answers exactly its row, the definition of that number in
-//! `specs/`. `Follower` holds what the phase itself needs, the ticks since a leader was heard; the
-//! other rules run in every phase, on the saved fact, on what came, and on what the stores gave.
-//! `laws` says what the rows imply: what they save never lowers a ballot, and no peer that does not
-//! trust its tree accepts an epoch here.
+//! Each call is a rule of the protocol with its number in the name, and returns exactly its row,
+//! the definition of that number in `specs/`. `Follower` holds the state of the phase itself, the
+//! ticks since the peer last heard from a leader. The other rules run in every phase, on the saved
+//! fact, the message that came, and what the stores returned. `laws` states what the rows imply:
+//! what they save never lowers a ballot, and a peer that does not trust its tree accepts no epoch
+//! here.
 #![tactic(auto)]
 
 mod announcements;

@@ -11,14 +11,14 @@ use phase_rows::{alone, is_below, send, silent};
 use std::alloc::Global;
 use wire_frames::{Message, NackCause, PhaseOut, Seen, Then};
 
-/// Whether the first version is below the second: by the epoch, then by the number in it.
+/// Returns whether the first version is below the second: by epoch, then by sequence number.
 fn is_version_below(a: Version, b: Version) -> bool
     ensures { result ≡ version_below a b }
 {
     is_below(a.epoch, b.epoch) || (a.epoch == b.epoch && a.seq < b.seq)
 }
 
-/// The put is acknowledged.
+/// Acknowledges the put.
 fn acknowledge(
     alloc: Global,
     from: PeerId,
@@ -34,7 +34,7 @@ fn acknowledge(
     Ok(send(alone(from), reply, then))
 }
 
-/// A put over the version that the tree has.
+/// Returns the answer to a put of a key that has an entry of this version in the tree.
 fn put_over(
     alloc: Global,
     from: PeerId,
@@ -55,7 +55,7 @@ fn put_over(
     }
 }
 
-/// A put, by the entry of its key in the tree.
+/// Returns the answer to a put, from the entry of its key in the tree.
 fn put_at(
     alloc: Global,
     from: PeerId,
@@ -73,7 +73,7 @@ fn put_at(
     }
 }
 
-/// What a peer that is to do a put answers, by what the stores gave.
+/// Returns the answer to a put that is not refused, from what the stores returned.
 fn put(
     alloc: Global,
     from: PeerId,
@@ -98,8 +98,8 @@ fn put(
     }
 }
 
-/// A leader asks for the write of an object. `from` is 1 to 31. `Err` is want of memory to copy the key
-/// of the object, and comes only where the put is to be acknowledged.
+/// Rule 22: a leader asks the peer to write an object. `from` is 1 to 31. Returns `Memory` when out
+/// of memory for a copy of the object's key, and only if the put would be acknowledged.
 pub fn rule_22(
     alloc: Global,
     fact: Fact,

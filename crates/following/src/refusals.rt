@@ -8,7 +8,8 @@ use peer_fact::Fact;
 use phase_rows::{alone, is_below, refuse, refuse_below, send, silent};
 use wire_frames::{Message, NackCause, PhaseOut, Then};
 
-/// What the peer answers in place of what the leader of this epoch asks, where it does not do it.
+/// Returns the answer of a peer that does not do what the leader of this epoch asks, or `None` if
+/// it does.
 pub(crate) fn refusal(fact: &Fact, trusted: bool, from: PeerId, ballot: Epoch) -> Option<PhaseOut>
     requires { IsPeer from }
     ensures { result ≡ refusal_of fact.now trusted from ballot }
@@ -24,7 +25,7 @@ pub(crate) fn refusal(fact: &Fact, trusted: bool, from: PeerId, ballot: Epoch) -
     }
 }
 
-/// The fact is saved, and nothing sent.
+/// Saves the fact, and sends nothing.
 pub(crate) fn save(fact: Fact, then: Then) -> PhaseOut
     ensures { result ≡ saves fact then }
 {
@@ -37,14 +38,14 @@ pub(crate) fn save(fact: Fact, then: Then) -> PhaseOut
     }
 }
 
-/// The same, but a leader leaves leading first.
+/// Makes a leader step down first.
 pub(crate) fn leave_leading(out: PhaseOut) -> PhaseOut
     ensures { result ≡ leaves_leading out }
 {
     PhaseOut { leave: true, ..out }
 }
 
-/// The peer is told of damage, and then the tree is trusted no more.
+/// Reports damage to the peer, and then untrusts the tree.
 pub(crate) fn tell_damage(peer: PeerId, message: Message) -> PhaseOut
     requires { IsPeer peer }
     ensures { result ≡ told_damage peer message }

@@ -10,7 +10,7 @@ use phase_rows::{alone, is_below, refuse_below, send, silent};
 use tree_node::{Position, TreeBody};
 use wire_frames::{Message, NackCause, PhaseOut, Seen, Then};
 
-/// A leader asks whether the peer still stands at its ballot. `from` is 1 to 31.
+/// Rule 20: a leader asks whether the peer is still at its ballot. `from` is 1 to 31.
 pub fn rule_20(fact: Fact, from: PeerId, ballot: Epoch, round: u64) -> PhaseOut
     requires { IsPeer from }
     ensures { result ≡ row_20 fact from ballot round }
@@ -24,7 +24,7 @@ pub fn rule_20(fact: Fact, from: PeerId, ballot: Epoch, round: u64) -> PhaseOut
     }
 }
 
-/// What a peer that is to answer a Get answers, by what the stores gave.
+/// Returns the answer to a Get that is not refused, from what the stores returned.
 fn answer_get(from: PeerId, ballot: Epoch, round: u64, key: Key, seen: Seen) -> PhaseOut
     requires { IsPeer from }
     ensures { result ≡ gets from ballot round key seen }
@@ -41,7 +41,8 @@ fn answer_get(from: PeerId, ballot: Epoch, round: u64, key: Key, seen: Seen) -> 
     }
 }
 
-/// A leader asks what the peer has under a key. `from` is 1 to 31. It takes no memory and never fails.
+/// Rule 21: a leader asks what the peer has under a key. `from` is 1 to 31. Allocates nothing and
+/// never fails.
 pub fn rule_21(
     fact: Fact,
     trusted: bool,
@@ -60,7 +61,7 @@ pub fn rule_21(
     }
 }
 
-/// Whether what is given of a node is that it is damaged.
+/// Returns whether this give reports damage.
 fn is_damaged(body: &TreeBody) -> bool
     ensures { result ≡ tells_of_damage body.now }
 {
@@ -70,7 +71,7 @@ fn is_damaged(body: &TreeBody) -> bool
     }
 }
 
-/// What a peer gives of a node.
+/// Returns the answer that gives a node.
 fn give(
     trusted: bool,
     from: PeerId,
@@ -93,9 +94,9 @@ fn give(
     }
 }
 
-/// A peer that runs a sync asks for a node of the tree, of a segment for the entries above a key.
-/// `body` is what was read of the node, where the ballot is the promised one. `from` is 1 to 31. It
-/// takes no memory and never fails.
+/// Rule 23: a peer that runs a sync asks for a node of the tree, or for the entries of a segment
+/// above a key. `body` is what was read of the node, if the ballot is the promised one. `from` is 1
+/// to 31. Allocates nothing and never fails.
 pub fn rule_23(
     fact: Fact,
     trusted: bool,

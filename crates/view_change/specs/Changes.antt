@@ -16,13 +16,14 @@ use lib.Pointwise.{pointwise}
 abbrev pub same_view : List ℕ → List ℕ → Bool
 same_view = pointwise nat_eq
 
--- a leader may change to the view where it has begun no change, and its epoch has one view, which is another one
+-- a leader may change to the view if it has begun no change, and its epoch has one view, which
+-- differs
 abbrev pub may_change : Fact → Bool → Bool → List ℕ → Bool
 may_change fact leading finishing view =
     leading && not finishing && not (is_joint fact.views) && not (same_view (first_view fact.views) view)
 
--- rule 24, a request for a change to the view: it is taken where the peer may change to it, and then rule 25 runs;
--- otherwise it is refused, and nothing happens
+-- rule 24, a request to change to the view: if the leader may change to it, it is taken and rule 25
+-- runs; otherwise it is refused, and nothing happens
 abbrev pub row_24 : Fact → Bool → Bool → List ℕ → PhaseOut × Bool
 row_24 fact leading finishing view =
     if may_change fact leading finishing view then (silent (Rule 25), true) else (silent Stay, false)
@@ -31,12 +32,12 @@ row_24 fact leading finishing view =
 abbrev pub second_fact : Fact → Change → Fact
 second_fact fact change = record fact { seq = 2; change = change }
 
--- the second fact is saved, and these peers are asked to accept it
+-- save the second fact, and ask these peers to accept it
 abbrev pub commits : Fact → List Bool → PhaseOut
 commits second peers = saves_and_sends second peers (Commit second) Stay
 
--- rule 25, the change begins: the second fact is saved, the peer waits for who accepts it, itself the first, and the
--- others that accepted the epoch are asked to
+-- rule 25, a change begins: the second fact is saved, the peer counts as the first to accept it,
+-- and the others that accepted the epoch are asked to accept it too
 abbrev pub row_25 : Fact → ℕ → List Bool → Change → PhaseOut × Option Finishing
 row_25 fact me accepts change =
     (commits (second_fact fact change) (others_of me accepts), Some (record { accepts2 = alone me; age = 0 }))

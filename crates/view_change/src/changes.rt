@@ -8,14 +8,14 @@ use peer_fact::{Change, Fact};
 use phase_rows::{alone, others_of, save_and_send, silent};
 use wire_frames::{Message, PhaseOut, Then};
 
-/// Whether two views have the same members.
+/// Returns whether two views have the same members.
 fn is_same_view(a: View, b: View) -> bool
     ensures { result ≡ same_view a b }
 {
     a.members() == b.members()
 }
 
-/// Whether a leader may change to the view.
+/// Returns whether a leader may change to this view.
 fn may_change(fact: &Fact, leading: bool, finishing: bool, view: View) -> bool
     ensures { result ≡ may fact.now leading finishing view }
 {
@@ -25,7 +25,7 @@ fn may_change(fact: &Fact, leading: bool, finishing: bool, view: View) -> bool
     }
 }
 
-/// Someone asks for a change to this view. The answer is true where it is taken.
+/// Rule 24: a request to change to this view. Returns whether it is taken.
 pub fn rule_24(fact: Fact, leading: bool, finishing: bool, view: View) -> (PhaseOut, bool)
     ensures { result ≡ row_24 fact leading finishing view }
 {
@@ -36,7 +36,7 @@ pub fn rule_24(fact: Fact, leading: bool, finishing: bool, view: View) -> (Phase
     }
 }
 
-/// The second fact of the epoch: the first one with the change.
+/// Returns the second fact of the epoch: the first one with the change.
 fn second_fact(fact: &Fact, change: Change) -> Fact
     ensures { result ≡ second fact.now change }
 {
@@ -47,14 +47,14 @@ fn second_fact(fact: &Fact, change: Change) -> Fact
     }
 }
 
-/// The second fact is saved, and the others are asked to accept it.
+/// Saves the second fact, and asks the others to accept it.
 fn commit(second: &Fact, others: PeerSet) -> PhaseOut
     ensures { result ≡ commits second.now others }
 {
     save_and_send(*second, others, Message::Commit(*second), Then::Stay)
 }
 
-/// The change begins. `accepts` are the peers that accepted the epoch, and `me` is 1 to 31.
+/// Rule 25: begin a change. `accepts` are the peers that accepted the epoch. `me` is 1 to 31.
 pub fn rule_25(
     fact: Fact,
     me: PeerId,

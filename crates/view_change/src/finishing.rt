@@ -7,8 +7,8 @@ use peer_fact::Fact;
 use phase_rows::{is_member, joined, silent};
 use wire_frames::{PhaseOut, Then};
 
-/// A leader that waits for its epoch to end: who accepted the second fact of the epoch, and for how
-/// many ticks it has waited, 0 to 8.
+/// The state of a leader that waits for its epoch to end: the peers that accepted the second fact
+/// of the epoch, and the number of ticks that it has waited, 0 to 8.
 #[derive(Clone, Copy, Debug, PartialEq, Eq)]
 pub struct Finishing {
     pub accepts2: PeerSet,
@@ -18,7 +18,8 @@ pub struct Finishing {
 impl Finishing {
     ghost use Rattle.view_change.specs.Finishing.{row_17, row_26};
 
-    /// A peer accepted a fact of this number in this epoch. `from` is 1 to 31.
+    /// Rule 17, on an acceptance: count `from` if it accepted the second fact of this peer's
+    /// ballot. `from` is 1 to 31.
     pub fn rule_17(&mut self, fact: Fact, from: PeerId, ballot: Epoch, seq: u64) -> PhaseOut
         requires { IsPeer from }
         ensures { (self.new, result) ≡ row_17 self.old fact from ballot seq }
@@ -29,7 +30,8 @@ impl Finishing {
         silent(Then::Stay)
     }
 
-    /// The end of a step. `unanswered` says whether the leader has a call that is not answered.
+    /// Rule 26, at the end of a step: end the epoch if it may end. `unanswered` says whether a call
+    /// of the leader is unanswered.
     pub fn rule_26(&mut self, fact: Fact, me: PeerId, unanswered: bool) -> PhaseOut
         ensures { (self.new, result) ≡ row_26 self.old fact me unanswered }
     {
