@@ -12,14 +12,14 @@ use ens_base::{Command, LengthError, Reply, Value, Version};
 use ens_object::Object;
 use std::alloc::Global;
 
-/// To write this value.
+/// Returns the verdict that writes a copy of this value.
 fn write(alloc: Global, value: &Value) -> Result<Verdict, CommandError>
     ensures { IfOk result (λ v. v ≡ verdicts.Write (Some value.now)) }
 {
     Ok(Verdict::Write(Some(value.copy(alloc)?)))
 }
 
-/// To write these bytes, or want of memory.
+/// Returns the verdict that writes these bytes, at most 1,024.
 fn write_bytes(alloc: Global, bytes: &[u8]) -> Result<Verdict, CommandError>
     requires { length bytes.now ≤ 1024 }
     ensures { IfOk result (λ v. v ≡ verdicts.Write (Some bytes.now)) }
@@ -59,7 +59,7 @@ fn add(alloc: Global, value: &Value, number: u64) -> Result<Verdict, CommandErro
     }
 }
 
-/// What the command comes to on an absent register.
+/// Applies the command to an absent register. Fails only when out of memory.
 pub fn on_absent(alloc: Global, command: &Command) -> Result<Verdict, CommandError>
     ensures { IfOk result (λ v. v ≡ verdict_of (outcome command.now Absent)) }
 {
@@ -75,7 +75,8 @@ pub fn on_absent(alloc: Global, command: &Command) -> Result<Verdict, CommandErr
     }
 }
 
-/// To write the value if the condition of the command holds.
+/// Returns the verdict that writes the value if the condition of the command holds, and otherwise
+/// answers `Failed`.
 fn write_if(alloc: Global, holds: bool, value: &Value) -> Result<Verdict, CommandError>
     ensures { IfOk result (λ v. v ≡ (if holds then verdicts.Write (Some value.now) else verdicts.Answer failed)) }
 {
@@ -86,7 +87,8 @@ fn write_if(alloc: Global, holds: bool, value: &Value) -> Result<Verdict, Comman
     }
 }
 
-/// What the command comes to on a register that holds this value under this stamp.
+/// Applies the command to a register that holds this value under this stamp. Fails only when out of
+/// memory.
 pub fn on_present(
     alloc: Global,
     command: &Command,
@@ -107,7 +109,8 @@ pub fn on_present(
     }
 }
 
-/// What the command comes to on the object of its key; none is there where nothing was ever written.
+/// Applies the command to the object of its key, or to an absent register if there is no object.
+/// Fails only when out of memory.
 pub fn apply(
     alloc: Global,
     command: &Command,

@@ -1,8 +1,9 @@
-//! The commands on the object of a key: what each comes to, by the register's definition.
+//! The effect of commands on the object of a key.
 //!
-//! `apply` answers exactly the outcome of `register_model`: an answer where the command leaves the
-//! register, and otherwise the content to write. A key without an object and a tombstone are the
-//! absent register. `on_absent` and `on_present` say the same of a register by itself.
+//! `apply` returns exactly the outcome defined in `register_model`: the reply if the command leaves
+//! the register unchanged, and otherwise the content to write. A key without an object, and a
+//! tombstone, are the absent register. `on_absent` and `on_present` apply a command to a register
+//! directly.
 #![tactic(auto)]
 
 mod commands;

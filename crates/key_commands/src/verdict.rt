@@ -4,19 +4,19 @@ ghost use Rattle.key_commands.specs.declared.verdict.CommandError.TheVariants.{M
 use ens_base::{CopyError, Reply, Value};
 use std::alloc::{AllocError, AllocFailed};
 
-/// What a command comes to.
+/// The outcome of a command.
 #[derive(Debug, PartialEq, Eq, Drop)]
 pub enum Verdict {
-    /// It leaves the register, and this is its reply.
+    /// The command leaves the register unchanged, and this is its reply.
     Answer(Reply),
-    /// It writes this value, or a tombstone.
+    /// The command writes this value, or a tombstone if there is none.
     Write(Option<Value>),
 }
 
-/// Why a command was not applied: want of memory alone.
+/// Why a command was not applied.
 #[derive(Clone, Copy, Debug, PartialEq, Eq)]
 pub enum CommandError {
-    /// Memory ran out.
+    /// Out of memory.
     Memory,
 }
 

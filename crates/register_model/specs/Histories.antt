@@ -17,18 +17,19 @@ IsDone (Reply.Ok stamp) = Unit {0}
 IsDone Reply.Failed = Unit {0}
 IsDone reply = ⊥
 
--- the call was refused, and had no effect; a call that timed out, or that was not answered, is neither completed nor refused
+-- the call was refused, and had no effect; a call that timed out or was not answered is neither
+-- completed nor refused
 abbrev pub IsRefused : Reply → Type 0
 IsRefused Reply.Unavailable = Unit {0}
 IsRefused Reply.Busy = Unit {0}
 IsRefused Reply.Lost = Unit {0}
 IsRefused reply = ⊥
 
--- the call has this reply where it was completed; any other call may have any
+-- a completed call has its printed reply; any other call may have any
 abbrev pub MayHave : List Answer → ℕ → Reply → Type 0
 MayHave answers id reply = (a : Answer) → a ∈ answers → a.id ≡ id → IsDone a.reply → reply ≡ a.reply
 
--- the calls of the order are steps of one register, one after another, from this register on
+-- the calls in this order are steps of one register, one after another, starting from this register
 abbrev pub RunsFrom : List Call → List Answer → List Version → Register → List ℕ → Type 0
 RunsFrom calls answers stamps old [] = Unit {0}
 RunsFrom calls answers stamps old (id ∷ rest) =
@@ -38,19 +39,19 @@ RunsFrom calls answers stamps old (id ∷ rest) =
 abbrev pub IsRun : List Call → List Answer → List ℕ → Type 0
 IsRun calls answers order = RunsFrom calls answers [] Absent order
 
--- wherever both stand in the order, i stands before j
+-- wherever both occur in the order, i comes before j
 abbrev pub StandsBefore : List ℕ → ℕ → ℕ → Type 0
 StandsBefore order i j = (p q : ℕ) → slice_get order p ≡ Some i → slice_get order q ≡ Some j → p < q
 
 -- the order of ids is a legal history of the key
 pub record IsLegal (calls : List Call) (answers : List Answer) (key : List ℕ) (order : List ℕ) : Type 0 where
-  -- each id stands in it at most once, and is that of a call on the key
+  -- each id occurs at most once, and is that of a call on the key
   pub once : AreDistinct order
   pub of_key : (id : ℕ) → id ∈ order → (c : Call) × (c ∈ calls) × (c.id ≡ id) × (c.key ≡ key)
-  -- every completed call on the key stands in it, and no refused call does
+  -- every completed call on the key occurs, and no refused call does
   pub completed : (c : Call) (a : Answer) → c ∈ calls → a ∈ answers → a.id ≡ c.id → c.key ≡ key → IsDone a.reply → c.id ∈ order
   pub refused : (a : Answer) → a ∈ answers → IsRefused a.reply → ¬ (a.id ∈ order)
-  -- it is a run of one register giving the printed replies
+  -- the order is a run of one register with the printed replies
   pub run : IsRun calls answers order
-  -- no call that began after a completed call was answered stands before it
+  -- no call that began after a completed call was answered comes before it
   pub in_time : (a : Answer) (c : Call) → a ∈ answers → c ∈ calls → IsDone a.reply → a.event < c.event → StandsBefore order a.id c.id

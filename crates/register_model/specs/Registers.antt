@@ -1,4 +1,4 @@
--- The register of one key: what each command does to it, and what it is answered.
+-- The register of one key: the effect of each command on it, and the reply.
 use Rattle.std.specs.Prelude.{◌≡◌, ℕ, Bool, ◌+◌, ◌^◌, ◌==◌, ◌&&◌, nat_lt, nat_le, if◌then◌else◌, List, ◌∷◌, ◌++◌, length, Option, None, Some}
 use Rattle.byteorder.specs.Endian.{big_number, big_bytes}
 use Rattle.ens_base.specs.Lists.{same_bytes, ◌∈◌}
@@ -10,12 +10,13 @@ use Rattle.ens_base.specs.declared.reply.Reply.{Reply}
 use Rattle.register_model.specs.declared.register.Register.{Register}
 use Rattle.register_model.specs.declared.register.Register.TheVariants.{Absent, Present}
 
--- what a command comes to: it leaves the register and is answered so, or it writes this content, none for a deletion
+-- the outcome of a command: it leaves the register unchanged and has this reply, or it writes this
+-- content, none for a deletion
 pub data Outcome : Type 0 where
   Keeps : (reply : Reply) → Outcome
   Writes : (content : Option (List ℕ)) → Outcome
 
--- the bytes are a big-endian number of 64 bits, to which n can be added
+-- the bytes are a big-endian number of 64 bits, and adding n does not overflow
 abbrev can_add : List ℕ → ℕ → Bool
 can_add bytes n = length bytes == 8 && nat_lt (big_number 8 bytes + n) (2 ^ 64)
 
@@ -41,16 +42,17 @@ abbrev pub written : Version → Option (List ℕ) → Register
 written stamp None = Absent
 written stamp (Some bytes) = Present stamp bytes
 
--- a step with this outcome takes the register from old to new and is answered so; a write has a stamp that no earlier step had
+-- a step with this outcome takes the register from old to new with this reply; a write has a stamp
+-- that no earlier step had
 abbrev pub Comes : List Version → Register → Outcome → Reply → Register → Type 0
 Comes stamps old (Keeps answer) reply new = (reply ≡ answer) × (new ≡ old)
 Comes stamps old (Writes content) reply new = (stamp : Version) × (reply ≡ Reply.Ok stamp) × ¬ (stamp ∈ stamps) × (new ≡ written stamp content)
 
--- one step of the register, after steps that had these stamps
+-- one step of the register, after steps with these stamps
 abbrev pub Steps : List Version → Register → Command → Reply → Register → Type 0
 Steps stamps old command reply new = Comes stamps old (outcome command old) reply new
 
--- the stamps after a step that was answered so
+-- the stamps after a step with this reply
 abbrev pub stamps_after : Reply → List Version → List Version
 stamps_after (Reply.Ok stamp) stamps = stamp ∷ stamps
 stamps_after reply stamps = stamps

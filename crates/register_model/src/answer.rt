@@ -3,7 +3,7 @@ ghost use Rattle.std.specs.Prelude.{◌≡◌, IfOk};
 use ens_base::{CopyError, Reply};
 use std::alloc::Global;
 
-/// The answer to a call. A call has one answer at most.
+/// The answer to a call. A call has at most one answer.
 #[derive(Debug, PartialEq, Eq, Drop)]
 pub struct Answer {
     /// The id of the call.
@@ -14,7 +14,7 @@ pub struct Answer {
 }
 
 impl Answer {
-    /// An equal answer.
+    /// Returns a copy. Fails only when out of memory.
     pub fn copy(&self, alloc: Global) -> Result<Answer, CopyError>
         ensures { IfOk result (λ a. a ≡ self.now) }
     {

@@ -3,10 +3,10 @@ ghost use Rattle.std.specs.Prelude.{◌≡◌, IfOk};
 use ens_base::{Command, CopyError, Key};
 use std::alloc::Global;
 
-/// One call on the register of a key.
+/// A call on the register of a key.
 #[derive(Debug, PartialEq, Eq, Drop)]
 pub struct Call {
-    /// The name of the call, which no other call has.
+    /// The id of the call. No other call has it.
     pub id: u64,
     pub key: Key,
     pub command: Command,
@@ -15,7 +15,7 @@ pub struct Call {
 }
 
 impl Call {
-    /// An equal call.
+    /// Returns a copy. Fails only when out of memory.
     pub fn copy(&self, alloc: Global) -> Result<Call, CopyError>
         ensures { IfOk result (λ c. c ≡ self.now) }
     {

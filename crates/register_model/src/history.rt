@@ -1,6 +1,7 @@
 use ens_base::{Key, Seq};
 
-/// The history of a key: the ids of calls on it, in an order in which one register may have met them.
+/// The history of a key: the ids of calls on it, in an order in which one register may have met
+/// them.
 #[derive(Debug, Drop)]
 pub struct History {
     pub key: Key,

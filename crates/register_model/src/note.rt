@@ -3,10 +3,11 @@ ghost use Rattle.std.specs.Prelude.{◌≡◌, IfOk};
 use ens_base::{CopyError, Key, Version};
 use std::alloc::Global;
 
-/// What a leader notes of its work on a key, for the history.
+/// A note that a leader makes of its work on a key, for the history.
 #[derive(Debug, PartialEq, Eq, Drop)]
 pub enum Note {
-    /// A version was proposed: upon its parent, for a call where it is no rewrite.
+    /// A version was proposed, with its parent, and with the call that it is the write of unless it
+    /// is a rewrite.
     Proposed {
         key: Key,
         version: Version,
@@ -18,7 +19,7 @@ pub enum Note {
         key: Key,
         version: Version,
     },
-    /// The call was answered by what the base holds, without a write.
+    /// The call was answered from the base, without a write.
     Read {
         id: u64,
         key: Key,
@@ -27,7 +28,7 @@ pub enum Note {
 }
 
 impl Note {
-    /// An equal note.
+    /// Returns a copy. Fails only when out of memory.
     pub fn copy(&self, alloc: Global) -> Result<Note, CopyError>
         ensures { IfOk result (λ n. n ≡ self.now) }
     {

@@ -4,7 +4,7 @@ use crate::answer::Answer;
 use ens_base::{CopyError, PeerId};
 use std::alloc::Global;
 
-/// What a run prints as it goes.
+/// An item that a run prints as it goes.
 #[derive(Debug, PartialEq, Eq, Drop)]
 pub enum Printed {
     /// The answer to a call.
@@ -18,7 +18,7 @@ pub enum Printed {
 }
 
 impl Printed {
-    /// An equal line.
+    /// Returns a copy. Fails only when out of memory.
     pub fn copy(&self, alloc: Global) -> Result<Printed, CopyError>
         ensures { IfOk result (λ p. p ≡ self.now) }
     {

@@ -3,7 +3,7 @@ ghost use Rattle.std.specs.Prelude.{◌≡◌, IfOk};
 use ens_base::{CopyError, Value, Version};
 use std::alloc::Global;
 
-/// What a key holds: nothing, or a value under the stamp of the write that gave it.
+/// The content of a key: absent, or a value under the stamp of the write that gave it.
 #[derive(Debug, PartialEq, Eq, Drop)]
 pub enum Register {
     Absent,
@@ -11,7 +11,7 @@ pub enum Register {
 }
 
 impl Register {
-    /// An equal register.
+    /// Returns a copy. Fails only when out of memory.
     pub fn copy(&self, alloc: Global) -> Result<Register, CopyError>
         ensures { IfOk result (λ r. r ≡ self.now) }
     {
