@@ -1,4 +1,4 @@
--- Majorities and quorums over sets of peers that are tests.
+-- Majorities and quorums, for sets of peers given as tests.
 use Rattle.std.proofs.Common.{◌≡◌, ℕ, ◌+◌, ◌<◌, ◌≤◌, Bool, true, false, suc, ◌&&◌, cond, List, [], ◌∷◌, length, count_by, arith, refl, sym, ◌∙◌, inl, inr}
 use Rattle.std.specs.Prelude.{◌↔◌}
 use Rattle.std.proofs.lemmas.Bool.{true≢false}
@@ -10,12 +10,12 @@ use Rattle.joint_views.specs.Quorums.{is_majority, is_quorum, Meet, SharesView, 
 pub count-cons : (s : ℕ → Bool) (x : ℕ) (v : List ℕ) → count_by s (x ∷ v) ≡ cond (s x) 1 0 + count_by s v
 count-cons s x v = sum_by-cons (λ y. cond (s y) 1 0) x v
 
--- ## More peers are a majority still
+-- ## A majority with more peers is a majority
 
 one_more : (s t : ℕ → Bool) (x : ℕ) → (s x ≡ true → t x ≡ true) → (m n : ℕ) → m ≤ n → cond (s x) 1 0 + m ≤ cond (t x) 1 0 + n
 one_more s t x f m n h = grind arith
 
--- a set that has each member of the view that another has counts at least as many
+-- if one set has every member of the view that another has, it counts at least as many
 pub count_more : (s t : ℕ → Bool) (v : List ℕ) → ((x : ℕ) → x ∈ v → s x ≡ true → t x ≡ true) → count_by s v ≤ count_by t v
 count_more s t [] f = omega arith
 count_more s t (x ∷ v) f = rw (count-cons s x v, count-cons t x v) (one_more s t x (f x (inl refl)) (count_by s v) (count_by t v) (count_more s t v (λ y h. f y (inr h))))
@@ -30,7 +30,7 @@ pub quorum_more : (s t : ℕ → Bool) → ((x : ℕ) → s x ≡ true → t x �
 quorum_more s t f [] q = refl
 quorum_more s t f (v ∷ vs) q = grind (arith, majority_more s t f v, quorum_more s t f vs)
 
--- a set that does not grow is no quorum still
+-- a set that is not a quorum is not one with fewer peers
 pub quorum_less : (s t : ℕ → Bool) (vs : List (List ℕ)) → ((q : ℕ) → t q ≡ true → s q ≡ true) → is_quorum s vs ≡ false → is_quorum t vs ≡ false
 quorum_less s t vs f n = by_cases (is_quorum t vs) refl
   where
@@ -46,7 +46,7 @@ meet_here s t x v true false p q h rest = let m : Meet s t v = rest (omega arith
 meet_here s t x v false true p q h rest = let m : Meet s t v = rest (omega arith) in record { peer = m.peer; member = inr m.member; in_left = m.in_left; in_right = m.in_right }
 meet_here s t x v false false p q h rest = let m : Meet s t v = rest (omega arith) in record { peer = m.peer; member = inr m.member; in_left = m.in_left; in_right = m.in_right }
 
--- two counts that are more than the list have a member in common
+-- if two counts add up to more than the length of the list, they share a member
 pub meet_of_counts : (s t : ℕ → Bool) (v : List ℕ) → length v < count_by s v + count_by t v → Meet s t v
 meet_of_counts s t [] h = absurd (omega arith)
 meet_of_counts s t (x ∷ v) h = meet_here s t x v (s x) (t x) refl refl (rw (count-cons s x v, count-cons t x v) at h) (meet_of_counts s t v)
@@ -68,7 +68,7 @@ meet_of_quorums s t vs us share p q = record {
   meet = meet_of_majorities s t share.view (majority_of_quorum s vs share.view share.in_left p) (majority_of_quorum t us share.view share.in_right q);
 }
 
--- ## A quorum has a peer outside of what is no quorum
+-- ## A quorum has a peer outside any set that is not a quorum
 
 record OutsideOf (s t : ℕ → Bool) (v : List ℕ) : Type 0 where
   pub peer : ℕ

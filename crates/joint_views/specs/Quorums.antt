@@ -1,4 +1,5 @@
--- Majorities and quorums. A view is the list of its members, and a set of peers is the test whether a peer is in it.
+-- Majorities and quorums. A view is the list of its members. A set of peers is a test of
+-- membership.
 use Rattle.std.specs.Prelude.{◌≡◌, ℕ, ◌*◌, Bool, true, false, ◌&&◌, List, [], ◌∷◌, ◌⊎◌, length, count_by, nat_lt, All, Contains}
 use Rattle.ens_base.specs.Lists.{◌∈◌}
 
@@ -11,27 +12,27 @@ abbrev pub is_quorum : (ℕ → Bool) → List (List ℕ) → Bool
 is_quorum peers [] = true
 is_quorum peers (view ∷ views) = is_majority peers view && is_quorum peers views
 
--- two sets have a member of the view in common
+-- two sets share a member of the view
 pub record Meet (left right : ℕ → Bool) (view : List ℕ) : Type 0 where
   pub peer : ℕ
   pub member : peer ∈ view
   pub in_left : left peer ≡ true
   pub in_right : right peer ≡ true
 
--- two lists of views have a view in common
+-- two lists of views share a view
 pub record SharesView (left right : List (List ℕ)) : Type 0 where
   pub view : List ℕ
   pub in_left : view ∈ left
   pub in_right : view ∈ right
 
--- quorums of two lists have a member of some view of both in common
+-- quorums of two lists share a member of a view in both lists
 pub record QuorumsMeet (left right : ℕ → Bool) (views others : List (List ℕ)) : Type 0 where
   pub view : List ℕ
   pub in_views : view ∈ views
   pub in_others : view ∈ others
   pub meet : Meet left right view
 
--- the first set has a member of some view that is not in the second
+-- the first set has a member of some view that is not in the second set
 pub record HasOutside (first second : ℕ → Bool) (views : List (List ℕ)) : Type 0 where
   pub peer : ℕ
   pub view : List ℕ
@@ -40,7 +41,7 @@ pub record HasOutside (first second : ℕ → Bool) (views : List (List ℕ)) : 
   pub in_first : first peer ≡ true
   pub outside : second peer ≡ false
 
--- each quorum of the views has a member that is not in the set
+-- every quorum of the views has a member that is not in the set
 abbrev pub MissesEveryQuorum : (ℕ → Bool) → List (List ℕ) → Type 0
 MissesEveryQuorum peers views = (quorum : ℕ → Bool) → is_quorum quorum views ≡ true → HasOutside quorum peers views
 

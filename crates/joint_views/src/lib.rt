@@ -1,9 +1,9 @@
 //! Majorities of one view, and quorums of the one or two views of an epoch.
 //!
-//! A set of peers is a quorum of a list of views where it has more than half of the members of each
-//! view. `Tally` counts votes by that definition. Its laws are what every argument on the protocol
-//! rests on: two quorums of lists that share a view have a peer in common, and a set is no quorum
-//! exactly where each quorum has a member outside of it. The definitions stand in `specs/Quorums`.
+//! A set of peers is a quorum of a list of views if it has more than half of the members of each
+//! view. `Tally` counts votes by that definition. Every argument about the protocol rests on two
+//! laws: two quorums of lists that share a view have a peer in common, and a set is not a quorum
+//! exactly if every quorum has a member outside it. The definitions stand in `specs/Quorums`.
 #![tactic(auto)]
 
 mod laws;

@@ -4,8 +4,8 @@ ghost use Rattle.joint_views.specs.Quorums.{is_majority, is_quorum, IsMember, Ha
 
 use ens_base::{PeerId, PeerSet, View, Views};
 
-/// The votes of members on a list of views. A vote of a peer that is in no view, or a second vote of one
-/// peer, changes nothing.
+/// The votes of members on a list of views. The vote of a peer that is in no view, and a second
+/// vote of one peer, change nothing.
 #[derive(Clone, Copy, Debug)]
 pub struct Tally {
     pub views: Views,
@@ -34,7 +34,7 @@ fn has_member(view: &View, peer: PeerId) -> bool
 }
 
 impl Tally {
-    /// No votes yet, on these views.
+    /// Begins a tally on these views, without votes.
     pub fn new(views: Views) -> Tally
         ensures views { result.views ≡ views }
         ensures none { result.votes ≡ replicate 32 false }
@@ -45,6 +45,7 @@ impl Tally {
         }
     }
 
+    /// Returns whether the peer is a member of some view.
     fn is_member(&self, peer: PeerId) -> bool
         ensures member { IsTrue result ↔ IsMember self.now.views peer }
         ensures range { IsTrue result → (1 ≤ peer) × (peer ≤ 31) }
@@ -56,7 +57,7 @@ impl Tally {
         }
     }
 
-    /// Counts the vote of a peer, where it is a member of some view.
+    /// Counts the vote of `peer` if it is a member of some view.
     pub fn vote(&mut self, peer: PeerId)
         ensures views { self.new.views ≡ self.old.views }
         ensures member { IsMember self.old.views peer → (p : ℕ) → holds self.new.votes p ≡ (p == peer || holds self.old.votes p) }
@@ -67,7 +68,7 @@ impl Tally {
         }
     }
 
-    /// Whether more than half of the members of each view voted.
+    /// Returns whether more than half of the members of each view voted.
     pub fn is_quorum(&self) -> bool
         ensures { result ≡ is_quorum (holds self.now.votes) self.now.views }
     {
@@ -78,14 +79,14 @@ impl Tally {
         }
     }
 
-    /// Whether all members of this view voted.
+    /// Returns whether all members of this view voted.
     pub fn has_all(&self, view: View) -> bool
         ensures { IsTrue result ↔ HasAll (holds self.now.votes) view }
     {
         has_all(&self.votes, &view)
     }
 
-    /// Whether all members of all views voted.
+    /// Returns whether all members of all views voted.
     pub fn has_every(&self) -> bool
         ensures { IsTrue result ↔ HasEvery (holds self.now.votes) self.now.views }
     {

@@ -1,4 +1,4 @@
--- All members of all views are a quorum, where each view has a member.
+-- All members of all views are a quorum, if each view has a member.
 use Rattle.std.proofs.Common.{◌≡◌, ℕ, ◌<◌, Bool, true, List, [], ◌∷◌, length, count_by, arith, refl, sym, subst}
 use Rattle.std.specs.List.{AllByRecursion}
 use Rattle.std.proofs.lemmas.Bool.Decides.{nat_tests}

@@ -6,25 +6,25 @@ ghost use Rattle.quorum_round.specs.Rounds.{AreWith, IsState};
 use ens_base::{PeerId, Views};
 use joint_views::Tally;
 
-/// What the answers of a round come to.
+/// The state of a round.
 #[derive(Clone, Copy, Debug, PartialEq, Eq)]
 pub enum RoundState {
-    /// Those who answered are no quorum.
+    /// Those who answered are not a quorum.
     Open,
-    /// They are a quorum, and some member of some view has not answered.
+    /// Those who answered are a quorum, and some member of some view has not answered.
     Met,
-    /// Each member of each view has answered.
+    /// Every member of every view has answered.
     AllAnswered,
 }
 
-/// The answers to a question that the leader of some views asked of all their members. It takes no
-/// memory.
+/// The answers to a question that the leader of some views asked of all their members. Needs no
+/// heap memory.
 #[derive(Clone, Copy, Debug)]
 pub struct Round {
     pub tally: Tally,
 }
 
-/// If all members of all views voted, they are a quorum. For each view has a member.
+/// If all members of all views voted, they are a quorum, since every view has a member.
 fn all_are_a_quorum(tally: &Tally)
     ensures { HasEvery (holds tally.now.votes) tally.now.views → is_quorum (holds tally.now.votes) tally.now.views ≡ true }
 {
@@ -36,7 +36,8 @@ fn all_are_a_quorum(tally: &Tally)
 }
 
 impl Round {
-    /// A round on these views, in which `me` has answered.
+    /// Begins a round on these views, with the answer of `me` counted if it is a member of some
+    /// view.
     pub fn start(views: Views, me: PeerId) -> Round
         ensures views { result.tally.views ≡ views }
         ensures votes { AreWith views me (replicate 32 false) result.tally.votes }
@@ -46,7 +47,8 @@ impl Round {
         Round { tally }
     }
 
-    /// The peer has answered. A second answer, and that of a peer that is in no view, change nothing.
+    /// Counts the answer of `peer`. A second answer of one peer, and an answer of a peer that is in
+    /// no view, change nothing.
     pub fn vote(&mut self, peer: PeerId)
         ensures views { self.new.tally.views ≡ self.old.tally.views }
         ensures votes { AreWith self.old.tally.views peer self.old.tally.votes self.new.tally.votes }
@@ -54,7 +56,7 @@ impl Round {
         self.tally.vote(peer);
     }
 
-    /// What the answers come to. Each state comes exactly where its definition holds.
+    /// Returns the state of the round.
     pub fn outcome(&self) -> RoundState
         ensures state { IsState (holds self.now.tally.votes) self.now.tally.views result }
         ensures open { is_quorum (holds self.now.tally.votes) self.now.tally.views ≡ false → result ≡ RoundState.Open }
