@@ -12,7 +12,7 @@ use Rattle.register_model.specs.declared.note.Note.TheVariants.{Proposed, Settle
 pub lower_is : (p v : ℕ) → 0 < v → lower_or_none p v < v
 lower_is p v h = grind (arith, nat_tests)
 
--- each parent is smaller
+-- each parent is smaller than its child
 pub parent_lower : (notes : List Note) (key : List ℕ) (v : ℕ) → 0 < v → parent_in notes key v < v
 parent_lower [] key v h = h
 parent_lower (Proposed k w p c ∷ notes) key v h = by_test (same_bytes k key && eqb (rank w) v) (lower_is (rank_or_none p) v h) (parent_lower notes key v h)
@@ -34,7 +34,7 @@ module _ (parent : ℕ → ℕ) (lower : (v : ℕ) → 0 < v → parent v < v) w
           not_zero e = omega arith
       by_zero false t = refl
 
-  -- every bound that is no smaller than the version gives the same chain
+  -- every bound at least as great as the version gives the same chain
   chain_enough : (n m v : ℕ) → v ≤ n → v ≤ m → chain n parent v ≡ chain m parent v
   chain_enough zero zero v h k = refl
   chain_enough zero (suc m) zero h k = refl
@@ -50,7 +50,7 @@ module _ (parent : ℕ → ℕ) (lower : (v : ℕ) → 0 < v → parent v < v) w
       within : (n : ℕ) → suc v ≤ suc n → parent (suc v) < suc v → parent (suc v) ≤ n
       within n h l = omega arith
 
-  -- the chain of a version is that of its parent, and the version
+  -- the chain of a version is that of its parent, followed by the version
   pub chain_step : (v : ℕ) → 0 < v → chain v parent v ≡ chain (parent v) parent (parent v) ++ v ∷ []
   chain_step zero h = absurd (omega arith)
   chain_step (suc v) h = chain_at v (suc v) h ∙ ap (λ (xs : List ℕ). xs ++ suc v ∷ []) (chain_enough v (parent (suc v)) (parent (suc v)) (within (lower (suc v) h)) (omega arith))
@@ -58,11 +58,11 @@ module _ (parent : ℕ → ℕ) (lower : (v : ℕ) → 0 < v → parent v < v) w
       within : parent (suc v) < suc v → parent (suc v) ≤ v
       within l = omega arith
 
--- a version put at the end stands first in the reversed list of ranks
+-- a version appended comes first in the reversed list of ranks
 pub turned : (vs : List Version) (v : Version) → reverse (map rank (vs ++ v ∷ [])) ≡ rank v ∷ reverse (map rank vs)
 turned vs v = ap reverse (map-append rank vs (v ∷ [])) ∙ reverse-append (map rank vs) (rank v ∷ [])
 
--- one version more of the chain, and its parent next
+-- one more version of the chain, and its parent next
 pub climbs : (notes : List Note) (key : List ℕ) (vs more : List Version) (v : Version) (u : ℕ) (all : List ℕ) → more ≡ vs ++ v ∷ [] → u ≡ parent_in notes key (rank v) → 0 < rank v
     → chain (rank v) (parent_in notes key) (rank v) ++ reverse (map rank vs) ≡ all → chain u (parent_in notes key) u ++ reverse (map rank more) ≡ all
 climbs notes key vs more v u all e f positive old = rw (e, f, turned vs v) (sym (append_assoc _ (rank v ∷ []) (reverse (map rank vs))) ∙ ap (λ (xs : List ℕ). xs ++ reverse (map rank vs)) (sym (chain_step (parent_in notes key) (parent_lower notes key) (rank v) positive)) ∙ old)

@@ -1,4 +1,4 @@
--- What was gathered so far, when one more mark is taken.
+-- What was gathered so far, after one more mark.
 use Rattle.std.proofs.Common.{◌≡◌, ℕ, ◌++◌, ◌∷◌, [], List, Bool, true, false, cond, eqb, max, arith, refl, sym, ap, ◌∙◌, Option, None, Some}
 use Rattle.std.specs.Prelude.{if◌then◌else◌, ◌&&◌, Result, Ok, Err, OnOk}
 use Rattle.std.specs.BTreeMap.{is_at}
@@ -111,7 +111,7 @@ block_written t notes key v call calls mid new reads told fits e f g h = rw (h, 
 pub order_begun : (t : Told) (notes : List Note) (key : List ℕ) (calls reads versions : List ℕ) → Tells t notes key → reads ≡ reads_at t None → calls ≡ reads → versions ≡ settled_chain notes key → calls ++ blocks notes key versions ≡ order notes key
 order_begun t notes key calls reads versions told e f g = λ i. (f ∙ e ∙ told_reads t notes key told None tt) i ++ blocks notes key (g i)
 
--- ## A call that may be refused
+-- ## A call that may fail
 
 pub on_ok : {T F : Type 0} (r : Result T F) (P Q : Type 0) → (P → Q) → OnOk r P → OnOk r Q
 on_ok (Ok x) P Q f p = f p

@@ -1,4 +1,4 @@
--- Keys as they are compared.
+-- How keys compare.
 use Rattle.std.proofs.Common.{◌≡◌, ℕ, true, List, sym, subst, ◌∙◌}
 use Rattle.std.specs.Cmp.{IsEquivalence}
 use Rattle.std.specs.List.{Contains, dedup}
@@ -12,7 +12,7 @@ use Rattle.std.proofs.lemmas.Slice.Eq.{bytes_eq-Decides}
 use Rattle.ens_base.specs.Lists.{same_bytes, bytes_cmp}
 use Rattle.history_scribe.specs.Histories.{AreSorted}
 
--- equal bytes are one list
+-- equal bytes are equal lists
 alike_is_same : (xs ys : List ℕ) → same_bytes xs ys ≡ true → xs ≡ ys
 alike_is_same xs ys alike = (bytes_eq-Decides xs ys).0 alike
 
@@ -28,7 +28,7 @@ keys_alike =
       congr = λ x y z same. alike_ties x z ∙ order.congr x y z (sym (alike_ties x y) ∙ same) ∙ sym (alike_ties y z);
     }
 
--- copies of keys that were sorted, and of which each was kept once
+-- copies of keys that were sorted and deduplicated
 pub sorted_once : (named copied moved kept : List (List ℕ)) → copied ≡ named → IsPermutation copied moved → IsSorted bytes_cmp moved → kept ≡ dedup same_bytes moved → AreSorted named kept
 sorted_once named copied moved kept copies permuted sorts is =
     let back : (key : List ℕ) → Contains kept key → Contains copied key = λ key has.

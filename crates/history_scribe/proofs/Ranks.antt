@@ -1,4 +1,4 @@
--- The order of versions is that of their ranks.
+-- Versions are ordered by their ranks.
 use Rattle.std.proofs.Common.{◌≡◌, ℕ, suc, ◌+◌, ◌*◌, ◌^◌, ◌<◌, ◌⊎◌, arith, Bool, cond, eqb, inl, inr, refl, sym, ap, ◌∙◌, Option, None, Some, max, nat_lt}
 use Rattle.std.proofs.lemmas.Bool.Decides.{nat_tests}
 use Rattle.std.proofs.lemmas.Bool.{cases_order}
@@ -20,7 +20,7 @@ cmp_equal a b h = grind (arith, nat_tests)
 cmp_greater : (a b : ℕ) → b < a → nat_cmp a b ≡ Greater
 cmp_greater a b h = grind (arith, nat_tests)
 
--- two numbers of two parts each compare by the first part, then by the second
+-- two pairs of numbers compare by the first part, then by the second
 then_by : (a b x y m n : ℕ) → (a ≡ b → x ≡ y → m ≡ n) → (a ≡ b → x < y → m < n) → (a ≡ b → y < x → n < m) → (a < b → m < n) → (b < a → n < m) → ordering_then (nat_cmp a b) (nat_cmp x y) ≡ nat_cmp m n
 then_by a b x y m n same less more below above = by_first (cases_order a b)
   where
@@ -69,7 +69,7 @@ same_rank u v h k = ap is_eq (compared u v h k) ∙ is_eq-nat_cmp (rank u) (rank
 pub same_base : (a b : Option Version) → FitsIfAny a → FitsIfAny b → is_eq (option_cmp version_cmp a b) ≡ eqb (rank_or_none a) (rank_or_none b)
 same_base a b h k = ap is_eq (compared_bases a b h k) ∙ is_eq-nat_cmp (rank_or_none a) (rank_or_none b)
 
--- the greater of two has the greater rank
+-- the greater of two versions has the greater rank
 pub rank-max : (a b : Option Version) → FitsIfAny a → FitsIfAny b → rank_or_none (ord_max (option_cmp version_cmp) a b) ≡ max (rank_or_none a) (rank_or_none b)
 rank-max a b h k = by_order (cases_order (rank_or_none b) (rank_or_none a))
   where
@@ -88,11 +88,11 @@ fits_if (Some v) h = h v refl
 is_lt-nat_cmp : (a b : ℕ) → is_lt (nat_cmp a b) ≡ nat_lt a b
 is_lt-nat_cmp a b = grind (arith, nat_tests)
 
--- a parent stays where it is below its child
+-- a parent is kept if it is below its child
 lower_by_cmp : (p v : Version) → Fits p → Fits v → lower_or_none (rank p) (rank v) ≡ cond (is_lt (version_cmp p v)) (rank p) 0
 lower_by_cmp p v h k = ap (λ (b : Bool). cond b (rank p) 0) (sym (ap is_lt (compared p v h k) ∙ is_lt-nat_cmp (rank p) (rank v)))
 
--- the derived test of versions is by their order
+-- the derived comparison of versions is their order
 partial_then : (o p : Ordering) → partial_ordering_then (Some o) (Some p) ≡ Some (ordering_then o p)
 partial_then Less p = refl
 partial_then Equal p = refl
@@ -101,6 +101,6 @@ partial_then Greater p = refl
 tested_by_cmp : (p v : Version) → is_some_and is_lt (partial_ordering_then (partial_ordering_then (Some (nat_cmp p.epoch.count v.epoch.count)) (Some (nat_cmp p.epoch.proposer v.epoch.proposer))) (Some (nat_cmp p.seq v.seq))) ≡ is_lt (version_cmp p v)
 tested_by_cmp p v = ap (λ (o : Option Ordering). is_some_and is_lt o) (ap (λ (o : Option Ordering). partial_ordering_then o (Some (nat_cmp p.seq v.seq))) (partial_then (nat_cmp p.epoch.count v.epoch.count) (nat_cmp p.epoch.proposer v.epoch.proposer)) ∙ partial_then (ordering_then (nat_cmp p.epoch.count v.epoch.count) (nat_cmp p.epoch.proposer v.epoch.proposer)) (nat_cmp p.seq v.seq))
 
--- the parent that is kept where the test answers so
+-- the parent that is kept when the test passes
 pub parent_tested : (p v : Version) (b : Bool) → Fits p → Fits v → is_some_and is_lt (partial_ordering_then (partial_ordering_then (Some (nat_cmp p.epoch.count v.epoch.count)) (Some (nat_cmp p.epoch.proposer v.epoch.proposer))) (Some (nat_cmp p.seq v.seq))) ≡ b → cond b (rank p) 0 ≡ lower_or_none (rank p) (rank v)
 parent_tested p v b h k e = sym (lower_by_cmp p v h k ∙ ap (λ (c : Bool). cond c (rank p) 0) (sym (tested_by_cmp p v) ∙ e))

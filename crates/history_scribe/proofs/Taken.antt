@@ -1,10 +1,10 @@
--- Notes that are taken one after the other.
+-- Notes that are added one after another.
 use Rattle.std.specs.Prelude.{OnErr}
 use Rattle.std.proofs.Common.{◌≡◌, ◌++◌, ◌∷◌, [], ℕ, List, Result, Ok, Err, length, take, refl, sym, ap, ◌∙◌, arith}
 use Rattle.std.proofs.lemmas.List.{append-nil, append_assoc, take-append-le, take_all}
 use Rattle.register_model.specs.declared.note.Note.{Note}
 
--- some of the notes have been taken, and these are left
+-- some of the notes have been added, and these are left
 pub record Taking (old all now left : List Note) : Type 0 where
   pub taken : List Note
   pub split : all ≡ taken ++ left
@@ -26,7 +26,7 @@ all_taken old all now left is t = t.so_far ∙ ap (λ (l : List Note). old ++ l)
 front : (taken left all : List Note) → all ≡ taken ++ left → take (length taken) all ≡ taken
 front taken left all split = ap (λ (l : List Note). take (length taken) l) split ∙ take-append-le (length taken) taken left (omega arith) ∙ take_all (length taken) taken (omega arith)
 
--- where the next note is refused, a front of all has been taken
+-- if the next note is not added, a prefix of all has been
 pub front_taken : {A E : Type 0} (r : Result A E) (old all now left : List Note) → Taking old all now left → OnErr r ((taken : ℕ) × (now ≡ old ++ take taken all))
 front_taken (Ok a) old all now left t = tt
 front_taken (Err e) old all now left t = (length t.taken, t.so_far ∙ ap (λ (l : List Note). old ++ l) (sym (front t.taken left all t.split)))

@@ -6,12 +6,12 @@ use Rattle.register_model.specs.Orders.{order}
 use Rattle.register_model.specs.declared.history.History.{History}
 use Rattle.register_model.specs.declared.note.Note.{Note}
 
--- the same keys, ascending, each once
+-- the same keys, strictly ascending
 pub record AreSorted (named keys : List (List ℕ)) : Type 0 where
   pub same : (key : List ℕ) → Contains keys key ↔ Contains named key
   pub ascending : IsStrictlySortedBy bytes_cmp keys
 
--- the history of a key: its calls, in the order that the notes tell
+-- the history of a key: its calls, in the order that follows from the notes
 abbrev pub history_of : List Note → List ℕ → History
 history_of notes key = record { key = key; calls = order notes key }
 

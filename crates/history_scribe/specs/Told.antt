@@ -1,4 +1,4 @@
--- What was gathered from the marks of one key, and what notes tell.
+-- What was gathered from the marks of one key, compared with the notes.
 use Rattle.std.specs.Prelude.{◌≡◌, ◌++◌, ◌<◌, ◌^◌, ℕ, max, List, [], Option, None, Some}
 use Rattle.std.specs.BTreeMap.{get}
 use Rattle.std.specs.Option.{option_cmp}
@@ -10,7 +10,7 @@ use Rattle.history_scribe.specs.Lists.{list_at}
 use Rattle.history_scribe.specs.declared.told.Proposal.{Proposal}
 use Rattle.history_scribe.specs.declared.told.Told.{Told}
 
--- the proposer and the number in the epoch fit their types
+-- the proposer and the sequence number are in range
 abbrev pub Fits : Version → Type 0
 Fits v = (v.epoch.proposer < 2 ^ 32) × (v.seq < 2 ^ 64)
 
@@ -18,31 +18,31 @@ abbrev pub FitsIfAny : Option Version → Type 0
 FitsIfAny None = Unit {0}
 FitsIfAny (Some v) = Fits v
 
--- the proposal of the version that was gathered
+-- the gathered proposal of the version
 abbrev pub proposal_at : Told → Version → Option Proposal
 proposal_at t v = get version_cmp t.proposals v
 
--- the calls of the reads of this base that were gathered
+-- the gathered calls that read this base
 abbrev pub reads_at : Told → Option Version → List ℕ
 reads_at t base = list_at (option_cmp version_cmp) t.reads.lists base
 
--- the rank of the parent of the version v by its proposal, and another where there is no proposal
+-- the rank of the parent in the proposal, or `other` if there is no proposal
 abbrev pub parent_or : Option Proposal → ℕ → ℕ → ℕ
 parent_or None v other = other
 parent_or (Some p) v other = lower_or_none (rank_or_none p.parent) v
 
--- the call by a version's proposal, and another where there is no proposal
+-- the call in the proposal, or `other` if there is no proposal
 abbrev pub call_or : Option Proposal → Option ℕ → Option ℕ
 call_or None other = other
 call_or (Some p) other = p.call
 
--- what was gathered, and behind it the rest of the notes, tell the same of the key as all notes
+-- what was gathered, followed by the rest of the notes, agrees with all notes on the key
 pub record TellsBefore (t : Told) (rest all : List Note) (key : List ℕ) : Type 0 where
   pub newest : max (rank_or_none t.newest) (newest_in rest key) ≡ newest_in all key
   pub parent : (v : Version) → Fits v → parent_or (proposal_at t v) (rank v) (parent_in rest key (rank v)) ≡ parent_in all key (rank v)
   pub call : (v : Version) → Fits v → call_or (proposal_at t v) (call_in rest key (rank v)) ≡ call_in all key (rank v)
   pub reads : (base : Option Version) → FitsIfAny base → reads_at t base ++ reads_on rest key (rank_or_none base) ≡ reads_on all key (rank_or_none base)
 
--- what was gathered tells the same of the key as the notes
+-- what was gathered agrees with the notes on the key
 abbrev pub Tells : Told → List Note → List ℕ → Type 0
 Tells t notes key = TellsBefore t [] notes key

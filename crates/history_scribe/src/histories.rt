@@ -6,7 +6,7 @@ use ens_base::{CopyError, Key};
 use register_model::History;
 use std::alloc::{AllocError, Global};
 
-/// Copies of these keys.
+/// Returns copies of these keys.
 fn copies(alloc: Global, keys: &[Key]) -> Result<Vec<Key>, CopyError>
     ensures { IfOk result (λ v. v.items ≡ keys.now) }
 {
@@ -17,7 +17,7 @@ fn copies(alloc: Global, keys: &[Key]) -> Result<Vec<Key>, CopyError>
     Ok(copies)
 }
 
-/// The same keys, ascending, each once.
+/// Returns the same keys in ascending order, without duplicates.
 fn sorted(alloc: Global, keys: &[Key]) -> Result<Vec<Key>, CopyError>
     ensures { IfOk result (λ v. AreSorted keys.now v.items) }
 {
@@ -28,7 +28,8 @@ fn sorted(alloc: Global, keys: &[Key]) -> Result<Vec<Key>, CopyError>
 }
 
 impl Scribe {
-    /// One history for each key that is named here, the keys ascending. A key may be named many times.
+    /// Returns one history for each key in `named`, the keys ascending. A key may be named more
+    /// than once. Fails only when out of memory.
     pub fn histories(&self, alloc: Global, named: &[Key]) -> Result<Vec<History>, AllocError>
         ensures { IfOk result (λ v. AreHistories self.now.notes.items named.now v.items) }
     {

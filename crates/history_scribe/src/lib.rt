@@ -1,9 +1,9 @@
-//! The history of each key, as the notes of leaders tell it.
+//! The history of each key, from the notes of the leaders.
 //!
-//! A `Scribe` keeps the notes that it is given, and answers for each key the calls on it in exactly
-//! the order that the notes tell, which is `order` of `register_model`. Beside the notes it keeps for
-//! each key a list of marks: what each note on the key says, without the key. So a note costs one
-//! look-up, and a history as much as the key has notes, however many other keys there are.
+//! A `Scribe` keeps the notes that it is given, and returns for each key the order of its calls
+//! that follows from them, `order` of `register_model`. Beside the notes it keeps a list of marks
+//! for each key: the content of each note on the key, without the key. So a note costs one lookup,
+//! and a history costs as much as the key has notes, however many other keys there are.
 #![tactic(auto)]
 
 mod histories;

@@ -6,14 +6,14 @@ use ens_base::Seq;
 use std::alloc::{AllocError, Global};
 use std::collections::BTreeMap;
 
-/// A list for each key; a key that was never named has the empty one.
+/// A list for each key. The list of a key that was never used is empty.
 #[derive(Drop)]
 pub struct Lists<K: Ord, T> {
     lists: BTreeMap<K, Seq<T>>,
 }
 
 impl<K: Ord, T> Lists<K, T> {
-    /// No key has anything in its list.
+    /// Makes a map in which every list is empty.
     pub fn new(alloc: Global) -> Lists<K, T>
         ensures { (k : K) → list_at K.cmp result.lists k ≡ [] }
     {
@@ -22,7 +22,7 @@ impl<K: Ord, T> Lists<K, T> {
         }
     }
 
-    /// The list of the key.
+    /// Returns the list of the key.
     pub fn of(&self, key: &K) -> &[T]
         ensures { result.now ≡ list_at K.cmp self.now.lists key.now }
     {
@@ -32,7 +32,7 @@ impl<K: Ord, T> Lists<K, T> {
         }
     }
 
-    /// Puts an item at the end of the list of the key.
+    /// Appends an item to the list of the key. When out of memory, leaves all lists unchanged.
     pub fn push(&mut self, alloc: Global, key: K, item: T) -> Result<(), AllocError>
     where
         K: Drop,

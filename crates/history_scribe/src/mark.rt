@@ -4,10 +4,11 @@ ghost use Rattle.history_scribe.specs.Marks.{key_of, mark_of};
 use ens_base::{Key, Version};
 use register_model::Note;
 
-/// What a note says of its key.
+/// The content of a note, without its key.
 #[derive(Clone, Copy, Debug, PartialEq, Eq)]
 pub enum Mark {
-    /// A version was proposed, upon its parent, for a call where it is no rewrite.
+    /// A version was proposed, with its parent, and with the call that it is the write of unless it
+    /// is a rewrite.
     Proposed {
         version: Version,
         parent: Option<Version>,
@@ -15,14 +16,14 @@ pub enum Mark {
     },
     /// A quorum acknowledged the version.
     Settled(Version),
-    /// The call was answered by what the base holds.
+    /// The call was answered from the base, without a write.
     Read {
         id: u64,
         base: Option<Version>,
     },
 }
 
-/// The key of a note.
+/// Returns the key of a note.
 pub fn key_of(note: &Note) -> &Key
     ensures { result.now ≡ key_of note.now }
 {
@@ -33,7 +34,7 @@ pub fn key_of(note: &Note) -> &Key
     }
 }
 
-/// What the note says of its key.
+/// Returns the content of a note, without its key.
 pub fn mark_of(note: &Note) -> Mark
     ensures { result ≡ mark_of note.now }
 {

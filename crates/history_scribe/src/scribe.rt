@@ -11,7 +11,7 @@ use ens_base::{Key, Seq};
 use register_model::{History, Note};
 use std::alloc::{AllocError, Global};
 
-/// Keeps the notes of leaders, and tells the history of each key.
+/// Keeps the notes of leaders, and returns the history of each key.
 #[derive(Drop)]
 pub struct Scribe {
     notes: Vec<Note>,
@@ -20,7 +20,7 @@ pub struct Scribe {
 }
 
 impl Scribe {
-    /// A scribe without notes.
+    /// Makes a scribe without notes.
     pub fn new(alloc: Global) -> Scribe
         ensures { result.notes.items ≡ [] }
     {
@@ -30,14 +30,14 @@ impl Scribe {
         }
     }
 
-    /// All notes, in their order.
+    /// Returns all notes in the order in which they came.
     pub fn notes(&self) -> &[Note]
         ensures { result.now ≡ self.now.notes.items }
     {
         self.notes.as_slice()
     }
 
-    /// Takes one more note. A refusal, which is want of memory, leaves the notes as they were.
+    /// Adds a note. When out of memory, leaves the notes unchanged.
     pub fn note(&mut self, alloc: Global, note: Note) -> Result<(), AllocError>
         ensures ok { OnOk result (self.new.notes.items ≡ self.old.notes.items ++ note ∷ []) }
         ensures err { OnErr result (self.new.notes.items ≡ self.old.notes.items) }
@@ -49,7 +49,7 @@ impl Scribe {
         Ok(())
     }
 
-    /// Takes these notes, one after the other. Where one is refused, those before it have been taken.
+    /// Adds these notes in order. When out of memory, a prefix of them has been added.
     pub fn note_all(&mut self, alloc: Global, notes: Vec<Note>) -> Result<(), AllocError>
         ensures ok { OnOk result (self.new.notes.items ≡ self.old.notes.items ++ notes.items) }
         ensures err { OnErr result ((taken : ℕ) × (self.new.notes.items ≡ self.old.notes.items ++ take taken notes.items)) }
@@ -60,7 +60,8 @@ impl Scribe {
         Ok(())
     }
 
-    /// The history of a key: exactly the calls on it that the notes tell, in the order that they tell.
+    /// Returns the history of a key: the calls on it in the order that follows from the notes.
+    /// Fails only when out of memory.
     pub fn history(&self, alloc: Global, key: &Key) -> Result<History, AllocError>
         ensures key { IfOk result (λ h. h.key ≡ key.now) }
         ensures calls { IfOk result (λ h. h.calls ≡ order self.now.notes.items key.now) }

@@ -14,22 +14,22 @@ use ens_base::Version;
 use std::alloc::{AllocError, Global};
 use std::collections::BTreeMap;
 
-/// Of a proposed version: its parent, and the call that it is the write of.
+/// The proposal of a version.
 #[derive(Clone, Copy, Debug, PartialEq, Eq)]
 pub struct Proposal {
     pub parent: Option<Version>,
-    /// None for a rewrite.
+    /// The call that the version is the write of; `None` for a rewrite.
     pub call: Option<u64>,
 }
 
-/// What the marks of one key tell.
+/// What the marks of one key say, gathered.
 #[derive(Drop)]
 pub struct Told {
     /// The greatest settled version.
     newest: Option<Version>,
     /// The first proposal of each version.
     proposals: BTreeMap<Version, Proposal>,
-    /// The calls of the reads that saw this base, in their order.
+    /// The calls that read each base, in the order of their marks.
     reads: Lists<Option<Version>, u64>,
 }
 
@@ -44,7 +44,7 @@ impl Told {
         }
     }
 
-    /// What these marks tell.
+    /// Gathers these marks.
     pub fn of(alloc: Global, marks: &[Mark]) -> Result<Told, AllocError>
         ensures { (key : List ℕ) → IfOk result (λ t. Tells t (all_noted key marks.now) key) }
     {
@@ -55,6 +55,7 @@ impl Told {
         Ok(told)
     }
 
+    /// Adds a mark.
     fn take(&mut self, alloc: Global, mark: Mark) -> Result<(), AllocError>
         ensures { (rest all : List Note) (key : List ℕ) → TellsBefore self.old (noted key mark ∷ rest) all key → OnOk result (TellsBefore self.new rest all key) }
     {
@@ -72,7 +73,7 @@ impl Told {
         }
     }
 
-    /// Keeps a proposal, unless there is one of the version.
+    /// Keeps a proposal, unless the version has one already.
     fn propose(&mut self, version: Version, proposal: Proposal) -> Result<(), AllocError>
         ensures proposals { OnOk result ((v : AVersion) → proposal_at self.new v ≡ option_or (proposal_at self.old v) (if is_eq (version_cmp version v) then Some proposal else None)) }
         ensures newest { self.new.newest ≡ self.old.newest }
@@ -84,7 +85,7 @@ impl Told {
         Ok(())
     }
 
-    /// The parent of a version, if it is below it.
+    /// Returns the parent of a version, if it is below the version.
     fn parent_of(&self, version: Version) -> Option<Version>
         ensures below { rank_or_none result < rank version }
         ensures told { (notes : List Note) (key : List ℕ) → Tells self.now notes key → rank_or_none result ≡ parent_in notes key (rank version) }
@@ -92,14 +93,14 @@ impl Told {
         below(self.proposals.get(&version)?.parent, version)
     }
 
-    /// The call that a version is the write of.
+    /// Returns the call that a version is the write of.
     fn call_of(&self, version: Version) -> Option<u64>
         ensures { (notes : List Note) (key : List ℕ) → Tells self.now notes key → result ≡ call_in notes key (rank version) }
     {
         self.proposals.get(&version)?.call
     }
 
-    /// The greatest settled version and its ancestors, the newest first.
+    /// Returns the greatest settled version and its ancestors, the newest first.
     fn chain(&self, alloc: Global) -> Result<Vec<Version>, AllocError>
         ensures { (notes : List Note) (key : List ℕ) → Tells self.now notes key → IfOk result (λ vs. reverse (map rank vs.items) ≡ settled_chain notes key) }
     {
@@ -112,7 +113,7 @@ impl Told {
         Ok(versions)
     }
 
-    /// Writes the call of a version's write, and behind it the reads of the version.
+    /// Appends the call that wrote the version, followed by the reads of the version.
     fn write_block(&self, version: Version, calls: &mut Vec<u64>) -> Result<(), AllocError>
         ensures { (notes : List Note) (key : List ℕ) → Tells self.now notes key → OnOk result (calls.new.items ≡ calls.old.items ++ block notes key (rank version)) }
     {
@@ -121,8 +122,8 @@ impl Told {
         Ok(())
     }
 
-    /// The calls on the key in their order: the reads that saw nothing, and then the block of each
-    /// version of the chain, the oldest first.
+    /// Returns the calls on the key in order: the reads that found nothing, and then the block of
+    /// each version of the chain, the oldest first.
     pub fn order(&self, alloc: Global) -> Result<Vec<u64>, AllocError>
         ensures { (notes : List Note) (key : List ℕ) → Tells self.now notes key → IfOk result (λ calls. calls.items ≡ order notes key) }
     {
@@ -135,7 +136,7 @@ impl Told {
     }
 }
 
-/// The parent, if it is below its child.
+/// Returns the parent, if it is below its child.
 fn below(parent: Option<Version>, child: Version) -> Option<Version>
     ensures { rank_or_none result ≡ lower_or_none (rank_or_none parent) (rank child) }
 {
@@ -143,14 +144,14 @@ fn below(parent: Option<Version>, child: Version) -> Option<Version>
     if parent < child { Some(parent) } else { None }
 }
 
-/// The greater of two versions; none is below each.
+/// Returns the greater of two versions; `None` is below each.
 fn greater(a: Option<Version>, b: Option<Version>) -> Option<Version>
     ensures { rank_or_none result ≡ max (rank_or_none a) (rank_or_none b) }
 {
     a.max(b)
 }
 
-/// Writes the call of a write, and nothing for a rewrite.
+/// Appends the call of a write, and nothing for a rewrite.
 fn push_write(call: Option<u64>, calls: &mut Vec<u64>) -> Result<(), AllocError>
     ensures { OnOk result (calls.new.items ≡ calls.old.items ++ write_of call) }
 {

@@ -24,7 +24,7 @@ use Rattle.register_runs.proofs.Fresh.{Has, IsFree}
 use Rattle.register_runs.proofs.Outcomes.{IsBlind, blind_if, Fits, fits_absent, fits_present, Wanted, either_of, reply_itself, reply_same, bytes_same, bytes_itself, shown_quiet, learned_more, learned_shown, learned_write, write_learned, shown_under, shown_over}
 use Rattle.register_runs.proofs.Silent.{new_true, new_gives, may_true, may_gives, StepTo, Step, Leaves, after_old, moved, single}
 
--- one more stamp beside others
+-- one more stamp in front of both lists
 beside : (u : Version) (S T : List Version) → Has S T → Has (u ∷ S) (u ∷ T)
 beside u S T sub x (inl e) = inl e
 beside u S T sub x (inr h) = inr (sub x h)
@@ -75,7 +75,7 @@ module _ (P : List Version → Register → Type 0) (fewer : (S T : List Version
       (a, reg, reply_same a r g.0, (refl, refl), fewer (N ++ K) (stamps_after a (N ++ K)) reg (shown_quiet (N ++ K) (N ++ K) a fits) (fewer (N ++ learned K c r) (N ++ K) reg (learned_more N K c r) (back (N ++ learned K c r) g.1)))
   known_from c (Writes content) K N held reg r fits back h = write_from c K N content reg r h
 
-  -- ## A value whose stamp is not known, and a command that does not look at it
+  -- ## A value under an unknown stamp, and a command that does not look at it
 
   unknown_to : (c : Command) (o : Outcome) (K N E : List Version) (b : List ℕ) (r : Reply) → ((x : Version) → ¬ (Wanted c x)) → IsBlind o → OfSome (λ S q. StepTo P (Some r) o S q) (N ++ K) (Untold b E) → Leaves P (learned K c r) (left_told K (verdict_of o) r (Untold b E) N)
   unknown_to c (Keeps Reply.Failed) K N E b r bare blind h =
@@ -135,7 +135,7 @@ module _ (P : List Version → Register → Type 0) (fewer : (S T : List Version
   unknown_from c (Keeps a) K N E b r blind h = absurd blind
   unknown_from c (Writes content) K N E b r blind h = unknown_write c K N E b content r h
 
-  -- ## A read of a value whose stamp is not known
+  -- ## A read of a value under an unknown stamp
 
   read_to : (K N E : List Version) (b : List ℕ) (r : Reply) → OfSome (λ S q. Step P (Some r) Get S q) (N ++ K) (Untold b E) → Leaves P (learned K Get r) (get_told K N r b E)
   read_to K N E b r h =
@@ -156,7 +156,7 @@ module _ (P : List Version → Register → Type 0) (fewer : (S T : List Version
       (t, gives.0, gives.1, (Reply.Value t b, Present t b, is, (refl, refl), fewer (N ++ with_stamp K t) (t ∷ (N ++ K)) (Present t b) (shown_over N K Get t) g.1))
   read_from K N E b r h = absurd h.1
 
-  -- ## An update of a value whose stamp is not known
+  -- ## An update of a value under an unknown stamp
 
   abbrev UpdateStep : Reply → Bool → List ℕ → List Version → Version → List ℕ → Type 0
   UpdateStep r same new S u b = StepTo P (Some r) (if same then Writes (Some new) else Keeps Reply.Failed) (u ∷ S) (Present u b)

@@ -1,4 +1,4 @@
--- Lists in which nothing stands twice.
+-- Lists without duplicates.
 use Rattle.std.proofs.Common.{◌≡◌, ℕ, zero, suc, ◌+◌, ◌<◌, ◌≤◌, Bool, true, false, List, [], ◌∷◌, ◌++◌, length, get_or, take, inl, inr, ◌⊎◌, refl, sym, ap, subst, ◌∙◌, arith, eqb-true}
 use Rattle.std.specs.Prelude.{nat_eq, not, if◌then◌else◌}
 use Rattle.std.specs.List.{list_any}
@@ -25,7 +25,7 @@ get_in [] n d lt = absurd (omega arith)
 get_in (x ∷ xs) zero d lt = inl refl
 get_in (x ∷ xs) (suc n) d lt = inr (get_in xs n d (omega arith))
 
--- what stands at a place and before it stands twice
+-- an item that also occurs before its position occurs twice
 twice : (ids : List ℕ) (n d : ℕ) → n < length ids → get_or ids n d ∈ take n ids → ¬ (AreDistinct ids)
 twice [] n d lt h distinct = absurd (omega arith)
 twice (x ∷ ids) zero d lt h distinct = h

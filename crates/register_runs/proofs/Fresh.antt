@@ -1,4 +1,5 @@
--- A run goes on where fewer stamps are taken, and beside any one more stamp but for some.
+-- A run goes on if fewer stamps are taken, and if one more stamp is taken, except for finitely
+-- many.
 use Rattle.std.proofs.Common.{ℕ, List, [], ◌∷◌, inl, inr, sym, subst}
 use Rattle.ens_base.specs.Lists.{◌∈◌}
 use Rattle.ens_base.specs.declared.epoch.Version.{Version}
@@ -9,7 +10,7 @@ use Rattle.register_model.specs.declared.answer.Answer.{Answer}
 use Rattle.register_model.specs.declared.call.Call.{Call}
 use Rattle.register_model.specs.declared.register.Register.{Register}
 
--- each stamp of the second list stands in the first
+-- each stamp of the second list is in the first
 abbrev pub Has : List Version → List Version → Type 0
 Has stamps some = (x : Version) → x ∈ some → x ∈ stamps
 
@@ -28,7 +29,7 @@ module _ (calls : List Call) (answers : List Answer) where
   runs_fewer (id ∷ rest) S T r sub h =
       (h.0, h.1, h.2, h.3, h.4, h.5, comes_fewer (outcome h.0.command r) S T r h.1 h.2 sub h.6, runs_fewer rest (stamps_after h.1 S) (stamps_after h.1 T) h.2 (after_fewer h.1 S T sub) h.7)
 
--- one more stamp is taken before or after a step
+-- one more stamp, taken before or after a step
 swapped : (reply : Reply) (u : Version) (S : List Version) → Has (u ∷ stamps_after reply S) (stamps_after reply (u ∷ S))
 swapped (Reply.Ok t) u S x (inl e) = inr (inl e)
 swapped (Reply.Ok t) u S x (inr (inl e)) = inl e
@@ -47,7 +48,7 @@ comes_free (Writes content) S L old reply new u n h = (h.0, h.1, fresh, h.3)
     fresh (inl e) = (let P : Reply → Type 0 = λ r. ¬ (u ∈ stamps_after r L) in subst P h.1 n) (inl (sym e))
     fresh (inr there) = h.2 there
 
--- what is true, and stays true with one more stamp taken, unless that is one of these
+-- P holds with one more stamp taken, unless that is in a finite list
 abbrev pub IsFree : (List Version → Register → Type 0) → List Version → Register → Type 0
 IsFree P S r = (L : List Version) × ((u : Version) → ¬ (u ∈ L) → P (u ∷ S) r)
 

@@ -1,4 +1,4 @@
--- What a look-up by ids finds.
+-- What a lookup by id finds.
 use Rattle.std.proofs.Common.{◌≡◌, ◌≢◌, ℕ, zero, suc, ◌+◌, ◌<◌, ◌≤◌, ltb, Bool, true, false, cond, List, [], ◌∷◌, length, get_or, take, map, Option, None, Some, Bor, inl, inr, ◌⊎◌, refl, sym, ap, subst, ◌∙◌, arith, eqb-true}
 use Rattle.std.specs.Prelude.{slice_get, IfSome, IfNone, is_some, nat_eq, ◌↔◌}
 use Rattle.std.proofs.lemmas.Bool.{eq-eqb, true≢false, ltb-false}
@@ -16,7 +16,7 @@ in-map f [] x h = absurd h
 in-map f (y ∷ ys) x (inl e) = inl (ap f e)
 in-map f (y ∷ ys) x (inr h) = inr (in-map f ys x h)
 
--- two things of a list with one name are one, where the names are distinct
+-- two items of a list with the same name are equal, if the names are distinct
 pub one_of : {A : Type 0} (f : A → ℕ) (xs : List A) (x y : A) → AreDistinct (map f xs) → x ∈ xs → y ∈ xs → f x ≡ f y → x ≡ y
 one_of f [] x y d hx hy e = absurd hx
 one_of f (z ∷ zs) x y d (inl ex) (inl ey) e = ex ∙ sym ey
@@ -27,7 +27,7 @@ one_of f (z ∷ zs) x y d (inr hx) (inr hy) e = one_of f zs x y d.1 hx hy e
 some_is : {A : Type 0} (x y : A) → Some x ≡ Some y → x ≡ y
 some_is x y e = cc
 
--- what stands at the place of a name
+-- the item at the position of a name
 pub at_name : {A : Type 0} (f : A → ℕ) (xs : List A) (place n : ℕ) (x : A) → slice_get (map f xs) place ≡ Some n → x ≡ get_or xs place x → (x ∈ xs) × (f x ≡ n)
 at_name f [] place n x e g = absurd cc
 at_name f (y ∷ ys) zero n x e g = (inl g, ap f g ∙ some_is (f y) n e)
@@ -38,7 +38,7 @@ no_place f [] place n e short = cc
 no_place f (y ∷ ys) zero n e short = omega arith
 no_place f (y ∷ ys) (suc place) n e short = no_place f ys place n e (omega arith)
 
--- ## The look-up as it is made
+-- ## The lookup while it is built
 
 pub record SoFar (find : ℕ → Option ℕ) (ids : List ℕ) (n : ℕ) : Type 0 where
   pub found : (id place : ℕ) → find id ≡ Some place → slice_get ids place ≡ Some id
@@ -83,7 +83,7 @@ module _ (calls : List Call) (find : ℕ → Option ℕ) (id : ℕ) (places : Ar
   call_there place None at got = absurd (no_place (λ d. d.id) calls place id (places.found id place (sym at)) (ltb-false place (length calls) (sym got)))
   call_there place (Some c) at got = tt
 
--- ## The reply of an answer by the id of its call
+-- ## The reply of an answer, by the id of its call
 
 module _ (answers : List Answer) (find : ℕ → Option ℕ) (id : ℕ) (places : ArePlaces find (map (λ a. a.id) answers)) (once : AreDistinct (map (λ a. a.id) answers)) where
   pub no_answer : None ≡ find id → (reply : Reply) → MayHave answers id reply

@@ -19,7 +19,7 @@ use Rattle.register_runs.proofs.Stands.{in_left, in_right, in_either, in_within,
 use Rattle.register_runs.proofs.Fresh.{Has}
 use Rattle.register_runs.proofs.Outcomes.{either_of, bytes_same}
 
--- ## What covers another goes on as that
+-- ## A register that covers another can go on like it
 
 module _ (P : List Version → Register → Type 0) (fewer : (S T : List Version) (r : Register) → Has S T → P S r → P T r) where
   held_cover : (g h : Guess) (S T : List Version) → Has S T → held_within g h ≡ true → OfSome P S h → OfSome P T g

@@ -47,20 +47,21 @@ reply_same Reply.Lost Reply.Lost h = refl
 reply_same Reply.Timeout Reply.Timeout h = refl
 reply_same a b h = absurd (false≢true h)
 
--- ## What an outcome shows of stamps
+-- ## The stamps that an outcome shows
 
--- the stamp that an update looks for
+-- the stamp that an update asks for
 abbrev pub Wanted : Command → Version → Type 0
 Wanted (Update wanted new) x = x ≡ wanted
 Wanted command x = ⊥
 
--- the reply shows no stamp but these, and is not that of a write
+-- the reply shows only these stamps, and is not that of a write
 abbrev pub ShowsOf : List Version → Reply → Type 0
 ShowsOf stamps (Reply.Value t b) = t ∈ stamps
 ShowsOf stamps (Reply.Ok t) = ⊥
 ShowsOf stamps reply = Unit {0}
 
--- the outcome shows no stamp but these, and the stamp that a done update looked for is one of them
+-- the outcome shows only these stamps, and the stamp that a successful update asked for is one of
+-- them
 abbrev pub Fits : List Version → Command → Outcome → Type 0
 Fits stamps command (Keeps answer) = ShowsOf stamps answer
 Fits stamps command (Writes content) = (x : Version) → Wanted command x → x ∈ stamps
@@ -96,7 +97,7 @@ fits_present stamps (Swap old new) s b h = fits_blind stamps (Swap old new) _ _ 
 fits_present stamps (Over v) s b h = λ x w. absurd w
 fits_present stamps Delete s b h = λ x w. absurd w
 
--- a command that does not look at the stamp is done, or fails
+-- a command that does not look at the stamp writes or fails
 abbrev pub IsBlind : Outcome → Type 0
 IsBlind (Keeps Reply.Failed) = Unit {0}
 IsBlind (Keeps answer) = ⊥
@@ -106,7 +107,7 @@ pub blind_if : (b : Bool) (content : _) → IsBlind (if b then Writes content el
 blind_if true content = tt
 blind_if false content = tt
 
--- ## What is learned
+-- ## What a reply teaches
 
 pub in_wanted : (known : List Version) (c : Command) (x : Version) → x ∈ with_wanted known c → (x ∈ known) ⊎ Wanted c x
 in_wanted known (Update w v) x h = turned (in_with known w x h)
@@ -141,7 +142,7 @@ module _ (named known : List Version) (c : Command) where
   learned_shown (Reply.Ok t) shown x h = absurd shown
   learned_shown a shown x h = h
 
-  -- the reply to a write teaches its stamp, and the one that it looked for
+  -- the reply to a write teaches its stamp, and the one that it asked for
   pub learned_write : (t : Version) (taken : List Version) → Has taken (named ++ known) → t ∈ taken → ((x : Version) → Wanted c x → x ∈ taken) → Has taken (named ++ learned known c (Reply.Ok t))
   learned_write t taken old new wanted x h =
       either_of (in_either named (with_wanted (with_stamp known t) c) x h)
@@ -157,7 +158,7 @@ module _ (named known : List Version) (c : Command) where
   write_learned t x (inl e) = let P : Version → Type 0 = λ y. y ∈ (named ++ learned known c (Reply.Ok t)) in subst P (sym e) (learned_stamp t)
   write_learned t x (inr h) = learned_more (Reply.Ok t) x h
 
-  -- the same of a stamp that a value shows
+  -- the same for a stamp that a read shows
   pub shown_under : (t : Version) → Has (t ∷ (named ++ known)) (named ++ with_stamp known t)
   shown_under t x h =
       either_of (in_either named (with_stamp known t) x h) (λ l. inr (in_left named known x l)) (λ k. either_of (in_with known t x k) (λ e. inl e) (λ old. inr (in_right named known x old)))
@@ -166,7 +167,7 @@ module _ (named known : List Version) (c : Command) where
   shown_over t x (inl e) = in_right named (with_stamp known t) x (let P : Version → Type 0 = λ y. y ∈ with_stamp known t in subst P (sym e) (with_new known t))
   shown_over t x (inr h) = either_of (in_either named known x h) (λ l. in_left named (with_stamp known t) x l) (λ k. in_right named (with_stamp known t) x (with_old known t x k))
 
--- ## What an outcome that leaves the register does to the stamps: nothing
+-- ## An outcome that leaves the register unchanged takes no stamp
 
 pub shown_quiet : (stamps S : List Version) (a : Reply) → ShowsOf stamps a → Has S (stamps_after a S)
 shown_quiet stamps S (Reply.Ok t) shown x h = absurd shown

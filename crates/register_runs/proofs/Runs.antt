@@ -36,7 +36,7 @@ map_some Q R f S Absent h = f S register.Absent h
 map_some Q R f S (Told s b) h = f S (Present s b) h
 map_some Q R f S (Untold b E) h = (h.0, h.1, h.2, f (h.0 ∷ S) (Present h.0 b) h.3)
 
--- the walk went over the first n calls of the order
+-- the walk passed the first n calls of the order
 pub record HasGone (calls : List Call) (answers : List Answer) (order : List ℕ) (walk : Walk) (n : ℕ) : Type 0 where
   pub same : IsRun calls answers order ↔ Goes calls answers walk.known walk.possible.items (drop n order)
   pub taken : AreTaken walk.known walk.possible.items

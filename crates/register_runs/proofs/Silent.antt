@@ -46,20 +46,20 @@ may_gives known named excluded t e =
 
 -- ## A step by its outcome
 
--- the reply is the printed one, where there is one
+-- the reply is the printed one, if there is one
 abbrev pub Tells : Option Reply → Reply → Type 0
 Tells None reply = Unit {0}
 Tells (Some told) reply = reply ≡ told
 
--- a step with this outcome, and what is true after it
+-- a step with this outcome, after which P holds
 abbrev pub StepTo : (List Version → Register → Type 0) → Option Reply → Outcome → List Version → Register → Type 0
 StepTo P told o stamps old = (reply : Reply) × (new : Register) × Tells told reply × Comes stamps old o reply new × P (stamps_after reply stamps) new
 
--- a step of the command, and what is true after it
+-- a step of the command, after which P holds
 abbrev pub Step : (List Version → Register → Type 0) → Option Reply → Command → List Version → Register → Type 0
 Step P told c stamps old = StepTo P told (outcome c old) stamps old
 
--- a list of possible registers has one for which this is true
+-- P holds of some register in the list
 abbrev pub Leaves : (List Version → Register → Type 0) → List Version → List Possible → Type 0
 Leaves P known list = (m : Possible) × (m ∈ list) × OfSome P (m.named ++ known) m.held
 
@@ -109,7 +109,7 @@ module _ (P : List Version → Register → Type 0) (fewer : (S T : List Version
   known_to (Keeps a) S held r hold h = hold (fewer (stamps_after a S) S r (after_old a S) (moved P S h.0 a h.1 r h.3.0 h.3.1 h.4))
   known_to (Writes content) S held r hold h = content_to content S h.3.0 h.3.2 (moved P S h.0 (Reply.Ok h.3.0) h.1 (written h.3.0 content) h.3.1 h.3.3 h.4)
 
-  -- a write under a stamp that is new
+  -- a write under a new stamp
   write_from : (content : Option (List ℕ)) (S : List Version) (r : Register) → OfSome P S (untold_content content) → StepTo P None (Writes content) S r
   write_from None S r h =
       let more = free S register.Absent h in
@@ -121,7 +121,7 @@ module _ (P : List Version → Register → Type 0) (fewer : (S T : List Version
   known_from (Keeps a) S held r quiet back h = (a, r, tt, (refl, refl), fewer S (stamps_after a S) r (quiet a refl) (back h))
   known_from (Writes content) S held r quiet back h = write_from content S r h
 
-  -- ## A value whose stamp is not known, and a command that does not look at it
+  -- ## A value under an unknown stamp, and a command that does not look at it
 
   unknown_to : (o : Outcome) (S E : List Version) (b : List ℕ) → OfSome (λ T r. StepTo P None o T r) S (Untold b E) → After o S (Untold b E)
   unknown_to (Keeps a) S E b h =
@@ -176,9 +176,9 @@ module _ (P : List Version → Register → Type 0) (fewer : (S T : List Version
   unknown_from (Keeps a) S E b blind h = (h.0, h.1, h.2, (a, Present h.0 b, tt, (refl, refl), fewer (h.0 ∷ S) (stamps_after a (h.0 ∷ S)) (Present h.0 b) (blind_same a (h.0 ∷ S) blind) h.3))
   unknown_from (Writes content) S E b blind h = unknown_write content S E b h
 
-  -- ## An update where the stamp is not known
+  -- ## An update of a value under an unknown stamp
 
-  -- a step of an update that looks for w, on a value with this stamp, by whether they are the same
+  -- a step of an update that asks for w, on a value with stamp u, by whether the two are equal
   abbrev UpdateStep : Option Reply → Bool → List ℕ → List Version → Version → List ℕ → Type 0
   UpdateStep told same new S u b = StepTo P told (if same then Writes (Some new) else Keeps Reply.Failed) (u ∷ S) (Present u b)
 

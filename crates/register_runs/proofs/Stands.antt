@@ -1,4 +1,4 @@
--- What stands in lists, and in lists of stamps.
+-- Membership in lists, and in lists of stamps.
 use Rattle.std.proofs.Common.{◌≡◌, ℕ, suc, ◌+◌, ◌<◌, Bool, true, false, List, [], ◌∷◌, ◌++◌, ◌⊎◌, inl, inr, refl, sym, ap, subst, ◌∙◌, arith}
 use Rattle.std.specs.Prelude.{if◌then◌else◌}
 use Rattle.std.proofs.lemmas.Bool.{false≢true, or_cases, or_left, or_right, and_parts}
@@ -54,7 +54,7 @@ version_itself a = grind (arith, nat_tests)
 pub same_of : (a b : Version) → a ≡ b → same_version a b ≡ true
 same_of a b e = let P : Version → Type 0 = λ c. same_version a c ≡ true in subst P e (version_itself a)
 
--- ## Whether a stamp stands in a list
+-- ## Whether a stamp is in a list
 
 pub has_in : (stamps : List Version) (x : Version) → has stamps x ≡ true → x ∈ stamps
 has_in [] x h = absurd (false≢true h)
@@ -111,7 +111,7 @@ new_in false stamps t e = in_right stamps (t ∷ []) t (inl refl)
 pub with_new : (stamps : List Version) (t : Version) → t ∈ with_stamp stamps t
 with_new stamps t = new_in (has stamps t) stamps t refl
 
--- ## A stamp that stands in no list
+-- ## A stamp that is in no list
 
 abbrev above : List Version → ℕ
 above [] = 0

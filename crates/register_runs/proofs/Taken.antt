@@ -1,4 +1,4 @@
--- The stamps that were told stay known.
+-- The stamps that were shown stay known.
 use Rattle.std.proofs.Common.{◌≡◌, ℕ, Bool, true, false, List, [], ◌∷◌, ◌++◌, inl, inr, refl, sym, subst, Option, None, Some}
 use Rattle.std.specs.Prelude.{if◌then◌else◌, not, ◌&&◌, fold}
 use Rattle.ens_base.specs.Lists.{◌∈◌, same_bytes}
@@ -93,7 +93,7 @@ answered_taken K N (Untold b E) c r m h there = left_told_taken c (verdict_on c 
 
 -- ## Whole lists
 
--- what stands in the list that a call leaves was left of one that stood in the list before
+-- an item of the list that a call leaves was left of an item of the list before
 made_by : (f : Possible → List Possible) (list : List Possible) (m : Possible) → m ∈ fold (λ d p. fold added d (f p)) [] list → (p : Possible) × (p ∈ list) × (m ∈ f p)
 made_by f list m there =
     let of = some_from (λ q. q ≡ m) f list (m, there, refl) in

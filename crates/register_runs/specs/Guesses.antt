@@ -1,7 +1,7 @@
 -- The registers that are possible after some calls, and what one more call leaves of them.
 --
--- `known` are the stamps that printed replies have told. A possible register names further stamps that
--- earlier steps must have had. A stamp that is told now is new where it is among neither.
+-- `known` are the stamps that printed replies have shown. A possible register names further stamps
+-- that earlier steps must have had. A stamp that is shown now is new if it is in neither list.
 use Rattle.std.specs.Prelude.{ℕ, Bool, true, false, ◌&&◌, not, if◌then◌else◌, fold, List, [], ◌∷◌, ◌++◌, Option, None, Some}
 use Rattle.std.specs.List.{list_any}
 use Rattle.ens_base.specs.Lists.{same_bytes}
@@ -20,7 +20,7 @@ use Rattle.register_runs.specs.declared.guess.Guess.{Guess}
 use Rattle.register_runs.specs.declared.guess.Guess.TheVariants.{Absent, Told, Untold}
 use Rattle.register_runs.specs.declared.guess.Possible.{Possible}
 
--- whether two replies are one
+-- whether two replies are equal
 abbrev pub same_reply : Reply → Reply → Bool
 same_reply (Reply.Value s b) (Reply.Value t c) = same_version s t && same_bytes b c
 same_reply Reply.NotFound Reply.NotFound = true
@@ -32,31 +32,31 @@ same_reply Reply.Lost Reply.Lost = true
 same_reply Reply.Timeout Reply.Timeout = true
 same_reply a b = false
 
--- what is held after a write under a stamp that its reply told
+-- what is held after a write whose reply showed this stamp
 abbrev pub told_content : Version → Option (List ℕ) → Guess
 told_content stamp None = Absent
 told_content stamp (Some bytes) = Told stamp bytes
 
--- what is held after a write under a stamp that nothing tells
+-- what is held after a write whose stamp is unknown
 abbrev pub untold_content : Option (List ℕ) → Guess
 untold_content None = Absent
 untold_content (Some bytes) = Untold bytes []
 
--- a stamp in the place of one that is not known, for what does not look at it
+-- a placeholder for an unknown stamp, for commands that do not look at it
 abbrev pub nowhere : Version
 nowhere = record { epoch = record { count = 0; proposer = 0 }; seq = 0 }
 
--- what a command comes to that does not look at a stamp that is not known
+-- the outcome of a command that does not look at an unknown stamp
 abbrev pub verdict_on : Command → Guess → Verdict
 verdict_on command Absent = verdict_of (outcome command Register.Absent)
 verdict_on command (Told stamp bytes) = verdict_of (outcome command (Register.Present stamp bytes))
 verdict_on command (Untold bytes excluded) = verdict_of (outcome command (Register.Present nowhere bytes))
 
--- no earlier step had this stamp, as far as is known
+-- as far as is known, no earlier step had this stamp
 abbrev pub is_new : List Version → List Version → Version → Bool
 is_new known named stamp = not (has known stamp) && not (has named stamp)
 
--- the stamp that is not known may be this one
+-- the unknown stamp may be this one
 abbrev pub may_be : List Version → List Version → List Version → Version → Bool
 may_be known named excluded stamp = is_new known named stamp && not (has excluded stamp)
 
@@ -65,7 +65,8 @@ abbrev pub left_untold : Verdict → Guess → List Version → List Possible
 left_untold (Answer answer) held named = record { held = held; named = named } ∷ []
 left_untold (Write content) held named = record { held = untold_content content; named = named } ∷ []
 
--- without a printed reply: an update where the stamp is not known is not done, or it is, and its stamp was the one
+-- without a printed reply: an update of a value whose stamp is unknown failed, or it took effect
+-- and the stamp was the wanted one
 abbrev pub update_untold : List Version → List Version → Version → List ℕ → List ℕ → List Version → List Possible
 update_untold known named wanted new bytes excluded =
     if may_be known named excluded wanted
@@ -78,7 +79,7 @@ silent known named (Untold bytes excluded) (Update wanted new) = update_untold k
 silent known named (Untold bytes excluded) Get = record { held = Untold bytes excluded; named = named } ∷ []
 silent known named held command = left_untold (verdict_on command held) held named
 
--- the printed reply tells the stamp of a write, which must be new
+-- the printed reply shows the stamp of a write, which must be new
 abbrev pub write_told : List Version → List Version → Option (List ℕ) → Reply → List Possible
 write_told known named content (Reply.Ok stamp) = if is_new known named stamp then record { held = told_content stamp content; named = named } ∷ [] else []
 write_told known named content reply = []
@@ -88,12 +89,13 @@ abbrev pub left_told : List Version → Verdict → Reply → Guess → List Ver
 left_told known (Answer answer) reply held named = if same_reply answer reply then record { held = held; named = named } ∷ [] else []
 left_told known (Write content) reply held named = write_told known named content reply
 
--- with a printed reply: a value shows the stamp
+-- with a printed reply: a read shows the unknown stamp
 abbrev pub get_told : List Version → List Version → Reply → List ℕ → List Version → List Possible
 get_told known named (Reply.Value stamp shown) bytes excluded = if same_bytes shown bytes && may_be known named excluded stamp then record { held = Told stamp bytes; named = named } ∷ [] else []
 get_told known named reply bytes excluded = []
 
--- with a printed reply: an update that was done shows the stamp, and one that failed excludes it
+-- with a printed reply: an update that took effect shows the unknown stamp, and one that failed
+-- rules out the wanted one
 abbrev pub update_told : List Version → List Version → Version → List ℕ → Reply → List ℕ → List Version → List Possible
 update_told known named wanted new (Reply.Ok stamp) bytes excluded = if may_be known named excluded wanted && (is_new known named stamp && not (same_version stamp wanted)) then record { held = Told stamp new; named = named } ∷ [] else []
 update_told known named wanted new Reply.Failed bytes excluded = record { held = Untold bytes (with_stamp excluded wanted); named = named } ∷ []
@@ -110,13 +112,14 @@ abbrev pub with_wanted : List Version → Command → List Version
 with_wanted known (Update wanted new) = with_stamp known wanted
 with_wanted known command = known
 
--- the stamps that are known after a printed reply
+-- the known stamps after a printed reply
 abbrev pub learned : List Version → Command → Reply → List Version
 learned known command (Reply.Ok stamp) = with_wanted (with_stamp known stamp) command
 learned known command (Reply.Value stamp bytes) = with_stamp known stamp
 learned known command reply = known
 
--- whatever may come after the second may come after the first, since it holds the same and fewer stamps are taken
+-- whatever may come after the second may come after the first, since it holds the same and fewer
+-- stamps are taken
 abbrev pub held_within : Guess → Guess → Bool
 held_within Absent Absent = true
 held_within (Told s b) (Told t c) = same_version s t && same_bytes b c
@@ -126,14 +129,14 @@ held_within a b = false
 abbrev pub covers : Possible → Possible → Bool
 covers p q = held_within p.held q.held && within p.named q.named
 
--- the list with one more, unless one in it covers that
+-- the list with one more register, unless one in it covers that
 abbrev pub added : List Possible → Possible → List Possible
 added done p = if list_any (λ q. covers q p) done then done else done ++ p ∷ []
 
--- what a call without a printed reply leaves of all that is possible
+-- what a call without a printed reply leaves of the possible registers
 abbrev pub all_silent : List Version → Command → List Possible → List Possible
 all_silent known command list = fold (λ done p. fold added done (silent known p.named p.held command)) [] list
 
--- what a call with this printed reply leaves of all that is possible
+-- what a call with this printed reply leaves of the possible registers
 abbrev pub all_answered : List Version → Command → Reply → List Possible → List Possible
 all_answered known command reply list = fold (λ done p. fold added done (answered known p.named p.held command reply)) [] list

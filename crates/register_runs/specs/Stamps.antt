@@ -4,11 +4,11 @@ use Rattle.std.specs.List.{list_any, list_all}
 use Rattle.ens_base.specs.Epochs.{same_version}
 use Rattle.ens_base.specs.declared.epoch.Version.{Version}
 
--- whether the stamp stands in the list
+-- whether the stamp is in the list
 abbrev pub has : List Version → Version → Bool
 has stamps stamp = list_any (λ s. same_version s stamp) stamps
 
--- whether each stamp of one list stands in the other
+-- whether each stamp of one list is in the other
 abbrev pub within : List Version → List Version → Bool
 within some all = list_all (λ s. has all s) some
 

@@ -5,10 +5,10 @@ use ens_base::CopyError;
 use key_commands::CommandError;
 use std::alloc::{AllocError, AllocFailed};
 
-/// Why an order was not tested: want of memory alone.
+/// Why an order was not tested.
 #[derive(Clone, Copy, Debug, PartialEq, Eq)]
 pub enum RunError {
-    /// Memory ran out.
+    /// Out of memory.
     Memory,
 }
 

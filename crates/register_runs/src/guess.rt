@@ -11,24 +11,24 @@ use std::alloc::Global;
 /// What the register may hold.
 #[derive(Debug, Drop)]
 pub enum Guess {
-    /// Nothing.
+    /// Nothing: the register is absent.
     Absent,
-    /// A value, under a stamp that a reply has told.
+    /// A value, under a stamp that a reply has shown.
     Told(Version, Value),
-    /// A value, under a stamp that nothing has shown yet, and that is none of these.
+    /// A value, under a stamp that nothing has shown yet and that is none of the listed ones.
     Untold(Value, Seq<Version>),
 }
 
-/// One register that is possible after the calls so far.
+/// A register that is possible after the calls so far.
 #[derive(Debug, Drop)]
 pub struct Possible {
     pub held: Guess,
-    /// The stamps that earlier writes must have had for this, although no reply has told them: an
-    /// update without a printed reply named them, and was done.
+    /// The stamps that earlier writes must have had for this register to be possible, although no
+    /// reply has shown them: an update without a printed reply named them, and took effect.
     pub named: Seq<Version>,
 }
 
-/// A copy of a list of stamps.
+/// Returns a copy of a list of stamps.
 pub fn copy_stamps(alloc: Global, stamps: &Seq<Version>) -> Result<Seq<Version>, RunError>
     ensures { IfOk result (λ s. s ≡ stamps.now) }
 {
@@ -36,7 +36,7 @@ pub fn copy_stamps(alloc: Global, stamps: &Seq<Version>) -> Result<Seq<Version>,
 }
 
 impl Guess {
-    /// What is held after a write under this stamp, which its reply told.
+    /// Returns what is held after a write whose reply showed this stamp.
     pub fn told(stamp: Version, content: Option<Value>) -> Guess
         ensures { result ≡ told_content stamp content }
     {
@@ -46,7 +46,7 @@ impl Guess {
         }
     }
 
-    /// What is held after a write under a stamp that nothing tells.
+    /// Returns what is held after a write whose stamp is unknown.
     pub fn untold(alloc: Global, content: Option<Value>) -> Guess
         ensures { result ≡ untold_content content }
     {
@@ -56,7 +56,7 @@ impl Guess {
         }
     }
 
-    /// An equal guess.
+    /// Returns a copy. Fails only when out of memory.
     pub fn copy(&self, alloc: Global) -> Result<Guess, RunError>
         ensures { IfOk result (λ g. g ≡ self.now) }
     {
@@ -70,7 +70,7 @@ impl Guess {
         }
     }
 
-    /// Whether it is this value under this stamp.
+    /// Returns whether this is the value under the stamp.
     fn is_told(&self, stamp: Version, value: &Value) -> bool
         ensures { result ≡ held_within (Told stamp value.now) self.now }
     {
@@ -81,7 +81,8 @@ impl Guess {
         }
     }
 
-    /// Whether it is this value under a stamp that is not known, and that is none of these.
+    /// Returns whether this is the value under an unknown stamp, with at least the stamps
+    /// `excluded` ruled out.
     fn is_untold(&self, value: &Value, excluded: &Seq<Version>) -> bool
         ensures { result ≡ held_within (Untold value.now excluded.now) self.now }
     {
@@ -93,7 +94,7 @@ impl Guess {
         }
     }
 
-    /// Whether it is nothing.
+    /// Returns whether this is the absent register.
     fn is_absent(&self) -> bool
         ensures { result ≡ held_within Absent self.now }
     {
@@ -104,7 +105,7 @@ impl Guess {
         }
     }
 
-    /// Whether it is the same as the other, but for stamps that the other excludes besides.
+    /// Returns whether the other guess is the same, except for further stamps that it rules out.
     fn is_within(&self, other: &Guess) -> bool
         ensures { result ≡ held_within self.now other.now }
     {
@@ -117,7 +118,8 @@ impl Guess {
 }
 
 impl Possible {
-    /// Whether all that may come after the other may come after this one.
+    /// Returns whether everything that may come after the other register may also come after this
+    /// one.
     fn covers(&self, other: &Possible) -> bool
         ensures { result ≡ covers self.now other.now }
     {
@@ -125,14 +127,14 @@ impl Possible {
     }
 }
 
-/// Whether a possible register in the list covers this one.
+/// Returns whether a possible register in the list covers this one.
 fn is_covered(list: &[Possible], possible: &Possible) -> bool
     ensures { result ≡ list_any (λ q. covers q possible.now) list.now }
 {
     list.iter().any(|kept| kept.covers(possible))
 }
 
-/// Puts a possible register at the end of the list, unless one in the list covers it.
+/// Appends a possible register to the list, unless one in the list covers it.
 pub fn add(list: &mut Vec<Possible>, possible: Possible) -> Result<(), RunError>
     ensures { OnOk result (list.new.items ≡ added list.old.items possible) }
 {

@@ -1,10 +1,10 @@
 //! The test whether an order of calls is a run of one register.
 //!
-//! `is_run` answers exactly `IsRun` of `register_model`. It walks the order once and keeps a list of
-//! what the register may hold. A write without a printed reply has a stamp that nothing has shown
-//! yet: such a stamp is kept as unknown, with the stamps that it is not, until a reply tells it. The
-//! list and its steps are defined in `specs/Guesses`, what they mean in `specs/Meanings`, and
-//! `docs/runs.md` says how long the list can grow.
+//! `is_run` decides exactly `IsRun` of `register_model`. It walks the order once and keeps a list
+//! of what the register may hold. A write without a printed reply has a stamp that nothing has
+//! shown yet. Such a stamp is kept as unknown, together with the stamps that it cannot be, until a
+//! reply shows it. `specs/Guesses` defines the list and its steps, `specs/Meanings` their meaning,
+//! and `docs/runs.md` says how long the list can grow.
 #![tactic(auto)]
 
 mod error;

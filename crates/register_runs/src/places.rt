@@ -12,14 +12,14 @@ use indexmap::{IndexMap, IndexSet};
 use register_model::{Answer, Call};
 use std::alloc::Global;
 
-/// Where ids stand in a list.
+/// The positions of ids in a list.
 #[derive(Drop)]
 pub struct Places {
     at: IndexMap<u64, usize>,
 }
 
 impl Places {
-    /// The places of these ids.
+    /// Finds the positions of these ids.
     pub fn of(alloc: Global, ids: &[u64]) -> Result<Places, RunError>
         ensures { IfOk result (λ p. ArePlaces (get nat_eq p.at) ids.now) }
     {
@@ -30,7 +30,7 @@ impl Places {
         Ok(Places { at })
     }
 
-    /// The place of an id.
+    /// Returns the position of an id.
     fn find(&self, id: u64) -> Option<usize>
         ensures { result ≡ get nat_eq self.now.at id }
     {
@@ -38,7 +38,7 @@ impl Places {
     }
 }
 
-/// The places of the calls, by their ids.
+/// Finds the positions of the calls, by their ids.
 pub fn places_of_calls(alloc: Global, calls: &[Call]) -> Result<Places, RunError>
     ensures { IfOk result (λ p. ArePlaces (get nat_eq p.at) (map (λ c. c.id) calls.now)) }
 {
@@ -46,7 +46,7 @@ pub fn places_of_calls(alloc: Global, calls: &[Call]) -> Result<Places, RunError
     Places::of(alloc, &ids)
 }
 
-/// The places of the answers, by the ids of their calls.
+/// Finds the positions of the answers, by the ids of their calls.
 pub fn places_of_answers(alloc: Global, answers: &[Answer]) -> Result<Places, RunError>
     ensures { IfOk result (λ p. ArePlaces (get nat_eq p.at) (map (λ a. a.id) answers.now)) }
 {
@@ -57,7 +57,7 @@ pub fn places_of_answers(alloc: Global, answers: &[Answer]) -> Result<Places, Ru
     Places::of(alloc, &ids)
 }
 
-/// The call that has this id.
+/// Returns the call with this id.
 pub fn call_of<'a>(calls: &'a [Call], places: &Places, id: u64) -> Option<&'a Call>
     requires { ArePlaces (get nat_eq places.now.at) (map (λ c. c.id) calls.now) }
     ensures found { IfSome result (λ c. (c.now ∈ calls.now) × (c.now.id ≡ id)) }
@@ -69,7 +69,7 @@ pub fn call_of<'a>(calls: &'a [Call], places: &Places, id: u64) -> Option<&'a Ca
     }
 }
 
-/// The reply of an answer that completes its call.
+/// Returns the reply of the answer, if it completes its call.
 fn done(answer: &Answer) -> Option<&Reply>
     ensures found { IfSome result (λ r. (r.now ≡ answer.now.reply) × IsDone answer.now.reply) }
     ensures none { IfNone result (¬ (IsDone answer.now.reply)) }
@@ -86,7 +86,7 @@ fn done(answer: &Answer) -> Option<&Reply>
     }
 }
 
-/// The printed reply that completed the call with this id.
+/// Returns the printed reply that completed the call with this id.
 pub fn reply_of<'a>(answers: &'a [Answer], places: &Places, id: u64) -> Option<&'a Reply>
     requires places { ArePlaces (get nat_eq places.now.at) (map (λ a. a.id) answers.now) }
     requires once { AreDistinct (map (λ a. a.id) answers.now) }
@@ -102,7 +102,7 @@ pub fn reply_of<'a>(answers: &'a [Answer], places: &Places, id: u64) -> Option<&
     }
 }
 
-/// Whether no id stands twice.
+/// Returns whether no id occurs twice.
 pub fn are_distinct(alloc: Global, ids: &[u64]) -> Result<bool, RunError>
     ensures { IfOk result (λ b. IsTrue b ↔ AreDistinct ids.now) }
 {

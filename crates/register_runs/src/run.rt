@@ -8,11 +8,13 @@ use crate::walk::Walk;
 use register_model::{Answer, Call};
 use std::alloc::Global;
 
-/// Whether the calls with these ids, in this order, are a run of one register that is absent at first:
-/// each is a step by the register's definition, with the reply of its answer where that completed the
-/// call (a value, not found, ok or failed), and with some reply otherwise.
+/// Returns whether the calls with these ids, in this order, are a run of one register that is
+/// absent at first. Each call must be a step by the definition of the register: with the reply of
+/// its answer, if that completed the call (a value, not found, ok or failed), and otherwise with
+/// any reply.
 ///
-/// The calls have distinct ids, and each has one answer at most. An id that no call has is in no run.
+/// The calls must have distinct ids, and each at most one answer. An id that no call has is in no
+/// run. Fails only when out of memory.
 pub fn is_run(
     alloc: Global,
     calls: &[Call],

@@ -7,7 +7,7 @@ use indexmap::IndexSet;
 use std::alloc::Global;
 use std::marker::Model;
 
-/// A set of stamps. Contracts see the list of them, in the order in which they came.
+/// A set of stamps. Contracts see the list of them, in the order in which they were added.
 #[derive(Drop)]
 pub struct Stamps {
     set: IndexSet<Version>,
@@ -23,7 +23,7 @@ impl Model for Stamps {
 }
 
 impl Stamps {
-    /// No stamps.
+    /// Makes an empty set.
     pub fn new(alloc: Global) -> Stamps
         ensures { result ≡ [] }
     {
@@ -32,14 +32,14 @@ impl Stamps {
         }
     }
 
-    /// Whether the stamp is among them.
+    /// Returns whether the set contains the stamp.
     pub fn has(&self, stamp: Version) -> bool
         ensures { result ≡ has self.now stamp }
     {
         self.set.contains(&stamp)
     }
 
-    /// Puts the stamp among them.
+    /// Adds the stamp, unless the set contains it.
     pub fn add(&mut self, stamp: Version) -> Result<(), RunError>
         ensures { OnOk result (self.new ≡ with_stamp self.old stamp) }
     {
@@ -48,14 +48,14 @@ impl Stamps {
     }
 }
 
-/// Whether the stamp is among these.
+/// Returns whether the stamp is in the list.
 pub fn has(stamps: &[Version], stamp: Version) -> bool
     ensures { result ≡ has stamps.now stamp }
 {
     stamps.contains(&stamp)
 }
 
-/// Whether each of some stamps is among all of these.
+/// Returns whether each stamp of `some` is in `all`.
 pub fn within(some: &[Version], all: &[Version]) -> bool
     ensures { result ≡ within some.now all.now }
 {

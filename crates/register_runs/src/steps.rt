@@ -10,7 +10,7 @@ use ens_base::{Command, Epoch, Reply, Seq, Value, Version};
 use key_commands::{Verdict, on_absent, on_present};
 use std::alloc::Global;
 
-/// A stamp in the place of one that is not known, for commands that do not look at it.
+/// A placeholder for an unknown stamp, for commands that do not look at it.
 const NOWHERE: Version = Version {
     epoch: Epoch {
         count: 0,
@@ -19,28 +19,28 @@ const NOWHERE: Version = Version {
     seq: 0,
 };
 
-/// Whether the replies are one.
+/// Returns whether two replies are equal.
 fn same_reply(a: &Reply, b: &Reply) -> bool
     ensures { result ≡ same_reply a.now b.now }
 {
     a == b
 }
 
-/// Whether no earlier step had this stamp, as far as is known.
+/// Returns whether, as far as is known, no earlier step had this stamp.
 fn is_new(known: &Stamps, named: &Seq<Version>, stamp: Version) -> bool
     ensures { result ≡ is_new known.now named.now stamp }
 {
     !known.has(stamp) && !has(named.as_slice(), stamp)
 }
 
-/// Whether a stamp that is not known may be this one.
+/// Returns whether an unknown stamp may be this one.
 fn may_be(known: &Stamps, named: &Seq<Version>, excluded: &Seq<Version>, stamp: Version) -> bool
     ensures { result ≡ may_be known.now named.now excluded.now stamp }
 {
     is_new(known, named, stamp) && !has(excluded.as_slice(), stamp)
 }
 
-/// The stamps, and this one.
+/// Returns the stamps with this one appended.
 fn and_stamp(alloc: Global, stamps: &Seq<Version>, stamp: Version) -> Result<Seq<Version>, RunError>
     ensures { IfOk result (λ s. s ≡ stamps.now ++ stamp ∷ []) }
 {
@@ -49,7 +49,7 @@ fn and_stamp(alloc: Global, stamps: &Seq<Version>, stamp: Version) -> Result<Seq
     Ok(more)
 }
 
-/// What a command comes to that does not look at a stamp that is not known.
+/// Returns the outcome of a command that does not look at an unknown stamp.
 fn verdict_on(alloc: Global, command: &Command, held: &Guess) -> Result<Verdict, RunError>
     ensures { IfOk result (λ v. v ≡ verdict_on command.now held.now) }
 {
@@ -60,7 +60,7 @@ fn verdict_on(alloc: Global, command: &Command, held: &Guess) -> Result<Verdict,
     }
 }
 
-/// The register stays as it is.
+/// Adds the register as it was.
 fn stays(
     alloc: Global,
     held: &Guess,
@@ -93,7 +93,8 @@ fn left_untold(
     }
 }
 
-/// An update where the stamp is not known: it is not done, or it is, and the stamp was the wanted one.
+/// Adds the outcomes of an update without a printed reply, on a value whose stamp is unknown: it
+/// failed, or it took effect and the stamp was the wanted one.
 fn update_untold(
     alloc: Global,
     known: &Stamps,
@@ -124,7 +125,7 @@ fn update_untold(
     add(next, done)
 }
 
-/// What a command without a printed reply leaves of one possible register.
+/// Adds what a command without a printed reply leaves of one possible register.
 fn silent(
     alloc: Global,
     known: &Stamps,
@@ -158,7 +159,7 @@ fn silent(
     }
 }
 
-/// The same, of a command that does not look at a stamp that is not known.
+/// Does the same for a command that does not look at an unknown stamp.
 fn silent_plain(
     alloc: Global,
     command: &Command,
@@ -171,7 +172,7 @@ fn silent_plain(
     left_untold(alloc, verdict, &possible.held, &possible.named, next)
 }
 
-/// A write whose reply is printed: it tells the stamp, which must be new.
+/// Adds the outcome of a write with a printed reply: it shows the stamp, which must be new.
 fn write_told(
     alloc: Global,
     known: &Stamps,
@@ -218,7 +219,7 @@ fn left_told(
     }
 }
 
-/// A read of a value whose stamp is not known: the printed value shows it.
+/// Adds the outcome of a read of a value whose stamp is unknown: the printed reply shows it.
 fn get_told(
     alloc: Global,
     known: &Stamps,
@@ -243,7 +244,7 @@ fn get_told(
     }
 }
 
-/// The stamps, with this one among them.
+/// Returns the stamps with this one among them.
 fn with_stamp(
     alloc: Global,
     stamps: &Seq<Version>,
@@ -257,8 +258,8 @@ fn with_stamp(
     and_stamp(alloc, stamps, stamp)
 }
 
-/// An update of a value whose stamp is not known: where it was done that was the wanted one, and where
-/// it failed it was not.
+/// Adds the outcome of an update of a value whose stamp is unknown: if it took effect, the stamp
+/// was the wanted one, and if it failed, it was not.
 fn update_told(
     alloc: Global,
     known: &Stamps,
@@ -294,7 +295,7 @@ fn update_told(
     }
 }
 
-/// What a command with this printed reply leaves of one possible register.
+/// Adds what a command with this printed reply leaves of one possible register.
 fn answered(
     alloc: Global,
     known: &Stamps,
@@ -329,7 +330,7 @@ fn answered(
     }
 }
 
-/// The same, of a command that does not look at a stamp that is not known.
+/// Does the same for a command that does not look at an unknown stamp.
 fn answered_plain(
     alloc: Global,
     known: &Stamps,
@@ -344,7 +345,7 @@ fn answered_plain(
     left_told(alloc, known, verdict, reply, possible, next)
 }
 
-/// What a call without a printed reply leaves of all that is possible.
+/// Returns what a call without a printed reply leaves of the possible registers.
 pub fn all_silent(
     alloc: Global,
     known: &Stamps,
@@ -360,7 +361,7 @@ pub fn all_silent(
     Ok(next)
 }
 
-/// What a call with this printed reply leaves of all that is possible.
+/// Returns what a call with this printed reply leaves of the possible registers.
 pub fn all_answered(
     alloc: Global,
     known: &Stamps,
@@ -377,7 +378,7 @@ pub fn all_answered(
     Ok(next)
 }
 
-/// Takes note of the stamps that a printed reply tells.
+/// Notes the stamps that a printed reply shows.
 pub fn learn(known: &mut Stamps, command: &Command, reply: &Reply) -> Result<(), RunError>
     ensures { OnOk result (known.new ≡ learned known.old command.now reply.now) }
 {
@@ -391,7 +392,7 @@ pub fn learn(known: &mut Stamps, command: &Command, reply: &Reply) -> Result<(),
     }
 }
 
-/// Takes note of the stamp that an update found.
+/// Notes the stamp that an update found.
 fn learn_wanted(known: &mut Stamps, command: &Command) -> Result<(), RunError>
     ensures { OnOk result (known.new ≡ with_wanted known.old command.now) }
 {

@@ -9,17 +9,17 @@ use crate::steps::{all_answered, all_silent, learn};
 use ens_base::{Command, Reply, Seq};
 use std::alloc::Global;
 
-/// A walk along an order of calls: what the register may hold after those that it went over.
+/// A walk along an order of calls: what the register may hold after the calls passed so far.
 #[derive(Drop)]
 pub struct Walk {
-    /// The stamps that printed replies have told.
+    /// The stamps that printed replies have shown.
     pub known: Stamps,
-    /// The registers that are possible.
+    /// The possible registers.
     pub possible: Vec<Possible>,
 }
 
 impl Walk {
-    /// Before the first call the register is absent.
+    /// Begins before the first call, where the register is absent.
     pub fn new(alloc: Global) -> Result<Walk, RunError>
         ensures { IfOk result (λ w. (w.known ≡ []) × (w.possible.items ≡ record { held = Absent; named = [] } ∷ [])) }
     {
@@ -35,7 +35,7 @@ impl Walk {
         })
     }
 
-    /// Goes over a call without a printed reply.
+    /// Passes a call without a printed reply.
     fn pass_silent(&mut self, alloc: Global, command: &Command) -> Result<(), RunError>
         ensures { OnOk result (PassesSilent self.old command.now self.new) }
     {
@@ -43,7 +43,7 @@ impl Walk {
         Ok(())
     }
 
-    /// Goes over a call with this printed reply.
+    /// Passes a call with this printed reply.
     fn pass_answered(
         &mut self,
         alloc: Global,
@@ -56,7 +56,7 @@ impl Walk {
         learn(&mut self.known, command, reply)
     }
 
-    /// Goes over the next call of the order, which has this printed reply, or none.
+    /// Passes the next call of the order, with its printed reply if it has one.
     pub fn pass(
         &mut self,
         alloc: Global,
