@@ -1,4 +1,4 @@
--- Epochs and versions, and their numbers.
+-- The numbers of epochs and versions.
 use Rattle.std.proofs.Common.{◌≡◌, ℕ, suc, ◌+◌, ◌-◌, ◌*◌, ◌/◌, ◌%◌, ◌^◌, ◌<◌, ◌⊎◌, arith, Bool, true, false, eqb, inl, inr, refl, ap}
 use Rattle.std.specs.Prelude.{◌↔◌}
 use Rattle.std.proofs.lemmas.Bool.Decides.{nat_tests}

@@ -1,4 +1,4 @@
--- The book of an ensemble: events and times, what was called, what was answered, what leaders noted.
+-- The book of an ensemble: events and times, calls, answers, and the notes of leaders.
 use Rattle.std.specs.Prelude.{◌≡◌, ℕ, ◌+◌, ◌-◌, ◌<◌, ◌/◌, ◌%◌, ◌^◌, Bool, true, false, nat_le, List, [], ◌∷◌, ◌++◌, ◌==◌, ◌⊎◌, Option, None, Some, if◌then◌else◌}
 use Rattle.ens_base.specs.declared.epoch.Version.{Version}
 use Rattle.ens_base.specs.declared.command.Command.TheVariants.{Get}
@@ -15,40 +15,40 @@ use Rattle.joint_views.specs.Quorums.{is_quorum}
 use Rattle.abstract_protocol.specs.Ledger.{put, is_established}
 use Rattle.abstract_protocol.specs.Objects.{Objects, IsUntouched, IsNewest, IsHeard}
 
--- the version that has this rank
+-- the version with this rank
 unfoldable pub version_of : ℕ → Version
 version_of v = record { epoch = record { count = (v - 1) / 2 ^ 64 / 2 ^ 32; proposer = (v - 1) / 2 ^ 64 % 2 ^ 32 }; seq = (v - 1) % 2 ^ 64 }
 
--- the version that has this rank; none for 0
+-- the version with this rank, or none for 0
 abbrev pub version_or_none : ℕ → Option Version
 version_or_none v = if v == 0 then None else Some (version_of v)
 
--- a noted read: the call saw the base, in this epoch
+-- a noted read: the base that the call read, and the epoch in which it did
 pub record Seen : Type 0 where
   pub key : List ℕ
   pub base : ℕ
   pub epoch : ℕ
   pub event : ℕ
 
--- what is known of events, calls, notes and answers
+-- what is recorded of events, calls, notes and answers
 pub record Book : Type 0 where
-  pub now : ℕ  -- the number of the event
-  pub elected_at : ℕ → ℕ  -- of each elected epoch, the event
-  pub proposed_at : ℕ → ℕ  -- of each proposed version, the event
-  pub settled_at : ℕ → ℕ  -- of each settled version, the event
-  pub stamp : ℕ → Version  -- of the object of each proposed version
-  pub content : ℕ → Option (List ℕ)  -- of the object of each proposed version, none for a tombstone
-  pub call : ℕ → Option ℕ  -- of each proposed version, the call that it is the write of, none for a rewrite
+  pub now : ℕ  -- the number of the current event
+  pub elected_at : ℕ → ℕ  -- for each elected epoch, the event of its election
+  pub proposed_at : ℕ → ℕ  -- for each proposed version, the event of its proposal
+  pub settled_at : ℕ → ℕ  -- for each settled version, the event at which it was settled
+  pub stamp : ℕ → Version  -- for each proposed version, the stamp of its object
+  pub content : ℕ → Option (List ℕ)  -- for each proposed version, the content of its object; none for a tombstone
+  pub call : ℕ → Option ℕ  -- for each proposed version, the call that it is the write of; none for a rewrite
   pub called : ℕ → Bool
-  pub asked : ℕ → Call  -- of each id that was called
+  pub asked : ℕ → Call  -- for each id that was called
   pub stood : ℕ → ℕ → ℕ  -- stood i q: the ballot of peer q when call i came
   pub answered : ℕ → Bool
-  pub answer : ℕ → Answer  -- of each id that was answered
-  pub noted : ℕ → Bool  -- of each id, whether a read of it was noted
-  pub seen : ℕ → Seen  -- of each noted id
+  pub answer : ℕ → Answer  -- for each id that was answered
+  pub noted : ℕ → Bool  -- for each id, whether a read of it was noted
+  pub seen : ℕ → Seen  -- for each noted id
   pub calls : List Call
   pub answers : List Answer
-  pub notes : List Note  -- in their order
+  pub notes : List Note  -- in order
 
 -- the book before the first step: empty
 abbrev pub opening_book : Book
@@ -72,15 +72,15 @@ opening_book = record {
   notes = [];
 }
 
--- the register that a version leaves: absent for none, and for a tombstone
+-- the register that a version leaves: absent for none and for a tombstone
 abbrev pub register_at : Book → ℕ → Register
 register_at b v = if v == 0 then Absent else written (b.stamp v) (b.content v)
 
--- some version was proposed for the call
+-- version v was proposed for call i
 abbrev pub Wrote : Objects → Book → ℕ → ℕ → Type 0
 Wrote o b i v = (o.proposed v ≡ true) × (b.call v ≡ Some i)
 
--- neither a version was proposed for the call nor a read of it noted, and it was not refused
+-- the call came, no version was proposed for it, no read of it was noted, and it was not refused
 pub record IsOpenCall (o : Objects) (b : Book) (i : ℕ) : Type 0 where
   pub called : b.called i ≡ true
   pub not_written : (v : ℕ) → Wrote o b i v → ⊥
@@ -89,7 +89,7 @@ pub record IsOpenCall (o : Objects) (b : Book) (i : ℕ) : Type 0 where
 
 -- ## Steps
 
--- the call comes, at an event of its own
+-- the call comes, at a new event
 abbrev pub take_call : Book → (ℕ → ℕ) → Call → Book
 take_call b ballots c = record b {
   now = b.now + 1;
@@ -99,7 +99,7 @@ take_call b ballots c = record b {
   calls = c ∷ b.calls;
 }
 
--- the object of a proposed version, and for which call it is
+-- a version is proposed with this object, for this call
 abbrev pub note_proposal : Book → ℕ → List ℕ → ℕ → Version → Option (List ℕ) → Option ℕ → Book
 note_proposal b v k u stamp content call = record b {
   proposed_at = put b.proposed_at v b.now;
@@ -113,7 +113,7 @@ note_proposal b v k u stamp content call = record b {
 abbrev pub note_settled : Book → List ℕ → ℕ → Book
 note_settled b k v = record b { settled_at = put b.settled_at v b.now; notes = b.notes ++ Settled k (version_of v) ∷ [] }
 
--- what a call read, in which epoch
+-- the call read this base, in this epoch
 abbrev pub note_read : Book → ℕ → List ℕ → ℕ → ℕ → Book
 note_read b i k u d = record b {
   noted = put b.noted i true;
@@ -129,14 +129,15 @@ give_answer b i r = record b {
   answers = record { id = i; event = b.now; reply = r } ∷ b.answers;
 }
 
--- ## When each may be taken
+-- ## Guards
 
--- a call has an id of its own, and the number of its event
+-- a call has a new id, and the number of its event
 pub record MayCall (b : Book) (c : Call) : Type 0 where
   pub fresh : b.called c.id ≡ false
   pub event : c.event ≡ b.now + 1
 
--- a write of a call has its own version as stamp, and what the command writes on the register of its parent
+-- a write of a call has its own version as stamp, and the content that the command writes on the
+-- register of its parent
 pub record MayWriteFor (o : Objects) (b : Book) (v : ℕ) (k : List ℕ) (u : ℕ) (stamp : Version) (content : Option (List ℕ)) (i : ℕ) : Type 0 where
   pub waiting : IsOpenCall o b i
   pub on_key : (b.asked i).key ≡ k
@@ -154,7 +155,7 @@ abbrev pub MayNoteProposal : Objects → Book → ℕ → List ℕ → ℕ → V
 MayNoteProposal o b v k u stamp content None = MayRewrite b u stamp content
 MayNoteProposal o b v k u stamp content (Some i) = MayWriteFor o b v k u stamp content i
 
--- whether the peer stood at the epoch or below when the call came
+-- whether the peer's ballot was at most the epoch when the call came
 abbrev pub stood_below : Book → ℕ → ℕ → ℕ → Bool
 stood_below b i d q = nat_le (b.stood i q) d
 
@@ -164,7 +165,9 @@ pub record IsAbsentHere (o : Objects) (d : ℕ) (k : List ℕ) (u : ℕ) : Type 
   pub untouched : IsUntouched o d k
   pub heard : IsHeard o d k u
 
--- a read is noted by the leader of an established epoch that was elected before the call, after a quorum stood there since the call; its base is the settled version of that epoch or none, and the command keeps the register
+-- a read is noted in an established epoch that was elected before the call came, if a quorum's
+-- ballots were then at that epoch or below; its base is the newest version of the key in the epoch,
+-- which is settled, or none; and the command leaves the register unchanged
 pub record MayNoteRead (o : Objects) (b : Book) (i : ℕ) (k : List ℕ) (u d : ℕ) : Type 0 where
   pub waiting : IsOpenCall o b i
   pub on_key : (b.asked i).key ≡ k
@@ -176,19 +179,20 @@ pub record MayNoteRead (o : Objects) (b : Book) (i : ℕ) (k : List ℕ) (u d : 
   pub reply : Reply
   pub keeps : outcome (b.asked i).command (register_at b u) ≡ Keeps reply
 
--- a settled write of the call, answered by its version
+-- the reply is that of a settled write of the call
 pub record IsWriteReply (o : Objects) (b : Book) (i : ℕ) (r : Reply) : Type 0 where
   pub version : ℕ
   pub wrote : Wrote o b i version
   pub settled : o.settled version ≡ true
   pub reply : r ≡ Reply.Ok (version_of version)
 
--- a noted read of the call, answered by what the command keeps
+-- the reply is what the command returns on the base of a noted read of the call
 pub record IsReadReply (b : Book) (i : ℕ) (r : Reply) : Type 0 where
   pub noted : b.noted i ≡ true
   pub keeps : outcome (b.asked i).command (register_at b (b.seen i).base) ≡ Keeps r
 
--- each call is answered once: a completed one by its settled write or its noted read, a refused one has neither write nor read
+-- each call is answered once: a completed one by its settled write or its noted read, and a refused
+-- one only if it has neither
 pub record MayAnswer (o : Objects) (b : Book) (i : ℕ) (r : Reply) : Type 0 where
   pub called : b.called i ≡ true
   pub fresh : b.answered i ≡ false

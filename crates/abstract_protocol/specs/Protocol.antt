@@ -1,4 +1,4 @@
--- The abstract protocol: its state, its steps, when each step may come, and its runs.
+-- The abstract protocol: its state, its steps, their guards, and its runs.
 use Rattle.std.specs.Prelude.{ℕ, ◌+◌, ◌<◌, ◌≤◌, true, false, List, [], ◌∷◌, length, Option}
 use Rattle.ens_base.specs.declared.epoch.Version.{Version}
 use Rattle.ens_base.specs.declared.reply.Reply.{Reply}
@@ -12,31 +12,31 @@ pub record State : Type 0 where
   pub objects : Objects
   pub book : Book
 
--- the steps; what each needs stands in MayDo and MayNote
+-- the steps; their guards are MayDo and MayNote
 pub data Step : Type 0 where
   Begin : Step  -- the next event begins
   Ask : (call : Call) → Step  -- the next event begins, with this call
   Raise : (peer ballot : ℕ) → Step  -- the peer promises the ballot, or prepares it
   Elect : (epoch : ℕ) (base : Place) → Step  -- the epoch's leader has the promises of a quorum of the base's views
-  Accept : (peer epoch : ℕ) → Step  -- the peer accepts the epoch at once
+  Accept : (peer epoch : ℕ) → Step  -- the peer accepts the epoch without a sync
   Commit : (epoch : ℕ) (change : Change) → Step  -- the epoch's leader changes the views
   Adopt : (peer epoch : ℕ) → Step  -- the peer accepts the change
   Write : (peer version : ℕ) → Step  -- the peer's tree takes the version
   Acknowledge : (peer version : ℕ) → Step  -- the peer acknowledges the version
-  Install : (peer epoch : ℕ) (merged : Map) → Step  -- the peer's tree becomes what a sync at the epoch merged
-  EndSync : (peer epoch : ℕ) → Step  -- the peer accepts the epoch by the end of a sync, and trusts its tree
+  Install : (peer epoch : ℕ) (merged : Map) → Step  -- the peer's tree becomes the merged map of a sync at the epoch
+  EndSync : (peer epoch : ℕ) → Step  -- the peer accepts the epoch by ending a sync, and trusts its tree
   Propose : (version : ℕ) (key : List ℕ) (parent : ℕ) (stamp : Version) (content : Option (List ℕ)) (call : Option ℕ) → Step  -- an epoch's leader proposes a version, for a call or as a rewrite
   Settle : (version : ℕ) → Step  -- the leader notes that a quorum acknowledged the version
   Note : (id : ℕ) (key : List ℕ) (base epoch : ℕ) → Step  -- the epoch's leader notes what the call read
   Answer : (id : ℕ) (reply : Reply) → Step  -- the call is answered
-  Lose : (peer : ℕ) → Step  -- the peer stops, or met damage, and does not trust its tree any more
-  Revert : (peer : ℕ) (tree : Map) → Step  -- the peer's tree is put back whole
+  Lose : (peer : ℕ) → Step  -- the peer stops, or finds damage, and no longer trusts its tree
+  Revert : (peer : ℕ) (tree : Map) → Step  -- the peer's tree is reverted as a whole
 
 -- the state before the first step
 abbrev pub opening : List ℕ → State
 opening view = record { objects = opening_objects view; book = opening_book }
 
--- what a step does to the ledger, to versions and to trees
+-- the effect of a step on the ledger, the versions and the trees
 abbrev pub objects_after : Objects → Step → Objects
 objects_after o (Raise p d) = record o { ledger = raise o.ledger p d; floor = floor_after o p }
 objects_after o (Elect d b) = record o { ledger = elect o.ledger d b }
@@ -53,7 +53,7 @@ objects_after o (Lose p) = record o { trusted = put o.trusted p false }
 objects_after o (Revert p tree) = record o { visible = put o.visible p tree; reverted = put o.reverted p true }
 objects_after o step = o
 
--- what a step does to the book
+-- the effect of a step on the book
 abbrev pub book_after : Objects → Book → Step → Book
 book_after o b Begin = record b { now = b.now + 1 }
 book_after o b (Ask c) = take_call b o.ledger.ballot c
@@ -68,7 +68,7 @@ book_after o b step = b
 abbrev pub happens : State → Step → State
 happens s step = record { objects = objects_after s.objects step; book = book_after s.objects s.book step }
 
--- what a step has to find in the ledger, in versions and in trees
+-- the guard of a step on the ledger, the versions and the trees
 abbrev pub MayDo : Objects → Step → Type 0
 MayDo o (Raise p d) = o.ledger.ballot p ≤ d
 MayDo o (Elect d base) = MayElect o.ledger d base
@@ -84,7 +84,7 @@ MayDo o (Settle v) = MaySettle o v
 MayDo o (Revert p tree) = MayRevert o p tree
 MayDo o step = Unit {0}
 
--- what a step has to find in the book
+-- the guard of a step on the book
 abbrev pub MayNote : Objects → Book → Step → Type 0
 MayNote o b (Ask c) = MayCall b c
 MayNote o b (Propose v k u stamp content call) = MayNoteProposal o b v k u stamp content call
@@ -92,16 +92,16 @@ MayNote o b (Note i k u d) = MayNoteRead o b i k u d
 MayNote o b (Answer i r) = MayAnswer o b i r
 MayNote o b step = Unit {0}
 
--- the step may come next
+-- the guards of the step are met
 abbrev pub MayCome : State → Step → Type 0
 MayCome s step = MayDo s.objects step × MayNote s.objects s.book step
 
--- the state after these steps from the opening, the last of them first
+-- the state after these steps from the opening, given newest first
 abbrev pub state_after : List ℕ → List Step → State
 state_after view [] = opening view
 state_after view (step ∷ steps) = happens (state_after view steps) step
 
--- the opening view has a member, and each of the steps might come when it did
+-- the opening view has a member, and the guards of each step were met when it came
 abbrev pub IsRun : List ℕ → List Step → Type 0
 IsRun view [] = 0 < length view
 IsRun view (step ∷ steps) = IsRun view steps × MayCome (state_after view steps) step

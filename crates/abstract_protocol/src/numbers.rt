@@ -7,8 +7,8 @@ ghost use Rattle.abstract_protocol.specs.Numbers.{epoch_number, IsEpoch, IsVersi
 ghost use Rattle.abstract_protocol.specs.Objects.{epoch_of};
 ghost use Rattle.abstract_protocol.specs.Book.{version_of};
 
-/// The order of epochs is that of their numbers, and the order of versions that of their ranks; number
-/// and rank tell epoch and version; and the epoch of a rank is the number of its version's epoch.
+/// Epochs are ordered as their numbers, and versions as their ranks. Number and rank determine
+/// epoch and version. The epoch of a rank is the number of its version's epoch.
 pub fn numbers_tell()
     ensures epochs { (a b : Epoch) → IsEpoch a → IsEpoch b → (IsEpochBelow a b ↔ (epoch_number a < epoch_number b)) }
     ensures versions { (a b : Version) → IsVersion a → IsVersion b → (IsVersionBelow a b ↔ (rank a < rank b)) }
