@@ -1,4 +1,4 @@
--- The laws of elections, read off the plain facts in one state. No step is spoken of here.
+-- The laws of elections in one state, derived from the plain facts. No step is mentioned here.
 use Rattle.std.proofs.Common.{◌≡◌, ℕ, zero, ◌<◌, ◌≤◌, Bool, true, false, ◌⊎◌, List, [], ◌∷◌, length, arith, subst, refl, inl, inr, sym, suc, ◌∙◌, le_trans}
 use Rattle.std.proofs.lemmas.Bool.Decides.{nat_tests}
 use Rattle.std.proofs.lemmas.Bool.{true≢false, cases_order}
@@ -21,7 +21,7 @@ strong P step d = below P step (suc d) d (omega arith)
 pub not_both : {b : Bool} → b ≡ true → b ≡ false → ⊥
 not_both t f = true≢false (sym t ∙ f)
 
--- ## A list of views and the list that a change makes of it
+-- ## A list of views, and the list after a change
 
 pub shares_change : (c : Change) (vs : List (List ℕ)) → 0 < length vs → SharesView (changed_views c vs) vs
 shares_change c [] h = absurd (omega arith)
@@ -117,7 +117,7 @@ module _ (l : Ledger) (sound : Sound l) where
   abbrev Listed : ℕ → Type 0
   Listed a = l.elected a ≡ true → 0 < a → (n : ℕ) → IsLastOpen l a n → Follows l a n
 
-  -- a's list, where its base b is not the last open epoch n
+  -- the list of a, if its base b is not the last open epoch n
   follows_through : (a b n : ℕ) → Follows l a b → IsClosed l b → Follows l b n → Follows l a n
   follows_through a b n (inl p) c (inl q) = inl (p ∙ q)
   follows_through a b n (inl p) c (inr q) = inr (q.0, p ∙ q.1)
@@ -133,7 +133,7 @@ module _ (l : Ledger) (sound : Sound l) where
       let follows : Follows l a b = rw same at (follows_base a e z) in
       follows_through a b n follows (i.last b m low listed) ((before b low).1 listed (omega arith) n (lower_last a b n i low m))
 
-  -- a quorum of views that share one with a's has passed a by
+  -- a quorum of views that share one with those of a has passed a by
   closed_by : (a d : ℕ) → (e : l.elected d ≡ true) (z : 0 < d) → a < d → (l.base d).epoch < a → SharesView (l.views (l.base d).epoch) (l.views a) → IsClosed l a
   closed_by a d e z m low shares = by_cases (is_quorum (may_accept l a) (l.views a)) refl
     where
@@ -178,7 +178,7 @@ module _ (l : Ledger) (sound : Sound l) where
   pub completeness : Completeness l
   completeness d a e ea z m = completeness_by d a e ea z m (cases_order (l.base d).epoch a)
 
-  -- an open epoch is no greater than the base
+  -- an open epoch is at most the base
   pub open_below_base : (d a : ℕ) → l.elected d ≡ true → l.elected a ≡ true → a < d → IsOpen l a → a ≤ (l.base d).epoch
   open_below_base d a e ea m o = by_order (cases_order (l.base d).epoch a)
     where

@@ -1,4 +1,4 @@
--- A ballot is prepared by its proposer alone, and once.
+-- A ballot is prepared only by its proposer, and at most once.
 use Rattle.std.proofs.Common.{◌≡◌, ℕ, ◌+◌, ◌<◌, ◌≤◌, true, List, [], ◌∷◌, ◌==◌, ◌&&◌, nat_lt, cond, arith, refl}
 use Rattle.std.proofs.lemmas.Bool.{false≢true}
 use Rattle.std.proofs.lemmas.Bool.Decides.{nat_tests}
@@ -34,7 +34,7 @@ prepared_alone l (Answer i r) d h = absurd (false≢true h)
 prepared_alone l (Lose p) d h = absurd (false≢true h)
 prepared_alone l (Revert p m) d h = absurd (false≢true h)
 
--- not prepared while the proposer is below it, and not again once it is there
+-- not prepared while the proposer's ballot is below it, and not again once it is there
 raise_once : (f : ℕ → ℕ) (q d p e n : ℕ) → f p ≤ e → ((f q < d → n ≡ 0) × (n ≤ 1)) → (put f p e q < d → cond ((d == e) && (p == q) && nat_lt (f p) d) (n + 1) n ≡ 0) × (cond ((d == e) && (p == q) && nat_lt (f p) d) (n + 1) n ≤ 1)
 raise_once f q d p e n may old = grind (arith, nat_tests)
 

@@ -1,4 +1,4 @@
--- What each step keeps of the ledger: the plain facts from which the laws of elections are read off.
+-- What each step preserves of the ledger: the plain facts from which the laws of elections follow.
 use Rattle.std.proofs.Common.{◌≡◌, ℕ, ◌<◌, ◌≤◌, Bool, true, false, List, [], ◌∷◌, length, eqb, eqb-true, arith, subst, refl, inl, inr}
 use Rattle.std.proofs.lemmas.Bool.Decides.{nat_tests}
 use Rattle.std.proofs.lemmas.Bool.{eqb-false, false≢true}
@@ -9,7 +9,7 @@ use Rattle.abstract_protocol.specs.Objects.{Objects}
 use Rattle.election_laws.specs.Elections.{Follows}
 use Rattle.abstract_protocol.specs.Protocol.{Step, Begin, Ask, Raise, Elect, Accept, Commit, Adopt, Write, Acknowledge, Install, EndSync, Propose, Settle, Note, Answer, Lose, Revert, objects_after, MayDo, state_after, IsRun}
 
--- how an epoch was elected: who voted for it, and whose views it goes on from
+-- how an epoch was elected: who voted for it, and which epoch's views it inherits
 pub record Election (l : Ledger) (d : ℕ) : Type 0 where
   pub voters : ℕ → Bool
   pub low : (l.base d).epoch < d
@@ -47,7 +47,7 @@ pub record Sound (l : Ledger) : Type 0 where
   pub leaders : Leaders l
   pub elections : (d : ℕ) → l.elected d ≡ true → 0 < d → Election l d
 
--- ## Established epochs stay so
+-- ## Established epochs stay established
 
 pub accept_established : (l : Ledger) (p e d : ℕ) → is_established l d ≡ true → is_established (accept l p e) d ≡ true
 accept_established l p e d h = quorum_more (l.accepted d) ((accept l p e).accepted d) (λ q a. grind (arith, nat_tests)) (l.views d) h
@@ -119,7 +119,7 @@ commit_election l d c may a old = record {
   numbered = old.numbered;
 }
 
--- the elections of old, after an election
+-- the earlier elections, after an election
 elect_follows : (l : Ledger) (d : ℕ) (b : Place) → MayElect l d b → (a x : ℕ) → (d ≡ a → ⊥) → l.elected x ≡ true → Follows l a x → Follows (elect l d b) a x
 elect_follows l d b may a x ne ex (inl p) = inl (grind (arith, nat_tests, may.fresh))
 elect_follows l d b may a x ne ex (inr p) = inr (p.0, grind (arith, nat_tests, may.fresh))
@@ -130,7 +130,7 @@ elect_other l d b may a ne old = same_base (put l.base d b a) (grind (arith, nat
     same_base : (x : Place) → l.base a ≡ x → Election (elect l d b) a
     same_base x e = grind (arith, nat_tests, elect_follows l d b may a)
 
--- the election that the step is
+-- the election made by the step
 base_follows : (l : Ledger) (b : Place) → IsFact l b → (d : ℕ) → l.elected d ≡ false → b.epoch < d → Follows (elect l d b) d b.epoch
 base_follows l b (inl p) d f h = inl (grind (arith, nat_tests))
 base_follows l b (inr (inl p)) d f h = inl (grind (arith, nat_tests))
@@ -146,7 +146,7 @@ elect_elections l d b may sound a e z = by_cases (eqb d a) refl
     by_cases true t = subst (Election (elect l d b)) (eqb-true d a t) (elect_here l d b may)
     by_cases false t = elect_other l d b may a (eqb-false d a t) (sound.elections a (rw t at e) z)
 
--- ## Each step keeps them
+-- ## Each step preserves them
 
 raise_sound : (l : Ledger) (p d : ℕ) → l.ballot p ≤ d → Sound l → Sound (raise l p d)
 raise_sound l p d may old = record { beginning = assumption; peers = raise_peers l p d may old.peers; leaders = assumption; elections = λ a e z. raise_election l p d may a (old.elections a e z) }

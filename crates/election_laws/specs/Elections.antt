@@ -1,4 +1,4 @@
--- What holds of the elections in each state of a run.
+-- The laws of elections in each state of a run.
 use Rattle.std.specs.Prelude.{◌≡◌, ℕ, ◌+◌, ◌<◌, ◌≤◌, Bool, true, false, ◌||◌, nat_le, ◌⊎◌, List, [], ◌∷◌, ◌==◌, cond}
 use Rattle.joint_views.specs.Quorums.{is_majority, is_quorum, SharesView, MissesEveryQuorum}
 use Rattle.abstract_protocol.specs.Ledger.{Ledger, IsAtMost, changed_views, is_established}
@@ -16,20 +16,21 @@ IsClosed l a = is_quorum (may_accept l a) (l.views a) ≡ false
 abbrev pub IsOpen : Ledger → ℕ → Type 0
 IsOpen l a = is_quorum (may_accept l a) (l.views a) ≡ true
 
--- a peer accepts at its ballot or below, and its last fact is one that it accepted, and the latest
+-- a peer accepts at its ballot or below; its last fact is the latest that it accepted
 pub record Ballots (l : Ledger) : Type 0 where
   pub kept : (q : ℕ) → (l.fact q).epoch ≤ l.ballot q
   pub accepted : (q d : ℕ) → l.accepted d q ≡ true → d ≤ (l.fact q).epoch
   pub last : (q : ℕ) → l.accepted (l.fact q).epoch q ≡ true
   pub last_change : (q : ℕ) → (l.fact q).seq ≡ 2 → l.adopted (l.fact q).epoch q ≡ true
 
--- peers accept elected epochs alone, and changes of established ones
+-- peers accept only elected epochs, and only changes of established ones
 pub record Facts (l : Ledger) : Type 0 where
   pub first : (q d : ℕ) → l.accepted d q ≡ true → l.elected d ≡ true
   pub second : (q d : ℕ) → l.adopted d q ≡ true → (l.changed d ≡ true) × (l.accepted d q ≡ true)
   pub established : (d : ℕ) → l.changed d ≡ true → is_established l d ≡ true
 
--- the base of an elected epoch is at least the first fact of each lower elected epoch that is not closed
+-- the base of an elected epoch is at least the first fact of each lower elected epoch that is not
+-- closed
 abbrev pub Completeness : Ledger → Type 0
 Completeness l = (d a : ℕ) → l.elected d ≡ true → l.elected a ≡ true → 0 < a → a < d → IsAtMost (record { epoch = a; seq = 1 }) (l.base d) ⊎ IsClosed l a
 
@@ -44,7 +45,7 @@ pub record IsLastOpen (l : Ledger) (d b : ℕ) : Type 0 where
 abbrev pub Follows : Ledger → ℕ → ℕ → Type 0
 Follows l d b = (l.views d ≡ l.views b) ⊎ ((l.changed b ≡ true) × (l.views d ≡ changed_views (l.change b) (l.views b)))
 
--- the views of an epoch come from the last open epoch below it, and share a view with its views
+-- the views of an epoch come from the last open epoch below it, and share a view with that one's
 pub record HasList (l : Ledger) (d : ℕ) : Type 0 where
   pub from : ℕ
   pub is_last : IsLastOpen l d from
@@ -55,7 +56,7 @@ pub record HasList (l : Ledger) (d : ℕ) : Type 0 where
 abbrev pub Lists : Ledger → Type 0
 Lists l = (d : ℕ) → 0 < d → l.elected d ≡ true → HasList l d
 
--- a quorum of the epoch's views whose ballots are all above it
+-- a quorum of the epoch's views with ballots above it
 pub record IsBlocked (l : Ledger) (a : ℕ) : Type 0 where
   pub peers : ℕ → Bool
   pub quorum : is_quorum peers (l.views a) ≡ true
@@ -65,19 +66,20 @@ pub record IsBlocked (l : Ledger) (a : ℕ) : Type 0 where
 abbrev pub Blocked : Ledger → Type 0
 Blocked l = (d a : ℕ) → l.elected d ≡ true → l.elected a ≡ true → a < d → IsOpen l a → IsBlocked l a
 
--- in an established joint epoch a majority of the new view accepted by the end of a sync
+-- in an established joint epoch a majority of the new view accepted by ending a sync
 abbrev pub Joined : Ledger → Type 0
 Joined l = (d : ℕ) (view old : List ℕ) → is_established l d ≡ true → l.views d ≡ view ∷ old ∷ [] → is_majority (l.synced d) view ≡ true
 
--- closed in the other form: each quorum has a member whose ballot is above the epoch, and which never accepted it
+-- closed, stated differently: each quorum has a member whose ballot is above the epoch and which
+-- never accepted it
 abbrev pub ClosedByQuorums : Ledger → Type 0
 ClosedByQuorums l = (a : ℕ) → IsClosed l a → MissesEveryQuorum (may_accept l a) (l.views a)
 
--- an established epoch is the base, or below the base, of each greater elected epoch
+-- an established epoch is the base of each greater elected epoch, or below the base
 abbrev pub EstablishedIsKept : Ledger → Type 0
 EstablishedIsKept l = (d a : ℕ) → l.elected d ≡ true → l.elected a ≡ true → a < d → is_established l a ≡ true → a ≤ (l.base d).epoch
 
--- what the elections of a state keep
+-- the laws of elections in a state
 pub record ElectionsAreSafe (l : Ledger) : Type 0 where
   pub ballots : Ballots l
   pub facts : Facts l
@@ -87,13 +89,13 @@ pub record ElectionsAreSafe (l : Ledger) : Type 0 where
   pub closed : ClosedByQuorums l
   pub kept : EstablishedIsKept l
 
--- how often the epoch was elected among the steps
+-- how many of the steps elected the epoch
 abbrev pub times_elected : ℕ → List Step → ℕ
 times_elected d [] = 0
 times_elected d (Elect e base ∷ steps) = cond (d == e) 1 0 + times_elected d steps
 times_elected d (step ∷ steps) = times_elected d steps
 
--- what stays from one state to the next
+-- what is preserved from one state to the next
 pub record Stays (l m : Ledger) : Type 0 where
   pub ballot : (q : ℕ) → l.ballot q ≤ m.ballot q
   pub elected : (d : ℕ) → l.elected d ≡ true → m.elected d ≡ true

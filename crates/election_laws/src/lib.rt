@@ -1,11 +1,9 @@
-//! What holds of the elections in each run of the abstract protocol.
+//! The laws of elections, which hold in each run of the abstract protocol.
 //!
-//! An epoch is elected once; its base is at least each lower epoch that a quorum accepted or still may;
-//! its views share a view with those of the last such epoch, whatever changes of views lie between, and
-//! also where it is elected late, below a greater one. The definitions stand in `specs/Elections`.
-//!
-//! A ballot is prepared by its proposer alone, and once. The abstract protocol has no step for preparing;
-//! `specs/Preparing` says which of its steps prepare a ballot.
+//! An epoch is elected at most once. Its base is at least each lower epoch that a quorum accepted
+//! or still may accept. Its views share a view with those of the last such epoch, whatever changes
+//! of views lie between, and even if it is elected late, below a greater one. The definitions stand
+//! in `specs/Elections`.
 #![tactic(auto)]
 
 mod ballots;

@@ -1,4 +1,4 @@
--- What each step keeps of calls, writes, reads and answers.
+-- What each step preserves of calls, writes, reads and answers.
 use Rattle.std.proofs.Common.{◌≡◌, ℕ, ◌<◌, ◌≤◌, Bool, true, false, ◌⊎◌, List, Option, None, Some, arith, ap, refl, inl, inr, sym, ◌∙◌, subst, le_trans}
 use Rattle.std.proofs.lemmas.Bool.{cases_eq}
 use Rattle.ens_base.specs.declared.epoch.Version.{Version}

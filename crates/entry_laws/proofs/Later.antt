@@ -1,4 +1,4 @@
--- What holds of a state and the one after a step, as far as versions, calls and times go.
+-- How a state and the one after a step are related: versions, calls and times.
 use Rattle.std.proofs.Common.{◌≡◌, ℕ, ◌<◌, ◌≤◌, Bool, true, false, List, Option, None, Some, arith, ap, refl, inl, inr, sym, ◌∙◌, subst}
 use Rattle.std.proofs.lemmas.Bool.Decides.{nat_tests}
 use Rattle.ens_base.specs.declared.epoch.Version.{Version}
@@ -86,7 +86,7 @@ elections_step s (Revert p m) may = elections_same s (happens s (Revert p m)) (s
 
 -- ## Versions
 
--- a step that proposes and settles nothing
+-- a step that neither proposes nor settles a version
 pub record NoVersions (s t : State) : Type 0 where
   pub proposed : t.objects.proposed ≡ s.objects.proposed
   pub key : t.objects.key ≡ s.objects.key
@@ -119,7 +119,7 @@ versions_same s t kept dead = record {
   settled_at = λ v h. ap (λ (f : ℕ → ℕ). f v) kept.settled_at;
 }
 
--- the version that is proposed is none of the old ones
+-- the proposed version is not an old one
 other : (o : Objects) (x : ℕ) (k : List ℕ) (u : ℕ) → MayPropose o x k u → (v : ℕ) → IsOld o v → x ≡ v → ⊥
 other o x k u may v (inl z) e = zero_not x may.led (e ∙ z)
 other o x k u may v (inr p) e = not_both p (rw (← e) may.fresh)

@@ -1,4 +1,5 @@
--- What each step keeps of answers and of what was elected before a call; and all entries of the book in each run.
+-- What each step preserves of answers and of the epochs elected before a call; and the laws of all
+-- entries in each run.
 use Rattle.std.proofs.Common.{◌≡◌, ℕ, ◌<◌, ◌≤◌, Bool, true, false, ◌⊎◌, List, [], ◌∷◌, arith, ap, refl, inl, inr, sym, ◌∙◌, subst, le_trans}
 use Rattle.std.specs.Prelude.{nat_lt}
 use Rattle.std.proofs.lemmas.Bool.Decides.{nat_tests}

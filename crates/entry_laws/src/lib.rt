@@ -1,9 +1,9 @@
-//! What holds of calls, writes, reads and answers in each run of the abstract protocol.
+//! The laws of calls, writes, reads and answers, which hold in each run of the abstract protocol.
 //!
-//! Each write is what its command makes of its parent's register; each noted read saw the greatest
-//! version of its epoch, settled, or nothing, and then no living version was below; each completed answer
-//! is by a settled write or a noted read, and a refused call has neither. The definitions stand in
-//! `specs/Entries`.
+//! Each write is the outcome of its command on its parent's register. Each noted read saw the
+//! greatest version of its epoch, which is settled, or nothing, in which case each version of a
+//! lower epoch is dead. Each completed answer comes from a settled write or a noted read, and a
+//! refused call has neither. The definitions stand in `specs/Entries`.
 #![tactic(auto)]
 
 mod book;

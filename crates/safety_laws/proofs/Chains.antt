@@ -1,4 +1,4 @@
--- The chain of the settled versions of a key, as the notes tell it.
+-- The chain of the settled versions of a key, as the notes give it.
 use Rattle.std.proofs.Common.{◌≡◌, ℕ, zero, suc, ◌<◌, ◌≤◌, Bool, true, false, ◌&&◌, ◌⊎◌, List, [], ◌∷◌, ◌++◌, Option, eqb, eqb-true, eq-eqb, arith, ap, refl, inl, inr, sym, ◌∙◌, subst, le_trans, max}
 use Rattle.std.proofs.lemmas.Bool.Decides.{nat_tests}
 use Rattle.std.proofs.lemmas.Bool.{cases_order, eqb-false, and_parts}
@@ -40,7 +40,7 @@ module _ (s : State) (basics : Basics s.objects) (k : List ℕ) where
       by_parent (inl z) = inl z
       by_parent (inr p) = inr (p, basics.same_key v g.0 p ∙ g.1)
 
-  -- ## What the notes tell of one version
+  -- ## What the notes say of one version
 
   lower_is : (p v : ℕ) → p < v → lower_or_none p v ≡ p
   lower_is p v h = grind (arith, nat_tests)

@@ -66,9 +66,9 @@ module _ (s : State) (w : Whole s.objects) (entries : EntriesAreSafe s) (listed 
       by_order (inr (inl l)) = lower kept.base l
       by_order (inr (inr l)) = absurd (higher l)
 
-  -- ## No call that began after a completed call was answered stands before it
+  -- ## No call that began after a completed call was answered comes before it
 
-  -- where i is answered before the call of j
+  -- i is answered before the call of j
   module _ (i j : ℕ) (a : Given) (is_answer : a ∈ s.book.answers) (id : a.id ≡ i) (is_done : IsDone a.reply) (called : s.book.called j ≡ true) (early : a.event < (s.book.asked j).event) (in_order_i : i ∈ order s.book.notes k) (in_order_j : j ∈ order s.book.notes k) where
     done : IsByWrite s i a ⊎ IsByRead s i (s.book.seen i) a
     done = done_of s w entries listed k i a is_answer id is_done
@@ -100,7 +100,7 @@ module _ (s : State) (w : Whole s.objects) (entries : EntriesAreSafe s) (listed 
         by_place_of (inr (u, h, inl a)) = subst (λ (y : ℕ). y ∈ settled_chain s.book.notes k) (entries.once.once u v x a wrote) h
         by_place_of (inr (u, h, inr r)) = absurd (entries.once.apart v x wrote r.noted)
 
-    -- j stands at version u, where a version v was settled before the call of j
+    -- j is placed at version u, and a version v was settled before the call of j
     not_below : (u v : ℕ) → Stands s j u → s.objects.settled v ≡ true → IsOf s k v → s.book.settled_at v ≤ a.event → u < v → ⊥
     not_below u v (inl wrote) hv gv at l = too_late (ancestor_at s w.basics k entries v u (inr gv) (version_is_of s w entries listed k u (of_write j u wrote in_order_j)) (chain_line s w entries listed k v u (settled_in_chain s w entries listed k v hv gv) (of_write j u wrote in_order_j) (less l)))
         ((entries.proposals u wrote.0).write j wrote.1).after (entries.settled v hv).after
@@ -118,7 +118,7 @@ module _ (s : State) (w : Whole s.objects) (entries : EntriesAreSafe s) (listed 
     no_zero_write : Wrote s.objects s.book j 0 → ⊥
     no_zero_write a = zero_not 0 (w.basics.led 0 a.0) refl
 
-    -- j is not before i
+    -- j does not come before i
     not_before : (u v : ℕ) → Stands s j u → Stands s i v → (u < v) ⊎ ((u ≡ v) × (s.book.noted i ≡ true) × (s.book.noted j ≡ true → (s.book.seen j).event ≤ (s.book.seen i).event)) → IsByWrite s i a ⊎ IsByRead s i (s.book.seen i) a → ⊥
     not_before u v sj si (inl l) (inl b) = not_below u v sj (subst (λ x. s.objects.settled x ≡ true) same b.settled) gv (subst (λ x. s.book.settled_at x ≤ a.event) same b.in_time) l
       where

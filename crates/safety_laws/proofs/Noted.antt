@@ -1,4 +1,4 @@
--- What the lists of the book have to do with its entries.
+-- How the lists of the book relate to its entries.
 use Rattle.std.proofs.Common.{◌≡◌, ℕ, ◌<◌, ◌≤◌, Bool, true, false, ◌⊎◌, List, [], ◌∷◌, ◌++◌, Option, arith, ap, refl, inl, inr, sym, ◌∙◌, subst}
 use Rattle.std.proofs.lemmas.Bool.{false≢true}
 use Rattle.ens_base.specs.Lists.{◌∈◌}
@@ -44,7 +44,7 @@ Holds s (Proposed k w parent call) = ProposedHolds s k (rank w) (rank_or_none pa
 Holds s (SettledNote k w) = SettledHolds s k (rank w)
 Holds s (Read i k base) = ReadHolds s i k (rank_or_none base)
 
--- of two notes of reads the second is of another call, and not of an earlier event
+-- of two notes of reads, the second is of another call and not of an earlier event
 abbrev pub Rises : State → Noted → Noted → Type 0
 Rises s n m = (i j : ℕ) (k l : List ℕ) (b c : Option Version) → n ≡ Read i k b → m ≡ Read j l c → (i ≡ j → ⊥) × ((s.book.seen i).event ≤ (s.book.seen j).event)
 
@@ -60,7 +60,7 @@ pub record Listed (s : State) : Type 0 where
   pub read_in : (i : ℕ) → s.book.noted i ≡ true → Read i (s.book.seen i).key (version_or_none (s.book.seen i).base) ∈ s.book.notes
   pub rises : Ordered (Rises s) s.book.notes
 
--- ## What a later state keeps
+-- ## What a later state preserves
 
 holds_later : (s t : State) → Later s t → Settled s.objects → (n : Noted) → Holds s n → Holds t n
 holds_later s t l settled (Proposed k w parent call) h = record {
@@ -83,7 +83,7 @@ rises_later s t l n m hn hm r i j k g b c e f =
     let p = r i j k g b c e f in
     (p.0, rw (l.calls.seen i (read_noted s i k b n e hn), l.calls.seen j (read_noted s j g c m f hm)) p.1)
 
--- the notes of a step that notes nothing
+-- the notes after a step that notes nothing
 kept_rises : (s t : State) → Later s t → Listed s → Ordered (Rises t) s.book.notes
 kept_rises s t l old = ordered_more (Rises s) (Rises t) s.book.notes (λ n m p q. rises_later s t l n m (old.holds n p) (old.holds m q)) old.rises
 
@@ -180,7 +180,7 @@ answer_listed s i r fresh l settled old = record {
     answer x (inl e) = subst (λ (y : Given). put s.book.answer i a y.id ≡ y) (sym e) (put_here s.book.answer i a)
     answer x (inr h) = put_other s.book.answer i a x.id (other x h) ∙ old.answer x h
 
--- a note that is no read rises from all
+-- a note that is not a read may follow any note
 not_read_rises : (t : State) (n m : Noted) → ((i : ℕ) (k : List ℕ) (b : Option Version) → m ≡ Read i k b → ⊥) → Rises t n m
 not_read_rises t n m never i j k l b c e f = absurd (never j l c f)
 

@@ -1,4 +1,4 @@
--- Lists: membership in joined lists, and lists in which each element is related to all behind it.
+-- Lists: membership in concatenations, and lists in which each item is related to all later ones.
 use Rattle.std.proofs.Common.{◌≡◌, ℕ, zero, suc, ◌<◌, ◌⊎◌, List, [], ◌∷◌, ◌++◌, Some, arith, refl, inl, inr, sym, subst}
 use Rattle.std.specs.Prelude.{slice_get}
 use Rattle.ens_base.specs.Lists.{◌∈◌, AreDistinct}
@@ -21,7 +21,7 @@ pub in_right : {A : Type 0} (xs ys : List A) (z : A) → z ∈ ys → z ∈ (xs 
 in_right [] ys z h = h
 in_right (x ∷ xs) ys z h = inr (in_right xs ys z h)
 
--- what holds of the new last element, and of each old one, holds of each
+-- what holds of the new last item, and of each old one, holds of each
 pub pushed_then : {A : Type 0} (xs : List A) (y : A) (P : A → Type 0) → P y → ((x : A) → x ∈ xs → P x) → (z : A) → z ∈ (xs ++ y ∷ []) → P z
 pushed_then xs y P here old z h = by_side (in_append xs (y ∷ []) z h)
   where
@@ -55,7 +55,7 @@ module _ {A : Type 0} (R : A → A → Type 0) where
   get_in (x ∷ xs) zero y e = inl (cc)
   get_in (x ∷ xs) (suc q) y e = inr (get_in xs q y e)
 
-  -- of two elements the one at the lower place is related to the other
+  -- of two items, the earlier one is related to the later one
   pub by_place : (xs : List A) → Ordered xs → (p q : ℕ) (x y : A) → slice_get xs p ≡ Some x → slice_get xs q ≡ Some y → p < q → R x y
   by_place [] o p q x y e f l = absurd (cc)
   by_place (z ∷ zs) o p zero x y e f l = absurd (omega arith)

@@ -1,4 +1,4 @@
--- Where each call stands in the order of a key, and that the order is the one of versions and of notes.
+-- Where each call is placed in the order of a key; the order follows versions and notes.
 use Rattle.std.proofs.Common.{◌≡◌, ℕ, zero, suc, ◌<◌, ◌≤◌, Bool, true, false, ◌&&◌, ◌⊎◌, List, [], ◌∷◌, ◌++◌, Option, None, Some, eqb, eqb-true, eq-eqb, arith, ap, refl, inl, inr, sym, ◌∙◌, subst}
 use Rattle.std.specs.Prelude.{if◌then◌else◌}
 use Rattle.std.proofs.lemmas.Bool.{cases_order, and_parts}
@@ -25,7 +25,8 @@ use Rattle.abstract_protocol.specs.Protocol.{State}
 abbrev pub Stands : State → ℕ → ℕ → Type 0
 Stands s i v = Wrote s.objects s.book i v ⊎ ((s.book.noted i ≡ true) × ((s.book.seen i).base ≡ v))
 
--- the first call stands at a lower version, or at the same and the second is a read that was noted no earlier
+-- the first call is placed at a lower version, or at the same one and the second is a read that was
+-- noted no earlier
 pub record Before (s : State) (i j : ℕ) : Type 0 where
   pub left : ℕ
   pub right : ℕ
@@ -97,7 +98,7 @@ module _ (s : State) (w : Whole s.objects) (entries : EntriesAreSafe s) (listed 
       by_order (inr (inl m)) = by_epoch m (cases_order (epoch_of v) (epoch_of x))
       by_order (inr (inr m)) = absurd (omega arith)
 
-  -- each settled version of the key stands in the chain
+  -- each settled version of the key is in the chain
   pub settled_in_chain : (v : ℕ) → s.objects.settled v ≡ true → IsOf s k v → v ∈ settled_chain s.book.notes k
   settled_in_chain v h g = subst (λ (l : List ℕ). v ∈ l) (sym versions_same) (by_settled newest_settled)
     where
@@ -163,7 +164,7 @@ module _ (s : State) (w : Whole s.objects) (entries : EntriesAreSafe s) (listed 
   reads_in (SettledNote l x ∷ ns) v i b (inl m) e = absurd (cc)
   reads_in (SettledNote l x ∷ ns) v i b (inr m) e = reads_in ns v i b m e
 
-  -- of two reads on one version, the second is another one and was noted no earlier
+  -- of two reads of one version, the second is of another call and was noted no earlier
   abbrev NotedBefore : ℕ → ℕ → Type 0
   NotedBefore i j = (i ≡ j → ⊥) × ((s.book.seen i).event ≤ (s.book.seen j).event)
 
@@ -186,7 +187,7 @@ module _ (s : State) (w : Whole s.objects) (entries : EntriesAreSafe s) (listed 
   pub noted_read : (v i : ℕ) → s.book.noted i ≡ true → (s.book.seen i).key ≡ k → (s.book.seen i).base ≡ v → i ∈ reads_on s.book.notes k v
   noted_read v i n e f = reads_in s.book.notes v i (version_or_none (s.book.seen i).base) (subst (λ (j : List ℕ). Read i j (version_or_none (s.book.seen i).base) ∈ s.book.notes) e (listed.read_in i n)) (rank-version_or_none (s.book.seen i).base ∙ f)
 
-  -- ## Where a call stands
+  -- ## Where a call is placed
 
   pub stands_once : (i u v : ℕ) → Stands s i u → Stands s i v → u ≡ v
   stands_once i u v (inl a) (inl b) = entries.once.once u v i a b
@@ -230,7 +231,7 @@ module _ (s : State) (w : Whole s.objects) (entries : EntriesAreSafe s) (listed 
   blocks_in (u ∷ vs) v i (inl e) p = in_left (block s.book.notes k u) (blocks s.book.notes k vs) i (subst (λ (x : ℕ). i ∈ block s.book.notes k x) e p)
   blocks_in (u ∷ vs) v i (inr h) p = in_right (block s.book.notes k u) (blocks s.book.notes k vs) i (blocks_in vs v i h p)
 
-  -- ## The order is one
+  -- ## The order is a linear order
 
   reads_before : (v : ℕ) → Ordered (Before s) (reads_on s.book.notes k v)
   reads_before v = ordered_more NotedBefore (Before s) (reads_on s.book.notes k v) before (reads_ordered s.book.notes v listed.rises)
@@ -281,7 +282,8 @@ module _ (s : State) (w : Whole s.objects) (entries : EntriesAreSafe s) (listed 
           let a = read_held 0 i p in
           lower_before 0 r.0 i j (positive s w.basics k r.0 g) (inr (a.noted, a.base)) (stands r.0 j (block_stands r.0 j g r.2))
 
-  -- a call of the order is a write of a version of the chain, or a read of one, or a read that saw nothing
+  -- a call of the order is a write of a version of the chain, a read of one, or a read that saw
+  -- nothing
   pub in_order : (i : ℕ) → i ∈ order s.book.notes k → ReadHolds s i k 0 ⊎ ((v : ℕ) × (v ∈ settled_chain s.book.notes k) × (Wrote s.objects s.book i v ⊎ ReadHolds s i k v))
   in_order i h = by_side (in_append (reads_on s.book.notes k 0) (blocks s.book.notes k (settled_chain s.book.notes k)) i h)
     where

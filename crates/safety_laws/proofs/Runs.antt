@@ -1,4 +1,4 @@
--- The order of a key is a run of one register that gives the printed replies.
+-- The order of a key is a run of one register with the printed replies.
 use Rattle.std.proofs.Common.{◌≡◌, ℕ, zero, suc, ◌<◌, ◌≤◌, Bool, true, false, ◌&&◌, ◌⊎◌, List, [], ◌∷◌, ◌++◌, append_assoc, Option, None, Some, eqb, eqb-true, eq-eqb, arith, ap, refl, inl, inr, sym, ◌∙◌, subst, le_trans}
 use Rattle.std.specs.Prelude.{if◌then◌else◌, nat_le, length, ◌+◌}
 use Rattle.std.proofs.lemmas.Bool.{and_parts}
@@ -27,7 +27,7 @@ use Rattle.abstract_protocol.specs.Book.{version_of, register_at, Wrote}
 use Rattle.entry_laws.specs.Entries.{WriteKeeps, RewriteKeeps, ReadKeeps, IsByWrite, IsByRead, AnswerKeeps}
 use Rattle.abstract_protocol.specs.Protocol.{State}
 
--- ## What keeps the register is no write
+-- ## An outcome that leaves the register unchanged is not a write
 
 abbrev IsNoWrite : Reply → Type 0
 IsNoWrite r = (stamps : List Version) → stamps_after r stamps ≡ stamps

@@ -1,9 +1,9 @@
-//! The end of the safety argument: in each run of the abstract protocol, for each key, the order that
-//! the leaders' notes tell is a legal history of its calls and answers.
+//! The conclusion of the safety argument: in each run of the abstract protocol, for each key, the
+//! order that follows from the leaders' notes is a legal history of its calls and answers.
 //!
-//! Legal is Herlihy and Wing's: `register_model` has it, with the order of the notes. The laws below it
-//! are given on here, so that the layers above need name this crate alone. The argument is told in
-//! `docs/safety.md`.
+//! A legal history is that of Herlihy and Wing (1990), as `register_model` defines it together with
+//! the order of the notes. The laws of the crates below are re-exported, so that the layers above
+//! need to name only this crate. `docs/safety.md` presents the argument.
 #![tactic(auto)]
 
 mod histories;

@@ -1,4 +1,4 @@
--- The plain facts on versions and syncs that each step keeps.
+-- The plain facts about versions and syncs that each step preserves.
 use Rattle.std.proofs.Common.{◌≡◌, ℕ, ◌<◌, ◌≤◌, Bool, true, false, ◌⊎◌, List, eqb, eqb-true, eq-eqb, arith, subst, refl, sym, ◌∙◌, inl, inr}
 use Rattle.std.proofs.lemmas.Bool.Decides.{nat_tests}
 use Rattle.std.proofs.lemmas.Bool.{false≢true}
@@ -25,7 +25,7 @@ pub record Settled (o : Objects) : Type 0 where
   pub quorum : (v : ℕ) → o.settled v ≡ true → is_quorum (o.settled_by v) (o.ledger.views (epoch_of v)) ≡ true
   pub acked : (v q : ℕ) → o.settled v ≡ true → o.settled_by v q ≡ true → o.acked v q ≡ true
 
--- what holds of the version just proposed, and of each old one, holds of each
+-- what holds of the new version, and of each old one, holds of each version
 pub proposed_then : (f : ℕ → Bool) (x : ℕ) (P : ℕ → Type 0) → P x → ((v : ℕ) → (x ≡ v → ⊥) → f v ≡ true → P v) → (v : ℕ) → put f x true v ≡ true → P v
 proposed_then f x P here old v h = by_cases (eqb x v) refl
   where

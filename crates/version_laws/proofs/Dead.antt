@@ -1,4 +1,4 @@
--- Dead versions stay dead, and what is proposed below an elected epoch is dead from the first.
+-- Dead versions stay dead, and a version proposed below an elected epoch is dead from the start.
 use Rattle.std.proofs.Common.{◌≡◌, ℕ, ◌<◌, ◌≤◌, Bool, true, false, arith, refl, List}
 use Rattle.std.proofs.lemmas.Bool.Decides.{nat_tests}
 use Rattle.joint_views.proofs.Majorities.{meet_of_quorums, quorum_less, quorum_more, shares_itself}
@@ -69,7 +69,7 @@ born_dead o v e sound unacked ev ee l = by_cases (is_quorum (may_accept o.ledger
     by_cases false p = closed_dead o v unacked p
     by_cases true p = blocked_dead o v sound unacked ev (blocked o.ledger sound e (epoch_of v) ee ev l p)
 
--- a version that is about to be proposed below an elected epoch is dead
+-- a version proposed below an elected epoch is dead
 pub new_dead : (o : Objects) (x : ℕ) (k : List ℕ) (u : ℕ) → MayPropose o x k u → Sound o.ledger → Basics o → (e : ℕ) → o.ledger.elected e ≡ true → epoch_of x < e → IsDead o x
 new_dead o x k u may sound basics e ee l = born_dead o x e sound not_acked may.elected ee l
   where

@@ -24,7 +24,7 @@ pub old_parent : (o : Objects) → Basics o → (v : ℕ) → IsOld o v → IsOl
 old_parent o basics v (inl e) = inl (rw e basics.no_parent)
 old_parent o basics v (inr p) = basics.parents v p
 
--- what a quorum showed has each lower version of the key that is not dead
+-- what a quorum showed is at least each lower version of the key that is not dead
 pub heard_has : (o : Objects) (d : ℕ) (k : List ℕ) (u : ℕ) → IsHeard o d k u → o.ledger.elected d ≡ true → Sound o.ledger → Basics o → KeptSince o → (y : ℕ) → o.proposed y ≡ true → o.key y ≡ k → epoch_of y < d → (y ≤ u) ⊎ IsDead o y
 heard_has o d k u b ed sound basics since y py ky l = by_found (found_from o sound basics since d y b.readers py ed l majority b.reached)
   where
@@ -61,7 +61,7 @@ module _ (o : Objects) (x : ℕ) (k : List ℕ) (u : ℕ) (may : MayPropose o x 
   key_here : put o.key x k x ≡ k
   key_here = grind (arith, nat_tests)
 
-  -- y stands in the chain of u, which has its key
+  -- y is in the chain of u, which has its key
   below_parent : (y : ℕ) → o.proposed u ≡ true → o.key u ≡ k → o.proposed y ≡ true → o.key y ≡ k → (y ≡ u) ⊎ ((y < u) ⊎ (u < y)) → y ≤ u → Descends (put o.parent x u) x y ⊎ IsDead o y
   below_parent y pu ku py ky (inl e) l = inl (rw e (from_parent u pu (itself u)))
   below_parent y pu ku py ky (inr (inr h)) l = absurd (omega arith)

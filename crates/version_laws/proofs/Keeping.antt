@@ -16,7 +16,7 @@ use Rattle.election_laws.specs.Elections.{may_accept, IsOpen}
 use Rattle.abstract_protocol.specs.Protocol.{Step, Begin, Ask, Raise, Elect, Accept, Commit, Adopt, Write, Acknowledge, Install, EndSync, Propose, Settle, Note, Answer, Lose, Revert, objects_after, MayDo}
 use Rattle.version_laws.specs.Versions.{may_acknowledge, IsDead, KeptBut, Kept, HasIt, Found}
 
--- what a peer that reached d had before, or by a sync in between, it has had since then
+-- what a peer that reached d had before, or got by a sync in between, it has had since then
 pub record SinceBut (o : Objects) (dead : ℕ → Type 0) : Type 0 where
   pub acked : (q v d : ℕ) → o.acked v q ≡ true → epoch_of v < d → d ≤ o.ledger.ballot q → (v ≤ o.floor q d (o.key v)) ⊎ dead v
   pub synced : (q v d e : ℕ) → o.proposed v ≡ true → o.ledger.synced e q ≡ true → epoch_of v < e → e < d → d ≤ o.ledger.ballot q → (v ≤ o.floor q d (o.key v)) ⊎ dead v
@@ -63,7 +63,7 @@ pub or_has : {A B C D : Type 0} → (A → B) → (C → D) → A ⊎ C → B �
 or_has g f (inl a) = inl (g a)
 or_has g f (inr b) = inr (f b)
 
--- more is dead
+-- more versions are dead
 aged : (o : Objects) (dead later : ℕ → Type 0) → Basics o → ((v : ℕ) → o.proposed v ≡ true → dead v → later v) → KeptBut o dead → KeptBut o later
 aged o dead later basics f k = record {
   acked = λ q v a. or_dead (f v (basics.acked_proposed v q a)) (k.acked q v a);
@@ -102,7 +102,7 @@ write_kept o p x dead may old = record {
   synced = λ q v e pv h l. or_has (λ h. le_trans h (write_rises o p x may q (o.key v))) (λ d. d) (old.synced q v e pv h l);
 }
 
--- the merged map has each version of a lower epoch, and the peer owes no other
+-- the merged map has each version of a lower epoch, and the peer must keep no other
 install_kept : (o : Objects) (p d : ℕ) (merged : Map) (dead : ℕ → Type 0) → ((v : ℕ) → o.proposed v ≡ true → epoch_of v < d → (v ≤ merged (o.key v)) ⊎ dead v) →
     ((v q : ℕ) → o.acked v q ≡ true → o.proposed v ≡ true) → ((v : ℕ) → o.acked v p ≡ true → epoch_of v < d) → ((e : ℕ) → o.ledger.synced e p ≡ true → e < d) → KeptBut o dead → KeptBut (objects_after o (Install p d merged)) dead
 install_kept o p d merged dead has acked_proposed acked_low synced_low old = record {
@@ -137,7 +137,7 @@ propose_since o x k u dead fresh basics sound born old = record {
   synced = λ q v d e pv h l m r. grind (arith, nat_tests, old.synced q v d e, sound.peers.ended q e h, sound.peers.first q e, born e);
 }
 
--- ### What the lemmas ask
+-- ### The premises of the lemmas
 
 -- a map that met a sync's majority has each version of a lower epoch
 pub sync_has : (o : Objects) (d : ℕ) (merged : Map) → IsSynced o d merged → o.ledger.elected d ≡ true → Sound o.ledger → Basics o → KeptSince o → (v : ℕ) → o.proposed v ≡ true → epoch_of v < d → (v ≤ merged (o.key v)) ⊎ IsDead o v
@@ -193,7 +193,7 @@ since_step o (Answer i r) may sound basics kept old = old
 since_step o (Lose p) may sound basics kept old = assumption
 since_step o (Revert p m) may sound basics kept old = assumption
 
--- what is dead stays dead, also where the step proposed it
+-- a dead version stays dead, even one that the step proposed
 dead_then : (o : Objects) (e : Step) → MayDo o e → Basics o → (v : ℕ) → (objects_after o e).proposed v ≡ true → IsDead o v → IsDead (objects_after o e) v
 dead_then o (Propose x k u s y c) may basics v pv dead = dead
 dead_then o Begin may basics v pv dead = dead

@@ -1,4 +1,4 @@
--- Maps with one entry set, and the part of a version that is its epoch.
+-- Maps with one entry set, and the epoch of a version.
 use Rattle.std.proofs.Common.{◌≡◌, ℕ, ◌<◌, ◌≤◌, Bool, true, false, List, eqb, eqb-true, arith, ap, subst, refl}
 use Rattle.std.proofs.lemmas.Bool.Decides.{nat_tests}
 use lib.Pointwise.{bytes_decides}

@@ -1,4 +1,4 @@
--- A majority whose members are sources is all that a sync asks.
+-- A sync asks for nothing more than a majority whose members are sources.
 use Rattle.std.proofs.Common.{◌≡◌, ℕ, Bool, true, false, ◌&&◌, ◌||◌, ◌⊎◌, List, [], ◌∷◌, eqb, eqb-true, eq-eqb, arith, refl, inl, inr}
 use Rattle.std.proofs.lemmas.Bool.{false≢true, and_parts}
 use Rattle.ens_base.specs.Lists.{◌∈◌}

@@ -1,4 +1,4 @@
--- What the trees of peers show, through each step; and what stays of versions.
+-- What the trees of peers show through each step, and what versions preserve.
 use Rattle.std.proofs.Common.{◌≡◌, ℕ, ◌<◌, ◌≤◌, Bool, true, false, ◌⊎◌, List, [], ◌∷◌, eqb, eqb-true, arith, ap, refl, inl, inr, sym, ◌∙◌, subst, le_trans}
 use Rattle.std.proofs.lemmas.Bool.Decides.{nat_tests}
 use Rattle.std.proofs.lemmas.Bool.{cases_order}
@@ -22,7 +22,7 @@ genuine_higher : (o : Objects) (d e : ℕ) (k : List ℕ) (v : ℕ) → d ≤ e 
 genuine_higher o d e k v l (inl z) = inl z
 genuine_higher o d e k v l (inr g) = inr (g.0, g.1, le_trans g.2 l)
 
--- a peer's new map is genuine, and the others' are as before
+-- a peer's new map is genuine, and the others are unchanged
 put_map : (o : Objects) (f : ℕ → Map) (p : ℕ) (m : Map) → ((k : List ℕ) → IsGenuine o (o.ledger.ballot p) k (m k)) → ((q : ℕ) (k : List ℕ) → IsGenuine o (o.ledger.ballot q) k (f q k)) → (q : ℕ) (k : List ℕ) → IsGenuine o (o.ledger.ballot q) k (put f p m q k)
 put_map o f p m here old q k = by_peer (eqb p q) refl
   where
@@ -262,7 +262,7 @@ run_versions view steps run =
       settled = λ v h. record { proposed = w.settled.proposed v h; quorum = w.settled.quorum v h; acked = λ q a. w.settled.acked v q h a; alive = settled_alive o v w.settled h };
     }
 
--- ## What stays
+-- ## What is preserved
 
 same_stay : (o : Objects) (e : Step) → MayDo o e → Basics o → (objects_after o e).proposed ≡ o.proposed → (objects_after o e).key ≡ o.key → (objects_after o e).parent ≡ o.parent → (objects_after o e).settled ≡ o.settled → VersionsStay o (objects_after o e)
 same_stay o e may basics p k u h = record {

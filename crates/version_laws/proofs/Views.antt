@@ -12,7 +12,7 @@ use Rattle.election_laws.specs.Elections.{IsOpen, IsLastOpen, Follows}
 abbrev pub IsShort : List (List ℕ) → Type 0
 IsShort vs = length vs ≤ 2
 
--- what a change makes of the last view: nothing, but that Drop leaves the first of two
+-- a change leaves the last view as it was, except that Drop leaves the first of two
 last_after : (c : Change) (vs : List (List ℕ)) → (last_view (changed_views c vs) ≡ last_view vs) ⊎ ((u : List ℕ) × (v : List ℕ) × (vs ≡ u ∷ v ∷ []) × (last_view (changed_views c vs) ≡ u))
 last_after (Add u) [] = inl refl
 last_after (Add u) (v ∷ []) = inl refl
@@ -27,7 +27,7 @@ last_view_in [] h = absurd (omega arith)
 last_view_in (v ∷ []) h = inl refl
 last_view_in (u ∷ v ∷ vs) h = inr (inl refl)
 
--- the view came in by an established joint epoch
+-- the view was introduced by an established joint epoch
 pub record CameIn (l : Ledger) (a d : ℕ) (u : List ℕ) : Type 0 where
   pub epoch : ℕ
   pub above : a < epoch
@@ -47,7 +47,7 @@ module _ (l : Ledger) (sound : Sound l) (a : ℕ) (ea : l.elected a ≡ true) (o
   came_later c d u m (inl h) = inl h
   came_later c d u m (inr o) = inr (record { epoch = o.epoch; above = o.above; below = omega (arith, o.below); established = o.established; old = o.old; joint = o.joint })
 
-  -- c is the last open epoch below d, and a is no greater
+  -- c is the last open epoch below d, and a is at most c
   from_last : (d c : ℕ) → c < d → l.elected c ≡ true → (a < c → Origin l a c (last_view (l.views c))) → (c ≡ a) ⊎ ((c < a) ⊎ (a < c)) → (c < a → ⊥) → Origin l a d (last_view (l.views c))
   from_last d c m e before (inl p) n = inl (rw p (last_view_in (l.views a) (not_empty l sound a ea)))
   from_last d c m e before (inr (inl p)) n = absurd (n p)
@@ -77,6 +77,6 @@ module _ (l : Ledger) (sound : Sound l) (a : ℕ) (ea : l.elected a ≡ true) (o
       let i = h.is_last in
       by_follows d h.from i.below i.elected (before h.from i.below i.elected) (not_lower d h.from i m) h.follows
 
-  -- a view of a, or one that came in since
+  -- a view of a, or one introduced since
   pub origin : (d : ℕ) → l.elected d ≡ true → a < d → Origin l a d (last_view (l.views d))
   origin = strong (λ x. l.elected x ≡ true → a < x → Origin l a x (last_view (l.views x))) origin_step

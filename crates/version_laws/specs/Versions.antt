@@ -1,4 +1,4 @@
--- What holds of versions and maps in each state of a run.
+-- The laws of versions and maps in each state of a run.
 use Rattle.std.specs.Prelude.{◌≡◌, ℕ, ◌<◌, ◌≤◌, Bool, true, false, ◌||◌, not, nat_le, List, ◌⊎◌}
 use Rattle.ens_base.specs.Views.{last_view}
 use Rattle.joint_views.specs.Quorums.{is_majority, is_quorum, MissesEveryQuorum}
@@ -13,27 +13,29 @@ may_acknowledge o v q = nat_le (o.ledger.ballot q) (epoch_of v) || o.acked v q
 abbrev pub IsDead : Objects → ℕ → Type 0
 IsDead o v = is_quorum (may_acknowledge o v) (o.ledger.views (epoch_of v)) ≡ false
 
--- v, or its parent, or the parent of that, and so on
+-- v, or its parent, or the parent's parent, and so on
 pub data Descends (parent : ℕ → ℕ) : ℕ → ℕ → Type 0 where
   itself : (v : ℕ) → Descends parent v v
   further : (v x : ℕ) → Descends parent (parent v) x → Descends parent v x
 
--- a peer that acknowledged a version, or ended a sync in a later epoch, has it from then on, or a greater one, but for the versions that this says
+-- a peer that acknowledged a version, or ended a sync in a later epoch, has it or a greater one
+-- from then on, except for the versions that are called dead
 pub record KeptBut (o : Objects) (dead : ℕ → Type 0) : Type 0 where
   pub acked : (q v : ℕ) → o.acked v q ≡ true → (v ≤ o.map q (o.key v)) ⊎ dead v
   pub synced : (q v e : ℕ) → o.proposed v ≡ true → o.ledger.synced e q ≡ true → epoch_of v < e → (v ≤ o.map q (o.key v)) ⊎ dead v
 
--- the same, but for the dead versions
+-- the same, where dead versions are the exception
 abbrev pub Kept : Objects → Type 0
 Kept o = KeptBut o (IsDead o)
 
--- one of the peers had the version, or a greater one, since it reached the epoch
+-- one of the peers has had the version, or a greater one, since it reached the epoch
 pub record HasIt (o : Objects) (d v : ℕ) (peers : ℕ → Bool) : Type 0 where
   pub peer : ℕ
   pub among : peers peer ≡ true
   pub has : v ≤ o.floor peer d (o.key v)
 
--- of each majority of the old view of an elected epoch, or of its only one, whose peers all reached the epoch, one has each lower version since then, but for the dead ones
+-- for each majority of the old view of an elected epoch, or of its only one, whose peers all
+-- reached the epoch: one of them has had each lower version since then, unless the version is dead
 abbrev pub Found : Objects → Type 0
 Found o = (d v : ℕ) (peers : ℕ → Bool) → o.proposed v ≡ true → o.ledger.elected d ≡ true → epoch_of v < d →
     is_majority peers (last_view (o.ledger.views d)) ≡ true → ((q : ℕ) → peers q ≡ true → d ≤ o.ledger.ballot q) → HasIt o d v peers ⊎ IsDead o v
@@ -43,15 +45,17 @@ pub record Link (o : Objects) (v x : ℕ) : Type 0 where
   pub settled : o.settled x ≡ true
   pub descends : Descends o.parent v x
 
--- of the versions of one epoch and key all but the greatest are settled, and each descends from all lower ones
+-- of the versions of one epoch and key, all but the greatest are settled, and each descends from
+-- all lower ones
 abbrev pub Chain : Objects → Type 0
 Chain o = (v x : ℕ) → o.proposed v ≡ true → o.proposed x ≡ true → o.key x ≡ o.key v → epoch_of x ≡ epoch_of v → x < v → Link o v x
 
--- a version descends from each of its key, of a lower epoch, that is not dead
+-- a version descends from each version of its key, of a lower epoch, that is not dead
 abbrev pub Descent : Objects → Type 0
 Descent o = (v x : ℕ) → o.proposed v ≡ true → o.proposed x ≡ true → o.key x ≡ o.key v → epoch_of x < epoch_of v → Descends o.parent v x ⊎ IsDead o x
 
--- dead in the other form: each quorum has a member whose ballot is above the version's epoch, and which never acknowledged it
+-- dead, stated differently: each quorum has a member whose ballot is above the version's epoch and
+-- which never acknowledged it
 abbrev pub DeadByQuorums : Objects → Type 0
 DeadByQuorums o = (v : ℕ) → IsDead o v → MissesEveryQuorum (may_acknowledge o v) (o.ledger.views (epoch_of v))
 
@@ -72,7 +76,8 @@ pub record IsAcknowledged (o : Objects) (v q : ℕ) : Type 0 where
   pub proposed : o.proposed v ≡ true
   pub accepted : o.ledger.accepted (epoch_of v) q ≡ true
 
--- a settled version: a quorum of its epoch's views had acknowledged it when it was settled, and it is not dead
+-- a settled version: a quorum of its epoch's views had acknowledged it when it was settled, and it
+-- is not dead
 pub record IsSettled (o : Objects) (v : ℕ) : Type 0 where
   pub proposed : o.proposed v ≡ true
   pub quorum : is_quorum (o.settled_by v) (o.ledger.views (epoch_of v)) ≡ true
@@ -91,21 +96,22 @@ pub record Precedes (o : Objects) (x v : ℕ) : Type 0 where
 abbrev pub Successor : Objects → Type 0
 Successor o = (v x : ℕ) → o.proposed v ≡ true → Precedes o x v → o.parent v ≡ x
 
--- each entry of a map is a proposed version of its key, of an epoch that the peer's ballot has reached
+-- each entry of a map is a proposed version of its key, of an epoch that the peer's ballot has
+-- reached
 pub record Genuine (o : Objects) : Type 0 where
   pub written : (q : ℕ) (k : List ℕ) → IsGenuine o (o.ledger.ballot q) k (o.map q k)
   pub shown : (q : ℕ) (k : List ℕ) → IsGenuine o (o.ledger.ballot q) k (o.visible q k)
 
--- a peer that trusts its tree, or whose tree was never put back, shows the map that it wrote last
+-- a peer that trusts its tree, or whose tree was never reverted, shows the map that it wrote last
 pub record Sight (o : Objects) : Type 0 where
   pub trusted : (q : ℕ) → o.trusted q ≡ true → IsHonest o q
   pub kept : (q : ℕ) → o.reverted q ≡ false → IsHonest o q
 
--- the floor of the ballot at which a peer stands is at most its map
+-- the floor of a peer's current ballot is at most its map
 abbrev pub FloorsAreLow : Objects → Type 0
 FloorsAreLow o = (q : ℕ) (k : List ℕ) → o.floor q (o.ledger.ballot q) k ≤ o.map q k
 
--- what such a peer shows is at least the floor of the ballot at which it stands
+-- what such a peer shows is at least the floor of its current ballot
 abbrev pub ShowsFloors : Objects → Type 0
 ShowsFloors o = (q : ℕ) (k : List ℕ) → (o.trusted q ≡ true) ⊎ (o.reverted q ≡ false) → o.floor q (o.ledger.ballot q) k ≤ o.visible q k
 
@@ -114,11 +120,11 @@ pub record IsSource (o : Objects) (d : ℕ) (merged : Map) (q : ℕ) : Type 0 wh
   pub reached : d ≤ o.ledger.ballot q
   pub given : (k : List ℕ) → o.floor q d k ≤ merged k
 
--- whether the peer's tree was never put back
+-- whether the peer's tree was never reverted
 abbrev pub is_solid : Objects → ℕ → Bool
 is_solid o q = not (o.reverted q)
 
--- what the versions and maps of a state keep
+-- the laws of versions and maps in a state
 pub record VersionsAreSafe (o : Objects) : Type 0 where
   pub kept : Kept o
   pub found : Found o
@@ -135,7 +141,7 @@ pub record VersionsAreSafe (o : Objects) : Type 0 where
   pub shows : ShowsFloors o
   pub settled : (v : ℕ) → o.settled v ≡ true → IsSettled o v
 
--- what stays from one state to the next
+-- what is preserved from one state to the next
 pub record VersionsStay (o next : Objects) : Type 0 where
   pub floors : (q d : ℕ) (k : List ℕ) → d ≤ o.ledger.ballot q → next.floor q d k ≤ o.floor q d k
   pub dead : (v : ℕ) → o.proposed v ≡ true → IsDead o v → IsDead next v

@@ -1,9 +1,9 @@
-//! What holds of versions and maps in each run of the abstract protocol.
+//! The laws of versions and maps, which hold in each run of the abstract protocol.
 //!
-//! A version that a quorum acknowledged or still may is kept by those who acknowledged it, found by each
-//! quorum that is read at a later epoch and by each sync, and an ancestor of each later version of its
-//! key. Maps hold proposed versions; a peer that trusts its tree shows the map that it wrote last. The
-//! definitions stand in `specs/Versions`.
+//! A version that a quorum acknowledged, or still may acknowledge, is kept by those who
+//! acknowledged it, is found by each quorum that is read at a later epoch and by each sync, and is
+//! an ancestor of each later version of its key. Maps hold proposed versions. A peer that trusts
+//! its tree shows the map that it wrote last. The definitions stand in `specs/Versions`.
 #![tactic(auto)]
 
 mod syncs;

@@ -1,4 +1,6 @@
--- A run of the abstract protocol, step by step: peer 1 leads, writes, and is read; the view changes to peer 2, which syncs, and back to peer 1, which syncs; a rewrite is read, and a dead version comes back as a parent.
+-- A run of the abstract protocol, step by step: peer 1 leads, writes, and is read; the view changes
+-- to peer 2, which syncs, and back to peer 1, which syncs; a rewrite is read, and a dead version
+-- comes back as a parent.
 use Rattle.std.proofs.Common.{◌≡◌, ◌≤◌, sym, List, [], ◌∷◌, refl, inl, inr, lit<, lit≤, None, Some, arith}
 use Rattle.std.proofs.lemmas.Bool.{false≢true}
 use Rattle.ens_base.specs.declared.command.Command.TheVariants.{Get, Over}
@@ -630,7 +632,7 @@ witness = steps_59
 pub witness_run : IsRun opening_view witness
 witness_run = run_59
 
--- ## What it shows
+-- ## What the run shows
 
 shows_all : ShowsAll (state_after opening_view witness)
 unfolding epoch_of rank version_of

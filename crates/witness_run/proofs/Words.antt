@@ -1,4 +1,5 @@
--- The words of the runs: keys, versions, sets of peers, and what holds of each version that was proposed so far.
+-- The constants of the runs: keys, versions, sets of peers; and induction over the versions
+-- proposed so far.
 use Rattle.std.proofs.Common.{◌≡◌, ℕ, ◌+◌, ◌*◌, ◌^◌, ◌≤◌, Bool, true, false, ◌||◌, ◌==◌, ◌⊎◌, sym, subst, ap, eqb-true, List, [], ◌∷◌, eqb, refl, inl, inr, Option, None, Some, arith}
 use Rattle.std.proofs.lemmas.Bool.{false≢true, true≢false, eqb-false}
 use Rattle.ens_base.specs.Lists.{same_bytes}
@@ -67,7 +68,7 @@ pub not_member : (x y : ℕ) → eqb x y ≡ false → (x ≡ y) ⊎ ⊥ → ⊥
 not_member x y n (inl e) = eqb-false x y n e
 not_member x y n (inr e) = e
 
--- of the versions that were proposed so far, each has the property
+-- each of the versions proposed so far has the property
 pub none_yet : (P : ℕ → Type 0) (x : ℕ) → false ≡ true → P x
 none_yet P x h = absurd (false≢true h)
 

@@ -1,4 +1,5 @@
--- That each of five guards matters: a run, a step that only the weakened guard lets come next, and the law that it breaks.
+-- Each of five guards matters: a run, a next step that only the weakened guard allows, and the law
+-- that it breaks.
 use Rattle.std.specs.Prelude.{List, [], ◌∷◌}
 use Rattle.abstract_protocol.specs.Protocol.{Step, Elect, Accept, EndSync, happens, IsRun, state_after}
 use Rattle.election_laws.specs.Elections.{Joined, EstablishedIsKept}
@@ -19,7 +20,7 @@ pub record BallotMatters : Type 0 where
   pub weakened : MayEndLate (state_after (1 ∷ 2 ∷ 3 ∷ []) steps).objects 3 1
   pub broken : ¬ EstablishedIsKept (happens (state_after (1 ∷ 2 ∷ 3 ∷ []) steps) (EndSync 3 1)).objects.ledger
 
--- epoch 2 goes on from the opening, though a voter accepted epoch 1
+-- epoch 2 follows the opening, although a voter accepted epoch 1
 pub record PromisesMatter : Type 0 where
   pub steps : List Step
   pub run : IsRun (1 ∷ 2 ∷ 3 ∷ []) steps
@@ -33,7 +34,7 @@ pub record QuorumMatters : Type 0 where
   pub weakened : MayElectAlone (state_after (1 ∷ 2 ∷ 3 ∷ []) steps).objects.ledger 2 (record { epoch = 0; seq = 0 })
   pub broken : ¬ EstablishedIsKept (happens (state_after (1 ∷ 2 ∷ 3 ∷ []) steps) (Elect 2 (record { epoch = 0; seq = 0 }))).objects.ledger
 
--- peer 2 syncs in the joint epoch 2 from the new view, which is itself alone
+-- peer 2 syncs in the joint epoch 2 from the new view, which is peer 2 alone
 pub record OldViewMatters : Type 0 where
   pub steps : List Step
   pub run : IsRun (1 ∷ []) steps

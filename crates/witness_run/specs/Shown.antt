@@ -1,4 +1,4 @@
--- What a run has to show, so that no premise of the laws is empty.
+-- What a run must show, so that no premise of the laws is empty.
 use Rattle.std.specs.Prelude.{◌≡◌, ℕ, true, [], ◌∷◌, None, Some}
 use Rattle.ens_base.specs.declared.reply.Reply.TheVariants as Reply
 use Rattle.register_model.specs.Orders.{order}
@@ -35,7 +35,8 @@ pub record ShowsReturn (s : State) : Type 0 where
   pub settled : s.objects.settled heir ≡ true
   pub parent : s.objects.parent heir ≡ lost
 
--- the view changed from peer 1 to peer 2 and back, each by a joint epoch in which the new peer ended a sync
+-- the view changed from peer 1 to peer 2 and back, each time through a joint epoch in which the new
+-- peer ended a sync
 pub record ShowsChange (s : State) : Type 0 where
   pub joint : s.objects.ledger.views 2 ≡ (2 ∷ []) ∷ (1 ∷ []) ∷ []
   pub joined : s.objects.ledger.synced 2 2 ≡ true
@@ -44,12 +45,13 @@ pub record ShowsChange (s : State) : Type 0 where
   pub back : s.objects.ledger.views 5 ≡ (1 ∷ []) ∷ []
   pub established : is_established s.objects.ledger 5 ≡ true
 
--- all that the run has to show
+-- all that the run must show
 pub record ShowsAll (s : State) : Type 0 where
   pub write : ShowsWrite s
   pub rewrite : ShowsRewrite s
   pub return : ShowsReturn s
   pub change : ShowsChange s
-  -- what the notes tell of the keys k and l: a write and two reads, the second of a rewrite; and a write that timed out, and the read that found it
+  -- the orders of the keys k and l that follow from the notes: a write and two reads, the second of
+  -- a rewrite; and a write that timed out, and the read that found it
   pub first_order : order s.book.notes (107 ∷ []) ≡ 1 ∷ 2 ∷ 4 ∷ []
   pub other_order : order s.book.notes (108 ∷ []) ≡ 3 ∷ 5 ∷ []

@@ -5,13 +5,13 @@ use Rattle.joint_views.specs.Quorums.{is_majority, is_quorum}
 use Rattle.abstract_protocol.specs.Ledger.{Ledger, Place, IsFact, MayJoin}
 use Rattle.abstract_protocol.specs.Objects.{Objects, IsHonest, IsSynced}
 
--- acceptance, also by a member of the new one of two views
+-- acceptance, also by a member of the new view of two
 pub record MayAcceptUnsynced (l : Ledger) (p d : ℕ) : Type 0 where
   pub elected : l.elected d ≡ true
   pub stands : l.ballot p ≡ d
   pub newer : (l.fact p).epoch < d
 
--- the end of a sync, also where the peer's ballot is above the sync's by now
+-- the end of a sync, also after the peer's ballot has risen above the sync's
 pub record MayEndLate (o : Objects) (p d : ℕ) : Type 0 where
   pub elected : o.ledger.elected d ≡ true
   pub started : d ≤ o.ledger.ballot p
@@ -19,7 +19,7 @@ pub record MayEndLate (o : Objects) (p d : ℕ) : Type 0 where
   pub honest : IsHonest o p
   pub synced : IsSynced o d (o.map p)
 
--- an election, also on a base that the voters have left behind
+-- an election, also on a base above which the voters have accepted an epoch
 pub record MayElectUntold (l : Ledger) (d : ℕ) (base : Place) : Type 0 where
   pub fresh : l.elected d ≡ false
   pub above : base.epoch < d
@@ -29,7 +29,7 @@ pub record MayElectUntold (l : Ledger) (d : ℕ) (base : Place) : Type 0 where
   pub quorum : is_quorum voters (l.views base.epoch) ≡ true
   pub reached : (q : ℕ) → voters q ≡ true → d ≤ l.ballot q
 
--- an election by some voter, which need not be a quorum
+-- an election by some voter, who need not be a quorum
 pub record MayElectAlone (l : Ledger) (d : ℕ) (base : Place) : Type 0 where
   pub fresh : l.elected d ≡ false
   pub above : base.epoch < d

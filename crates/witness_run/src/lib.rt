@@ -1,7 +1,8 @@
 //! A run that shows that no premise of the laws is empty.
 //!
-//! Steps of the abstract protocol, one by one, that elect, write, read, sync, rewrite, bring a dead
-//! version back, and change the view to a new peer and back. `specs/Shown` says what it has to show.
+//! It is a list of steps of the abstract protocol that elect, write, read, sync, rewrite, bring a
+//! dead version back, and change the view to a new peer and back. `specs/Shown` says what the run
+//! must show.
 #![tactic(auto)]
 
 mod witness;
