@@ -1,8 +1,9 @@
-//! The program: it hands its words, its standard input and its standard output to the top call, and
-//! ends with the status of that call.
+//! The program `ensemble`: passes its arguments, its standard input and its standard output to
+//! `ensemble_main`, and exits with the status that this returns.
 //!
-//! `ensemble_main` promises, for the word `replay`, that every history it prints is legal; its clauses
-//! stand in `top.rt`, and what they cite in `specs/Top` and in the crate replay.
+//! For the argument `replay`, `ensemble_main` guarantees that every history it prints is legal. Its
+//! clauses stand in `top.rt`; the definitions that they cite stand in `specs/Top` and in the crate
+//! replay.
 #![tactic(auto)]
 
 mod top;
@@ -15,7 +16,7 @@ use std::io::Write;
 use std::process::ExitCode;
 use top::ensemble_main;
 
-/// The words behind the name of the program.
+/// Returns the arguments after the name of the program.
 fn words_of(alloc: Global, all: &[String]) -> Result<Vec<&str>, AllocError> {
     let mut words = Vec::new(alloc);
     for word in all.iter().skip(1) {
@@ -34,7 +35,7 @@ fn main(rt: HostRuntime) -> ExitCode {
     let mut input = ReaderSource::new(rt.stdin());
     let mut output = WriterSink::new(rt.stdout());
     let Ok(args) = env::args(&rt) else {
-        // A word that is no text is no form.
+        // An argument that is not valid text makes the command line invalid.
         let status = ensemble_main(alloc, &[], &mut input, &mut output);
         return ExitCode::from(status.number());
     };

@@ -19,21 +19,20 @@ fn is_replay(words: &[&str]) -> bool
     }
 }
 
-/// All that the program does: the job that the words ask for, over the input and the output that are
-/// handed in.
+/// Runs the job that the arguments ask for, on this input and output. Returns the status.
 ///
-/// The word `replay` reads a schedule and writes what its run prints and one history for each key.
-/// Every other list of words is a usage fault.
+/// The argument `replay` alone reads a schedule, and writes what its run prints and one history for
+/// each key. Any other arguments are a usage error.
 pub fn ensemble_main<S: Source, O: Sink>(
     alloc: Global,
     words: &[&str],
     input: &mut S,
     output: &mut O,
 ) -> Status
-    // What is written, by the status: for a replay that ran to its end, what the world printed, or the
-    // answers of the machine and a legal history for each key.
+    // What is written, for each status: for a replay that ran to its end, what the world printed,
+    // or the answers of the machine and a legal history for each key.
     ensures printed { result ≢ Status.WriteFault → (text : List ℕ) × Ends (map (λ w. w.now) words.now) (S.left input.old) result text × Appends (O.written output.old) (O.written output.new) text }
-    // A front of it, where the output failed.
+    // A prefix of that text, if the output failed.
     ensures front { result ≡ Status.WriteFault → (status : Status) × (text : List ℕ) × Ends (map (λ w. w.now) words.now) (S.left input.old) status text × AppendsFront (O.written output.old) (O.written output.new) text }
     ensures end { result ≡ Status.Done → IsAtEnd (S.left input.new) }
     ensures read { result ≡ Status.ReadFault → Rose (S.fault_count input.old) (S.fault_count input.new) }

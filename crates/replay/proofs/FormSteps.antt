@@ -3,7 +3,7 @@ use Rattle.std.proofs.Common.{◌≡◌, List, [], ◌∷◌, ◌++◌, Option, 
 use Rattle.replay.specs.declared.event.Event.{Event}
 use Rattle.replay.specs.Form.{before}
 
--- these events in front of more, where there are more
+-- these events in front of others, if there are others
 abbrev pub onto : List Event → Option (List Event) → Option (List Event)
 onto events None = None
 onto events (Some rest) = Some (events ++ rest)

@@ -1,4 +1,4 @@
--- The calls of the events that are run are those of their schedule.
+-- The events that are run have the same calls as their schedule.
 use Rattle.std.proofs.Common.{◌≡◌, ℕ, ◌==◌, Bool, true, false, List, [], ◌∷◌, Option, None, Some, refl, sym, ap, subst, ◌∙◌}
 use Rattle.std.specs.Prelude.{if◌then◌else◌}
 use Rattle.ens_base.specs.Lists.{AreDistinct}

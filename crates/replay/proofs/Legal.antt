@@ -35,7 +35,7 @@ answered m n (Write id key value ∷ rest) a (inr h) = let c = answered (after m
 answered_ids : (m : Machine) (n : ℕ) (events : List Event) (a : Answer) → a ∈ answers_from m n events → a.id ∈ ids (calls_from n events)
 answered_ids m n events a h = let c = answered m n events a h in let P : ℕ → Type 0 = λ id. id ∈ ids (calls_from n events) in subst P c.2 (in-ids (calls_from n events) c.0 c.1)
 
--- what stands in a history is a call on its key
+-- an id in a history is that of a call on its key
 pub history_of_key : (m : Machine) (n : ℕ) (k : List ℕ) (events : List Event) (id : ℕ) → id ∈ history_from m k events → (c : Call) × (c ∈ calls_from n events) × (c.id ≡ id) × (c.key ≡ k)
 history_of_key m n k [] id h = absurd h
 history_of_key m n k (Tick count ∷ rest) id h = history_of_key (after m (Tick count)) (n + 1) k rest id h
@@ -47,7 +47,7 @@ history_of_key m n k (Write x key value ∷ rest) id h =
 history_ids : (m : Machine) (n : ℕ) (k : List ℕ) (events : List Event) (id : ℕ) → id ∈ history_from m k events → id ∈ ids (calls_from n events)
 history_ids m n k events id h = let c = history_of_key m n k events id h in let P : ℕ → Type 0 = λ x. x ∈ ids (calls_from n events) in subst P c.2 (in-ids (calls_from n events) c.0 c.1)
 
--- a history has an id once
+-- an id occurs at most once in a history
 pub history_once : (m : Machine) (n : ℕ) (k : List ℕ) (events : List Event) → AreDistinct (ids (calls_from n events)) → AreDistinct (history_from m k events)
 history_once m n k [] apart = tt
 history_once m n k (Tick count ∷ rest) apart = history_once (after m (Tick count)) (n + 1) k rest apart
@@ -56,7 +56,7 @@ history_once m n k (Read id key ∷ rest) apart =
 history_once m n k (Write id key value ∷ rest) apart =
     serve-distinct (leads m && same_bytes key k) id (history_from (after m (Write id key value)) k rest) (λ h. apart.0 (history_ids (after m (Write id key value)) (n + 1) k rest id h)) (history_once (after m (Write id key value)) (n + 1) k rest apart.1)
 
--- only a peer that leads completes a call, and only one that does not refuses it
+-- only a peer that leads completes a call, and only one that does not lead refuses it
 done_leads : (b : Bool) (r : Reply) → IsDone (if b then r else Reply.Unavailable) → b ≡ true
 done_leads true r h = refl
 done_leads false r h = absurd h
@@ -76,7 +76,7 @@ unserved false c h = refl
 keys_same : (x y : List ℕ) → x ≡ y → same_bytes x y ≡ true
 keys_same x y e = let P : List ℕ → Type 0 = λ z. same_bytes x z ≡ true in subst P e (same_itself x)
 
--- a completed call on the key stands in its history
+-- a completed call on the key is in its history
 pub history_completed : (m : Machine) (n : ℕ) (k : List ℕ) (events : List Event) → AreDistinct (ids (calls_from n events)) → (c : Call) (a : Answer) → c ∈ calls_from n events → a ∈ answers_from m n events → a.id ≡ c.id → c.key ≡ k → IsDone a.reply → c.id ∈ history_from m k events
 history_completed m n k [] apart c a c_in a_in same on done = absurd c_in
 history_completed m n k (Tick count ∷ rest) apart c a c_in a_in same on done = history_completed (after m (Tick count)) (n + 1) k rest apart c a c_in a_in same on done
@@ -93,7 +93,7 @@ history_completed m n k (Write id key value ∷ rest) apart c a c_in a_in same o
     (λ first first_answer. and_true (leads m) (same_bytes key k) (done_leads (leads m) (Reply.Ok (stamp_of (m.writes + 1))) (let P : Answer → Type 0 = λ x. IsDone x.reply in subst P first_answer done)) (keys_same key k (sym (ap (λ (x : Call). x.key) first) ∙ on)))
     (λ more more_answers. history_completed later (n + 1) k rest apart.1 c a more more_answers same on done)
 
--- a refused call does not
+-- a refused call is not
 pub history_refused : (m : Machine) (n : ℕ) (k : List ℕ) (events : List Event) → AreDistinct (ids (calls_from n events)) → (a : Answer) → a ∈ answers_from m n events → IsRefused a.reply → ¬ (a.id ∈ history_from m k events)
 history_refused m n k [] apart a a_in never = absurd a_in
 history_refused m n k (Tick count ∷ rest) apart a a_in never = history_refused (after m (Tick count)) (n + 1) k rest apart a a_in never
@@ -119,7 +119,7 @@ least n (Read id key ∷ rest) c (inr h) = let more = least (n + 1) rest c h in 
 least n (Write id key value ∷ rest) c (inl e) = omega (arith, ap (λ (x : Call). x.event) e)
 least n (Write id key value ∷ rest) c (inr h) = let more = least (n + 1) rest c h in omega arith
 
--- of two calls in a history the earlier one stands first
+-- of two calls in a history the earlier one comes first
 pub history_in_order : (m : Machine) (n : ℕ) (k : List ℕ) (events : List Event) → AreDistinct (ids (calls_from n events)) → (c d : Call) → c ∈ calls_from n events → d ∈ calls_from n events → c.event < d.event → (p q : ℕ) → slice_get (history_from m k events) p ≡ Some c.id
     → slice_get (history_from m k events) q ≡ Some d.id → p < q
 history_in_order m n k [] apart c d c_in d_in lt p q at_p at_q = absurd c_in
@@ -184,7 +184,7 @@ module _ (calls : List Call) (answers : List Answer) (k : List ℕ) (one : (a b 
   unfolding AreWrites
   newest stamps writes so_far = λ s h. elim h [ inl e ↦ omega (arith, ap (λ (v : Version). v.seq) e) | inr there ↦ (let few = so_far s there in omega (arith, few)) ]
 
-  -- the machine after a write that was done
+  -- the machine after a write that took effect
   led_after : (m : Machine) (id : ℕ) (key value : List ℕ) → leads m ≡ true → let done : Machine = record { ticks = m.ticks; writes = m.writes + 1; register = set_register m.register key (Present (stamp_of (m.writes + 1)) value) } in after m (Write id key value) ≡ done
   led_after m id key value led = taken (leads m) _ m led
 
@@ -237,7 +237,7 @@ module _ (calls : List Call) (answers : List Answer) (k : List ℕ) (one : (a b 
       by_lead m id n key value (history_from (after m (Write id key value)) k rest) stamps (leads m) refl so_far (c_in record { id = id; key = key; command = Over value; event = n } (inl refl))
       (a_in record { id = id; event = n; reply = (if leads m then Reply.Ok (stamp_of (m.writes + 1)) else Reply.Unavailable) } (inl refl)) (λ s held. history_runs (after m (Write id key value)) (n + 1) rest (λ c h. c_in c (inr h)) (λ a h. a_in a (inr h)) s held)
 
--- no two answers are to one call
+-- no two answers are to the same call
 one_answer : (m : Machine) (n : ℕ) (events : List Event) → AreDistinct (ids (calls_from n events)) → (a b : Answer) → a ∈ answers_from m n events → b ∈ answers_from m n events → a.id ≡ b.id → a ≡ b
 one_answer m n [] apart a b a_in b_in same = absurd a_in
 one_answer m n (Tick count ∷ rest) apart a b a_in b_in same = one_answer (after m (Tick count)) (n + 1) rest apart a b a_in b_in same
@@ -270,7 +270,7 @@ ids-calls n (Tick count ∷ rest) = ids-calls (n + 1) rest
 ids-calls n (Read id key ∷ rest) = ap (λ (l : List ℕ). id ∷ l) (ids-calls (n + 1) rest)
 ids-calls n (Write id key value ∷ rest) = ap (λ (l : List ℕ). id ∷ l) (ids-calls (n + 1) rest)
 
--- so are those that are printed
+-- the printed histories are legal
 pub all_legal : (events : List Event) (histories : List History) → AreHistories events histories → AreDistinct (call_ids events) → AreLegal events histories
 all_legal events histories are apart = λ h there.
     let P : List ℕ → Type 0 = IsLegal (calls_from 1 events) (answers_from start 1 events) h.key in

@@ -1,4 +1,4 @@
--- What a look-up finds after a change at one key.
+-- What a lookup finds after a change at one key.
 use Rattle.std.proofs.Common.{◌≡◌, ℕ, Bool, true, false, cond, ◌||◌, List, [], ◌++◌, Option, None, Some, refl, sym, ap, subst, ◌∙◌}
 use Rattle.std.proofs.lemmas.Map.Text.{is_eq-slice_cmp}
 use Rattle.std.proofs.lemmas.Slice.Eq.{bytes_eq-Decides}
@@ -9,7 +9,7 @@ use Rattle.register_model.specs.declared.register.Register.TheVariants.{Absent}
 use Rattle.replay.specs.declared.keys.KeyState.{KeyState}
 use Rattle.replay.specs.Keys.{register_of, served_of}
 
--- equal bytes are one list
+-- equal bytes are equal lists
 pub bytes_same : (xs ys : List ℕ) → same_bytes xs ys ≡ true → xs ≡ ys
 bytes_same xs ys h = (bytes_eq-Decides xs ys).0 h
 
@@ -26,20 +26,20 @@ pub get_inserted : (m n : BTreeMap (List ℕ) KeyState) (key copy : List ℕ) (w
 get_inserted m n key copy w updates same k =
     updates k ∙ ap (λ (b : Bool). cond b (Some w) (get bytes_cmp m k)) (is_eq-slice_cmp copy k ∙ ap (λ (xs : List ℕ). same_bytes xs k) same)
 
--- after a write through what was lent at the key
+-- after a write through the reference at the key
 pub get_written : (m n : BTreeMap (List ℕ) KeyState) (key : List ℕ) (was w : KeyState) → WritesThrough bytes_cmp (bytes_cmp key) m w n → Some was ≡ get bytes_cmp m key → (k : List ℕ) → get bytes_cmp n k ≡ cond (same_bytes key k) (Some w) (get bytes_cmp m k)
 get_written m n key was w writes here k =
     (writes.3 (some_of (get bytes_cmp m key) was here)).0 k ∙ ap (λ (b : Bool). cond b (Some w) (get bytes_cmp m k)) (is_eq-slice_cmp key k)
 
--- where the key is new, nothing is found at it
+-- if the key is new, nothing is found at it
 pub none_there : (m : BTreeMap (List ℕ) KeyState) (key k : List ℕ) → is_some (get bytes_cmp m key) ≡ false → same_bytes key k ≡ true → get bytes_cmp m k ≡ None
 none_there m key k new at = let P : List ℕ → Type 0 = λ q. get bytes_cmp m q ≡ None in subst P (bytes_same key k at) (none_of (get bytes_cmp m key) new)
 
--- what was found at the key is found at it
+-- what was found at the key is still found
 pub some_there : (m : BTreeMap (List ℕ) KeyState) (key k : List ℕ) (was : KeyState) → Some was ≡ get bytes_cmp m key → same_bytes key k ≡ true → get bytes_cmp m k ≡ Some was
 some_there m key k was here at = let P : List ℕ → Type 0 = λ q. get bytes_cmp m q ≡ Some was in subst P (bytes_same key k at) (sym here)
 
--- a key that is new, and holds nothing yet
+-- a new key, which holds nothing yet
 pub register_opened : (b : Bool) (old new : Option KeyState) (w : KeyState) → new ≡ cond b (Some w) old → (b ≡ true → old ≡ None) → w.register ≡ Absent → register_of new ≡ register_of old
 register_opened true old new w e none absent = ap register_of e ∙ absent ∙ sym (ap register_of (none refl))
 register_opened false old new w e none absent = ap register_of e

@@ -20,6 +20,6 @@ chosen : (b : Bool) (new x y : Register) → x ≡ y → (if b then new else x) 
 chosen true new x y h = refl
 chosen false new x y h = h
 
--- the same register, put at the same key of equal registers
+-- the same register, set at the same key of equal registers
 pub set_same : (f g : List ℕ → Register) (key : List ℕ) (new : Register) → ((k : List ℕ) → f k ≡ g k) → (k : List ℕ) → set_register f key new k ≡ set_register g key new k
 set_same f g key new same k = chosen (same_bytes key k) new (f k) (g k) (same k)

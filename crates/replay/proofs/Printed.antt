@@ -1,4 +1,4 @@
--- The map of keys gives the histories that are printed.
+-- The map of keys gives the printed histories.
 use Rattle.std.proofs.Common.{◌≡◌, ℕ, ◌+◌, Bool, true, false, ◌||◌, List, [], ◌∷◌, ◌++◌, Option, None, Some, map, refl, sym, ap, subst, ◌∙◌, inl, inr, ◌⊎◌}
 use Rattle.std.specs.Prelude.{is_some}
 use Rattle.std.specs.BTreeMap.{get, IsOrdered}
@@ -57,7 +57,7 @@ by_first : (first : Call) (key : List ℕ) (rest : List Call) (more : Bool) → 
 by_first first key rest more (inl here) later = (first, inl refl, bytes_same first.key key here)
 by_first first key rest more (inr there) later = let found = later there in (found.0, inr found.1, found.2)
 
--- and a key that the events name is that of a call
+-- a key that the events name is that of a call
 pub named_call : (number : ℕ) (events : List Event) (key : List ℕ) → named events key ≡ true → (c : Call) × (c ∈ calls_from number events) × (c.key ≡ key)
 named_call number [] key h = absurd cc
 named_call number (Tick count ∷ rest) key h = named_call (number + 1) rest key h

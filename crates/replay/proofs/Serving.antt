@@ -1,4 +1,4 @@
--- One call more in front of a history: it stands there where it was served.
+-- One more call in front of a history, if it was served.
 use Rattle.std.proofs.Common.{◌≡◌, ℕ, zero, suc, ◌<◌, ◌≤◌, Bool, true, false, ◌&&◌, List, [], ◌∷◌, map, Some, refl, sym, ap, subst, ◌∙◌, inl, inr, ◌⊎◌, arith}
 use Rattle.std.specs.Prelude.{if◌then◌else◌, slice_get}
 use Rattle.ens_base.specs.Lists.{◌∈◌, AreDistinct, same_bytes}
@@ -10,7 +10,7 @@ use Rattle.replay.proofs.Members.{in-map}
 abbrev pub ids : List Call → List ℕ
 ids calls = map (λ (c : Call). c.id) calls
 
--- the id before the rest, where it was served
+-- the id in front of the rest, if it was served
 abbrev pub serve : Bool → ℕ → List ℕ → List ℕ
 serve b id rest = if b then id ∷ rest else rest
 
@@ -42,7 +42,7 @@ pub and_true : (a b : Bool) → a ≡ true → b ≡ true → a && b ≡ true
 and_true true b h g = g
 and_true false b h g = absurd cc
 
--- what stands in a history is the id of a call on the key
+-- an id in a history is that of a call on the key
 pub of_call : (led : Bool) (c : Call) (calls : List Call) (k rest : List ℕ) (id : ℕ) → id ∈ serve (led && same_bytes c.key k) c.id rest → (id ∈ rest → (d : Call) × (d ∈ calls) × (d.id ≡ id) × (d.key ≡ k)) → (d : Call) × (d ∈ (c ∷ calls)) × (d.id ≡ id) × (d.key ≡ k)
 of_call led c calls k rest id h later =
     elim (serve-cases (led && same_bytes c.key k) c.id id rest h) [
@@ -50,7 +50,7 @@ of_call led c calls k rest id h later =
       | inr there ↦ (let found = later there in (found.0, inr found.1, found.2, found.3))
     ]
 
--- a completed call on the key stands in it, where no other call has its id
+-- a completed call on the key is in it, if no other call has its id
 pub completed_call : (b : Bool) (c d : Call) (a e : Answer) (calls : List Call) (answers : List Answer) (rest : List ℕ) → d ∈ (c ∷ calls) → e ∈ (a ∷ answers) → e.id ≡ d.id → a.id ≡ c.id → ¬ (c.id ∈ ids calls)
     → ((f : Answer) → f ∈ answers → f.id ∈ ids calls) → (d ≡ c → e ≡ a → b ≡ true) → (d ∈ calls → e ∈ answers → d.id ∈ rest) → d.id ∈ serve b c.id rest
 completed_call b c d a e calls answers rest (inl first) (inl first_answer) same of_first new known here later = let P : ℕ → Type 0 = λ id. id ∈ serve b c.id rest in subst P (sym (ap (λ (x : Call). x.id) first)) (served-here b c.id rest (here first first_answer))
@@ -60,7 +60,7 @@ completed_call b c d a e calls answers rest (inr more) (inl first_answer) same o
     let P : ℕ → Type 0 = λ id. id ∈ ids calls in absurd (new (subst P (sym same ∙ ap (λ (x : Answer). x.id) first_answer ∙ of_first) (in-ids calls d more)))
 completed_call b c d a e calls answers rest (inr more) (inr more_answers) same of_first new known here later = served-later b c.id d.id rest (later more more_answers)
 
--- a refused call does not
+-- a refused call is not
 pub refused_call : (b : Bool) (c : Call) (a e : Answer) (calls : List Call) (answers : List Answer) (rest : List ℕ) → e ∈ (a ∷ answers) → a.id ≡ c.id → ¬ (c.id ∈ ids calls) → ((f : Answer) → f ∈ answers → f.id ∈ ids calls) → ((id : ℕ) → id ∈ rest → id ∈ ids calls)
     → (e ≡ a → b ≡ false) → (e ∈ answers → ¬ (e.id ∈ rest)) → ¬ (e.id ∈ serve b c.id rest)
 refused_call true c a e calls answers rest (inl first) of_first new known within here later h = let f : true ≡ false = here first in absurd cc
@@ -84,7 +84,7 @@ only_there : (c d : Call) (calls : List Call) (x : ℕ) → d ∈ (c ∷ calls) 
 only_there c d calls x (inl e) of_d within new = let P : ℕ → Type 0 = λ id. id ∈ ids calls in absurd (new (subst P (sym of_d ∙ ap (λ (y : Call). y.id) e) within))
 only_there c d calls x (inr h) of_d within new = h
 
--- the earlier of two calls stands before the later one
+-- the earlier of two calls comes first
 pub before_call : (b : Bool) (c d e : Call) (calls : List Call) (rest : List ℕ) (p q : ℕ) → d ∈ (c ∷ calls) → e ∈ (c ∷ calls) → d.event < e.event → slice_get (serve b c.id rest) p ≡ Some d.id → slice_get (serve b c.id rest) q ≡ Some e.id → ¬ (c.id ∈ ids calls) → ((id : ℕ) → id ∈ rest → id ∈ ids calls)
     → ((x : Call) → x ∈ (c ∷ calls) → c.event ≤ x.event) → ((i j : ℕ) → d ∈ calls → e ∈ calls → slice_get rest i ≡ Some d.id → slice_get rest j ≡ Some e.id → i < j) → p < q
 before_call false c d e calls rest p q d_in e_in lt at_p at_q new within least later =

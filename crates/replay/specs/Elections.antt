@@ -8,7 +8,7 @@ use Rattle.schedule_text.specs.declared.schedule.Schedule.{Schedule}
 use Rattle.world_runs.specs.Lines.{run_of_schedule}
 use Rattle.world_runs.specs.Runs.{Run}
 
--- whether a line is a tick, or says what becomes of messages
+-- whether a line is a tick, or delivers or loses messages
 abbrev pub is_election_line : ScheduleEvent → Bool
 is_election_line (Tick peer ticks) = true
 is_election_line (Deliver message) = true
@@ -26,10 +26,10 @@ is_election s = list_all is_election_line s.events
 abbrev pub schedule_run : Schedule → Run
 schedule_run s = run_of_schedule s.peers s.view s.events
 
--- the run sends no more messages than are ever sent
+-- the run stays within the limit on messages
 abbrev pub IsWithinMessages : Run → Type 0
 IsWithinMessages run = length run.mail.sent ≤ most_messages
 
--- the run sends more
+-- the run exceeds the limit on messages
 abbrev pub IsPastMessages : Run → Type 0
 IsPastMessages run = most_messages < length run.mail.sent

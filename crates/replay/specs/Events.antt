@@ -1,11 +1,11 @@
--- The events of the form of schedule that the machine runs: ticks, gets and overwrites at one peer.
+-- The events of the schedules that the machine runs: ticks, gets and overwrites at one peer.
 use Rattle.std.specs.Prelude.{ℕ, ◌+◌, List, [], ◌∷◌}
 use Rattle.ens_base.specs.declared.command.Command.TheVariants.{Get, Over}
 use Rattle.register_model.specs.declared.call.Call.{Call}
 use Rattle.replay.specs.declared.event.Event.{Event}
 use Rattle.replay.specs.declared.event.Event.TheVariants.{Tick, Read, Write}
 
--- the call of an event, which has this number
+-- the call of an event with this number, in front of the rest
 abbrev calls_at : Event → ℕ → List Call → List Call
 calls_at (Tick count) number rest = rest
 calls_at (Read id key) number rest = record { id = id; key = key; command = Get; event = number } ∷ rest

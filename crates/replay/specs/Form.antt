@@ -7,14 +7,14 @@ use Rattle.schedule_text.specs.declared.schedule.Schedule.{Schedule}
 use Rattle.replay.specs.declared.event.Event.{Event}
 use Rattle.replay.specs.declared.event.Event.TheVariants.{Tick, Read, Write}
 
--- the event that a line of a schedule is for the machine, if it has one
+-- the event of the machine for a line of a schedule, if there is one
 abbrev pub form_event : ScheduleEvent → Option Event
 form_event (line.Tick peer ticks) = Some (Tick ticks)
 form_event (line.Call peer id key does.Get) = Some (Read id key)
 form_event (line.Call peer id key (does.Over value)) = Some (Write id key value)
 form_event _ = None
 
--- an event in front of more, where there are both
+-- an event in front of others, if there are both
 abbrev pub before : Option Event → Option (List Event) → Option (List Event)
 before (Some event) (Some rest) = Some (event ∷ rest)
 before _ _ = None
@@ -23,6 +23,6 @@ abbrev pub form_events : List ScheduleEvent → Option (List Event)
 form_events [] = Some []
 form_events (event ∷ rest) = before (form_event event) (form_events rest)
 
--- the events of a schedule of the form that the machine runs, if it has that form
+-- the events of a schedule in the form that the machine runs, if it has that form
 abbrev pub form_of : Schedule → Option (List Event)
 form_of s = if s.peers == 1 then form_events s.events else None

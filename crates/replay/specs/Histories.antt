@@ -1,4 +1,4 @@
--- The histories that are printed: one for each key that a call named.
+-- The printed histories: one for each key that a call named.
 use Rattle.std.specs.Prelude.{◌≡◌, List, map}
 use Rattle.std.specs.List.Sorted.{IsStrictlySortedBy}
 use Rattle.ens_base.specs.Lists.{◌∈◌, bytes_cmp}

@@ -16,19 +16,22 @@ use Rattle.replay.specs.Machine.{start, answers_from}
 use Rattle.replay.specs.Histories.{AreHistories}
 use Rattle.replay.specs.Text.{text_of, text_of_run}
 
--- every history is legal for its key, over the calls and the answers
+-- every history is legal for its key, for these calls and answers
 abbrev pub AreLegal : List Event → List History → Type 0
 AreLegal events histories = (h : History) → h ∈ histories → IsLegal (calls_from 1 events) (answers_from start 1 events) h.key h.calls
 
--- the schedule has the form that the machine runs, and the text is that of its answers and of one legal history for each key
+-- the schedule has the form that the machine runs, and the text is that of its answers and of one
+-- legal history for each key
 abbrev pub IsMachineText : Schedule → List ℕ → Type 0
 IsMachineText s text = (events : List Event) × (histories : List History) × (form_of s ≡ Some events) × AreHistories events histories × AreLegal events histories × (text ≡ text_of (answers_from start 1 events) histories)
 
--- the run of the schedule in a world sends no more messages than are ever sent, and the text is what it prints
+-- the run of the schedule in a world stays within the limit on messages, and the text is what it
+-- prints
 abbrev pub IsElectionText : Schedule → List ℕ → Type 0
 IsElectionText s text = IsWithinMessages (schedule_run s) × (text ≡ text_of_run (schedule_run s))
 
--- the text of a run, by whether the schedule is one of elections: what a world prints, or what the machine does
+-- the text of a run: what a world prints if the schedule is one of elections, and otherwise what
+-- the machine prints
 abbrev pub IsRunText : Bool → Schedule → List ℕ → Type 0
 IsRunText true s text = IsElectionText s text
 IsRunText false s text = IsMachineText s text
@@ -37,19 +40,20 @@ IsRunText false s text = IsMachineText s text
 abbrev pub IsReplay : List ℕ → List ℕ → Type 0
 IsReplay bytes text = (s : Schedule) × (schedule_of bytes ≡ Ok s) × IsSchedule s × IsRunText (is_election s) s text
 
--- the bytes are a schedule of elections, whose run sends more messages than are ever sent
+-- the bytes are a schedule of elections whose run exceeds the limit on messages
 abbrev pub IsPastLimit : List ℕ → Type 0
 IsPastLimit bytes = (s : Schedule) × (schedule_of bytes ≡ Ok s) × (is_election s ≡ true) × IsPastMessages (schedule_run s)
 
--- the bytes are a schedule, neither one of elections nor of the form that the machine runs
+-- the bytes are a schedule, neither of elections nor of the form that the machine runs
 abbrev pub IsUnbuilt : List ℕ → Type 0
 IsUnbuilt bytes = (s : Schedule) × (schedule_of bytes ≡ Ok s) × (is_election s ≡ false) × (form_of s ≡ None)
 
--- message 500,001 would be sent, and the text says so
+-- message 500,001 would be sent, and the text reports it
 abbrev pub IsMessageLimit : Option (List ℕ) → List ℕ → Type 0
 IsMessageLimit source text = IfSome source IsPastLimit × (text ≡ codes "limit messages 500000" ++ 10 ∷ [])
 
--- the text with which a replay of these bytes ends, by its status; it ends with no other status than these, but for a fault of the output
+-- the text that a replay of these bytes prints, for each status; it ends with no other status,
+-- unless the output fails
 abbrev pub Prints : Option (List ℕ) → Status → List ℕ → Type 0
 Prints source Status.Done text = IfSome source (λ bytes. IsReplay bytes text)
 Prints source Status.Schedule text = IsBadLine source text
@@ -59,6 +63,6 @@ Prints source Status.ReadFault text = text ≡ codes "read fault" ++ 10 ∷ []
 Prints source Status.Memory text = text ≡ codes "memory" ++ 10 ∷ []
 Prints source status text = ⊥
 
--- this schedule ends so, wherever it was read
+-- a job that read this schedule ends with this status and text, whatever its source
 abbrev pub EndsSo : Schedule → Status → List ℕ → Type 0
 EndsSo s status text = (source : Option (List ℕ)) → IfSome source (λ bytes. schedule_of bytes ≡ Ok s) → Prints source status text

@@ -1,4 +1,4 @@
--- What the map of keys holds.
+-- The content of the map of keys.
 use Rattle.std.specs.Prelude.{ℕ, Bool, List, [], Option, None, Some, is_some}
 use Rattle.std.specs.BTreeMap.{get}
 use Rattle.ens_base.specs.Lists.{bytes_cmp}
@@ -20,7 +20,7 @@ served_of (Some state) = state.served.items
 abbrev pub register_in : Keys → List ℕ → Register
 register_in keys key = register_of (get bytes_cmp keys.states key)
 
--- the calls on the key that were served
+-- the calls served on the key
 abbrev pub served_in : Keys → List ℕ → List ℕ
 served_in keys key = served_of (get bytes_cmp keys.states key)
 

@@ -1,4 +1,4 @@
--- The running machine, seen as the machine that answers.
+-- The running machine, as its specification sees it.
 use Rattle.replay.specs.Keys.{register_in}
 use Rattle.replay.specs.Machine.{Machine}
 use Rattle.replay.specs.declared.runner.Runner.{Runner}

@@ -25,7 +25,7 @@ reply_words Reply.Timeout = codes "timeout"
 abbrev pub answer_line : Answer → List ℕ
 answer_line a = codes "answer " ++ decimal a.id ++ codes " " ++ decimal a.event ++ codes " " ++ reply_words a.reply ++ 10 ∷ []
 
--- an id of a history, after the words before it
+-- an id of a history, with a space before it
 abbrev pub next_id : ℕ → List ℕ
 next_id id = 32 ∷ decimal id
 
@@ -33,11 +33,11 @@ next_id id = 32 ∷ decimal id
 abbrev pub history_line : History → List ℕ
 history_line h = codes "history " ++ bytes_word h.key ++ flat_map next_id h.calls ++ 10 ∷ []
 
--- the answers as they were given, then the histories
+-- the answers in the order in which they were given, followed by the histories
 abbrev pub text_of : List Answer → List History → List ℕ
 text_of answers histories = flat_map answer_line answers ++ flat_map history_line histories
 
--- what became of a request to change the view
+-- the outcome of a request to change the view
 abbrev pub taken_word : Bool → List ℕ
 taken_word true = codes "taken"
 taken_word false = codes "refused"
@@ -51,6 +51,6 @@ abbrev pub printed_line : Printed → List ℕ
 printed_line (lines.Answer a) = answer_line a
 printed_line (lines.Change event peer taken) = change_line event peer taken
 
--- what the run of a world printed, in this order
+-- what the run of a world printed, in order
 abbrev pub text_of_run : Run → List ℕ
 text_of_run run = flat_map printed_line run.printed

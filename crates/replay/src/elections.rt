@@ -23,15 +23,16 @@ fn is_election_line(event: &ScheduleEvent) -> bool
     }
 }
 
-/// Whether a schedule is one of elections: its peers tick, and their messages are delivered or lost.
+/// Returns whether a schedule is one of elections: its peers tick, and their messages are delivered
+/// or lost, and nothing else.
 pub fn is_election(schedule: &Schedule) -> bool
     ensures { result ≡ is_one_of_elections schedule.now }
 {
     schedule.events.as_slice().iter().all(is_election_line)
 }
 
-/// The text of what the run of a schedule prints, or none where its run would send more than 500,000
-/// messages.
+/// Returns the text that the run of a schedule prints, or `None` if the run would send more than
+/// 500,000 messages.
 pub fn election_text(alloc: Global, schedule: &Schedule) -> Result<Option<String>, AllocError>
     requires { IsSchedule schedule.now }
     ensures { IfOk result (λ o. MatchOption o (IsPastMessages (schedule_run schedule.now)) (λ text. IsWithinMessages (schedule_run schedule.now) × (string_bytes text ≡ text_of_run (schedule_run schedule.now)))) }

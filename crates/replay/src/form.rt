@@ -44,7 +44,8 @@ fn events_of(alloc: Global, events: Vec<ScheduleEvent>) -> Result<Option<Vec<Eve
     Ok(Some(form))
 }
 
-/// The events of a schedule of the form that the machine runs, or none where it has another form.
+/// Returns the events of a schedule in the form that the machine runs, or `None` if it has another
+/// form.
 pub fn form_of(alloc: Global, schedule: Schedule) -> Result<Option<Vec<Event>>, AllocError>
     ensures { IfOk result (λ o. MatchOption o (form_of schedule ≡ None) (λ v. form_of schedule ≡ Some v.items)) }
 {

@@ -18,7 +18,7 @@ use schedule_input::{Ending, read_schedule};
 use schedule_text::Schedule;
 use std::alloc::{AllocError, Global};
 
-/// The text of the machine's run of a schedule, or none where it has a form that is not run yet.
+/// Returns the text of the machine's run of a schedule, or `None` if it has another form.
 fn machine_text(alloc: Global, schedule: Schedule) -> Result<Option<String>, AllocError>
     ensures { IfOk result (λ o. MatchOption o (form_of schedule ≡ None) (λ text. IsSchedule schedule → IsMachineText schedule (string_bytes text))) }
 {
@@ -29,7 +29,7 @@ fn machine_text(alloc: Global, schedule: Schedule) -> Result<Option<String>, All
     Ok(Some(write_text(alloc, &record.answers, &record.histories)?))
 }
 
-/// The run of a schedule of elections in a world, or that it would send too many messages.
+/// Runs a schedule of elections in a world. Ends with `limit` if it would send too many messages.
 fn election_ending(alloc: Global, schedule: &Schedule) -> Result<Ending, AllocError>
     requires valid { IsSchedule schedule.now }
     requires form { is_one_of_elections schedule.now ≡ true }
@@ -45,7 +45,8 @@ fn election_ending(alloc: Global, schedule: &Schedule) -> Result<Ending, AllocEr
     }
 }
 
-/// The run of any other schedule by the machine, or that it has a form that is not run yet.
+/// Runs any other schedule on the machine. Ends with `unbuilt` if it has a form that cannot be run
+/// yet.
 fn machine_ending(alloc: Global, schedule: Schedule) -> Result<Ending, AllocError>
     requires valid { IsSchedule schedule }
     requires form { is_one_of_elections schedule ≡ false }
@@ -61,7 +62,7 @@ fn machine_ending(alloc: Global, schedule: Schedule) -> Result<Ending, AllocErro
     }
 }
 
-/// The run of a schedule, or why it does not run to its end.
+/// Runs a schedule, and returns how the job ends.
 fn run_ending(alloc: Global, schedule: Schedule) -> Result<Ending, AllocError>
     requires { IsSchedule schedule }
     ensures ends { IfOk result (λ e. EndsSo schedule e.status (string_bytes e.text)) }
@@ -73,7 +74,7 @@ fn run_ending(alloc: Global, schedule: Schedule) -> Result<Ending, AllocError>
     machine_ending(alloc, schedule)
 }
 
-/// What a replay of the input ends with, but for want of memory.
+/// Returns the ending of a replay of the input, unless out of memory.
 #[tactic(auto, using(crate::proofs::Unread::unread_prints))]
 fn replay_ending<S: Source>(alloc: Global, input: &mut S) -> Result<Ending, AllocError>
     ensures printed { IfOk result (λ e. Prints (S.left input.old) e.status (string_bytes e.text)) }
@@ -86,13 +87,14 @@ fn replay_ending<S: Source>(alloc: Global, input: &mut S) -> Result<Ending, Allo
     }
 }
 
-/// Reads a schedule from the input, runs it, and writes what the run prints, and then the histories, to
-/// the output.
+/// Reads a schedule from the input, runs it, and writes what the run prints, followed by the
+/// histories, to the output. Returns the status.
 ///
-/// A job that ends otherwise writes one line: `read fault` where the input failed, `schedule LINE CAUSE`
-/// where the input is no schedule, `limit lines 200000` where it has too many lines, `limit messages
-/// 500000` where its run would send more messages, `unbuilt` where it is a schedule of a form that is
-/// not run yet, and `memory` where memory ran out.
+/// A job that ends in any other way writes one line: `read fault` if the input failed, `schedule
+/// LINE CAUSE` if the input is not a schedule, `limit lines 200000` if it has too many lines,
+/// `limit messages 500000` if its run would send more messages, `unbuilt` if it is a schedule of a
+/// form that cannot be run yet, and `memory` when out of memory. If the output fails, a prefix of
+/// the text was written.
 pub fn replay<S: Source, O: Sink>(alloc: Global, input: &mut S, output: &mut O) -> Status
     ensures printed { result ≢ Status.WriteFault → (text : List ℕ) × Prints (S.left input.old) result text × Appends (O.written output.old) (O.written output.new) text }
     ensures front { result ≡ Status.WriteFault → (status : Status) × (text : List ℕ) × Prints (S.left input.old) status text × AppendsFront (O.written output.old) (O.written output.new) text }

@@ -13,17 +13,18 @@ use std::collections::BTreeMap;
 #[derive(Debug, Drop)]
 pub struct KeyState {
     pub register: Register,
-    /// The ids of the calls that were served, in their order.
+    /// The ids of the calls served, in order.
     pub served: Vec<u64>,
 }
 
-/// The keys that calls named so far.
+/// The keys that calls have named so far.
 #[derive(Drop)]
 pub struct Keys {
     pub states: BTreeMap<Key, KeyState>,
 }
 
 impl Keys {
+    /// Makes an empty map.
     pub fn new(alloc: Global) -> Keys
         ensures registers { (k : List ℕ) → register_in result k ≡ Register.Absent }
         ensures served { (k : List ℕ) → served_in result k ≡ [] }
@@ -34,7 +35,7 @@ impl Keys {
         }
     }
 
-    /// Makes room for a key, if it is new.
+    /// Makes an entry for a key, unless it has one.
     pub fn open(&mut self, alloc: Global, key: &Key) -> Result<(), AllocError>
         ensures registers { (k : List ℕ) → register_in self.new k ≡ register_in self.old k }
         ensures served { (k : List ℕ) → served_in self.new k ≡ served_in self.old k }
@@ -51,7 +52,7 @@ impl Keys {
         Ok(())
     }
 
-    /// What a read of the key is answered.
+    /// Returns the reply to a read of the key.
     pub fn reading(&self, alloc: Global, key: &Key) -> Result<Reply, CopyError>
         ensures { IfOk result (λ reply. reply ≡ reading (register_in self.now key.now)) }
     {
@@ -61,7 +62,7 @@ impl Keys {
         }
     }
 
-    /// Puts a call at the end of those on the key that were served.
+    /// Appends a call to those served on the key.
     pub fn serve(&mut self, key: &Key, id: u64) -> Result<(), AllocError>
         requires { is_known self.old key.now ≡ true }
         ensures registers { OnOk result ((k : List ℕ) → register_in self.new k ≡ register_in self.old k) }
@@ -74,7 +75,7 @@ impl Keys {
         Ok(())
     }
 
-    /// Gives the key a register.
+    /// Sets the register of the key.
     pub fn set(&mut self, key: &Key, register: Register)
         requires { is_known self.old key.now ≡ true }
         ensures registers { (k : List ℕ) → register_in self.new k ≡ set_register (register_in self.old) key.now register k }
@@ -86,7 +87,7 @@ impl Keys {
         }
     }
 
-    /// The history of each key, the keys ascending.
+    /// Returns the history of each key, the keys ascending.
     pub fn into_histories(self, alloc: Global) -> Result<Vec<History>, AllocError>
         ensures histories { IfOk result (λ hs. hs.items ≡ map history_at self.states.entries) }
         ensures ordered { IsOrdered bytes_cmp self.states }
@@ -99,7 +100,7 @@ impl Keys {
     }
 }
 
-/// The history of a key.
+/// Returns the history of a key.
 fn history_of(key: Key, state: KeyState) -> History
     ensures { result ≡ history_at (key, state) }
 {
@@ -113,7 +114,7 @@ fn history_of(key: Key, state: KeyState) -> History
     }
 }
 
-/// What a read of the register is answered.
+/// Returns the reply to a read of the register.
 fn reading_of(alloc: Global, register: &Register) -> Result<Reply, CopyError>
     ensures { IfOk result (λ reply. reply ≡ reading register.now) }
 {

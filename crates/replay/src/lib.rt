@@ -1,11 +1,12 @@
-//! The job `replay`: it reads a schedule, runs it, and prints the answers and a history for each key.
+//! The job `replay`: reads a schedule, runs it, and prints the answers and a history for each key.
 //!
-//! Two forms of schedules are run so far; every other schedule ends as `unbuilt`. A schedule of elections,
-//! in which peers tick and their messages are delivered or lost, is run in a world with all its peers
-//! (world_model). A schedule of one peer, with ticks, gets and overwrites, is run by a machine of its own.
-//! The contract of `replay` names what is printed, by the status (`specs/Jobs`): for elections what the
-//! world's run prints (`specs/Elections`), and for the machine its answers (`specs/Machine`) and histories
-//! that are legal for their keys, by the definition of register_model.
+//! Two forms of schedules can be run so far; every other schedule ends as `unbuilt`. A schedule of
+//! elections, in which peers tick and their messages are delivered or lost, runs in a world with
+//! all its peers (world_model). A schedule of one peer, with ticks, gets and overwrites, runs on a
+//! machine of its own. The contract of `replay` says what is printed for each status
+//! (`specs/Jobs`): for elections, what the run of the world prints (`specs/Elections`); for the
+//! machine, its answers (`specs/Machine`), and histories that are legal for their keys by the
+//! definition of register_model.
 #![tactic(auto)]
 
 mod elections;

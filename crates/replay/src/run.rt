@@ -29,7 +29,7 @@ fn push_answer(answers: &mut Vec<Answer>, answer: Option<Answer>) -> Result<(), 
     Ok(())
 }
 
-/// Runs the events, the first of which has the number 1.
+/// Runs the events, numbered from 1.
 pub fn run(alloc: Global, events: Vec<Event>) -> Result<Record, AllocError>
     ensures answers { IfOk result (λ r. r.answers.items ≡ answers_from start 1 events.items) }
     ensures histories { IfOk result (λ r. AreHistories events.items r.histories.items) }

@@ -12,10 +12,10 @@ use ens_base::{Epoch, Key, Reply, Value, Version};
 use register_model::{Answer, History, Register};
 use std::alloc::{AllocError, Global};
 
-/// The ticks after which the peer leads.
+/// The number of ticks after which the peer leads.
 const QUIET_LIMIT: u64 = 6;
 
-/// The machine that answers: one peer, which leads from its sixth tick on.
+/// The machine that answers calls: one peer, which leads from its sixth tick on.
 #[derive(Drop)]
 pub struct Runner {
     pub ticks: u64,
@@ -23,7 +23,7 @@ pub struct Runner {
     pub keys: Keys,
 }
 
-/// The nth overwrite that was done has the version 1.1.n.
+/// Returns the version of the nth overwrite that took effect, 1.1.n.
 fn stamp_of(number: u64) -> Version
     ensures { result ≡ Rattle.replay.specs.Machine.stamp_of number }
 {
@@ -37,6 +37,7 @@ fn stamp_of(number: u64) -> Version
 }
 
 impl Runner {
+    /// Makes the machine at its start.
     pub fn new(alloc: Global) -> Runner
         ensures model { model_of result ≡ start }
         ensures served { (k : List ℕ) → served_in result.keys k ≡ [] }
@@ -50,12 +51,14 @@ impl Runner {
         }
     }
 
+    /// Returns whether the peer leads.
     fn leads(&self) -> bool
         ensures { result ≡ leads (model_of self.now) }
     {
         self.ticks >= QUIET_LIMIT
     }
 
+    /// Applies the given number of ticks.
     fn tick(&mut self, count: u64)
         ensures model { model_of self.new ≡ after (model_of self.old) (Event.Tick count) }
         ensures same { (self.new.keys ≡ self.old.keys) × (self.new.writes ≡ self.old.writes) }
@@ -63,6 +66,7 @@ impl Runner {
         self.ticks = self.ticks.saturating_add(count).min(QUIET_LIMIT);
     }
 
+    /// Answers a get.
     fn read(&mut self, alloc: Global, id: u64, key: &Key, event: u64) -> Result<Answer, AllocError>
         ensures answer { IfOk result (λ a. (rest : List Answer) → answer_at (model_of self.old) event (Event.Read id key.now) rest ≡ a ∷ rest) }
         ensures model { OnOk result (model_of self.new ≡ after (model_of self.old) (Event.Read id key.now)) }
@@ -117,7 +121,7 @@ impl Runner {
         })
     }
 
-    /// Takes one event, and gives the answer to its call, if it is one.
+    /// Applies one event. Returns the answer if the event is a call.
     pub fn apply(
         &mut self,
         alloc: Global,
@@ -143,7 +147,7 @@ impl Runner {
         }
     }
 
-    /// The history of each key that a call named, the keys ascending.
+    /// Returns the history of each key that a call named, the keys ascending.
     pub fn into_histories(self, alloc: Global) -> Result<Vec<History>, AllocError>
         ensures histories { IfOk result (λ hs. hs.items ≡ map history_at self.keys.states.entries) }
         ensures ordered { IsOrdered bytes_cmp self.keys.states }

@@ -52,7 +52,7 @@ fn push_history(alloc: Global, text: &mut String, history: &History) -> Result<(
     text.push_str("\n")
 }
 
-/// The text of the answers, in their order, and of the histories.
+/// Returns the text of the answers, in order, followed by that of the histories.
 pub fn write_text(
     alloc: Global,
     answers: &[Answer],
@@ -93,7 +93,7 @@ fn push_printed(alloc: Global, text: &mut String, line: &Printed) -> Result<(), 
     }
 }
 
-/// The text of what a world printed, in this order.
+/// Returns the text of what a world printed, in order.
 pub fn write_printed(alloc: Global, printed: &[Printed]) -> Result<String, AllocError>
     ensures { IfOk result (λ text. string_bytes text ≡ flat_map printed_line printed.now) }
 {

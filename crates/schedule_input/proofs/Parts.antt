@@ -1,4 +1,4 @@
--- The lines of a source, taken one after another, are the parts that its bytes are read by.
+-- The lines of a source, taken one after another, are the parts into which its bytes are split.
 use Rattle.std.proofs.Common.{◌≡◌, ◌≢◌, ℕ, zero, suc, ◌+◌, ◌<◌, ◌≤◌, ◌==◌, Bool, true, false, List, [], ◌∷◌, ◌++◌, length, take, Option, None, Some, Result, Ok, Err, refl, sym, ap, subst, ◌∙◌, append_assoc, append-nil, arith, length-append}
 use Rattle.std.specs.Prelude.{All, IfSome, IfErr, IsErr, nat_lt, if◌then◌else◌}
 use Rattle.std.specs.List.{onto_first}
@@ -46,7 +46,7 @@ first_part (x ∷ xs) = by_test (x == 10) refl (first_part xs)
     by_test true e rest = ([], parts_of 10 xs, slice_split-cons_yes (λ b. b == 10) x xs e)
     by_test false e rest = (x ∷ rest.0, rest.1, slice_split-cons_no (λ b. b == 10) x xs e ∙ onto_some x rest.0 rest.1 (parts_of 10 xs) rest.2)
 
--- it is as long as the bytes before the first line feed
+-- the first part is as long as the bytes before the first line feed
 long_part : (n : ℕ) (xs : List ℕ) → n ≤ length xs → HasNoFeed (take n xs) → (w : List ℕ) × (more : List (List ℕ)) × (parts_of 10 xs ≡ w ∷ more) × (n ≤ length w)
 long_part zero xs fits clear = let part = first_part xs in (part.0, part.1, part.2, omega arith)
 long_part (suc n) [] fits clear = absurd (omega arith)
@@ -137,7 +137,7 @@ refuses_rest a p v (Bad line cause) is read = let P : Result Schedule ScheduleEr
 refuses_rest a p v Lines is read = let P : Result Schedule ScheduleError → Type 0 = λ r. ReadsAs a p r in subst P is read
 refuses_rest a p v Memory is read = tt
 
--- one reading behind another
+-- one step of reading after another
 pub reads_on : (a b c : Option (List ℕ)) (p q r : Progress) → ReadsOn a p b q → ReadsOn b q c r → ReadsOn a p c r
 reads_on None b c p q r first second = tt
 reads_on (Some x) None c p q r first second = absurd first
@@ -191,7 +191,7 @@ pub too_many : (b : Option (List ℕ)) (p : Progress) → lines_so_far p ≡ 200
 too_many None p count more = tt
 too_many (Some y) p count more = full p y (last_line (lines_so_far p) count) more
 
--- a line that is taken is one more
+-- a line that is taken adds one to the count
 from_bind : {A B G : Type 0} (r : Result A Cause) (f : A → Result B Cause) (q : B) → (r >>= f) ≡ Ok q → ((x : A) → f x ≡ Ok q → G) → G
 from_bind (Ok x) f q h go = go x h
 from_bind (Err c) f q h go = absurd cc
@@ -225,13 +225,13 @@ one_more (Running peers view events) q t h = from_bind (event_of peers t) (λ ev
 pub line_counts : (p q : Progress) (t : List ℕ) → next_line p t ≡ Ok q → lines_so_far q ≡ lines_so_far p + 1
 line_counts p q t ok = one_more p q t (from_bounds (nat_lt line_limit (length t)) (with_line p t) q (from_line (lines_so_far p + 1) (bounded t (with_line p t)) q (from_test (lines_so_far p == most_lines) (at_next p (bounded t (with_line p t))) q ok)))
 
--- where nothing is pending or left, nothing is left
+-- if nothing is pending or left, nothing is left
 pub ended_left : (pending : List ℕ) (left : Option (List ℕ)) → IsAtEnd (prepend_known pending left) → IsAtEnd left
 ended_left pending None h = tt
 ended_left [] (Some y) h = h
 ended_left (x ∷ pending) (Some y) h = let never : x ∷ (pending ++ y) ≡ [] = h in absurd cc
 
--- a long line is refused, whatever its bytes are
+-- a long line is rejected, whatever its bytes are
 pub long_refuses : (p new : Progress) (t : List ℕ) (r : Result (Unit {0}) ScheduleError) → 4400 < length t → TakesLine p t new r → IfErr r (λ e. (rest : Option (List ℕ)) → BeginsLong rest → Refuses rest p (of_schedule e))
 long_refuses p new t (Ok u) long takes = tt
 long_refuses p new t (Err e) long takes = λ rest begins. refuses_long rest p new t e begins long takes
@@ -240,7 +240,7 @@ pub long_errs : (p new : Progress) (t : List ℕ) (r : Result (Unit {0}) Schedul
 long_errs p new t (Ok u) long takes = absurd (long_never p new t long takes)
 long_errs p new t (Err e) long takes = refl
 
--- a text ends as a schedule only behind a line feed
+-- a text ends as a schedule only after a line feed
 pub ended_ok : (p : Progress) (rest : List ℕ) (s : Schedule) → ended p rest ≡ Ok s → ended p [] ≡ Ok s
 ended_ok p [] s ok = ok
 ended_ok p (byte ∷ rest) s ok = absurd (by_lines (lines_so_far p == most_lines) (nat_lt line_limit (length (byte ∷ rest))) ok)

@@ -1,4 +1,4 @@
--- What a source still reads as, and why no schedule was read.
+-- How the rest of a source is read, and why no schedule was read.
 use Rattle.std.specs.Prelude.{◌≡◌, ◌++◌, ℕ, List, Option, None, Some, Result, Err, IfSome}
 use Rattle.schedule_words.specs.Words.{parts_of}
 use Rattle.schedule_text.specs.Progress.{Progress, Blank}
@@ -20,11 +20,11 @@ of_schedule (schedule.Bad line cause) = read.Bad line cause
 of_schedule schedule.Lines = read.Lines
 of_schedule schedule.Memory = read.Memory
 
--- the bytes that follow, behind the lines so far, read so
+-- the bytes to come, after the lines so far, give this result
 abbrev pub ReadsAs : Option (List ℕ) → Progress → Result Schedule ScheduleError → Type 0
 ReadsAs rest p result = IfSome rest (λ bytes. read_parts p (parts_of 10 bytes) ≡ result)
 
--- the bytes that followed once read as those that follow now, behind the lines so far
+-- the bytes before and the bytes now, each after the lines read by then, give the same result
 abbrev pub ReadsOn : Option (List ℕ) → Progress → Option (List ℕ) → Progress → Type 0
 ReadsOn None p rest q = Unit {0}
 ReadsOn (Some old) p None q = ⊥
@@ -35,7 +35,8 @@ pub record IsReached (p : Progress) : Type 0 where
   pub front : List ℕ
   pub reads : (rest : List ℕ) → read_parts Blank (parts_of 10 (front ++ rest)) ≡ read_parts p (parts_of 10 rest)
 
--- what a refusal says of the bytes that follow: their first bad line and its cause, or that there are too many lines
+-- an error and the bytes to come: it names their first bad line and its cause, or they have too
+-- many lines
 abbrev pub Refuses : Option (List ℕ) → Progress → ReadError → Type 0
 Refuses rest p (read.Bad line cause) = ReadsAs rest p (Err (schedule.Bad line cause))
 Refuses rest p read.Lines = ReadsAs rest p (Err schedule.Lines)

@@ -8,7 +8,7 @@ use crate::read::ReadError;
 use ens_base::Status;
 use std::alloc::{AllocError, Global};
 
-/// What a job ends with: its status, and the text that it prints.
+/// The end of a job: its status, and the text that it prints.
 #[derive(Drop)]
 pub struct Ending {
     pub status: Status,
@@ -16,7 +16,7 @@ pub struct Ending {
 }
 
 impl Ending {
-    /// An ending with a copy of this text.
+    /// Makes an ending with a copy of this text.
     pub fn new(alloc: Global, status: Status, text: &str) -> Result<Ending, AllocError>
         ensures { IfOk result (λ e. (e.status ≡ status) × (string_bytes e.text ≡ text.now)) }
     {
@@ -24,7 +24,7 @@ impl Ending {
         Ok(Ending { status, text })
     }
 
-    /// How a job ends that read no schedule, but for want of memory.
+    /// Returns the ending of a job that could not read a schedule, unless out of memory.
     pub fn unread(alloc: Global, error: ReadError) -> Result<Ending, AllocError>
         ensures printed { IfOk result (λ e. (source : Option (List ℕ)) → Refuses source Blank error → IsUnread source e.status (string_bytes e.text)) }
         ensures status { IfOk result (λ e. (e.status ≢ Status.Done) × (e.status ≡ Status.ReadFault → error ≡ ReadError.Failed)) }

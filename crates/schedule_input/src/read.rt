@@ -11,7 +11,7 @@ use ens_outside::{LINE_LIMIT, Lines, Next, NextError, Source};
 use schedule_text::{Reading, Schedule, ScheduleError};
 use std::alloc::Global;
 
-/// The most lines of a schedule.
+/// The greatest number of lines of a schedule.
 const MOST_LINES: u32 = 200_000;
 
 /// Why no schedule was read.
@@ -23,7 +23,7 @@ pub enum ReadError {
     Bad { line: u32, cause: u8 },
     /// Line 200,001 begins, and no line before it is bad.
     Lines,
-    /// Memory ran out.
+    /// Out of memory.
     Memory,
 }
 
@@ -56,7 +56,8 @@ impl From<ScheduleError> for ReadError {
     }
 }
 
-/// Takes the next line into the reading; or gives what follows the last line feed, at the end.
+/// Reads the next line into `reading`. At the end of the source, returns what follows the last line
+/// feed.
 fn take_line<S: Source>(
     alloc: Global,
     lines: &mut Lines,
@@ -83,7 +84,7 @@ fn take_line<S: Source>(
     }
 }
 
-/// Takes a line of more bytes than any may have. It is refused by its length alone, whatever they are.
+/// Takes a line of more than 4,400 bytes, which is rejected for its length, whatever its bytes are.
 fn take_long(reading: &mut Reading) -> Result<(), ScheduleError>
     ensures refused { IfErr result (λ e. (rest : Option (List ℕ)) → BeginsLong rest → Refuses rest reading.old (of_schedule e)) }
     ensures never { IsErr result }
@@ -91,7 +92,7 @@ fn take_long(reading: &mut Reading) -> Result<(), ScheduleError>
     reading.line(&[0; LINE_LIMIT + 1])
 }
 
-/// Reads a schedule, to the end of the source; or to its first bad line, or to the first byte of line
+/// Reads a schedule up to the end of the source, its first bad line, or the first byte of line
 /// 200,001.
 pub fn read_schedule<S: Source>(alloc: Global, input: &mut S) -> Result<Schedule, ReadError>
     ensures ok { IfOk result (λ s. IfSome (S.left input.old) (λ bytes. schedule_of bytes ≡ Ok s)) }
@@ -114,7 +115,7 @@ pub fn read_schedule<S: Source>(alloc: Global, input: &mut S) -> Result<Schedule
     end_of(reading, &[])
 }
 
-/// The schedule, given what follows the last line feed.
+/// Returns the schedule, given what follows the last line feed.
 fn end_of(reading: Reading, rest: &[u8]) -> Result<Schedule, ReadError>
     ensures ok { IfOk result (λ s. ended reading rest.now ≡ Ok s) }
     ensures valid { IfOk result (λ s. IsReached reading → IsSchedule s) }

@@ -1,4 +1,4 @@
--- One more line behind the lines of the messages so far.
+-- One more line after those of the messages so far.
 use Rattle.std.proofs.Common.{◌≡◌, ◌<◌, ◌+◌, ℕ, zero, suc, List, [], ◌∷◌, ◌++◌, length, take, get_or, arith, sym, ap, ◌∙◌, append_assoc, append-nil}
 use Rattle.wire_frames.specs.declared.frame.Frame.{Frame}
 use Rattle.trace.specs.Text.{message_line, lines_from}

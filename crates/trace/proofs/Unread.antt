@@ -1,4 +1,4 @@
--- Where no schedule was read, what is printed says so.
+-- If no schedule was read, the printed text says so.
 use Rattle.std.proofs.Common.{ℕ, List, Option, inl}
 use Rattle.ens_base.specs.declared.status.Status.{Status}
 use Rattle.schedule_input.specs.Endings.{IsUnread}

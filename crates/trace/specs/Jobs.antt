@@ -8,7 +8,8 @@ use Rattle.schedule_text.specs.Reading.{schedule_of}
 use Rattle.schedule_text.specs.declared.schedule.Schedule.{Schedule}
 use Rattle.trace.specs.Text.{trace_text}
 
--- the bytes are a schedule of elections, whose run sends no more messages than are ever sent, and the text tells them
+-- the bytes are a schedule of elections whose run stays within the limit on messages, and the text
+-- is the list of these messages
 abbrev pub IsTrace : List ℕ → List ℕ → Type 0
 IsTrace bytes text = (s : Schedule) × (schedule_of bytes ≡ Ok s) × (is_election s ≡ true) × IsWithinMessages (schedule_run s) × (text ≡ trace_text (schedule_run s).mail.sent)
 
@@ -16,7 +17,8 @@ IsTrace bytes text = (s : Schedule) × (schedule_of bytes ≡ Ok s) × (is_elect
 abbrev pub IsUnbuilt : List ℕ → Type 0
 IsUnbuilt bytes = (s : Schedule) × (schedule_of bytes ≡ Ok s) × (is_election s ≡ false)
 
--- the text with which a trace of these bytes ends, by its status; it ends with no other status than these, but for a fault of the output
+-- the text that a trace of these bytes prints, for each status; it ends with no other status,
+-- unless the output fails
 abbrev pub Traces : Option (List ℕ) → Status → List ℕ → Type 0
 Traces source Status.Done text = IfSome source (λ bytes. IsTrace bytes text)
 Traces source Status.Schedule text = IsBadLine source text

@@ -5,7 +5,7 @@ use Rattle.ens_base.specs.Words.{bytes_word}
 use Rattle.wire_frames.specs.Frames.{frame_spelling}
 use Rattle.wire_frames.specs.declared.frame.Frame.{Frame}
 
--- NUMBER SENDER RECEIVER FRAME, the bytes of the frame as pairs of lower-case hexadecimal digits
+-- NUMBER SENDER RECEIVER FRAME; the frame is given as pairs of lower-case hexadecimal digits
 abbrev pub message_line : ℕ → Frame → List ℕ
 message_line number f = decimal number ++ codes " " ++ decimal f.from ++ codes " " ++ decimal f.to ++ codes " " ++ bytes_word (frame_spelling f) ++ 10 ∷ []
 

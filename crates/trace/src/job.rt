@@ -19,8 +19,8 @@ use schedule_text::Schedule;
 use std::alloc::{AllocError, Global};
 use world_model::{World, WorldError};
 
-/// The lines of every message that the run of a schedule sends, or none where it would send more than
-/// 500,000.
+/// Returns the lines of all messages that the run of a schedule sends, or `None` if it would send
+/// more than 500,000.
 fn run_text(alloc: Global, schedule: &Schedule) -> Result<Option<String>, AllocError>
     requires { IsSchedule schedule.now }
     ensures { IfOk result (λ o. MatchOption o (IsPastMessages (schedule_run schedule.now)) (λ text. IsWithinMessages (schedule_run schedule.now) × (string_bytes text ≡ trace_text (schedule_run schedule.now).mail.sent))) }
@@ -33,7 +33,7 @@ fn run_text(alloc: Global, schedule: &Schedule) -> Result<Option<String>, AllocE
     }
 }
 
-/// The messages of a schedule, or why they are not told.
+/// Returns the ending with the messages of a schedule, or with the reason why there are none.
 fn run_ending(alloc: Global, schedule: &Schedule) -> Result<Ending, AllocError>
     requires { IsSchedule schedule.now }
     ensures printed { IfOk result (λ e. (source : Option (List ℕ)) → IfSome source (λ bytes. schedule_of bytes ≡ Ok schedule.now) → Traces source e.status (string_bytes e.text)) }
@@ -51,7 +51,7 @@ fn run_ending(alloc: Global, schedule: &Schedule) -> Result<Ending, AllocError>
     }
 }
 
-/// What a trace of the input ends with, but for want of memory.
+/// Returns the ending of a trace of the input, unless out of memory.
 #[tactic(auto, using(crate::proofs::Unread::unread_traces))]
 fn trace_ending<S: Source>(alloc: Global, input: &mut S) -> Result<Ending, AllocError>
     ensures printed { IfOk result (λ e. Traces (S.left input.old) e.status (string_bytes e.text)) }
@@ -64,14 +64,15 @@ fn trace_ending<S: Source>(alloc: Global, input: &mut S) -> Result<Ending, Alloc
     }
 }
 
-/// Reads a schedule from the input, runs it, and writes every message that it sends to the output, in
-/// the order of sending: its number from 1, its sender, its receiver, and the bytes of its frame in
-/// hexadecimal digits.
+/// Reads a schedule from the input, runs it, and writes every message that it sends to the output,
+/// in the order of sending: its number from 1, its sender, its receiver, and the bytes of its frame
+/// in hexadecimal digits. Returns the status.
 ///
-/// A trace that ends otherwise writes one line: `read fault` where the input failed, `schedule LINE
-/// CAUSE` where the input is no schedule, `limit lines 200000` where it has too many lines, `limit
-/// messages 500000` where its run sends too many messages, `unbuilt` where it has a line that is not
-/// run yet, and `memory` where memory ran out.
+/// A trace that ends in any other way writes one line: `read fault` if the input failed, `schedule
+/// LINE CAUSE` if the input is not a schedule, `limit lines 200000` if it has too many lines,
+/// `limit messages 500000` if its run would send more messages, `unbuilt` if it has a line that
+/// cannot be run yet, and `memory` when out of memory. If the output fails, a prefix of the text
+/// was written.
 pub fn trace<S: Source, O: Sink>(alloc: Global, input: &mut S, output: &mut O) -> Status
     ensures printed { result ≢ Status.WriteFault → (text : List ℕ) × Traces (S.left input.old) result text × Appends (O.written output.old) (O.written output.new) text }
     ensures front { result ≡ Status.WriteFault → (status : Status) × (text : List ℕ) × Traces (S.left input.old) status text × AppendsFront (O.written output.old) (O.written output.new) text }

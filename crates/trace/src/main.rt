@@ -1,8 +1,9 @@
-//! The program: it reads a schedule from its standard input, writes every message that the run of the
-//! schedule sends to its standard output, a line each, and ends with the status of the top call.
+//! The program `trace`: reads a schedule from its standard input, writes each message that the run
+//! of the schedule sends to its standard output, one line a message, and exits with the status of
+//! `trace`.
 //!
-//! The contract of `trace` (`job.rt`) says what is written, by the status; the definitions stand in
-//! `specs/Jobs` and `specs/Text`.
+//! The contract of `trace` (`job.rt`) says what is written for each status. The definitions stand
+//! in `specs/Jobs` and `specs/Text`.
 #![tactic(auto)]
 
 mod job;

@@ -25,7 +25,7 @@ fn push_message(
     text.push_str("\n")
 }
 
-/// The lines of all messages, in the order of sending.
+/// Returns the lines of all messages, in the order of sending.
 pub fn write_trace(alloc: Global, sent: &[Frame]) -> Result<String, AllocError>
     requires { All MayBeSent sent.now }
     ensures { IfOk result (λ text. string_bytes text ≡ trace_text sent.now) }

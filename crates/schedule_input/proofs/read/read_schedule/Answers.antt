@@ -3,7 +3,7 @@ use Rattle.std.specs.Prelude.{OnOk, Result, Ok, Err}
 use Rattle.schedule_input.proofs.Parts.{reads_as, too_many, ended_left}
 use Rattle.schedule_input.proofs.read.read_schedule.Goals as goal
 
--- what holds anyway, holds where there is an answer
+-- what holds in any case holds on success
 anyway : {T E : Type 0} {P : Type 0} (r : Result T E) → P → OnOk r P
 anyway (Ok x) p = p
 anyway (Err e) p = tt
