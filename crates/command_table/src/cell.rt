@@ -3,10 +3,10 @@ use ens_object::Object;
 use key_commands::{Verdict, apply};
 use std::alloc::Global;
 
-/// The longest value that is printed whole, in bytes.
+/// The length in bytes up to which a value is printed in full.
 const PRINTED: usize = 16;
 
-/// The version `count.1.seq`.
+/// Returns the version `count.1.seq`.
 pub fn version(count: u64, seq: u64) -> Version {
     Version {
         epoch: Epoch { count, proposer: 1 },
@@ -14,12 +14,12 @@ pub fn version(count: u64, seq: u64) -> Version {
     }
 }
 
-/// The value of these bytes.
+/// Makes a value of these bytes.
 pub fn value(alloc: Global, bytes: &[u8]) -> Option<Value> {
     Value::new(alloc, bytes).ok()
 }
 
-/// An object with this content; none is a tombstone.
+/// Makes an object with this content; none is a tombstone.
 pub fn object(alloc: Global, content: Option<Value>) -> Option<Object> {
     Some(Object {
         version: version(2, 1),
@@ -50,7 +50,7 @@ fn push_content(alloc: Global, text: &mut String, bytes: &[u8]) -> Option<()> {
     push_value(alloc, text, bytes).ok()
 }
 
-/// Appends what the command comes to on the object, or on none.
+/// Appends the outcome of the command on the object, or on an absent register if there is none.
 pub fn push_cell(
     alloc: Global,
     text: &mut String,

@@ -1,5 +1,6 @@
-//! Prints what each command comes to on an absent register, on a tombstone and on the value 76, and
-//! then at each bound. The value has the stamp 1.1.2, and since it was written again the version 2.1.1.
+//! Prints the outcome of each command on an absent register, on a tombstone and on the value 76,
+//! and then at each bound. The value has the stamp 1.1.2; it was rewritten, so its version is
+//! 2.1.1.
 #![tactic(auto)]
 
 mod cell;

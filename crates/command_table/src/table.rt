@@ -2,7 +2,7 @@ use crate::cell::{object, push_cell, value, version};
 use ens_base::{Command, Value};
 use std::alloc::Global;
 
-/// A line with what the command comes to on each kind of register.
+/// Appends a line with the outcome of the command on each kind of register.
 fn push_row(alloc: Global, text: &mut String, name: &str, command: Command) -> Option<()> {
     write!(text, "{name}: absent ").ok()?;
     push_cell(alloc, text, &command, None)?;
@@ -14,7 +14,7 @@ fn push_row(alloc: Global, text: &mut String, name: &str, command: Command) -> O
     text.push_str("\n").ok()
 }
 
-/// What the command comes to on an object with this content.
+/// Appends the outcome of the command on an object with this content.
 fn push_held(
     alloc: Global,
     text: &mut String,
@@ -25,7 +25,7 @@ fn push_held(
     push_cell(alloc, text, command, Some(&held))
 }
 
-/// A line with what the command comes to on this value.
+/// Appends a line with the outcome of the command on this value.
 fn push_bound(
     alloc: Global,
     text: &mut String,
@@ -38,7 +38,7 @@ fn push_bound(
     text.push_str("\n").ok()
 }
 
-/// A value of so many bytes.
+/// Makes a value of `length` bytes.
 fn long(alloc: Global, length: usize) -> Option<Value> {
     let mut bytes = Vec::new(alloc);
     bytes.resize(length, b'a').ok()?;
@@ -104,7 +104,7 @@ fn push_sums(alloc: Global, text: &mut String) -> Option<()> {
     push_sum(alloc, text, "add 0 to ffffffffffffffff", 0, &[255; 8])
 }
 
-/// The whole table, or none where memory ran out.
+/// Returns the whole table, or `None` when out of memory.
 pub fn table(alloc: Global) -> Option<String> {
     let mut text = String::new(alloc);
     push_once(alloc, &mut text)?;

@@ -3,8 +3,9 @@ use ens_base::{Command, Reply};
 use register_model::Answer;
 use std::alloc::Global;
 
-/// The command and the reply at this place of a long order, if it has one: in each ten an overwrite
-/// without a reply, an update that finds its stamp, reads, and overwrites that are answered.
+/// Returns the command at this place of a long order, and its reply if it has one. Each ten calls
+/// have an overwrite without a reply, an update that finds its stamp, reads, and overwrites that
+/// are answered.
 fn at(alloc: Global, place: u64) -> Option<(Command, Option<Reply>)> {
     let before = place.wrapping_sub(1);
     match place % 10 {
@@ -31,7 +32,7 @@ fn at(alloc: Global, place: u64) -> Option<(Command, Option<Reply>)> {
     }
 }
 
-/// Whether an order of so many calls is a run.
+/// Returns whether an order of `count` calls is a run.
 pub fn is_run_of(alloc: Global, count: u64) -> Option<bool> {
     let mut calls = Vec::new(alloc);
     let mut answers = Vec::new(alloc);

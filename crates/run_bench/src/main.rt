@@ -1,5 +1,6 @@
-//! Tests an order of 20,000 calls of which one in ten has no printed reply, and compares the test with a
-//! plain search on every order of three calls out of a small set. Its time is the speed of the test.
+//! Tests an order of 20,000 calls of which one in ten has no printed reply, and compares the test
+//! with a plain search on every order of three calls out of a small set. Its running time measures
+//! the speed of the test.
 #![tactic(auto)]
 
 mod long;

@@ -1,4 +1,5 @@
-/// What a call of the small set asks. Stamps are the numbers in epoch 1.1, values are single bytes.
+/// A command of the small set. Stamps are the sequence numbers in epoch 1.1; values are single
+/// bytes.
 #[derive(Clone, Copy)]
 pub enum Ask {
     Get,
@@ -8,7 +9,7 @@ pub enum Ask {
     Delete,
 }
 
-/// What a call was answered.
+/// The reply to a call.
 #[derive(Clone, Copy, PartialEq, Eq)]
 pub enum Said {
     Value(u8, u8),
@@ -17,7 +18,7 @@ pub enum Said {
     Failed,
 }
 
-/// A call, and its printed reply, if it has one.
+/// A call, and its printed reply if it has one.
 #[derive(Clone, Copy)]
 pub struct Step {
     pub ask: Ask,
@@ -31,7 +32,8 @@ struct Cell {
     value: u8,
 }
 
-/// What a call comes to on a register: the reply, and the register after it. A write takes this stamp.
+/// Returns the outcome of a command on a register: the reply, and the register after it. A write
+/// takes this stamp.
 fn outcome(ask: Ask, held: Option<Cell>, stamp: u8) -> (Said, Option<Cell>) {
     match ask {
         Ask::Get => match held {
@@ -71,7 +73,7 @@ fn may_say(step: Step, said: Said) -> bool {
     }
 }
 
-/// Whether the steps are a run in which their writes take these stamps.
+/// Returns whether the steps are a run in which their writes take these stamps.
 fn runs_with(steps: &[Step], stamps: &[u8]) -> bool {
     let mut held = None;
     let mut taken = [false; 8];
@@ -92,8 +94,8 @@ fn runs_with(steps: &[Step], stamps: &[u8]) -> bool {
     true
 }
 
-/// Whether three steps are a run for some stamps. Replies tell 1 and 2; three more are for writes that
-/// tell none.
+/// Returns whether three steps are a run for some stamps. Replies show 1 and 2; three more are for
+/// writes without a printed reply.
 pub fn is_run(steps: &[Step]) -> bool {
     for first in 1..6 {
         for second in 1..6 {

@@ -3,7 +3,7 @@ use ens_base::{Command, Epoch, Key, Reply, Value, Version};
 use register_model::{Answer, Call};
 use std::alloc::Global;
 
-/// The calls and replies of which orders are made.
+/// The calls and replies from which the orders are made.
 const STEPS: [Step; 16] = [
     Step {
         ask: Ask::Get,
@@ -71,7 +71,7 @@ const STEPS: [Step; 16] = [
     },
 ];
 
-/// The version 1.1.seq.
+/// Returns the version 1.1.seq.
 pub fn stamp(seq: u64) -> Version {
     Version {
         epoch: Epoch {
@@ -82,7 +82,7 @@ pub fn stamp(seq: u64) -> Version {
     }
 }
 
-/// The value of one byte.
+/// Makes a value of one byte.
 pub fn value(alloc: Global, byte: u8) -> Option<Value> {
     match Value::new(alloc, &[byte]) {
         Ok(value) => Some(value),
@@ -109,7 +109,7 @@ fn reply(alloc: Global, said: Said) -> Option<Reply> {
     }
 }
 
-/// A call of this id on the key k.
+/// Makes a call with this id on the key k.
 pub fn call(alloc: Global, id: u64, command: Command) -> Option<Call> {
     match Key::new(alloc, b"k") {
         Ok(key) => Some(Call {
@@ -122,7 +122,8 @@ pub fn call(alloc: Global, id: u64, command: Command) -> Option<Call> {
     }
 }
 
-/// Whether the order of these calls is a run. None where an id stands twice, or memory ran out.
+/// Returns whether the order of these calls is a run, or `None` if an id occurs twice or when out
+/// of memory.
 pub fn tested(alloc: Global, calls: &[Call], answers: &[Answer], order: &[u64]) -> Option<bool> {
     let call_ids = calls
         .iter()
@@ -142,7 +143,7 @@ pub fn tested(alloc: Global, calls: &[Call], answers: &[Answer], order: &[u64]) 
     None
 }
 
-/// Whether the steps, as calls 1, 2 and so on, are a run by the test of the crate.
+/// Returns whether the steps, as calls 1, 2 and so on, are a run by the test of register_runs.
 fn is_run_of(alloc: Global, steps: &[Step]) -> Option<bool> {
     let mut calls = Vec::new(alloc);
     let mut answers = Vec::new(alloc);
@@ -167,8 +168,8 @@ fn is_run_of(alloc: Global, steps: &[Step]) -> Option<bool> {
     tested(alloc, &calls, &answers, &order)
 }
 
-/// How many orders of three calls there are, how many are runs, and for how many the test of the crate
-/// and the plain search agree.
+/// Returns the number of orders of three calls, the number of runs among them, and the number of
+/// orders on which the test of register_runs and the plain search agree.
 pub fn compared(alloc: Global) -> Option<(u32, u32, u32)> {
     let mut orders = 0u32;
     let mut runs = 0u32;
