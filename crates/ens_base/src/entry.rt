@@ -9,8 +9,11 @@ use std::alloc::Global;
 /// What the tree keeps of an object: its key, its version, and the MD5 of its encoding.
 #[derive(Debug, PartialEq, Eq, Drop)]
 pub struct Entry {
+    /// The key of the object.
     pub key: Key,
+    /// The version of the object.
     pub version: Version,
+    /// The MD5 of the object's encoding.
     pub digest: Digest,
 }
 

@@ -5,7 +5,9 @@ use std::fmt;
 /// Displayed as `count.proposer`.
 #[derive(Clone, Copy, Debug, PartialEq, Eq, PartialOrd, Ord, Hash)]
 pub struct Epoch {
+    /// The count, which orders epochs first.
     pub count: u64,
+    /// The number of the peer that proposed the epoch.
     pub proposer: u32,
 }
 
@@ -27,7 +29,9 @@ impl fmt::Display for Epoch {
 /// `count.proposer.seq`.
 #[derive(Clone, Copy, Debug, PartialEq, Eq, PartialOrd, Ord, Hash)]
 pub struct Version {
+    /// The epoch in which the write was proposed.
     pub epoch: Epoch,
+    /// The sequence number of the write in its epoch.
     pub seq: u64,
 }
 

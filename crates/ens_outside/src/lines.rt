@@ -20,19 +20,23 @@ pub enum Next {
     Line(Vec<u8>),
     /// The bytes after the last line feed. The source is at its end.
     Rest(Vec<u8>),
+    /// More than 4,400 bytes come without a line feed. None of them is consumed.
     TooLong,
 }
 
 /// Why the next line was not read: the source failed, or out of memory.
 #[derive(Clone, Copy, Debug, PartialEq, Eq)]
 pub enum NextError {
+    /// The source failed. Its fault count has risen.
     Failed,
+    /// Out of memory.
     Memory,
 }
 
 /// Splits a source into lines. Keeps the bytes that were read and not yet returned.
 #[derive(Drop)]
 pub struct Lines {
+    /// The bytes that were read and not yet returned.
     pub pending: Vec<u8>,
 }
 

@@ -8,6 +8,7 @@ use wire_frames::{PhaseOut, Then};
 /// The state of a peer that follows: the number of ticks since it last heard from a leader, 0 to 6.
 #[derive(Clone, Copy, Debug, PartialEq, Eq)]
 pub struct Follower {
+    /// The number of ticks since the peer last heard from a leader, 0 to 6.
     pub quiet: u8,
 }
 

@@ -17,6 +17,7 @@ use std::collections::BTreeMap;
 /// The proposal of a version.
 #[derive(Clone, Copy, Debug, PartialEq, Eq)]
 pub struct Proposal {
+    /// The version that it was made from, if any.
     pub parent: Option<Version>,
     /// The call that the version is the write of; `None` for a rewrite.
     pub call: Option<u64>,

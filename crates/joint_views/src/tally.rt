@@ -8,7 +8,9 @@ use ens_base::{PeerId, PeerSet, View, Views};
 /// vote of one peer, change nothing.
 #[derive(Clone, Copy, Debug)]
 pub struct Tally {
+    /// The views whose members may vote.
     pub views: Views,
+    /// The members that voted.
     pub votes: PeerSet,
 }
 

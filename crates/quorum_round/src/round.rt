@@ -21,6 +21,7 @@ pub enum RoundState {
 /// heap memory.
 #[derive(Clone, Copy, Debug)]
 pub struct Round {
+    /// The answers, as votes.
     pub tally: Tally,
 }
 

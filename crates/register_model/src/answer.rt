@@ -10,6 +10,7 @@ pub struct Answer {
     pub id: u64,
     /// The number of the event at which the answer was given.
     pub event: u64,
+    /// The reply to the call.
     pub reply: Reply,
 }
 

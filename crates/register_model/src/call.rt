@@ -8,7 +8,9 @@ use std::alloc::Global;
 pub struct Call {
     /// The id of the call. No other call has it.
     pub id: u64,
+    /// The key of the register.
     pub key: Key,
+    /// What the call asks of the register.
     pub command: Command,
     /// The number of the event at which the call was made.
     pub event: u64,

@@ -4,6 +4,8 @@ use ens_base::{Key, Seq};
 /// them.
 #[derive(Debug, Drop)]
 pub struct History {
+    /// The key.
     pub key: Key,
+    /// The ids of the calls, in order.
     pub calls: Seq<u64>,
 }

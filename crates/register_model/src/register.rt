@@ -6,7 +6,9 @@ use std::alloc::Global;
 /// The content of a key: absent, or a value under the stamp of the write that gave it.
 #[derive(Debug, PartialEq, Eq, Drop)]
 pub enum Register {
+    /// The key holds nothing.
     Absent,
+    /// The key holds this value, written under this stamp.
     Present(Version, Value),
 }
 

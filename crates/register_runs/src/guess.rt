@@ -22,6 +22,7 @@ pub enum Guess {
 /// A register that is possible after the calls so far.
 #[derive(Debug, Drop)]
 pub struct Possible {
+    /// What the register may hold.
     pub held: Guess,
     /// The stamps that earlier writes must have had for this register to be possible, although no
     /// reply has shown them: an update without a printed reply named them, and took effect.

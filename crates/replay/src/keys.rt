@@ -12,6 +12,7 @@ use std::collections::BTreeMap;
 /// What is kept of one key.
 #[derive(Debug, Drop)]
 pub struct KeyState {
+    /// The register of the key.
     pub register: Register,
     /// The ids of the calls served, in order.
     pub served: Vec<u64>,
@@ -20,6 +21,7 @@ pub struct KeyState {
 /// The keys that calls have named so far.
 #[derive(Drop)]
 pub struct Keys {
+    /// What is kept of each key.
     pub states: BTreeMap<Key, KeyState>,
 }
 

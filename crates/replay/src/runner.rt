@@ -18,8 +18,11 @@ const QUIET_LIMIT: u64 = 6;
 /// The machine that answers calls: one peer, which leads from its sixth tick on.
 #[derive(Drop)]
 pub struct Runner {
+    /// The ticks so far, counted up to six.
     pub ticks: u64,
+    /// The number of overwrites that took effect.
     pub writes: u64,
+    /// The registers and the served calls.
     pub keys: Keys,
 }
 

@@ -11,7 +11,9 @@ use std::alloc::{AllocError, Global};
 /// The end of a job: its status, and the text that it prints.
 #[derive(Drop)]
 pub struct Ending {
+    /// The status.
     pub status: Status,
+    /// The text to print.
     pub text: String,
 }
 
@@ -24,7 +26,8 @@ impl Ending {
         Ok(Ending { status, text })
     }
 
-    /// Returns the ending of a job that could not read a schedule, unless out of memory.
+    /// Returns the ending of a job that could not read a schedule. Fails when out of memory, and for
+    /// `ReadError::Memory`.
     pub fn unread(alloc: Global, error: ReadError) -> Result<Ending, AllocError>
         ensures printed { IfOk result (λ e. (source : Option (List ℕ)) → Refuses source Blank error → IsUnread source e.status (string_bytes e.text)) }
         ensures status { IfOk result (λ e. (e.status ≢ Status.Done) × (e.status ≡ Status.ReadFault → error ≡ ReadError.Failed)) }

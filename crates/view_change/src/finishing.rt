@@ -11,7 +11,9 @@ use wire_frames::{PhaseOut, Then};
 /// of the epoch, and the number of ticks that it has waited, 0 to 8.
 #[derive(Clone, Copy, Debug, PartialEq, Eq)]
 pub struct Finishing {
+    /// The peers that accepted the second fact.
     pub accepts2: PeerSet,
+    /// The number of ticks since the change began, 0 to 8.
     pub age: u8,
 }
 

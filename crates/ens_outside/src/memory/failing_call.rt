@@ -12,5 +12,6 @@ pub enum Leaves {
 pub struct FailingCall {
     /// The number of the call among all calls of its store. The first call is number 1.
     pub call: u64,
+    /// What the call leaves behind.
     pub leaves: Leaves,
 }
