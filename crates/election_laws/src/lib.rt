@@ -4,6 +4,9 @@
 //! or still may accept. Its views share a view with those of the last such epoch, whatever changes
 //! of views lie between, and even if it is elected late, below a greater one. The definitions stand
 //! in `specs/Elections`.
+//!
+//! A ballot is prepared only by its proposer, and at most once. The abstract protocol has no step
+//! for preparing; `specs/Preparing` defines which of its steps prepare a ballot.
 #![tactic(auto)]
 
 mod ballots;

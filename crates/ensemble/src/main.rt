@@ -25,7 +25,7 @@ fn words_of(alloc: Global, all: &[String]) -> Result<Vec<&str>, AllocError> {
     Ok(words)
 }
 
-/// Ends the program that could not read its words.
+/// Writes `memory` and returns the status of a program that could not read its arguments.
 fn out_of_memory<W: Write>(output: &mut WriterSink<W>) -> ExitCode {
     ExitCode::from(finish(output, "memory\n", Status::Memory).number())
 }

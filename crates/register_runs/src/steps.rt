@@ -60,7 +60,7 @@ fn verdict_on(alloc: Global, command: &Command, held: &Guess) -> Result<Verdict,
     }
 }
 
-/// Adds the register as it was.
+/// Adds the register unchanged.
 fn stays(
     alloc: Global,
     held: &Guess,

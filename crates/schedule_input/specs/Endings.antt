@@ -1,23 +1,23 @@
--- What a job prints where it read no schedule.
+-- What a job prints if it read no schedule.
 use Rattle.std.specs.Prelude.{◌≡◌, ℕ, List, [], ◌∷◌, ◌++◌, codes, Option, Err, IfSome}
 use Rattle.std.specs.Fmt.{decimal}
 use Rattle.schedule_text.specs.Reading.{schedule_of}
 use Rattle.schedule_text.specs.declared.error.ScheduleError.TheVariants as schedule
 use Rattle.ens_base.specs.declared.status.Status.{Status}
 
--- the line of a refusal at the first bad line
+-- the text that reports the first bad line
 abbrev pub bad_line : ℕ → ℕ → List ℕ
 bad_line line cause = codes "schedule " ++ decimal line ++ codes " " ++ decimal cause ++ 10 ∷ []
 
--- line 200,001 of the bytes begins, and the text says so
+-- line 200,001 of the bytes begins, and the text reports it
 abbrev pub IsLineLimit : Option (List ℕ) → List ℕ → Type 0
 IsLineLimit source text = IfSome source (λ bytes. schedule_of bytes ≡ Err schedule.Lines) × (text ≡ codes "limit lines 200000" ++ 10 ∷ [])
 
--- the first bad line of the bytes, and its cause, and the text says so
+-- the bytes have a bad line, and the text reports the first one and its cause
 abbrev pub IsBadLine : Option (List ℕ) → List ℕ → Type 0
 IsBadLine source text = (line : ℕ) × (cause : ℕ) × IfSome source (λ bytes. schedule_of bytes ≡ Err (schedule.Bad line cause)) × (text ≡ bad_line line cause)
 
--- the text where no schedule was read, by the status
+-- the text if no schedule was read, for each status
 abbrev pub IsUnread : Option (List ℕ) → Status → List ℕ → Type 0
 IsUnread source Status.Schedule text = IsBadLine source text
 IsUnread source Status.Limit text = IsLineLimit source text

@@ -17,12 +17,12 @@ pub record IsBody (file bytes spelled : List ℕ) : Type 0 where
   pub short : length bytes ≤ 480
   pub serial : last_serial (current file) + 1 < 2 ^ 64
 
--- the other slot is as it was at first
+-- the other slot is unchanged since the first file
 pub record IsKept (first : List ℕ) (s : Slot) (file : List ℕ) : Type 0 where
   pub held : slot_at file (other s) ≡ slot_at first (other s)
   pub gate : shut_at file (other s) ≡ shut_at first (other s)
 
--- the other slot is as it was at first, and the gate of this slot is closed
+-- the other slot is unchanged since the first file, and the gate of this slot is closed
 pub record IsClosed (first : List ℕ) (s : Slot) (file : List ℕ) : Type 0 where
   pub kept : IsKept first s file
   pub closed : shut_at file s ≡ true

@@ -55,7 +55,7 @@ pub trait Disk {
         ensures time { Elapses (moment self.old) (moment self.new) (left_since self.old) (left_since self.new) (may_leave self.new) }
         ensures cause { HasCause (fault_count self.old) (fault_count self.new) result };
 
-    /// Cuts the file to at most `len` bytes. After an error it is cut or as it was.
+    /// Cuts the file to at most `len` bytes. After an error it was cut or is unchanged.
     fn cut(&mut self, len: u64) -> Result<(), Failed>
         ensures cut { OnOk result (Told (seen self.old) (λ old. seen self.new ≡ Some (take len old))) }
         ensures failed { OnErr result (Told (seen self.old) (λ old. (seen self.new ≡ Some old) ⊎ (seen self.new ≡ Some (take len old)))) }

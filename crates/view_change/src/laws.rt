@@ -17,7 +17,7 @@ ghost use Rattle.view_change.specs.declared.finishing.Finishing.{Finishing};
 pub fn changes_keep_the_epoch()
     // A change is taken only to a different view.
     ensures other { (fact : Fact) (leading finishing : Bool) (view : List ℕ) → (row_24 fact leading finishing view).1 ≡ true → ¬ (first_view fact.views ≡ view) }
-    // A leader of one view that has begun no change refuses no other view.
+    // A leader of one view that has begun no change takes a change to any other view.
     ensures taken { (fact : Fact) (old view : List ℕ) → fact.views ≡ old ∷ [] → (row_24 fact true false view).1 ≡ false → old ≡ view }
     // What is saved keeps the ballot, the epoch, the leader and the views.
     ensures saved { (fact save : Fact) (me : ℕ) (accepts : List Bool) (change : Change) → (row_25 fact me accepts change).0.save ≡ Some save → (save.ballot ≡ fact.ballot) × (save.epoch ≡ fact.epoch) × (save.leader ≡ fact.leader) × (save.views ≡ fact.views) }
