@@ -57,7 +57,8 @@ opening_ledger view = record {
   synced = λ d q. false;
 }
 
--- the views after a change: one view becomes the new one and itself, two become the new one
+-- the views after a change: Add puts the new view in front of the only one, Drop leaves the new one of
+-- two, and any other change leaves the views unchanged
 abbrev pub changed_views : Change → List (List ℕ) → List (List ℕ)
 changed_views (Add view) (old ∷ []) = view ∷ old ∷ []
 changed_views (Add view) views = views

@@ -29,8 +29,8 @@ pub fn a_quorum_elects()
     ensures saves { (election : Election) (fact : Fact) (me : ℕ) (trusted : Bool) → SavesAcceptable trusted me fact (row_13 election fact me trusted).1.save }
 {}
 
-/// A peer leads only the epoch that it starts, and only once it has accepted it itself and so has a
-/// quorum of the epoch's views.
+/// A peer leads only the epoch that it starts, and only once it and a quorum of the epoch's views
+/// have accepted it.
 pub fn a_quorum_lets_lead()
     ensures { (election : Election) (me : ℕ) (fact : Fact) → (row_14 election me).1.then ≡ Lead fact → IsAccepted election me fact }
 {}

@@ -57,7 +57,7 @@ fn in_range(members: &[PeerId]) -> bool
 }
 
 impl View {
-    /// Makes a view of `members`. Returns the first cause that applies: `Size`, `Range`, then
+    /// Makes a view of `members`, or returns the first cause that applies: `Size`, `Range`, then
     /// `Order`.
     pub fn new(members: &[PeerId]) -> Result<View, ViewError>
         ensures ok { IfOk result (λ v. v ≡ members.now) }

@@ -17,7 +17,7 @@ pub struct Probing {
     pub best: Fact,
     /// The greatest count of a ballot heard.
     pub count: u64,
-    /// The peers that told their fact, including `me`.
+    /// The peers whose fact was heard, including `me`.
     pub heard: PeerSet,
     /// The peers asked for their fact, including `me` if it is a member.
     pub asked: PeerSet,

@@ -11,8 +11,8 @@ pub fn guards_can_be_met()
 
 /// Five guards matter: without any one of them, a run breaks a law. The guards are: a member of the
 /// new view of a joint epoch accepts only by a sync; a sync ends only at its own ballot; the voters
-/// accepted nothing above the base; the voters are a quorum of the base's views; and the sources of
-/// a sync are a majority of the old view.
+/// accepted no epoch between the base and the new one; the voters are a quorum of the base's views;
+/// and the sources of a sync are a majority of the old view.
 pub fn each_guard_matters()
     ensures acceptance { AcceptanceMatters }
     ensures ballot { BallotMatters }
