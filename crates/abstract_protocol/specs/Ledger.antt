@@ -57,8 +57,8 @@ opening_ledger view = record {
   synced = λ d q. false;
 }
 
--- the views after a change: Add puts the new view in front of the only one, Drop leaves the new one of
--- two, and any other change leaves the views unchanged
+-- the views after a change: Add puts the new view in front of the only one, Drop leaves the new one
+-- of two, and any other change leaves the views unchanged
 abbrev pub changed_views : Change → List (List ℕ) → List (List ℕ)
 changed_views (Add view) (old ∷ []) = view ∷ old ∷ []
 changed_views (Add view) views = views

@@ -74,7 +74,7 @@ fn run_ending(alloc: Global, schedule: Schedule) -> Result<Ending, AllocError>
     machine_ending(alloc, schedule)
 }
 
-/// Returns the ending of a replay of the input, unless out of memory.
+/// Returns the ending of a replay of the input. Fails when out of memory.
 #[tactic(auto, using(crate::proofs::Unread::unread_prints))]
 fn replay_ending<S: Source>(alloc: Global, input: &mut S) -> Result<Ending, AllocError>
     ensures printed { IfOk result (λ e. Prints (S.left input.old) e.status (string_bytes e.text)) }

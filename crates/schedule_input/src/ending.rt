@@ -26,8 +26,8 @@ impl Ending {
         Ok(Ending { status, text })
     }
 
-    /// Returns the ending of a job that could not read a schedule. Fails when out of memory, and for
-    /// `ReadError::Memory`.
+    /// Returns the ending of a job that could not read a schedule. Fails when out of memory, and
+    /// for `ReadError::Memory`.
     pub fn unread(alloc: Global, error: ReadError) -> Result<Ending, AllocError>
         ensures printed { IfOk result (λ e. (source : Option (List ℕ)) → Refuses source Blank error → IsUnread source e.status (string_bytes e.text)) }
         ensures status { IfOk result (λ e. (e.status ≢ Status.Done) × (e.status ≡ Status.ReadFault → error ≡ ReadError.Failed)) }

@@ -12,11 +12,11 @@ use std::alloc::{AllocError, Global};
 /// not keep are zeros.
 #[derive(Clone, Copy, Debug, PartialEq, Eq)]
 pub enum Image {
-    /// None: the old bytes stay, and a cut is not done.
+    /// Keeps none of them: the old bytes stay, and a cut is not done.
     Old,
-    /// All: the new bytes are there, and a cut is done.
+    /// Keeps all of them: the new bytes are there, and a cut is done.
     New,
-    /// The first half of each write: its other bytes are old. A cut is done.
+    /// Keeps the first half of each write; its other bytes are old. A cut is done.
     Half,
 }
 

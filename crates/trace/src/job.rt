@@ -51,7 +51,7 @@ fn run_ending(alloc: Global, schedule: &Schedule) -> Result<Ending, AllocError>
     }
 }
 
-/// Returns the ending of a trace of the input, unless out of memory.
+/// Returns the ending of a trace of the input. Fails when out of memory.
 #[tactic(auto, using(crate::proofs::Unread::unread_traces))]
 fn trace_ending<S: Source>(alloc: Global, input: &mut S) -> Result<Ending, AllocError>
     ensures printed { IfOk result (λ e. Traces (S.left input.old) e.status (string_bytes e.text)) }
