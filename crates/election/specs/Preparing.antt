@@ -8,11 +8,10 @@ use Rattle.peer_fact.specs.declared.fact.Change.TheVariants as changes
 use Rattle.peer_fact.specs.Facts.{views_after}
 use Rattle.wire_frames.specs.declared.message.Message.TheVariants.{Prepare, NewEpoch}
 use Rattle.wire_frames.specs.declared.phase.PhaseOut.{PhaseOut}
-use Rattle.wire_frames.specs.declared.phase.Then.{Then}
 use Rattle.wire_frames.specs.declared.phase.Then.TheVariants.{Stay, Follow, SyncOn, Rule}
 use Rattle.phase_rows.specs.Peers.{nobody, alone, joined, is_member, members, others_of, others_outside, with_members}
 use Rattle.phase_rows.specs.Orders.{is_same, is_newer, may_accept}
-use Rattle.phase_rows.specs.Rows.{silent, sends, saves_and_sends, at_ballot}
+use Rattle.phase_rows.specs.Rows.{silent, sends, saves_and_sends, at_ballot, anew_at_6}
 use Rattle.election.specs.declared.election.Election.{Election}
 use Rattle.election.specs.declared.election.Election.TheVariants.{Preparing, Starting}
 
@@ -24,10 +23,6 @@ ignored election = (election, silent Stay)
 abbrev pub PreparesBelow6 : Election → Type 0
 PreparesBelow6 (Preparing base promises asked age) = age < 6
 PreparesBelow6 (Starting new accepts age) = Unit {0}
-
--- at age 6 probing begins anew (rule 7)
-abbrev pub anew_at_6 : ℕ → Then
-anew_at_6 age = if age == 6 then Rule 7 else Stay
 
 -- rule 3: on a tick the age of a peer that prepares rises by 1, and at 6 rule 7 runs
 abbrev pub row_3 : Election → Election × PhaseOut

@@ -1,27 +1,13 @@
 ghost use Rattle.std.specs.Prelude.{◌≡◌};
 ghost use Rattle.ens_base.specs.View.{IsPeer};
-ghost use Rattle.phase_rows.specs.Orders.{is_same as same};
-ghost use Rattle.phase_rows.specs.Rows.{at_ballot as with_ballot};
 ghost use Rattle.election.specs.Ballots.{promises_to, row_11, row_15};
 
 use ens_base::{Epoch, PeerId};
 use peer_fact::Fact;
-use phase_rows::{alone, is_below, refuse_below, save_and_send, silent};
+use phase_rows::{
+    alone, at_ballot, is_below, is_same, leave_leading, refuse_below, save_and_send, silent,
+};
 use wire_frames::{Message, NackCause, PhaseOut, Then};
-
-/// Returns whether two epochs are equal.
-pub(crate) fn is_same(a: Epoch, b: Epoch) -> bool
-    ensures { result ≡ same a b }
-{
-    a == b
-}
-
-/// Returns the fact with this ballot.
-pub(crate) fn at_ballot(fact: &Fact, ballot: Epoch) -> Fact
-    ensures { result ≡ with_ballot fact.now ballot }
-{
-    Fact { ballot, ..*fact }
-}
 
 /// Saves the fact with the new ballot, and sends the promise to `from`.
 fn promise(promised: &Fact, from: PeerId) -> PhaseOut
@@ -29,10 +15,7 @@ fn promise(promised: &Fact, from: PeerId) -> PhaseOut
     ensures { result ≡ promises_to from promised.now }
 {
     let message = Message::Promise(promised.ballot, *promised);
-    PhaseOut {
-        leave: true,
-        ..save_and_send(*promised, alone(from), message, Then::Follow)
-    }
+    leave_leading(save_and_send(*promised, alone(from), message, Then::Follow))
 }
 
 /// Rule 11: promise a ballot above the saved one, step down if leading, and follow. Ignore an equal
@@ -58,10 +41,7 @@ pub fn rule_15(fact: Fact, ballot: Epoch, cause: NackCause) -> PhaseOut
     match cause {
         NackCause::Greater(other) => {
             if is_same(ballot, fact.ballot) && is_below(ballot, other) {
-                PhaseOut {
-                    leave: true,
-                    ..silent(Then::Follow)
-                }
+                leave_leading(silent(Then::Follow))
             } else {
                 silent(Then::Stay)
             }

@@ -1,37 +1,15 @@
 ghost use Rattle.std.specs.Prelude.{◌≡◌};
-ghost use Rattle.ens_base.specs.PeerSet.{holds};
 ghost use Rattle.ens_base.specs.View.{IsPeer};
-ghost use Rattle.joint_views.specs.Quorums.{is_quorum};
-ghost use Rattle.election.specs.Preparing.{PreparesBelow6, anew_at_6 as then_at, prepares, promised_by, first_fact as first, starts, elected, row_3, row_10, row_12, row_13};
+ghost use Rattle.election.specs.Preparing.{PreparesBelow6, prepares, promised_by, first_fact as first, starts, elected, row_3, row_10, row_12, row_13};
 
-use crate::ballots::{at_ballot, is_same};
 use crate::election::Election;
 use ens_base::{Epoch, PeerId, PeerSet, Views};
-use joint_views::Tally;
 use peer_fact::{Change, Fact};
 use phase_rows::{
-    alone, is_member, is_newer, may_accept, members, others_of, others_outside, save_and_send,
-    send, silent, with_members,
+    alone, anew_at_6, are_quorum, at_ballot, is_member, is_newer, is_same, may_accept, members,
+    others_of, others_outside, save_and_send, send, silent, with_members,
 };
 use wire_frames::{Message, PhaseOut, Then};
-
-/// Returns what to run at this age.
-fn anew_at_6(age: u8) -> Then
-    ensures { result ≡ then_at age }
-{
-    if age == 6 { Then::Rule(7) } else { Then::Stay }
-}
-
-/// Returns whether these peers are a quorum of the views.
-pub(crate) fn is_enough(peers: &PeerSet, views: &Views) -> bool
-    ensures { result ≡ is_quorum (holds peers.now) views.now }
-{
-    let tally = Tally {
-        views: *views,
-        votes: *peers,
-    };
-    tally.is_quorum()
-}
 
 /// Saves the ballot, promises it for `me`, and asks the other members of the base's views.
 fn prepare(fact: Fact, me: PeerId, base: Fact, ballot: Epoch) -> (PhaseOut, Option<Election>)
@@ -185,7 +163,7 @@ impl Election {
     {
         match self {
             Election::Preparing { base, promises, .. } => {
-                if is_enough(promises, &base.views) {
+                if are_quorum(promises, &base.views) {
                     let views = base.next_views();
                     self.elect(&fact, me, trusted, views)
                 } else {

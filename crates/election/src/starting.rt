@@ -2,12 +2,10 @@ ghost use Rattle.std.specs.Prelude.{◌≡◌};
 ghost use Rattle.ens_base.specs.View.{IsPeer};
 ghost use Rattle.election.specs.Starting.{StartsBelow8, resumes, insists, row_4, row_14, row_17};
 
-use crate::ballots::is_same;
 use crate::election::Election;
-use crate::preparing::is_enough;
 use ens_base::{Epoch, PeerId, PeerSet};
 use peer_fact::Fact;
-use phase_rows::{others_outside, send, silent};
+use phase_rows::{are_quorum, is_same, others_outside, send, silent};
 use wire_frames::{Message, PhaseOut, Then};
 
 /// Resumes a running sync.
@@ -52,7 +50,7 @@ impl Election {
         match self {
             Election::Preparing { .. } => silent(Then::Stay),
             Election::Starting { fact, accepts, .. } => {
-                if accepts.has(me) && is_enough(accepts, &fact.views) {
+                if accepts.has(me) && are_quorum(accepts, &fact.views) {
                     silent(Then::Lead(*fact))
                 } else {
                     silent(Then::Stay)

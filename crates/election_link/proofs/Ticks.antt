@@ -1,7 +1,7 @@
 -- Rules 2 to 6: a tick, and the end of a step.
 use Rattle.std.proofs.Common.{ℕ, ◌+◌, Bool, false, not, ◌==◌, nat_lt, if◌then◌else◌, List, Option, arith, sym, subst}
 use Rattle.abstract_protocol.specs.Ledger.{Ledger}
-use Rattle.election.specs.Preparing.{anew_at_6}
+use Rattle.phase_rows.specs.Rows.{anew_at_6}
 use Rattle.election.specs.Starting.{insists, resumes}
 use Rattle.election.specs.declared.election.Election.TheVariants.{Preparing, Starting}
 use Rattle.ens_base.specs.PeerSet.{holds}

@@ -7,8 +7,8 @@ use Rattle.wire_frames.specs.declared.phase.PhaseOut.{PhaseOut}
 use Rattle.wire_frames.specs.declared.phase.Then.TheVariants.{Stay, Follow, Resume, SyncOn}
 use Rattle.phase_rows.specs.Orders.{is_below, is_same, may_accept}
 use Rattle.phase_rows.specs.Peers.{alone}
-use Rattle.phase_rows.specs.Rows.{silent, sends, saves_and_sends, leaves_leading, refuses_below, at_ballot}
-use Rattle.following.specs.Refusals.{refusal, unless_refused, saves}
+use Rattle.phase_rows.specs.Rows.{silent, sends, saves, saves_and_sends, leaves_leading, refuses_below, at_ballot}
+use Rattle.following.specs.Refusals.{refusal, unless_refused}
 
 -- the announced fact is saved and acknowledged, and the peer follows
 abbrev pub accepts : ℕ → Fact → PhaseOut

@@ -5,7 +5,6 @@ use Rattle.peer_fact.specs.declared.fact.Fact.{Fact}
 use Rattle.wire_frames.specs.declared.message.Message.{Message}
 use Rattle.wire_frames.specs.declared.message.NackCause.TheVariants as causes
 use Rattle.wire_frames.specs.declared.phase.PhaseOut.{PhaseOut}
-use Rattle.wire_frames.specs.declared.phase.Then.{Then}
 use Rattle.wire_frames.specs.declared.phase.Then.TheVariants.{Stay, Untrust}
 use Rattle.phase_rows.specs.Orders.{is_below, is_same}
 use Rattle.phase_rows.specs.Peers.{alone}
@@ -24,10 +23,6 @@ refusal fact trusted from ballot =
 abbrev pub unless_refused : Option PhaseOut → PhaseOut → PhaseOut
 unless_refused (Some out) answer = out
 unless_refused None answer = answer
-
--- save the fact, and send nothing
-abbrev pub saves : Fact → Then → PhaseOut
-saves fact next = record (silent next) { save = Some fact }
 
 -- a leader steps down, the damage is reported to the peer, and the tree becomes untrusted
 abbrev pub tells_damage : ℕ → Message → PhaseOut

@@ -2,10 +2,13 @@ ghost use Rattle.std.specs.Prelude.{◌≡◌};
 ghost use Rattle.ens_base.specs.View.{IsPeer};
 ghost use Rattle.following.specs.Announcements.{accepts, awaits_sync, takes, row_16, commits, row_18, row_19};
 
-use crate::refusals::{leave_leading, refusal, save};
+use crate::refusals::refusal;
 use ens_base::{Epoch, PeerId};
 use peer_fact::Fact;
-use phase_rows::{alone, is_below, may_accept, refuse_below, save_and_send, send, silent};
+use phase_rows::{
+    alone, at_ballot, is_below, leave_leading, may_accept, refuse_below, save, save_and_send, send,
+    silent,
+};
 use wire_frames::{Message, PhaseOut, Then};
 
 /// Returns what a peer does that may not accept the fact yet.
@@ -13,11 +16,7 @@ fn await_sync(fact: &Fact, sync_runs: bool, new: Fact) -> PhaseOut
     ensures { result ≡ awaits_sync fact.now sync_runs new }
 {
     if is_below(fact.ballot, new.epoch) {
-        let promised = Fact {
-            ballot: new.epoch,
-            ..*fact
-        };
-        save(promised, Then::SyncOn(new))
+        save(at_ballot(fact, new.epoch), Then::SyncOn(new))
     } else if sync_runs {
         silent(Then::Resume)
     } else {

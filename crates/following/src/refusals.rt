@@ -1,11 +1,10 @@
 ghost use Rattle.std.specs.Prelude.{◌≡◌};
 ghost use Rattle.ens_base.specs.View.{IsPeer};
-ghost use Rattle.phase_rows.specs.Rows.{leaves_leading};
-ghost use Rattle.following.specs.Refusals.{refusal as refusal_of, saves, tells_damage as told_damage};
+ghost use Rattle.following.specs.Refusals.{refusal as refusal_of, tells_damage as told_damage};
 
-use ens_base::{Epoch, PeerId, PeerSet};
+use ens_base::{Epoch, PeerId};
 use peer_fact::Fact;
-use phase_rows::{alone, is_below, refuse, refuse_below, send, silent};
+use phase_rows::{alone, is_below, leave_leading, refuse, refuse_below, send, silent};
 use wire_frames::{Message, NackCause, PhaseOut, Then};
 
 /// Returns the answer of a peer that does not do what the leader of this epoch asks, or `None` if
@@ -23,26 +22,6 @@ pub(crate) fn refusal(fact: &Fact, trusted: bool, from: PeerId, ballot: Epoch) -
     } else {
         None
     }
-}
-
-/// Saves the fact, and sends nothing.
-pub(crate) fn save(fact: Fact, then: Then) -> PhaseOut
-    ensures { result ≡ saves fact then }
-{
-    PhaseOut {
-        leave: false,
-        save: Some(fact),
-        to: PeerSet::empty(),
-        message: None,
-        then,
-    }
-}
-
-/// Makes a leader step down first.
-pub(crate) fn leave_leading(out: PhaseOut) -> PhaseOut
-    ensures { result ≡ leaves_leading out }
-{
-    PhaseOut { leave: true, ..out }
 }
 
 /// Reports damage to the peer, and then untrusts the tree.

@@ -1,5 +1,5 @@
 -- The answers of rules.
-use Rattle.std.specs.Prelude.{ℕ, Bool, true, false, List, Some, None}
+use Rattle.std.specs.Prelude.{ℕ, ◌==◌, if◌then◌else◌, Bool, true, false, List, Some, None}
 use Rattle.ens_base.specs.declared.epoch.Epoch.{Epoch}
 use Rattle.peer_fact.specs.declared.fact.Fact.{Fact}
 use Rattle.wire_frames.specs.declared.message.Message.{Message}
@@ -8,7 +8,7 @@ use Rattle.wire_frames.specs.declared.message.NackCause.{NackCause}
 use Rattle.wire_frames.specs.declared.message.NackCause.TheVariants.{Greater}
 use Rattle.wire_frames.specs.declared.phase.PhaseOut.{PhaseOut}
 use Rattle.wire_frames.specs.declared.phase.Then.{Then}
-use Rattle.wire_frames.specs.declared.phase.Then.TheVariants.{Stay}
+use Rattle.wire_frames.specs.declared.phase.Then.TheVariants.{Stay, Rule}
 use Rattle.phase_rows.specs.Peers.{nobody, alone}
 
 -- save nothing and send nothing
@@ -18,6 +18,10 @@ silent next = record { leave = false; save = None; to = nobody; message = None; 
 -- send the message to the peers
 abbrev pub sends : List Bool → Message → Then → PhaseOut
 sends peers message next = record { leave = false; save = None; to = peers; message = Some message; then = next }
+
+-- save the fact, and send nothing
+abbrev pub saves : Fact → Then → PhaseOut
+saves fact next = record (silent next) { save = Some fact }
 
 -- save the fact, and then send the message to the peers
 abbrev pub saves_and_sends : Fact → List Bool → Message → Then → PhaseOut
@@ -38,3 +42,7 @@ refuses_below peer ballot fact = refuses peer ballot (Greater fact.ballot)
 -- the fact with this ballot
 abbrev pub at_ballot : Fact → Epoch → Fact
 at_ballot fact ballot = record fact { ballot = ballot }
+
+-- at age 6 probing begins anew (rule 7)
+abbrev pub anew_at_6 : ℕ → Then
+anew_at_6 age = if age == 6 then Rule 7 else Stay

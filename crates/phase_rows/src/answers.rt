@@ -1,6 +1,6 @@
 ghost use Rattle.std.specs.Prelude.{◌≡◌};
 ghost use Rattle.ens_base.specs.View.{IsPeer};
-ghost use Rattle.phase_rows.specs.Rows.{silent as is_silent, sends, saves_and_sends, refuses, refuses_below};
+ghost use Rattle.phase_rows.specs.Rows.{silent as is_silent, sends, saves, saves_and_sends, leaves_leading, refuses, refuses_below, at_ballot as with_ballot, anew_at_6 as then_at};
 
 use crate::peers::alone;
 use ens_base::{Epoch, PeerId, PeerSet};
@@ -33,6 +33,19 @@ pub fn send(to: PeerSet, message: Message, then: Then) -> PhaseOut
     }
 }
 
+/// Saves the fact, and sends nothing.
+pub fn save(fact: Fact, then: Then) -> PhaseOut
+    ensures { result ≡ saves fact then }
+{
+    PhaseOut {
+        leave: false,
+        save: Some(fact),
+        to: PeerSet::empty(),
+        message: None,
+        then,
+    }
+}
+
 /// Saves the fact, and then sends the message to the peers in `to`.
 pub fn save_and_send(fact: Fact, to: PeerSet, message: Message, then: Then) -> PhaseOut
     ensures { result ≡ saves_and_sends fact to message then }
@@ -61,4 +74,25 @@ pub fn refuse_below(peer: PeerId, ballot: Epoch, fact: &Fact) -> PhaseOut
     ensures { result ≡ refuses_below peer ballot fact.now }
 {
     refuse(peer, ballot, NackCause::Greater(fact.ballot))
+}
+
+/// The same answer, but a leader steps down first.
+pub fn leave_leading(out: PhaseOut) -> PhaseOut
+    ensures { result ≡ leaves_leading out }
+{
+    PhaseOut { leave: true, ..out }
+}
+
+/// Returns the fact with this ballot.
+pub fn at_ballot(fact: &Fact, ballot: Epoch) -> Fact
+    ensures { result ≡ with_ballot fact.now ballot }
+{
+    Fact { ballot, ..*fact }
+}
+
+/// Returns what to run at this age of probing or preparing: at 6, probing begins anew (rule 7).
+pub fn anew_at_6(age: u8) -> Then
+    ensures { result ≡ then_at age }
+{
+    if age == 6 { Then::Rule(7) } else { Then::Stay }
 }

@@ -13,7 +13,11 @@ mod laws;
 mod orders;
 mod peers;
 
-pub use answers::{refuse, refuse_below, save_and_send, send, silent};
+pub use answers::{
+    anew_at_6, at_ballot, leave_leading, refuse, refuse_below, save, save_and_send, send, silent,
+};
 pub use laws::tests_are_the_orders;
-pub use orders::{is_below, is_newer, may_accept};
-pub use peers::{alone, is_member, joined, members, others_of, others_outside, with_members};
+pub use orders::{is_below, is_newer, is_same, may_accept};
+pub use peers::{
+    alone, are_quorum, is_member, joined, members, others_of, others_outside, with_members,
+};

@@ -1,5 +1,5 @@
 ghost use Rattle.std.specs.Prelude.{◌≡◌};
-ghost use Rattle.phase_rows.specs.Orders.{is_below as below, is_newer as newer, may_accept as may};
+ghost use Rattle.phase_rows.specs.Orders.{is_below as below, is_same as same, is_newer as newer, may_accept as may};
 
 use crate::peers::is_in;
 use ens_base::{Epoch, PeerId};
@@ -10,6 +10,13 @@ pub fn is_below(a: Epoch, b: Epoch) -> bool
     ensures { result ≡ below a b }
 {
     a.count < b.count || (a.count == b.count && a.proposer < b.proposer)
+}
+
+/// Returns whether two epochs are equal.
+pub fn is_same(a: Epoch, b: Epoch) -> bool
+    ensures { result ≡ same a b }
+{
+    a == b
 }
 
 /// Returns whether the first fact is newer than the second: by epoch, then by sequence number.

@@ -1,8 +1,11 @@
 ghost use Rattle.std.specs.Prelude.{◌≡◌, ◌≤◌, ◌<◌};
+ghost use Rattle.ens_base.specs.PeerSet.{holds};
 ghost use Rattle.ens_base.specs.View.{IsPeer};
+ghost use Rattle.joint_views.specs.Quorums.{is_quorum};
 ghost use Rattle.phase_rows.specs.Peers.{is_in as is_in_list, is_member as is_member_of, alone as alone_set, joined as joined_set, members as members_set, others_outside as outside_set, with_members as with_set, others_of as others_set};
 
 use ens_base::{PeerId, PeerSet, View, Views};
+use joint_views::Tally;
 
 /// Returns whether the peer is a member of the view.
 pub(crate) fn is_in(view: &View, peer: PeerId) -> bool
@@ -93,4 +96,15 @@ pub fn others_of(me: PeerId, set: &PeerSet) -> PeerSet
         }
     }
     others
+}
+
+/// Returns whether these peers are a quorum: a majority of each view.
+pub fn are_quorum(peers: &PeerSet, views: &Views) -> bool
+    ensures { result ≡ is_quorum (holds peers.now) views.now }
+{
+    let tally = Tally {
+        views: *views,
+        votes: *peers,
+    };
+    tally.is_quorum()
 }

@@ -1,20 +1,15 @@
 -- The rules by which a peer asks the others for their facts: 3, 7, 8 and 9.
-use Rattle.std.specs.Prelude.{ℕ, ◌+◌, ◌==◌, if◌then◌else◌, max, Option, Some}
+use Rattle.std.specs.Prelude.{ℕ, ◌+◌, if◌then◌else◌, max, Option, Some}
 use Rattle.ens_base.specs.PeerSet.{holds}
 use Rattle.joint_views.specs.Quorums.{is_quorum}
 use Rattle.peer_fact.specs.declared.fact.Fact.{Fact}
 use Rattle.wire_frames.specs.declared.message.Message.TheVariants.{Probe, ProbeReply}
 use Rattle.wire_frames.specs.declared.phase.PhaseOut.{PhaseOut}
-use Rattle.wire_frames.specs.declared.phase.Then.{Then}
 use Rattle.wire_frames.specs.declared.phase.Then.TheVariants.{Stay, Rule}
 use Rattle.phase_rows.specs.Peers.{alone, joined, members, others_of, others_outside, with_members}
 use Rattle.phase_rows.specs.Orders.{is_newer}
-use Rattle.phase_rows.specs.Rows.{silent, sends}
+use Rattle.phase_rows.specs.Rows.{silent, sends, anew_at_6}
 use Rattle.probe.specs.declared.probing.Probing.{Probing}
-
--- at age 6 probing begins anew (rule 7)
-abbrev pub anew_at_6 : ℕ → Then
-anew_at_6 age = if age == 6 then Rule 7 else Stay
 
 -- rule 3: on a tick the age rises by 1, and at 6 rule 7 runs
 abbrev pub row_3 : Probing → Probing × PhaseOut

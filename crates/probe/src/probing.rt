@@ -1,13 +1,13 @@
 ghost use Rattle.std.specs.Prelude.{◌≡◌, ◌<◌};
 ghost use Rattle.ens_base.specs.View.{IsPeer};
-ghost use Rattle.ens_base.specs.PeerSet.{holds};
-ghost use Rattle.joint_views.specs.Quorums.{is_quorum};
-ghost use Rattle.probe.specs.Probing.{anew_at_6 as then_at, row_3, row_7, row_8, row_8_probe, row_9};
+ghost use Rattle.probe.specs.Probing.{row_3, row_7, row_8, row_8_probe, row_9};
 
 use ens_base::{PeerId, PeerSet};
-use joint_views::Tally;
 use peer_fact::Fact;
-use phase_rows::{alone, is_newer, members, others_of, others_outside, send, silent, with_members};
+use phase_rows::{
+    alone, anew_at_6, are_quorum, is_newer, members, others_of, others_outside, send, silent,
+    with_members,
+};
 use wire_frames::{Message, PhaseOut, Then};
 
 /// The state of a peer that is probing.
@@ -23,13 +23,6 @@ pub struct Probing {
     pub asked: PeerSet,
     /// The number of ticks since probing began, 0 to 6.
     pub age: u8,
-}
-
-/// Returns what to run at this age.
-fn anew_at_6(age: u8) -> Then
-    ensures { result ≡ then_at age }
-{
-    if age == 6 { Then::Rule(7) } else { Then::Stay }
 }
 
 /// Rule 7: begin to probe. Asks the other members of the fact's views.
@@ -85,22 +78,11 @@ impl Probing {
         }
     }
 
-    /// Returns whether a quorum of the best fact's views was heard.
-    fn is_enough(&self) -> bool
-        ensures { result ≡ is_quorum (holds self.now.heard) self.now.best.views }
-    {
-        let tally = Tally {
-            views: self.best.views,
-            votes: self.heard,
-        };
-        tally.is_quorum()
-    }
-
     /// Rule 9: once a quorum of the best fact's views was heard, ask for a ballot.
     pub fn rule_9(&mut self) -> PhaseOut
         ensures { (self.new, result) ≡ row_9 self.old }
     {
-        if self.is_enough() {
+        if are_quorum(&self.heard, &self.best.views) {
             silent(Then::Rule(10))
         } else {
             silent(Then::Stay)

@@ -2,9 +2,8 @@ ghost use Rattle.std.specs.Prelude.{◌≡◌};
 ghost use Rattle.ens_base.specs.View.{IsPeer};
 
 use ens_base::{Epoch, PeerId, PeerSet};
-use joint_views::Tally;
 use peer_fact::Fact;
-use phase_rows::{is_member, joined, silent};
+use phase_rows::{are_quorum, is_member, joined, silent};
 use wire_frames::{PhaseOut, Then};
 
 /// The state of a leader that waits for its epoch to end: the peers that accepted the second fact
@@ -37,11 +36,7 @@ impl Finishing {
     pub fn rule_26(&mut self, fact: Fact, me: PeerId, unanswered: bool) -> PhaseOut
         ensures { (self.new, result) ≡ row_26 self.old fact me unanswered }
     {
-        let tally = Tally {
-            views: fact.views,
-            votes: self.accepts2,
-        };
-        if !tally.is_quorum() || unanswered {
+        if !are_quorum(&self.accepts2, &fact.views) || unanswered {
             silent(Then::Stay)
         } else if is_member(&fact.next_views(), me) {
             silent(Then::Rule(10))
