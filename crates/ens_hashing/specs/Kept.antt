@@ -1,10 +1,11 @@
 -- The strings of a book, and the exact answers of a book.
-use Rattle.std.specs.Prelude.{◌≡◌, ◌≢◌, ◌⊎◌, ◌+◌, ◌-◌, ◌^◌, ◌<◌, ◌≤◌, min, ℕ, List, map, length, sum_by, All, Vec, Contains, Result, Ok, Err}
+use Rattle.std.specs.Prelude.{◌≡◌, ◌≢◌, ◌⊎◌, ◌+◌, ◌<◌, ◌≤◌, ℕ, List, map, length, sum_by, All, Vec, Contains, Result, Ok, Err}
 use Rattle.std.specs.declared.alloc.Global.{Global}
 use Rattle.md5.specs.Md5.{md5}
 use Rattle.ens_hashing.specs.Hashing.{IsClash}
 use Rattle.ens_hashing.specs.declared.error.HashError.{HashError}
 use Rattle.ens_hashing.specs.declared.error.HashError.TheVariants.{Clash, BookFull, Memory}
+use Rattle.ens_base.specs.Causes.{counted}
 
 -- the entries of the map: pairs of a digest and the string that has it
 abbrev pub Entries : Type 0
@@ -32,10 +33,6 @@ BookAnswers limit kept bytes (Ok x) = Contains kept bytes ⊎ (IsNew kept bytes 
 BookAnswers limit kept bytes (Err (Clash first second)) = Contains kept first.items × IsClash first.items bytes × (second.items ≡ bytes)
 BookAnswers limit kept bytes (Err (BookFull n)) = IsNew kept bytes × (n ≡ total kept) × (limit < total kept + length bytes)
 BookAnswers limit kept bytes (Err Memory) = Unit {0}
-
--- one more, but never above the greatest u64
-abbrev pub counted : ℕ → ℕ
-counted n = min (n + 1) (2 ^ 64 - 1)
 
 -- each rejection is counted once, under its own cause
 abbrev pub Counts : {T : Type 0} → ℕ → ℕ → ℕ → ℕ → Result T HashError → Type 0

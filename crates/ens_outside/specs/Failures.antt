@@ -1,8 +1,9 @@
 -- The planned failures of a store in memory, and its counts.
-use Rattle.std.specs.Prelude.{ℕ, ◌+◌, ◌-◌, ◌^◌, ◌==◌, if◌then◌else◌, min, List, [], ◌∷◌, Option, None, Some}
+use Rattle.std.specs.Prelude.{ℕ, ◌==◌, if◌then◌else◌, List, [], ◌∷◌, Option, None, Some}
 use Rattle.ens_outside.specs.declared.memory.failing_call.Leaves.{Leaves}
 use Rattle.ens_outside.specs.declared.memory.failing_call.Leaves.TheVariants.{Old, New}
 use Rattle.ens_outside.specs.declared.memory.failing_call.FailingCall.{FailingCall}
+use Rattle.ens_base.specs.Causes.{counted}
 
 -- the planned failures, the number of calls so far, and the number of those that failed
 pub record Plan : Type 0 where
@@ -15,10 +16,6 @@ pub record Plan : Type 0 where
 abbrev pub planned : ℕ → List FailingCall → Option Leaves
 planned call [] = None
 planned call (f ∷ fs) = if f.call == call then Some f.leaves else planned call fs
-
--- one more, but never above the greatest u64
-abbrev pub counted : ℕ → ℕ
-counted n = min (n + 1) (2 ^ 64 - 1)
 
 -- what the next call leaves behind, if it is planned to fail
 abbrev pub next_failure : Plan → Option Leaves

@@ -1,7 +1,7 @@
 -- A link in memory: the results of its looks are given in advance, and sent frames are kept.
 use Rattle.std.specs.Prelude.{◌≡◌, ℕ, ◌+◌, ◌-◌, List, [], ◌∷◌, ◌++◌, Bool, false, Option, None, Vec, Result, Ok, Err, Contains, length, take, replicate, slice_index_or}
 use Rattle.std.specs.declared.alloc.Global.{Global}
-use Rattle.ens_outside.specs.Failures.{counted}
+use Rattle.ens_base.specs.Causes.{counted}
 use Rattle.ens_outside.specs.Told.{bytes_of}
 use Rattle.ens_outside.specs.declared.errors.LinkError.{LinkError}
 use Rattle.ens_outside.specs.declared.errors.LinkError.TheVariants.{Failed, Memory}

@@ -8,13 +8,9 @@ use Rattle.std.proofs.lemmas.Cmp.{eq_by_cmp_equiv, nat_list_cmp_total}
 use Rattle.std.proofs.lemmas.List.Kept.{Contains-dedup, Contains-from_dedup, IsStrictlySortedBy-dedup}
 use Rattle.std.proofs.lemmas.List.Sorted.{Contains-permutation, IsPermutation-sym}
 use Rattle.std.proofs.lemmas.Map.Text.{is_eq-slice_cmp}
-use Rattle.std.proofs.lemmas.Slice.Eq.{bytes_eq-Decides}
 use Rattle.ens_base.specs.Lists.{same_bytes, bytes_cmp}
 use Rattle.history_scribe.specs.Histories.{AreSorted}
-
--- equal bytes are equal lists
-alike_is_same : (xs ys : List ℕ) → same_bytes xs ys ≡ true → xs ≡ ys
-alike_is_same xs ys alike = (bytes_eq-Decides xs ys).0 alike
+use Rattle.ens_base.proofs.Lists.{bytes_same}
 
 alike_ties : (xs ys : List ℕ) → same_bytes xs ys ≡ eq_by_cmp bytes_cmp xs ys
 alike_ties xs ys = sym (is_eq-slice_cmp xs ys)
@@ -34,7 +30,7 @@ sorted_once named copied moved kept copies permuted sorts is =
     let back : (key : List ℕ) → Contains kept key → Contains copied key = λ key has.
     Contains-permutation moved copied key (IsPermutation-sym copied moved permuted) (Contains-from_dedup same_bytes moved key (subst (λ (ks : List (List ℕ)). Contains ks key) is has)) in
     let forth : (key : List ℕ) → Contains copied key → Contains kept key = λ key has.
-    subst (λ (ks : List (List ℕ)). Contains ks key) (sym is) (Contains-dedup keys_alike alike_is_same moved key (Contains-permutation copied moved key permuted has)) in
+    subst (λ (ks : List (List ℕ)). Contains ks key) (sym is) (Contains-dedup keys_alike bytes_same moved key (Contains-permutation copied moved key permuted has)) in
     record {
       same = λ key. (λ has. subst (λ (ks : List (List ℕ)). Contains ks key) copies (back key has), λ has. forth key (subst (λ (ks : List (List ℕ)). Contains ks key) (sym copies) has));
       ascending = subst (λ (ks : List (List ℕ)). IsStrictlySortedBy bytes_cmp ks) (sym is) (IsStrictlySortedBy-dedup nat_list_cmp_total alike_ties moved sorts);

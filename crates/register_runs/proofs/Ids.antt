@@ -10,11 +10,7 @@ use Rattle.register_model.specs.declared.answer.Answer.{Answer}
 use Rattle.register_model.specs.declared.call.Call.{Call}
 use Rattle.register_runs.specs.Places.{ArePlaces}
 use Rattle.register_runs.proofs.Stands.{in_either}
-
-pub in-map : {A B : Type 0} (f : A → B) (xs : List A) (x : A) → x ∈ xs → f x ∈ map f xs
-in-map f [] x h = absurd h
-in-map f (y ∷ ys) x (inl e) = inl (ap f e)
-in-map f (y ∷ ys) x (inr h) = inr (in-map f ys x h)
+use Rattle.ens_base.proofs.Lists.{in-map}
 
 -- two items of a list with the same name are equal, if the names are distinct
 pub one_of : {A : Type 0} (f : A → ℕ) (xs : List A) (x y : A) → AreDistinct (map f xs) → x ∈ xs → y ∈ xs → f x ≡ f y → x ≡ y

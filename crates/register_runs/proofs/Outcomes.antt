@@ -2,7 +2,6 @@
 use Rattle.std.proofs.Common.{◌≡◌, ℕ, Bool, true, false, List, [], ◌∷◌, ◌++◌, ◌⊎◌, inl, inr, refl, sym, ap, subst, ◌∙◌}
 use Rattle.std.specs.Prelude.{if◌then◌else◌, Option, Some}
 use Rattle.std.proofs.lemmas.Bool.{and_parts, and_from, false≢true}
-use Rattle.std.proofs.lemmas.Slice.Eq.{bytes_eq-Decides}
 use Rattle.ens_base.specs.Lists.{◌∈◌, same_bytes}
 use Rattle.ens_base.specs.Epochs.{same_version}
 use Rattle.ens_base.specs.declared.epoch.Version.{Version}
@@ -15,14 +14,9 @@ use Rattle.register_runs.specs.Stamps.{with_stamp}
 use Rattle.register_runs.specs.Guesses.{same_reply, learned, with_wanted}
 use Rattle.register_runs.proofs.Fresh.{Has}
 use Rattle.register_runs.proofs.Stands.{in_left, in_right, in_either, version_same, version_itself, in_with, with_old, with_new}
+use Rattle.ens_base.proofs.Lists.{bytes_same, bytes_itself}
 
 -- ## Equal replies
-
-pub bytes_same : (xs ys : List ℕ) → same_bytes xs ys ≡ true → xs ≡ ys
-bytes_same xs ys h = (bytes_eq-Decides xs ys).0 h
-
-pub bytes_itself : (xs : List ℕ) → same_bytes xs xs ≡ true
-bytes_itself xs = (bytes_eq-Decides xs xs).1 refl
 
 pub reply_itself : (a : Reply) → same_reply a a ≡ true
 reply_itself (Reply.Value s b) = and_from (same_version s s) (same_bytes b b) (version_itself s) (bytes_itself b)

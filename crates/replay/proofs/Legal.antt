@@ -18,10 +18,9 @@ use Rattle.replay.specs.Events.{calls_from, call_ids}
 use Rattle.replay.specs.Histories.{AreHistories}
 use Rattle.replay.specs.Jobs.{AreLegal}
 use Rattle.replay.specs.Machine.{Machine, start, leads, stamp_of, set_register, after, reading, answers_from, history_from}
-use Rattle.replay.proofs.Lookups.{bytes_same}
-use Rattle.replay.proofs.Printed.{same_itself}
 use Rattle.replay.proofs.Machines.{taken, not_taken}
 use Rattle.replay.proofs.Serving.{ids, serve, in-ids, serve-distinct, both, and_true, of_call, completed_call, refused_call, before_call}
+use Rattle.ens_base.proofs.Lists.{bytes_same, bytes_itself}
 
 -- an answer is to a call of the same event
 pub answered : (m : Machine) (n : ℕ) (events : List Event) (a : Answer) → a ∈ answers_from m n events → (c : Call) × (c ∈ calls_from n events) × (c.id ≡ a.id) × (c.event ≡ a.event)
@@ -74,7 +73,7 @@ unserved true c h = absurd cc
 unserved false c h = refl
 
 keys_same : (x y : List ℕ) → x ≡ y → same_bytes x y ≡ true
-keys_same x y e = let P : List ℕ → Type 0 = λ z. same_bytes x z ≡ true in subst P e (same_itself x)
+keys_same x y e = let P : List ℕ → Type 0 = λ z. same_bytes x z ≡ true in subst P e (bytes_itself x)
 
 -- a completed call on the key is in its history
 pub history_completed : (m : Machine) (n : ℕ) (k : List ℕ) (events : List Event) → AreDistinct (ids (calls_from n events)) → (c : Call) (a : Answer) → c ∈ calls_from n events → a ∈ answers_from m n events → a.id ≡ c.id → c.key ≡ k → IsDone a.reply → c.id ∈ history_from m k events

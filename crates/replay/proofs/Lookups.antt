@@ -1,17 +1,13 @@
 -- What a lookup finds after a change at one key.
 use Rattle.std.proofs.Common.{◌≡◌, ℕ, Bool, true, false, cond, ◌||◌, List, [], ◌++◌, Option, None, Some, refl, sym, ap, subst, ◌∙◌}
 use Rattle.std.proofs.lemmas.Map.Text.{is_eq-slice_cmp}
-use Rattle.std.proofs.lemmas.Slice.Eq.{bytes_eq-Decides}
 use Rattle.std.specs.Prelude.{is_some, IsSome}
 use Rattle.std.specs.BTreeMap.{is_at, get, BTreeMap, WritesThrough}
 use Rattle.ens_base.specs.Lists.{bytes_cmp, same_bytes}
 use Rattle.register_model.specs.declared.register.Register.TheVariants.{Absent}
 use Rattle.replay.specs.declared.keys.KeyState.{KeyState}
 use Rattle.replay.specs.Keys.{register_of, served_of}
-
--- equal bytes are equal lists
-pub bytes_same : (xs ys : List ℕ) → same_bytes xs ys ≡ true → xs ≡ ys
-bytes_same xs ys h = (bytes_eq-Decides xs ys).0 h
+use Rattle.ens_base.proofs.Lists.{bytes_same}
 
 none_of : {A : Type 0} (o : Option A) → is_some o ≡ false → o ≡ None
 none_of None h = refl

@@ -16,11 +16,6 @@ Contains_from_in [] x h = absurd h
 Contains_from_in (y ∷ ys) x (inl e) = (0, omega arith, sym e)
 Contains_from_in (y ∷ ys) x (inr h) = let there = Contains_from_in ys x h in (suc there.0, omega (arith, there.1), there.2)
 
-pub in-map : {A B : Type 0} (f : A → B) (xs : List A) (x : A) → x ∈ xs → f x ∈ map f xs
-in-map f [] x h = absurd h
-in-map f (y ∷ ys) x (inl e) = inl (ap f e)
-in-map f (y ∷ ys) x (inr h) = inr (in-map f ys x h)
-
 pub from_map : {A B : Type 0} (f : A → B) (xs : List A) (y : B) → y ∈ map f xs → (x : A) × (x ∈ xs) × (y ≡ f x)
 from_map f [] y h = absurd h
 from_map f (x ∷ xs) y (inl e) = (x, inl refl, e)

@@ -6,7 +6,6 @@ use Rattle.std.specs.List.Sorted.{IsStrictlySortedBy}
 use Rattle.std.proofs.lemmas.Cmp.{nat_list_cmp_total}
 use Rattle.std.proofs.lemmas.Map.Lookups.{exact_bytes}
 use Rattle.std.proofs.lemmas.Map.Views.{btree_map_get_iff}
-use Rattle.std.proofs.lemmas.Slice.Eq.{bytes_eq-Decides}
 use Rattle.ens_base.specs.Lists.{◌∈◌, bytes_cmp, same_bytes}
 use Rattle.ens_base.specs.declared.command.Command.TheVariants.{Get, Over}
 use Rattle.register_model.specs.declared.call.Call.{Call}
@@ -19,11 +18,8 @@ use Rattle.replay.specs.Events.{calls_from}
 use Rattle.replay.specs.Keys.{served_in, served_of, is_known, history_at}
 use Rattle.replay.specs.Machine.{start, history_from, named}
 use Rattle.replay.specs.Histories.{AreHistories}
-use Rattle.replay.proofs.Lookups.{bytes_same}
-use Rattle.replay.proofs.Members.{in_from_Contains, Contains_from_in, in-map, from_map}
-
-pub same_itself : (xs : List ℕ) → same_bytes xs xs ≡ true
-same_itself xs = (bytes_eq-Decides xs xs).1 refl
+use Rattle.replay.proofs.Members.{in_from_Contains, Contains_from_in, from_map}
+use Rattle.ens_base.proofs.Lists.{bytes_same, bytes_itself, in-map}
 
 either : (a b : Bool) → (a || b) ≡ true → (a ≡ true) ⊎ (b ≡ true)
 either true b h = inl refl
@@ -48,9 +44,9 @@ no-more (x ∷ xs) = ap (λ (l : List ℕ). x ∷ l) (no-more xs)
 pub call_names : (number : ℕ) (events : List Event) (c : Call) → c ∈ calls_from number events → named events c.key ≡ true
 call_names number [] c h = absurd h
 call_names number (Tick count ∷ rest) c h = call_names (number + 1) rest c h
-call_names number (Read id key ∷ rest) c (inl e) = true-left _ _ (ap (λ (d : Call). same_bytes key d.key) e ∙ same_itself key)
+call_names number (Read id key ∷ rest) c (inl e) = true-left _ _ (ap (λ (d : Call). same_bytes key d.key) e ∙ bytes_itself key)
 call_names number (Read id key ∷ rest) c (inr h) = true-right _ _ (call_names (number + 1) rest c h)
-call_names number (Write id key value ∷ rest) c (inl e) = true-left _ _ (ap (λ (d : Call). same_bytes key d.key) e ∙ same_itself key)
+call_names number (Write id key value ∷ rest) c (inl e) = true-left _ _ (ap (λ (d : Call). same_bytes key d.key) e ∙ bytes_itself key)
 call_names number (Write id key value ∷ rest) c (inr h) = true-right _ _ (call_names (number + 1) rest c h)
 
 by_first : (first : Call) (key : List ℕ) (rest : List Call) (more : Bool) → (same_bytes first.key key ≡ true) ⊎ (more ≡ true) → (more ≡ true → (c : Call) × (c ∈ rest) × (c.key ≡ key)) → (c : Call) × (c ∈ (first ∷ rest)) × (c.key ≡ key)

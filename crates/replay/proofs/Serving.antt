@@ -4,8 +4,7 @@ use Rattle.std.specs.Prelude.{if◌then◌else◌, slice_get}
 use Rattle.ens_base.specs.Lists.{◌∈◌, AreDistinct, same_bytes}
 use Rattle.register_model.specs.declared.call.Call.{Call}
 use Rattle.register_model.specs.declared.answer.Answer.{Answer}
-use Rattle.replay.proofs.Lookups.{bytes_same}
-use Rattle.replay.proofs.Members.{in-map}
+use Rattle.ens_base.proofs.Lists.{bytes_same, in-map}
 
 abbrev pub ids : List Call → List ℕ
 ids calls = map (λ (c : Call). c.id) calls

@@ -1,6 +1,7 @@
 ghost use Rattle.std.specs.Prelude.{◌≡◌, ◌≤◌};
 ghost use Rattle.ens_base.specs.Causes.{Rose};
-ghost use Rattle.ens_outside.specs.Failures.{planned, counted, next_failure, called};
+ghost use Rattle.ens_base.specs.Causes.{counted};
+ghost use Rattle.ens_outside.specs.Failures.{planned, next_failure, called};
 
 use crate::memory::failing_call::{FailingCall, Leaves};
 use std::marker::Model;
