@@ -1,4 +1,4 @@
-use crate::small::{call, stamp, tested, value};
+use super::small::{call, stamp, tested, value};
 use ens_base::{Command, Reply};
 use register_model::Answer;
 use std::alloc::Global;

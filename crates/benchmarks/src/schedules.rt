@@ -1,12 +1,9 @@
-//! Reads a schedule of the most lines there may be, writes it back, and says whether the text is the
-//! same. Its time is the speed of the reader and the writer.
-#![tactic(auto)]
+//! Reads a schedule of 200,000 lines, and writes it back.
 
 use schedule_text::{ScheduleError, read_schedule, write_schedule};
 use std::alloc::{AllocError, Global};
-use std::io;
 
-/// How many lines follow the first three.
+/// The number of lines after the first three.
 const EVENTS: u64 = 199_997;
 
 /// A schedule of 200,000 lines, one call in two.
@@ -22,23 +19,15 @@ fn schedule_of_calls(alloc: Global) -> Result<String, AllocError> {
     Ok(text)
 }
 
-/// The number of events, and whether what is written is what was read.
-fn read_and_write(alloc: Global, text: &str) -> Result<(usize, bool), ScheduleError> {
+/// Returns the number of events, and whether the schedule is written back as it was read.
+pub fn measure(alloc: Global) -> Result<(usize, bool), ScheduleError> {
+    let Ok(text) = schedule_of_calls(alloc) else {
+        return Err(ScheduleError::Memory);
+    };
     let schedule = read_schedule(alloc, text.as_bytes())?;
     let written = write_schedule(alloc, &schedule)?;
     Ok((
         schedule.events.as_slice().len(),
         written.as_slice() == text.as_bytes(),
     ))
-}
-
-fn main(rt: HostRuntime) -> io::Result<()> {
-    let alloc = rt.alloc();
-    let Ok(text) = schedule_of_calls(alloc) else {
-        return println!(rt; "no memory");
-    };
-    match read_and_write(alloc, &text) {
-        Ok((events, same)) => println!(rt; "events {events} same {same}"),
-        Err(e) => println!(rt; "{e:?}"),
-    }
 }

@@ -1,4 +1,4 @@
-use crate::plain::{Ask, Said, Step, is_run};
+use super::plain::{Ask, Said, Step, is_run};
 use ens_base::{Command, Epoch, Key, Reply, Value, Version};
 use register_model::{Answer, Call};
 use std::alloc::Global;

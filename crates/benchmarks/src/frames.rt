@@ -1,11 +1,8 @@
-//! Decodes a million beats and a million calls, and says how many were frames. Its time is the speed of
-//! the decoder.
-#![tactic(auto)]
+//! Decodes a million beats and a million calls.
 
 ghost use Rattle.std.specs.Prelude.{◌≤◌};
 
 use std::alloc::Global;
-use std::io;
 use wire_frames::decode_frame;
 
 /// The beat of epoch 1.1 from peer 1 to peer 2.
@@ -19,7 +16,7 @@ const CALL: [u8; 28] = [
     0x76,
 ];
 
-/// How often the bytes were a frame, of so many times.
+/// Decodes the bytes `times` times, and returns how often they were a frame.
 fn decoded(alloc: Global, bytes: &[u8], times: u32) -> u32
     ensures { result ≤ times }
 {
@@ -33,10 +30,10 @@ fn decoded(alloc: Global, bytes: &[u8], times: u32) -> u32
     frames
 }
 
-fn main(rt: HostRuntime) -> io::Result<()> {
-    let alloc = rt.alloc();
-    let beats = decoded(alloc, &BEAT, 1_000_000);
-    let calls = decoded(alloc, &CALL, 1_000_000);
-    println!(rt; "beats {beats} calls {calls}")?;
-    Ok(())
+/// Returns how many of a million beats and of a million calls were decoded.
+pub fn measure(alloc: Global) -> (u32, u32) {
+    (
+        decoded(alloc, &BEAT, 1_000_000),
+        decoded(alloc, &CALL, 1_000_000),
+    )
 }

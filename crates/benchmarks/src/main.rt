@@ -1,0 +1,46 @@
+//! Measures the speed of the decoder of frames, of the reader and writer of schedules, and of the test
+//! whether an order is a run of one register.
+//!
+//! Each word names a part: `frames`, `schedules`, `runs`. Without a word all parts run. The printed
+//! counts are the same on every machine; measure the time from outside.
+#![tactic(auto)]
+
+mod frames;
+mod runs;
+mod schedules;
+
+use std::{env, io};
+
+/// Returns whether the part is asked for: its name is among the words, or there is no word.
+fn is_asked(words: &[String], part: &str) -> bool {
+    words.len() <= 1 || words.iter().skip(1).any(|word| word.as_str() == part)
+}
+
+fn main(rt: HostRuntime) -> io::Result<()> {
+    let alloc = rt.alloc();
+    let Ok(args) = env::args(&rt) else {
+        return println!(rt; "usage");
+    };
+    let Ok(words) = args.collect::<Vec<String>>(alloc) else {
+        return println!(rt; "memory");
+    };
+    if is_asked(&words, "frames") {
+        let (beats, calls) = frames::measure(alloc);
+        println!(rt; "beats {beats} calls {calls}")?;
+    }
+    if is_asked(&words, "schedules") {
+        match schedules::measure(alloc) {
+            Ok((events, same)) => println!(rt; "events {events} same {same}")?,
+            Err(_) => println!(rt; "memory")?,
+        }
+    }
+    if is_asked(&words, "runs") {
+        match runs::measure(alloc) {
+            Some((orders, runs, same, long)) => {
+                println!(rt; "orders {orders} runs {runs} same {same} long {long}")?
+            }
+            None => println!(rt; "memory")?,
+        }
+    }
+    Ok(())
+}
