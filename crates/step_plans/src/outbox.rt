@@ -1,0 +1,195 @@
+ghost use Rattle.std.specs.Prelude.{◌≡◌, ◌+◌, ◌≤◌, ◌++◌, ◌∷◌, [], IsOk, OnOk, OnErr, IfErr, length};
+ghost use Rattle.ens_base.specs.PeerSet.{holds};
+ghost use Rattle.step_plans.specs.Outboxes.{HasNotesAlone, spare};
+ghost use Rattle.step_plans.specs.Sends.{posted, posted_to};
+
+use crate::error::PeerError;
+use ens_base::{PeerId, PeerSet, Reply};
+use register_model::Note;
+use std::alloc::Global;
+use wire_frames::Message;
+
+/// A message to a peer.
+#[derive(Debug, Drop)]
+pub struct Outgoing {
+    pub to: PeerId,
+    pub message: Message,
+}
+
+/// The answer to a call: who called, the number of the call, and the reply.
+#[derive(Debug, Drop)]
+pub struct AnswerOut {
+    pub from: u32,
+    pub id: u64,
+    pub reply: Reply,
+}
+
+/// What steps send, answer and note, and what they say of requests to change the view: true where
+/// the request is taken. A step appends to each list.
+#[derive(Drop)]
+pub struct Outbox {
+    pub sends: Vec<Outgoing>,
+    pub answers: Vec<AnswerOut>,
+    pub notes: Vec<Note>,
+    pub changes: Vec<bool>,
+}
+
+impl Outbox {
+    /// An empty outbox. It takes no memory.
+    pub fn new(alloc: Global) -> Outbox
+        ensures alone { HasNotesAlone result }
+        ensures notes { result.notes.items ≡ [] }
+    {
+        Outbox {
+            sends: Vec::new(alloc),
+            answers: Vec::new(alloc),
+            notes: Vec::new(alloc),
+            changes: Vec::new(alloc),
+        }
+    }
+
+    /// Makes room for this many more sends, and leaves the lists as they were.
+    ///
+    /// # Errors
+    ///
+    /// Out of memory alone.
+    pub fn reserve(&mut self, sends: u32) -> Result<(), PeerError>
+        ensures spare { OnOk result (sends ≤ spare self.new) }
+        ensures sends { self.new.sends.items ≡ self.old.sends.items }
+        ensures rest { (self.new.answers ≡ self.old.answers) × (self.new.notes ≡ self.old.notes) × (self.new.changes ≡ self.old.changes) }
+        ensures memory { IfErr result (λ e. e ≡ PeerError.Memory) }
+    {
+        self.sends.reserve(sends as usize)?;
+        Ok(())
+    }
+
+    /// Moves what is in the other outbox, but for its notes, behind what is in this one. Out of memory
+    /// moves nothing.
+    ///
+    /// # Errors
+    ///
+    /// Out of memory alone.
+    pub fn append(&mut self, more: &mut Outbox) -> Result<(), PeerError>
+        ensures sends { OnOk result (self.new.sends.items ≡ self.old.sends.items ++ more.old.sends.items) }
+        ensures answers { OnOk result (self.new.answers.items ≡ self.old.answers.items ++ more.old.answers.items) }
+        ensures changes { OnOk result (self.new.changes.items ≡ self.old.changes.items ++ more.old.changes.items) }
+        ensures notes { self.new.notes ≡ self.old.notes }
+        ensures err { OnErr result ((self.new.sends.items ≡ self.old.sends.items) × (self.new.answers.items ≡ self.old.answers.items) × (self.new.changes.items ≡ self.old.changes.items)) }
+        ensures memory { IfErr result (λ e. e ≡ PeerError.Memory) }
+    {
+        self.sends.reserve(more.sends.len())?;
+        self.answers.reserve(more.answers.len())?;
+        self.changes.reserve(more.changes.len())?;
+        self.sends.append(&mut more.sends).unwrap();
+        self.answers.append(&mut more.answers).unwrap();
+        self.changes.append(&mut more.changes).unwrap();
+        Ok(())
+    }
+
+    /// Sends a message to a peer.
+    ///
+    /// # Errors
+    ///
+    /// Out of memory alone.
+    pub fn send(&mut self, to: PeerId, message: Message) -> Result<(), PeerError>
+        ensures sends { OnOk result (self.new.sends.items ≡ self.old.sends.items ++ record { to = to; message = message } ∷ []) }
+        ensures rest { (self.new.answers ≡ self.old.answers) × (self.new.notes ≡ self.old.notes) × (self.new.changes ≡ self.old.changes) }
+        ensures memory { IfErr result (λ e. e ≡ PeerError.Memory) }
+    {
+        if self.sends.push(Outgoing { to, message }).is_err() {
+            return Err(PeerError::Memory);
+        }
+        Ok(())
+    }
+
+    /// Sends a message to each peer of the set, in ascending order.
+    #[tactic(auto, unfolding(crate::specs::Sends::posted))]
+    fn send_copies(
+        &mut self,
+        alloc: Global,
+        to: &PeerSet,
+        message: &Message,
+    ) -> Result<(), PeerError>
+        ensures sends { OnOk result (self.new.sends.items ≡ self.old.sends.items ++ posted (holds to.now) (λ p. message.now) 31) }
+        ensures rest { (self.new.answers ≡ self.old.answers) × (self.new.notes ≡ self.old.notes) × (self.new.changes ≡ self.old.changes) }
+        ensures memory { IfErr result (λ e. e ≡ PeerError.Memory) }
+    {
+        for below in 0..31 {
+            let peer = PeerId(below + 1);
+            if to.has(peer) {
+                let copy = message.copy(alloc)?;
+                self.send(peer, copy)?;
+            }
+        }
+        Ok(())
+    }
+
+    /// Sends the message, if there is one, to each peer of the set, in ascending order.
+    ///
+    /// # Errors
+    ///
+    /// Out of memory alone.
+    pub fn send_to(
+        &mut self,
+        alloc: Global,
+        to: PeerSet,
+        message: Option<Message>,
+    ) -> Result<(), PeerError>
+        ensures sends { OnOk result (self.new.sends.items ≡ self.old.sends.items ++ posted_to to message) }
+        ensures rest { (self.new.answers ≡ self.old.answers) × (self.new.notes ≡ self.old.notes) × (self.new.changes ≡ self.old.changes) }
+        ensures memory { IfErr result (λ e. e ≡ PeerError.Memory) }
+    {
+        match message {
+            None => Ok(()),
+            Some(message) => self.send_copies(alloc, &to, &message),
+        }
+    }
+
+    /// Answers a call.
+    ///
+    /// # Errors
+    ///
+    /// Out of memory alone.
+    pub fn answer(&mut self, from: u32, id: u64, reply: Reply) -> Result<(), PeerError>
+        ensures answers { OnOk result (self.new.answers.items ≡ self.old.answers.items ++ record { from = from; id = id; reply = reply } ∷ []) }
+        ensures rest { (self.new.sends ≡ self.old.sends) × (self.new.notes ≡ self.old.notes) × (self.new.changes ≡ self.old.changes) }
+        ensures memory { IfErr result (λ e. e ≡ PeerError.Memory) }
+    {
+        if self.answers.push(AnswerOut { from, id, reply }).is_err() {
+            return Err(PeerError::Memory);
+        }
+        Ok(())
+    }
+
+    /// Says whether a request to change the view is taken.
+    ///
+    /// # Errors
+    ///
+    /// Out of memory alone.
+    pub fn tell_change(&mut self, taken: bool) -> Result<(), PeerError>
+        ensures changes { OnOk result (self.new.changes.items ≡ self.old.changes.items ++ taken ∷ []) }
+        ensures rest { (self.new.sends ≡ self.old.sends) × (self.new.answers ≡ self.old.answers) × (self.new.notes ≡ self.old.notes) }
+        ensures memory { IfErr result (λ e. e ≡ PeerError.Memory) }
+    {
+        if self.changes.push(taken).is_err() {
+            return Err(PeerError::Memory);
+        }
+        Ok(())
+    }
+
+    /// Notes these, behind the others. Out of memory notes none.
+    ///
+    /// # Errors
+    ///
+    /// Out of memory alone.
+    pub fn note_all(&mut self, more: Vec<Note>) -> Result<(), PeerError>
+        ensures notes { OnOk result (self.new.notes.items ≡ self.old.notes.items ++ more.items) }
+        ensures kept { OnErr result (self.new.notes.items ≡ self.old.notes.items) }
+        ensures rest { (self.new.sends ≡ self.old.sends) × (self.new.answers ≡ self.old.answers) × (self.new.changes ≡ self.old.changes) }
+        ensures memory { IfErr result (λ e. e ≡ PeerError.Memory) }
+    {
+        let mut more = more;
+        self.notes.append(&mut more)?;
+        Ok(())
+    }
+}

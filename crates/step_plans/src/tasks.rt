@@ -1,0 +1,144 @@
+ghost use Rattle.std.specs.Prelude.{◌≡◌, ◌++◌, ◌∷◌, [], OnOk, IfOk, IfErr, map, option_to_list, IfNone};
+ghost use Rattle.step_plans.specs.Tasks.{named, keyed};
+ghost use Rattle.step_plans.specs.declared.tasks.Task.TheVariants.{Key as OnKey, Again};
+
+use crate::error::PeerError;
+use ens_base::Key;
+use std::alloc::{AllocError, Global};
+use std::marker::Model;
+use wire_frames::{Seen, Then};
+
+/// A rule that is still to run in a step.
+#[derive(Debug, Drop)]
+pub enum Task {
+    /// The rule of this number, on the state.
+    Phase(u8),
+    /// The rule of this number, on a key of a leader.
+    Key(u8, Key),
+    /// The rule of this number once more, on a key, with what the stores gave.
+    Again(u8, Key, Seen),
+}
+
+/// The rules that are still to run in a step, seen as a list with the next one first.
+#[derive(Drop)]
+pub struct Tasks {
+    /// The next task stands last.
+    stack: Vec<Task>,
+}
+
+impl Model for Tasks {
+    ghost use Rattle.std.specs.Prelude.{List, reverse};
+    ghost use Rattle.step_plans.specs.declared.tasks.Task.{Task};
+
+    ghost Value = { List Task };
+
+    ghost view = { λ t. reverse t.stack.items };
+}
+
+impl Tasks {
+    /// No task. It takes no memory.
+    pub fn none(alloc: Global) -> Tasks
+        ensures { result ≡ [] }
+    {
+        Tasks {
+            stack: Vec::new(alloc),
+        }
+    }
+
+    /// Puts a task in front.
+    ///
+    /// # Errors
+    ///
+    /// Out of memory alone.
+    pub fn put_first(&mut self, task: Task) -> Result<(), PeerError>
+        ensures ok { OnOk result (self.new ≡ task ∷ self.old) }
+        ensures memory { IfErr result (λ e. e ≡ PeerError.Memory) }
+    {
+        if self.stack.push(task).is_err() {
+            return Err(PeerError::Memory);
+        }
+        Ok(())
+    }
+
+    /// Puts these tasks in front, in their order.
+    ///
+    /// # Errors
+    ///
+    /// Out of memory alone.
+    pub fn put_all(&mut self, more: Tasks) -> Result<(), AllocError>
+        ensures ok { OnOk result (self.new ≡ more ++ self.old) }
+    {
+        let mut more = more;
+        self.stack.append(&mut more.stack)?;
+        Ok(())
+    }
+
+    /// Takes the first task away.
+    pub fn take(&mut self) -> Option<Task>
+        ensures items { self.old ≡ option_to_list result ++ self.new }
+        ensures none { IfNone result (self.old ≡ []) }
+    {
+        self.stack.pop()
+    }
+
+    /// The rule that the row of a phase names.
+    ///
+    /// # Errors
+    ///
+    /// Out of memory alone, and only where a rule is named.
+    pub fn named(alloc: Global, then: Then) -> Result<Tasks, PeerError>
+        ensures ok { IfOk result (λ t. t ≡ named then) }
+        ensures memory { IfErr result (λ e. e ≡ PeerError.Memory) }
+    {
+        let mut tasks = Tasks::none(alloc);
+        match then {
+            Then::Rule(rule) => tasks.put_first(Task::Phase(rule))?,
+            _ => {}
+        }
+        Ok(tasks)
+    }
+
+    /// The rule that the row of a leader names, on each of its keys.
+    ///
+    /// # Errors
+    ///
+    /// Out of memory alone.
+    pub fn keyed(alloc: Global, then: Then, keys: Vec<Key>) -> Result<Tasks, PeerError>
+        ensures ok { IfOk result (λ t. t ≡ keyed then keys.items) }
+        ensures memory { IfErr result (λ e. e ≡ PeerError.Memory) }
+    {
+        match then {
+            Then::Rule(rule) => Tasks::on_keys(alloc, rule, keys),
+            _ => Ok(Tasks::none(alloc)),
+        }
+    }
+
+    /// The rule of this number on each of the keys.
+    fn on_keys(alloc: Global, rule: u8, keys: Vec<Key>) -> Result<Tasks, PeerError>
+        ensures ok { IfOk result (λ t. t ≡ map (OnKey rule) keys.items) }
+        ensures memory { IfErr result (λ e. e ≡ PeerError.Memory) }
+    {
+        let mut keys = keys;
+        let mut tasks = Tasks::none(alloc);
+        for done in 0..keys.len() {
+            if let Some(key) = keys.pop() {
+                tasks.put_first(Task::Key(rule, key))?;
+            }
+        }
+        Ok(tasks)
+    }
+
+    /// The rule of this number once more on the key, with what the stores gave.
+    ///
+    /// # Errors
+    ///
+    /// Out of memory alone.
+    pub fn again(alloc: Global, rule: u8, key: &Key, seen: Seen) -> Result<Tasks, PeerError>
+        ensures ok { IfOk result (λ t. t ≡ Again rule key.now seen ∷ []) }
+        ensures memory { IfErr result (λ e. e ≡ PeerError.Memory) }
+    {
+        let mut tasks = Tasks::none(alloc);
+        tasks.put_first(Task::Again(rule, key.copy(alloc)?, seen))?;
+        Ok(tasks)
+    }
+}
