@@ -1,0 +1,5 @@
+pub mod Orders
+pub mod Parts
+pub mod Names
+pub mod Unique
+pub mod Formats
