@@ -1,10 +1,11 @@
-ghost use Rattle.std.specs.Prelude.{◌≡◌, ◌≤◌, ◌+◌, ◌++◌, ◌^◌, ◌==◌, ◌&&◌, nat_lt, nat_le, length, if◌then◌else◌, IfOk, MatchOption, Some};
+ghost use Rattle.std.specs.Prelude.{◌≡◌, ◌≤◌, ◌+◌, ◌++◌, ◌^◌, ◌==◌, ◌&&◌, nat_lt, nat_le, length, if◌then◌else◌, IfOk, MatchOption, IfSome, Some, ℕ, List};
 ghost use Rattle.byteorder.specs.Endian.{big_number, big_bytes};
 ghost use Rattle.ens_base.specs.declared.reply.Reply.TheVariants.{Failed as failed};
 ghost use Rattle.register_model.specs.Registers.{outcome};
+ghost use Rattle.register_model.specs.declared.register.Register.{Register};
 ghost use Rattle.register_model.specs.declared.register.Register.TheVariants.{Absent, Present};
 ghost use Rattle.key_commands.specs.declared.verdict.Verdict.TheVariants as verdicts;
-ghost use Rattle.key_commands.specs.Commands.{register_of, verdict_of};
+ghost use Rattle.key_commands.specs.Commands.{register_of, verdict_of, stamp_verdict, blind_verdict};
 
 use crate::verdict::{CommandError, Verdict};
 use byteorder::{BigEndian, ByteOrder};
@@ -19,7 +20,7 @@ fn write(alloc: Global, value: &Value) -> Result<Verdict, CommandError>
     Ok(Verdict::Write(Some(value.copy(alloc)?)))
 }
 
-/// To write these bytes, or want of memory.
+/// To write these bytes, or out of memory.
 fn write_bytes(alloc: Global, bytes: &[u8]) -> Result<Verdict, CommandError>
     requires { length bytes.now ≤ 1024 }
     ensures { IfOk result (λ v. v ≡ verdicts.Write (Some bytes.now)) }
@@ -104,6 +105,37 @@ pub fn on_present(
         Command::Swap(old, new) => write_if(alloc, value == old, new),
         Command::Over(new) => write(alloc, new),
         Command::Delete => Ok(Verdict::Write(None)),
+    }
+}
+
+/// What the command comes to on a register that holds some value under this stamp. None where the value
+/// decides.
+pub fn on_stamp(
+    alloc: Global,
+    command: &Command,
+    stamp: Version,
+) -> Result<Option<Verdict>, CommandError>
+    ensures exact { IfOk result (λ v. v ≡ stamp_verdict command.now stamp) }
+    ensures outcome { IfOk result (λ v. IfSome v (λ x. (bytes : List ℕ) → x ≡ verdict_of (outcome command.now (Present stamp bytes)))) }
+{
+    match command {
+        Command::PutOnce(_) => Ok(Some(Verdict::Answer(Reply::Failed))),
+        Command::Update(wanted, new) => Ok(Some(write_if(alloc, *wanted == stamp, new)?)),
+        Command::Over(new) => Ok(Some(write(alloc, new)?)),
+        Command::Delete => Ok(Some(Verdict::Write(None))),
+        Command::Get | Command::Append(_) | Command::Add(_) | Command::Swap(_, _) => Ok(None),
+    }
+}
+
+/// What the command comes to whatever the register holds. None where the register decides.
+pub fn on_any(alloc: Global, command: &Command) -> Result<Option<Verdict>, CommandError>
+    ensures exact { IfOk result (λ v. v ≡ blind_verdict command.now) }
+    ensures outcome { IfOk result (λ v. IfSome v (λ x. (register : Register) → x ≡ verdict_of (outcome command.now register))) }
+{
+    match command {
+        Command::Over(new) => Ok(Some(write(alloc, new)?)),
+        Command::Delete => Ok(Some(Verdict::Write(None))),
+        _ => Ok(None),
     }
 }
 

@@ -13,7 +13,7 @@ pub enum Verdict {
     Write(Option<Value>),
 }
 
-/// Why a command was not applied: want of memory alone.
+/// Why a command was not applied: out of memory alone.
 #[derive(Clone, Copy, Debug, PartialEq, Eq)]
 pub enum CommandError {
     /// Memory ran out.
