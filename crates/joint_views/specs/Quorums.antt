@@ -1,6 +1,6 @@
 -- Majorities and quorums. A view is the list of its members. A set of peers is a test of
 -- membership.
-use Rattle.std.specs.Prelude.{◌≡◌, ℕ, ◌*◌, Bool, true, false, ◌&&◌, List, [], ◌∷◌, ◌⊎◌, length, count_by, nat_lt, All, Contains}
+use Rattle.std.specs.Prelude.{◌≡◌, ℕ, ◌*◌, Bool, true, false, ◌&&◌, ◌||◌, ◌==◌, if◌then◌else◌, List, [], ◌∷◌, ◌⊎◌, length, count_by, nat_lt, slice_set, All, Contains}
 use Rattle.ens_base.specs.Lists.{◌∈◌}
 
 -- more than half of the members of the view are in the set
@@ -58,3 +58,27 @@ HasAll peers view = All (λ m. peers m ≡ true) view
 abbrev pub HasEvery : (ℕ → Bool) → List (List ℕ) → Type 0
 HasEvery peers [] = Unit {0}
 HasEvery peers (view ∷ views) = HasAll peers view × HasEvery peers views
+
+-- whether the peer is a member of the view
+abbrev pub is_in : List ℕ → ℕ → Bool
+is_in [] peer = false
+is_in (member ∷ view) peer = (peer == member) || is_in view peer
+
+-- whether the peer is a member of some view
+abbrev pub is_member : List (List ℕ) → ℕ → Bool
+is_member [] peer = false
+is_member (view ∷ views) peer = is_in view peer || is_member views peer
+
+-- whether all members of the view are in the set
+abbrev pub has_all : (ℕ → Bool) → List ℕ → Bool
+has_all peers [] = true
+has_all peers (member ∷ view) = peers member && has_all peers view
+
+-- whether all members of all views are in the set
+abbrev pub has_every : (ℕ → Bool) → List (List ℕ) → Bool
+has_every peers [] = true
+has_every peers (view ∷ views) = has_all peers view && has_every peers views
+
+-- the votes after this peer's, which counts where the peer is a member of some view
+abbrev pub voted : List (List ℕ) → ℕ → List Bool → List Bool
+voted views peer votes = if is_member views peer then slice_set votes peer true else votes

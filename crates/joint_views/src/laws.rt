@@ -1,5 +1,5 @@
 ghost use Rattle.std.specs.Prelude.{◌≡◌, ◌↔◌, ℕ, Bool, true, false, List};
-ghost use Rattle.joint_views.specs.Quorums.{is_majority, is_quorum, Meet, SharesView, QuorumsMeet, MissesEveryQuorum};
+ghost use Rattle.joint_views.specs.Quorums.{is_majority, is_quorum, is_member, has_all, has_every, IsMember, HasAll, HasEvery, Meet, SharesView, QuorumsMeet, MissesEveryQuorum};
 
 /// Two majorities of one view have a member in common, and so have quorums of two lists that share
 /// a view. A set with more peers than a quorum is a quorum. Members need not be distinct for this.
@@ -13,4 +13,11 @@ pub fn quorums_meet()
 /// set.
 pub fn no_quorum_is_missed()
     ensures { (peers : ℕ → Bool) (views : List (List ℕ)) → ((is_quorum peers views ≡ false) ↔ MissesEveryQuorum peers views) }
+{}
+
+/// The tests on views and sets decide what they are named by.
+pub fn tests_decide()
+    ensures member { (views : List (List ℕ)) (peer : ℕ) → ((is_member views peer ≡ true) ↔ IsMember views peer) }
+    ensures all { (peers : ℕ → Bool) (view : List ℕ) → ((has_all peers view ≡ true) ↔ HasAll peers view) }
+    ensures every { (peers : ℕ → Bool) (views : List (List ℕ)) → ((has_every peers views ≡ true) ↔ HasEvery peers views) }
 {}

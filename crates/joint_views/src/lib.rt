@@ -9,8 +9,5 @@
 mod laws;
 mod tally;
 
-pub use laws::{no_quorum_is_missed, quorums_meet};
-pub use tally::Tally;
-
-#[cfg(test)]
-mod tests;
+pub use laws::{no_quorum_is_missed, quorums_meet, tests_decide};
+pub use tally::{Tally, is_member};

@@ -1,6 +1,6 @@
-ghost use Rattle.std.specs.Prelude.{◌≡◌, ◌↔◌, ◌≤◌, ◌==◌, ◌||◌, ℕ, IsTrue, Contains, count_by, replicate, false};
+ghost use Rattle.std.specs.Prelude.{◌≡◌, ◌↔◌, ◌≤◌, ◌==◌, ◌||◌, ℕ, IsTrue, Contains, count_by, replicate, true, false};
 ghost use Rattle.ens_base.specs.PeerSet.{holds};
-ghost use Rattle.joint_views.specs.Quorums.{is_majority, is_quorum, IsMember, HasAll, HasEvery};
+ghost use Rattle.joint_views.specs.Quorums.{is_majority, is_quorum, is_in as is_in_list, is_member as is_member_of, has_all as has_all_of, has_every, voted, IsMember, HasAll, HasEvery};
 
 use ens_base::{PeerId, PeerSet, View, Views};
 
@@ -23,16 +23,30 @@ fn is_majority(votes: &PeerSet, view: &View) -> bool
 }
 
 fn has_all(votes: &PeerSet, view: &View) -> bool
-    ensures { IsTrue result ↔ HasAll (holds votes.now) view.now }
+    ensures test { result ≡ has_all_of (holds votes.now) view.now }
+    ensures all { IsTrue result ↔ HasAll (holds votes.now) view.now }
 {
     view.members().iter().all(|m| votes.has(*m))
 }
 
-fn has_member(view: &View, peer: PeerId) -> bool
-    ensures member { IsTrue result ↔ Contains view.now peer }
+/// Whether the peer is a member of the view.
+fn is_in(view: &View, peer: PeerId) -> bool
+    ensures member { result ≡ is_in_list view.now peer }
     ensures range { IsTrue result → (1 ≤ peer) × (peer ≤ 31) }
 {
     view.members().contains(&peer)
+}
+
+/// Returns whether the peer is a member of some view.
+pub fn is_member(views: &Views, peer: PeerId) -> bool
+    ensures member { result ≡ is_member_of views.now peer }
+    ensures range { IsTrue result → (1 ≤ peer) × (peer ≤ 31) }
+{
+    let first = views.first();
+    match views.second() {
+        None => is_in(&first, peer),
+        Some(old) => is_in(&first, peer) || is_in(&old, peer),
+    }
 }
 
 impl Tally {
@@ -47,25 +61,14 @@ impl Tally {
         }
     }
 
-    /// Returns whether the peer is a member of some view.
-    fn is_member(&self, peer: PeerId) -> bool
-        ensures member { IsTrue result ↔ IsMember self.now.views peer }
-        ensures range { IsTrue result → (1 ≤ peer) × (peer ≤ 31) }
-    {
-        let first = self.views.first();
-        match self.views.second() {
-            None => has_member(&first, peer),
-            Some(old) => has_member(&first, peer) || has_member(&old, peer),
-        }
-    }
-
     /// Counts the vote of `peer` if it is a member of some view.
     pub fn vote(&mut self, peer: PeerId)
+        ensures votes { self.new.votes ≡ voted self.old.views peer self.old.votes }
         ensures views { self.new.views ≡ self.old.views }
         ensures member { IsMember self.old.views peer → (p : ℕ) → holds self.new.votes p ≡ (p == peer || holds self.old.votes p) }
         ensures other { ¬ IsMember self.old.views peer → self.new.votes ≡ self.old.votes }
     {
-        if self.is_member(peer) {
+        if is_member(&self.views, peer) {
             self.votes.insert(peer);
         }
     }
@@ -83,14 +86,16 @@ impl Tally {
 
     /// Returns whether all members of this view voted.
     pub fn has_all(&self, view: View) -> bool
-        ensures { IsTrue result ↔ HasAll (holds self.now.votes) view }
+        ensures test { result ≡ has_all_of (holds self.now.votes) view }
+        ensures all { IsTrue result ↔ HasAll (holds self.now.votes) view }
     {
         has_all(&self.votes, &view)
     }
 
     /// Returns whether all members of all views voted.
     pub fn has_every(&self) -> bool
-        ensures { IsTrue result ↔ HasEvery (holds self.now.votes) self.now.views }
+        ensures test { result ≡ has_every (holds self.now.votes) self.now.views }
+        ensures every { IsTrue result ↔ HasEvery (holds self.now.votes) self.now.views }
     {
         let first = self.views.first();
         match self.views.second() {

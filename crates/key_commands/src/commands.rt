@@ -1,10 +1,11 @@
-ghost use Rattle.std.specs.Prelude.{◌≡◌, ◌≤◌, ◌+◌, ◌++◌, ◌^◌, ◌==◌, ◌&&◌, nat_lt, nat_le, length, if◌then◌else◌, IfOk, MatchOption, Some};
+ghost use Rattle.std.specs.Prelude.{◌≡◌, ◌≤◌, ◌+◌, ◌++◌, ◌^◌, ◌==◌, ◌&&◌, nat_lt, nat_le, length, if◌then◌else◌, IfOk, MatchOption, IfSome, Some, ℕ, List};
 ghost use Rattle.byteorder.specs.Endian.{big_number, big_bytes};
 ghost use Rattle.ens_base.specs.declared.reply.Reply.TheVariants.{Failed as failed};
 ghost use Rattle.register_model.specs.Registers.{outcome};
+ghost use Rattle.register_model.specs.declared.register.Register.{Register};
 ghost use Rattle.register_model.specs.declared.register.Register.TheVariants.{Absent, Present};
 ghost use Rattle.key_commands.specs.declared.verdict.Verdict.TheVariants as verdicts;
-ghost use Rattle.key_commands.specs.Commands.{register_of, verdict_of};
+ghost use Rattle.key_commands.specs.Commands.{register_of, verdict_of, stamp_verdict, blind_verdict};
 
 use crate::verdict::{CommandError, Verdict};
 use byteorder::{BigEndian, ByteOrder};
@@ -106,6 +107,38 @@ pub fn on_present(
         Command::Swap(old, new) => write_if(alloc, value == old, new),
         Command::Over(new) => write(alloc, new),
         Command::Delete => Ok(Verdict::Write(None)),
+    }
+}
+
+/// Applies the command to a register that holds some value under this stamp. Returns `None` if the
+/// outcome depends on the value. Fails only when out of memory.
+pub fn on_stamp(
+    alloc: Global,
+    command: &Command,
+    stamp: Version,
+) -> Result<Option<Verdict>, CommandError>
+    ensures exact { IfOk result (λ v. v ≡ stamp_verdict command.now stamp) }
+    ensures outcome { IfOk result (λ v. IfSome v (λ x. (bytes : List ℕ) → x ≡ verdict_of (outcome command.now (Present stamp bytes)))) }
+{
+    match command {
+        Command::PutOnce(_) => Ok(Some(Verdict::Answer(Reply::Failed))),
+        Command::Update(wanted, new) => Ok(Some(write_if(alloc, *wanted == stamp, new)?)),
+        Command::Over(new) => Ok(Some(write(alloc, new)?)),
+        Command::Delete => Ok(Some(Verdict::Write(None))),
+        Command::Get | Command::Append(_) | Command::Add(_) | Command::Swap(_, _) => Ok(None),
+    }
+}
+
+/// Applies the command to a register of which nothing is known. Returns `None` if the outcome depends
+/// on the register. Fails only when out of memory.
+pub fn on_any(alloc: Global, command: &Command) -> Result<Option<Verdict>, CommandError>
+    ensures exact { IfOk result (λ v. v ≡ blind_verdict command.now) }
+    ensures outcome { IfOk result (λ v. IfSome v (λ x. (register : Register) → x ≡ verdict_of (outcome command.now register))) }
+{
+    match command {
+        Command::Over(new) => Ok(Some(write(alloc, new)?)),
+        Command::Delete => Ok(Some(Verdict::Write(None))),
+        _ => Ok(None),
     }
 }
 

@@ -1,7 +1,9 @@
 -- Rounds: who has answered, and the state that follows.
-use Rattle.std.specs.Prelude.{◌≡◌, ℕ, Bool, true, false, ◌==◌, ◌||◌, List}
+use Rattle.std.specs.Prelude.{◌≡◌, ℕ, Bool, true, false, ◌==◌, ◌||◌, if◌then◌else◌, List, replicate}
 use Rattle.ens_base.specs.PeerSet.{holds}
-use Rattle.joint_views.specs.Quorums.{is_quorum, IsMember, HasEvery}
+use Rattle.joint_views.specs.Quorums.{is_quorum, has_every, voted, IsMember, HasEvery}
+use Rattle.joint_views.specs.declared.tally.Tally.{Tally}
+use Rattle.quorum_round.specs.declared.round.Round.{Round}
 use Rattle.quorum_round.specs.declared.round.RoundState.{RoundState}
 use Rattle.quorum_round.specs.declared.round.RoundState.TheVariants.{Open, Met, AllAnswered}
 
@@ -15,3 +17,19 @@ abbrev pub IsState : (ℕ → Bool) → List (List ℕ) → RoundState → Type 
 IsState votes views Open = is_quorum votes views ≡ false
 IsState votes views Met = (is_quorum votes views ≡ true) × ¬ HasEvery votes views
 IsState votes views AllAnswered = HasEvery votes views
+
+-- the round after this peer's answer
+abbrev pub answered : ℕ → Round → Round
+answered peer round = record round { tally = record round.tally { votes = voted round.tally.views peer round.tally.votes } }
+
+-- a round on these views, in which `me` has answered
+abbrev pub begun : List (List ℕ) → ℕ → Round
+begun views me = answered me (record { tally = record { views = views; votes = replicate 32 false } })
+
+-- what these votes come to: open without a quorum; all answered where each member of each view voted; met otherwise
+abbrev pub state_of_votes : (ℕ → Bool) → List (List ℕ) → RoundState
+state_of_votes votes views = if is_quorum votes views then (if has_every votes views then AllAnswered else Met) else Open
+
+-- what the answers come to
+abbrev pub state_of : Round → RoundState
+state_of round = state_of_votes (holds round.tally.votes) round.tally.views

@@ -8,6 +8,3 @@
 mod round;
 
 pub use round::{Round, RoundState};
-
-#[cfg(test)]
-mod tests;

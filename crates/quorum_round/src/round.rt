@@ -1,7 +1,7 @@
 ghost use Rattle.std.specs.Prelude.{◌≡◌, ◌↔◌, true, false, replicate};
 ghost use Rattle.ens_base.specs.PeerSet.{holds};
 ghost use Rattle.joint_views.specs.Quorums.{is_quorum, HasEvery};
-ghost use Rattle.quorum_round.specs.Rounds.{AreWith, IsState};
+ghost use Rattle.quorum_round.specs.Rounds.{AreWith, IsState, answered, begun, state_of};
 
 use ens_base::{PeerId, Views};
 use joint_views::Tally;
@@ -40,6 +40,7 @@ impl Round {
     /// Begins a round on these views, with the answer of `me` counted if it is a member of some
     /// view.
     pub fn start(views: Views, me: PeerId) -> Round
+        ensures round { result ≡ begun views me }
         ensures views { result.tally.views ≡ views }
         ensures votes { AreWith views me (replicate 32 false) result.tally.votes }
     {
@@ -51,6 +52,7 @@ impl Round {
     /// Counts the answer of `peer`. A second answer of one peer, and an answer of a peer that is in
     /// no view, change nothing.
     pub fn vote(&mut self, peer: PeerId)
+        ensures round { self.new ≡ answered peer self.old }
         ensures views { self.new.tally.views ≡ self.old.tally.views }
         ensures votes { AreWith self.old.tally.views peer self.old.tally.votes self.new.tally.votes }
     {
@@ -59,6 +61,7 @@ impl Round {
 
     /// Returns the state of the round.
     pub fn outcome(&self) -> RoundState
+        ensures exact { result ≡ state_of self.now }
         ensures state { IsState (holds self.now.tally.votes) self.now.tally.views result }
         ensures open { is_quorum (holds self.now.tally.votes) self.now.tally.views ≡ false → result ≡ RoundState.Open }
         ensures all { HasEvery (holds self.now.tally.votes) self.now.tally.views → result ≡ RoundState.AllAnswered }

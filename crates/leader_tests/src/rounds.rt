@@ -1,5 +1,5 @@
-use crate::{Round, RoundState};
 use ens_base::{PeerId, View, Views};
+use quorum_round::{Round, RoundState};
 use std::test::Fail;
 
 #[test]

@@ -1,5 +1,5 @@
-use crate::Tally;
 use ens_base::{PeerId, View, Views};
+use joint_views::Tally;
 use std::test::Fail;
 
 #[test]

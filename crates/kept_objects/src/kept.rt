@@ -1,0 +1,54 @@
+ghost use Rattle.std.specs.Prelude.{◌≡◌, ◌↔◌, IsTrue, IfOk, IfErr};
+ghost use Rattle.kept_objects.specs.Kept.{object_in as object_in_bytes, is_named as is_named_by, matching as matching_of, entry_of as entry_of_object};
+
+use ens_base::{CopyError, Digest, Entry};
+use ens_object::{Object, ObjectError};
+use std::alloc::Global;
+
+/// The object that the bytes spell, None where they spell none. Its error is Memory alone.
+pub fn object_in(alloc: Global, bytes: &[u8]) -> Result<Option<Object>, ObjectError>
+    ensures exact { IfOk result (λ o. o ≡ object_in_bytes bytes.now) }
+    ensures memory { IfErr result (λ e. e ≡ ObjectError.Memory) }
+{
+    match Object::decode(alloc, bytes) {
+        Ok(object) => Ok(Some(object)),
+        Err(ObjectError::Memory) => Err(ObjectError::Memory),
+        Err(_) => Ok(None),
+    }
+}
+
+/// Whether the entry names the object whose spelling has this digest: whether key, version and digest
+/// are the entry's.
+pub fn is_named(entry: &Entry, object: &Object, digest: &Digest) -> bool
+    ensures exact { result ≡ is_named_by entry.now object.now digest.now }
+    ensures named { IsTrue result ↔ ((object.now.key ≡ entry.now.key) × (object.now.version ≡ entry.now.version) × (digest.now ≡ entry.now.digest)) }
+{
+    object.key == entry.key && object.version == entry.version && *digest == entry.digest
+}
+
+/// The object that the backend keeps, with the digest of its spelling, where the entry names it.
+pub fn matching(entry: &Entry, kept: Option<(Object, Digest)>) -> Option<Object>
+    ensures { result ≡ matching_of entry.now kept }
+{
+    match kept {
+        None => None,
+        Some((object, digest)) => {
+            if is_named(entry, &object, &digest) {
+                Some(object)
+            } else {
+                None
+            }
+        }
+    }
+}
+
+/// The entry that names the object whose spelling has this digest.
+pub fn entry_of(alloc: Global, object: &Object, digest: Digest) -> Result<Entry, CopyError>
+    ensures { IfOk result (λ e. e ≡ entry_of_object object.now digest) }
+{
+    Ok(Entry {
+        key: object.key.copy(alloc)?,
+        version: object.version,
+        digest,
+    })
+}
