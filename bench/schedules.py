@@ -1,10 +1,10 @@
 #!/usr/bin/env python3
-"""schedules.py KEYS: prints a schedule of 200,000 lines, 199,996 calls over so many keys at one peer.
+"""schedules.py KEYS: prints a schedule of 200,000 lines, 199,996 calls on KEYS keys at one peer.
 
     bench/schedules.py 1000 >/tmp/many; time ./ensemble replay </tmp/many >/dev/null
     bench/schedules.py 1    >/tmp/one;  time ./ensemble replay </tmp/one  >/dev/null
 
-The times that were seen stand in bench/times.md."""
+bench/times.md has the measured times."""
 import sys
 
 keys = int(sys.argv[1])
