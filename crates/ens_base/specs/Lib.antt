@@ -8,3 +8,5 @@ pub mod Views
 pub mod Epochs
 pub mod PeerSet
 pub mod Words
+pub mod Results
+pub mod Limits

@@ -3,11 +3,13 @@ ghost use Rattle.ens_base.specs.declared.copy_error.CopyError.TheVariants.{Memor
 ghost use Rattle.ens_base.specs.declared.copy_error.LengthError.TheVariants.{Memory as NoMemory};
 
 use std::alloc::{AllocError, AllocFailed};
+use thiserror::Error;
 
 /// The error of a copy.
-#[derive(Clone, Copy, Debug, PartialEq, Eq)]
+#[derive(Clone, Copy, Debug, PartialEq, Eq, Error)]
 pub enum CopyError {
     /// Out of memory.
+    #[error("out of memory")]
     Memory,
 }
 
@@ -34,11 +36,13 @@ impl From<CopyError> for AllocError {
 }
 
 /// Why bytes were rejected as a key or a value.
-#[derive(Clone, Copy, Debug, PartialEq, Eq)]
+#[derive(Clone, Copy, Debug, PartialEq, Eq, Error)]
 pub enum LengthError {
     /// The length in bytes is out of range for the type. Holds that length.
+    #[error("{0} bytes are too few or too many")]
     Length(u64),
     /// Out of memory.
+    #[error("out of memory")]
     Memory,
 }
 

@@ -4,15 +4,19 @@ ghost use Rattle.ens_base.specs.View.{IsView, IsViewSize, IsPeer};
 
 use crate::peer::PeerId;
 use std::marker::Model;
+use thiserror::Error;
 
 /// Why a list of peers is not a view. The causes are tested in this order.
-#[derive(Clone, Copy, Debug, PartialEq, Eq)]
+#[derive(Clone, Copy, Debug, PartialEq, Eq, Error)]
 pub enum ViewError {
     /// There are not 1 to 9 members.
+    #[error("a view has 1 to 9 members")]
     Size,
     /// A number is not in the range 1 to 31.
+    #[error("the number of a member is 1 to 31")]
     Range,
     /// The numbers are not strictly ascending.
+    #[error("the members of a view strictly ascend")]
     Order,
 }
 

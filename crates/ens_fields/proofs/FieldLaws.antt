@@ -6,8 +6,9 @@ use Rattle.ens_fields.specs.Grammar.{IsGrammar}
 use Rattle.std.specs.Prelude.{nat_le, ◌&&◌}
 use Rattle.std.proofs.lemmas.Bool.Decides.{nat_tests}
 use Rattle.ens_fields.specs.declared.field_error.FieldError.TheVariants.{Rule}
-use Rattle.ens_fields.specs.Strings.{IsKey, key_spelling, key_at, IsValue, value_spelling, value_at}
-use Rattle.ens_fields.specs.Versions.{IsEpoch, epoch_spelling, epoch_at, IsVersion, version_spelling, version_at}
+use Rattle.ens_base.specs.Limits.{IsKey, IsValue, IsEpoch, IsVersion}
+use Rattle.ens_fields.specs.Strings.{key_spelling, key_at, value_spelling, value_at}
+use Rattle.ens_fields.specs.Versions.{epoch_spelling, epoch_at, version_spelling, version_at}
 use Rattle.ens_fields.proofs.GrammarLaws.{valid_as, field_then, field_last, tested}
 use Rattle.ens_fields.proofs.NumberLaws.{byte_grammar, run_grammar, u16_grammar, u32_grammar, u64_grammar}
 

@@ -1,8 +1,9 @@
 -- Grammars from the grammars of their parts.
 use Rattle.std.proofs.Common.{◌≡◌, ℕ, ◌+◌, Bool, true, false, cond, List, [], ◌++◌, length, drop, Result, Ok, Err, refl, sym, ap, subst, ◌∙◌, append_assoc, append-nil, arith, length-append}
 use Rattle.std.proofs.lemmas.List.{append_cancel_left, drop_all}
-use Rattle.ens_fields.specs.Places.{IsBytes, Spells}
-use Rattle.ens_fields.specs.Reading.{◌>>=◌}
+use Rattle.ens_base.specs.Limits.{IsBytes}
+use Rattle.ens_fields.specs.Places.{Spells}
+use Rattle.ens_base.specs.Results.{◌>>=◌}
 use Rattle.ens_fields.specs.Grammar.{IsGrammar}
 use Rattle.ens_fields.proofs.ByteLaws.{Spells-then, drop-spelled}
 

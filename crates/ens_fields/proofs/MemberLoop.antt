@@ -6,7 +6,7 @@ use Rattle.byteorder.specs.Endian.{big_bytes}
 use Rattle.byteorder.specs.Numbers.{length-bytes_high_first}
 use Rattle.ens_fields.specs.declared.field_error.FieldError.{FieldError}
 use Rattle.ens_fields.specs.Places.{Writes}
-use Rattle.ens_fields.specs.Reading.{◌>>=◌}
+use Rattle.ens_base.specs.Results.{◌>>=◌}
 use Rattle.ens_fields.proofs.ByteLaws.{Writes-then}
 use Rattle.ens_fields.specs.Views.{member_at, members_at}
 

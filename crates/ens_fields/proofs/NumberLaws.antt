@@ -7,7 +7,8 @@ use Rattle.byteorder.specs.Endian.{big_number, big_bytes}
 use Rattle.byteorder.specs.Numbers.{big_number-reads_back, big_from-lt, length-bytes_high_first}
 use Rattle.ens_fields.specs.declared.field_error.FieldError.{FieldError}
 use Rattle.ens_fields.specs.declared.field_error.FieldError.TheVariants.{Short}
-use Rattle.ens_fields.specs.Places.{IsBytes, Spells}
+use Rattle.ens_base.specs.Limits.{IsBytes}
+use Rattle.ens_fields.specs.Places.{Spells}
 use Rattle.ens_fields.specs.Grammar.{IsGrammar}
 use Rattle.ens_fields.specs.Numbers.{byte_at, number_at, run_at, IsRun}
 use Rattle.ens_fields.proofs.ByteLaws.{IsBytes-drop, IsBytes-take}

@@ -10,7 +10,7 @@ use Rattle.byteorder.specs.Endian.{big_bytes}
 use Rattle.ens_base.specs.View.{IsPeer, IsViewSize, IsView}
 use Rattle.ens_fields.specs.declared.field_error.FieldError.{FieldError}
 use Rattle.ens_fields.specs.declared.field_error.FieldError.TheVariants.{Rule}
-use Rattle.ens_fields.specs.Places.{IsBytes}
+use Rattle.ens_base.specs.Limits.{IsBytes}
 use Rattle.ens_fields.specs.Grammar.{IsGrammar}
 use Rattle.ens_fields.specs.Views.{view_spelling, member_at, members_at, view_at, AreViews, views_spelling, one_view_at, two_views_at, views_at}
 use Rattle.ens_fields.proofs.GrammarLaws.{valid_as, spelled_as, field_then, field_last, tested, checked, nothing}

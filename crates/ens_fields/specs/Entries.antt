@@ -2,10 +2,11 @@
 use Rattle.std.specs.Prelude.{ℕ, List, ◌++◌, Result, Ok}
 use Rattle.ens_base.specs.declared.entry.Entry.{Entry}
 use Rattle.ens_fields.specs.declared.field_error.FieldError.{FieldError}
-use Rattle.ens_fields.specs.Reading.{◌>>=◌}
+use Rattle.ens_base.specs.Results.{◌>>=◌}
 use Rattle.ens_fields.specs.Numbers.{run_at, IsRun}
-use Rattle.ens_fields.specs.Versions.{IsVersion, version_spelling, version_at}
-use Rattle.ens_fields.specs.Strings.{IsKey, key_spelling, key_at}
+use Rattle.ens_base.specs.Limits.{IsVersion, IsKey}
+use Rattle.ens_fields.specs.Versions.{version_spelling, version_at}
+use Rattle.ens_fields.specs.Strings.{key_spelling, key_at}
 
 -- the parts of the entry keep their limits
 pub record IsEntry (e : Entry) : Type 0 where

@@ -12,7 +12,14 @@ with_rule rule (Err (Short at)) = Err (Ended at)
 with_rule rule (Err (Rule at)) = Err (Broken rule at)
 with_rule rule (Err Memory) = Err NoMemory
 
--- the same answer of a field that has no rule of its own: it ends in time or not
+-- the answer names no broken rule
+abbrev pub BreaksNoRule : {X : Type 0} → Result X FieldError → Type 0
+BreaksNoRule (Ok x) = Unit {0}
+BreaksNoRule (Err (Short at)) = Unit {0}
+BreaksNoRule (Err (Rule at)) = ⊥
+BreaksNoRule (Err Memory) = Unit {0}
+
+-- the same answer of a field that breaks no rule: it ends in time or not
 abbrev pub plain : {X R : Type 0} → Result X FieldError → Result X (Fault R)
 plain (Ok x) = Ok x
 plain (Err (Short at)) = Err (Ended at)

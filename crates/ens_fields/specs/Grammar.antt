@@ -1,6 +1,7 @@
 -- When a spelling and a reading belong to each other.
 use Rattle.std.specs.Prelude.{◌≡◌, ℕ, ◌+◌, List, ◌++◌, length, drop, Result, Ok}
-use Rattle.ens_fields.specs.Places.{IsBytes, Spells}
+use Rattle.ens_base.specs.Limits.{IsBytes}
+use Rattle.ens_fields.specs.Places.{Spells}
 
 -- What is read at a place is spelled there and is valid; and each valid value that is spelled at a
 -- place is read there, whatever follows. So each value has one spelling, and none begins another's.

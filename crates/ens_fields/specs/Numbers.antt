@@ -1,7 +1,7 @@
 -- Numbers and runs of bytes.
 use Rattle.std.specs.Prelude.{◌≡◌, ℕ, ◌+◌, ◌-◌, List, length, take, drop, Result, Ok, Err, nat_lt, slice_index, if◌then◌else◌}
 use Rattle.byteorder.specs.Endian.{big_number}
-use Rattle.ens_fields.specs.Places.{IsBytes}
+use Rattle.ens_base.specs.Limits.{IsBytes}
 use Rattle.ens_fields.specs.declared.field_error.FieldError.{FieldError}
 use Rattle.ens_fields.specs.declared.field_error.FieldError.TheVariants.{Short}
 

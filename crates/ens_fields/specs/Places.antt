@@ -1,9 +1,5 @@
--- Lists of bytes, and which of them a spelling takes.
-use Rattle.std.specs.Prelude.{◌≡◌, ℕ, ◌+◌, ◌<◌, List, ◌++◌, length, take, drop, get_or}
-
--- each number is a byte
-abbrev pub IsBytes : List ℕ → Type 0
-IsBytes bytes = (i : ℕ) → get_or bytes i 0 < 256
+-- Which bytes a spelling takes.
+use Rattle.std.specs.Prelude.{◌≡◌, ℕ, ◌+◌, List, ◌++◌, length, take, drop}
 
 -- the spelling stands in the bytes from `at` to `end`
 pub record Spells (bytes : List ℕ) (at : ℕ) (spelling : List ℕ) (end : ℕ) : Type 0 where

@@ -3,12 +3,6 @@ use Rattle.std.specs.Prelude.{◌≡◌, Result, Ok, Err}
 use Rattle.ens_fields.specs.declared.field_error.FieldError.{FieldError}
 use Rattle.ens_fields.specs.declared.field_error.FieldError.TheVariants.{Short, Rule, Memory}
 
--- read on with the value, or stop at the fault
-infixl 10 ◌>>=◌
-abbrev pub ◌>>=◌ : {A B E : Type 0} → Result A E → (A → Result B E) → Result B E
-(Ok x) >>= f = f x
-(Err e) >>= f = Err e
-
 abbrev pub Fails : {X : Type 0} → FieldError → Result X FieldError → Type 0
 Fails (Short at) read = read ≡ Err (Short at)
 Fails (Rule at) read = read ≡ Err (Rule at)

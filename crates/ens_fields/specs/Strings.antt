@@ -1,17 +1,10 @@
 -- Keys and values as bytes.
 use Rattle.std.specs.Prelude.{ℕ, List, ◌∷◌, ◌++◌, length, Result, Err, nat_le, ◌&&◌, if◌then◌else◌}
 use Rattle.byteorder.specs.Endian.{big_bytes}
-use Rattle.ens_base.specs.Lengths.{IsKeyLength, IsValueLength}
 use Rattle.ens_fields.specs.declared.field_error.FieldError.{FieldError}
 use Rattle.ens_fields.specs.declared.field_error.FieldError.TheVariants.{Rule}
-use Rattle.ens_fields.specs.Places.{IsBytes}
-use Rattle.ens_fields.specs.Reading.{◌>>=◌}
+use Rattle.ens_base.specs.Results.{◌>>=◌}
 use Rattle.ens_fields.specs.Numbers.{byte_at, number_at, run_at}
-
--- 1 to 64 bytes
-pub record IsKey (key : List ℕ) : Type 0 where
-  pub size : IsKeyLength (length key)
-  pub bytes : IsBytes key
 
 -- one byte of length, and the bytes
 abbrev pub key_spelling : List ℕ → List ℕ
@@ -21,11 +14,6 @@ unfoldable pub key_at : List ℕ → ℕ → Result (List ℕ × ℕ) FieldError
 key_at bytes at = do
   size ← byte_at bytes at
   if nat_le 1 size.0 && nat_le size.0 64 then run_at size.0 bytes size.1 else Err (Rule at)
-
--- 0 to 1,024 bytes
-pub record IsValue (value : List ℕ) : Type 0 where
-  pub size : IsValueLength (length value)
-  pub bytes : IsBytes value
 
 -- two bytes of length, and the bytes
 abbrev pub value_spelling : List ℕ → List ℕ

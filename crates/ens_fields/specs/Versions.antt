@@ -1,16 +1,11 @@
 -- Epochs and versions as bytes.
-use Rattle.std.specs.Prelude.{ℕ, ◌<◌, ◌^◌, List, ◌++◌, Result, Ok}
+use Rattle.std.specs.Prelude.{ℕ, List, ◌++◌, Result, Ok}
 use Rattle.byteorder.specs.Endian.{big_bytes}
 use Rattle.ens_base.specs.declared.epoch.Epoch.{Epoch}
 use Rattle.ens_base.specs.declared.epoch.Version.{Version}
 use Rattle.ens_fields.specs.declared.field_error.FieldError.{FieldError}
-use Rattle.ens_fields.specs.Reading.{◌>>=◌}
+use Rattle.ens_base.specs.Results.{◌>>=◌}
 use Rattle.ens_fields.specs.Numbers.{number_at}
-
--- each number of the epoch fits its width
-pub record IsEpoch (e : Epoch) : Type 0 where
-  pub count : e.count < 2 ^ 64
-  pub proposer : e.proposer < 2 ^ 32
 
 -- eight bytes of the count, four of the proposer
 abbrev pub epoch_spelling : Epoch → List ℕ
@@ -21,11 +16,6 @@ epoch_at bytes at = do
   count ← number_at 8 bytes at
   proposer ← number_at 4 bytes count.1
   Ok (record { count = count.0; proposer = proposer.0 }, proposer.1)
-
--- each number of the version fits its width
-pub record IsVersion (v : Version) : Type 0 where
-  pub epoch : IsEpoch v.epoch
-  pub seq : v.seq < 2 ^ 64
 
 -- the epoch, and eight bytes of the number in it
 abbrev pub version_spelling : Version → List ℕ

@@ -5,7 +5,7 @@ use Rattle.byteorder.specs.Endian.{big_bytes}
 use Rattle.ens_base.specs.View.{IsView}
 use Rattle.ens_fields.specs.declared.field_error.FieldError.{FieldError}
 use Rattle.ens_fields.specs.declared.field_error.FieldError.TheVariants.{Rule}
-use Rattle.ens_fields.specs.Reading.{◌>>=◌}
+use Rattle.ens_base.specs.Results.{◌>>=◌}
 use Rattle.ens_fields.specs.Numbers.{byte_at, number_at}
 
 -- one byte for how many members, and four bytes for each

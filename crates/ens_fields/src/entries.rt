@@ -1,5 +1,6 @@
 ghost use Rattle.std.specs.Prelude.{◌≡◌, ◌≤◌, ◌++◌, take, length, IfOk, IfErr, OnOk, OnErr};
 ghost use Rattle.ens_fields.specs.Reading.{Gives};
+ghost use Rattle.ens_fields.specs.Faults.{BreaksNoRule};
 ghost use Rattle.ens_fields.specs.Numbers.{run_at, IsRun};
 ghost use Rattle.ens_fields.specs.Entries.{IsEntry, entry_spelling, entry_at};
 
@@ -9,10 +10,11 @@ use crate::versions::{put_version, take_version};
 use ens_base::{Digest, Entry};
 use std::alloc::Global;
 
-/// The digest whose 16 bytes stand at this place, and the place after it.
+/// Reads the 16 bytes of a digest at `at`. Returns it and the place after it.
 pub fn take_digest(bytes: &[u8], at: usize) -> Result<(Digest, usize), FieldError>
     requires { at ≤ length bytes.now }
     ensures exact { run_at 16 bytes.now at ≡ result }
+    ensures unruled { BreaksNoRule result }
     ensures within { IfOk result (λ x. x.1 ≤ length bytes.now) }
 {
     if bytes.len() - at < 16 {
@@ -23,7 +25,7 @@ pub fn take_digest(bytes: &[u8], at: usize) -> Result<(Digest, usize), FieldErro
     Ok((Digest(digest), at + 16))
 }
 
-/// The entry that is spelled at this place, and the place after it.
+/// Reads an entry at `at`. Returns it and the place after it.
 #[tactic(auto, unfolding(crate::specs::Entries::entry_at))]
 pub fn take_entry(alloc: Global, bytes: &[u8], at: usize) -> Result<(Entry, usize), FieldError>
     requires { at ≤ length bytes.now }
@@ -64,7 +66,7 @@ pub fn put_digest(x: &Digest, out: &mut Vec<u8>) -> Result<(), FieldError>
     Ok(())
 }
 
-/// Appends the spelling of the entry; where memory runs out, what stood before still begins the bytes.
+/// Appends the spelling of the entry. Out of memory leaves a part of it behind what `out` held.
 fn append_entry(x: &Entry, out: &mut Vec<u8>) -> Result<(), FieldError>
     ensures ok { OnOk result (out.new.items ≡ out.old.items ++ entry_spelling x.now) }
     ensures valid { OnOk result (IsEntry x.now) }

@@ -1,21 +1,21 @@
 ghost use Rattle.std.specs.Prelude.{◌≡◌};
-ghost use Rattle.ens_fields.specs.Faults.{with_rule as named, plain as unruled, without_rule as unnamed};
+ghost use Rattle.ens_fields.specs.Faults.{with_rule as named, plain as unruled, without_rule as unnamed, BreaksNoRule};
 
 use crate::field_error::FieldError;
 
-/// The first fault of a value that is made of several fields, with a name for the rule that it breaks.
-/// A place counts bytes as in [`FieldError`].
+/// The first fault of a value that is made of several fields, with the name of the rule that is broken.
+/// Places are those of [`FieldError`].
 #[derive(Clone, Copy, Debug, PartialEq, Eq)]
 pub enum Fault<R> {
-    /// The bytes end before this part does.
+    /// The bytes end before the part at this place does.
     Ended(usize),
-    /// This part breaks this rule.
+    /// The part at this place breaks this rule.
     Broken(R, usize),
     /// Memory ran out.
     NoMemory,
 }
 
-/// The same answer, with a name for the rule that the field breaks.
+/// Names the rule that a broken field breaks.
 pub fn with_rule<T, R: Copy>(read: Result<T, FieldError>, rule: R) -> Result<T, Fault<R>>
     ensures { result ≡ named rule read }
 {
@@ -27,19 +27,21 @@ pub fn with_rule<T, R: Copy>(read: Result<T, FieldError>, rule: R) -> Result<T, 
     }
 }
 
-/// The same answer of a field that has no rule of its own: it ends in time or not.
+/// Turns the answer of a field that has no rule into that of a value made of fields. A broken rule
+/// would be reported as an early end, so the field must break none.
 pub fn plain<T, R: Copy>(read: Result<T, FieldError>) -> Result<T, Fault<R>>
+    requires { BreaksNoRule read }
     ensures { result ≡ unruled read }
 {
     match read {
         Ok(value) => Ok(value),
         Err(FieldError::Short(at)) => Err(Fault::Ended(at)),
-        Err(FieldError::Rule(at)) => Err(Fault::Ended(at)),
+        Err(FieldError::Rule(_)) => unreachable!(),
         Err(FieldError::Memory) => Err(Fault::NoMemory),
     }
 }
 
-/// The same answer, without the name of the rule.
+/// Drops the name of the rule.
 pub fn without_rule<T, R: Copy>(read: Result<T, Fault<R>>) -> Result<T, FieldError>
     ensures { result ≡ unnamed read }
 {

@@ -2,16 +2,20 @@ ghost use Rattle.std.specs.Prelude.{◌≡◌};
 ghost use Rattle.ens_fields.specs.declared.field_error.FieldError.TheVariants.{Memory};
 
 use std::alloc::{AllocError, AllocFailed};
+use thiserror::Error;
 
-/// Why a field is not read or written. A place counts bytes from the first of those that are read; it
-/// is that of the first number or run of bytes that does not fit or breaks its rule.
-#[derive(Clone, Copy, Debug, PartialEq, Eq)]
+/// Why a field was not read or written. A place is an index into the bytes that are read: it is where
+/// the first number or run of bytes begins that is cut short or breaks its rule.
+#[derive(Clone, Copy, Debug, PartialEq, Eq, Error)]
 pub enum FieldError {
-    /// The bytes end before this part does.
+    /// The bytes end before the part at this place does.
+    #[error("the bytes end inside the part at byte {0}")]
     Short(usize),
-    /// This part breaks its rule.
+    /// The part at this place breaks its rule.
+    #[error("the part at byte {0} breaks its rule")]
     Rule(usize),
     /// Memory ran out.
+    #[error("out of memory")]
     Memory,
 }
 

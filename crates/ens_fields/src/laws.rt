@@ -1,12 +1,14 @@
 ghost use Rattle.ens_fields.specs.Grammar.{IsGrammar};
-ghost use Rattle.ens_fields.specs.Versions.{IsEpoch, epoch_spelling, epoch_at, IsVersion, version_spelling, version_at};
+ghost use Rattle.ens_base.specs.Limits.{IsEpoch, IsVersion, IsKey, IsValue};
+ghost use Rattle.ens_fields.specs.Versions.{epoch_spelling, epoch_at, version_spelling, version_at};
 ghost use Rattle.ens_base.specs.View.{IsView};
-ghost use Rattle.ens_fields.specs.Strings.{IsKey, key_spelling, key_at, IsValue, value_spelling, value_at};
+ghost use Rattle.ens_fields.specs.Strings.{key_spelling, key_at, value_spelling, value_at};
 ghost use Rattle.ens_fields.specs.Views.{view_spelling, view_at, AreViews, views_spelling, views_at};
 ghost use Rattle.ens_fields.specs.Entries.{IsEntry, entry_spelling, entry_at};
 
-/// The law of the fields: what is read was spelled so, and what was spelled is read again, whatever
-/// follows it. So each value has one spelling, and none begins another's.
+/// Proves that spelling and reading are inverse: what is read at a place is spelled there, and what is
+/// spelled at a place is read there, whatever follows it. So each value has one spelling, and no
+/// spelling begins another.
 pub fn fields_have_grammars()
     ensures epoch { IsGrammar IsEpoch epoch_spelling epoch_at }
     ensures version { IsGrammar IsVersion version_spelling version_at }

@@ -1,10 +1,11 @@
-//! How the fields of every format are spelled as bytes, and read again: numbers, epochs, versions,
-//! keys, values, views and entries.
+//! Reads and writes the fields that every format is made of: numbers, epochs, versions, keys, values,
+//! views and entries.
 //!
-//! Each field has one grammar, which stands in `specs/` apart from the code: its spelling, and what
-//! reading it at a place gives, with the first fault and its place. `put_` calls append the spelling
-//! or leave the bytes as they were; `take_` calls answer exactly what reading gives. That spelling and
-//! reading belong to each other is a public law of each field.
+//! Each field has a grammar in `specs/`, apart from the code: how a value is spelled, and what reading
+//! at a place gives, down to the first fault and its place. A `put_` call appends the spelling, or
+//! leaves the bytes as they were. A `take_` call returns exactly what reading gives. A `write_` call
+//! writes into a buffer and takes no memory. [`fields_have_grammars`] proves of each field that
+//! spelling and reading are inverse to each other.
 #![tactic(auto)]
 
 mod entries;
@@ -27,6 +28,3 @@ pub use numbers::{
 pub use strings::{put_key, put_value, take_key, take_value};
 pub use versions::{put_epoch, put_version, take_epoch, take_version, write_epoch};
 pub use views::{put_view, put_views, take_view, take_views, write_view, write_views};
-
-#[cfg(test)]
-mod tests;

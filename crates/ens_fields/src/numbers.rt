@@ -2,14 +2,16 @@ ghost use Rattle.std.specs.Prelude.{◌≡◌, ◌+◌, ◌≤◌, ◌++◌, ◌
 ghost use Rattle.ens_fields.specs.Places.{Writes};
 ghost use Rattle.byteorder.specs.Endian.{big_bytes};
 ghost use Rattle.ens_fields.specs.Numbers.{byte_at, number_at};
+ghost use Rattle.ens_fields.specs.Faults.{BreaksNoRule};
 
 use crate::field_error::FieldError;
 use byteorder::{BigEndian, ByteOrder};
 
-/// The byte at this place, and the place after it.
+/// Reads the byte at `at`. Returns it and the place after it.
 pub fn take_u8(bytes: &[u8], at: usize) -> Result<(u8, usize), FieldError>
     requires { at ≤ length bytes.now }
     ensures exact { byte_at bytes.now at ≡ result }
+    ensures unruled { BreaksNoRule result }
     ensures within { IfOk result (λ x. x.1 ≤ length bytes.now) }
 {
     if at == bytes.len() {
@@ -18,10 +20,11 @@ pub fn take_u8(bytes: &[u8], at: usize) -> Result<(u8, usize), FieldError>
     Ok((bytes[at], at + 1))
 }
 
-/// The number that two bytes spell at this place, the high byte first, and the place after it.
+/// Reads a number of two bytes at `at`, the high byte first. Returns it and the place after it.
 pub fn take_u16(bytes: &[u8], at: usize) -> Result<(u16, usize), FieldError>
     requires { at ≤ length bytes.now }
     ensures exact { number_at 2 bytes.now at ≡ result }
+    ensures unruled { BreaksNoRule result }
     ensures within { IfOk result (λ x. x.1 ≤ length bytes.now) }
 {
     if bytes.len() - at < 2 {
@@ -30,10 +33,11 @@ pub fn take_u16(bytes: &[u8], at: usize) -> Result<(u16, usize), FieldError>
     Ok((BigEndian::read_u16(&bytes[at..]), at + 2))
 }
 
-/// The number that four bytes spell at this place, the highest byte first, and the place after it.
+/// Reads a number of four bytes at `at`, the highest byte first. Returns it and the place after it.
 pub fn take_u32(bytes: &[u8], at: usize) -> Result<(u32, usize), FieldError>
     requires { at ≤ length bytes.now }
     ensures exact { number_at 4 bytes.now at ≡ result }
+    ensures unruled { BreaksNoRule result }
     ensures within { IfOk result (λ x. x.1 ≤ length bytes.now) }
 {
     if bytes.len() - at < 4 {
@@ -42,10 +46,11 @@ pub fn take_u32(bytes: &[u8], at: usize) -> Result<(u32, usize), FieldError>
     Ok((BigEndian::read_u32(&bytes[at..]), at + 4))
 }
 
-/// The number that eight bytes spell at this place, the highest byte first, and the place after it.
+/// Reads a number of eight bytes at `at`, the highest byte first. Returns it and the place after it.
 pub fn take_u64(bytes: &[u8], at: usize) -> Result<(u64, usize), FieldError>
     requires { at ≤ length bytes.now }
     ensures exact { number_at 8 bytes.now at ≡ result }
+    ensures unruled { BreaksNoRule result }
     ensures within { IfOk result (λ x. x.1 ≤ length bytes.now) }
 {
     if bytes.len() - at < 8 {
@@ -100,7 +105,7 @@ pub fn put_u64(x: u64, out: &mut Vec<u8>) -> Result<(), FieldError>
     Ok(())
 }
 
-/// Writes the byte at this place, and answers the place after it.
+/// Writes the byte at `at` and returns the place after it.
 pub fn write_u8(x: u8, out: &mut [u8], at: usize) -> usize
     requires { at + 1 ≤ length out.old }
     ensures { Writes out.old out.new at (x ∷ []) result }
@@ -109,7 +114,7 @@ pub fn write_u8(x: u8, out: &mut [u8], at: usize) -> usize
     at + 1
 }
 
-/// Writes the number in four bytes at this place, and answers the place after it.
+/// Writes the number in four bytes at `at`, the highest byte first, and returns the place after it.
 pub fn write_u32(x: u32, out: &mut [u8], at: usize) -> usize
     requires { at + 4 ≤ length out.old }
     ensures { Writes out.old out.new at (big_bytes 4 x) result }
@@ -118,7 +123,7 @@ pub fn write_u32(x: u32, out: &mut [u8], at: usize) -> usize
     at + 4
 }
 
-/// Writes the bytes at this place, and answers the place after them.
+/// Writes the bytes at `at` and returns the place after them.
 pub fn write_bytes(x: &[u8], out: &mut [u8], at: usize) -> usize
     requires { at + length x.now ≤ length out.old }
     ensures { Writes out.old out.new at x.now result }
@@ -128,7 +133,7 @@ pub fn write_bytes(x: &[u8], out: &mut [u8], at: usize) -> usize
     end
 }
 
-/// Writes the number in eight bytes at this place, and answers the place after it.
+/// Writes the number in eight bytes at `at`, the highest byte first, and returns the place after it.
 pub fn write_u64(x: u64, out: &mut [u8], at: usize) -> usize
     requires { at + 8 ≤ length out.old }
     ensures { Writes out.old out.new at (big_bytes 8 x) result }

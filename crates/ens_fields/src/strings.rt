@@ -1,6 +1,7 @@
 ghost use Rattle.std.specs.Prelude.{◌≡◌, ◌≤◌, ◌++◌, length, IfOk, IfErr, OnOk, OnErr};
 ghost use Rattle.ens_fields.specs.Reading.{Gives};
-ghost use Rattle.ens_fields.specs.Strings.{IsKey, key_spelling, key_at, IsValue, value_spelling, value_at};
+ghost use Rattle.ens_base.specs.Limits.{IsKey, IsValue};
+ghost use Rattle.ens_fields.specs.Strings.{key_spelling, key_at, value_spelling, value_at};
 
 use crate::field_error::FieldError;
 use crate::numbers::{take_u8, take_u16};
@@ -8,7 +9,7 @@ use byteorder::{BigEndian, ByteOrder};
 use ens_base::{Key, Value};
 use std::alloc::Global;
 
-/// The key that is spelled at this place, a byte of length before it, and the place after it.
+/// Reads a key at `at`: its length in one byte, and 1 to 64 bytes. Returns it and the place after it.
 #[tactic(auto, unfolding(crate::specs::Strings::key_at))]
 pub fn take_key(alloc: Global, bytes: &[u8], at: usize) -> Result<(Key, usize), FieldError>
     requires { at ≤ length bytes.now }
@@ -29,7 +30,8 @@ pub fn take_key(alloc: Global, bytes: &[u8], at: usize) -> Result<(Key, usize), 
     }
 }
 
-/// The value that is spelled at this place, two bytes of length before it, and the place after it.
+/// Reads a value at `at`: its length in two bytes, and at most 1,024 bytes. Returns it and the place
+/// after it.
 #[tactic(auto, unfolding(crate::specs::Strings::value_at))]
 pub fn take_value(alloc: Global, bytes: &[u8], at: usize) -> Result<(Value, usize), FieldError>
     requires { at ≤ length bytes.now }

@@ -1,17 +1,20 @@
 ghost use Rattle.std.specs.Prelude.{◌≡◌, ◌+◌, ◌≤◌, ◌++◌, length, IfOk, IfErr, OnOk, OnErr};
 ghost use Rattle.ens_fields.specs.Places.{Writes};
-ghost use Rattle.ens_fields.specs.Versions.{IsEpoch, epoch_spelling, epoch_at, IsVersion, version_spelling, version_at};
+ghost use Rattle.ens_fields.specs.Faults.{BreaksNoRule};
+ghost use Rattle.ens_base.specs.Limits.{IsEpoch, IsVersion};
+ghost use Rattle.ens_fields.specs.Versions.{epoch_spelling, epoch_at, version_spelling, version_at};
 
 use crate::field_error::FieldError;
 use crate::numbers::{take_u32, take_u64, write_bytes};
 use byteorder::{BigEndian, ByteOrder};
 use ens_base::{Epoch, Version};
 
-/// The epoch that is spelled at this place in 12 bytes, and the place after it.
+/// Reads the 12 bytes of an epoch at `at`. Returns it and the place after it.
 #[tactic(auto, unfolding(crate::specs::Versions::epoch_at))]
 pub fn take_epoch(bytes: &[u8], at: usize) -> Result<(Epoch, usize), FieldError>
     requires { at ≤ length bytes.now }
     ensures exact { epoch_at bytes.now at ≡ result }
+    ensures unruled { BreaksNoRule result }
     ensures within { IfOk result (λ x. x.1 ≤ length bytes.now) }
 {
     let (count, at) = take_u64(bytes, at)?;
@@ -19,11 +22,12 @@ pub fn take_epoch(bytes: &[u8], at: usize) -> Result<(Epoch, usize), FieldError>
     Ok((Epoch { count, proposer }, at))
 }
 
-/// The version that is spelled at this place in 20 bytes, and the place after it.
+/// Reads the 20 bytes of a version at `at`. Returns it and the place after it.
 #[tactic(auto, unfolding(crate::specs::Versions::version_at))]
 pub fn take_version(bytes: &[u8], at: usize) -> Result<(Version, usize), FieldError>
     requires { at ≤ length bytes.now }
     ensures exact { version_at bytes.now at ≡ result }
+    ensures unruled { BreaksNoRule result }
     ensures within { IfOk result (λ x. x.1 ≤ length bytes.now) }
 {
     let (epoch, at) = take_epoch(bytes, at)?;
@@ -78,7 +82,7 @@ pub fn put_version(x: &Version, out: &mut Vec<u8>) -> Result<(), FieldError>
     Ok(())
 }
 
-/// Writes the 12 bytes of the epoch at this place, and answers the place after them.
+/// Writes the 12 bytes of the epoch at `at` and returns the place after them.
 pub fn write_epoch(x: &Epoch, out: &mut [u8], at: usize) -> usize
     requires { at + 12 ≤ length out.old }
     ensures written { Writes out.old out.new at (epoch_spelling x.now) result }

@@ -23,7 +23,7 @@ fn take_member(low: u32, bytes: &[u8], at: usize) -> Result<(u32, usize), FieldE
     Ok((member, after))
 }
 
-/// Fills the list with the members that are spelled at this place, and answers the place after them.
+/// Reads a member into each place of `members`. Returns the place after the last.
 fn fill_members(bytes: &[u8], at: usize, members: &mut [PeerId]) -> Result<usize, FieldError>
     requires { at ≤ length bytes.now }
     ensures exact { members_at (length members.old) 0 bytes.now at ≡ filled members.new result }
@@ -40,7 +40,8 @@ fn fill_members(bytes: &[u8], at: usize, members: &mut [PeerId]) -> Result<usize
     Ok(place)
 }
 
-/// The view that is spelled at this place, and the place after it.
+/// Reads a view at `at`: its size in one byte, and four bytes for each member. Returns it and the place
+/// after it.
 #[tactic(auto, unfolding(crate::specs::Views::view_at))]
 pub fn take_view(bytes: &[u8], at: usize) -> Result<(View, usize), FieldError>
     requires { at ≤ length bytes.now }
@@ -82,7 +83,7 @@ fn take_two(bytes: &[u8], at: usize) -> Result<(Views, usize), FieldError>
     Ok((Views::two(new, old), at))
 }
 
-/// The one or two views that are spelled at this place, and the place after them.
+/// Reads one or two views at `at`, the new one first. Returns them and the place after them.
 #[tactic(auto, unfolding(crate::specs::Views::views_at))]
 pub fn take_views(bytes: &[u8], at: usize) -> Result<(Views, usize), FieldError>
     requires { at ≤ length bytes.now }
@@ -97,7 +98,7 @@ pub fn take_views(bytes: &[u8], at: usize) -> Result<(Views, usize), FieldError>
     }
 }
 
-/// Writes the spelling of the view at this place, and answers the place after it.
+/// Writes the spelling of the view at `at`, at most 37 bytes, and returns the place after it.
 pub fn write_view(x: &View, out: &mut [u8], at: usize) -> usize
     requires { at + 37 ≤ length out.old }
     ensures written { Writes out.old out.new at (view_spelling x.now) result }
@@ -133,7 +134,7 @@ fn write_two(new: &View, old: &View, out: &mut [u8], at: usize) -> usize
     write_view(old, out, place)
 }
 
-/// Writes the spelling of the one or two views at this place, and answers the place after it.
+/// Writes the spelling of the one or two views at `at`, at most 75 bytes, and returns the place after it.
 pub fn write_views(x: &Views, out: &mut [u8], at: usize) -> usize
     requires { at + 75 ≤ length out.old }
     ensures written { Writes out.old out.new at (views_spelling x.now) result }

@@ -5,8 +5,9 @@ use Rattle.ens_base.specs.declared.epoch.Version.{Version}
 use Rattle.ens_fields.specs.declared.fault.Fault.{Fault}
 use Rattle.ens_fields.specs.declared.fault.Fault.TheVariants.{Ended, Broken, NoMemory}
 use Rattle.ens_fields.specs.Grammar.{IsGrammar}
-use Rattle.ens_fields.specs.Versions.{IsVersion, version_spelling}
-use Rattle.ens_fields.specs.Strings.{IsKey, key_spelling, IsValue, value_spelling}
+use Rattle.ens_base.specs.Limits.{IsVersion, IsKey, IsValue, IsBytes}
+use Rattle.ens_fields.specs.Versions.{version_spelling}
+use Rattle.ens_fields.specs.Strings.{key_spelling, value_spelling}
 use Rattle.ens_fields.proofs.GrammarLaws.{valid_as, spelled_as, field_then, field_last, nothing, right, ok_is, whole_found, whole_again}
 use Rattle.ens_fields.proofs.NumberLaws.{byte_grammar}
 use Rattle.ens_fields.proofs.FieldLaws.{version_grammar, key_grammar, value_grammar}
@@ -16,7 +17,6 @@ use Rattle.ens_object.specs.declared.error.ObjectRule.{ObjectRule}
 use Rattle.ens_object.specs.declared.error.ObjectRule.TheVariants as rules
 use Rattle.std.specs.Prelude.{IfOk}
 use Rattle.std.proofs.Common.{eq-eqb}
-use Rattle.ens_fields.specs.Places.{IsBytes}
 use Rattle.ens_fields.specs.Faults.{Finds}
 use Rattle.ens_object.specs.declared.error.ObjectError.{ObjectError}
 use Rattle.ens_object.specs.declared.error.ObjectError.TheVariants as errors

@@ -2,11 +2,12 @@
 use Rattle.std.specs.Prelude.{◌≡◌, ℕ, List, [], ◌∷◌, ◌++◌, length, Option, None, Some, Result, Ok, Err, ◌==◌, if◌then◌else◌}
 use Rattle.ens_fields.specs.declared.fault.Fault.{Fault}
 use Rattle.ens_fields.specs.declared.fault.Fault.TheVariants.{Ended, Broken, NoMemory}
-use Rattle.ens_fields.specs.Reading.{◌>>=◌}
+use Rattle.ens_base.specs.Results.{◌>>=◌}
 use Rattle.ens_fields.specs.Faults.{with_rule, plain}
 use Rattle.ens_fields.specs.Numbers.{byte_at}
-use Rattle.ens_fields.specs.Versions.{IsVersion, version_spelling, version_at}
-use Rattle.ens_fields.specs.Strings.{IsKey, key_spelling, key_at, IsValue, value_spelling, value_at}
+use Rattle.ens_base.specs.Limits.{IsVersion, IsKey, IsValue}
+use Rattle.ens_fields.specs.Versions.{version_spelling, version_at}
+use Rattle.ens_fields.specs.Strings.{key_spelling, key_at, value_spelling, value_at}
 use Rattle.ens_object.specs.declared.object.Object.{Object}
 use Rattle.ens_object.specs.declared.error.ObjectRule.{ObjectRule}
 use Rattle.ens_object.specs.declared.error.ObjectRule.TheVariants as rules

@@ -82,7 +82,7 @@ fn read_object(alloc: Global, bytes: &[u8], at: usize) -> Result<(Object, usize)
     ))
 }
 
-/// The object that is spelled at this place, and the place after it.
+/// Reads an object at `at`. Returns it and the place after it.
 pub fn take_object(alloc: Global, bytes: &[u8], at: usize) -> Result<(Object, usize), FieldError>
     requires { at ≤ length bytes.now }
     ensures exact { Gives result (unnamed (object_at bytes.now at)) }
@@ -106,7 +106,7 @@ fn append_content(value: &Option<Value>, out: &mut Vec<u8>) -> Result<(), FieldE
     }
 }
 
-/// Appends the spelling; where memory runs out, what stood before still begins the bytes.
+/// Appends the spelling. Out of memory leaves a part of it behind what `out` held.
 fn append_object(x: &Object, out: &mut Vec<u8>) -> Result<(), FieldError>
     ensures ok { OnOk result (out.new.items ≡ out.old.items ++ object_spelling x.now) }
     ensures valid { OnOk result (IsObject x.now) }
@@ -136,7 +136,7 @@ pub fn put_object(x: &Object, out: &mut Vec<u8>) -> Result<(), FieldError>
     }
 }
 
-/// What was read, if it is all there is.
+/// Returns what was read, if it takes all `size` bytes.
 fn if_all(
     read: Result<(Object, usize), Fault<ObjectRule>>,
     size: usize,
@@ -160,7 +160,7 @@ fn if_all(
 }
 
 impl Object {
-    /// The spelling of the object, which `decode` reads again.
+    /// The spelling of the object, which [`Object::decode`] reads again.
     pub fn encode(&self, alloc: Global) -> Result<Vec<u8>, ObjectError>
         ensures ok { IfOk result (λ v. v.items ≡ object_spelling self.now) }
         ensures again { IfOk result (λ v. object_of v.items ≡ Ok self.now) }
@@ -173,7 +173,7 @@ impl Object {
         }
     }
 
-    /// The object that the bytes spell, all of them.
+    /// Returns the object that the bytes spell, all of them, or the first fault from the left.
     pub fn decode(alloc: Global, bytes: &[u8]) -> Result<Object, ObjectError>
         // What is read was spelled so.
         ensures found { IfOk result (λ o. IsObject o × (bytes.now ≡ object_spelling o)) }

@@ -1,4 +1,6 @@
-/// The rules of an object's own fields.
+use thiserror::Error;
+
+/// The rules that a field of an object may break.
 #[derive(Clone, Copy, Debug, PartialEq, Eq)]
 pub enum ObjectRule {
     /// The tag is 0 or 1.
@@ -9,19 +11,25 @@ pub enum ObjectRule {
     ValueLength,
 }
 
-/// Why bytes are no object: the first fault from the left, or bytes left over.
-#[derive(Clone, Copy, Debug, PartialEq, Eq)]
+/// Why bytes are not an object: the first fault from the left, or bytes left over.
+#[derive(Clone, Copy, Debug, PartialEq, Eq, Error)]
 pub enum ObjectError {
     /// The bytes end before the object does.
+    #[error("the bytes end inside the object")]
     Short,
-    /// Bytes stand after the object.
+    /// Bytes follow the object.
+    #[error("bytes follow the object")]
     Trailing,
-    /// The tag is neither 0 nor 1.
+    /// The tag before the value is neither 0 nor 1.
+    #[error("the tag before the value is neither 0 nor 1")]
     BadTag,
-    /// The key has not 1 to 64 bytes.
+    /// The length of the key is not 1 to 64.
+    #[error("the length of the key is not 1 to 64 bytes")]
     KeyLength,
-    /// The value has more than 1,024 bytes.
+    /// The length of the value is greater than 1,024.
+    #[error("the length of the value is greater than 1024 bytes")]
     ValueLength,
     /// Memory ran out.
+    #[error("out of memory")]
     Memory,
 }

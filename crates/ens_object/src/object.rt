@@ -3,8 +3,8 @@ ghost use Rattle.std.specs.Prelude.{◌≡◌, ◌↔◌, IsTrue, IfOk};
 use ens_base::{CopyError, Digest, Entry, Key, Value, Version};
 use std::alloc::Global;
 
-/// What a peer keeps of one key: under which version it was last proposed, the stamp of the write that
-/// made it, and the value. Without a value it is a tombstone: the key was deleted.
+/// What a peer keeps of one key: the version under which it was last proposed, the stamp of the write
+/// that made it, and the value. An object without a value is a tombstone: the key was deleted.
 #[derive(Debug, PartialEq, Eq, Drop)]
 pub struct Object {
     pub version: Version,
@@ -35,8 +35,8 @@ impl Object {
         })
     }
 
-    /// Whether this is the object that the entry speaks of: the key, the version and the digest, which
-    /// is the MD5 of the object's spelling, are the entry's.
+    /// Whether the entry describes this object, whose spelling has the MD5 `digest`: the key, the version
+    /// and the digest are the entry's.
     pub fn matches(&self, digest: &Digest, entry: &Entry) -> bool
         ensures { IsTrue result ↔ ((self.now.key ≡ entry.now.key) × (self.now.version ≡ entry.now.version) × (digest.now ≡ entry.now.digest)) }
     {

@@ -7,9 +7,9 @@ use Rattle.ens_base.specs.View.{IsView}
 use Rattle.ens_base.specs.declared.epoch.Epoch.{Epoch}
 use Rattle.ens_fields.specs.declared.fault.Fault.{Fault}
 use Rattle.ens_fields.specs.declared.fault.Fault.TheVariants.{Ended, Broken, NoMemory}
-use Rattle.ens_fields.specs.Places.{IsBytes}
+use Rattle.ens_base.specs.Limits.{IsBytes, IsEpoch}
 use Rattle.ens_fields.specs.Grammar.{IsGrammar}
-use Rattle.ens_fields.specs.Versions.{IsEpoch, epoch_spelling}
+use Rattle.ens_fields.specs.Versions.{epoch_spelling}
 use Rattle.ens_fields.specs.Views.{view_spelling, AreViews, views_spelling}
 use Rattle.ens_fields.proofs.GrammarLaws.{valid_as, spelled_as, field_then, field_last, tested, nothing, right, ok_is, whole_found, whole_again}
 use Rattle.ens_fields.proofs.NumberLaws.{byte_grammar, u32_grammar, u64_grammar}

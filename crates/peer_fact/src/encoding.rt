@@ -28,7 +28,7 @@ fn write_change(x: &Change, out: &mut [u8], at: usize) -> usize
 /// The greatest length of a fact's spelling, in bytes.
 const MOST: usize = 150;
 
-/// Writes the spelling of the fact at the front, and answers its length.
+/// Writes the spelling of the fact to the front of `out`, and returns its length.
 fn write_fact(x: &Fact, out: &mut [u8]) -> usize
     requires { 150 ≤ length out.old }
     ensures written { Writes out.old out.new 0 (fact_spelling x.now) result }
@@ -60,7 +60,7 @@ pub fn put_fact(x: &Fact, out: &mut Vec<u8>) -> Result<(), FieldError>
 }
 
 impl Fact {
-    /// The spelling of the fact, which `decode` reads again.
+    /// The spelling of the fact, which [`Fact::decode`] reads again.
     pub fn encode(&self, alloc: Global) -> Result<Vec<u8>, FactError>
         ensures ok { IfOk result (λ v. v.items ≡ fact_spelling self.now) }
         ensures again { fact_of (fact_spelling self.now) ≡ Ok self.now }
@@ -74,8 +74,8 @@ impl Fact {
         }
     }
 
-    /// Puts the spelling at the front of `out`, leaves the bytes behind it as they were, and answers
-    /// its length. It takes no memory.
+    /// Writes the spelling to the front of `out`, and returns its length, which is at most 150. The bytes
+    /// behind it stay as they were. It takes no memory.
     pub fn spell(&self, out: &mut [u8; 480]) -> usize
         ensures front { out.new ≡ fact_spelling self.now ++ drop result out.old }
         ensures size { result ≡ length (fact_spelling self.now) }

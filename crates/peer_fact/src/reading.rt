@@ -75,7 +75,7 @@ fn read_fact(bytes: &[u8], at: usize) -> Result<(Fact, usize), Fault<FactRule>>
     }
 }
 
-/// The fact that is spelled at this place, and the place after it.
+/// Reads a fact at `at`. Returns it and the place after it.
 pub fn take_fact(bytes: &[u8], at: usize) -> Result<(Fact, usize), FieldError>
     requires { at ≤ length bytes.now }
     ensures exact { unnamed (fact_at bytes.now at) ≡ result }
@@ -89,7 +89,7 @@ pub fn take_fact(bytes: &[u8], at: usize) -> Result<(Fact, usize), FieldError>
     }
 }
 
-/// What was read, if it is all there is.
+/// Returns what was read, if it takes all `size` bytes.
 fn if_all(read: Result<(Fact, usize), Fault<FactRule>>, size: usize) -> Result<Fact, FactError>
     ensures { result ≡ all_of read size }
 {
@@ -109,7 +109,8 @@ fn if_all(read: Result<(Fact, usize), Fault<FactRule>>, size: usize) -> Result<F
 }
 
 impl Fact {
-    /// The fact that the bytes spell, all of them. It takes no memory, and never answers `Memory`.
+    /// Returns the fact that the bytes spell, all of them, or the first fault from the left. It takes no
+    /// memory.
     pub fn decode(bytes: &[u8]) -> Result<Fact, FactError>
         // What is read was spelled so.
         ensures found { IfOk result (λ f. IsFact f × (bytes.now ≡ fact_spelling f)) }

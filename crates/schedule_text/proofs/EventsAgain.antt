@@ -4,7 +4,7 @@ use Rattle.std.specs.Fmt.{decimal}
 use Rattle.ens_base.specs.declared.command.Command.{Command}
 use Rattle.ens_base.specs.declared.command.Command.TheVariants as does
 use Rattle.ens_base.specs.Words.{bytes_word, value_word, version_word}
-use Rattle.schedule_words.specs.Spelling.{AscendFrom, HasBytes, IsAmong, content_word, member_words}
+use Rattle.schedule_words.specs.Spelling.{AscendFrom, IsAmong, content_word, member_words}
 use Rattle.schedule_words.proofs.Ascending.{members_from-words, view_of-words}
 use Rattle.schedule_words.proofs.Dotted.{number_of-decimal, version_of-word, length-version}
 use Rattle.schedule_words.proofs.Fields.{peer_of-decimal, key_of-word, value_of-word, content_of-word}
@@ -12,7 +12,8 @@ use Rattle.schedule_words.proofs.Joined.{length-decimal, length-encode, length-v
 use Rattle.schedule_text.specs.Arguments.{has_empty, one_of, two_of, three_of, four_of}
 use Rattle.schedule_text.specs.Events.{operation_of, call_of, words_event}
 use Rattle.schedule_text.specs.Keywords.{command_word, command_of, operand_count, store_of, store_word, survivor_of, survivor_word}
-use Rattle.schedule_text.specs.Spelling.{event_words, name_of, operand_words, IsCommand, MayStand}
+use Rattle.ens_base.specs.Limits.{IsKey, IsCommand}
+use Rattle.schedule_text.specs.Spelling.{event_words, name_of, operand_words, MayStand}
 use Rattle.schedule_text.specs.declared.keyword.StoreName.{StoreName}
 use Rattle.schedule_text.specs.declared.keyword.StoreName.TheVariants as store
 use Rattle.schedule_text.specs.declared.keyword.Survivor.{Survivor}
@@ -28,8 +29,8 @@ use Rattle.schedule_text.proofs.Counted.{AreFull, has_empty-full}
 peer_full : (peers peer : ℕ) → peers ≤ 31 → IsAmong peers peer → 0 < length (decimal peer)
 peer_full peers peer few h = let last : peer ≤ peers = h.last in length-decimal peer (omega arith)
 
-key_full : (key : List ℕ) → HasBytes 1 64 key → 0 < length (bytes_word key)
-key_full key h = let least : 1 ≤ length key = h.least in length-encode key (omega arith)
+key_full : (key : List ℕ) → IsKey key → 0 < length (bytes_word key)
+key_full key h = let least : 1 ≤ length key = h.size.0 in length-encode key (omega arith)
 
 store_of-word : (s : StoreName) → store_of (store_word s) ≡ Some s
 store_of-word store.Fact = refl

@@ -7,8 +7,9 @@ use Rattle.ens_base.specs.declared.command.Command.{Command}
 use Rattle.ens_base.specs.declared.command.Command.TheVariants as does
 use Rattle.ens_base.specs.Words.{bytes_word, value_word}
 use Rattle.std.specs.Fmt.{decimal}
-use Rattle.schedule_words.specs.Causes.{◌>>=◌, or_cause}
-use Rattle.schedule_words.specs.Spelling.{HasBytes, IsAmong, IsContent, content_word}
+use Rattle.ens_base.specs.Results.{◌>>=◌}
+use Rattle.schedule_words.specs.Causes.{or_cause}
+use Rattle.schedule_words.specs.Spelling.{IsAmong, IsContent, content_word}
 use Rattle.schedule_words.specs.Words.{words_of, number_of, peer_of, key_of, value_of, content_of, version_of, members_of, view_of}
 use Rattle.schedule_words.specs.declared.cause.Cause.{Cause}
 use Rattle.schedule_words.specs.declared.cause.Cause.TheVariants.{TooLong, Unknown, Words, Number}
@@ -19,7 +20,8 @@ use Rattle.schedule_words.proofs.Results.{bind_ok, ok_same, or_cause_ok}
 use Rattle.schedule_text.specs.Arguments.{none_of, one_of, two_of, three_of, four_of, first_of, some_of}
 use Rattle.schedule_text.specs.Events.{operation_of, call_from, call_named, call_of, tick_of, deliver_of, one_peer_of, two_peers_of, calm_of, change_of, placed_of, inner_of, revert_of, fail_of, keyword_event, words_event, event_of}
 use Rattle.schedule_text.specs.Keywords.{command_word, command_of, commands, keyword_of, keyword_word, keywords, store_of, store_word, stores, survivor_of, survivor_word, survivors}
-use Rattle.schedule_text.specs.Spelling.{event_line, event_words, name_of, operand_words, IsCommand, MayStand}
+use Rattle.ens_base.specs.Limits.{IsKey, IsValue, IsCommand}
+use Rattle.schedule_text.specs.Spelling.{event_line, event_words, name_of, operand_words, MayStand}
 use Rattle.schedule_text.specs.declared.keyword.Keyword.{Keyword}
 use Rattle.schedule_text.specs.declared.keyword.Keyword.TheVariants as line
 use Rattle.schedule_text.specs.declared.keyword.CommandName.{CommandName}
@@ -90,7 +92,7 @@ two_peers_read peers words x few h =
     rw (← (ok_same q.2)) (two_of-ok words w.0 w.1 ∙ list_2 sender.0 receiver.0, (sender.1, receiver.1))
 
 placed_read : (peers : ℕ) (words : List (List ℕ)) (x : ℕ × List ℕ × Option (List ℕ)) → peers ≤ 31 → placed_of peers words ≡ Ok x
-    → (words ≡ decimal x.0 ∷ bytes_word x.1 ∷ content_word x.2 ∷ []) × (IsAmong peers x.0 × HasBytes 1 64 x.1 × IsContent x.2)
+    → (words ≡ decimal x.0 ∷ bytes_word x.1 ∷ content_word x.2 ∷ []) × (IsAmong peers x.0 × IsKey x.1 × IsContent x.2)
 placed_read peers words x few h =
     let w = bind_ok (three_of words) _ x h in
     let p = bind_ok (peer_of peers w.0.0) _ x w.2 in
@@ -160,7 +162,7 @@ OperandsRead : CommandName → List (List ℕ) → Command → Type 0
 OperandsRead named words command = (words ≡ operand_words command) × (named ≡ name_of command) × IsCommand command
 
 value_operand : (named : CommandName) (make : List ℕ → Command) (words : List (List ℕ)) (command : Command)
-    → ((value : List ℕ) → HasBytes 0 1024 value → OperandsRead named (value_word value ∷ []) (make value))
+    → ((value : List ℕ) → IsValue value → OperandsRead named (value_word value ∷ []) (make value))
     → (one_of words >>= λ w. value_of w >>= λ value. Ok (make value)) ≡ Ok command → OperandsRead named words command
 unfolding OperandsRead
 value_operand named make words command each h =

@@ -9,14 +9,15 @@ use Rattle.ens_base.specs.declared.command.Command.{Command}
 use Rattle.ens_base.specs.declared.command.Command.TheVariants as does
 use Rattle.ens_base.specs.Words.{bytes_word, value_word, version_word}
 use Rattle.ens_base.specs.declared.epoch.Version.{Version}
-use Rattle.schedule_words.specs.Spelling.{AreMembers, AscendFrom, HasBytes, IsAmong, IsContent, IsVersion, content_word, member_words}
+use Rattle.ens_base.specs.Limits.{IsKey, IsValue, IsVersion, IsCommand}
+use Rattle.schedule_words.specs.Spelling.{AreMembers, AscendFrom, IsAmong, IsContent, content_word, member_words}
 use Rattle.schedule_words.specs.Words.{words_of}
 use Rattle.schedule_words.proofs.Dotted.{has-version, length-version, length-version_word-le}
 use Rattle.schedule_words.proofs.Fields.{length-bytes_word, length-value_word-le, length-content_word-le}
 use Rattle.schedule_words.proofs.Joined.{AreWords, has, has-append, has-content, has-decimal, has-encode, has-letters, has-value, length-content, length-decimal, length-encode, length-value, other, parts_of-join}
 use Rattle.schedule_text.specs.Events.{event_of, line_limit, words_event}
 use Rattle.schedule_text.specs.Keywords.{command_word, store_word, survivor_word}
-use Rattle.schedule_text.specs.Spelling.{event_line, event_words, name_of, operand_words, IsCommand, MayStand}
+use Rattle.schedule_text.specs.Spelling.{event_line, event_words, name_of, operand_words, MayStand}
 use Rattle.schedule_text.specs.declared.keyword.StoreName.{StoreName}
 use Rattle.schedule_text.specs.declared.keyword.StoreName.TheVariants as store
 use Rattle.schedule_text.specs.declared.keyword.Survivor.{Survivor}
@@ -42,11 +43,11 @@ number_word at n low fits = (has-decimal at n (omega arith) fits, length-decimal
 peer_word : (at peers peer : ℕ) → at < 45 → peers ≤ 31 → IsAmong peers peer → IsWord at (decimal peer)
 peer_word at peers peer low few h = let last : peer ≤ peers = h.last in number_word at peer low (omega arith)
 
-key_word : (at : ℕ) (key : List ℕ) → at < 45 → HasBytes 1 64 key → IsWord at (bytes_word key)
-key_word at key low h = let least : 1 ≤ length key = h.least in (has-encode at key (omega arith) h.each, length-encode key (omega arith))
+key_word : (at : ℕ) (key : List ℕ) → at < 45 → IsKey key → IsWord at (bytes_word key)
+key_word at key low h = let least : 1 ≤ length key = h.size.0 in (has-encode at key (omega arith) h.bytes, length-encode key (omega arith))
 
-values_word : (at : ℕ) (value : List ℕ) → at < 45 → HasBytes 0 1024 value → IsWord at (value_word value)
-values_word at value low h = (has-value at value low h.each, length-value value)
+values_word : (at : ℕ) (value : List ℕ) → at < 45 → IsValue value → IsWord at (value_word value)
+values_word at value low h = (has-value at value low h.bytes, length-value value)
 
 contents_word : (at : ℕ) (content : Option (List ℕ)) → at < 45 → IsContent content → IsWord at (content_word content)
 contents_word at content low h = (has-content at content low h, length-content content h)
@@ -223,8 +224,8 @@ survivor_short : (s : Survivor) → length (survivor_word s) ≤ 3
 survivor_short left.Old = lit≤ tt
 survivor_short left.New = lit≤ tt
 
-key_short : (key : List ℕ) → HasBytes 1 64 key → length (bytes_word key) ≤ 128
-key_short key h = let most : length key ≤ 64 = h.most in omega (arith, length-bytes_word key)
+key_short : (key : List ℕ) → IsKey key → length (bytes_word key) ≤ 128
+key_short key h = let most : length key ≤ 64 = h.size.1 in omega (arith, length-bytes_word key)
 
 operands_short : (command : Command) → IsCommand command → total (operand_words command) ≤ 4098
 operands_short does.Get h = lit≤ tt

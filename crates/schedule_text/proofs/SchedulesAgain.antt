@@ -5,7 +5,7 @@ use Rattle.std.proofs.lemmas.List.{length-append}
 use Rattle.std.specs.Fmt.{decimal}
 use Rattle.ens_base.specs.Lists.{AreDistinct}
 use Rattle.ens_base.specs.View.{IsView}
-use Rattle.schedule_words.specs.Causes.{◌>>=◌}
+use Rattle.ens_base.specs.Results.{◌>>=◌}
 use Rattle.schedule_words.specs.Spelling.{AreMembers, member_words}
 use Rattle.schedule_words.specs.Words.{parts_of, words_of}
 use Rattle.schedule_words.proofs.Ascending.{view_of-words}

@@ -2,7 +2,8 @@
 use Rattle.std.specs.Prelude.{ℕ, ◌-◌, ◌^◌, not, ◌==◌, ◌||◌, nat_lt, if◌then◌else◌, List, [], ◌∷◌, length, Option, Result, Ok, Err}
 use Rattle.ens_base.specs.declared.command.Command.{Command}
 use Rattle.ens_base.specs.declared.command.Command.TheVariants as does
-use Rattle.schedule_words.specs.Causes.{◌>>=◌, or_cause}
+use Rattle.ens_base.specs.Results.{◌>>=◌}
+use Rattle.schedule_words.specs.Causes.{or_cause}
 use Rattle.schedule_words.specs.Words.{words_of, number_of, peer_of, key_of, value_of, content_of, version_of, members_of, view_of}
 use Rattle.schedule_words.specs.declared.cause.Cause.{Cause}
 use Rattle.schedule_words.specs.declared.cause.Cause.TheVariants.{TooLong, Unknown, Words, Number}

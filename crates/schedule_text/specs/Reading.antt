@@ -1,7 +1,7 @@
 -- What reading the lines of a schedule gives, one after another, or at which line it stops and why.
 use Rattle.std.specs.Prelude.{◌≡◌, ℕ, ◌+◌, ◌==◌, nat_lt, if◌then◌else◌, List, [], ◌∷◌, ◌++◌, length, codes, Result, Ok, Err}
 use Rattle.ens_base.specs.Lists.{same_bytes}
-use Rattle.schedule_words.specs.Causes.{◌>>=◌}
+use Rattle.ens_base.specs.Results.{◌>>=◌}
 use Rattle.schedule_words.specs.Words.{words_of, parts_of, number_of, view_of}
 use Rattle.schedule_words.specs.declared.cause.Cause.{Cause}
 use Rattle.schedule_words.specs.declared.cause.Cause.TheVariants.{TooLong, Unfinished, Heading, Repeated}

@@ -2,12 +2,13 @@
 use Rattle.std.specs.Prelude.{ℕ, ◌+◌, ◌<◌, ◌≤◌, ◌^◌, List, [], ◌∷◌, length, map, codes}
 use Rattle.std.specs.Fmt.{decimal}
 use Rattle.std.specs.List.{join_with_byte}
+use Rattle.ens_base.specs.Limits.{IsKey, IsCommand}
 use Rattle.ens_base.specs.Lists.{AreDistinct}
 use Rattle.ens_base.specs.View.{IsView}
 use Rattle.ens_base.specs.Words.{bytes_word, value_word, version_word}
 use Rattle.ens_base.specs.declared.command.Command.{Command}
 use Rattle.ens_base.specs.declared.command.Command.TheVariants as does
-use Rattle.schedule_words.specs.Spelling.{AreMembers, HasBytes, IsAmong, IsContent, IsVersion, content_word, member_words}
+use Rattle.schedule_words.specs.Spelling.{AreMembers, IsAmong, IsContent, content_word, member_words}
 use Rattle.schedule_text.specs.Keywords.{keyword_word, command_word, store_word, survivor_word}
 use Rattle.schedule_text.specs.Writing.{feeds}
 use Rattle.schedule_text.specs.declared.keyword.Keyword.TheVariants as line
@@ -82,20 +83,9 @@ schedule_lines s = ensemble_line ∷ peers_line s.peers ∷ view_line s.view ∷
 abbrev pub schedule_text : Schedule → List ℕ
 schedule_text s = feeds (schedule_lines s)
 
--- a command whose parts are in their ranges
-abbrev pub IsCommand : Command → Type 0
-IsCommand does.Get = Unit {0}
-IsCommand (does.PutOnce value) = HasBytes 0 1024 value
-IsCommand (does.Update stamp value) = IsVersion stamp × HasBytes 0 1024 value
-IsCommand (does.Append tail) = HasBytes 0 1024 tail
-IsCommand (does.Add amount) = amount < 2 ^ 64
-IsCommand (does.Swap old new) = HasBytes 0 1024 old × HasBytes 0 1024 new
-IsCommand (does.Over value) = HasBytes 0 1024 value
-IsCommand does.Delete = Unit {0}
-
 -- an event that may stand in a schedule of so many peers
 abbrev pub MayStand : ℕ → ScheduleEvent → Type 0
-MayStand peers (Call peer id key command) = IsAmong peers peer × (id < 2 ^ 64) × HasBytes 1 64 key × IsCommand command
+MayStand peers (Call peer id key command) = IsAmong peers peer × (id < 2 ^ 64) × IsKey key × IsCommand command
 MayStand peers (Tick peer ticks) = IsAmong peers peer × (1 ≤ ticks) × (ticks ≤ 100)
 MayStand peers (Deliver message) = (1 ≤ message) × (message < 2 ^ 64)
 MayStand peers (Pass sender receiver) = IsAmong peers sender × IsAmong peers receiver
@@ -105,8 +95,8 @@ MayStand peers (CalmAmong members) = (1 ≤ length members) × AreMembers peers 
 MayStand peers (Change peer view) = IsAmong peers peer × AreMembers peers view × IsView view
 MayStand peers (Stop peer) = IsAmong peers peer
 MayStand peers (Start peer) = IsAmong peers peer
-MayStand peers (Spoil peer key bytes) = IsAmong peers peer × HasBytes 1 64 key × IsContent bytes
-MayStand peers (Damage peer key bytes) = IsAmong peers peer × HasBytes 1 64 key × IsContent bytes
+MayStand peers (Spoil peer key bytes) = IsAmong peers peer × IsKey key × IsContent bytes
+MayStand peers (Damage peer key bytes) = IsAmong peers peer × IsKey key × IsContent bytes
 MayStand peers (Inner peer level index bytes) = IsAmong peers peer × (level ≤ 2) × (index < 16 ^ level) × IsContent bytes
 MayStand peers (Revert peer changes) = IsAmong peers peer × (1 ≤ changes) × (changes ≤ 1000000)
 MayStand peers (Fail peer store survivor) = IsAmong peers peer

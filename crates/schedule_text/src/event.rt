@@ -4,80 +4,81 @@ use crate::keyword::{StoreName, Survivor};
 use ens_base::{Bytes, Command, CopyError, Key, PeerId, Seq, View};
 use std::alloc::{AllocError, Global};
 
-/// What one line of a schedule says.
+/// An event of a schedule: one line.
 #[derive(Debug, Drop)]
 pub enum ScheduleEvent {
-    /// A client calls a peer. Ids are distinct in a schedule.
+    /// A client calls a peer. The ids of a schedule are distinct.
     Call {
         peer: PeerId,
         id: u64,
         key: Key,
         command: Command,
     },
-    /// A peer's clock ticks, 1 to 100 times.
+    /// The clock of a peer ticks 1 to 100 times.
     Tick {
         peer: PeerId,
         ticks: u32,
     },
-    /// The message of this number, counted from 1 in order of sending, is delivered, again if need be.
+    /// Delivers the message of this number, counted from 1 in the order of sending, even if it was
+    /// delivered before.
     Deliver {
         message: u64,
     },
-    /// The oldest message from one peer to another that is neither delivered nor lost is delivered.
+    /// Delivers the oldest message waiting from `sender` to `receiver`.
     Pass {
         sender: PeerId,
         receiver: PeerId,
     },
-    /// All undelivered messages from one peer to another are lost.
+    /// Loses all messages waiting from `sender` to `receiver`.
     Lose {
         sender: PeerId,
         receiver: PeerId,
     },
-    /// Messages are delivered in order of sending, until none is left.
+    /// Delivers messages in the order of sending until none is waiting.
     Calm,
-    /// The same for messages between these members alone: at least one, ascending.
+    /// Delivers messages between these members alone, at least one and ascending, until none is waiting.
     CalmAmong {
         members: Seq<PeerId>,
     },
-    /// A peer is asked to change its view.
+    /// Asks a peer to change the view.
     Change {
         peer: PeerId,
         view: View,
     },
-    /// A peer goes down.
+    /// Stops a peer.
     Stop {
         peer: PeerId,
     },
-    /// A peer starts.
+    /// Starts a peer.
     Start {
         peer: PeerId,
     },
-    /// The backend of a peer holds these 1 to 2,000 bytes for a key, or no longer an object.
+    /// Puts these 1 to 2,000 bytes into the backend of a peer under a key, or removes the object.
     Spoil {
         peer: PeerId,
         key: Key,
         bytes: Option<Bytes>,
     },
-    /// The segment of a key in a peer's tree holds these 1 to 2,000 bytes, or is gone.
+    /// Puts these 1 to 2,000 bytes in place of a key's segment in the tree of a peer, or removes it.
     Damage {
         peer: PeerId,
         key: Key,
         bytes: Option<Bytes>,
     },
-    /// An inner node of a peer's tree, at a level from 0 to 2 and an index below 16 to the power of the
-    /// level, holds these 1 to 2,000 bytes, or is gone.
+    /// Puts these 1 to 2,000 bytes in place of an inner node in the tree of a peer, at a level from 0 to 2
+    /// and an index below 16 to the power of the level, or removes it.
     Inner {
         peer: PeerId,
         level: u8,
         index: u32,
         bytes: Option<Bytes>,
     },
-    /// The top record of a stopped peer's tree goes back by 1 to 1,000,000 changes.
+    /// Takes the top record of a stopped peer's tree back by 1 to 1,000,000 changes.
     Revert {
         peer: PeerId,
         changes: u32,
     },
-    /// The next write of a store fails.
+    /// Makes the next write of a store fail, and leaves the old or the new content.
     Fail {
         peer: PeerId,
         store: StoreName,

@@ -10,12 +10,9 @@ use crate::call_line::call;
 use crate::error::ScheduleError;
 use crate::event::ScheduleEvent;
 use crate::keyword::{Keyword, StoreName, Survivor};
-use ens_base::{Bytes, Key, PeerId};
+use ens_base::{Bytes, Key, MAX_LINE_BYTES, PeerId};
 use schedule_words::{Cause, WordError, content, key, line_words, members, number, peer, view};
 use std::alloc::Global;
-
-/// The most bytes of a line, without its line feed.
-pub(crate) const LINE_LIMIT: usize = 4400;
 
 // P N
 fn tick(words: &[&[u8]], peers: u32) -> Result<ScheduleEvent, WordError>
@@ -196,19 +193,19 @@ fn words_event(alloc: Global, words: &[&[u8]], peers: u32) -> Result<ScheduleEve
     keyword_event(alloc, keyword, rest, peers)
 }
 
-/// The event that a line spells, or its cause.
+/// Returns the event that a line spells, or its cause.
 pub(crate) fn event(alloc: Global, line: &[u8], peers: u32) -> Result<ScheduleEvent, WordError>
     ensures { Gives (event_of peers line.now) result }
 {
-    if line.len() > LINE_LIMIT {
+    if line.len() > MAX_LINE_BYTES {
         return Err(WordError::Bad(Cause::TooLong));
     }
     let words = line_words(alloc, line)?;
     words_event(alloc, words.as_slice(), peers)
 }
 
-/// The event that one line spells, read where there are so many peers; `number` is the number of the
-/// line. The causes are 1 and 4 to 8, and the first of them in this order is answered.
+/// Returns the event that a line spells in a schedule of `peers` peers. `number` is the number of the
+/// line, which an error repeats. The causes are 1 and 4 to 8, and the first that applies is returned.
 pub fn read_event(
     alloc: Global,
     bytes: &[u8],

@@ -1,11 +1,10 @@
-//! The language of schedules: what a text says that clients, peers and the network do, line by line.
+//! The language of schedules: texts that say, line by line, what clients, peers and the network do.
 //!
-//! A schedule is three lines of heading and then one event a line. Reading gives the events that the
-//! lines spell, or the number of the first bad line and its cause; writing gives the one text that is
-//! read as the same schedule. Both directions are exact, and a layer above may hold either the text or
-//! the list of events. How an event is spelled and what may stand in a schedule is said in
-//! `specs/Spelling.antt`, what one line is read as in `specs/Events.antt`, and whole texts in
-//! `specs/Reading.antt`.
+//! A schedule is a heading of three lines, and then one event a line. [`read_schedule`] returns the
+//! schedule that a text spells, or the number of the first bad line and its cause. [`write_schedule`]
+//! returns the one text that is read as the schedule. [`Reading`] reads line by line. How an event is
+//! spelled and what a schedule may hold is in `specs/Spelling.antt`, what reading a line gives in
+//! `specs/Events.antt`, and what reading a text gives in `specs/Reading.antt`.
 #![tactic(auto)]
 
 mod arguments;
@@ -20,8 +19,6 @@ mod read_text;
 mod reading;
 mod schedule;
 mod stage;
-#[cfg(test)]
-mod tests;
 mod writing;
 
 pub use error::ScheduleError;

@@ -27,7 +27,7 @@ fn split_line(text: &[u8]) -> Option<(&[u8], &[u8])>
     }
 }
 
-/// The schedule that a text is, or the number of its first bad line and the cause.
+/// Reads the text line by line.
 pub(crate) fn read_lines(alloc: Global, bytes: &[u8]) -> Result<Schedule, ScheduleError>
     ensures { Answers (schedule_of bytes.now) result }
 {
@@ -42,8 +42,8 @@ pub(crate) fn read_lines(alloc: Global, bytes: &[u8]) -> Result<Schedule, Schedu
     reading.end(rest)
 }
 
-/// The schedule that a text is, or the number of its first bad line and the cause. Or `Lines` where
-/// line 200,001 begins and no line before it is bad.
+/// Returns the schedule that the text spells, or the number of the first bad line and its cause. A text
+/// in which line 200,001 begins, and no line before it is bad, has too many lines.
 pub fn read_schedule(alloc: Global, bytes: &[u8]) -> Result<Schedule, ScheduleError>
     ensures exact { Answers (schedule_of bytes.now) result }
     // What is read may be written, and what is written is the text.

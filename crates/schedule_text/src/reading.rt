@@ -4,22 +4,20 @@ ghost use Rattle.schedule_text.specs.Progress.{Blank, lines_so_far};
 ghost use Rattle.schedule_text.specs.Reading.{ended, finished, TakesLine, TakesWords};
 
 use crate::error::ScheduleError;
-use crate::event_lines::{LINE_LIMIT, event};
+use crate::event_lines::event;
 use crate::heading::{peers_line, view_line};
 use crate::log::Log;
 use crate::schedule::Schedule;
 use crate::stage::Stage;
+use ens_base::{MAX_LINE_BYTES, MAX_LINES};
 use schedule_words::{Cause, WordError};
 use std::alloc::Global;
 use std::marker::Model;
 
-/// The most lines of a schedule.
-const MOST_LINES: u32 = 200_000;
-
 /// The first line of each schedule.
 const TITLE: &[u8; 10] = b"ensemble 1";
 
-/// A schedule that is read line by line. Contracts see what the lines so far said.
+/// A schedule that is read line by line. Contracts see what the lines read so far say.
 #[derive(Drop)]
 pub struct Reading {
     alloc: Global,
@@ -38,7 +36,7 @@ impl Model for Reading {
 }
 
 impl Reading {
-    /// The reading of no line yet.
+    /// Begins a schedule.
     pub fn new(alloc: Global) -> Reading
         ensures { result ≡ Blank }
     {
@@ -67,7 +65,7 @@ impl Reading {
         requires { lines_so_far self.old < 200000 }
         ensures { TakesWords self.old line.now self.new result }
     {
-        if line.len() > LINE_LIMIT {
+        if line.len() > MAX_LINE_BYTES {
             return Err(WordError::Bad(Cause::TooLong));
         }
         match self.stage {
@@ -93,12 +91,13 @@ impl Reading {
         Ok(())
     }
 
-    /// The next line, without its line feed. A line that is refused leaves the reading as it was.
+    /// Reads the next line, given without its line feed. A line that is rejected leaves the reading as it
+    /// was.
     pub fn line(&mut self, bytes: &[u8]) -> Result<(), ScheduleError>
         ensures { TakesLine self.old bytes.now self.new result }
     {
         let lines = self.lines();
-        if lines == MOST_LINES {
+        if lines == MAX_LINES {
             return Err(ScheduleError::Lines);
         }
         match self.take(bytes) {
@@ -126,8 +125,8 @@ impl Reading {
         }
     }
 
-    /// The schedule, given what follows the last line feed: nothing, or the line that the text breaks
-    /// off in.
+    /// Ends the schedule. `rest` is what follows the last line feed: no bytes, or a line that is cut short
+    /// and hence bad.
     pub fn end(self, rest: &[u8]) -> Result<Schedule, ScheduleError>
         ensures { result ≡ ended self rest.now }
     {
@@ -138,10 +137,10 @@ impl Reading {
                 Err(cause) => Err(ScheduleError::at(lines + 1, WordError::Bad(cause))),
             };
         }
-        if lines == MOST_LINES {
+        if lines == MAX_LINES {
             return Err(ScheduleError::Lines);
         }
-        let cause = if rest.len() > LINE_LIMIT {
+        let cause = if rest.len() > MAX_LINE_BYTES {
             Cause::TooLong
         } else {
             Cause::Unfinished

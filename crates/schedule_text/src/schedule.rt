@@ -1,8 +1,8 @@
 use crate::event::ScheduleEvent;
 use ens_base::{Seq, View};
 
-/// A schedule: how many peers there are, from 1 to 31, the view that they open with, and the events
-/// in order, numbered from 1.
+/// A schedule: the number of peers, from 1 to 31, the view of the ensemble at the start, and the events in
+/// order.
 #[derive(Debug, Drop)]
 pub struct Schedule {
     pub peers: u32,

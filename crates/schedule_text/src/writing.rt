@@ -345,7 +345,7 @@ pub(crate) fn text_of(alloc: Global, schedule: &Schedule) -> Result<Vec<u8>, All
     Ok(out.into_bytes())
 }
 
-/// The text of a schedule. It is read as the schedule again, where that is one.
+/// Returns the text of a schedule, which is read as the same schedule.
 pub fn write_schedule(alloc: Global, schedule: &Schedule) -> Result<Vec<u8>, ScheduleError>
     ensures text { IfOk result (λ v. v.items ≡ schedule_text schedule.now) }
     ensures again { IfOk result (λ v. IsSchedule schedule.now → schedule_of v.items ≡ Ok schedule.now) }

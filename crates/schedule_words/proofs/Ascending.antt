@@ -8,7 +8,8 @@ use Rattle.ens_base.specs.View.{IsPeer, IsView}
 use Rattle.schedule_words.specs.Spelling.{AreMembers, AscendFrom, member_words}
 use Rattle.schedule_words.proofs.Results.{bind_ok, or_cause_ok, ok_same}
 use Rattle.schedule_words.proofs.Numerals.{number_within-some, number_within-decimal}
-use Rattle.schedule_words.specs.Causes.{◌>>=◌, or_cause}
+use Rattle.ens_base.specs.Results.{◌>>=◌}
+use Rattle.schedule_words.specs.Causes.{or_cause}
 use Rattle.schedule_words.specs.Words.{members_from, members_of, number_within, view_of}
 use Rattle.schedule_words.specs.declared.cause.Cause.{Cause}
 use Rattle.schedule_words.specs.declared.cause.Cause.TheVariants.{Peers}

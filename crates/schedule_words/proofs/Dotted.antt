@@ -8,7 +8,7 @@ use Rattle.std.specs.List.{join_with_byte}
 use Rattle.ens_base.specs.Words.{epoch_word, version_word}
 use Rattle.ens_base.specs.declared.epoch.Version.{Version}
 use Rattle.schedule_words.specs.Causes.{or_cause}
-use Rattle.schedule_words.specs.Spelling.{IsVersion}
+use Rattle.ens_base.specs.Limits.{IsVersion}
 use Rattle.schedule_words.specs.Words.{number_of, number_within, parts_of, version_from, version_of, version_of_parts}
 use Rattle.schedule_words.specs.declared.cause.Cause.TheVariants.{Number}
 use Rattle.schedule_words.proofs.Joined.{has, has-append, has-decimal, length-decimal, other, parts_of-join}
@@ -45,8 +45,7 @@ version_from-ok a b c v h =
     rw (← (ok_same seq.2)) (
       spelled count.0 proposer.0 seq.0 first.0 second.0 third.0,
       record {
-        count = omega (arith, first.2);
-        proposer = omega (arith, second.2);
+        epoch = record { count = omega (arith, first.2); proposer = omega (arith, second.2) };
         seq = omega (arith, third.2);
       },
     )
@@ -65,8 +64,8 @@ version_of-ok word v h =
 -- the spelling of a version is read as it
 pub version_of-word : (v : Version) → IsVersion v → version_of (version_word v) ≡ Ok v
 version_of-word v h =
-    let count : v.epoch.count < 2 ^ 64 = h.count in
-    let proposer : v.epoch.proposer < 2 ^ 32 = h.proposer in
+    let count : v.epoch.count < 2 ^ 64 = h.epoch.count in
+    let proposer : v.epoch.proposer < 2 ^ 32 = h.epoch.proposer in
     let seq : v.seq < 2 ^ 64 = h.seq in
     let parts : parts_of 46 (version_word v) ≡ decimal v.epoch.count ∷ decimal v.epoch.proposer ∷ decimal v.seq ∷ [] =
     ap (parts_of 46) (dotted-join (decimal v.epoch.count) (decimal v.epoch.proposer) (decimal v.seq))
@@ -89,12 +88,12 @@ version_of-word v h =
 -- no byte below 46 stands in the spelling of a version
 pub has-version : (at : ℕ) (v : Version) → at < 46 → IsVersion v → has at (version_word v) ≡ false
 has-version at v low h =
-    let proposer : v.epoch.proposer < 2 ^ 32 = h.proposer in
+    let proposer : v.epoch.proposer < 2 ^ 32 = h.epoch.proposer in
     let dot : has at (46 ∷ []) ≡ false = rw (other at 46 low) refl in
     has-append at (epoch_word v.epoch ++ 46 ∷ []) (decimal v.seq)
     (has-append at (epoch_word v.epoch) (46 ∷ [])
     (has-append at (decimal v.epoch.count ++ 46 ∷ []) (decimal v.epoch.proposer)
-    (has-append at (decimal v.epoch.count) (46 ∷ []) (has-decimal at v.epoch.count (omega arith) h.count) dot)
+    (has-append at (decimal v.epoch.count) (46 ∷ []) (has-decimal at v.epoch.count (omega arith) h.epoch.count) dot)
     (has-decimal at v.epoch.proposer (omega arith) (omega arith))) dot)
     (has-decimal at v.seq (omega arith) h.seq)
 
@@ -105,8 +104,8 @@ length-version v h =
 
 pub length-version_word-le : (v : Version) → IsVersion v → length (version_word v) ≤ 62
 length-version_word-le v h =
-    let small : v.epoch.proposer < 2 ^ 32 = h.proposer in
-    let count = length-decimal-le 20 v.epoch.count (lit< tt) (omega (arith, h.count)) h.count in
+    let small : v.epoch.proposer < 2 ^ 32 = h.epoch.proposer in
+    let count = length-decimal-le 20 v.epoch.count (lit< tt) (omega (arith, h.epoch.count)) h.epoch.count in
     let proposer = length-decimal-le 20 v.epoch.proposer (lit< tt) (omega arith) (omega arith) in
     let seq = length-decimal-le 20 v.seq (lit< tt) (omega (arith, h.seq)) h.seq in
     omega (

@@ -4,10 +4,12 @@ use Rattle.std.proofs.lemmas.Bool.{and_parts, eqb-true}
 use Rattle.std.specs.Fmt.{decimal}
 use Rattle.hex.proofs.HexLemmas.{length-encode_with}
 use Rattle.hex.specs.Hex.{encode_lower, encode_with, lower_digits}
+use Rattle.ens_base.specs.Limits.{IsKey, IsValue}
 use Rattle.ens_base.specs.Lists.{same_bytes}
 use Rattle.ens_base.specs.Words.{bytes_word, value_word}
-use Rattle.schedule_words.specs.Causes.{◌>>=◌, or_cause}
-use Rattle.schedule_words.specs.Spelling.{HasBytes, IsAmong, IsContent, content_word}
+use Rattle.ens_base.specs.Results.{◌>>=◌}
+use Rattle.schedule_words.specs.Causes.{or_cause}
+use Rattle.schedule_words.specs.Spelling.{IsAmong, IsContent, content_word}
 use Rattle.schedule_words.specs.Words.{bytes_within, content_of, key_of, number_within, peer_of, value_of}
 use Rattle.schedule_words.specs.declared.cause.Cause.TheVariants.{Bytes, Peers}
 use Rattle.schedule_words.proofs.Hexadecimal.{bytes_within-some, bytes_within-encode}
@@ -42,26 +44,28 @@ peer_of-decimal peers peer few h =
 
 -- ---- keys, values and raw bytes
 
-pub key_of-ok : (word key : List ℕ) → key_of word ≡ Ok key → (word ≡ bytes_word key) × HasBytes 1 64 key
-key_of-ok word key h = bytes_within-some 1 64 word key (or_cause_ok Bytes (bytes_within 1 64 word) key h)
+pub key_of-ok : (word key : List ℕ) → key_of word ≡ Ok key → (word ≡ bytes_word key) × IsKey key
+key_of-ok word key h =
+    let parts = bytes_within-some 1 64 word key (or_cause_ok Bytes (bytes_within 1 64 word) key h) in
+    (parts.0, record { size = (parts.1.least, parts.1.most); bytes = parts.1.each })
 
-pub key_of-word : (key : List ℕ) → HasBytes 1 64 key → key_of (bytes_word key) ≡ Ok key
-key_of-word key h = ap (or_cause Bytes) (bytes_within-encode 1 64 key h)
+pub key_of-word : (key : List ℕ) → IsKey key → key_of (bytes_word key) ≡ Ok key
+key_of-word key h = ap (or_cause Bytes) (bytes_within-encode 1 64 key (record { least = h.size.0; most = h.size.1; each = h.bytes }))
 
 -- bytes that are some are spelled in digits
 value_word-some : (bytes : List ℕ) → 1 ≤ length bytes → value_word bytes ≡ encode_lower bytes
 value_word-some [] h = absurd (omega arith)
 value_word-some (b ∷ rest) h = refl
 
-pub value_of-ok : (word value : List ℕ) → value_of word ≡ Ok value → (word ≡ value_word value) × HasBytes 0 1024 value
+pub value_of-ok : (word value : List ℕ) → value_of word ≡ Ok value → (word ≡ value_word value) × IsValue value
 value_of-ok word value h = by (same_bytes word (codes "-")) refl h
   where
     by : (b : Bool) → same_bytes word (codes "-") ≡ b → (if b then Ok [] else or_cause Bytes (bytes_within 1 1024 word)) ≡ Ok value
-        → (word ≡ value_word value) × HasBytes 0 1024 value
-    by true e h = rw (← (ok_same h)) (same_bytes-same word (codes "-") e, record { least = omega arith; most = omega arith; each = λ i. omega arith })
+        → (word ≡ value_word value) × IsValue value
+    by true e h = rw (← (ok_same h)) (same_bytes-same word (codes "-") e, record { size = omega arith; bytes = λ i. omega arith })
     by false e h =
         let parts = bytes_within-some 1 1024 word value (or_cause_ok Bytes (bytes_within 1 1024 word) value h) in
-        (parts.0 ∙ sym (value_word-some value parts.1.least), record { least = omega arith; most = parts.1.most; each = parts.1.each })
+        (parts.0 ∙ sym (value_word-some value parts.1.least), record { size = parts.1.most; bytes = parts.1.each })
 
 -- no digits are a dash
 no_dash : (bytes : List ℕ) → 1 ≤ length bytes → same_bytes (encode_lower bytes) (codes "-") ≡ false
@@ -73,9 +77,9 @@ no_dash (b ∷ rest) h = by (nat_eq (slice_index lower_digits (b / 16)) 45)
     by true = refl
     by false = refl
 
-pub value_of-word : (value : List ℕ) → HasBytes 0 1024 value → value_of (value_word value) ≡ Ok value
+pub value_of-word : (value : List ℕ) → IsValue value → value_of (value_word value) ≡ Ok value
 value_of-word [] h = refl
-value_of-word (b ∷ rest) h = let some : 1 ≤ length (b ∷ rest) = omega arith in rw no_dash (ap (or_cause Bytes) (bytes_within-encode 1 1024 (b ∷ rest) (record { least = omega arith; most = h.most; each = h.each })))
+value_of-word (b ∷ rest) h = let some : 1 ≤ length (b ∷ rest) = omega arith in rw no_dash (ap (or_cause Bytes) (bytes_within-encode 1 1024 (b ∷ rest) (record { least = omega arith; most = h.size; each = h.bytes })))
 
 pub content_of-ok : (word : List ℕ) (content : Option (List ℕ)) → content_of word ≡ Ok content → (word ≡ content_word content) × IsContent content
 content_of-ok word content h = by (same_bytes word (codes "-")) refl h
@@ -99,9 +103,9 @@ content_of-word (Some bytes) h =
 pub length-bytes_word : (bytes : List ℕ) → length (bytes_word bytes) ≡ 2 * length bytes
 length-bytes_word bytes = length-encode_with lower_digits bytes
 
-pub length-value_word-le : (value : List ℕ) → HasBytes 0 1024 value → length (value_word value) ≤ 2048
+pub length-value_word-le : (value : List ℕ) → IsValue value → length (value_word value) ≤ 2048
 length-value_word-le [] h = lit≤ tt
-length-value_word-le (b ∷ rest) h = let most : length (b ∷ rest) ≤ 1024 = h.most in let long = length-bytes_word (b ∷ rest) in omega (arith, long)
+length-value_word-le (b ∷ rest) h = let most : length (b ∷ rest) ≤ 1024 = h.size in let long = length-bytes_word (b ∷ rest) in omega (arith, long)
 
 pub length-content_word-le : (content : Option (List ℕ)) → IsContent content → length (content_word content) ≤ 4000
 length-content_word-le None h = lit≤ tt

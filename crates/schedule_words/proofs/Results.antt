@@ -1,6 +1,7 @@
 -- What is known of two readings in a row.
 use Rattle.std.proofs.Common.{◌≡◌, Option, Some, None, Result, Ok, Err, refl}
-use Rattle.schedule_words.specs.Causes.{◌>>=◌, or_cause}
+use Rattle.ens_base.specs.Results.{◌>>=◌}
+use Rattle.schedule_words.specs.Causes.{or_cause}
 use Rattle.schedule_words.specs.declared.cause.Cause.{Cause}
 
 -- where two readings gave a value, each of them did

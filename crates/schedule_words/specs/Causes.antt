@@ -19,12 +19,6 @@ cause_number Bytes = 7
 cause_number Peers = 8
 cause_number Repeated = 9
 
--- the second reading, where the first gave a value; else the first cause
-infixl 10 ◌>>=◌
-abbrev pub ◌>>=◌ : {A B : Type 0} → Result A Cause → (A → Result B Cause) → Result B Cause
-(Ok x) >>= f = f x
-(Err cause) >>= f = Err cause
-
 -- the value, or this cause where there is none
 abbrev pub or_cause : {A : Type 0} → Cause → Option A → Result A Cause
 or_cause cause (Some x) = Ok x

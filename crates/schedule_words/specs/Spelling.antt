@@ -2,8 +2,7 @@
 use Rattle.std.specs.Prelude.{ℕ, ◌+◌, ◌<◌, ◌≤◌, ◌^◌, List, [], ◌∷◌, map, length, codes, Option, Some, None}
 use Rattle.std.specs.Fmt.{decimal}
 use Rattle.ens_base.specs.Words.{bytes_word}
-use Rattle.ens_base.specs.declared.epoch.Version.{Version}
-use Rattle.hex.specs.Hex.{IsBytes}
+use Rattle.ens_base.specs.Limits.{IsBytes}
 
 -- raw bytes for a store: themselves, or a dash where what is there is to be gone
 abbrev pub content_word : Option (List ℕ) → List ℕ
@@ -24,12 +23,6 @@ pub record HasBytes (low high : ℕ) (bytes : List ℕ) : Type 0 where
 abbrev pub IsContent : Option (List ℕ) → Type 0
 IsContent None = Unit {0}
 IsContent (Some bytes) = HasBytes 1 2000 bytes
-
--- the parts of a version fit their types
-pub record IsVersion (v : Version) : Type 0 where
-  pub count : v.epoch.count < 2 ^ 64
-  pub proposer : v.epoch.proposer < 2 ^ 32
-  pub seq : v.seq < 2 ^ 64
 
 -- one of the peers from 1 on
 pub record IsAmong (peers peer : ℕ) : Type 0 where

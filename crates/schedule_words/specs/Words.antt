@@ -8,7 +8,8 @@ use Rattle.std.specs.Result.{result_ok}
 use Rattle.hex.specs.Hex.{decode_of}
 use Rattle.ens_base.specs.Lists.{same_bytes}
 use Rattle.ens_base.specs.declared.epoch.Version.{Version}
-use Rattle.schedule_words.specs.Causes.{◌>>=◌, or_cause}
+use Rattle.ens_base.specs.Results.{◌>>=◌}
+use Rattle.schedule_words.specs.Causes.{or_cause}
 use Rattle.schedule_words.specs.declared.cause.Cause.{Cause}
 use Rattle.schedule_words.specs.declared.cause.Cause.TheVariants.{Number, Bytes, Peers}
 

@@ -1,29 +1,39 @@
-ghost use Rattle.std.specs.Prelude.{◌≡◌};
+ghost use Rattle.std.specs.Prelude.{◌≡◌, ◌↔◌, ◌⊎◌, ◌<◌, IfSome, IsNone};
 ghost use Rattle.schedule_words.specs.Causes.{cause_number};
 
 use ens_base::LengthError;
 use std::alloc::{AllocError, AllocFailed};
+use thiserror::Error;
 
-/// Why a line of a schedule is refused. The causes are numbered from 1 in this order.
-#[derive(Clone, Copy, Debug, PartialEq, Eq)]
+/// Why a line of a schedule is rejected. The causes are numbered from 1 in this order.
+#[derive(Clone, Copy, Debug, PartialEq, Eq, Error)]
 pub enum Cause {
     /// The line has more than 4,400 bytes.
+    #[error("the line has more than 4400 bytes")]
     TooLong,
     /// The input ends inside the line.
+    #[error("the input ends inside the line")]
     Unfinished,
-    /// One of the first three lines is not of its form, or the input ends before it.
+    /// One of the first three lines does not have its form, or the input ends before it.
+    #[error("one of the three lines of the heading is missing or malformed")]
     Heading,
     /// The first word, or the command of a call, is unknown.
+    #[error("the first word or the command of a call is unknown")]
     Unknown,
     /// The number of words is wrong, or a word is empty.
+    #[error("the number of words is wrong, or a word is empty")]
     Words,
-    /// A number, version, level, index or fixed word is not of its form and range.
+    /// A number, version, level, index or fixed word is malformed or out of range.
+    #[error("a number, version, level, index or fixed word is malformed or out of range")]
     Number,
-    /// Bytes or their length are wrong.
+    /// Bytes are malformed, or their length is out of range.
+    #[error("bytes are malformed, or their length is out of range")]
     Bytes,
-    /// A peer's number or a list of members is wrong.
+    /// The number of a peer or a list of members is malformed or out of range.
+    #[error("the number of a peer or a list of members is malformed or out of range")]
     Peers,
-    /// The id of the call came before.
+    /// An earlier call has the same id.
+    #[error("an earlier call has the same id")]
     Repeated,
 }
 
@@ -44,14 +54,35 @@ impl Cause {
             Cause::Repeated => 9,
         }
     }
+
+    /// The cause with this number, if there is one.
+    pub fn from_number(number: u8) -> Option<Cause>
+        ensures known { IfSome result (λ cause. cause_number cause ≡ number) }
+        ensures unknown { IsNone result ↔ ((number < 1) ⊎ (9 < number)) }
+    {
+        match number {
+            1 => Some(Cause::TooLong),
+            2 => Some(Cause::Unfinished),
+            3 => Some(Cause::Heading),
+            4 => Some(Cause::Unknown),
+            5 => Some(Cause::Words),
+            6 => Some(Cause::Number),
+            7 => Some(Cause::Bytes),
+            8 => Some(Cause::Peers),
+            9 => Some(Cause::Repeated),
+            _ => None,
+        }
+    }
 }
 
-/// Why words are not read.
-#[derive(Clone, Copy, Debug, PartialEq, Eq)]
+/// Why a word was not read.
+#[derive(Clone, Copy, Debug, PartialEq, Eq, Error)]
 pub enum WordError {
-    /// They are refused, for this cause.
+    /// The word is rejected, for this cause.
+    #[error("{0}")]
     Bad(Cause),
     /// Memory ran out.
+    #[error("out of memory")]
     Memory,
 }
 

@@ -13,7 +13,7 @@ use std::alloc::Global;
 
 const NONE: &[u8; 1] = b"-";
 
-/// The most bytes of what a store is given in an object's or a node's place.
+/// The most bytes that a store is given in place of an object or a node.
 pub const MOST_CONTENT: usize = 2000;
 
 fn has_uppercase(word: &[u8]) -> bool
@@ -47,8 +47,8 @@ fn bytes_within(alloc: Global, word: &[u8], most: usize) -> Result<Bytes, WordEr
     Ok(bytes)
 }
 
-/// The key that the word spells: 1 to 64 bytes as pairs of lower-case hexadecimal digits. Else the
-/// cause is `Bytes`.
+/// Returns the key that the word spells: 1 to 64 bytes as pairs of lower-case hexadecimal digits. Rejects
+/// any other word with the cause `Bytes`.
 pub fn key(alloc: Global, word: &[u8]) -> Result<Key, WordError>
     ensures { Gives (key_of word.now) result }
 {
@@ -56,8 +56,8 @@ pub fn key(alloc: Global, word: &[u8]) -> Result<Key, WordError>
     Ok(Key::new(alloc, bytes.as_slice())?)
 }
 
-/// The value that the word spells: a dash for no bytes, or 1 to 1,024 bytes as pairs of lower-case
-/// hexadecimal digits. Else the cause is `Bytes`.
+/// Returns the value that the word spells: a dash for no bytes, or 1 to 1,024 bytes as pairs of
+/// lower-case hexadecimal digits. Rejects any other word with the cause `Bytes`.
 pub fn value(alloc: Global, word: &[u8]) -> Result<Value, WordError>
     ensures { Gives (value_of word.now) result }
 {
@@ -68,8 +68,8 @@ pub fn value(alloc: Global, word: &[u8]) -> Result<Value, WordError>
     Ok(Value::new(alloc, bytes.as_slice())?)
 }
 
-/// What a store is to hold: 1 to 2,000 bytes as pairs of lower-case hexadecimal digits, or a dash
-/// where what is there is to be gone. Else the cause is `Bytes`.
+/// Returns what a store is to hold: 1 to 2,000 bytes as pairs of lower-case hexadecimal digits, or a dash
+/// for nothing. Rejects any other word with the cause `Bytes`.
 pub fn content(alloc: Global, word: &[u8]) -> Result<Option<Bytes>, WordError>
     ensures { Gives (content_of word.now) result }
 {

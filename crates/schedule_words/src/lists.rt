@@ -10,8 +10,8 @@ use std::alloc::Global;
 // The greatest number of a peer in a view.
 const MOST_PEERS: u32 = 31;
 
-/// The members that the words name: from 1 to `peers`, each greater than the one before. Else the
-/// cause is `Peers`.
+/// Returns the members that the words name: numbers from 1 to `peers`, each greater than the one before.
+/// Rejects any other list with the cause `Peers`.
 pub fn members(alloc: Global, words: &[&[u8]], peers: u32) -> Result<Seq<PeerId>, WordError>
     ensures { Gives (members_of peers (map (λ word. word.now) words.now)) result }
 {
@@ -27,8 +27,8 @@ pub fn members(alloc: Global, words: &[&[u8]], peers: u32) -> Result<Seq<PeerId>
     Ok(Seq::new(members))
 }
 
-/// The view of 1 to 9 members that the words name: from 1 to `peers`, and to 31 at most, each
-/// greater than the one before. Else the cause is `Peers`.
+/// Returns the view that the words name: 1 to 9 numbers from 1 to `peers`, and at most 31, each greater
+/// than the one before. Rejects any other list with the cause `Peers`.
 pub fn view(alloc: Global, words: &[&[u8]], peers: u32) -> Result<View, WordError>
     ensures { Gives (view_of peers (map (λ word. word.now) words.now)) result }
 {

@@ -32,15 +32,15 @@ pub(crate) fn number_within(word: &[u8], low: u64, high: u64) -> Option<u64>
     }
 }
 
-/// The number that the word spells, from `low` to `high`: decimal digits without a zero in front of
-/// another digit. Else the cause is `Number`.
+/// Returns the number from `low` to `high` that the word spells in decimal digits, with no zero in front
+/// of another digit. Rejects any other word with the cause `Number`.
 pub fn number(word: &[u8], low: u64, high: u64) -> Result<u64, Cause>
     ensures { result ≡ number_of low high word.now }
 {
     number_within(word, low, high).ok_or(Cause::Number)
 }
 
-/// The peer that the word names, from 1 to `peers`. Else the cause is `Peers`.
+/// Returns the peer that the word names, from 1 to `peers`. Rejects any other word with the cause `Peers`.
 pub fn peer(word: &[u8], peers: u32) -> Result<PeerId, Cause>
     ensures { result ≡ peer_of peers word.now }
 {

@@ -29,8 +29,8 @@ fn from_parts(parts: &[&[u8]]) -> Result<Version, Cause>
     }
 }
 
-/// The version that the word spells: count, proposer and seq, parted by dots. Else the cause is
-/// `Number`.
+/// Returns the version that the word spells: count, proposer and seq, with a dot between them. Rejects any
+/// other word with the cause `Number`.
 pub fn version(alloc: Global, word: &[u8]) -> Result<Version, WordError>
     ensures { Gives (version_of word.now) result }
 {

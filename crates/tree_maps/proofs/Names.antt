@@ -5,7 +5,7 @@ use Rattle.std.specs.Int.{to_le_bytes, w32, byte_at}
 use Rattle.md5.specs.Md5.{md5, digest_bytes}
 use Rattle.md5.proofs.StandardFacts.{length-md5}
 use Rattle.ens_fields.specs.Numbers.{IsRun}
-use Rattle.ens_fields.specs.Places.{IsBytes}
+use Rattle.ens_base.specs.Limits.{IsBytes}
 
 bytes_append : (a b : List ℕ) → IsBytes a → IsBytes b → (i : ℕ) → get_or (a ++ b) i 0 < 256
 bytes_append [] b p q i = q i

@@ -7,8 +7,9 @@ use Rattle.ens_base.specs.declared.epoch.Version.{Version}
 use Rattle.ens_fields.specs.declared.field_error.FieldError.TheVariants.{Rule}
 use Rattle.ens_fields.specs.Grammar.{IsGrammar}
 use Rattle.ens_fields.specs.Numbers.{IsRun, run_at}
-use Rattle.ens_fields.specs.Versions.{IsVersion, version_spelling}
-use Rattle.ens_fields.specs.Strings.{IsKey, key_spelling}
+use Rattle.ens_base.specs.Limits.{IsVersion, IsKey}
+use Rattle.ens_fields.specs.Versions.{version_spelling}
+use Rattle.ens_fields.specs.Strings.{key_spelling}
 use Rattle.ens_fields.specs.Entries.{IsEntry, entry_spelling}
 use Rattle.ens_fields.proofs.GrammarLaws.{valid_as, spelled_as, field_then, field_last, tested}
 use Rattle.ens_fields.proofs.NumberLaws.{run_grammar}

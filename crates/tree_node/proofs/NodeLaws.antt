@@ -5,7 +5,7 @@ use Rattle.std.proofs.lemmas.Bool.{eqb-true}
 use Rattle.byteorder.specs.Endian.{big_bytes}
 use Rattle.ens_fields.specs.declared.field_error.FieldError.{FieldError}
 use Rattle.ens_fields.specs.declared.field_error.FieldError.TheVariants as fields
-use Rattle.ens_fields.specs.Places.{IsBytes}
+use Rattle.ens_base.specs.Limits.{IsBytes}
 use Rattle.ens_fields.specs.Reading.{Gives}
 use Rattle.ens_fields.specs.Grammar.{IsGrammar}
 use Rattle.ens_fields.proofs.GrammarLaws.{Reader, valid_as, field_then, field_last, tested, checked, right, ok_is, whole_found, whole_again, apart}

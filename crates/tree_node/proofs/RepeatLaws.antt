@@ -4,8 +4,10 @@ use Rattle.std.specs.List.{flat_map, AllByRecursion}
 use Rattle.std.proofs.lemmas.List.{take_more, flat_map_more}
 use Rattle.ens_fields.specs.declared.field_error.FieldError.{FieldError}
 use Rattle.ens_fields.specs.declared.field_error.FieldError.TheVariants.{Short, Rule, Memory}
-use Rattle.ens_fields.specs.Places.{IsBytes, Spells}
-use Rattle.ens_fields.specs.Reading.{◌>>=◌, Fails}
+use Rattle.ens_base.specs.Limits.{IsBytes}
+use Rattle.ens_fields.specs.Places.{Spells}
+use Rattle.ens_base.specs.Results.{◌>>=◌}
+use Rattle.ens_fields.specs.Reading.{Fails}
 use Rattle.ens_fields.specs.Grammar.{IsGrammar}
 use Rattle.ens_fields.proofs.ByteLaws.{Spells-then, drop-spelled}
 use Rattle.ens_fields.proofs.GrammarLaws.{Reader, bind_ok, ok_is}

@@ -1,6 +1,6 @@
 -- Several items, one after the other.
 use Rattle.std.specs.Prelude.{ℕ, zero, suc, List, [], ◌∷◌, Result, Ok}
-use Rattle.ens_fields.specs.Reading.{◌>>=◌}
+use Rattle.ens_base.specs.Results.{◌>>=◌}
 
 -- n items, where what may follow an item depends on it, and the first on `before`
 unfoldable pub list_at : {B A E : Type 0} → (B → List ℕ → ℕ → Result (A × ℕ) E) → (A → B) → ℕ → B → List ℕ → ℕ → Result (List A × ℕ) E

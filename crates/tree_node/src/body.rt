@@ -4,7 +4,7 @@ use crate::position::Position;
 use ens_base::{CopyError, Digest, Entry, Seq};
 use std::alloc::Global;
 
-/// What a scan of a whole tree found: the entries of all segments that verify, in the order of their
+/// The result of a scan of a whole tree: the entries of all segments that verify, in the order of their
 /// keys, and the positions nearest the root that do not verify.
 #[derive(Debug, Drop)]
 pub struct Scan {
@@ -12,15 +12,15 @@ pub struct Scan {
     pub damaged: Seq<Position>,
 }
 
-/// What a peer gives of a node that it was asked for.
+/// What a peer sends of a node that it was asked for.
 #[derive(Debug, Drop)]
 pub enum TreeBody {
-    /// An inner node: which children it has, bit c for child c, and their digests, that of the lowest
+    /// An inner node: the mask of its children, bit c for child c, and their digests, that of the lowest
     /// bit first.
     Inner { mask: u16, digests: Seq<Digest> },
-    /// Some entries of a segment in the order of their keys, and whether more follow.
+    /// Entries of a segment in the order of their keys, at most 32, and whether more follow.
     Page { entries: Seq<Entry>, more: bool },
-    /// The node, or one above it, does not verify at this position.
+    /// The node does not verify, or one above it: the position of that one.
     Damaged(Position),
 }
 

@@ -39,7 +39,7 @@ fn append_segment(x: &Segment, out: &mut Vec<u8>) -> Result<(), FieldError>
 }
 
 impl InnerNode {
-    /// The spelling of the node, which has one digest for each set bit of its mask. `decode_inner`
+    /// The spelling of the node, which has one digest for each set bit of its mask. [`decode_inner`]
     /// reads it again.
     pub fn encode(&self, alloc: Global) -> Result<Vec<u8>, NodeError>
         requires position { IsPosition self.now.position }
@@ -57,8 +57,7 @@ impl InnerNode {
 }
 
 impl Segment {
-    /// The spelling of the segment, whose entries strictly ascend by their keys. `decode_segment`
-    /// reads it again.
+    /// The spelling of the segment, whose keys strictly ascend. [`decode_segment`] reads it again.
     pub fn encode(&self, alloc: Global) -> Result<Vec<u8>, NodeError>
         requires position { IsPosition self.now.position }
         requires few { length self.now.entries < 2 ^ 32 }

@@ -1,6 +1,7 @@
 ghost use Rattle.std.specs.Prelude.{◌≡◌, ◌≤◌, ◌++◌, take, length, IfOk, IfErr, OnOk, OnErr};
 ghost use Rattle.std.specs.List.{AllByRecursion};
 ghost use Rattle.ens_fields.specs.Reading.{Gives};
+ghost use Rattle.ens_fields.specs.Faults.{BreaksNoRule};
 ghost use Rattle.ens_fields.specs.Entries.{IsEntry};
 ghost use Rattle.tree_node.specs.Entries.{last_key, rest_at, next_at, entries_at, entries_spelling, AreDigests, digests_at, digests_spelling};
 
@@ -56,8 +57,8 @@ fn take_next(
     }
 }
 
-/// So many entries in strictly ascending order of their keys, which are spelled at this place, and the
-/// place after them. Room is made for no more entries than were read.
+/// Reads `count` entries at `at`, whose keys strictly ascend. Returns them and the place after them.
+/// Memory is taken for no more entries than are read.
 pub fn take_entries(
     alloc: Global,
     count: u32,
@@ -78,8 +79,8 @@ pub fn take_entries(
     Ok((Seq::new(entries), place))
 }
 
-/// So many digests of 16 bytes each, which stand at this place, and the place after them. Room is made
-/// for no more digests than were read.
+/// Reads `count` digests of 16 bytes each at `at`. Returns them and the place after them. Memory is taken
+/// for no more digests than are read.
 pub fn take_digests(
     alloc: Global,
     count: u32,
@@ -88,6 +89,7 @@ pub fn take_digests(
 ) -> Result<(Seq<Digest>, usize), FieldError>
     requires { at ≤ length bytes.now }
     ensures exact { Gives result (digests_at count bytes.now at) }
+    ensures unruled { BreaksNoRule result }
     ensures within { IfOk result (λ x. x.1 ≤ length bytes.now) }
 {
     let mut digests = Vec::new(alloc);
@@ -100,10 +102,11 @@ pub fn take_digests(
     Ok((Seq::new(digests), place))
 }
 
-/// Appends the spellings of the entries; where memory runs out, some of them.
+/// Appends the spellings of the entries. Out of memory leaves some of them behind what `out` held.
 pub fn append_entries(entries: &[Entry], out: &mut Vec<u8>) -> Result<(), FieldError>
     ensures ok { OnOk result (out.new.items ≡ out.old.items ++ entries_spelling entries.now) }
     ensures valid { OnOk result (AllByRecursion IsEntry entries.now) }
+    ensures kept { take (length out.old.items) out.new.items ≡ out.old.items }
     ensures memory { IfErr result (λ e. e ≡ FieldError.Memory) }
 {
     for entry in entries {
@@ -112,10 +115,11 @@ pub fn append_entries(entries: &[Entry], out: &mut Vec<u8>) -> Result<(), FieldE
     Ok(())
 }
 
-/// Appends the digests; where memory runs out, some of them.
+/// Appends the digests. Out of memory leaves some of them behind what `out` held.
 pub fn append_digests(digests: &[Digest], out: &mut Vec<u8>) -> Result<(), FieldError>
     ensures ok { OnOk result (out.new.items ≡ out.old.items ++ digests_spelling digests.now) }
     ensures valid { OnOk result (AreDigests digests.now) }
+    ensures kept { take (length out.old.items) out.new.items ≡ out.old.items }
     ensures memory { IfErr result (λ e. e ≡ FieldError.Memory) }
 {
     for digest in digests {

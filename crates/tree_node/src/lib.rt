@@ -1,9 +1,9 @@
-//! The nodes of the hash tree: where they stand, and how they are spelled as bytes.
+//! The nodes of the hash tree: their positions, and how they are spelled as bytes.
 //!
-//! `decode_inner` and `decode_segment` answer the node of the asked position that the bytes spell,
-//! exactly where they spell one, and otherwise the first fault from the left; what `encode` writes is
-//! that spelling, and no node's spelling begins another's. What a peer gives of a node, and what a
-//! scan of the tree found, are types of this crate too. The grammars stand in `specs/`.
+//! [`decode_inner`] and [`decode_segment`] return the node at the position asked for that the bytes
+//! spell, or the first fault from the left. [`InnerNode::encode`] and [`Segment::encode`] write that
+//! spelling, and no node's spelling begins another's. [`TreeBody`] is what a peer sends of a node, and
+//! [`Scan`] what a scan of the tree found. The grammars are in `specs/`.
 #![tactic(auto)]
 
 mod body;
@@ -18,10 +18,7 @@ mod reading;
 pub use body::{Scan, TreeBody};
 pub use entries::{append_digests, append_entries, take_digests, take_entries};
 pub use error::NodeError;
-pub use laws::nodes_stand_apart;
+pub use laws::{nodes_stand_apart, positions_have_a_grammar};
 pub use node::{InnerNode, Segment};
 pub use position::{Position, put_position, take_position};
 pub use reading::{decode_inner, decode_segment};
-
-#[cfg(test)]
-mod tests;

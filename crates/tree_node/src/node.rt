@@ -1,9 +1,9 @@
 use crate::position::Position;
 use ens_base::{Digest, Entry, Seq};
 
-/// An inner node: bit c of the mask says whether child c is there, and the digests are those of the
-/// children that are, from the lowest bit upwards. Child c of the node at (level, index) stands at
-/// (level + 1, 16 * index + c).
+/// An inner node: bit c of the mask says whether child c exists, and the digests are those of the children
+/// that exist, that of the lowest bit first. Child c of the node at (level, index) is at (level + 1,
+/// 16 * index + c).
 #[derive(Debug, Drop)]
 pub struct InnerNode {
     pub position: Position,
@@ -11,7 +11,7 @@ pub struct InnerNode {
     pub digests: Seq<Digest>,
 }
 
-/// A segment: entries, which strictly ascend by their keys.
+/// A segment: entries whose keys strictly ascend.
 #[derive(Debug, Drop)]
 pub struct Segment {
     pub position: Position,

@@ -1,11 +1,12 @@
 ghost use Rattle.std.specs.Prelude.{◌≡◌, ◌≤◌, ◌++◌, length, IfOk, IfErr, OnOk, OnErr};
 ghost use Rattle.std.specs.Prelude.{◌^◌};
+ghost use Rattle.ens_fields.specs.Faults.{BreaksNoRule};
 ghost use Rattle.tree_node.specs.Positions.{IsPosition, level_at, index_at, position_at, any_position_at, position_spelling};
 
 use ens_fields::{FieldError, take_u8, take_u32};
 
-/// Where a node stands: its level, 0 at the root to 3 at the segments, and its index among the nodes
-/// of that level, below 16 to the power of the level.
+/// The position of a node: its level, from 0 at the root to 3 at the segments, and its index among the
+/// nodes of that level, which is below 16 to the power of the level.
 #[derive(Clone, Copy, Debug, PartialEq, Eq, PartialOrd, Ord, Hash)]
 pub struct Position {
     pub level: u8,
@@ -56,7 +57,7 @@ fn take_index(level: u8, bytes: &[u8], at: usize) -> Result<(u32, usize), FieldE
     Ok((index, after))
 }
 
-/// The position that is spelled at this place in five bytes, and the place after it.
+/// Reads the five bytes of a position at `at`. Returns it and the place after it.
 #[tactic(auto, unfolding(crate::specs::Positions::position_at))]
 pub fn take_position(bytes: &[u8], at: usize) -> Result<(Position, usize), FieldError>
     requires { at ≤ length bytes.now }
@@ -68,11 +69,12 @@ pub fn take_position(bytes: &[u8], at: usize) -> Result<(Position, usize), Field
     Ok((Position { level, index }, at))
 }
 
-/// The level and the index that stand at this place, in range or not, and the place after them.
+/// Reads a level and an index at `at`, in range or not. Returns them and the place after them.
 #[tactic(auto, unfolding(crate::specs::Positions::any_position_at))]
 pub fn take_any_position(bytes: &[u8], at: usize) -> Result<(Position, usize), FieldError>
     requires { at ≤ length bytes.now }
     ensures exact { any_position_at bytes.now at ≡ result }
+    ensures unruled { BreaksNoRule result }
     ensures within { IfOk result (λ x. x.1 ≤ length bytes.now) }
 {
     let (level, at) = take_u8(bytes, at)?;

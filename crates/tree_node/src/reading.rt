@@ -1,5 +1,6 @@
 ghost use Rattle.std.specs.Prelude.{◌≡◌, ◌≤◌, ℕ, length, count_ones, Ok, IfOk};
 ghost use Rattle.ens_fields.specs.Numbers.{byte_at, number_at};
+ghost use Rattle.ens_fields.specs.Faults.{BreaksNoRule};
 ghost use Rattle.tree_node.specs.declared.node.InnerNode.{InnerNode};
 ghost use Rattle.tree_node.specs.declared.node.Segment.{Segment};
 ghost use Rattle.tree_node.specs.Positions.{IsPosition, any_position_at};
@@ -14,19 +15,21 @@ use ens_base::{Digest, Entry, Seq};
 use ens_fields::{FieldError, take_u8, take_u16, take_u32};
 use std::alloc::Global;
 
-/// The same answer of a field that has no rule of its own.
+/// Turns the answer of a field that has no rule into that of a node. A broken rule would be reported as
+/// an early end, so the field must break none.
 fn ended<T>(read: Result<T, FieldError>) -> Result<T, NodeError>
+    requires { BreaksNoRule read }
     ensures { result ≡ unruled read }
 {
     match read {
         Ok(value) => Ok(value),
         Err(FieldError::Short(_)) => Err(NodeError::Short),
-        Err(FieldError::Rule(_)) => Err(NodeError::Short),
+        Err(FieldError::Rule(_)) => unreachable!(),
         Err(FieldError::Memory) => Err(NodeError::Memory),
     }
 }
 
-/// The same answer of entries, whose rules are those of their order.
+/// Turns the answer of entries into that of a node: each of their rules is one of order.
 fn ordered<T>(read: Result<T, FieldError>) -> Result<T, NodeError>
     ensures { result ≡ by_order read }
 {
@@ -141,7 +144,7 @@ fn read_segment(alloc: Global, asked: Position, bytes: &[u8]) -> Result<(Segment
     }
 }
 
-/// What was read, if it is all there is.
+/// Returns what was read, if it takes all `size` bytes.
 fn if_all<T: Drop>(read: Result<(T, usize), NodeError>, size: usize) -> Result<T, NodeError>
     ensures { result ≡ all_of read size }
 {
@@ -157,7 +160,8 @@ fn if_all<T: Drop>(read: Result<(T, usize), NodeError>, size: usize) -> Result<T
     }
 }
 
-/// The inner node of this position that the bytes spell, all of them.
+/// Returns the inner node at position `at` that the bytes spell, all of them, or the first fault from the
+/// left.
 pub fn decode_inner(alloc: Global, bytes: &[u8], at: Position) -> Result<InnerNode, NodeError>
     requires { IsPosition at }
     // What is read was spelled so.
@@ -171,7 +175,8 @@ pub fn decode_inner(alloc: Global, bytes: &[u8], at: Position) -> Result<InnerNo
     if_all(read, bytes.len())
 }
 
-/// The segment of this position that the bytes spell, all of them.
+/// Returns the segment at position `at` that the bytes spell, all of them, or the first fault from the
+/// left.
 pub fn decode_segment(alloc: Global, bytes: &[u8], at: Position) -> Result<Segment, NodeError>
     requires { IsPosition at }
     // What is read was spelled so.

@@ -8,7 +8,8 @@ use Rattle.byteorder.specs.Endian.{big_bytes, big_number}
 use Rattle.byteorder.specs.Numbers.{big_number-reads_back}
 use Rattle.ens_fields.specs.declared.field_error.FieldError.{FieldError}
 use Rattle.ens_fields.specs.declared.field_error.FieldError.TheVariants as fields
-use Rattle.ens_fields.specs.Places.{IsBytes, Spells}
+use Rattle.ens_base.specs.Limits.{IsBytes}
+use Rattle.ens_fields.specs.Places.{Spells}
 use Rattle.ens_fields.proofs.ByteLaws.{Spells-then}
 use Rattle.ens_fields.proofs.GrammarLaws.{test_ok, guard_ok, ok_is, right, apart}
 use Rattle.ens_fields.proofs.NumberLaws.{byte_grammar, u16_grammar, u32_grammar}

@@ -13,7 +13,8 @@ use Rattle.ens_fields.specs.declared.field_error.FieldError.{FieldError}
 use Rattle.ens_fields.specs.declared.field_error.FieldError.TheVariants.{Rule}
 use Rattle.ens_fields.specs.Places.{Spells}
 use Rattle.ens_fields.specs.Grammar.{IsGrammar}
-use Rattle.ens_fields.specs.Strings.{IsKey, key_at}
+use Rattle.ens_base.specs.Limits.{IsKey}
+use Rattle.ens_fields.specs.Strings.{key_at}
 use Rattle.ens_fields.proofs.GrammarLaws.{Reader, bind_ok, ok_is, right, valid_as, spelled_as, field_then, field_last, tested}
 use Rattle.ens_fields.proofs.NumberLaws.{byte_grammar, u16_grammar}
 use Rattle.ens_fields.proofs.FieldLaws.{epoch_grammar, key_grammar}

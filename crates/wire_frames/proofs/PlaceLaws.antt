@@ -7,7 +7,8 @@ use Rattle.ens_fields.specs.declared.field_error.FieldError.{FieldError}
 use Rattle.ens_fields.specs.declared.field_error.FieldError.TheVariants.{Short, Rule, Memory}
 use Rattle.ens_fields.specs.declared.fault.Fault.{Fault}
 use Rattle.ens_fields.specs.declared.fault.Fault.TheVariants.{Ended, Broken, NoMemory}
-use Rattle.ens_fields.specs.Reading.{◌>>=◌, Gives}
+use Rattle.ens_base.specs.Results.{◌>>=◌}
+use Rattle.ens_fields.specs.Reading.{Gives}
 use Rattle.ens_fields.specs.Faults.{with_rule, plain, without_rule}
 use Rattle.ens_fields.specs.Numbers.{byte_at, number_at, run_at}
 use Rattle.ens_fields.specs.Versions.{epoch_at, version_at}

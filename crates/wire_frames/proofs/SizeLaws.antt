@@ -9,7 +9,8 @@ use Rattle.ens_base.specs.declared.command.Command.TheVariants as commands
 use Rattle.ens_base.specs.declared.reply.Reply.{Reply}
 use Rattle.ens_base.specs.declared.reply.Reply.TheVariants as replies
 use Rattle.ens_fields.specs.Versions.{epoch_spelling, version_spelling}
-use Rattle.ens_fields.specs.Strings.{IsKey, key_spelling, IsValue, value_spelling}
+use Rattle.ens_base.specs.Limits.{IsKey, IsValue, IsCommand}
+use Rattle.ens_fields.specs.Strings.{key_spelling, value_spelling}
 use Rattle.ens_fields.specs.Views.{view_spelling, AreViews, views_spelling}
 use Rattle.ens_fields.specs.Entries.{IsEntry, entry_spelling}
 use Rattle.ens_fields.proofs.MemberLoop.{length-members}
@@ -29,7 +30,7 @@ use Rattle.wire_frames.specs.declared.message.NackCause.TheVariants as causes
 use Rattle.wire_frames.specs.declared.message.Message.{Message}
 use Rattle.wire_frames.specs.declared.message.Message.TheVariants as messages
 use Rattle.wire_frames.specs.Parts.{flag_spelling, IsOptional, optional_spelling, option_key_spelling, IsBody, body_spelling, cause_spelling}
-use Rattle.wire_frames.specs.Calls.{IsCommand, arguments_spelling, IsCall, call_spelling, command_tag, IsReply, reply_spelling}
+use Rattle.wire_frames.specs.Calls.{arguments_spelling, IsCall, call_spelling, command_tag, IsReply, reply_spelling}
 use Rattle.wire_frames.specs.Messages.{IsMessage, message_spelling}
 
 two : (a b : List ℕ) (m n : ℕ) → length a ≤ m → length b ≤ n → length (a ++ b) ≤ m + n

@@ -7,21 +7,12 @@ use Rattle.ens_base.specs.declared.reply.Reply.{Reply}
 use Rattle.ens_base.specs.declared.reply.Reply.TheVariants as replies
 use Rattle.ens_fields.specs.declared.field_error.FieldError.{FieldError}
 use Rattle.ens_fields.specs.declared.field_error.FieldError.TheVariants.{Rule}
-use Rattle.ens_fields.specs.Reading.{◌>>=◌}
+use Rattle.ens_base.specs.Results.{◌>>=◌}
 use Rattle.ens_fields.specs.Numbers.{byte_at, number_at}
-use Rattle.ens_fields.specs.Versions.{IsVersion, version_spelling, version_at}
-use Rattle.ens_fields.specs.Strings.{IsKey, key_spelling, key_at, IsValue, value_spelling, value_at}
+use Rattle.ens_base.specs.Limits.{IsVersion, IsKey, IsValue, IsCommand}
+use Rattle.ens_fields.specs.Versions.{version_spelling, version_at}
+use Rattle.ens_fields.specs.Strings.{key_spelling, key_at, value_spelling, value_at}
 use Rattle.wire_frames.specs.Readers.{both, made}
-
-abbrev pub IsCommand : Command → Type 0
-IsCommand commands.Get = Unit {0}
-IsCommand (commands.PutOnce value) = IsValue value
-IsCommand (commands.Update stamp value) = IsVersion stamp × IsValue value
-IsCommand (commands.Append value) = IsValue value
-IsCommand (commands.Add number) = number < 2 ^ 64
-IsCommand (commands.Swap old new) = IsValue old × IsValue new
-IsCommand (commands.Over value) = IsValue value
-IsCommand commands.Delete = Unit {0}
 
 abbrev pub command_tag : Command → ℕ
 command_tag commands.Get = 1

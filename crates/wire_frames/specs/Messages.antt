@@ -5,8 +5,9 @@ use Rattle.ens_fields.specs.declared.field_error.FieldError.{FieldError}
 use Rattle.ens_fields.specs.declared.field_error.FieldError.TheVariants.{Rule}
 use Rattle.ens_fields.specs.Faults.{without_rule}
 use Rattle.ens_fields.specs.Numbers.{number_at}
-use Rattle.ens_fields.specs.Versions.{IsEpoch, epoch_spelling, epoch_at, IsVersion, version_spelling, version_at}
-use Rattle.ens_fields.specs.Strings.{IsKey, key_spelling, key_at}
+use Rattle.ens_base.specs.Limits.{IsEpoch, IsVersion, IsKey}
+use Rattle.ens_fields.specs.Versions.{epoch_spelling, epoch_at, version_spelling, version_at}
+use Rattle.ens_fields.specs.Strings.{key_spelling, key_at}
 use Rattle.ens_fields.specs.Entries.{IsEntry, entry_spelling, entry_at}
 use Rattle.ens_object.specs.declared.object.Object.{Object}
 use Rattle.ens_object.specs.Objects.{IsObject, object_spelling, object_at}

@@ -5,9 +5,10 @@ use Rattle.byteorder.specs.Endian.{big_bytes}
 use Rattle.ens_base.specs.declared.entry.Entry.{Entry}
 use Rattle.ens_fields.specs.declared.field_error.FieldError.{FieldError}
 use Rattle.ens_fields.specs.declared.field_error.FieldError.TheVariants.{Rule}
-use Rattle.ens_fields.specs.Reading.{◌>>=◌}
+use Rattle.ens_base.specs.Results.{◌>>=◌}
 use Rattle.ens_fields.specs.Numbers.{byte_at, number_at}
-use Rattle.ens_fields.specs.Versions.{IsEpoch, epoch_spelling, epoch_at}
+use Rattle.ens_base.specs.Limits.{IsEpoch}
+use Rattle.ens_fields.specs.Versions.{epoch_spelling, epoch_at}
 use Rattle.ens_fields.specs.Strings.{key_spelling, key_at}
 use Rattle.tree_node.specs.declared.body.TreeBody.{TreeBody}
 use Rattle.tree_node.specs.declared.body.TreeBody.TheVariants as bodies

@@ -1,7 +1,7 @@
 -- Readers made of readers.
 use Rattle.std.specs.Prelude.{ℕ, List, Result, Ok}
 use Rattle.ens_fields.specs.declared.field_error.FieldError.{FieldError}
-use Rattle.ens_fields.specs.Reading.{◌>>=◌}
+use Rattle.ens_base.specs.Results.{◌>>=◌}
 
 -- one after the other
 abbrev pub both : {A B : Type 0} → (List ℕ → ℕ → Result (A × ℕ) FieldError) → (List ℕ → ℕ → Result (B × ℕ) FieldError) → List ℕ → ℕ → Result ((A × B) × ℕ) FieldError

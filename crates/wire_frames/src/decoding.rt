@@ -5,8 +5,8 @@ ghost use Rattle.wire_frames.specs.Frames.{IsFrame, frame_spelling, HasPlaces, a
 
 use crate::error::FrameError;
 use crate::frame::Frame;
-use crate::kinds::take_message;
 use crate::message::Message;
+use crate::take_kinds::take_message;
 use byteorder::{BigEndian, ByteOrder};
 use ens_fields::FieldError;
 use std::alloc::Global;
@@ -17,7 +17,7 @@ const HEADER: usize = 14;
 /// The most bytes of a body.
 const LONGEST: usize = 4096;
 
-/// The frame of the message that was read, if it is all there is.
+/// Returns the frame of the message that was read, if it takes all `size` bytes.
 fn if_all(
     from: u32,
     to: u32,
@@ -41,7 +41,7 @@ fn if_all(
     }
 }
 
-/// The numbers of sender and receiver, and then the body.
+/// Reads the numbers of sender and receiver, and then the body.
 fn read_ends(alloc: Global, kind: u8, bytes: &[u8]) -> Result<Frame, FrameError>
     requires long { 14 ≤ length bytes.now }
     requires small { length bytes.now ≤ 4110 }
@@ -59,7 +59,7 @@ fn read_ends(alloc: Global, kind: u8, bytes: &[u8]) -> Result<Frame, FrameError>
     if_all(from, to, bytes.len(), read)
 }
 
-/// A frame of this kind, whose body is to have so many bytes.
+/// Reads a frame of this kind, whose header announces a body of `size` bytes.
 fn read_sized(alloc: Global, kind: u8, size: usize, bytes: &[u8]) -> Result<Frame, FrameError>
     requires long { 14 ≤ length bytes.now }
     requires small { size < 65536 }
@@ -77,7 +77,7 @@ fn read_sized(alloc: Global, kind: u8, size: usize, bytes: &[u8]) -> Result<Fram
     read_ends(alloc, kind, bytes)
 }
 
-/// A frame of the first version of the format.
+/// Reads a frame of the first version of the format.
 #[tactic(auto, unfolding(crate::specs::Frames::first_version_of))]
 fn read_first_version(alloc: Global, bytes: &[u8]) -> Result<Frame, FrameError>
     requires { 14 ≤ length bytes.now }
@@ -107,7 +107,7 @@ fn read_frame(alloc: Global, bytes: &[u8]) -> Result<Frame, FrameError>
     }
 }
 
-/// The frame that the bytes spell, all of them.
+/// Returns the frame that the bytes spell, all of them, or the first fault.
 pub fn decode_frame(alloc: Global, bytes: &[u8]) -> Result<Frame, FrameError>
     // What is read was spelled so.
     ensures found { IfOk result (λ f. IsFrame f × (bytes.now ≡ frame_spelling f)) }

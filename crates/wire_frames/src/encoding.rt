@@ -10,7 +10,7 @@ use crate::put_kinds::append_message;
 use ens_fields::{FieldError, put_u8, put_u16, put_u32};
 use std::alloc::Global;
 
-/// The number of the message's kind, from 1 to 19.
+/// The kind of the message, from 1 to 19.
 fn kind_of(x: &Message) -> u8
     ensures { result ≡ kind x.now }
 {
@@ -37,7 +37,7 @@ fn kind_of(x: &Message) -> u8
     }
 }
 
-/// Appends the header and the body; where memory runs out, a part of them.
+/// Appends the header and the body. Out of memory leaves a part of them.
 fn append_frame(x: &Frame, body: &[u8], out: &mut Vec<u8>) -> Result<(), FieldError>
     requires { length body.now ≤ 4096 }
     ensures ok { OnOk result (out.new.items ≡ out.old.items ++ (0x52 ∷ 0x45 ∷ 1 ∷ kind x.now.message ∷ [] ++ big_bytes 4 x.now.from ++ big_bytes 4 x.now.to ++ big_bytes 2 (length body.now) ++ body.now)) }
@@ -52,7 +52,7 @@ fn append_frame(x: &Frame, body: &[u8], out: &mut Vec<u8>) -> Result<(), FieldEr
     Ok(())
 }
 
-/// The spelling of the frame, which `decode_frame` reads again.
+/// The spelling of the frame, which [`decode_frame`] reads again.
 pub fn encode_frame(alloc: Global, frame: &Frame) -> Result<Vec<u8>, FrameError>
     requires from { IsEnd frame.now.from }
     requires to { IsEnd frame.now.to }

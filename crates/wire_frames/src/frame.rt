@@ -1,7 +1,7 @@
 use crate::message::Message;
 
-/// A message on its way: who sends it and who receives it, each from 1 to 63, and what it says.
-/// Numbers up to 31 are peers, those above are programs that call them.
+/// A message with its sender and its receiver, each a number from 1 to 63. Numbers up to 31 are peers,
+/// greater ones are programs that call them.
 #[derive(Debug, Drop)]
 pub struct Frame {
     pub from: u32,

@@ -1,17 +1,15 @@
-//! The frames that peers, and the programs that call them, send one another.
+//! The frames that peers send to one another, and to the programs that call them.
 //!
-//! `decode_frame` answers the frame that the bytes spell, exactly where they spell one, and otherwise
-//! the first fault in the order of the format, with its place; what `encode_frame` writes is that
-//! spelling, and no frame's spelling begins another's. What a call of a phase answers is a type of
-//! this crate too. The grammar stands in `specs/`: parts, calls, messages by their kinds, frames.
+//! [`decode_frame`] returns the frame that the bytes spell, or the first fault in the order of the
+//! format, with its place. [`encode_frame`] writes that spelling, and no frame's spelling begins
+//! another's. The grammar is in `specs/`: parts, calls, messages by their kinds, frames. [`PhaseOut`],
+//! [`Then`] and [`Seen`], which the rules of a peer use, are types of this crate too.
 #![tactic(auto)]
 
 mod decoding;
 mod encoding;
 mod error;
 mod frame;
-mod kinds;
-mod late_kinds;
 mod laws;
 mod message;
 mod phase;
@@ -19,6 +17,8 @@ mod put_calls;
 mod put_kinds;
 mod put_parts;
 mod take_calls;
+mod take_kinds;
+mod take_late_kinds;
 mod take_parts;
 
 pub use decoding::decode_frame;
@@ -28,6 +28,3 @@ pub use frame::Frame;
 pub use laws::frames_stand_apart;
 pub use message::{Message, NackCause};
 pub use phase::{PhaseOut, Seen, Then};
-
-#[cfg(test)]
-mod tests;

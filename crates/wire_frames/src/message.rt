@@ -6,37 +6,37 @@ use peer_fact::Fact;
 use std::alloc::Global;
 use tree_node::{Position, TreeBody};
 
-/// Why a peer does not do what a message asks.
+/// Why a peer refuses what a message asks.
 #[derive(Clone, Copy, Debug, PartialEq, Eq)]
 pub enum NackCause {
-    /// It has promised this greater ballot.
+    /// The peer has promised this greater ballot.
     Greater(Epoch),
-    /// It does not trust its tree.
+    /// The peer does not trust its tree.
     Untrusted,
-    /// Its tree does not verify at this position.
+    /// The tree of the peer does not verify at this position.
     Damaged(Position),
 }
 
-/// What one peer says to another, or to a program that calls.
+/// What one peer says to another, or a peer and a program that calls it to each other.
 #[derive(Debug, Drop)]
 pub enum Message {
-    /// Asks for the fact.
+    /// Asks for the saved fact.
     Probe,
     /// The saved fact.
     ProbeReply(Fact),
-    /// Asks to promise this ballot.
+    /// Asks for a promise of this ballot.
     Prepare(Epoch),
-    /// The promised ballot, and the saved fact.
+    /// Promises the ballot, and tells the saved fact.
     Promise(Epoch, Fact),
-    /// The epoch or ballot that was asked for, and why not.
+    /// Refuses what was asked at this epoch or ballot.
     Nack(Epoch, NackCause),
-    /// Asks to accept this fact.
+    /// Asks to accept the first fact of an epoch.
     NewEpoch(Fact),
-    /// The epoch that was accepted, and the number in it.
+    /// The fact of this epoch with this number was accepted.
     Accepted(Epoch, u64),
-    /// Asks what the peer has under the key, in this round of the epoch.
+    /// Asks for the entry and the object of the key, in this round of the epoch.
     Get(Epoch, u64, Key),
-    /// What the peer has: the entry of its tree, and the object that matches it.
+    /// The entry of the key in the tree of the peer, and the object that matches it.
     GetReply(Epoch, u64, Key, Option<Entry>, Option<Object>),
     /// Asks to write the object.
     Put(Epoch, Object),
@@ -44,17 +44,17 @@ pub enum Message {
     PutReply(Epoch, Key, Version),
     /// Asks whether the peer still stands at the epoch, in this round.
     Check(Epoch, u64),
-    /// The peer does.
+    /// The peer still stands at the epoch.
     CheckReply(Epoch, u64),
-    /// Asks for a node of the tree, of a segment the entries above this key.
+    /// Asks for a node of the tree; of a segment, for the entries above this key.
     TreeAsk(Epoch, Position, Option<Key>),
-    /// What the peer gives of the node, and whether it trusts its tree.
+    /// What the peer sends of the node, and whether it trusts its tree.
     TreeGive(Epoch, Position, Option<Key>, bool, TreeBody),
     /// Asks to accept the second fact of the epoch.
     Commit(Fact),
-    /// The leader of the epoch is there.
+    /// The leader of the epoch is alive.
     Beat(Epoch),
-    /// A call, under a number that its answer repeats.
+    /// A call of a program, under a number that the answer repeats.
     CallFrame(u64, Key, Command),
     /// The answer to the call of this number.
     AnswerFrame(u64, Reply),

@@ -4,29 +4,29 @@ use ens_object::Object;
 use peer_fact::Fact;
 use tree_node::Position;
 
-/// What a peer does after the answer of a call of a phase.
+/// What a peer does after a rule has run.
 #[derive(Clone, Copy, Debug, PartialEq, Eq)]
 pub enum Then {
     /// Nothing more.
     Stay,
-    /// It follows.
+    /// It becomes a follower.
     Follow,
-    /// It leads the epoch of this fact.
+    /// It becomes the leader of the epoch of this fact.
     Lead(Fact),
-    /// It trusts its tree no more.
+    /// It stops trusting its tree.
     Untrust,
-    /// The object of the put is written before the message goes.
+    /// It writes the object of the put before the message is sent.
     Put,
-    /// The sync that runs goes on.
+    /// It continues the sync that is running.
     Resume,
-    /// A sync on this fact begins.
+    /// It begins a sync on this fact.
     SyncOn(Fact),
     /// The rule of this number runs next.
     Rule(u8),
 }
 
-/// What a call of a phase answers. A leader leaves leading first where `leave` is true, then the fact
-/// is saved, then the message goes to the peers, and then what `then` says is done.
+/// The outcome of a rule. The peer acts on it in this order: a leader steps down if `leave` is true, the
+/// fact is saved, the message is sent to the peers in `to`, and `then` is done.
 #[derive(Debug, Drop)]
 pub struct PhaseOut {
     pub leave: bool,
@@ -36,7 +36,7 @@ pub struct PhaseOut {
     pub then: Then,
 }
 
-/// What the stores gave for a rule that reads or writes them.
+/// What the stores returned to a rule that reads or writes them.
 #[derive(Debug, Drop)]
 pub enum Seen {
     /// The rule ends before it reads them.

@@ -1,5 +1,6 @@
 ghost use Rattle.std.specs.Prelude.{◌≡◌, ◌≤◌, ◌<◌, ◌^◌, ◌++◌, ◌∷◌, [], length, count_ones, IfErr, OnOk};
-ghost use Rattle.wire_frames.specs.Calls.{IsCommand, arguments_spelling, command_tag as tag, IsCall, call_spelling, IsReply, reply_spelling};
+ghost use Rattle.ens_base.specs.Limits.{IsCommand};
+ghost use Rattle.wire_frames.specs.Calls.{arguments_spelling, command_tag as tag, IsCall, call_spelling, IsReply, reply_spelling};
 
 use ens_base::{Command, Key, Reply, Value, Version};
 use ens_fields::{FieldError, put_key, put_u8, put_u64, put_value, put_version};
@@ -43,7 +44,7 @@ fn append_arguments(x: &Command, out: &mut Vec<u8>) -> Result<(), FieldError>
     }
 }
 
-/// Appends the tag of the command, the key and the arguments; where memory runs out, a part of them.
+/// Appends the tag of the command, the key and the arguments. Out of memory leaves a part of them.
 pub fn append_call(key: &Key, command: &Command, out: &mut Vec<u8>) -> Result<(), FieldError>
     ensures ok { OnOk result (out.new.items ≡ out.old.items ++ call_spelling (key.now, command.now)) }
     ensures valid { OnOk result (IsCall (key.now, command.now)) }
@@ -64,7 +65,7 @@ fn append_stamped(stamp: &Version, value: &Value, out: &mut Vec<u8>) -> Result<(
     put_value(value, out)
 }
 
-/// Appends the reply; where memory runs out, a part of it.
+/// Appends the reply. Out of memory leaves a part of it.
 pub fn append_reply(x: &Reply, out: &mut Vec<u8>) -> Result<(), FieldError>
     ensures ok { OnOk result (out.new.items ≡ out.old.items ++ reply_spelling x.now) }
     ensures valid { OnOk result (IsReply x.now) }

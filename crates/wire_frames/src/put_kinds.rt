@@ -150,7 +150,7 @@ fn append_answer(id: u64, reply: &Reply, out: &mut Vec<u8>) -> Result<(), FieldE
     append_reply(reply, out)
 }
 
-/// Appends the body of the message; where memory runs out, a part of it.
+/// Appends the body of the message. Out of memory leaves a part of it.
 pub fn append_message(x: &Message, out: &mut Vec<u8>) -> Result<(), FieldError>
     requires { Obeys x.now }
     ensures ok { OnOk result (out.new.items ≡ out.old.items ++ message_spelling x.now) }

@@ -1,5 +1,5 @@
 ghost use Rattle.std.specs.Prelude.{◌≡◌, ◌≤◌, ◌<◌, ◌^◌, ◌++◌, ◌∷◌, [], length, count_ones, IfErr, OnOk};
-ghost use Rattle.ens_fields.specs.Strings.{IsKey};
+ghost use Rattle.ens_base.specs.Limits.{IsKey};
 ghost use Rattle.ens_fields.specs.Entries.{IsEntry, entry_spelling};
 ghost use Rattle.ens_object.specs.Objects.{IsObject, object_spelling};
 ghost use Rattle.tree_node.specs.Entries.{AreAbove};
@@ -20,7 +20,7 @@ pub fn append_flag(x: bool, out: &mut Vec<u8>) -> Result<(), FieldError>
     if x { put_u8(1, out) } else { put_u8(0, out) }
 }
 
-/// Appends a flag, and the entry where there is one; where memory runs out, a part of them.
+/// Appends a flag, and the entry if there is one. Out of memory leaves a part of them.
 pub fn append_optional_entry(x: &Option<Entry>, out: &mut Vec<u8>) -> Result<(), FieldError>
     ensures ok { OnOk result (out.new.items ≡ out.old.items ++ optional_spelling entry_spelling x.now) }
     ensures valid { OnOk result (IsOptional IsEntry x.now) }
@@ -35,7 +35,7 @@ pub fn append_optional_entry(x: &Option<Entry>, out: &mut Vec<u8>) -> Result<(),
     }
 }
 
-/// Appends a flag, and the object where there is one; where memory runs out, a part of them.
+/// Appends a flag, and the object if there is one. Out of memory leaves a part of them.
 pub fn append_optional_object(x: &Option<Object>, out: &mut Vec<u8>) -> Result<(), FieldError>
     ensures ok { OnOk result (out.new.items ≡ out.old.items ++ optional_spelling object_spelling x.now) }
     ensures valid { OnOk result (IsOptional IsObject x.now) }
@@ -50,7 +50,7 @@ pub fn append_optional_object(x: &Option<Object>, out: &mut Vec<u8>) -> Result<(
     }
 }
 
-/// Appends a zero, or the key.
+/// Appends the key, or a zero byte if there is none.
 pub fn append_option_key(x: &Option<Key>, out: &mut Vec<u8>) -> Result<(), FieldError>
     ensures ok { OnOk result (out.new.items ≡ out.old.items ++ option_key_spelling x.now) }
     ensures valid { OnOk result (IsOptional IsKey x.now) }
@@ -87,7 +87,7 @@ fn append_page(entries: &Seq<Entry>, more: bool, out: &mut Vec<u8>) -> Result<()
     append_flag(more, out)
 }
 
-/// Appends what is given of a node; where memory runs out, a part of it.
+/// Appends what a peer sends of a node. Out of memory leaves a part of it.
 pub fn append_body(x: &TreeBody, out: &mut Vec<u8>) -> Result<(), FieldError>
     requires { ObeysBody x.now }
     ensures ok { OnOk result (out.new.items ≡ out.old.items ++ body_spelling x.now) }
@@ -104,7 +104,7 @@ pub fn append_body(x: &TreeBody, out: &mut Vec<u8>) -> Result<(), FieldError>
     }
 }
 
-/// Appends why a peer refuses; where memory runs out, a part of it.
+/// Appends the cause of a refusal. Out of memory leaves a part of it.
 pub fn append_cause(x: &NackCause, out: &mut Vec<u8>) -> Result<(), FieldError>
     requires { ObeysCause x.now }
     ensures ok { OnOk result (out.new.items ≡ out.old.items ++ cause_spelling x.now) }

@@ -68,7 +68,7 @@ fn take_swap(alloc: Global, bytes: &[u8], at: usize) -> Result<(Command, usize),
     Ok((Command::Swap(old, new), at))
 }
 
-/// The arguments of the command with this tag, which stands at `start`.
+/// Reads the arguments of the command with this tag, which is at `start`.
 #[tactic(auto, unfolding(crate::specs::Calls::arguments_at))]
 fn take_arguments(
     alloc: Global,
@@ -94,7 +94,8 @@ fn take_arguments(
     }
 }
 
-/// A key and a command on it, whose tag stands before the key, and the place after them.
+/// Reads the tag of a command, a key, and the arguments of the command. Returns the key, the command and
+/// the place after them.
 #[tactic(auto, unfolding(crate::specs::Calls::call_at))]
 pub fn take_call(
     alloc: Global,
@@ -135,7 +136,7 @@ fn take_ok_reply(bytes: &[u8], at: usize) -> Result<(Reply, usize), FieldError>
     Ok((Reply::Ok(stamp), at))
 }
 
-/// What follows the tag of a reply, which stands at `start`.
+/// Reads what follows the tag of a reply, which is at `start`.
 #[tactic(auto, unfolding(crate::specs::Calls::tagged_reply_at))]
 fn take_tagged_reply(
     alloc: Global,
@@ -161,7 +162,7 @@ fn take_tagged_reply(
     }
 }
 
-/// A reply, and the place after it.
+/// Reads a reply at `at`. Returns it and the place after it.
 #[tactic(auto, unfolding(crate::specs::Calls::reply_at))]
 pub fn take_reply(alloc: Global, bytes: &[u8], at: usize) -> Result<(Reply, usize), FieldError>
     requires { at ≤ length bytes.now }

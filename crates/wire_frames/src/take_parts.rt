@@ -14,7 +14,7 @@ use ens_object::{Object, take_object};
 use std::alloc::Global;
 use tree_node::{TreeBody, take_digests, take_entries, take_position};
 
-/// A flag, and the place after it.
+/// Reads a flag of one byte at `at`. Returns it and the place after it.
 #[tactic(auto, unfolding(crate::specs::Parts::flag_at))]
 pub fn take_flag(bytes: &[u8], at: usize) -> Result<(bool, usize), FieldError>
     requires { at ≤ length bytes.now }
@@ -42,7 +42,7 @@ fn take_some_entry(
     Ok((Some(entry), after))
 }
 
-/// A flag, an entry where it is 1, and the place after them.
+/// Reads a flag at `at`, and an entry if it is 1. Returns the entry and the place after it.
 #[tactic(auto, unfolding(crate::specs::Parts::optional_at))]
 pub fn take_optional_entry(
     alloc: Global,
@@ -74,7 +74,7 @@ fn take_some_object(
     Ok((Some(object), after))
 }
 
-/// A flag, an object where it is 1, and the place after them.
+/// Reads a flag at `at`, and an object if it is 1. Returns the object and the place after it.
 #[tactic(auto, unfolding(crate::specs::Parts::optional_at))]
 pub fn take_optional_object(
     alloc: Global,
@@ -93,7 +93,7 @@ pub fn take_optional_object(
     }
 }
 
-/// A zero, or a key, and the place after it.
+/// Reads a zero byte or a key at `at`. Returns the key and the place after it.
 #[tactic(auto, unfolding(crate::specs::Parts::option_key_at))]
 pub fn take_option_key(
     alloc: Global,
@@ -176,7 +176,7 @@ fn take_damaged_body(bytes: &[u8], at: usize) -> Result<(TreeBody, usize), Field
     Ok((TreeBody::Damaged(position), at))
 }
 
-/// What is given of a node, and the place after it.
+/// Reads what a peer sends of a node at `at`. Returns it and the place after it.
 #[tactic(auto, unfolding(crate::specs::Parts::body_at))]
 pub fn take_body(alloc: Global, bytes: &[u8], at: usize) -> Result<(TreeBody, usize), FieldError>
     requires { at ≤ length bytes.now }
@@ -212,7 +212,7 @@ fn take_damaged(bytes: &[u8], at: usize) -> Result<(NackCause, usize), FieldErro
     Ok((NackCause::Damaged(position), at))
 }
 
-/// Why a peer refuses, and the place after it.
+/// Reads the cause of a refusal at `at`. Returns it and the place after it.
 #[tactic(auto, unfolding(crate::specs::Parts::cause_at))]
 pub fn take_cause(bytes: &[u8], at: usize) -> Result<(NackCause, usize), FieldError>
     requires { at ≤ length bytes.now }

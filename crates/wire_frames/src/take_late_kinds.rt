@@ -126,7 +126,8 @@ fn take_answer_frame(alloc: Global, bytes: &[u8], at: usize) -> Result<(Message,
     Ok((Message::AnswerFrame(id, reply), at))
 }
 
-/// The message of this kind, from the tenth kind on, and the place after it.
+/// Reads the body of a message of this kind, 10 or greater, at `at`. Returns the message and the place
+/// after it.
 #[tactic(auto, unfolding(crate::specs::Messages::late_message_at))]
 pub fn take_late_message(
     alloc: Global,

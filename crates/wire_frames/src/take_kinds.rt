@@ -2,8 +2,8 @@ ghost use Rattle.std.specs.Prelude.{◌≡◌, ◌≤◌, length, IfOk};
 ghost use Rattle.ens_fields.specs.Reading.{Gives};
 ghost use Rattle.wire_frames.specs.Messages.{probe_reply_at, prepare_at, promise_at, nack_at, new_epoch_at, accepted_at, get_at, get_reply_at, message_at};
 
-use crate::late_kinds::take_late_message;
 use crate::message::Message;
+use crate::take_late_kinds::take_late_message;
 use crate::take_parts::{take_cause, take_optional_entry, take_optional_object};
 use ens_fields::{FieldError, take_epoch, take_key, take_u64};
 use peer_fact::take_fact;
@@ -104,7 +104,7 @@ fn take_get_reply(alloc: Global, bytes: &[u8], at: usize) -> Result<(Message, us
     Ok((Message::GetReply(epoch, round, key, entry, object), at))
 }
 
-/// The message of this kind, and the place after it.
+/// Reads the body of a message of this kind at `at`. Returns the message and the place after it.
 #[tactic(auto, unfolding(crate::specs::Messages::message_at))]
 pub fn take_message(
     alloc: Global,
