@@ -1,5 +1,5 @@
-/// The most bytes of a line of a schedule, without its line feed.
+/// The greatest length of a line of a schedule in bytes, without its line feed.
 pub const MAX_LINE_BYTES: usize = 4400;
 
-/// The most lines of a schedule.
+/// The greatest number of lines of a schedule.
 pub const MAX_LINES: u32 = 200_000;

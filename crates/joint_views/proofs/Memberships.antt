@@ -31,7 +31,7 @@ contains_of_in (member ∷ view) peer h = by_head (either peer member (is_in vie
     by_head (inl e) rest = (zero, omega arith, e)
     by_head (inr t) rest = (suc (rest t).0, omega (arith, (rest t).1), (rest t).2)
 
--- two tests that say the same are one
+-- two tests that agree are equal
 pub same_test : (a b : Bool) → (a ≡ true → b ≡ true) → (b ≡ true → a ≡ true) → a ≡ b
 same_test a b there back = grind (arith, nat_tests)
 

@@ -79,6 +79,6 @@ abbrev pub has_every : (ℕ → Bool) → List (List ℕ) → Bool
 has_every peers [] = true
 has_every peers (view ∷ views) = has_all peers view && has_every peers views
 
--- the votes after this peer's, which counts where the peer is a member of some view
+-- the votes with that of this peer, which counts if the peer is a member of some view
 abbrev pub voted : List (List ℕ) → ℕ → List Bool → List Bool
 voted views peer votes = if is_member views peer then slice_set votes peer true else votes

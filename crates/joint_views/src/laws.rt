@@ -15,7 +15,7 @@ pub fn no_quorum_is_missed()
     ensures { (peers : ℕ → Bool) (views : List (List ℕ)) → ((is_quorum peers views ≡ false) ↔ MissesEveryQuorum peers views) }
 {}
 
-/// The tests on views and sets decide what they are named by.
+/// The tests of membership and of full votes hold exactly if the relations of the same name do.
 pub fn tests_decide()
     ensures member { (views : List (List ℕ)) (peer : ℕ) → ((is_member views peer ≡ true) ↔ IsMember views peer) }
     ensures all { (peers : ℕ → Bool) (view : List ℕ) → ((has_all peers view ≡ true) ↔ HasAll peers view) }

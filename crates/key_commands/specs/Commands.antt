@@ -20,7 +20,7 @@ abbrev pub verdict_of : Outcome → Verdict
 verdict_of (Keeps reply) = Answer reply
 verdict_of (Writes content) = Write content
 
--- the verdict on a present register of which the stamp alone is known; none where the value decides
+-- the verdict on a present register of which only the stamp is known; none if it depends on the value
 abbrev pub stamp_verdict : Command → Version → Option Verdict
 stamp_verdict (PutOnce value) stamp = Some (Answer Reply.Failed)
 stamp_verdict (Update wanted value) stamp = Some (if same_version wanted stamp then Write (Some value) else Answer Reply.Failed)
@@ -31,7 +31,7 @@ stamp_verdict (Append tail) stamp = None
 stamp_verdict (Add number) stamp = None
 stamp_verdict (Swap old new) stamp = None
 
--- the verdict on a register of which nothing is known; none where the register decides
+-- the verdict on a register of which nothing is known; none if it depends on the register
 abbrev pub blind_verdict : Command → Option Verdict
 blind_verdict (Over value) = Some (Write (Some value))
 blind_verdict Delete = Some (Write None)

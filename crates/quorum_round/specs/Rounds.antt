@@ -18,7 +18,7 @@ IsState votes views Open = is_quorum votes views ≡ false
 IsState votes views Met = (is_quorum votes views ≡ true) × ¬ HasEvery votes views
 IsState votes views AllAnswered = HasEvery votes views
 
--- the round after this peer's answer
+-- the round with the answer of this peer
 abbrev pub answered : ℕ → Round → Round
 answered peer round = record round { tally = record round.tally { votes = voted round.tally.views peer round.tally.votes } }
 
@@ -26,10 +26,11 @@ answered peer round = record round { tally = record round.tally { votes = voted 
 abbrev pub begun : List (List ℕ) → ℕ → Round
 begun views me = answered me (record { tally = record { views = views; votes = replicate 32 false } })
 
--- what these votes come to: open without a quorum; all answered where each member of each view voted; met otherwise
+-- the state of a round with these votes: open without a quorum, all answered once every member of
+-- each view has voted, and met in between
 abbrev pub state_of_votes : (ℕ → Bool) → List (List ℕ) → RoundState
 state_of_votes votes views = if is_quorum votes views then (if has_every votes views then AllAnswered else Met) else Open
 
--- what the answers come to
+-- the state of a round
 abbrev pub state_of : Round → RoundState
 state_of round = state_of_votes (holds round.tally.votes) round.tally.views
