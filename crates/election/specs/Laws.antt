@@ -2,10 +2,9 @@
 use Rattle.std.specs.Prelude.{◌≡◌, ℕ, List, Bool, true, Option, Some, None}
 use Rattle.ens_base.specs.Epochs.{IsEpochBelow}
 use Rattle.ens_base.specs.PeerSet.{holds}
-use Rattle.joint_views.specs.Quorums.{is_quorum}
+use Rattle.joint_views.specs.Quorums.{is_quorum, is_member}
 use Rattle.peer_fact.specs.declared.fact.Fact.{Fact}
 use Rattle.peer_fact.specs.Facts.{IsNewer, views_after}
-use Rattle.phase_rows.specs.Peers.{is_member}
 use Rattle.phase_rows.specs.Orders.{may_accept}
 use Rattle.phase_rows.specs.Rows.{at_ballot}
 use Rattle.election.specs.Preparing.{first_fact}

@@ -1,7 +1,7 @@
 -- Rules 12 and 13: promises are counted, and an epoch begins.
 use Rattle.std.proofs.Common.{◌≡◌, ℕ, ◌<◌, ◌≤◌, Bool, true, false, ◌==◌, List, [], ◌∷◌, inl, inr, arith, refl, ap, le_trans, ◌∙◌, sym, subst}
 use Rattle.std.proofs.lemmas.Bool.Decides.{nat_tests}
-use Rattle.joint_views.specs.Quorums.{is_quorum}
+use Rattle.joint_views.specs.Quorums.{is_quorum, is_member}
 use Rattle.abstract_protocol.specs.Ledger.{Ledger, Place, elect, accept, next_views, IsFact, MayElect}
 use Rattle.abstract_protocol.specs.Numbers.{epoch_number}
 use Rattle.election_laws.specs.Preparing.{proposer_of}
@@ -19,7 +19,7 @@ use Rattle.peer_core.specs.declared.state.State.{State}
 use Rattle.peer_fact.specs.Facts.{changed_views, views_after}
 use Rattle.peer_fact.specs.declared.fact.Fact.{Fact}
 use Rattle.phase_rows.specs.Orders.{is_same, is_newer, may_accept}
-use Rattle.phase_rows.specs.Peers.{alone, joined, is_member, members, others_of, others_outside, with_members}
+use Rattle.phase_rows.specs.Peers.{alone, joined, members, others_of, others_outside, with_members}
 use Rattle.phase_rows.specs.Rows.{silent, sends, saves_and_sends}
 use Rattle.wire_frames.specs.declared.message.Message.TheVariants as messages
 use Rattle.wire_frames.specs.declared.phase.PhaseOut.{PhaseOut}

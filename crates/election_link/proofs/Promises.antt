@@ -14,7 +14,8 @@ use Rattle.peer_core.specs.declared.state.Phase.TheVariants as phases
 use Rattle.peer_core.specs.declared.state.State.{State}
 use Rattle.peer_fact.specs.Facts.{views_after}
 use Rattle.phase_rows.specs.Orders.{is_below, is_same}
-use Rattle.phase_rows.specs.Peers.{alone, is_member, members, others_of}
+use Rattle.joint_views.specs.Quorums.{is_member}
+use Rattle.phase_rows.specs.Peers.{alone, members, others_of}
 use Rattle.phase_rows.specs.Rows.{silent, refuses_below, at_ballot}
 use Rattle.wire_frames.specs.declared.message.Message.TheVariants as messages
 use Rattle.wire_frames.specs.declared.phase.PhaseOut.{PhaseOut}

@@ -14,7 +14,8 @@ use Rattle.peer_core.specs.declared.state.Leadership.{Leadership}
 use Rattle.peer_core.specs.declared.state.Phase.{Phase}
 use Rattle.peer_core.specs.declared.state.Phase.TheVariants as phases
 use Rattle.peer_fact.specs.declared.fact.Fact.{Fact}
-use Rattle.phase_rows.specs.Peers.{is_member, others_outside}
+use Rattle.joint_views.specs.Quorums.{is_member}
+use Rattle.phase_rows.specs.Peers.{others_outside}
 use Rattle.phase_rows.specs.Rows.{silent, sends}
 use Rattle.probe.specs.Probing.{row_3 as probing_row_3}
 use Rattle.probe.specs.declared.probing.Probing.{Probing}

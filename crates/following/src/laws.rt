@@ -7,7 +7,7 @@ ghost use Rattle.tree_node.specs.declared.position.Position.{Position};
 ghost use Rattle.wire_frames.specs.declared.phase.Seen.{Seen};
 ghost use Rattle.wire_frames.specs.declared.phase.Then.TheVariants.{Stay, SyncOn};
 ghost use Rattle.phase_rows.specs.Orders.{is_below, is_same, may_accept};
-ghost use Rattle.phase_rows.specs.Peers.{is_member};
+ghost use Rattle.joint_views.specs.Quorums.{is_member};
 ghost use Rattle.phase_rows.specs.Rows.{silent, at_ballot};
 ghost use Rattle.following.specs.Follower.{row_2};
 ghost use Rattle.following.specs.Effects.{LeavesOnDistrust};

@@ -30,7 +30,7 @@ fn has_all(votes: &PeerSet, view: &View) -> bool
 }
 
 /// Returns whether the peer is a member of the view.
-fn is_in(view: &View, peer: PeerId) -> bool
+pub fn is_in(view: &View, peer: PeerId) -> bool
     ensures member { result ≡ is_in_list view.now peer }
     ensures range { IsTrue result → (1 ≤ peer) × (peer ≤ 31) }
 {

@@ -7,7 +7,7 @@ use Rattle.election.specs.Preparing.{row_13, prepares, next_ballot}
 use Rattle.election.specs.Starting.{row_14}
 use Rattle.election.specs.declared.election.Election.{Election}
 use Rattle.election.specs.declared.election.Election.TheVariants.{Preparing, Starting}
-use Rattle.phase_rows.specs.Peers.{is_member}
+use Rattle.joint_views.specs.Quorums.{is_member}
 use Rattle.phase_rows.specs.Rows.{silent}
 use Rattle.view_change.specs.Finishing.{may_end}
 use Rattle.view_change.specs.declared.finishing.Finishing.{Finishing}

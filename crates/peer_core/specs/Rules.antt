@@ -14,7 +14,8 @@ use Rattle.following.specs.Announcements.{row_16, row_19}
 use Rattle.following.specs.Follower.{row_2}
 use Rattle.following.specs.declared.follower.Follower.{Follower}
 use Rattle.phase_rows.specs.Orders.{is_same}
-use Rattle.phase_rows.specs.Peers.{is_member, joined}
+use Rattle.joint_views.specs.Quorums.{is_member}
+use Rattle.phase_rows.specs.Peers.{joined}
 use Rattle.view_change.specs.Finishing.{row_17 as finishing_row_17, row_26}
 use Rattle.view_change.specs.declared.finishing.Finishing.{Finishing}
 use Rattle.wire_frames.specs.declared.message.Message.{Message}

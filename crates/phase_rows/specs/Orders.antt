@@ -3,7 +3,7 @@ use Rattle.std.specs.Prelude.{ℕ, Bool, true, false, not, ◌&&◌, ◌||◌, �
 use Rattle.ens_base.specs.declared.epoch.Epoch.{Epoch}
 use Rattle.ens_base.specs.Views.{first_view}
 use Rattle.peer_fact.specs.declared.fact.Fact.{Fact}
-use Rattle.phase_rows.specs.Peers.{is_in}
+use Rattle.joint_views.specs.Quorums.{is_in}
 
 -- whether the first epoch is below the second: by count, then by proposer
 abbrev pub is_below : Epoch → Epoch → Bool

@@ -1,7 +1,8 @@
 -- Sets of peers, as the rules use them. A set is one flag for each number from 0 to 31.
-use Rattle.std.specs.Prelude.{ℕ, Bool, true, false, not, ◌&&◌, ◌||◌, ◌==◌, List, [], ◌∷◌, map, replicate, slice_set}
+use Rattle.std.specs.Prelude.{ℕ, Bool, true, false, not, ◌&&◌, ◌||◌, ◌==◌, List, ◌∷◌, map, replicate, slice_set}
 use Rattle.std.specs.List.{range_with_len}
 use Rattle.ens_base.specs.PeerSet.{holds}
+use Rattle.joint_views.specs.Quorums.{is_member}
 
 -- the peers, 1 to 31, that pass the test
 abbrev pub those : (ℕ → Bool) → List Bool
@@ -18,16 +19,6 @@ joined peer set = slice_set set peer true
 -- the set of this peer alone
 abbrev pub alone : ℕ → List Bool
 alone peer = joined peer nobody
-
--- whether the peer is a member of the view
-abbrev pub is_in : List ℕ → ℕ → Bool
-is_in [] peer = false
-is_in (member ∷ view) peer = (peer == member) || is_in view peer
-
--- whether the peer is a member of any of the views
-abbrev pub is_member : List (List ℕ) → ℕ → Bool
-is_member [] peer = false
-is_member (view ∷ views) peer = is_in view peer || is_member views peer
 
 -- the members of all the views
 abbrev pub members : List (List ℕ) → List Bool

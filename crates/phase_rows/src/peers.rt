@@ -2,28 +2,10 @@ ghost use Rattle.std.specs.Prelude.{◌≡◌, ◌≤◌, ◌<◌};
 ghost use Rattle.ens_base.specs.PeerSet.{holds};
 ghost use Rattle.ens_base.specs.View.{IsPeer};
 ghost use Rattle.joint_views.specs.Quorums.{is_quorum};
-ghost use Rattle.phase_rows.specs.Peers.{is_in as is_in_list, is_member as is_member_of, alone as alone_set, joined as joined_set, members as members_set, others_outside as outside_set, with_members as with_set, others_of as others_set};
+ghost use Rattle.phase_rows.specs.Peers.{alone as alone_set, joined as joined_set, members as members_set, others_outside as outside_set, with_members as with_set, others_of as others_set};
 
-use ens_base::{PeerId, PeerSet, View, Views};
-use joint_views::Tally;
-
-/// Returns whether the peer is a member of the view.
-pub(crate) fn is_in(view: &View, peer: PeerId) -> bool
-    ensures { result ≡ is_in_list view.now peer }
-{
-    view.has(peer)
-}
-
-/// Returns whether the peer is a member of any of the views.
-pub fn is_member(views: &Views, peer: PeerId) -> bool
-    ensures { result ≡ is_member_of views.now peer }
-{
-    let first = views.first();
-    match views.second() {
-        None => is_in(&first, peer),
-        Some(old) => is_in(&first, peer) || is_in(&old, peer),
-    }
-}
+use ens_base::{PeerId, PeerSet, Views};
+use joint_views::{Tally, is_member};
 
 /// Returns the set of this peer alone. Its number is 1 to 31.
 pub fn alone(peer: PeerId) -> PeerSet

@@ -3,13 +3,13 @@
 use Rattle.std.specs.Prelude.{ℕ, Bool, not, ◌&&◌, ◌==◌, if◌then◌else◌}
 use Rattle.ens_base.specs.PeerSet.{holds}
 use Rattle.ens_base.specs.declared.epoch.Epoch.{Epoch}
-use Rattle.joint_views.specs.Quorums.{is_quorum}
+use Rattle.joint_views.specs.Quorums.{is_quorum, is_member}
 use Rattle.peer_fact.specs.Facts.{views_after}
 use Rattle.peer_fact.specs.declared.fact.Fact.{Fact}
 use Rattle.wire_frames.specs.declared.phase.PhaseOut.{PhaseOut}
 use Rattle.wire_frames.specs.declared.phase.Then.TheVariants.{Stay, Follow, Rule}
 use Rattle.phase_rows.specs.Orders.{is_same}
-use Rattle.phase_rows.specs.Peers.{is_member, joined}
+use Rattle.phase_rows.specs.Peers.{joined}
 use Rattle.phase_rows.specs.Rows.{silent}
 use Rattle.view_change.specs.declared.finishing.Finishing.{Finishing}
 

@@ -1,4 +1,4 @@
-use Rattle.phase_rows.specs.Peers.{is_member}
+use Rattle.joint_views.specs.Quorums.{is_member}
 use Rattle.phase_rows.proofs.Filled.{IsFilled}
 use Rattle.phase_rows.proofs.peers.members.Given as goal
 

@@ -1,6 +1,6 @@
 use Rattle.std.specs.Prelude.{◌||◌}
 use Rattle.ens_base.specs.PeerSet.{holds}
-use Rattle.phase_rows.specs.Peers.{is_member}
+use Rattle.joint_views.specs.Quorums.{is_member}
 use Rattle.phase_rows.proofs.Filled.{IsFilled}
 use Rattle.phase_rows.proofs.peers.with_members.Given as goal
 
