@@ -12,7 +12,7 @@ use Rattle.ens_base.specs.View.{IsPeer}
 use Rattle.wire_frames.specs.declared.frame.Frame.{Frame}
 use Rattle.network.specs.Mail.{Mail, posted, settled, lost, goes, oldest, is_waiting, IsBetweenPeers}
 use Rattle.network.specs.Lines.{line_place, line_of, stands, Marks, Empties}
-use Rattle.network.specs.Kept.{mail_in, IsKept}
+use Rattle.network.specs.Representation.{mail_in, IsKept}
 use Rattle.network.proofs.Flags.{length-flags_by, slice_index_or-flags_by, flags_posted, flags_settled, flags_lost}
 use Rattle.network.proofs.Least.{least_found, least_none}
 

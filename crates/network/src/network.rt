@@ -22,7 +22,7 @@ impl Model for Network {
 
     ghost Value = { Mail };
 
-    ghost use Rattle.network.specs.Kept.{mail_in, IsKept};
+    ghost use Rattle.network.specs.Representation.{mail_in, IsKept};
 
     ghost view = { λ n. mail_in n.sent.items n.waiting };
 

@@ -22,7 +22,7 @@ use Rattle.wire_frames.specs.declared.message.Message.{Message}
 use Rattle.wire_frames.specs.declared.message.NackCause.{NackCause}
 use Rattle.wire_frames.specs.declared.message.NackCause.TheVariants as causes
 use Rattle.wire_frames.specs.declared.phase.PhaseOut.{PhaseOut}
-use Rattle.peer_core.specs.Kept.{MaySend, AllObey}
+use Rattle.peer_core.specs.Guarantees.{MaySend, AllObey}
 use Rattle.peer_core.specs.Plans.{Out}
 use Rattle.peer_core.specs.Rules.{and_sends, word_to, word_of_end}
 use Rattle.peer_core.specs.Sends.{posted, posted_to}

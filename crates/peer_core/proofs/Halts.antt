@@ -9,7 +9,7 @@ use Rattle.fact_store.specs.declared.error.KeepError.{KeepError}
 use Rattle.peer_fact.specs.declared.error.FactError.{FactError}
 use Rattle.peer_fact.specs.declared.fact.Fact.{Fact}
 use Rattle.peer_core.specs.Calls.{Call, AnswerOf}
-use Rattle.peer_core.specs.Kept.{MaySend, IsFactCall, AllObey}
+use Rattle.peer_core.specs.Guarantees.{MaySend, IsFactCall, AllObey}
 use Rattle.peer_core.specs.Outcomes.{out_of}
 use Rattle.peer_core.specs.Plans.{Plan}
 use Rattle.peer_core.specs.Starts.{IsStopped, IsStartError}

@@ -23,8 +23,8 @@ use Rattle.wire_frames.specs.declared.phase.PhaseOut.{PhaseOut}
 use Rattle.wire_frames.specs.declared.phase.Then.{Then}
 use Rattle.wire_frames.specs.declared.phase.Then.TheVariants as thens
 use Rattle.peer_core.specs.Calls.{Call, AnswerOf}
-use Rattle.peer_core.specs.Kept.{Follows, IsFactCall, MaySend, AllObey}
-use Rattle.peer_core.specs.Moves.{followed, left, moved, sought, stood}
+use Rattle.peer_core.specs.Guarantees.{Follows, IsFactCall, MaySend, AllObey}
+use Rattle.peer_core.specs.Transitions.{followed, left, moved, sought, stood}
 use Rattle.peer_core.specs.Plans.{Plan, Done, Say, Ask, Out, nothing, Rest, Finished, Runs}
 use Rattle.peer_core.specs.Rules.{saved, performed, done, onward, done_then, and_sends, waiting, is_told, word_to, probing, electing, following, while_14, plan_14, while_13, plan_13, while_12, plan_10, while_9, plan_9, while_8, plan_7, plan_2, plan_3, plan_4, while_5, ticked, while_15, plan_16, while_17, delivered, plan_26, while_6, plan_6, plan_of, whole_step}
 use Rattle.peer_core.specs.Sends.{posted, posted_to}

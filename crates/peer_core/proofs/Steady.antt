@@ -14,9 +14,9 @@ use Rattle.view_change.specs.declared.finishing.Finishing.{Finishing}
 use Rattle.wire_frames.specs.declared.phase.PhaseOut.{PhaseOut}
 use Rattle.wire_frames.specs.declared.phase.Then.{Then}
 use Rattle.wire_frames.specs.declared.phase.Then.TheVariants as thens
-use Rattle.peer_core.specs.Kept.{Follows, IsFactCall, MaySend}
-use Rattle.peer_core.specs.Light.{is_over, is_over_in, IsSteady}
-use Rattle.peer_core.specs.Moves.{stopped_leading, without_candidacy, moved, left, stood}
+use Rattle.peer_core.specs.Guarantees.{Follows, IsFactCall, MaySend}
+use Rattle.peer_core.specs.NoAllocation.{is_over, is_over_in, IsSteady}
+use Rattle.peer_core.specs.Transitions.{stopped_leading, without_candidacy, moved, left, stood}
 use Rattle.peer_core.specs.Plans.{Plan, Done, Out, nothing, Rest}
 use Rattle.peer_core.specs.Rules.{saved, performed, done, onward, done_then, and_sends, electing, while_14, plan_14, while_13, plan_13, plan_10, plan_26, while_6, plan_6}
 use Rattle.peer_core.specs.Sends.{posted_to}

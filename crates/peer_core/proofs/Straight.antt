@@ -18,8 +18,8 @@ use Rattle.wire_frames.specs.declared.phase.PhaseOut.{PhaseOut}
 use Rattle.wire_frames.specs.declared.phase.Then.{Then}
 use Rattle.wire_frames.specs.declared.phase.Then.TheVariants as thens
 use Rattle.peer_core.specs.Calls.{Call, AnswerOf}
-use Rattle.peer_core.specs.Kept.{Follows, IsFactCall}
-use Rattle.peer_core.specs.Light.{is_over, is_over_in, IsSteady, light_answer, light_row, GoesTo, answered}
+use Rattle.peer_core.specs.Guarantees.{Follows, IsFactCall}
+use Rattle.peer_core.specs.NoAllocation.{is_over, is_over_in, IsSteady, allocation_free_answer, allocation_free_row, GoesTo, answered}
 use Rattle.peer_core.specs.Plans.{Plan, Done, Out, nothing, Rest, Ending, Finished, Stopped, Runs, Gave, with_state}
 use Rattle.peer_core.specs.Rules.{and_sends, done, onward, plan_10, plan_26, while_6, plan_6}
 use Rattle.peer_core.specs.Sends.{posted_to}
@@ -55,31 +55,31 @@ pub record IsAnswer (me : ℕ) (event : Event) (x : State) (from : ℕ) (row : P
   pub sender : HasSender event → IsPeer from
 
 -- of a message
-light_answer_is : (me from : ℕ) (message : Message) (x : State) → IfSome (light_answer from message x) (λ k. IsAnswer me (events.Deliver from message) x k.0 k.1)
-light_answer_is me from (messages.Prepare ballot) x = record {
+allocation_free_answer_is : (me from : ℕ) (message : Message) (x : State) → IfSome (allocation_free_answer from message x) (λ k. IsAnswer me (events.Deliver from message) x k.0 k.1)
+allocation_free_answer_is me from (messages.Prepare ballot) x = record {
   plan = refl;
   goes = row_11_cases (GoesTo from) x.fact from ballot refl tt refl;
   steady = λ steady. row_11_cases (λ row. Follows IsFactCall (λ y out. IsSteady y) (answered row x (λ y. Done y nothing))) x.fact from ballot (tt, λ u. refl) steady steady;
   sender = λ is. is;
 }
-light_answer_is me from (messages.Check epoch round) x = record { plan = refl; goes = tt; steady = λ steady. steady; sender = λ is. is }
-light_answer_is me from (messages.Beat ballot) x = record {
+allocation_free_answer_is me from (messages.Check epoch round) x = record { plan = refl; goes = tt; steady = λ steady. steady; sender = λ is. is }
+allocation_free_answer_is me from (messages.Beat ballot) x = record {
   plan = refl;
   goes = row_19_cases (GoesTo from) x.fact x.trusted from ballot refl tt tt;
   steady = λ steady. row_19_cases (λ row. Follows IsFactCall (λ y out. IsSteady y) (answered row x (λ y. Done y nothing))) x.fact x.trusted from ballot steady refl steady;
   sender = λ is. is;
 }
-light_answer_is me from other x = tt
+allocation_free_answer_is me from other x = tt
 
-light_row_is : (me : ℕ) (event : Event) (x : State) → IfSome (light_row event x) (λ k. IsAnswer me event x k.0 k.1)
-light_row_is me (events.Deliver from message) x = light_answer_is me from message x
-light_row_is me events.Tick x = tt
-light_row_is me (events.Call call) x = tt
-light_row_is me (events.Change view) x = tt
+allocation_free_row_is : (me : ℕ) (event : Event) (x : State) → IfSome (allocation_free_row event x) (λ k. IsAnswer me event x k.0 k.1)
+allocation_free_row_is me (events.Deliver from message) x = allocation_free_answer_is me from message x
+allocation_free_row_is me events.Tick x = tt
+allocation_free_row_is me (events.Call call) x = tt
+allocation_free_row_is me (events.Change view) x = tt
 
 -- the row of an event is such a row
-pub is_answer : (me : ℕ) (event : Event) (x : State) (from : ℕ) (row : PhaseOut) → light_row event x ≡ Some (from, row) → IsAnswer me event x from row
-is_answer me event x from row is = subst (λ o. IfSome o (λ k. IsAnswer me event x k.0 k.1)) is (light_row_is me event x)
+pub is_answer : (me : ℕ) (event : Event) (x : State) (from : ℕ) (row : PhaseOut) → allocation_free_row event x ≡ Some (from, row) → IsAnswer me event x from row
+is_answer me event x from row is = subst (λ o. IfSome o (λ k. IsAnswer me event x k.0 k.1)) is (allocation_free_row_is me event x)
 
 -- in a steady state rule 6 changes nothing
 module _ {S : Type 0} (does : S → (call : Call) → AnswerOf call → S → Type 0) (refuses : S → Call → PeerError → S → Type 0) (me : ℕ) (y : State) (out : Out)

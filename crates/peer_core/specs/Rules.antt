@@ -24,7 +24,7 @@ use Rattle.wire_frames.specs.declared.phase.PhaseOut.{PhaseOut}
 use Rattle.wire_frames.specs.declared.phase.Then.{Then}
 use Rattle.wire_frames.specs.declared.phase.Then.TheVariants as thens
 use Rattle.peer_core.specs.Calls.{Save}
-use Rattle.peer_core.specs.Moves.{followed, left, moved, sought, stood}
+use Rattle.peer_core.specs.Transitions.{followed, left, moved, sought, stood}
 use Rattle.peer_core.specs.Plans.{Plan, Ask, Out, Rest}
 use Rattle.peer_core.specs.Sends.{posted, posted_to}
 use Rattle.peer_core.specs.declared.event.Event.{Event}

@@ -3,7 +3,7 @@ use Rattle.std.specs.Prelude.{ℕ, Bool, true, false, List, [], Option, Some, No
 use Rattle.peer_fact.specs.Facts.{opening_fact}
 use Rattle.peer_fact.specs.declared.fact.Fact.{Fact}
 use Rattle.peer_core.specs.Calls.{Call, Load, Save, AnswerOf}
-use Rattle.peer_core.specs.Moves.{follower}
+use Rattle.peer_core.specs.Transitions.{follower}
 use Rattle.peer_core.specs.Plans.{Plan, Done, Ask, nothing, Finished, Stopped, Runs}
 use Rattle.peer_core.specs.declared.error.PeerError.{PeerError}
 use Rattle.peer_core.specs.declared.error.PeerError.TheVariants as errors

@@ -6,8 +6,8 @@
 //! what leaves the peer behind what was in the outbox; a fault is a run up to the call that was
 //! refused, of which nothing leaves the peer. A store is known by two relations alone: how a call may
 //! be answered, and how refused. `specs/Calls` has all calls of a step, `specs/Plans` plans and their
-//! runs, `specs/Kept` what all plans keep to, `specs/Moves` and `specs/Rules` the plan of each rule,
-//! `specs/Light` the messages that take no memory to answer, `specs/Stores` what the stores of a peer
+//! runs, `specs/Guarantees` what all plans keep to, `specs/Transitions` and `specs/Rules` the plan of each rule,
+//! `specs/NoAllocation` the messages that take no memory to answer, `specs/Stores` what the stores of a peer
 //! may answer, and `specs/Steps` and `specs/Starts` what the public calls promise.
 //!
 //! Here are the rules of elections: 2 to 4, 5 (d), 6 to 17 and 19, and of rule 1 what concerns the fact.

@@ -1,7 +1,7 @@
 ghost use Rattle.std.specs.Prelude.{◌≡◌, ◌≤◌, IfErr};
 ghost use Rattle.peer_core.specs.Plans.{Did, Gave, with_state};
 ghost use Rattle.ens_base.specs.View.{IsPeer};
-ghost use Rattle.peer_core.specs.Light.{IsLight};
+ghost use Rattle.peer_core.specs.NoAllocation.{IsAllocationFree};
 ghost use Rattle.peer_core.specs.Outboxes.{Empty, room};
 ghost use Rattle.peer_core.specs.Outcomes.{Acts};
 ghost use Rattle.peer_core.specs.Rules.{saved, performed, done, plan_of, whole_step};
@@ -88,7 +88,7 @@ impl<S: Store> Machine<S> {
     ) -> Result<(), PeerError>
         requires me { IsPeer me }
         requires sender { HasSender event.now }
-        requires apart { ¬ IsLight event.now }
+        requires apart { ¬ IsAllocationFree event.now }
         ensures { Acts S.does S.refuses (λ x o next. plan_of me event.now x o next) self.old out.old result self.new out.new }
     {
         match event {
@@ -108,7 +108,7 @@ impl<S: Store> Machine<S> {
     ) -> Result<(), PeerError>
         requires me { IsPeer me }
         requires sender { HasSender event.now }
-        requires apart { ¬ IsLight event.now }
+        requires apart { ¬ IsAllocationFree event.now }
         ensures { Acts S.does S.refuses (λ x o next. whole_step me event.now x o next) self.old out.old result self.new out.new }
     {
         self.act(alloc, out, me, event)?;
@@ -125,7 +125,7 @@ impl<S: Store> Machine<S> {
     ) -> Result<(), PeerError>
         requires me { IsPeer me }
         requires sender { HasSender event.now }
-        requires apart { ¬ IsLight event.now }
+        requires apart { ¬ IsAllocationFree event.now }
         requires empty { Empty out.old }
         ensures { Takes S.does S.refuses me event.now self.old result self.new out.new }
     {
@@ -143,7 +143,7 @@ impl<S: Store> Machine<S> {
     ) -> Result<(), PeerError>
         requires me { IsPeer me }
         requires sender { HasSender event.now }
-        requires apart { ¬ IsLight event.now }
+        requires apart { ¬ IsAllocationFree event.now }
         ensures steps { Steps S.does S.refuses me event.now self.old out.old result self.new out.new }
         ensures room { room out.old ≤ room out.new }
     {

@@ -69,7 +69,7 @@ impl Outbox {
         ensures sends { OnOk result (self.new.sends.items ≡ self.old.sends.items ++ record { to = to; message = message } ∷ []) }
         ensures kept { OnErr result (self.new.sends.items ≡ self.old.sends.items) }
         ensures one { length self.new.sends.items ≤ length self.old.sends.items + 1 }
-        ensures light { 1 ≤ spare self.old → IsOk result }
+        ensures no_allocation { 1 ≤ spare self.old → IsOk result }
         ensures room { room self.old ≤ room self.new }
         ensures rest { (self.new.answers ≡ self.old.answers) × (self.new.notes ≡ self.old.notes) × (self.new.changes ≡ self.old.changes) }
         ensures memory { IfErr result (λ e. e ≡ PeerError.Memory) }
@@ -87,7 +87,7 @@ impl Outbox {
         ensures kept { OnErr result (self.new.sends.items ≡ self.old.sends.items) }
         ensures rest { (self.new.answers ≡ self.old.answers) × (self.new.notes ≡ self.old.notes) × (self.new.changes ≡ self.old.changes) }
         ensures one { length self.new.sends.items ≤ length self.old.sends.items + 1 }
-        ensures light { 1 ≤ spare self.old → IsOk result }
+        ensures no_allocation { 1 ≤ spare self.old → IsOk result }
         ensures room { room self.old ≤ room self.new }
         ensures memory { IfErr result (λ e. e ≡ PeerError.Memory) }
     {

@@ -1,6 +1,6 @@
 ghost use Rattle.std.specs.Prelude.{◌≡◌, false};
 ghost use Rattle.ens_base.specs.View.{IsPeer};
-ghost use Rattle.peer_core.specs.Light.{IsSteady};
+ghost use Rattle.peer_core.specs.NoAllocation.{IsSteady};
 
 use crate::error::PeerError;
 use crate::machine::Machine;

@@ -1,5 +1,5 @@
 ghost use Rattle.std.specs.Prelude.{◌≡◌, IfOk};
-ghost use Rattle.peer_core.specs.Light.{IsSteady};
+ghost use Rattle.peer_core.specs.NoAllocation.{IsSteady};
 ghost use Rattle.peer_core.specs.Starts.{Starts, start_of, first_state as first, opened as opens};
 
 use crate::error::PeerError;

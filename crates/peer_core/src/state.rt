@@ -1,7 +1,7 @@
 ghost use Rattle.std.specs.Prelude.{◌≡◌};
 ghost use Rattle.ens_base.specs.View.{IsPeer};
 ghost use Rattle.peer_core.specs.Rules.{finishing_heard, word_of_end as end_word};
-ghost use Rattle.peer_core.specs.Moves.{follower, stopped_leading, without_candidacy, accepts_of, accepts_in, left, followed, led, untrusted, moved, sought, stood};
+ghost use Rattle.peer_core.specs.Transitions.{follower, stopped_leading, without_candidacy, accepts_of, accepts_in, left, followed, led, untrusted, moved, sought, stood};
 
 use election::Election;
 use ens_base::{Epoch, PeerId, PeerSet};

@@ -10,8 +10,8 @@ use std::alloc::Global;
 
 impl<B: Backend, N: NodeStore, F: FactKeeper> Peer<B, N, F> {
     ghost use Rattle.std.specs.Prelude.{◌≡◌, ◌+◌, ◌≤◌, ◌↔◌, length, true, false, OnOk, IfErr, IsErrOf};
-    ghost use Rattle.peer_core.specs.Kept.{AllObey};
-    ghost use Rattle.peer_core.specs.Light.{IsLight};
+    ghost use Rattle.peer_core.specs.Guarantees.{AllObey};
+    ghost use Rattle.peer_core.specs.NoAllocation.{IsAllocationFree};
     ghost use Rattle.peer_core.specs.Outboxes.{room, spare};
     ghost use Rattle.peer_core.specs.Outcomes.{out_of};
     ghost use Rattle.peer_core.specs.Steps.{HasSender, HasStepped, HasStopped, NothingLeft, IsStepError};
@@ -41,8 +41,8 @@ impl<B: Backend, N: NodeStore, F: FactKeeper> Peer<B, N, F> {
         ensures halted { IsErrOf result PeerError.Halted ↔ (self.old.halted ≡ true) }
         ensures still { IsErrOf result PeerError.Halted → (self.new ≡ self.old) × (out.new ≡ out.old) }
         ensures obey { OnOk result (AllObey (out_of out.old) → AllObey (out_of out.new)) }
-        ensures one { IsLight event → length out.new.sends.items ≤ length out.old.sends.items + 1 }
-        ensures light { IsLight event → 1 ≤ spare out.old → ¬ IsErrOf result PeerError.Memory }
+        ensures one { IsAllocationFree event → length out.new.sends.items ≤ length out.old.sends.items + 1 }
+        ensures no_allocation { IsAllocationFree event → 1 ≤ spare out.old → ¬ IsErrOf result PeerError.Memory }
         ensures spare { room out.old ≤ room out.new }
         ensures only { IfErr result IsStepError }
         ensures me { self.new.me ≡ self.old.me }

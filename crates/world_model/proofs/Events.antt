@@ -6,9 +6,9 @@ use Rattle.std.proofs.lemmas.Option.{same_Some, none-some}
 use Rattle.network.specs.Mail.{most_messages}
 use Rattle.schedule_text.specs.Spelling.{MayStand, AllMayStand}
 use Rattle.schedule_text.specs.declared.event.ScheduleEvent.{ScheduleEvent}
-use Rattle.world_runs.proofs.Growth.{sent_in, peers_in, applied_same, run_grows}
-use Rattle.world_runs.specs.Lines.{applied, run_from, run_of_schedule}
-use Rattle.world_runs.specs.Runs.{Run, opening_run}
+use Rattle.world_spec.proofs.Growth.{sent_in, peers_in, applied_same, run_grows}
+use Rattle.world_spec.specs.Lines.{applied, run_from, run_of_schedule}
+use Rattle.world_spec.specs.Runs.{Run, opening_run}
 use Rattle.world_model.proofs.Numbers.{succ}
 
 -- some events have been applied, and the others follow from here

@@ -5,9 +5,9 @@ use Rattle.network.specs.Mail.{settled, is_among, oldest, most_messages}
 use Rattle.peer_core.specs.declared.event.Event.TheVariants as events
 use Rattle.wire_frames.specs.declared.frame.Frame.{Frame}
 use Rattle.wire_frames.specs.declared.message.Message.{Message}
-use Rattle.world_runs.proofs.Growth.{sent_in, ticked_grows, calmed_grows}
-use Rattle.world_runs.proofs.Turns.{no_tick, one_tick, no_turn, one_turn, last_turn}
-use Rattle.world_runs.specs.Runs.{Run, stepped, ticked, delivered, calmed}
+use Rattle.world_spec.proofs.Growth.{sent_in, ticked_grows, calmed_grows}
+use Rattle.world_spec.proofs.Turns.{no_tick, one_tick, no_turn, one_turn, last_turn}
+use Rattle.world_spec.specs.Runs.{Run, stepped, ticked, delivered, calmed}
 use Rattle.world_model.specs.Worlds.{run_of, Begins, IsWithin}
 use Rattle.world_model.specs.declared.world.World.{World}
 use Rattle.world_model.proofs.Begins.{begins_same, begins_later}

@@ -6,10 +6,10 @@ use Rattle.std.proofs.Common.{◌≡◌, ◌≤◌, ◌<◌, ◌+◌, ℕ, List,
 use Rattle.std.proofs.lemmas.List.{append-nil, append_assoc, length-append}
 use Rattle.std.proofs.lemmas.List.Elements.{All-tail}
 use Rattle.network.specs.Mail.{Mail, posted, most_messages}
-use Rattle.peer_core.specs.Kept.{MaySend}
+use Rattle.peer_core.specs.Guarantees.{MaySend}
 use Rattle.peer_core.specs.declared.outbox.Outgoing.{Outgoing}
 use Rattle.wire_frames.specs.declared.frame.Frame.{Frame}
-use Rattle.world_runs.specs.Runs.{frame_from, posted_all}
+use Rattle.world_spec.specs.Runs.{frame_from, posted_all}
 use Rattle.world_model.specs.Messages.{StartsWith}
 
 -- from the mail at first, of all that is to be sent, this mail has come, and this is left

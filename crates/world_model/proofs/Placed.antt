@@ -7,9 +7,9 @@ use Rattle.network.specs.Mail.{most_messages}
 use Rattle.peer_core.specs.Plans.{Out}
 use Rattle.peer_core.specs.declared.event.Event.{Event}
 use Rattle.register_model.specs.declared.note.Note.{Note}
-use Rattle.world_runs.proofs.Growth.{sent_in, length_posted_all}
-use Rattle.world_runs.specs.Nodes.{Taken, taken}
-use Rattle.world_runs.specs.Runs.{Run, frame_from, place_of, stepped}
+use Rattle.world_spec.proofs.Growth.{sent_in, length_posted_all}
+use Rattle.world_spec.specs.Nodes.{Taken, taken}
+use Rattle.world_spec.specs.Runs.{Run, frame_from, place_of, stepped}
 use Rattle.world_model.proofs.Numbers.{shifted, shifted_back}
 use Rattle.world_model.specs.Peers.{MemPeer, node_of, AreNumbered}
 use Rattle.world_model.specs.Worlds.{reported}

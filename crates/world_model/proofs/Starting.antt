@@ -2,7 +2,7 @@
 use Rattle.std.proofs.Common.{◌≡◌, ◌+◌, ℕ, zero, suc, Some, List, [], ◌∷◌, ◌++◌, length, map, replicate, slice_get, refl, ap, ◌∙◌, sym}
 use Rattle.std.proofs.lemmas.List.{map-append, length-append}
 use Rattle.std.proofs.lemmas.Option.{same_Some, none-some}
-use Rattle.world_runs.specs.Nodes.{opening_node}
+use Rattle.world_spec.specs.Nodes.{opening_node}
 use Rattle.world_model.proofs.Numbers.{succ, shifted, shifted_back}
 use Rattle.world_model.specs.Peers.{MemPeer, node_of, AreNumbered}
 

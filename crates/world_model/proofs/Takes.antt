@@ -8,8 +8,8 @@ use Rattle.peer_core.specs.declared.error.PeerError.{PeerError}
 use Rattle.peer_core.specs.declared.error.PeerError.TheVariants as errors
 use Rattle.peer_core.specs.declared.event.Event.{Event}
 use Rattle.peer_core.specs.declared.outbox.Outbox.{Outbox}
-use Rattle.world_runs.proofs.Determined.{MayAnswer, MayRefuse, step_taken, step_stopped}
-use Rattle.world_runs.specs.Nodes.{Taken, taken}
+use Rattle.world_spec.proofs.Determined.{MayAnswer, MayRefuse, step_taken, step_stopped}
+use Rattle.world_spec.specs.Nodes.{Taken, taken}
 use Rattle.world_model.specs.Peers.{MemPeer, node_of}
 use Rattle.world_model.specs.Refusals.{world_error}
 

@@ -3,8 +3,8 @@ use Rattle.std.specs.Prelude.{◌≡◌, ◌+◌, ℕ, Bool, true, false, List, 
 use Rattle.ens_outside.specs.MemStores.{Objects, Nodes}
 use Rattle.peer_core.specs.declared.peer.Peer.{Peer}
 use Rattle.peer_core.specs.declared.state.State.{State}
-use Rattle.world_runs.specs.Nodes.{MemStores, Node, Up, Down}
-use Rattle.world_runs.specs.declared.held.HeldFact.{HeldFact}
+use Rattle.world_spec.specs.Nodes.{MemStores, Node, Up, Down}
+use Rattle.world_spec.specs.declared.held.HeldFact.{HeldFact}
 
 -- a peer over stores in memory
 abbrev pub MemPeer : Type 0

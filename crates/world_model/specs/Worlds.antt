@@ -5,7 +5,7 @@ use Rattle.peer_core.specs.Plans.{Out}
 use Rattle.register_model.specs.declared.note.Note.{Note}
 use Rattle.register_model.specs.declared.printed.Printed.{Printed}
 use Rattle.wire_frames.specs.declared.frame.Frame.{Frame}
-use Rattle.world_runs.specs.Runs.{Run, next_event, posted_all, frame_from, printed_by}
+use Rattle.world_spec.specs.Runs.{Run, next_event, posted_all, frame_from, printed_by}
 use Rattle.world_model.specs.Peers.{node_of}
 use Rattle.world_model.specs.declared.world.World.{World}
 

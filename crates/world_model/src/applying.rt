@@ -2,8 +2,8 @@ ghost use Rattle.std.specs.Prelude.{◌≡◌, ◌<◌, ◌≤◌, length, OnOk,
 ghost use Rattle.network.specs.Mail.{most_messages};
 ghost use Rattle.schedule_text.specs.Spelling.{MayStand};
 ghost use Rattle.schedule_words.specs.Spelling.{AreMembers};
-ghost use Rattle.world_runs.specs.Lines.{applied, effect, everyone, first_of, set_of, up_to};
-ghost use Rattle.world_runs.proofs.Growth.{sent_in};
+ghost use Rattle.world_spec.specs.Lines.{applied, effect, everyone, first_of, set_of, up_to};
+ghost use Rattle.world_spec.proofs.Growth.{sent_in};
 ghost use Rattle.world_model.specs.Refusals.{IsApplyError};
 ghost use Rattle.world_model.specs.Worlds.{run_of, Begins, IsWithin};
 

@@ -1,7 +1,7 @@
 ghost use Rattle.std.specs.Prelude.{◌≡◌, ◌≤◌, length, map, replicate, IfOk, IfErr};
 ghost use Rattle.ens_base.specs.View.{IsPeer};
-ghost use Rattle.world_runs.specs.Nodes.{opening_node};
-ghost use Rattle.world_runs.specs.Runs.{opening_run};
+ghost use Rattle.world_spec.specs.Nodes.{opening_node};
+ghost use Rattle.world_spec.specs.Runs.{opening_run};
 ghost use Rattle.world_model.specs.Peers.{AreNumbered, node_of};
 ghost use Rattle.world_model.specs.Worlds.{run_of};
 
@@ -15,7 +15,7 @@ use network::Network;
 use peer_core::{Peer, PeerError, Stores};
 use schedule_text::Schedule;
 use std::alloc::Global;
-use world_runs::HeldFact;
+use world_spec::HeldFact;
 
 /// The peer of this number, started on empty stores.
 fn started<H: Hasher16>(

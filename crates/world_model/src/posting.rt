@@ -1,8 +1,8 @@
 ghost use Rattle.std.specs.Prelude.{◌≡◌, ◌<◌, ◌≤◌, ◌+◌, map, length, All, OnOk, IfErr, IsErrOf};
 ghost use Rattle.ens_base.specs.View.{IsPeer};
 ghost use Rattle.network.specs.Mail.{most_messages};
-ghost use Rattle.peer_core.specs.Kept.{MaySend};
-ghost use Rattle.world_runs.specs.Runs.{frame_from, posted_all};
+ghost use Rattle.peer_core.specs.Guarantees.{MaySend};
+ghost use Rattle.world_spec.specs.Runs.{frame_from, posted_all};
 ghost use Rattle.world_model.specs.Messages.{StartsWith};
 ghost use Rattle.world_model.specs.Refusals.{IsApplyError};
 

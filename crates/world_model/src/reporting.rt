@@ -1,5 +1,5 @@
 ghost use Rattle.std.specs.Prelude.{◌≡◌, ◌++◌, map, IfOk};
-ghost use Rattle.world_runs.specs.Runs.{answer_line as line_of_answer, change_line as line_of_change};
+ghost use Rattle.world_spec.specs.Runs.{answer_line as line_of_answer, change_line as line_of_change};
 
 use ens_base::PeerId;
 use peer_core::AnswerOut;

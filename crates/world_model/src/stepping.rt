@@ -2,10 +2,10 @@ ghost use Rattle.std.specs.Prelude.{◌≡◌, ◌<◌, ◌≤◌, ◌+◌, leng
 ghost use Rattle.ens_base.specs.View.{IsPeer};
 ghost use Rattle.network.specs.Mail.{most_messages};
 ghost use Rattle.peer_core.specs.Outcomes.{out_of};
-ghost use Rattle.peer_core.specs.Kept.{AllObey};
+ghost use Rattle.peer_core.specs.Guarantees.{AllObey};
 ghost use Rattle.peer_core.specs.Steps.{HasSender};
-ghost use Rattle.world_runs.specs.Runs.{stepped};
-ghost use Rattle.world_runs.proofs.Growth.{sent_in};
+ghost use Rattle.world_spec.specs.Runs.{stepped};
+ghost use Rattle.world_spec.proofs.Growth.{sent_in};
 ghost use Rattle.world_model.specs.Refusals.{IsApplyError};
 ghost use Rattle.world_model.specs.Worlds.{run_of, Begins, IsWithin, reported};
 

@@ -1,8 +1,8 @@
 ghost use Rattle.std.specs.Prelude.{◌≡◌, IfOk, IfErr};
 ghost use Rattle.peer_core.specs.Outcomes.{out_of};
 ghost use Rattle.peer_core.specs.Steps.{HasSender};
-ghost use Rattle.peer_core.specs.Kept.{AllObey};
-ghost use Rattle.world_runs.specs.Nodes.{Taken, taken};
+ghost use Rattle.peer_core.specs.Guarantees.{AllObey};
+ghost use Rattle.world_spec.specs.Nodes.{Taken, taken};
 ghost use Rattle.world_model.specs.Peers.{node_of};
 ghost use Rattle.world_model.specs.Refusals.{world_error as error_of};
 

@@ -7,7 +7,7 @@ use history_scribe::Scribe;
 use network::Network;
 use peer_core::Peer;
 use register_model::Printed;
-use world_runs::HeldFact;
+use world_spec::HeldFact;
 
 /// A peer over stores in memory.
 pub(crate) type MemPeer = Peer<MemBackend, MemNodes, HeldFact>;
