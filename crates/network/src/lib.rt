@@ -14,6 +14,3 @@ mod network;
 pub use error::SendError;
 pub use laws::{the_lost_are_gone, the_oldest_comes_first, the_oldest_grows_younger};
 pub use network::Network;
-
-#[cfg(test)]
-mod tests;

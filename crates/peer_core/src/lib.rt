@@ -42,6 +42,3 @@ pub use outbox::{AnswerOut, Outbox, Outgoing};
 pub use peer::{Peer, StartError, Suspended};
 pub use state::{Leadership, Phase, State};
 pub use stores::Stores;
-
-#[cfg(test)]
-mod tests;

@@ -21,6 +21,3 @@ mod world;
 
 pub use error::WorldError;
 pub use world::World;
-
-#[cfg(test)]
-mod tests;

@@ -13,6 +13,3 @@ mod laws;
 
 pub use held::HeldFact;
 pub use laws::{a_calm_leaves_none_waiting, messages_obey};
-
-#[cfg(test)]
-mod tests;

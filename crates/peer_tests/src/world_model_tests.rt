@@ -1,10 +1,8 @@
-use crate::World;
-use crate::applying::all_peers;
-use ens_base::{PeerId, Seq, View};
 use ens_hashing::PlainHasher;
-use schedule_text::Schedule;
+use schedule_text::read_schedule;
 use std::test::Fail;
 use wire_frames::Message;
+use world_model::World;
 
 /// The name of a message of an election.
 fn name(message: &Message) -> &'static str {
@@ -15,7 +13,7 @@ fn name(message: &Message) -> &'static str {
     }
 }
 
-/// Whether the message at this place has this name.
+/// Whether the message sent at this place has this name.
 fn is_sent(world: &World, place: usize, wanted: &str) -> bool {
     match world.sent().get(place) {
         Some(frame) => name(&frame.message) == wanted,
@@ -24,16 +22,11 @@ fn is_sent(world: &World, place: usize, wanted: &str) -> bool {
 }
 
 #[test]
-fn an_election_of_three_sends_twelve_messages(rt: HostRuntime) -> Result<(), Fail> {
+fn an_election_of_three_peers_sends_twelve_messages(rt: HostRuntime) -> Result<(), Fail> {
     let alloc = rt.alloc();
-    let schedule = Schedule {
-        peers: 3,
-        view: View::new(&[PeerId(1), PeerId(2), PeerId(3)])?,
-        events: Seq::new(Vec::new(alloc)),
-    };
-    let mut world = World::open(alloc, &schedule, &mut PlainHasher)?;
-    world.tick(alloc, &mut PlainHasher, PeerId(1), 6)?;
-    world.calm(alloc, &mut PlainHasher, &all_peers())?;
+    let lines = "ensemble 1\npeers 3\nview 1 2 3\ntick 1 6\ncalm\n";
+    let schedule = read_schedule(alloc, lines.as_bytes())?;
+    let world = World::run(alloc, &schedule, &mut PlainHasher)?;
     assert!(rt; world.sent().len() == 12);
     assert!(rt; is_sent(&world, 0, "probe") && is_sent(&world, 11, "accepted"));
     assert!(rt; world.printed().is_empty());

@@ -1,12 +1,12 @@
 ghost use Rattle.std.specs.Prelude.{◌≡◌};
 
-use super::*;
 use ens_base::{PeerId, PeerSet};
+use network::Network;
 use std::alloc::Global;
 use std::test::Fail;
 use wire_frames::{Frame, Message};
 
-/// A message from a peer to a peer.
+/// A probe from one peer to another.
 fn probe(from: u32, to: u32) -> Frame
     ensures { (result.from ≡ from) × (result.to ≡ to) }
 {
@@ -17,7 +17,7 @@ fn probe(from: u32, to: u32) -> Frame
     }
 }
 
-/// Messages from 1 to 2, from 2 to 1, from 1 to 2 and from 3 to 1.
+/// A network with four messages waiting: from 1 to 2, from 2 to 1, from 1 to 2, and from 3 to 1.
 fn four(alloc: Global) -> Result<Network, Fail> {
     let mut network = Network::new(alloc)?;
     network.send(probe(1, 2))?;
@@ -36,7 +36,7 @@ fn a_new_network_has_sent_nothing(rt: HostRuntime) -> Result<(), Fail> {
 }
 
 #[test]
-fn messages_stand_in_the_order_of_sending(rt: HostRuntime) -> Result<(), Fail> {
+fn sent_lists_messages_in_the_order_of_sending(rt: HostRuntime) -> Result<(), Fail> {
     let network = four(rt.alloc())?;
     let wanted = [(1, 2), (2, 1), (1, 2), (3, 1)];
     assert_eq!(rt; network.sent().len(), wanted.len());
@@ -47,7 +47,7 @@ fn messages_stand_in_the_order_of_sending(rt: HostRuntime) -> Result<(), Fail> {
 }
 
 #[test]
-fn the_next_is_oldest_once_the_first_is_settled(rt: HostRuntime) -> Result<(), Fail> {
+fn a_settled_message_gives_way_to_the_next_oldest(rt: HostRuntime) -> Result<(), Fail> {
     let mut network = four(rt.alloc())?;
     let (one, two) = (PeerId(1), PeerId(2));
     assert_eq!(rt; network.oldest_between(one, two), Some(0));
@@ -60,7 +60,7 @@ fn the_next_is_oldest_once_the_first_is_settled(rt: HostRuntime) -> Result<(), F
 }
 
 #[test]
-fn a_loss_has_one_direction(rt: HostRuntime) -> Result<(), Fail> {
+fn a_loss_leaves_the_other_direction(rt: HostRuntime) -> Result<(), Fail> {
     let mut network = four(rt.alloc())?;
     let (one, two) = (PeerId(1), PeerId(2));
     network.lose(one, two);
@@ -71,7 +71,7 @@ fn a_loss_has_one_direction(rt: HostRuntime) -> Result<(), Fail> {
 }
 
 #[test]
-fn the_oldest_among_some_has_both_ends_there(rt: HostRuntime) -> Result<(), Fail> {
+fn the_oldest_among_peers_goes_from_member_to_member(rt: HostRuntime) -> Result<(), Fail> {
     let mut network = four(rt.alloc())?;
     let mut peers = PeerSet::empty();
     peers.insert(PeerId(1));

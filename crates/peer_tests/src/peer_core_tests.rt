@@ -1,10 +1,10 @@
 ghost use Rattle.ens_base.specs.View.{IsPeer};
 
-use super::*;
 use ens_base::{Epoch, PeerId, View, ViewError};
 use ens_hashing::PlainHasher;
 use ens_outside::{MemBackend, MemNodes};
-use fact_store::{Kept, MemFacts};
+use fact_store::{FactKeeper, Kept, MemFacts};
+use peer_core::{Event, Outbox, Peer, PeerError, StartError, Stores};
 use peer_fact::{Change, Fact};
 use slot_disk::Failing;
 use std::alloc::Global;
@@ -24,12 +24,12 @@ fn view() -> Result<View, ViewError> {
     View::new(&[PeerId(1), PeerId(2), PeerId(3)])
 }
 
-/// Peer 1, started on these stores.
+/// Starts peer 1 on these stores.
 fn started(view: View, stores: Stores<MemBackend, MemNodes, MemFacts>) -> Result<Tried, PeerError> {
     numbered(1, view, stores)
 }
 
-/// The peer of this number, started on these stores.
+/// Starts the peer `number` on these stores.
 fn numbered(
     number: u32,
     view: View,
@@ -46,7 +46,7 @@ fn numbered(
     }
 }
 
-/// The peer of this number, on empty stores of which the listed calls of the facts fail.
+/// Starts the peer `number` on empty stores. The fact keeper fails at the listed calls.
 fn peer(alloc: Global, number: u32, view: View, failing: Failing) -> Result<Tried, PeerError>
     requires { IsPeer number }
 {
@@ -58,8 +58,13 @@ fn peer(alloc: Global, number: u32, view: View, failing: Failing) -> Result<Trie
     numbered(number, view, stores)
 }
 
-/// What a peer sends on a message.
-fn told(alloc: Global, peer: &mut Tried, from: u32, message: Message) -> Result<Outbox, PeerError>
+/// Delivers a message from the peer `from`, and returns what the peer sends.
+fn delivered(
+    alloc: Global,
+    peer: &mut Tried,
+    from: u32,
+    message: Message,
+) -> Result<Outbox, PeerError>
     requires { IsPeer from }
 {
     let mut out = Outbox::new(alloc);
@@ -72,7 +77,7 @@ fn told(alloc: Global, peer: &mut Tried, from: u32, message: Message) -> Result<
     Ok(out)
 }
 
-/// What a peer sends in six ticks.
+/// Ticks the peer six times, and returns what it sends.
 fn six_ticks(alloc: Global, peer: &mut Tried) -> Result<Outbox, PeerError> {
     let mut out = Outbox::new(alloc);
     for _tick in 0..6 {
@@ -96,7 +101,7 @@ fn name(message: &Message) -> &'static str {
     }
 }
 
-/// Whether the message at this place goes to this peer and has this name.
+/// Whether the message at this place goes to the peer `to` and has this name.
 fn is_sent(out: &Outbox, place: usize, to: u32, wanted: &str) -> bool {
     match out.sends.get(place) {
         Some(sent) => sent.to == PeerId(to) && name(&sent.message) == wanted,
@@ -104,17 +109,17 @@ fn is_sent(out: &Outbox, place: usize, to: u32, wanted: &str) -> bool {
     }
 }
 
-/// Whether the messages with this name go to the peers 2 and 3, and no others go.
+/// Whether the outbox holds two messages of this name, to the peers 2 and 3, and no other.
 fn goes_to_both(out: &Outbox, wanted: &str) -> bool {
     out.sends.len() == 2 && is_sent(out, 0, 2, wanted) && is_sent(out, 1, 3, wanted)
 }
 
-/// Whether one message is sent, to peer 1, with this name.
+/// Whether the outbox holds one message, to peer 1 and of this name.
 fn goes_to_one(out: &Outbox, wanted: &str) -> bool {
     out.sends.len() == 1 && is_sent(out, 0, 1, wanted)
 }
 
-/// The opening fact, at the ballot 1.1.
+/// The opening fact at the ballot 1.1.
 fn promised(view: View) -> Fact {
     Fact {
         ballot: BALLOT,
@@ -132,32 +137,38 @@ fn elected(view: View) -> Fact {
     }
 }
 
-/// Peer 1 after six ticks.
+/// Peer 1 after six ticks: it probes.
 fn probing(alloc: Global, view: View) -> Result<Tried, PeerError> {
     let mut one = peer(alloc, 1, view, Failing::never(alloc))?;
     six_ticks(alloc, &mut one)?;
     Ok(one)
 }
 
-/// Peer 1 once it has a ballot.
+/// Peer 1 after a quorum of replies: it prepares the ballot 1.1.
 fn preparing(alloc: Global, view: View) -> Result<Tried, PeerError> {
     let mut one = probing(alloc, view)?;
-    told(alloc, &mut one, 3, Message::ProbeReply(Fact::opening(view)))?;
+    delivered(alloc, &mut one, 3, Message::ProbeReply(Fact::opening(view)))?;
     Ok(one)
 }
 
-/// Peer 1 once it starts its epoch.
+/// Peer 1 after a quorum of promises: it starts the epoch 1.1.
 fn starting(alloc: Global, view: View) -> Result<Tried, PeerError> {
     let mut one = preparing(alloc, view)?;
-    told(alloc, &mut one, 2, Message::Promise(BALLOT, promised(view)))?;
+    delivered(alloc, &mut one, 2, Message::Promise(BALLOT, promised(view)))?;
     Ok(one)
 }
 
-fn leads(peer: &Tried) -> bool {
-    match &peer.machine.state.phase {
-        Phase::Leading(_) => true,
-        _ => false,
-    }
+/// Whether the stores of the peer keep this fact.
+fn keeps(peer: Tried, fact: Fact) -> bool {
+    let mut stores = peer.into_stores();
+    stores.facts.load() == Ok(Some(fact))
+}
+
+/// Ticks peer 1, and returns whether it sends a beat to peer 3, as only a leader does.
+fn beats(alloc: Global, peer: &mut Tried) -> Result<bool, PeerError> {
+    let mut out = Outbox::new(alloc);
+    peer.step(alloc, Event::Tick, &mut PlainHasher, &mut out)?;
+    Ok(is_sent(&out, 1, 3, "beat"))
 }
 
 #[test]
@@ -170,13 +181,13 @@ fn six_quiet_ticks_begin_a_probe(rt: HostRuntime) -> Result<(), Fail> {
 }
 
 #[test]
-fn a_quorum_of_replies_asks_for_a_ballot(rt: HostRuntime) -> Result<(), Fail> {
+fn a_quorum_of_replies_prepares_a_ballot(rt: HostRuntime) -> Result<(), Fail> {
     let alloc = rt.alloc();
     let view = view()?;
     let mut one = probing(alloc, view)?;
-    let out = told(alloc, &mut one, 3, Message::ProbeReply(Fact::opening(view)))?;
+    let out = delivered(alloc, &mut one, 3, Message::ProbeReply(Fact::opening(view)))?;
     assert!(rt; goes_to_both(&out, "prepare"));
-    assert!(rt; one.machine.state.fact == promised(view));
+    assert!(rt; keeps(one, promised(view)));
     Ok(())
 }
 
@@ -185,9 +196,9 @@ fn a_quorum_of_promises_starts_the_epoch(rt: HostRuntime) -> Result<(), Fail> {
     let alloc = rt.alloc();
     let view = view()?;
     let mut one = preparing(alloc, view)?;
-    let out = told(alloc, &mut one, 2, Message::Promise(BALLOT, promised(view)))?;
+    let out = delivered(alloc, &mut one, 2, Message::Promise(BALLOT, promised(view)))?;
     assert!(rt; goes_to_both(&out, "new epoch"));
-    assert!(rt; one.machine.state.fact == elected(view));
+    assert!(rt; keeps(one, elected(view)));
     Ok(())
 }
 
@@ -195,17 +206,18 @@ fn a_quorum_of_promises_starts_the_epoch(rt: HostRuntime) -> Result<(), Fail> {
 fn a_quorum_of_acceptances_leads(rt: HostRuntime) -> Result<(), Fail> {
     let alloc = rt.alloc();
     let mut one = starting(alloc, view()?)?;
-    let before = leads(&one);
-    told(alloc, &mut one, 3, Message::Accepted(BALLOT, 1))?;
-    assert!(rt; !before && leads(&one));
+    let before = beats(alloc, &mut one)?;
+    delivered(alloc, &mut one, 3, Message::Accepted(BALLOT, 1))?;
+    let after = beats(alloc, &mut one)?;
+    assert!(rt; !before && after);
     Ok(())
 }
 
 #[test]
-fn a_leader_says_that_it_is_there(rt: HostRuntime) -> Result<(), Fail> {
+fn a_leader_beats_to_those_that_accepted(rt: HostRuntime) -> Result<(), Fail> {
     let alloc = rt.alloc();
     let mut one = starting(alloc, view()?)?;
-    told(alloc, &mut one, 3, Message::Accepted(BALLOT, 1))?;
+    delivered(alloc, &mut one, 3, Message::Accepted(BALLOT, 1))?;
     let mut out = Outbox::new(alloc);
     one.step(alloc, Event::Tick, &mut PlainHasher, &mut out)?;
     assert!(rt; is_sent(&out, 0, 2, "new epoch"));
@@ -218,15 +230,15 @@ fn a_follower_promises_and_accepts(rt: HostRuntime) -> Result<(), Fail> {
     let alloc = rt.alloc();
     let view = view()?;
     let mut two = peer(alloc, 2, view, Failing::never(alloc))?;
-    let promise = told(alloc, &mut two, 1, Message::Prepare(BALLOT))?;
-    let acceptance = told(alloc, &mut two, 1, Message::NewEpoch(elected(view)))?;
+    let promise = delivered(alloc, &mut two, 1, Message::Prepare(BALLOT))?;
+    let acceptance = delivered(alloc, &mut two, 1, Message::NewEpoch(elected(view)))?;
     assert!(rt; goes_to_one(&promise, "promise"));
     assert!(rt; goes_to_one(&acceptance, "accepted"));
     Ok(())
 }
 
 #[test]
-fn a_refused_save_sends_nothing_and_halts(rt: HostRuntime) -> Result<(), Fail> {
+fn a_failed_save_sends_nothing_and_halts(rt: HostRuntime) -> Result<(), Fail> {
     let alloc = rt.alloc();
     let mut failing = Failing::never(alloc);
     failing.undone.push(3)?;
@@ -246,34 +258,30 @@ fn a_refused_save_sends_nothing_and_halts(rt: HostRuntime) -> Result<(), Fail> {
 }
 
 #[test]
-fn a_suspended_peer_goes_on(rt: HostRuntime) -> Result<(), Fail> {
+fn a_resumed_peer_continues_its_election(rt: HostRuntime) -> Result<(), Fail> {
     let alloc = rt.alloc();
     let one = starting(alloc, view()?)?;
     let (suspended, stores) = one.suspend();
     let mut one = suspended.resume(stores);
-    told(alloc, &mut one, 3, Message::Accepted(BALLOT, 1))?;
-    assert!(rt; leads(&one));
+    delivered(alloc, &mut one, 3, Message::Accepted(BALLOT, 1))?;
+    let leads = beats(alloc, &mut one)?;
+    assert!(rt; leads);
     Ok(())
 }
 
-/// Whether the peer has this fact, and does not trust its tree.
-fn has_only(peer: &Tried, fact: Fact) -> bool {
-    peer.machine.state.fact == fact && !peer.machine.state.trusted
-}
-
 #[test]
-fn a_stopped_peer_starts_from_its_fact(rt: HostRuntime) -> Result<(), Fail> {
+fn a_restarted_peer_keeps_its_fact(rt: HostRuntime) -> Result<(), Fail> {
     let alloc = rt.alloc();
     let view = view()?;
     let one = starting(alloc, view)?;
     let stores = one.into_stores();
     let again = started(view, stores)?;
-    assert!(rt; has_only(&again, elected(view)));
+    assert!(rt; keeps(again, elected(view)));
     Ok(())
 }
 
 #[test]
-fn room_for_sends_is_made(rt: HostRuntime) -> Result<(), Fail> {
+fn reserve_makes_room_for_sends(rt: HostRuntime) -> Result<(), Fail> {
     let alloc = rt.alloc();
     let mut out = Outbox::new(alloc);
     out.reserve(8)?;
