@@ -13,7 +13,7 @@ use Rattle.world_spec.specs.Nodes.{Taken, taken}
 use Rattle.world_model.specs.Peers.{MemPeer, node_of}
 use Rattle.world_model.specs.Refusals.{world_error}
 
--- the error of a refusal
+-- an error as an error result
 pub as_error : {T : Type 0} (e x : PeerError) → e ≡ x → IsErrOf {T = T} (Err e) x
 as_error e x is = rw is refl
 

@@ -1,4 +1,4 @@
--- The peers of a world, seen as the nodes of a run.
+-- The peers of a world as the nodes of a run.
 use Rattle.std.specs.Prelude.{◌≡◌, ◌+◌, ℕ, Bool, true, false, List, Some, slice_get}
 use Rattle.ens_outside.specs.MemStores.{Objects, Nodes}
 use Rattle.peer_core.specs.declared.peer.Peer.{Peer}
@@ -10,7 +10,7 @@ use Rattle.world_spec.specs.declared.held.HeldFact.{HeldFact}
 abbrev pub MemPeer : Type 0
 MemPeer = Peer Objects Nodes HeldFact
 
--- a peer that was halted is down
+-- a halted peer is down
 abbrev pub node_by : Bool → State → MemStores → Node
 node_by true x s = Down s
 node_by false x s = Up x s

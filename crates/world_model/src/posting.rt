@@ -12,7 +12,7 @@ use network::Network;
 use peer_core::Outgoing;
 use wire_frames::Frame;
 
-/// Sends what a peer sends, until it is all sent or too much was.
+/// Sends the messages of the peer `from` in order, and stops at the first that cannot be sent.
 pub(crate) fn post_all(
     network: &mut Network,
     from: PeerId,

@@ -1,4 +1,4 @@
--- A calm in which no more messages are delivered than were ever sent leaves none that waits.
+-- A calm that may deliver as many messages as were ever sent leaves none waiting.
 use Rattle.std.proofs.Common.{◌≡◌, ◌≤◌, ◌<◌, ◌+◌, ◌-◌, arith, ℕ, zero, suc, Bool, true, List, [], ◌∷◌, ◌++◌, length, map, Option, None, Some, refl, sym}
 use Rattle.std.specs.Prelude.{slice_get}
 use Rattle.std.proofs.lemmas.List.{length_push}
@@ -15,7 +15,7 @@ use Rattle.world_spec.specs.Runs.{Run, opening_run, place_of, frame_from, posted
 use Rattle.world_spec.specs.Messages.{IsCalm}
 use Rattle.world_spec.proofs.Growth.{sent_in}
 
--- of each message it is known whether it waits, and none before this number waits and passes the test
+-- there is one flag for each message, and no message below this number waits and passes the test
 record Quiet (test : Frame → Bool) (k : ℕ) (m : Mail) : Type 0 where
   mail : IsMail m
   within : k ≤ length m.sent
@@ -52,7 +52,7 @@ module _ (test : Frame → Bool) (k : ℕ) where
   delivered_quiet : (n : ℕ) (w : Run) → Quiet test k w.mail → Quiet test k (delivered n w).mail
   delivered_quiet n w quiet = received_if_quiet (slice_get w.mail.sent n) n w quiet
 
-  -- where that is so of as many as were sent, none waits
+  -- if no message sent waits and passes the test, there is no oldest one
   none_waits : (m : Mail) (answer : Option ℕ) → answer ≡ oldest test m → IsClear test k m → length m.sent ≤ k → answer ≡ None
   none_waits m None is clear all = refl
   none_waits m (Some n) is clear all =
@@ -60,7 +60,7 @@ module _ (test : Frame → Bool) (k : ℕ) where
       let beyond = oldest_is_beyond test m k n clear (sym is) in
       absurd (omega (arith, before, beyond, all))
 
--- the delivery of the oldest, which is this one
+-- the delivery of the oldest message
 past_quiet : (test : Frame → Bool) (n : ℕ) (f : Option Frame) (w : Run) → slice_get w.mail.sent n ≡ f → n < length w.mail.sent → IsMail w.mail → oldest test w.mail ≡ Some n → Quiet test (n + 1) (received_if f n w).mail
 past_quiet test n None w is before mail oldest = absurd (past w.mail.sent n is before) where
   past : (sent : List Frame) (n : ℕ) → slice_get sent n ≡ None → n < length sent → ⊥
@@ -72,7 +72,7 @@ past_quiet test n (Some f) w is before mail oldest =
     (record { mail = is_mail_settled w.mail n mail; within = omega (arith, before); clear = clear_past_oldest test w.mail n oldest })
 
 module _ (peers : List Bool) where
-  -- a calm goes on from one oldest to a later one
+  -- each delivery of a calm is of a later message than the one before
   ends_from : (n k : ℕ) (w : Run) → Quiet (is_among peers) k w.mail → sent_in (calmed peers n w) ≤ k + n → oldest (is_among peers) (calmed peers n w).mail ≡ None
   unfolding calmed
   ends_from zero k w quiet few = none_waits (is_among peers) k w.mail (oldest (is_among peers) w.mail) refl quiet.clear (omega (arith, few))
@@ -119,16 +119,16 @@ run_to_last : (events : List ScheduleEvent) (last : ScheduleEvent) (w : Run) →
 run_to_last [] last w = refl
 run_to_last (event ∷ more) last w = run_to_last more last (applied event w)
 
--- of each message of a run it is known whether it waits
+-- in every run there is one flag for each message
 known : (peers : ℕ) (view : List ℕ) (events : List ScheduleEvent) → IsMail (run_of_schedule peers view events).mail
 known peers view events =
     let test : Frame → Bool = λ f. true in
     (run_quiet test 0 events (opening_run peers view) (record { mail = is_mail_at_first; within = omega arith; clear = clear_at_first test no_mail })).mail
 
--- a calm line leaves none that waits
+-- a calm line leaves no message waiting
 pub calm_ends : (peers : ℕ) (view : List ℕ) (events : List ScheduleEvent) → IsCalm everyone (run_of_schedule peers view (events ++ Calm ∷ []))
 calm_ends peers view events = rw (run_to_last events Calm (opening_run peers view)) (ends everyone most_messages (run_of_schedule peers view events) (known peers view events))
 
--- and so does one of some peers between these
+-- a calm line among some peers leaves none waiting between them
 pub calm_among_ends : (peers : ℕ) (view : List ℕ) (events : List ScheduleEvent) (members : List ℕ) → IsCalm (set_of members) (run_of_schedule peers view (events ++ CalmAmong members ∷ []))
 calm_among_ends peers view events members = rw (run_to_last events (CalmAmong members) (opening_run peers view)) (ends (set_of members) most_messages (run_of_schedule peers view events) (known peers view events))

@@ -1,4 +1,4 @@
--- Messages are never removed, and peers neither.
+-- Messages and peers are never removed.
 use Rattle.std.proofs.Common.{◌≡◌, ◌≤◌, ◌+◌, ◌-◌, ◌∙◌, ℕ, zero, suc, Option, None, Some, List, [], ◌∷◌, length, refl, map, arith}
 use Rattle.std.proofs.lemmas.List.{length-append, length-set}
 use Rattle.std.specs.Prelude.{Bool, slice_get}
@@ -12,7 +12,7 @@ use Rattle.world_spec.specs.Lines.{everyone, set_of, applied, run_from}
 use Rattle.world_spec.specs.Nodes.{Node, Taken, taken}
 use Rattle.world_spec.specs.Runs.{Run, place_of, frame_from, posted_all, with_taken, stepped_at, stepped, ticked, received_if, delivered, delivered_if, going_on, calmed}
 
--- how many messages were sent
+-- the number of messages sent
 abbrev pub sent_in : Run → ℕ
 sent_in w = length w.mail.sent
 
@@ -53,7 +53,7 @@ calmed_grows peers (suc n) w = going (oldest (is_among peers) w.mail) (λ v. cal
   going None later = omega arith
   going (Some k) later = omega (arith, delivered_grows k w, later (delivered k w))
 
--- how many peers there are
+-- the number of peers
 abbrev pub peers_in : Run → ℕ
 peers_in w = length w.nodes
 
@@ -88,7 +88,7 @@ calmed_same peers (suc n) w = going (oldest (is_among peers) w.mail) (λ v. calm
   going None later = refl
   going (Some k) later = later (delivered k w) ∙ delivered_same k w
 
--- no line changes how many peers there are
+-- no line changes the number of peers
 pub applied_same : (event : ScheduleEvent) (w : Run) → peers_in (applied event w) ≡ peers_in w
 applied_same (Tick peer ticks) w = ticked_same peer ticks w
 applied_same (Deliver message) w = delivered_same (message - 1) w
@@ -98,7 +98,7 @@ applied_same Calm w = calmed_same everyone most_messages w
 applied_same (CalmAmong members) w = calmed_same (set_of members) most_messages w
 applied_same event w = refl
 
--- and none removes a message
+-- no line removes a message
 passed_grows : (n : Option ℕ) (w : Run) → sent_in w ≤ sent_in (delivered_if n w)
 passed_grows None w = omega arith
 passed_grows (Some n) w = delivered_grows n w

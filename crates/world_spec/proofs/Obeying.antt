@@ -1,4 +1,4 @@
--- Every message of a run goes between peers and obeys the grammar of frames.
+-- Every message of a run goes from a peer to a peer and obeys the grammar of frames.
 use Rattle.std.proofs.Common.{◌≤◌, ◌-◌, arith, ℕ, zero, suc, Bool, List, [], ◌∷◌, ◌++◌, map, Option, None, Some}
 use Rattle.std.specs.Prelude.{All, IfSome, slice_get}
 use Rattle.std.proofs.lemmas.List.Elements.{All-nil, All-cons, All-head, All-tail, All-push}
@@ -21,7 +21,7 @@ use Rattle.world_spec.specs.Nodes.{MemStores, Node, Up, Down, Taken, answer, sto
 use Rattle.world_spec.specs.Runs.{Run, opening_run, place_of, frame_from, posted_all, with_taken, stepped_at, stepped, ticked, received, received_if, delivered, delivered_if, going_on, calmed}
 use Rattle.world_spec.specs.Messages.{MayBeSent}
 
--- all messages so far
+-- all messages so far may be sent
 abbrev pub AllMayBeSent : Run → Type 0
 AllMayBeSent w = All MayBeSent w.mail.sent
 
@@ -30,7 +30,7 @@ run_obeys (Done x out) s ns follows = follows
 run_obeys (Say note p) s ns follows = run_obeys p s (ns ++ note ∷ []) follows
 run_obeys (Ask call next) s ns follows = run_obeys (next (answer s call)) (stores_after s call) ns (follows.1 (answer s call))
 
--- all that a node sends in a step may be sent
+-- all messages that a node sends in a step may be sent
 pub taken_obeys : (me : ℕ) (event : Event) (node : Node) → AllObey (taken me event node).out
 taken_obeys me event (Up x s) = run_obeys (step_of me event x) s [] (steps_follow me event x)
 taken_obeys me event (Down s) = All-nil MaySend
@@ -100,6 +100,6 @@ run_from_may : (peers : ℕ) (events : List ScheduleEvent) (w : Run) → peers �
 run_from_may peers [] w few stand old = old
 run_from_may peers (event ∷ more) w few stand old = run_from_may peers more (applied event w) few stand.1 (effect_may peers event w few stand.0 old)
 
--- every message of the run of a schedule may be sent
+-- every message in the run of a schedule may be sent
 pub run_may : (peers : ℕ) (view : List ℕ) (events : List ScheduleEvent) → peers ≤ 31 → AllMayStand peers events → All MayBeSent (run_of_schedule peers view events).mail.sent
 run_may peers view events few stand = run_from_may peers events (opening_run peers view) few stand (All-nil MayBeSent)

@@ -1,4 +1,4 @@
--- One tick, or one delivery, and then the rest.
+-- One tick or one delivery, followed by the rest.
 use Rattle.std.proofs.Common.{◌≡◌, ◌<◌, ◌+◌, ◌-◌, ℕ, suc, None, Some, List, refl, ap, ◌∙◌, arith}
 use Rattle.std.specs.Prelude.{Bool, true, false, replicate, slice_index_or, slice_set}
 use Rattle.network.specs.Mail.{is_among, oldest}

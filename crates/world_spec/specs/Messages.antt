@@ -1,4 +1,4 @@
--- What the messages of a run keep to.
+-- The messages of a run.
 use Rattle.std.specs.Prelude.{◌≡◌, ◌≤◌, Bool, None, List, length}
 use Rattle.network.specs.Mail.{IsBetweenPeers, is_among, oldest, most_messages}
 use Rattle.wire_frames.specs.Messages.{Obeys}
@@ -9,6 +9,6 @@ use Rattle.world_spec.specs.Runs.{Run}
 abbrev pub MayBeSent : Frame → Type 0
 MayBeSent f = IsBetweenPeers f × Obeys f.message
 
--- where no more messages were sent than ever are, none between these peers waits
+-- if the run sent at most as many messages as are ever sent, none waits between these peers
 abbrev pub IsCalm : List Bool → Run → Type 0
 IsCalm peers w = length w.mail.sent ≤ most_messages → oldest (is_among peers) w.mail ≡ None

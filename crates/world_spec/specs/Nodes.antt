@@ -1,4 +1,4 @@
--- A peer of the world over its stores in memory, and what a step of it comes to.
+-- A peer of a world over its stores in memory, and its steps.
 use Rattle.std.specs.Prelude.{ℕ, Some, None, List, [], ◌∷◌, ◌++◌}
 use Rattle.ens_outside.specs.MemStores.{Objects, Nodes}
 use Rattle.register_model.specs.declared.note.Note.{Note}
@@ -11,11 +11,11 @@ use Rattle.peer_core.specs.declared.state.State.{State}
 use Rattle.peer_core.specs.declared.stores.Stores.{Stores}
 use Rattle.world_spec.specs.declared.held.HeldFact.{HeldFact}
 
--- the stores of a peer: objects, nodes, and the fact
+-- the stores of a peer: the objects, the nodes, and the fact
 abbrev pub MemStores : Type 0
 MemStores = Stores Objects Nodes HeldFact
 
--- stores that hold nothing
+-- empty stores
 abbrev pub empty_stores : MemStores
 empty_stores = record {
   backend = record { entries = []; plan = record { listed = []; calls = 0; faults = 0 } };
@@ -23,7 +23,7 @@ empty_stores = record {
   facts = record { kept = None };
 }
 
--- what a call is answered. No rule asks for an object or a node yet, and there are none
+-- the answer to a call; no rule asks for an object or a node yet, and there are none
 abbrev pub answer : MemStores → (call : Call) → AnswerOf call
 answer s Load = s.facts.kept
 answer s (Save fact) = tt
@@ -40,43 +40,43 @@ abbrev pub stores_after : MemStores → Call → MemStores
 stores_after s (Save fact) = record s { facts = record { kept = Some fact } }
 stores_after s call = s
 
--- what a plan came to
+-- how the run of a plan ended, the stores after it, and its notes
 pub record Ended : Type 0 where
   pub ending : Ending
   pub stores : MemStores
   pub notes : List Note
 
--- the run of a plan over stores in memory, of which no call is refused
+-- the run of a plan over stores in memory, which fail no call
 abbrev pub run : Plan → MemStores → List Note → Ended
 run (Done x out) s ns = record { ending = Finished x out; stores = s; notes = ns }
 run (Say n p) s ns = run p s (ns ++ n ∷ [])
 run (Ask call next) s ns = run (next (answer s call)) (stores_after s call) ns
 
--- a peer that runs, in its state over its stores; or the stores of one that is down
+-- a running peer, with its state and stores, or the stores of a peer that is down
 pub data Node : Type 0 where
   Up : (state : State) (stores : MemStores) → Node
   Down : (stores : MemStores) → Node
 
--- what a step came to: the peer after it, what left the peer, and what was noted
+-- the outcome of a step: the peer after it, its output, and its notes
 pub record Taken : Type 0 where
   pub node : Node
   pub out : Out
   pub notes : List Note
 
--- the same, by how the plan ended
+-- the outcome of a step, from the ending of its plan; a peer whose plan stopped is down
 abbrev pub taken_by : Ending → MemStores → List Note → Taken
 taken_by (Finished x out) s ns = record { node = Up x s; out = out; notes = ns }
 taken_by (Stopped error) s ns = record { node = Down s; out = nothing; notes = ns }
 
--- the same, by what the plan came to
+-- the outcome of a step, from the run of its plan
 abbrev pub taken_of : Ended → Taken
 taken_of e = taken_by e.ending e.stores e.notes
 
--- a step of the peer of this number on an event. One that is down takes none
+-- the outcome of a step of peer `me` on an event; a peer that is down takes no step
 abbrev pub taken : ℕ → Event → Node → Taken
 taken me event (Up x s) = taken_of (run (step_of me event x) s [])
 taken me event (Down s) = record { node = Down s; out = nothing; notes = [] }
 
--- a peer that starts on empty stores, in an ensemble that opens with this view
+-- a peer started on empty stores, in an ensemble that opens in this view
 abbrev pub opening_node : List ℕ → Node
 opening_node view = (taken_of (run (start_of view) empty_stores [])).node

@@ -4,14 +4,14 @@ ghost use Rattle.world_spec.specs.Facts.{HeldDoes, HeldRefuses, kept_of};
 use fact_store::{FactKeeper, KeepError};
 use peer_fact::{Change, Fact};
 
-/// Where a peer of a world keeps its fact, in memory. No call fails.
+/// Keeps the fact of a peer in memory. No call fails.
 #[derive(Debug, Drop)]
 pub struct HeldFact {
     pub kept: Option<Fact>,
 }
 
 impl HeldFact {
-    /// One that keeps nothing.
+    /// Makes a keeper without a fact.
     pub fn empty() -> HeldFact
         ensures { result ≡ record { kept = None } }
     {

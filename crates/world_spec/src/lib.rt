@@ -1,11 +1,12 @@
-//! The run of a schedule as a plain function: peers over stores in memory, the messages between them,
-//! and what each line of a schedule does to them.
+//! Specification only: the run of a schedule as a pure function of its lines. It covers the peers
+//! over stores in memory, the messages between them, and the effect of each line.
 //!
-//! A peer of the world keeps its fact in a `HeldFact`, which never fails. What a step of a peer comes to
-//! over such stores is a function of its state and the event (`specs/Nodes`), since a plan over them has
-//! one run. The state of a world, and what each line does to it, is `specs/Runs` and `specs/Lines`.
-//! Here are the lines `tick`, `deliver`, `pass`, `lose` and `calm`. Of the others nothing is done yet,
-//! but that a call line names its key. What holds of every run stands in `laws.rt`.
+//! A peer of a world keeps its fact in a `HeldFact`, which never fails. A plan over stores in
+//! memory has exactly one run, so a step of a peer is a function of its state and the event
+//! (`specs/Nodes`). The state of a world is in `specs/Runs`, the effect of each line in
+//! `specs/Lines`. The lines `tick`, `deliver`, `pass`, `lose` and `calm` have an effect. The other
+//! lines are not supported yet and have none, except that a call line records its key. `laws.rt`
+//! states what holds of every run.
 #![tactic(auto)]
 
 mod held;
