@@ -30,7 +30,7 @@ use Rattle.election_refinement.specs.Refinement.{IsFirst}
 module _ (c : Course) (from : ℕ) (new : Fact) (x : State) (st : MemStores) (out : Out) (next : Rest) (h : Here c x st out) (told : IsFirst h.ledger new) (go : Fits c next) where
   open c use {peer as p}
 
-  -- the plan of a row
+  -- the plan of a row is good
   abbrev does : PhaseOut → Type 0
   does row = Good c (performed row x out (λ y more. next (moved (waiting row.then) y) more)) st
 

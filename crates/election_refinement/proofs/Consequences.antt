@@ -1,4 +1,4 @@
--- What the laws of the abstract protocol say of a world that a run of it tells.
+-- What the laws of the abstract protocol mean for a world that refines it.
 use Rattle.std.proofs.Common.{◌≡◌, ℕ, suc, ◌<◌, ◌≤◌, ◌⊎◌, List, [], ◌∷◌, ◌++◌, Some, arith, ap, le_trans, ◌∙◌, sym, subst}
 use Rattle.std.proofs.lemmas.Bool.Decides.{nat_tests}
 use Rattle.std.proofs.lemmas.Option.{same_Some}
@@ -19,7 +19,7 @@ use Rattle.world_spec.specs.Runs.{Run}
 use Rattle.election_refinement.specs.Refinement.{first_seq, fact_place, IsKnown, IsSaved, IsLeading, PhaseHolds, NodeHolds}
 use Rattle.election_refinement.specs.Worlds.{Refines, ledger_after, IsRefinement, GoesOn, kept_by, HasFact, Leads, BallotsRise, Agree, FactsAgree, EpochsHaveOneLeader, FactsAreComplete, LedEpochsAreKept}
 
--- a fact that a peer keeps is the one that it saved
+-- the fact that a peer's stores keep is the one that it saved
 saved_of : (l : Ledger) (p : ℕ) (node : Node) (f : Fact) → NodeHolds l p node → kept_by node ≡ Some f → IsSaved l p f
 saved_of l p (Up x st) f holds kept = let same : x.fact ≡ f = same_Some x.fact f (sym holds.kept ∙ kept) in subst (IsSaved l p) same holds.saved
 saved_of l p (Down st) f holds kept = absurd holds
@@ -27,7 +27,7 @@ saved_of l p (Down st) f holds kept = absurd holds
 saved_in : (view : List ℕ) (l : Ledger) (w : Run) → Refines view l w → (place : ℕ) (f : Fact) → HasFact w place f → IsSaved l (suc place) f
 saved_in view l w refines place f has = saved_of l (suc place) has.node f (refines.nodes place has.node has.at) has.kept
 
--- no ballot falls along a run
+-- no ballot decreases along a run
 ballots_rise_on : (view : List ℕ) (more steps : List Step) → IsRun view (more ++ steps) → (q : ℕ) → (ledger_after view steps).ballot q ≤ (ledger_after view (more ++ steps)).ballot q
 ballots_rise_on view [] steps run q = omega arith
 ballots_rise_on view (step ∷ more) steps run q = le_trans (ballots_rise_on view more steps run.0 q) ((run_stays view (more ++ steps) step run).ballot q)
@@ -54,14 +54,14 @@ pub agrees : (view : List ℕ) (steps : List Step) (w : Run) → IsRefinement vi
 agrees view steps w refinement p q f g has too same seq =
     known_agree (ledger_after view steps) f g (saved_in view (ledger_after view steps) w refinement.refines p f has).known (saved_in view (ledger_after view steps) w refinement.refines q g too).known same
 
--- what a peer that leads says
+-- what a leading peer asserts
 leading_of : (l : Ledger) (p : ℕ) (x : State) (st : MemStores) (a : Leadership) → NodeHolds l p (Up x st) → x.phase ≡ phases.Leading a → IsLeading l p x.fact a
 leading_of l p x st a holds leads = subst (PhaseHolds l p x.fact) leads holds.phase
 
 leading_in : (view : List ℕ) (l : Ledger) (w : Run) → Refines view l w → (place : ℕ) (a : Leadership) → (leads : Leads w place a) → IsLeading l (suc place) leads.state.fact a
 leading_in view l w refines place a leads = leading_of l (suc place) leads.state leads.stores a (refines.nodes place (Up leads.state leads.stores) leads.at) leads.leads
 
--- the proposer of the epoch that a peer leads is the peer
+-- a peer is the proposer of the epoch that it leads
 leader_of : (view : List ℕ) (l : Ledger) (w : Run) → Refines view l w → (place : ℕ) (a : Leadership) → Leads w place a → a.fact.epoch.proposer ≡ suc place
 leader_of view l w refines place a leads = let leading = leading_in view l w refines place a leads in ap (λ (e : Epoch). e.proposer) leading.started.at_ballot ∙ leading.started.own
 

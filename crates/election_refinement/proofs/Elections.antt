@@ -1,4 +1,4 @@
--- Rules 12 and 13: promises are counted, and an epoch begins.
+-- Rules 12 and 13: promises are counted, and an epoch starts.
 use Rattle.std.proofs.Common.{◌≡◌, ℕ, ◌<◌, ◌≤◌, Bool, true, false, ◌==◌, List, [], ◌∷◌, inl, inr, arith, refl, ap, le_trans, ◌∙◌, sym, subst}
 use Rattle.std.proofs.lemmas.Bool.Decides.{nat_tests}
 use Rattle.joint_views.specs.Quorums.{is_quorum}
@@ -35,7 +35,7 @@ use Rattle.election_refinement.proofs.Saving.{mark_here, accepted_here}
 use Rattle.election_refinement.proofs.Sets.{alone_then, joined_then, posted_to_hold}
 use Rattle.election_refinement.specs.Refinement.{first_seq, fact_place, IsKnown, IsFirst, HasPromised, IsPreparing, IsStarting, IsPrepare, IsPromise}
 
--- a known fact is one of the ledger
+-- a known fact is a fact of the ledger
 fact_of_known : (l : Ledger) (f : Fact) → IsKnown l f → IsFact l (fact_place f)
 fact_of_known l f known = by_number (epoch_number f.epoch == 0) refl
   where
@@ -49,18 +49,18 @@ fact_of_known l f known = by_number (epoch_number f.epoch == 0) refl
     by_number true t = inl (opening (epoch_number f.epoch) f.seq known.seq t)
     by_number false t = inr (inl (known.elected, later (epoch_number f.epoch) f.seq known.seq t))
 
--- and no second one
+-- a known fact is not the second of its epoch
 pub not_second : (l : Ledger) (f : Fact) → IsKnown l f → (f.seq == 2) ≡ false
 not_second l f known = plain (epoch_number f.epoch) f.seq known.seq
   where
     plain : (n s : ℕ) → s ≡ first_seq n → (s == 2) ≡ false
     plain n s e = grind (arith, nat_tests)
 
--- the next views of a known fact are its own
+-- the next views of a known fact are its own views
 pub same_views : (l : Ledger) (f : Fact) → IsKnown l f → views_after f ≡ l.views (epoch_number f.epoch)
 same_views l f known = ap (λ c. changed_views c f.views) known.change ∙ known.views
 
--- a peer that trusts its tree may accept a fact of one view
+-- a peer that trusts its tree may accept a fact with one view
 pub may_accept_one : (view : List ℕ) (trusted : Bool) (me : ℕ) (new : Fact) → trusted ≡ true → new.views ≡ view ∷ [] → may_accept trusted me new ≡ true
 may_accept_one view trusted me new trusts one = rw trusts (rw one refl)
 
@@ -72,7 +72,7 @@ starts_at_once trusted me new may = rw may refl
 module _ (c : Course) where
   open c use {peer as p}
 
-  -- rule 13, where enough promised and the peer is a member
+  -- rule 13, for a member, with a quorum of promises
   module _ (x : State) (st : MemStores) (out : Out) (h : Here c x st out) (base : Fact) (promises : List Bool)
       (preparing : IsPreparing h.ledger p x.fact base promises) (quorum : is_quorum (holds promises) base.views ≡ true) where
     abbrev d : ℕ
@@ -158,7 +158,7 @@ module _ (c : Course) where
     starts_good next go = subst (λ (r : Election × PhaseOut). Good c (done_then (plan_14 p) r.1 (electing r.0 x) out next) st)
         (sym (starts_at_once x.trusted p new (may_accept_one c.view x.trusted p new h.peer.trusted one_view))) (begun_good next go)
 
-  -- rule 13, in a phase
+  -- rule 13 of a preparing peer
   preparing_13_passes : (base : Fact) (promises asked : List Bool) (age : ℕ)
       → PassesWhere c (λ l x. IsPreparing l p x.fact base promises) (while_13 (phases.Electing (Preparing base promises asked age)) p)
   preparing_13_passes base promises asked age x st out next h preparing go =
@@ -181,7 +181,8 @@ module _ (c : Course) where
   pub rule_13_passes : Passes c (plan_13 p)
   rule_13_passes x st out next h go = while_13_passes x.phase x st out next h h.peer.phase go
 
-  -- rule 12: one that promised is counted, and the base is no older than before and than what it told
+  -- rule 12 counts a promise; the base is then no older than it was, and no older than the promised
+  -- fact
   promised_more : (l : Ledger) (q d b now : ℕ) → b ≤ now → HasPromised l q d b → HasPromised l q d now
   promised_more l q d b now low has = record { stands = has.stands; told = λ a accepted below. le_trans (has.told a accepted below) low }
 
@@ -199,7 +200,7 @@ module _ (c : Course) where
   }
 
   module _ (from : ℕ) (base promised : Fact) (promises asked : List Bool) (age : ℕ) where
-    -- a promise of the own ballot
+    -- a promise of the peer's own ballot
     own_12_passes : PassesWhere c (λ l x. IsPreparing l p x.fact base promises × IsPromise l from x.fact.ballot promised)
         (λ x out next. done_then (plan_13 p) (promised_by base promises asked age p from x.fact.ballot promised).1 (electing (promised_by base promises asked age p from x.fact.ballot promised).0 x) out next)
     own_12_passes x st out next h so go =

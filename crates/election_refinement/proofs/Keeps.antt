@@ -1,4 +1,5 @@
--- What a step of one peer leaves of the ledger: to the other peers, and to all that was said before.
+-- What the steps of one peer preserve in the ledger: for the other peers, and for everything
+-- asserted before.
 use Rattle.std.proofs.Common.{◌≡◌, ℕ, ◌<◌, ◌≤◌, Bool, true, false, ◌==◌, if◌then◌else◌, eqb-true, List, arith, refl, ap, le_trans, ◌∙◌, sym}
 use Rattle.std.specs.Prelude.{All}
 use Rattle.std.proofs.lemmas.Bool.Decides.{nat_tests}
@@ -21,7 +22,7 @@ use Rattle.world_spec.specs.Nodes.{Node, Up, Down}
 use Rattle.election_refinement.proofs.Numbers.{proposer_of-number}
 use Rattle.election_refinement.specs.Refinement.{IsKnown, IsFirst, HasPromised, IsProbing, IsPreparing, IsStarting, IsLeading, PhaseHolds, NodeHolds, MessageHolds, SendHolds, FrameHolds}
 
--- steps of peer p led from the ledger l to m
+-- the steps of peer p led from ledger l to ledger m
 pub record Keeps (l m : Ledger) (p : ℕ) : Type 0 where
   pub ballot : (q : ℕ) → (p ≡ q → ⊥) → m.ballot q ≡ l.ballot q
   pub fact : (q : ℕ) → (p ≡ q → ⊥) → m.fact q ≡ l.fact q
@@ -81,7 +82,7 @@ elect_keeps l p d b own fresh = record {
 pub accept_keeps : (l : Ledger) (p d : ℕ) → l.ballot p ≡ d → Keeps l (accept l p d) p
 accept_keeps l p d stands = grind (arith, nat_tests)
 
--- ## What was said before
+-- ## What was asserted before
 
 module _ (l m : Ledger) (p : ℕ) (k : Keeps l m p) where
   pub known_keeps : (f : Fact) → IsKnown l f → IsKnown m f

@@ -1,4 +1,4 @@
--- The world of a schedule before its first event, and after its last.
+-- The world of a schedule before its first event and after its last.
 use Rattle.std.proofs.Common.{◌≡◌, ℕ, zero, suc, ◌≤◌, true, List, [], ◌∷◌, Some, slice_get, replicate, arith, refl, sym, subst}
 use Rattle.std.proofs.lemmas.Bool.Decides.{nat_tests}
 use Rattle.std.proofs.lemmas.List.Elements.{All-nil}
@@ -52,7 +52,7 @@ module _ (view : List ℕ) where
     refines = record { orderly = orderly_first; nodes = λ place node at. all_started peers place node at (suc place); sent = All-nil (FrameHolds (opening_ledger view)) };
   }
 
-  -- an event leads on from the run that tells the world before it
+  -- the world after an event refines an extension of the run
   pub event_refines : (steps : List Step) (peers : ℕ) (event : ScheduleEvent) (w : Run) → peers ≤ 31 → MayStand peers event → IsRefinement view steps w → GoesOn view steps (applied event w)
   event_refines steps peers event w few may refinement = applied_refines view steps peers few event w may (record { more = []; refinement = refinement })
 

@@ -20,7 +20,7 @@ use Rattle.election_refinement.proofs.Reaching.{Course}
 use Rattle.election_refinement.proofs.Ticks.{tick_passes, rule_6_passes}
 use Rattle.election_refinement.specs.Refinement.{MessageHolds}
 
--- what is delivered says what is so
+-- what a delivered message asserts holds
 abbrev pub EventHolds : Ledger → Event → Type 0
 EventHolds l (events.Deliver from message) = MessageHolds l from message
 EventHolds l events.Tick = Unit {0}

@@ -26,7 +26,7 @@ use Rattle.election_refinement.specs.Refinement.{IsKnown, IsProbing}
 module _ (c : Course) where
   open c use {peer as p}
 
-  -- rule 9, in a phase
+  -- rule 9, in any phase
   while_9_passes : (phase : Phase) → PassesWhere c (InPhase c phase) (while_9 phase p)
   while_9_passes (phases.Probing b) x st out next h old go =
       let now = here_silent c _ st out (here_phase c x st out h (phases.Probing b) old) in
@@ -46,7 +46,7 @@ module _ (c : Course) where
       let now = here_phase c x st out h (phases.Probing (first_probing x.fact p)) (record { best = h.peer.saved.known; newer = omega arith; counts_best = omega arith; counts_own = omega arith }) in
       rule_9_passes _ st _ next (here_sends c _ st out now _ (posted_to_hold h.ledger p (others_of p (members x.fact.views)) messages.Probe tt)) go
 
-  -- rule 8: the sender is heard, and its fact may be the best
+  -- rule 8: the sender is heard, and its fact may become the best
   bettered_holds : (l : Ledger) (fact reply : Fact) (b : Probing) (from : ℕ) → IsProbing l fact b → IsKnown l reply → is_newer reply b.best ≡ true → IsProbing l fact (bettered (heard_from b from reply) reply)
   bettered_holds l fact reply b from old told newer = record {
     best = told;

@@ -35,7 +35,7 @@ use Rattle.election_refinement.specs.Refinement.{IsKnown, HasPromised, IsProbing
 module _ (c : Course) where
   open c use {peer as p}
 
-  -- rule 11, above the ballot
+  -- rule 11, for a ballot above the peer's
   promises_passes : (from : ℕ) (ballot : Epoch) → IsEpoch ballot → PassesWhere c (λ l x. epoch_number x.fact.ballot < epoch_number ballot) (λ x out next. done (promises_to from (at_ballot x.fact ballot)) x out next)
   promises_passes from ballot epoch x st out next h above go =
       let now = raised_here c x st out h ballot epoch (omega (arith, above)) follower tt in
@@ -58,7 +58,7 @@ module _ (c : Course) where
       (λ same. go x st _ (here_silent c x st out h))
       (λ other. refusal_passes c from ballot x st out next h go))
 
-  -- rule 10, where the best fact and the count are those of a peer that probes
+  -- rule 10, with the best fact and the count of a probing peer
   module _ (probing : Probing) (x : State) (st : MemStores) (out : Out) (h : Here c x st out) (old : IsProbing h.ledger x.fact probing) where
     abbrev ballot : Epoch
     ballot = next_ballot probing.count p
@@ -75,7 +75,8 @@ module _ (c : Course) where
     above_best : epoch_number probing.best.epoch < epoch_number ballot
     above_best = le_trans (omega (arith, old.best.below)) (count_number probing.best.ballot ballot old.best.ballot (omega (arith, old.counts_best)))
 
-    -- an elected epoch has its proposer at it or beyond
+    -- the ballot is not elected yet, since the proposer of an elected epoch is at its ballot or
+    -- above
     fresh : (b : Bool) → h.ledger.elected (epoch_number ballot) ≡ b → h.ledger.elected (epoch_number ballot) ≡ false
     fresh false e = e
     fresh true e =

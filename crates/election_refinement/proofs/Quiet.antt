@@ -1,4 +1,4 @@
--- Rules that save nothing: a probe and a beat are answered, a refusal is heeded, and acceptances are counted.
+-- Rules that save nothing: they answer a probe or a beat, heed a refusal, or count an acceptance.
 use Rattle.std.proofs.Common.{◌≡◌, ℕ, Bool, true, ◌&&◌, ◌==◌, if◌then◌else◌, List, None, refl, ap, ◌∙◌, sym, subst}
 use Rattle.std.proofs.lemmas.Bool.{and_parts}
 use Rattle.joint_views.proofs.Majorities.{quorum_more}
@@ -69,7 +69,7 @@ module _ (c : Course) where
   rule_15_passes (phases.Following f) ballot cause x st out next h go = go x st out h
   rule_15_passes (phases.Probing b) ballot cause x st out next h go = go x st out h
 
-  -- rule 14, of a peer that starts
+  -- rule 14, for a starting peer
   leads : (l : Ledger) (fact new : Fact) (accepts : List Bool) → IsStarting l p fact new accepts → is_quorum (holds accepts) new.views ≡ true
       → IsLeading l p fact (record { fact = new; accepts = accepts; finishing = None })
   leads l fact new accepts starting quorum = record {
@@ -86,7 +86,7 @@ module _ (c : Course) where
       (leads h.ledger x.fact new accepts starting (and_parts (holds accepts p) (is_quorum (holds accepts) new.views) enough).1))))
       (λ few. go _ st _ (here_silent c _ st out (here_phase c x st out h (phases.Electing (Starting new accepts age)) starting)))
 
-  -- a peer that prepares or starts stays as it is
+  -- a preparing or starting peer stays as it is
   pub ignored_passes : (e : Election) → PassesWhere c (InPhase c (phases.Electing e)) (λ x out next. done (silent thens.Stay) (electing e x) out next)
   ignored_passes e x st out next h old go = go _ st _ (here_silent c _ st out (here_phase c x st out h (phases.Electing e) old))
 
@@ -100,7 +100,7 @@ module _ (c : Course) where
   pub rule_14_passes : Passes c (plan_14 p)
   rule_14_passes x st out next h go = while_14_passes x.phase x st out next h h.peer.phase go
 
-  -- rule 17: one that accepted is counted
+  -- rule 17: an acceptance is counted
   counted : (l : Ledger) (from seq : ℕ) (ballot : Epoch) (fact new : Fact) (accepts : List Bool) → IsAcceptance l from ballot seq → is_same ballot fact.ballot && seq == 1 ≡ true
       → IsStarting l p fact new accepts → IsStarting l p fact new (joined from accepts)
   counted l from seq ballot fact new accepts told test old = record {

@@ -1,4 +1,4 @@
--- The runs of the abstract protocol that go on by steps of one peer.
+-- The runs of the abstract protocol that extend a run by steps of one peer.
 use Rattle.std.proofs.Common.{◌≡◌, ℕ, ◌<◌, ◌≤◌, Bool, true, false, ◌==◌, eqb-true, List, [], ◌∷◌, ◌++◌, arith, refl, ap, le_trans, sym, subst}
 use Rattle.std.proofs.lemmas.Bool.Decides.{nat_tests}
 use Rattle.abstract_protocol.specs.Ledger.{Ledger, Place, raise, elect, accept, next_views, IsNew, MayElect, MayAccept}
@@ -12,7 +12,8 @@ use Rattle.election_refinement.proofs.Keeps.{Keeps, keeps_both, raise_keeps, ele
 use Rattle.election_refinement.specs.Refinement.{IsOrderly}
 use Rattle.election_refinement.specs.Worlds.{ledger_after}
 
--- with what a step of a peer begins: the steps of a run so far, and the ledger to which those and others led
+-- the beginning of a peer's step: the steps of the run so far, and the ledger before the peer's
+-- steps
 pub record Course : Type 0 where
   pub view : List ℕ
   pub steps : List Step
@@ -20,7 +21,8 @@ pub record Course : Type 0 where
   pub is_peer : IsPeer peer
   pub first : Ledger
 
--- the run goes on to this ledger, from the first one by steps of the peer alone
+-- an extension of the run leads to this ledger, and only the peer takes steps after the first
+-- ledger
 pub record Reaches (c : Course) (l : Ledger) : Type 0 where
   pub more : List Step
   pub run : IsRun c.view (more ++ c.steps)
@@ -64,7 +66,7 @@ module _ (c : Course) (l : Ledger) (r : Reaches c l) where
       at e h true same = subst (λ x. x ≤ l.ballot (proposer_of x)) (eqb-true d e same) (subst (λ q. d ≤ l.ballot q) own stands)
       at e h false other = r.orderly.reached e (elected_before e h other)
 
-  -- the peer, which is its proposer and stands there, is elected
+  -- the peer, proposer of the epoch and at its ballot or above, is elected
   pub elect_reaches : (d : ℕ) (b : Place) → p ≡ proposer_of d → d ≤ l.ballot p → (b.seq == 2) ≡ false → MayElect l d b → Reaches c (elect l d b)
   elect_reaches d b own stands first_fact may = record {
     more = Elect d b ∷ r.more;
@@ -74,7 +76,7 @@ module _ (c : Course) (l : Ledger) (r : Reaches c l) where
     orderly = elect_orderly d b own stands first_fact may.listed;
   }
 
-  -- the peer accepts the elected epoch at which it stands
+  -- the peer accepts the elected epoch of its ballot
   pub accept_reaches : (d : ℕ) → l.elected d ≡ true → l.ballot p ≡ d → (l.fact p).epoch < d → Reaches c (accept l p d)
   accept_reaches d elected stands newer = record {
     more = Accept p d ∷ r.more;

@@ -1,4 +1,5 @@
--- What a peer is after it saved a fact: at a greater ballot, or as the first fact of an epoch that it accepts.
+-- The state of a peer after it saved a fact: at a greater ballot, or as the first fact of an epoch
+-- that it accepts.
 use Rattle.std.proofs.Common.{◌≡◌, ℕ, ◌<◌, ◌≤◌, Bool, true, arith, refl, ap, le_trans, ◌∙◌, sym, subst}
 use Rattle.std.proofs.lemmas.Bool.Decides.{nat_tests}
 use Rattle.abstract_protocol.specs.Ledger.{Ledger, Place, mark, raise, accept}
@@ -55,7 +56,7 @@ accepted_saved l p new is_first stands now = record {
 module _ (c : Course) (x : State) (st : MemStores) (out : Out) (h : Here c x st out) where
   open c use {peer as p}
 
-  -- the fact is saved at a ballot that is no lower
+  -- the fact is saved at a ballot that is not lower
   abbrev pub raised_here : (ballot : Epoch) → IsEpoch ballot → epoch_number x.fact.ballot ≤ epoch_number ballot
       → (phase : Phase) → PhaseHolds (raise h.ledger p (epoch_number ballot)) p (at_ballot x.fact ballot) phase
       → Here c (record x { fact = at_ballot x.fact ballot; phase = phase }) (stores_after st (Save (at_ballot x.fact ballot))) out
@@ -68,14 +69,15 @@ module _ (c : Course) (x : State) (st : MemStores) (out : Out) (h : Here c x st 
         sends = sends_keep h.ledger (raise h.ledger p (epoch_number ballot)) p (raise_keeps h.ledger p (epoch_number ballot) may) p out.sends h.sends;
       }
 
-  -- what the peer accepted is no later than its fact, so that it promises with it
+  -- the peer accepted nothing later than its fact, so it may promise with it
   pub own_promise : (d b : ℕ) → epoch_number x.fact.epoch ≤ b → HasPromised (raise h.ledger p d) p d b
   own_promise d b low = record {
     stands = subst (λ n. d ≤ n) (sym (put_here h.ledger.ballot p d)) (omega arith);
     told = λ a accepted below. le_trans (subst (λ (place : Place). a ≤ place.epoch) h.peer.saved.place ((reaches_safe c h.ledger h.reaches).ballots.accepted p a accepted)) low;
   }
 
-  -- the first fact of an epoch is accepted and saved, after steps that led from the peer's ledger to one where it stands at the epoch
+  -- the first fact of an epoch is accepted and saved, after steps that led to a ledger where the
+  -- peer is at the ballot of this epoch
   abbrev pub accepted_here : (l : Ledger) → Reaches c l → Keeps h.ledger l p → (new : Fact) → IsFirst l new → l.ballot p ≡ epoch_number new.epoch → (l.fact p).epoch < epoch_number new.epoch
       → (phase : Phase) → PhaseHolds (accept l p (epoch_number new.epoch)) p new phase
       → Here c (record x { fact = new; phase = phase }) (stores_after st (Save new)) out

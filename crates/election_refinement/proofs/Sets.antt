@@ -18,7 +18,7 @@ none_held zero q = refl
 none_held (suc n) zero = refl
 none_held (suc n) (suc q) = none_held n q
 
--- what holds of a peer, and of all that were in the set, holds of all that are in it with the peer
+-- what holds of a peer and of all members of a set holds of all members once the peer joins
 pub joined_then : (P : ℕ → Type 0) (peer : ℕ) (set : List Bool) → P peer → ((q : ℕ) → holds set q ≡ true → P q) → (q : ℕ) → holds (joined peer set) q ≡ true → P q
 joined_then P peer set here old q h = by_same (peer == q) refl
   where
@@ -30,7 +30,7 @@ pub alone_then : (P : ℕ → Type 0) (peer : ℕ) → P peer → (q : ℕ) → 
 alone_then P peer here = joined_then P peer nobody here (λ q h. absurd (false≢true (sym (none_held 32 q) ∙ h)))
 
 module _ (l : Ledger) (p : ℕ) where
-  -- the words to peers, each of which says what is so
+  -- messages to peers, each of which asserts what holds
   pub posted_hold : (test : ℕ → Bool) (word : ℕ → Message) → ((q : ℕ) → MessageHolds l p (word q)) → (n : ℕ) → n ≤ 31 → All (SendHolds l p) (posted test word n)
   unfolding posted
   posted_hold test word says zero within = All-nil (SendHolds l p)

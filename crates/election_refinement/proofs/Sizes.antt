@@ -1,4 +1,4 @@
--- A world has as many peers as at its opening, and all of them run.
+-- A world keeps the number of peers with which it opened, and all of them run.
 use Rattle.std.proofs.Common.{◌≡◌, ℕ, zero, suc, ◌-◌, Bool, List, [], ◌∷◌, length, Option, Some, None, slice_get, refl, ◌∙◌, get_or}
 use Rattle.std.proofs.lemmas.List.{length-set, length-replicate}
 use Rattle.std.proofs.lemmas.Option.{slice_get-get_or}
@@ -15,7 +15,7 @@ use Rattle.world_spec.specs.Runs.{Run, opening_run, place_of, stepped, stepped_a
 use Rattle.election_refinement.specs.Refinement.{NodeHolds}
 use Rattle.election_refinement.specs.Worlds.{Refines, IsRunning, PeersRun}
 
--- how many peers there are
+-- the number of peers
 abbrev pub size : Run → ℕ
 size w = length w.nodes
 

@@ -29,7 +29,7 @@ use Rattle.election_refinement.proofs.Reaching.{Course}
 use Rattle.election_refinement.proofs.Sets.{posted_hold, posted_to_hold}
 use Rattle.election_refinement.specs.Refinement.{IsProbing, IsPreparing, IsStarting, IsLeading, MessageHolds}
 
--- what a leader says to a peer is so
+-- what a leader's message to a peer asserts holds
 word_holds : (l : Ledger) (p : ℕ) (fact : Fact) (leadership : Leadership) → IsLeading l p fact leadership → (q : ℕ) → MessageHolds l p (word_to fact leadership q)
 unfolding word_to
 word_holds l p fact leadership leading q =
@@ -41,7 +41,7 @@ word_holds l p fact leadership leading q =
 module _ (c : Course) where
   open c use {peer as p}
 
-  -- a tick that changes the phase alone, and may lead to rule 7
+  -- a tick that changes only the phase, and may run rule 7
   anew_passes : (phase : Phase) (anew : Bool) → PassesWhere c (InPhase c phase) (λ x out next. done_then (plan_7 p) (silent (if anew then thens.Rule 7 else thens.Stay)) (record x { phase = phase }) out next)
   anew_passes phase anew x st out next h old go =
       let now = here_silent c _ st out (here_phase c x st out h phase old) in
@@ -91,7 +91,7 @@ module _ (c : Course) where
   rule_5_passes : (l : Leadership) → PassesWhere c (InPhase c (phases.Leading l)) (plan_5 p l)
   rule_5_passes l x st out next h old go = go x st _ (here_sends c x st out h _ (posted_hold h.ledger p (is_told p l) (word_to x.fact l) (word_holds h.ledger p x.fact l old) 31 (omega arith)))
 
-  -- a tick, in a phase
+  -- a tick, in any phase
   pub tick_passes : (phase : Phase) → PassesWhere c (InPhase c phase) (ticked phase p)
   tick_passes (phases.Following f) x st out next h old go = rule_2_passes f x st out next h go
   tick_passes (phases.Probing b) x st out next h old go = probing_3_passes b x st out next h old go

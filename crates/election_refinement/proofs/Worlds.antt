@@ -1,4 +1,4 @@
--- A world goes on beside a run of the abstract protocol.
+-- A world and a run of the abstract protocol advance together.
 use Rattle.std.proofs.Common.{◌≡◌, ◌≢◌, ℕ, zero, suc, ◌<◌, ◌≤◌, ◌-◌, Bool, true, false, ◌==◌, eqb-true, ◌⊎◌, inl, inr, List, [], ◌∷◌, ◌++◌, map, length, Option, Some, None, slice_get, slice_set, get_or, arith, refl, ap, le_trans, ◌∙◌, sym, subst}
 use Rattle.std.specs.Prelude.{All}
 use Rattle.std.proofs.lemmas.Bool.{eqb-false}
@@ -30,7 +30,7 @@ use Rattle.election_refinement.proofs.Plans.{Here, EndsIn, every_end}
 use Rattle.election_refinement.specs.Refinement.{PeerHolds, NodeHolds, SendHolds, FrameHolds}
 use Rattle.election_refinement.specs.Worlds.{Refines, ledger_after, GoesOn}
 
--- what stands at a place once something was put at another one, or there
+-- the element at a place after an element was set
 get_put : {A : Type 0} (xs : List A) (p q : ℕ) (y m : A) → slice_get (slice_set xs p y) q ≡ Some m → ((p ≡ q) × (m ≡ y)) ⊎ ((p ≡ q → ⊥) × (slice_get xs q ≡ Some m))
 get_put xs p q y m is = by_cases (p == q) refl
   where
@@ -45,7 +45,7 @@ get_put xs p q y m is = by_cases (p == q) refl
         let apart : q ≢ p = λ s. eqb-false p q e (sym s) in
         inr (eqb-false p q e, slice_get-get_or xs q m within ∙ ap (λ z. Some z) (sym (get_or-set_other xs p q y m apart) ∙ get_or_from_slice_get (slice_set xs p y) q m m is))
 
--- what holds of each message before, and of each new one
+-- a property of all messages before and of all new ones
 posted_all_hold : (P : Frame → Type 0) (frames : List Frame) (m : Mail) → All P m.sent → All P frames → All P (posted_all frames m).sent
 posted_all_hold P [] m old new = old
 posted_all_hold P (f ∷ more) m old new = posted_all_hold P more (posted m f) (All-push P m.sent f old (All-head P f more new)) (All-tail P f more new)
@@ -53,16 +53,16 @@ posted_all_hold P (f ∷ more) m old new = posted_all_hold P more (posted m f) (
 frames_hold : (l : Ledger) (p : ℕ) → IsPeer p → (sends : List Outgoing) → All (SendHolds l p) sends → All (FrameHolds l) (map (frame_from p) sends)
 frames_hold l p peer sends hold = All-map (FrameHolds l) (frame_from p) sends (All-weaker (SendHolds l p) (λ o. FrameHolds l (frame_from p o)) (λ o h. (peer, h)) sends hold)
 
--- the message of a number holds
+-- what the message of this number asserts holds
 frame_at : (l : Ledger) (frames : List Frame) (n : ℕ) (f : Frame) → slice_get frames n ≡ Some f → All (FrameHolds l) frames → FrameHolds l f
 frame_at l frames n f is hold = subst (FrameHolds l) (get_or_from_slice_get frames n f f is) (hold n f (slice_get_within frames n f is))
 
 module _ (view : List ℕ) (steps : List Step) where
-  -- the ledger that refines the world
+  -- the ledger that the world refines
   abbrev ledger_of : (w : Run) → GoesOn view steps w → Ledger
   ledger_of w g = ledger_after view (g.more ++ steps)
 
-  -- with what a step of a peer begins
+  -- the beginning of a step of a peer
   abbrev course : (p : ℕ) → IsPeer p → (w : Run) → GoesOn view steps w → Course
   course p peer w g = record { view = view; steps = steps; peer = p; is_peer = peer; first = ledger_of w g }
 
@@ -111,7 +111,7 @@ module _ (view : List ℕ) (steps : List Step) where
           sends = All-nil (SendHolds (ledger_of w g) p);
         }
 
-    -- a step of a peer, on a tick or on a message that says what is so
+    -- a step of a peer on a tick, or on a message that asserts what holds
     stepped_refines : (event : Event) → EventHolds (ledger_of w g) event → GoesOn view steps (stepped p event w)
     stepped_refines event event_holds = by_node (slice_get w.nodes (place_of p)) refl
       where
@@ -130,7 +130,7 @@ module _ (view : List ℕ) (steps : List Step) where
   ticked_refines p peer zero w g = g
   ticked_refines p peer (suc n) w g = ticked_refines p peer n (stepped p events.Tick w) (stepped_refines p peer w g events.Tick tt)
 
-  -- only the peers and the messages that were ever sent count
+  -- only the peers and the messages ever sent matter
   resent : (w v : Run) → v.nodes ≡ w.nodes → v.mail.sent ≡ w.mail.sent → GoesOn view steps w → GoesOn view steps v
   resent w v nodes sent g = record {
     more = g.more;

@@ -1,4 +1,4 @@
--- What a world says of the abstract protocol, and what the abstract protocol says of the world.
+-- When a world refines a run of the abstract protocol, and what follows for the world.
 use Rattle.std.specs.Prelude.{◌≡◌, ℕ, suc, ◌<◌, ◌≤◌, ◌⊎◌, List, ◌++◌, All, Option, Some, slice_get}
 use Rattle.abstract_protocol.specs.Ledger.{Ledger, IsAtMost}
 use Rattle.abstract_protocol.specs.Numbers.{epoch_number}
@@ -13,9 +13,10 @@ use Rattle.world_spec.specs.Nodes.{MemStores, Node, Up, Down}
 use Rattle.world_spec.specs.Runs.{Run}
 use Rattle.election_refinement.specs.Refinement.{fact_place, NodeHolds, FrameHolds, IsOrderly}
 
--- ## A run of the abstract protocol tells a world
+-- ## The refinement
 
--- each peer is as the ledger says, and each message that was ever sent says what is so
+-- the world refines the ledger: each peer agrees with it, and what each message ever sent asserts
+-- holds
 pub record Refines (view : List ℕ) (l : Ledger) (w : Run) : Type 0 where
   pub orderly : IsOrderly view l
   pub nodes : (place : ℕ) (node : Node) → slice_get w.nodes place ≡ Some node → NodeHolds l (suc place) node
@@ -25,40 +26,40 @@ pub record Refines (view : List ℕ) (l : Ledger) (w : Run) : Type 0 where
 abbrev pub ledger_after : List ℕ → List Step → Ledger
 ledger_after view steps = (state_after view steps).objects.ledger
 
--- the steps are a run that tells the world
+-- these steps are a run of the abstract protocol, and the world refines the ledger after them
 pub record IsRefinement (view : List ℕ) (steps : List Step) (w : Run) : Type 0 where
   pub run : IsRun view steps
   pub refines : Refines view (ledger_after view steps) w
 
--- some run tells the world
+-- the world refines some run
 pub record HasRun (view : List ℕ) (w : Run) : Type 0 where
   pub steps : List Step
   pub refinement : IsRefinement view steps w
 
--- with some steps more, a run tells the world
+-- the world refines a run that extends these steps
 pub record GoesOn (view : List ℕ) (steps : List Step) (w : Run) : Type 0 where
   pub more : List Step
   pub refinement : IsRefinement view (more ++ steps) w
 
 -- ## What follows for the world
 
--- the peer at this place runs, and its stores keep its fact. Peer 1 has place 0
+-- the peer at this place runs, and its stores keep its fact; peer 1 has place 0
 pub record IsRunning (w : Run) (place : ℕ) : Type 0 where
   pub state : State
   pub stores : MemStores
   pub at : slice_get w.nodes place ≡ Some (Up state stores)
   pub kept : stores.facts.kept ≡ Some state.fact
 
--- so many peers run
+-- the peers at the first places run
 abbrev pub PeersRun : ℕ → Run → Type 0
 PeersRun peers w = (place : ℕ) → place < peers → IsRunning w place
 
--- what the stores of a peer keep
+-- the fact that the stores of a peer keep
 abbrev pub kept_by : Node → Option Fact
 kept_by (Up x stores) = stores.facts.kept
 kept_by (Down stores) = stores.facts.kept
 
--- the peer at this place keeps the fact
+-- the stores of the peer at this place keep the fact
 pub record HasFact (w : Run) (place : ℕ) (f : Fact) : Type 0 where
   pub node : Node
   pub at : slice_get w.nodes place ≡ Some node
@@ -71,30 +72,32 @@ pub record Leads (w : Run) (place : ℕ) (leadership : Leadership) : Type 0 wher
   pub at : slice_get w.nodes place ≡ Some (Up state stores)
   pub leads : state.phase ≡ phases.Leading leadership
 
--- from one world to the other no peer's ballot falls
+-- no peer's ballot decreases from one world to the other
 abbrev pub BallotsRise : Run → Run → Type 0
 BallotsRise before after = (place : ℕ) (f g : Fact) → HasFact before place f → HasFact after place g → ¬ IsEpochBelow g.ballot f.ballot
 
--- two facts of one epoch and number are one, but for their ballots
+-- the facts agree in leader, views and change
 pub record Agree (f g : Fact) : Type 0 where
   pub leader : f.leader ≡ g.leader
   pub views : f.views ≡ g.views
   pub change : f.change ≡ g.change
 
--- facts of peers with one epoch and number in it agree
+-- facts with the same epoch and sequence number agree
 abbrev pub FactsAgree : Run → Type 0
 FactsAgree w = (p q : ℕ) (f g : Fact) → HasFact w p f → HasFact w q g → f.epoch ≡ g.epoch → f.seq ≡ g.seq → Agree f g
 
--- peers that lead one epoch are one peer
+-- peers that lead the same epoch are the same peer
 abbrev pub EpochsHaveOneLeader : Run → Type 0
 EpochsHaveOneLeader w = (p q : ℕ) (a b : Leadership) → Leads w p a → Leads w q b → a.fact.epoch ≡ b.fact.epoch → p ≡ q
 
--- of two epochs of which peers keep facts, the greater one goes on from a fact that is no older than the lower one's, or no quorum can accept the lower one any more
+-- if peers keep facts of two epochs, the greater epoch is based on a fact no older than the one of
+-- the lower epoch, or no quorum can accept the lower epoch any more
 abbrev pub FactsAreComplete : Ledger → Run → Type 0
 FactsAreComplete l w = (p q : ℕ) (f g : Fact) → HasFact w p f → HasFact w q g → 0 < epoch_number g.epoch → epoch_number g.epoch < epoch_number f.epoch
     → IsAtMost (fact_place g) (l.base (epoch_number f.epoch)) ⊎ IsClosed l (epoch_number g.epoch)
 
--- where a peer leads an epoch, each greater epoch of which a peer keeps a fact goes on from that one or from a later one
+-- if a peer leads an epoch, each greater epoch of which a peer keeps a fact is based on it or on a
+-- later one
 abbrev pub LedEpochsAreKept : Ledger → Run → Type 0
 LedEpochsAreKept l w = (p q : ℕ) (a : Leadership) (f : Fact) → Leads w p a → HasFact w q f → epoch_number a.fact.epoch < epoch_number f.epoch
     → epoch_number a.fact.epoch ≤ (l.base (epoch_number f.epoch)).epoch

@@ -1,11 +1,11 @@
-//! The link between the peers and the abstract protocol, for elections: the run of a schedule in a
-//! world of peers is a run of the abstract protocol, so that its laws hold of the world.
+//! Worlds of elections refine the abstract protocol: the run of every schedule is simulated by a
+//! run of the abstract protocol, so the laws of that protocol hold of the world.
 //!
-//! `specs/Refinement` says what a fact, a phase, a peer and a message say of the ledger of the abstract
-//! protocol, and `specs/Worlds` when a run of the abstract protocol tells a world. Each event of a
-//! schedule is some steps more of that run. What the laws of elections then say of the facts that
-//! peers keep, and of peers that lead, stands in `specs/Worlds` too. No change of the view is begun
-//! yet, no peer stops and no store fails.
+//! `specs/Refinement` relates a fact, a phase, a peer and a message to the ledger of the abstract
+//! protocol. `specs/Worlds` says when a world refines a run of the abstract protocol; each event of
+//! a schedule extends that run by some steps. It also states what the laws of elections mean for
+//! the facts that peers keep and for peers that lead. So far no peer begins a change of the view,
+//! no peer stops and no store fails.
 #![tactic(auto)]
 
 mod laws;
