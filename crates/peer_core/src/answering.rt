@@ -23,7 +23,8 @@ use wire_frames::{Message, PhaseOut, Then};
 impl State {
     ghost use Rattle.peer_core.specs.NoAllocation.{allocation_free_answer};
 
-    /// To whom a message is answered that takes no memory to answer, and the row of its rule.
+    /// Returns the peer to answer and the row of the rule, for a message that is answered without
+    /// allocating, and `None` for any other message.
     fn allocation_free_answer(&self, from: PeerId, message: &Message) -> Option<(PeerId, PhaseOut)>
         requires { IsPeer from }
         ensures { result ≡ allocation_free_answer from message.now self.now }
@@ -38,7 +39,8 @@ impl State {
         }
     }
 
-    /// The same, of an event.
+    /// Returns the peer to answer and the row of the rule, for an event that is answered without
+    /// allocating, and `None` for any other event.
     fn allocation_free_row(&self, event: &Event) -> Option<(PeerId, PhaseOut)>
         requires { HasSender event.now }
         ensures { result ≡ allocation_free_row event.now self.now }
@@ -51,8 +53,8 @@ impl State {
 }
 
 impl<S: Store> Machine<S> {
-    /// Does what the row asks. Its message goes straight into the outbox, since after the save nothing
-    /// is left that may be refused, but for want of room.
+    /// Applies a row whose message, if any, goes to `from`. The message goes directly into the
+    /// outbox, since after the save only out of memory can fail.
     fn answer(&mut self, out: &mut Outbox, from: PeerId, row: PhaseOut) -> Result<(), PeerError>
         requires from { IsPeer from }
         requires to { GoesTo from row }
@@ -77,8 +79,8 @@ impl<S: Store> Machine<S> {
         out.send_one(from, message)
     }
 
-    /// Takes a step, and puts what leaves the peer behind what is in the outbox. Of a refused step only
-    /// the notes are kept.
+    /// Takes a step, and adds its output to the end of the outbox. A failed step adds only its
+    /// notes.
     pub(crate) fn step(
         &mut self,
         alloc: Global,

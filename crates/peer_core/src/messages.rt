@@ -15,7 +15,7 @@ use probe::rule_8_probe;
 use std::alloc::Global;
 use wire_frames::{Message, NackCause, PhaseOut, Then};
 
-/// A peer that is to wait for a sync follows.
+/// Makes a peer that would wait for a sync follow instead.
 fn wait(then: Then) -> Then
     ensures { result ≡ waiting then }
 {
@@ -46,7 +46,7 @@ impl<S: Store> Machine<S> {
         Ok(())
     }
 
-    /// A message from a peer, which is not answered straight into the outbox.
+    /// Handles a message that is not answered directly into the outbox.
     pub(crate) fn deliver(
         &mut self,
         alloc: Global,

@@ -10,7 +10,7 @@ use Rattle.peer_core.specs.declared.event.Event.{Event}
 use Rattle.peer_core.specs.Stores.{stores_do, stores_refuse}
 use Rattle.peer_core.specs.declared.error.PeerError.{PeerError}
 use Rattle.peer_core.specs.declared.state.State.{State}
-use Rattle.peer_core.proofs.Kept.{steps_follow, starts_follow}
+use Rattle.peer_core.proofs.Guarantees.{steps_follow, starts_follow}
 use Rattle.peer_fact.specs.declared.fact.Fact.{Fact}
 use Rattle.register_model.specs.declared.note.Note.{Note}
 use Rattle.world_spec.specs.Facts.{HeldDoes, HeldRefuses, kept_of}

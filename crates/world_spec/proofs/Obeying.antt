@@ -10,7 +10,7 @@ use Rattle.peer_core.specs.Steps.{step_of}
 use Rattle.peer_core.specs.declared.event.Event.{Event}
 use Rattle.peer_core.specs.declared.event.Event.TheVariants as events
 use Rattle.peer_core.specs.declared.outbox.Outgoing.{Outgoing}
-use Rattle.peer_core.proofs.Kept.{steps_follow}
+use Rattle.peer_core.proofs.Guarantees.{steps_follow}
 use Rattle.register_model.specs.declared.note.Note.{Note}
 use Rattle.schedule_text.specs.Spelling.{MayStand, AllMayStand}
 use Rattle.schedule_text.specs.declared.event.ScheduleEvent.{ScheduleEvent}

@@ -1,4 +1,5 @@
--- What each plan of a peer keeps to. A plan that goes on to another does where that one does: so each rule is gone through once, for any ends.
+-- What every plan of a peer keeps to. A plan that continues with another keeps to it if the other
+-- does, so each rule is proved once, for any continuation.
 use Rattle.std.proofs.Common.{◌≡◌, lit≤, ℕ, false, nat_lt, List, [], ◌∷◌, ◌++◌, Option, Some, None, inl, inr, subst, arith}
 use Rattle.std.proofs.lemmas.List.Elements.{All-nil}
 use Rattle.ens_base.specs.declared.epoch.Epoch.{Epoch}
@@ -38,7 +39,8 @@ use Rattle.peer_core.specs.declared.state.Phase.TheVariants as phases
 use Rattle.peer_core.specs.declared.state.State.{State}
 use Rattle.peer_core.proofs.Grammar.{either, RowObeys, posted_obey, posted_to_obey, and_sends_obey, row_8_obeys, row_10_obeys, row_11_obeys, row_12_obeys, row_13_obeys, row_14_obeys, row_4_obeys, row_17_obeys, row_2_obeys, row_15_obeys, row_16_obeys, row_19_obeys, word_to_obeys}
 
--- The ends of plans are left open: a rule passes where, from each state and with messages that obey, what comes next asks for facts alone and comes to such ends.
+-- The condition on the ends is left open. A rule passes if, from each state and with messages that
+-- obey the grammar, what comes next calls only the fact keeper and reaches such ends.
 module _ (P : State → Out → Type 0) where
   abbrev Goes : Rest → Type 0
   Goes next = (y : State) (more : Out) → AllObey more → Follows IsFactCall P (next y more)
@@ -203,7 +205,7 @@ module _ (P : State → Out → Type 0) where
   whole_step_passes : (me : ℕ) (event : Event) → Passes (whole_step me event)
   whole_step_passes me event x out next good go = plan_of_passes me event x out (λ y more. plan_6 me y more next) good (λ y more obey. while_6_passes y.phase me y more next obey go)
 
--- a step loads and saves facts alone, and all that it sends obeys
+-- a step only loads and saves the fact, and all its messages obey the grammar
 pub steps_follow : (me : ℕ) (event : Event) (x : State) → Follows IsFactCall (λ y out. AllObey out) (step_of me event x)
 steps_follow me event x = whole_step_passes (λ y out. AllObey out) me event x nothing Done (All-nil MaySend) (λ y more obey. obey)
 
@@ -211,15 +213,15 @@ opened_follows : (view : List ℕ) (kept : Option Fact) → Follows IsFactCall (
 opened_follows view None = (tt, λ u. All-nil MaySend)
 opened_follows view (Some fact) = All-nil MaySend
 
--- so does a start, which sends nothing
+-- a start only loads and saves the fact, and sends nothing
 pub starts_follow : (view : List ℕ) → Follows IsFactCall (λ y out. AllObey out) (start_of view)
 starts_follow view = (tt, λ kept. opened_follows view kept)
 
--- what a plan that ended says of its end
+-- the end that a finished plan reached
 same_end : (P : State → Out → Type 0) (y x : State) (more out : Out) → Finished x out ≡ Finished y more → P y more → P x out
 same_end P y x more out same end = let state : y ≡ x = grind (arith, same) in let sent : more ≡ out = grind (arith, same) in subst (λ k. P k out) state (subst (P y) sent end)
 
--- a plan that ran to an end came to such an end
+-- a plan that ran to an end reached one that it may reach
 pub ran_follows : {S : Type 0} (does : S → (call : Call) → AnswerOf call → S → Type 0) (refuses : S → Call → PeerError → S → Type 0) (Q : Call → Type 0) (P : State → Out → Type 0)
     (p : Plan) (s : S) (ns : List Note) (x : State) (out : Out) (t : S) (ms : List Note)
     → Follows Q P p → Runs does refuses p s ns (Finished x out) t ms → P x out
