@@ -19,7 +19,7 @@ enum Mark {
     },
 }
 
-/// The version with this number in the epoch N.N.
+/// The version `seq` of the epoch `epoch`.`epoch`.
 fn version(epoch: u32, seq: u64) -> Version {
     let count = epoch as u64;
     Version {
@@ -31,7 +31,7 @@ fn version(epoch: u32, seq: u64) -> Version {
     }
 }
 
-/// A write, by this call; none for a rewrite.
+/// A write by this call. A rewrite has no call.
 fn write(of: Version, parent: Option<Version>, call: Option<u64>) -> Mark {
     Mark::Proposed {
         version: of,
@@ -40,7 +40,7 @@ fn write(of: Version, parent: Option<Version>, call: Option<u64>) -> Mark {
     }
 }
 
-/// The note that says this of the key `k`.
+/// The note of this mark on the key `k`.
 fn note_of(alloc: Global, mark: Mark) -> Result<Note, Fail> {
     let key = Key::new(alloc, b"k")?;
     Ok(match mark {
@@ -59,8 +59,8 @@ fn note_of(alloc: Global, mark: Mark) -> Result<Note, Fail> {
     })
 }
 
-/// A scribe that was told these of the key `k`.
-fn told(alloc: Global, marks: &[Mark]) -> Result<Scribe, Fail> {
+/// A scribe with these marks noted on the key `k`.
+fn noted(alloc: Global, marks: &[Mark]) -> Result<Scribe, Fail> {
     let mut scribe = Scribe::new(alloc);
     for mark in marks {
         scribe.note(alloc, note_of(alloc, *mark)?)?;
@@ -68,14 +68,14 @@ fn told(alloc: Global, marks: &[Mark]) -> Result<Scribe, Fail> {
     Ok(scribe)
 }
 
-/// The calls on a key, as a scribe that was told these of the key `k` tells them.
+/// The calls in the history of a key, after these marks on the key `k`.
 fn calls(alloc: Global, marks: &[Mark], key: &[u8]) -> Result<Seq<u64>, Fail> {
     let key = Key::new(alloc, key)?;
-    Ok(told(alloc, marks)?.history(alloc, &key)?.calls)
+    Ok(noted(alloc, marks)?.history(alloc, &key)?.calls)
 }
 
 #[test]
-fn a_read_stands_behind_its_write_and_a_rewrite_is_no_call(rt: HostRuntime) -> Result<(), Fail> {
+fn a_read_follows_its_write_and_a_rewrite_is_no_call(rt: HostRuntime) -> Result<(), Fail> {
     let (one, again, two) = (version(1, 1), version(2, 1), version(2, 2));
     let marks = [
         write(one, None, Some(1)),
@@ -98,7 +98,7 @@ fn a_read_stands_behind_its_write_and_a_rewrite_is_no_call(rt: HostRuntime) -> R
 }
 
 #[test]
-fn a_write_stands_where_a_settled_version_comes_from_it(rt: HostRuntime) -> Result<(), Fail> {
+fn a_write_counts_if_a_settled_version_descends_from_it(rt: HostRuntime) -> Result<(), Fail> {
     let (one, two, later) = (version(1, 1), version(1, 2), version(2, 1));
     let marks = [
         write(one, None, Some(1)),
@@ -118,7 +118,7 @@ fn a_write_stands_where_a_settled_version_comes_from_it(rt: HostRuntime) -> Resu
     Ok(())
 }
 
-/// The key of one byte.
+/// The key of this one byte.
 fn key(alloc: Global, byte: u8) -> Result<Key, Fail> {
     Ok(Key::new(alloc, &[byte])?)
 }

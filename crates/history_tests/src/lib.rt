@@ -1,5 +1,4 @@
-//! Tests of registers, of histories and of the test whether an order is a run, a file for each tested
-//! crate.
+//! Tests of registers, histories and the check of runs, a file for each tested crate.
 //!
 //! The tests use public calls alone.
 #![tactic(auto)]

@@ -4,7 +4,7 @@ use register_runs::*;
 use std::alloc::Global;
 use std::test::Fail;
 
-/// The version 1.1.seq.
+/// The version 1.1.`seq`.
 fn stamp(seq: u64) -> Version {
     Version {
         epoch: Epoch {
@@ -19,7 +19,7 @@ fn value(alloc: Global, bytes: &[u8]) -> Result<Value, Fail> {
     Ok(Value::new(alloc, bytes)?)
 }
 
-/// Calls on one key, and what they were answered.
+/// Calls on one key, and their replies.
 #[derive(Drop)]
 struct Script {
     alloc: Global,
@@ -36,7 +36,7 @@ impl Script {
         }
     }
 
-    /// One more call, without an answer.
+    /// Adds a call without a reply.
     fn call(&mut self, id: u64, command: Command) -> Result<(), Fail> {
         let key = Key::new(self.alloc, b"k")?;
         self.calls.push(Call {
@@ -48,8 +48,8 @@ impl Script {
         Ok(())
     }
 
-    /// One more call, with this reply.
-    fn told(&mut self, id: u64, command: Command, reply: Reply) -> Result<(), Fail> {
+    /// Adds a call with this reply.
+    fn replied(&mut self, id: u64, command: Command, reply: Reply) -> Result<(), Fail> {
         self.call(id, command)?;
         self.answers.push(Answer {
             id,
@@ -59,7 +59,7 @@ impl Script {
         Ok(())
     }
 
-    /// Whether the order is a run.
+    /// Whether the calls in this order are a run.
     fn is_run(&self, order: &[u64]) -> Result<bool, Fail> {
         let alloc = self.alloc;
         let call_ids = self
@@ -79,19 +79,19 @@ impl Script {
     }
 }
 
-/// An overwrite that timed out, an update with its stamp 1.1.1 that was answered ok, and a get that was
-/// answered with the value under the stamp 1.1.2.
+/// An overwrite that timed out, an update of stamp 1.1.1 with the reply ok, and a get with a value of
+/// stamp 1.1.2.
 fn timed_out(alloc: Global) -> Result<Script, Fail> {
     let mut script = Script::new(alloc);
-    script.told(1, Command::Over(value(alloc, b"a")?), Reply::Timeout)?;
+    script.replied(1, Command::Over(value(alloc, b"a")?), Reply::Timeout)?;
     let update = Command::Update(stamp(1), value(alloc, b"b")?);
-    script.told(2, update, Reply::Ok(stamp(3)))?;
-    script.told(3, Command::Get, Reply::Value(stamp(2), value(alloc, b"a")?))?;
+    script.replied(2, update, Reply::Ok(stamp(3)))?;
+    script.replied(3, Command::Get, Reply::Value(stamp(2), value(alloc, b"a")?))?;
     Ok(script)
 }
 
 #[test]
-fn an_update_tells_a_stamp(rt: HostRuntime) -> Result<(), Fail> {
+fn an_update_reveals_a_stamp(rt: HostRuntime) -> Result<(), Fail> {
     let script = timed_out(rt.alloc())?;
     assert!(rt; script.is_run(&[1, 2])?);
     assert!(rt; script.is_run(&[1, 3])?);
@@ -100,7 +100,7 @@ fn an_update_tells_a_stamp(rt: HostRuntime) -> Result<(), Fail> {
 }
 
 #[test]
-fn what_no_call_is_and_what_is_empty(rt: HostRuntime) -> Result<(), Fail> {
+fn empty_and_unknown_orders(rt: HostRuntime) -> Result<(), Fail> {
     let script = timed_out(rt.alloc())?;
     assert!(rt; script.is_run(&[])?);
     assert!(rt; !script.is_run(&[4])?);
@@ -108,34 +108,34 @@ fn what_no_call_is_and_what_is_empty(rt: HostRuntime) -> Result<(), Fail> {
     Ok(())
 }
 
-/// The first six calls of a run in which each command stands once.
+/// Adds the first six calls of a run with each command once.
 fn writes(script: &mut Script) -> Result<(), Fail> {
     let alloc = script.alloc;
     let once = Command::PutOnce(value(alloc, b"a")?);
-    script.told(1, once, Reply::Ok(stamp(1)))?;
+    script.replied(1, once, Reply::Ok(stamp(1)))?;
     let again = Command::PutOnce(value(alloc, b"b")?);
-    script.told(2, again, Reply::Failed)?;
+    script.replied(2, again, Reply::Failed)?;
     let append = Command::Append(value(alloc, b"b")?);
-    script.told(3, append, Reply::Ok(stamp(2)))?;
+    script.replied(3, append, Reply::Ok(stamp(2)))?;
     let number = value(alloc, &[0, 0, 0, 0, 0, 0, 0, 5])?;
     let swap = Command::Swap(value(alloc, b"ab")?, number);
-    script.told(4, swap, Reply::Ok(stamp(3)))?;
-    script.told(5, Command::Add(7), Reply::Ok(stamp(4)))?;
+    script.replied(4, swap, Reply::Ok(stamp(3)))?;
+    script.replied(5, Command::Add(7), Reply::Ok(stamp(4)))?;
     let sum = value(alloc, &[0, 0, 0, 0, 0, 0, 0, 12])?;
-    script.told(6, Command::Get, Reply::Value(stamp(4), sum))
+    script.replied(6, Command::Get, Reply::Value(stamp(4), sum))
 }
 
-/// The other five.
+/// Adds the other five calls.
 fn after_them(script: &mut Script) -> Result<(), Fail> {
     let alloc = script.alloc;
-    script.told(7, Command::Delete, Reply::Ok(stamp(5)))?;
-    script.told(8, Command::Get, Reply::NotFound)?;
+    script.replied(7, Command::Delete, Reply::Ok(stamp(5)))?;
+    script.replied(8, Command::Get, Reply::NotFound)?;
     let update = Command::Update(stamp(4), value(alloc, b"c")?);
-    script.told(9, update, Reply::Failed)?;
+    script.replied(9, update, Reply::Failed)?;
     let once = Command::PutOnce(value(alloc, b"")?);
-    script.told(10, once, Reply::Ok(stamp(6)))?;
+    script.replied(10, once, Reply::Ok(stamp(6)))?;
     let empty = value(alloc, b"")?;
-    script.told(11, Command::Get, Reply::Value(stamp(6), empty))
+    script.replied(11, Command::Get, Reply::Value(stamp(6), empty))
 }
 
 #[test]
@@ -156,9 +156,9 @@ fn one_of_two_updates_was_done(rt: HostRuntime) -> Result<(), Fail> {
     script.call(1, Command::Over(value(alloc, b"a")?))?;
     script.call(2, Command::Update(stamp(1), value(alloc, b"b")?))?;
     script.call(3, Command::Update(stamp(2), value(alloc, b"b")?))?;
-    script.told(4, Command::Get, Reply::Value(stamp(5), value(alloc, b"b")?))?;
-    script.told(5, Command::Delete, Reply::Ok(stamp(1)))?;
-    script.told(6, Command::Delete, Reply::Ok(stamp(2)))?;
+    script.replied(4, Command::Get, Reply::Value(stamp(5), value(alloc, b"b")?))?;
+    script.replied(5, Command::Delete, Reply::Ok(stamp(1)))?;
+    script.replied(6, Command::Delete, Reply::Ok(stamp(2)))?;
     assert!(rt; script.is_run(&[1, 2, 3, 4, 5])?);
     assert!(rt; script.is_run(&[1, 2, 3, 4, 6])?);
     assert!(rt; !script.is_run(&[1, 2, 3, 4, 5, 6])?);

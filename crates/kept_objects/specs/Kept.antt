@@ -7,19 +7,19 @@ use Rattle.ens_base.specs.declared.entry.Entry.{Entry}
 use Rattle.ens_object.specs.Objects.{object_of}
 use Rattle.ens_object.specs.declared.object.Object.{Object}
 
--- the object that the bytes spell, if they spell one
+-- the object in these bytes, if they are one
 abbrev pub object_in : List ℕ → Option Object
 object_in bytes = result_ok (object_of bytes)
 
--- whether the entry names the object whose spelling has this digest
+-- whether the entry names the object whose bytes have this digest
 abbrev pub is_named : Entry → Object → List ℕ → Bool
 is_named entry o digest = same_bytes o.key entry.key && same_version o.version entry.version && same_bytes digest entry.digest
 
--- the object that the backend keeps, with the digest of its spelling, where the entry names it
+-- the object that the backend keeps, with the digest of its bytes, if the entry names it
 abbrev pub matching : Entry → Option (Object × List ℕ) → Option Object
 matching entry None = None
 matching entry (Some kept) = if is_named entry kept.0 kept.1 then Some kept.0 else None
 
--- the entry that names the object whose spelling has this digest
+-- the entry that names the object whose bytes have this digest
 abbrev pub entry_of : Object → List ℕ → Entry
 entry_of o digest = record { key = o.key; version = o.version; digest = digest }

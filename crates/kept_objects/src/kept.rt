@@ -5,7 +5,8 @@ use ens_base::{CopyError, Digest, Entry};
 use ens_object::{Object, ObjectError};
 use std::alloc::Global;
 
-/// The object that the bytes spell, None where they spell none. Its error is Memory alone.
+/// Decodes the object in `bytes`, or returns `None` if they are not an object. Fails only when out
+/// of memory, with `Memory`.
 pub fn object_in(alloc: Global, bytes: &[u8]) -> Result<Option<Object>, ObjectError>
     ensures exact { IfOk result (λ o. o ≡ object_in_bytes bytes.now) }
     ensures memory { IfErr result (λ e. e ≡ ObjectError.Memory) }
@@ -17,8 +18,8 @@ pub fn object_in(alloc: Global, bytes: &[u8]) -> Result<Option<Object>, ObjectEr
     }
 }
 
-/// Whether the entry names the object whose spelling has this digest: whether key, version and digest
-/// are the entry's.
+/// Whether the entry names this object, with this digest of its bytes: the key, the version and the
+/// digest are those of the entry.
 pub fn is_named(entry: &Entry, object: &Object, digest: &Digest) -> bool
     ensures exact { result ≡ is_named_by entry.now object.now digest.now }
     ensures named { IsTrue result ↔ ((object.now.key ≡ entry.now.key) × (object.now.version ≡ entry.now.version) × (digest.now ≡ entry.now.digest)) }
@@ -26,7 +27,7 @@ pub fn is_named(entry: &Entry, object: &Object, digest: &Digest) -> bool
     object.key == entry.key && object.version == entry.version && *digest == entry.digest
 }
 
-/// The object that the backend keeps, with the digest of its spelling, where the entry names it.
+/// Returns the object that the backend keeps if the entry names it, with the digest of its bytes.
 pub fn matching(entry: &Entry, kept: Option<(Object, Digest)>) -> Option<Object>
     ensures { result ≡ matching_of entry.now kept }
 {
@@ -42,7 +43,7 @@ pub fn matching(entry: &Entry, kept: Option<(Object, Digest)>) -> Option<Object>
     }
 }
 
-/// The entry that names the object whose spelling has this digest.
+/// Makes the entry that names this object, with this digest of its bytes. Fails when out of memory.
 pub fn entry_of(alloc: Global, object: &Object, digest: Digest) -> Result<Entry, CopyError>
     ensures { IfOk result (λ e. e ≡ entry_of_object object.now digest) }
 {

@@ -4,7 +4,7 @@ use key_commands::{Verdict, apply, on_any, on_stamp};
 use std::alloc::Global;
 use std::test::Fail;
 
-/// The version of this number in epoch 1.1.
+/// The version 1.1.`seq`.
 fn version(seq: u64) -> Version {
     Version {
         epoch: Epoch {
@@ -19,7 +19,7 @@ fn value(alloc: Global, bytes: &[u8]) -> Result<Value, Fail> {
     Ok(Value::new(alloc, bytes)?)
 }
 
-/// An object of the key k with this value, written under 1.1.2.
+/// The object of the key `k` with this value, at version 1.1.2.
 fn object(alloc: Global, bytes: &[u8]) -> Result<Object, Fail> {
     Ok(Object {
         version: version(2),
@@ -30,7 +30,7 @@ fn object(alloc: Global, bytes: &[u8]) -> Result<Object, Fail> {
 }
 
 #[test]
-fn a_get_is_answered(rt: HostRuntime) -> Result<(), Fail> {
+fn a_get_of_a_present_and_of_an_absent_key(rt: HostRuntime) -> Result<(), Fail> {
     let alloc = rt.alloc();
     let held = object(alloc, b"v")?;
     let reply = Reply::Value(version(2), value(alloc, b"v")?);
@@ -46,7 +46,7 @@ fn a_get_is_answered(rt: HostRuntime) -> Result<(), Fail> {
 }
 
 #[test]
-fn add_at_its_bound(rt: HostRuntime) -> Result<(), Fail> {
+fn add_up_to_the_greatest_u64(rt: HostRuntime) -> Result<(), Fail> {
     let alloc = rt.alloc();
     let held = object(alloc, &[255, 255, 255, 255, 255, 255, 255, 254])?;
     let most = value(alloc, &[255; 8])?;
@@ -62,7 +62,7 @@ fn add_at_its_bound(rt: HostRuntime) -> Result<(), Fail> {
 }
 
 #[test]
-fn what_the_stamp_alone_decides(rt: HostRuntime) -> Result<(), Fail> {
+fn commands_decided_by_the_stamp_alone(rt: HostRuntime) -> Result<(), Fail> {
     let alloc = rt.alloc();
     let once = Command::PutOnce(value(alloc, b"w")?);
     let update = Command::Update(version(2), value(alloc, b"w")?);

@@ -3,7 +3,7 @@ use quorum_round::{Round, RoundState};
 use std::test::Fail;
 
 #[test]
-fn a_joint_round_opens_is_met_and_ends(rt: HostRuntime) -> Result<(), Fail> {
+fn a_joint_round_is_open_then_met_then_all_answered(rt: HostRuntime) -> Result<(), Fail> {
     let new = View::new(&[PeerId(1), PeerId(2), PeerId(3)])
         .ok()
         .ok_or("no view")?;
@@ -27,7 +27,7 @@ fn a_joint_round_opens_is_met_and_ends(rt: HostRuntime) -> Result<(), Fail> {
 }
 
 #[test]
-fn a_round_of_one(rt: HostRuntime) -> Result<(), Fail> {
+fn a_round_of_one_member(rt: HostRuntime) -> Result<(), Fail> {
     let alone = View::new(&[PeerId(7)]).ok().ok_or("no view")?;
     let round = Round::start(Views::one(alone), PeerId(7));
     assert_eq!(rt; round.outcome(), RoundState::AllAnswered);

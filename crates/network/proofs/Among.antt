@@ -1,4 +1,4 @@
--- The tests of a search among peers, one number after another.
+-- The tests of a search among peers, number by number.
 use Rattle.std.proofs.Common.{◌≡◌, ◌+◌, ◌≤◌, ◌&&◌, ◌||◌, arith, ℕ, Bool, true, false, List, nat_lt}
 use Rattle.std.proofs.lemmas.Bool.Decides.{nat_tests}
 use Rattle.ens_base.specs.PeerSet.{holds}

@@ -7,15 +7,15 @@ use Rattle.std.proofs.lemmas.Option.{none-some, same_Some}
 use Rattle.wire_frames.specs.declared.frame.Frame.{Frame}
 use Rattle.network.specs.Mail.{Mail, least, is_waiting, IsClear}
 
--- the mail with these two lists
+-- the mail of these two lists
 abbrev of : List Frame → List Bool → Mail
 of sent waits = record { sent = sent; waits = waits }
 
--- past the end of the messages none waits
+-- no message waits past the end
 pub past : (test : Frame → Bool) (waits : List Bool) (n : ℕ) → is_waiting test (of [] waits) n ≡ false
 past test waits n = and_right _ _ refl
 
--- a message that waits and passes, and none before it
+-- the least number, if this message waits and passes and none before it does
 pub least_found : (test : Frame → Bool) (sent : List Frame) (waits : List Bool) (n : ℕ) → is_waiting test (of sent waits) n ≡ true → IsClear test n (of sent waits) → least test sent waits ≡ Some n
 least_found test [] waits n waiting clear = absurd (both_ways _ (past test waits n) waiting)
 least_found test (f ∷ sent) [] n waiting clear = absurd (both_ways _ refl waiting)
@@ -24,7 +24,7 @@ least_found test (f ∷ sent) (w ∷ waits) (suc n) waiting clear =
     cond-false _ _ _ (clear 0 (omega arith))
     ∙ ap (option_map (λ (k : ℕ). suc k)) (least_found test sent waits n waiting (λ k below. clear (suc k) (omega arith)))
 
--- none waits and passes
+-- there is no least number if none waits and passes
 pub least_none : (test : Frame → Bool) (sent : List Frame) (waits : List Bool) → ((n : ℕ) → is_waiting test (of sent waits) n ≡ false) → least test sent waits ≡ None
 least_none test [] waits none = refl
 least_none test (f ∷ sent) [] none = refl
@@ -32,7 +32,7 @@ least_none test (f ∷ sent) (w ∷ waits) none =
     cond-false _ _ _ (none 0)
     ∙ ap (option_map (λ (k : ℕ). suc k)) (least_none test sent waits (λ n. none (suc n)))
 
--- the answer waits and passes, and none before it does
+-- this message waits and passes the test, and none before it does
 pub record IsLeast (test : Frame → Bool) (m : Mail) (n : ℕ) : Type 0 where
   pub waiting : is_waiting test m n ≡ true
   pub clear : IsClear test n m
@@ -52,7 +52,7 @@ by_first test f sent w waits true first later n is =
     subst (IsLeast test (of (f ∷ sent) (w ∷ waits))) (same_Some 0 n is) (record { waiting = first; clear = λ j below. absurd (omega arith) })
 by_first test f sent w waits false first later n is = one_further test f sent w waits (least test sent waits) later first n is
 
--- what is answered is the least
+-- `least` finds the least number
 pub least_is : (test : Frame → Bool) (sent : List Frame) (waits : List Bool) (n : ℕ) → least test sent waits ≡ Some n → IsLeast test (of sent waits) n
 least_is test [] waits n is = absurd (none-some n is)
 least_is test (f ∷ sent) [] n is = absurd (none-some n is)
@@ -66,7 +66,7 @@ nothing_first : (first : Bool) (rest : Option ℕ) → (if first then Some 0 els
 nothing_first true rest is = absurd (none-some 0 (sym is))
 nothing_first false rest is = (refl, nothing_further rest is)
 
--- where there is no least number none waits and passes
+-- if `least` finds nothing, no message waits and passes the test
 pub least_nothing : (test : Frame → Bool) (sent : List Frame) (waits : List Bool) → least test sent waits ≡ None → (n : ℕ) → is_waiting test (of sent waits) n ≡ false
 least_nothing test [] waits is n = past test waits n
 least_nothing test (f ∷ sent) [] is n = refl

@@ -1,4 +1,4 @@
--- What waits after a loss.
+-- The waiting messages after a loss.
 use Rattle.std.proofs.Common.{◌≡◌, ◌&&◌, refl, ap, sym, ◌∙◌, ℕ, zero, suc, Bool, true, false, List, [], ◌∷◌, Option, None, Some}
 use Rattle.std.specs.Prelude.{not, slice_get, slice_index_or}
 use Rattle.std.specs.Option.{option_map_or}
@@ -13,7 +13,8 @@ both_tests true true false = refl
 both_tests true false kind = and_right (not kind) false refl
 both_tests false test kind = refl
 
--- what waits of a test once a kind is lost: what passes the test and is not of the kind
+-- a message waits and passes the test after a loss exactly if it did before and is not of the lost
+-- kind
 waiting_without : (test kind : Frame → Bool) (sent : List Frame) (waits : List Bool) (n : ℕ) → is_waiting test (record { sent = sent; waits = waits_without kind sent waits }) n ≡ is_waiting (λ f. test f && not (kind f)) (record { sent = sent; waits = waits }) n
 waiting_without test kind [] waits n = past test waits n ∙ sym (past (λ f. test f && not (kind f)) waits n)
 waiting_without test kind (f ∷ sent) [] n = refl

@@ -1,4 +1,4 @@
--- Which numbers stand in which lines.
+-- Which numbers are in which lines.
 use Rattle.std.proofs.Common.{◌≡◌, refl, ℕ, zero, suc, false, List, [], ◌∷◌, ◌++◌}
 use Rattle.std.specs.BTreeSet.{BTreeSet}
 use Rattle.network.specs.Lines.{stands}

@@ -1,3 +1,3 @@
 pub mod Mail
 pub mod Lines
-pub mod Kept
+pub mod Representation

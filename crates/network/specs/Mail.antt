@@ -1,16 +1,16 @@
--- The messages that were ever sent, and which of them wait. The first has number 0.
+-- All messages sent so far, and which of them still wait. The first message has number 0.
 use Rattle.std.specs.Prelude.{◌≡◌, ◌<◌, suc, min, ◌==◌, ◌&&◌, ℕ, Bool, true, false, not, List, [], ◌∷◌, ◌++◌, length, Option, None, Some, if◌then◌else◌, slice_get, slice_index_or, slice_set}
 use Rattle.std.specs.Option.{option_map, option_map_or}
 use Rattle.ens_base.specs.PeerSet.{holds}
 use Rattle.ens_base.specs.View.{IsPeer}
 use Rattle.wire_frames.specs.declared.frame.Frame.{Frame}
 
--- the messages in the order of sending, and of each whether it waits
+-- the messages in the order of sending, and for each whether it waits
 pub record Mail : Type 0 where
   pub sent : List Frame
   pub waits : List Bool
 
--- a peer sends it to a peer
+-- the sender and the receiver are peers, in 1 to 31
 abbrev pub IsBetweenPeers : Frame → Type 0
 IsBetweenPeers f = IsPeer f.from × IsPeer f.to
 
@@ -18,33 +18,33 @@ IsBetweenPeers f = IsPeer f.from × IsPeer f.to
 abbrev pub no_mail : Mail
 no_mail = record { sent = []; waits = [] }
 
--- the message comes behind the others, and waits
+-- a message is sent: it comes after all others, and waits
 abbrev pub posted : Mail → Frame → Mail
 posted m f = record { sent = m.sent ++ f ∷ []; waits = m.waits ++ true ∷ [] }
 
--- the message of this number waits no more; where there is none, nothing changes
+-- the message of this number no longer waits; nothing changes if there is none
 abbrev pub settled : Mail → ℕ → Mail
 settled m n = record m { waits = slice_set m.waits n false }
 
--- from this peer to that one
+-- whether the message goes from this sender to this receiver
 abbrev pub goes : ℕ → ℕ → Frame → Bool
 goes from to f = f.from == from && f.to == to
 
--- from this peer to one of the set
+-- whether the message goes from this sender to a member of the set
 abbrev pub goes_into : ℕ → List Bool → Frame → Bool
 goes_into from peers f = f.from == from && holds peers f.to
 
--- sender and receiver are both in the set
+-- whether the sender and the receiver are both in the set
 abbrev pub is_among : List Bool → Frame → Bool
 is_among peers f = holds peers f.from && holds peers f.to
 
--- of each message whether it still waits, once those that pass the test are lost
+-- the flags after a loss: the messages that pass the test no longer wait
 abbrev pub waits_without : (Frame → Bool) → List Frame → List Bool → List Bool
 waits_without test [] waits = waits
 waits_without test (f ∷ sent) [] = []
 waits_without test (f ∷ sent) (w ∷ waits) = (w && not (test f)) ∷ waits_without test sent waits
 
--- no message from this peer to that one waits any more
+-- all messages from this sender to this receiver are lost
 abbrev pub lost : ℕ → ℕ → Mail → Mail
 lost from to m = record m { waits = waits_without (goes from to) m.sent m.waits }
 
@@ -58,7 +58,7 @@ least test (f ∷ sent) (w ∷ waits) = if w && test f then Some 0 else option_m
 abbrev pub oldest : (Frame → Bool) → Mail → Option ℕ
 oldest test m = least test m.sent m.waits
 
--- the lesser of two numbers, or the one that there is
+-- the lesser of two numbers, or the only one present
 abbrev pub older : Option ℕ → Option ℕ → Option ℕ
 older None second = second
 older (Some a) second = Some (option_map_or (min a) second a)
@@ -71,10 +71,10 @@ is_waiting test m n = slice_index_or m.waits n false && option_map_or test (slic
 abbrev pub IsClear : (Frame → Bool) → ℕ → Mail → Type 0
 IsClear test k m = (n : ℕ) → n < k → is_waiting test m n ≡ false
 
--- of each message it is known whether it waits
+-- there is one flag for each message
 abbrev pub IsMail : Mail → Type 0
 IsMail m = length m.waits ≡ length m.sent
 
--- as many messages as are ever sent
+-- the greatest number of messages that are ever sent
 abbrev pub most_messages : ℕ
 most_messages = 500000

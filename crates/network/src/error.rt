@@ -3,12 +3,12 @@ ghost use Rattle.network.specs.declared.error.SendError.TheVariants.{Memory};
 
 use std::alloc::{AllocError, AllocFailed};
 
-/// Why a message is not sent.
+/// Why a message was not sent.
 #[derive(Clone, Copy, Debug, PartialEq, Eq)]
 pub enum SendError {
-    /// As many messages as a network keeps were sent already.
+    /// 500,000 messages were sent already.
     Limit,
-    /// Memory ran out.
+    /// Out of memory.
     Memory,
 }
 

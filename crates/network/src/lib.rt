@@ -1,9 +1,10 @@
-//! The messages that were ever sent between the peers of a simulation, and which of them wait.
+//! The messages sent between the peers of a simulation.
 //!
-//! A `Network` keeps every message in the order of sending, and of each whether it waits: until it
-//! is delivered or lost. It answers the oldest message that waits from one peer to another, or
-//! among some peers, without a walk over all that was ever sent. Contracts see the two lists
-//! (`specs/Mail`); `specs/Lines` says how the numbers of those that wait are kept.
+//! A `Network` keeps every message in the order of sending, and for each whether it still waits: a
+//! message waits until it is delivered or lost. It finds the oldest message waiting from one peer
+//! to another, or among a set of peers, without a walk over all messages. Contracts see a network
+//! as two lists (`specs/Mail`). `specs/Lines` and `specs/Representation` say how the numbers of the
+//! waiting messages are stored.
 #![tactic(auto)]
 
 mod error;
@@ -14,6 +15,3 @@ mod network;
 pub use error::SendError;
 pub use laws::{the_lost_are_gone, the_oldest_comes_first, the_oldest_grows_younger};
 pub use network::Network;
-
-#[cfg(test)]
-mod tests;

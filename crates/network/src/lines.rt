@@ -5,11 +5,11 @@ use std::alloc::{AllocError, Global};
 use std::collections::BTreeSet;
 use std::marker::Model;
 
-/// As many lines as there are pairs of numbers below 32.
+/// One line for each pair of numbers below 32.
 const LINES: usize = 1024;
 
-/// The numbers of the messages that wait, in a line for each sender and receiver.
-/// Contracts see the sets, one of each line.
+/// The numbers of the waiting messages, in one set for each sender and receiver. Contracts see the
+/// list of the sets.
 #[derive(Drop)]
 pub struct Lines {
     lines: Vec<BTreeSet<usize>>,
@@ -27,7 +27,7 @@ impl Model for Lines {
 }
 
 impl Lines {
-    /// Lines where nothing stands.
+    /// Makes lines that are all empty. Fails when out of memory.
     pub fn new(alloc: Global) -> Result<Lines, AllocError>
         ensures { IfOk result (λ l. (p n : ℕ) → stands l p n ≡ false) }
     {
@@ -38,7 +38,8 @@ impl Lines {
         Ok(Lines { lines })
     }
 
-    /// Puts a number into a line, or leaves all lines as they were.
+    /// Inserts `number` into the line at `place`. Fails when out of memory, and then leaves all
+    /// lines as they were.
     pub fn insert(&mut self, place: usize, number: usize) -> Result<(), AllocError>
         requires { place < 1024 }
         ensures ok { OnOk result (Marks self.old self.new place number true) }
@@ -48,7 +49,7 @@ impl Lines {
         Ok(())
     }
 
-    /// Takes a number out of a line, where it may not stand.
+    /// Removes `number` from the line at `place`, if it is there.
     pub fn remove(&mut self, place: usize, number: usize)
         requires { place < 1024 }
         ensures { Marks self.old self.new place number false }
@@ -56,7 +57,7 @@ impl Lines {
         self.lines[place].remove(&number);
     }
 
-    /// Takes all numbers out of a line.
+    /// Removes all numbers from the line at `place`.
     pub fn clear(&mut self, place: usize)
         requires { place < 1024 }
         ensures { Empties self.old self.new place }
@@ -64,7 +65,7 @@ impl Lines {
         self.lines[place].clear();
     }
 
-    /// The least number of a line.
+    /// Returns the least number in the line at `place`, or `None` if the line is empty.
     pub fn first(&self, place: usize) -> Option<usize>
         requires { place < 1024 }
         ensures none { IfNone result ((n : ℕ) → stands self.now place n ≡ false) }

@@ -9,8 +9,8 @@ use std::alloc::{AllocError, Global};
 use std::marker::Model;
 use wire_frames::Frame;
 
-/// The messages that were ever sent, and which of them wait. The first has number 0. Contracts see
-/// two lists: the messages, and of each whether it waits.
+/// All messages sent so far, and which of them still wait. The first message has number 0.
+/// Contracts see a `Mail`: the list of messages, and a flag for each that says whether it waits.
 #[derive(Drop)]
 pub struct Network {
     sent: Vec<Frame>,
@@ -22,7 +22,7 @@ impl Model for Network {
 
     ghost Value = { Mail };
 
-    ghost use Rattle.network.specs.Kept.{mail_in, IsKept};
+    ghost use Rattle.network.specs.Representation.{mail_in, IsKept};
 
     ghost view = { λ n. mail_in n.sent.items n.waiting };
 
@@ -33,10 +33,10 @@ impl Network {
     ghost use Rattle.network.specs.Mail.{no_mail, posted, settled, lost, oldest, goes, goes_into, is_among, IsBetweenPeers, IsMail, most_messages};
     ghost use Rattle.network.specs.Lines.{line_place};
 
-    /// As many messages as are ever sent.
+    /// The greatest number of messages that a network keeps.
     pub const MOST: usize = 500_000;
 
-    /// Nothing was sent.
+    /// Makes a network in which nothing was sent. Fails when out of memory.
     pub fn new(alloc: Global) -> Result<Network, AllocError>
         ensures { IfOk result (λ n. n ≡ no_mail) }
     {
@@ -46,7 +46,7 @@ impl Network {
         })
     }
 
-    /// The messages, in the order of sending.
+    /// Returns all messages sent so far, in the order of sending.
     pub fn sent(&self) -> &[Frame]
         ensures sent { result.now ≡ self.now.sent }
         ensures mail { IsMail self.now }
@@ -55,7 +55,7 @@ impl Network {
         self.sent.as_slice()
     }
 
-    /// The place of the line from a peer to a peer.
+    /// Returns the place of the line for this sender and receiver.
     fn place(from: u32, to: u32) -> usize
         requires { IsPeer from × IsPeer to }
         ensures { result ≡ line_place from to }
@@ -63,7 +63,12 @@ impl Network {
         (from * 32 + to) as usize
     }
 
-    /// Sends a message, which waits from now on. A refusal leaves all as it was.
+    /// Sends a message between two peers. It gets the next number, and waits.
+    ///
+    /// # Errors
+    ///
+    /// `Limit` exactly if 500,000 messages were sent already, and `Memory` when out of memory. Both
+    /// leave the network as it was.
     pub fn send(&mut self, frame: Frame) -> Result<(), SendError>
         requires { IsBetweenPeers frame }
         ensures ok { OnOk result (self.new ≡ posted self.old frame) }
@@ -81,7 +86,7 @@ impl Network {
         Ok(())
     }
 
-    /// The message of this number, if there is one, waits no more.
+    /// Marks the message `number` as no longer waiting. Does nothing if there is no such message.
     pub fn settle(&mut self, number: usize)
         ensures { self.new ≡ settled self.old number }
     {
@@ -92,7 +97,7 @@ impl Network {
         self.waiting.remove(place, number);
     }
 
-    /// The messages from a peer to a peer wait no more.
+    /// Loses all messages waiting from `from` to `to`. They stay in the list of sent messages.
     pub fn lose(&mut self, from: PeerId, to: PeerId)
         requires { IsPeer from × IsPeer to }
         ensures { self.new ≡ lost from to self.old }
@@ -100,7 +105,7 @@ impl Network {
         self.waiting.clear(Network::place(from.0, to.0));
     }
 
-    /// The oldest message that waits from a peer to a peer.
+    /// Returns the number of the oldest message waiting from `from` to `to`.
     pub fn oldest_between(&self, from: PeerId, to: PeerId) -> Option<usize>
         requires { IsPeer from × IsPeer to }
         ensures oldest { result ≡ oldest (goes from to) self.now }
@@ -109,12 +114,12 @@ impl Network {
         self.waiting.first(Network::place(from.0, to.0))
     }
 
-    /// The oldest message that waits from a peer to one of the set.
+    /// Returns the number of the oldest message waiting from `from` to a member of `peers`.
     fn oldest_from(&self, from: PeerId, peers: &PeerSet) -> Option<usize>
         requires { IsPeer from }
         ensures { result ≡ oldest (goes_into from peers.now) self.now }
     {
-        // The ends of each message are from 1 to 31.
+        // The sender and the receiver of every message are in 1 to 31.
         let _ = &self.sent;
         let mut best = None;
         for number in 1..32 {
@@ -126,12 +131,13 @@ impl Network {
         best
     }
 
-    /// The oldest message that waits and whose sender and receiver are both in the set.
+    /// Returns the number of the oldest waiting message whose sender and receiver are both in
+    /// `peers`.
     pub fn oldest_among(&self, peers: &PeerSet) -> Option<usize>
         ensures oldest { result ≡ oldest (is_among peers.now) self.now }
         ensures sent { IfSome result (λ n. n < length self.now.sent) }
     {
-        // The ends of each message are from 1 to 31.
+        // The sender and the receiver of every message are in 1 to 31.
         let _ = &self.sent;
         let mut best = None;
         for number in 1..32 {
@@ -144,7 +150,7 @@ impl Network {
     }
 }
 
-/// The older of two messages, or the one that there is.
+/// Returns the lesser of two numbers, or the only one present.
 fn older(first: Option<usize>, second: Option<usize>) -> Option<usize>
     ensures { result ≡ older first second }
 {

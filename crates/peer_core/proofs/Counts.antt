@@ -37,7 +37,7 @@ module _ {B N F : Type 0} (gives : B → (call : BackendCall) → BackendAnswer 
   facts_later : (s t : Stores B N F) → f s.facts ≤ f t.facts → t.backend ≡ s.backend → t.nodes ≡ s.nodes → AreLater b n f s t
   facts_later s t le eb en = record { backend = same_count b s.backend t.backend eb; nodes = same_count n s.nodes t.nodes en; facts = le }
 
-  -- a call that is answered lowers no count
+  -- an answered call lowers no count
   pub do_later : (s : Stores B N F) (call : Call) (a : AnswerOf call) (t : Stores B N F) → stores_do gives b n tells kept f s call a t → AreLater b n f s t
   do_later s Load a t did = facts_later s t did.2 did.3.0 did.3.1
   do_later s (Save fact) a t did = facts_later s t did.1 did.2.0 did.2.1
@@ -52,7 +52,8 @@ module _ {B N F : Type 0} (gives : B → (call : BackendCall) → BackendAnswer 
   fault : (s : Stores B N F) (e : PeerError) (t : Stores B N F) → e ≡ errors.StoreFault → SomeRose b n f s t → IsCause b n f s t e
   fault s e t is rose = rw is rose
 
-  -- a call is refused for a fault of a store, whose count rose, or since what is kept is no fact
+  -- a call is refused because the count of faults of a store rose, or because what is kept is not a
+  -- fact
   pub refusal_cause : (s : Stores B N F) (call : Call) (e : PeerError) (t : Stores B N F) → stores_refuse loses b n drops kept f s call e t → IsCause b n f s t e
   refusal_cause s Load errors.StoreFault t off = inr (inr off.0.rose)
   refusal_cause s Load (errors.BadFact why) t off = tt
@@ -85,7 +86,8 @@ module _ {B N F : Type 0} (gives : B → (call : BackendCall) → BackendAnswer 
   stopped_by : (e error : PeerError) (s t : Stores B N F) → Stopped e ≡ Stopped error → IsCause b n f s t error → IsCause b n f s t e
   stopped_by e error s t same why = rw (stopped_injective e error same) why
 
-  -- a plan is stopped by a fault of a store, whose count rose since its beginning, or since what is kept is no fact
+  -- a plan stops because the count of faults of a store rose since its beginning, or because what
+  -- is kept is not a fact
   pub stopped_cause : (p : Plan) (s : Stores B N F) (ns : List Note) (e : PeerError) (t : Stores B N F) (ms : List Note)
       → Runs (stores_do gives b n tells kept f) (stores_refuse loses b n drops kept f) p s ns (Stopped e) t ms → IsCause b n f s t e
   stopped_cause (Done x out) s ns e t ms ran = let none : ⊥ = grind (arith, ran.0) in absurd none
@@ -95,7 +97,7 @@ module _ {B N F : Type 0} (gives : B → (call : BackendCall) → BackendAnswer 
     | inr on ↦ cause_later s on.1 t e (do_later s call on.0 on.1 on.2) (stopped_cause (next on.0) on.1 ns e t ms on.3)
   ]
 
-  -- a call of the facts touches them alone
+  -- a call of the fact keeper touches nothing else
   loaded_alone : (s m t : Stores B N F) → FactsAlone s m → FactsAlone m t → FactsAlone s t
   loaded_alone s m t first then = (then.0 ∙ first.0, then.1 ∙ first.1)
 
@@ -107,7 +109,7 @@ module _ {B N F : Type 0} (gives : B → (call : BackendCall) → BackendAnswer 
     | inr on ↦ let none : ⊥ = grind (arith, on.3.0) in absurd none
   ]
 
-  -- a start that is stopped has touched the facts alone
+  -- a start that stopped touched only the fact keeper
   pub start_alone : (view : List ℕ) (s : Stores B N F) (ns : List Note) (e : PeerError) (t : Stores B N F) (ms : List Note)
       → Runs (stores_do gives b n tells kept f) (stores_refuse loses b n drops kept f) (start_of view) s ns (Stopped e) t ms → FactsAlone s t
   start_alone view s ns e t ms ran = elim ran [

@@ -22,19 +22,19 @@ use Rattle.wire_frames.specs.declared.message.Message.{Message}
 use Rattle.wire_frames.specs.declared.message.NackCause.{NackCause}
 use Rattle.wire_frames.specs.declared.message.NackCause.TheVariants as causes
 use Rattle.wire_frames.specs.declared.phase.PhaseOut.{PhaseOut}
-use Rattle.peer_core.specs.Kept.{MaySend, AllObey}
+use Rattle.peer_core.specs.Guarantees.{MaySend, AllObey}
 use Rattle.peer_core.specs.Plans.{Out}
 use Rattle.peer_core.specs.Rules.{and_sends, word_to, word_of_end}
 use Rattle.peer_core.specs.Sends.{posted, posted_to}
 use Rattle.peer_core.specs.declared.outbox.Outgoing.{Outgoing}
 use Rattle.peer_core.specs.declared.state.Leadership.{Leadership}
 
--- what is true of both branches is true of the choice
+-- what holds of both branches holds of the choice
 pub either : {A : Type 0} (P : A → Type 0) (t : Bool) (a b : A) → P a → P b → P (if t then a else b)
 either P true a b p q = p
 either P false a b p q = q
 
--- the message of a row, if there is one, obeys
+-- the message of a row, if there is one, obeys the grammar
 abbrev pub RowObeys : PhaseOut → Type 0
 RowObeys row = IfSome row.message Obeys
 

@@ -1,7 +1,7 @@
 pub mod Counts
 pub mod Grammar
 pub mod Halts
-pub mod Kept
+pub mod Guarantees
 pub mod Alone
 pub mod Steady
 pub mod Straight

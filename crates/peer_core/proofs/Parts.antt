@@ -1,4 +1,4 @@
--- Parts of a step, one after the other.
+-- Parts of a step, one after another.
 use Rattle.std.proofs.Common.{◌≡◌, ◌<◌, ◌≤◌, ℕ, true, false, nat_lt, arith, subst, List, [], Result, Ok, Err, refl}
 use Rattle.std.proofs.lemmas.Bool.Decides.{nat_tests}
 use Rattle.register_model.specs.declared.note.Note.{Note}
@@ -13,7 +13,7 @@ use Rattle.peer_core.specs.Steps.{Ended}
 use Rattle.peer_core.specs.declared.machine.Machine.{Machine}
 use Rattle.peer_core.specs.declared.outbox.Outbox.{Outbox}
 
--- where the plan q goes on from where p came to, what did q did p
+-- if plan q goes on from the point that p reached, then what q did, p did
 pub did_after : {A S : Type 0} (does : S → (call : Call) → AnswerOf call → S → Type 0) (refuses : S → Call → PeerError → S → Type 0) (p q : Rest → Plan)
     (s m : S) (ns ks : List Note) (r : Result A PeerError) (x : State) (out : Out) (t : S) (ms : List Note)
     → ((next : Rest) (e : Ending) (end : S) (ls : List Note) → Runs does refuses (q next) m ks e end ls → Runs does refuses (p next) s ns e end ls)
@@ -26,7 +26,7 @@ did_after does refuses p q s m ns ks (Err errors.Memory) x out t ms step did = t
 did_after does refuses p q s m ns ks (Err errors.Halted) x out t ms step did = did
 did_after does refuses p q s m ns ks (Err (errors.BadFact why)) x out t ms step did = did
 
--- a part that is the whole of a step, from an empty outbox
+-- a part that is a whole step, from an empty outbox
 pub whole : {A S : Type 0} (does : S → (call : Call) → AnswerOf call → S → Type 0) (refuses : S → Call → PeerError → S → Type 0) (p : Rest → Plan)
     (s : S) (r : Result A PeerError) (x : State) (out : Out) (t : S) (ms : List Note)
     → Did does refuses p s [] r x out t ms → Ended does refuses (p Done) s r x out t ms
@@ -38,17 +38,17 @@ whole does refuses p s (Err errors.Memory) x out t ms did = tt
 whole does refuses p s (Err errors.Halted) x out t ms did = did
 whole does refuses p s (Err (errors.BadFact why)) x out t ms did = did
 
--- an empty outbox has nothing that leaves the peer
+-- an empty outbox has no output
 pub empty_out : (o : Outbox) → Empty o → out_of o ≡ nothing
 empty_out o e = rw e.sends (rw e.answers (rw e.changes refl))
 
--- the same, where the outbox is known to be empty
+-- a part that begins with an outbox known to be empty
 pub begun : {A S : Type 0} (does : S → (call : Call) → AnswerOf call → S → Type 0) (refuses : S → Call → PeerError → S → Type 0) (p : Out → Rest → Plan)
     (first : Out) (s : S) (ns : List Note) (r : Result A PeerError) (x : State) (out : Out) (t : S) (ms : List Note)
     → first ≡ nothing → ns ≡ [] → Did does refuses (p first) s ns r x out t ms → Ended does refuses (p nothing Done) s r x out t ms
 begun does refuses p first s ns r x out t ms none silent did = whole does refuses (p nothing) s r x out t ms (rw (← none) (rw (← silent) did))
 
--- what did a part did also the part that is the same at an equal value
+-- what did a part also did the equal part at an equal value
 pub at_equal : {R A S : Type 0} (does : S → (call : Call) → AnswerOf call → S → Type 0) (refuses : S → Call → PeerError → S → Type 0) (part : R → State → Out → Rest → Plan)
     (old : Machine S) (before : Outbox) (r : Result A PeerError) (new : Machine S) (after : Outbox) (a b : R)
     → a ≡ b → Acts does refuses (part a) old before r new after → Acts does refuses (part b) old before r new after

@@ -1,4 +1,5 @@
--- At the end of each step rule 6 has run. So no leader is still to end its epoch there, and before the next step.
+-- Rule 6 runs at the end of each step, so no leader is still to end its epoch there, nor before the
+-- next step.
 use Rattle.std.proofs.Common.{◌≡◌, ℕ, ◌^◌, ◌-◌, Bool, true, false, not, ◌||◌, ◌==◌, if◌then◌else◌, Option, Some, None, refl, sym, subst}
 use Rattle.std.proofs.lemmas.List.Elements.{All-nil}
 use Rattle.peer_fact.specs.declared.fact.Fact.{Fact}
@@ -14,9 +15,9 @@ use Rattle.view_change.specs.declared.finishing.Finishing.{Finishing}
 use Rattle.wire_frames.specs.declared.phase.PhaseOut.{PhaseOut}
 use Rattle.wire_frames.specs.declared.phase.Then.{Then}
 use Rattle.wire_frames.specs.declared.phase.Then.TheVariants as thens
-use Rattle.peer_core.specs.Kept.{Follows, IsFactCall, MaySend}
-use Rattle.peer_core.specs.Light.{is_over, is_over_in, IsSteady}
-use Rattle.peer_core.specs.Moves.{stopped_leading, without_candidacy, moved, left, stood}
+use Rattle.peer_core.specs.Guarantees.{Follows, IsFactCall, MaySend}
+use Rattle.peer_core.specs.NoAllocation.{is_over, is_over_in, IsSteady}
+use Rattle.peer_core.specs.Transitions.{stopped_leading, without_candidacy, moved, left, stood}
 use Rattle.peer_core.specs.Plans.{Plan, Done, Out, nothing, Rest}
 use Rattle.peer_core.specs.Rules.{saved, performed, done, onward, done_then, and_sends, electing, while_14, plan_14, while_13, plan_13, plan_10, plan_26, while_6, plan_6}
 use Rattle.peer_core.specs.Sends.{posted_to}
@@ -26,7 +27,7 @@ use Rattle.peer_core.specs.declared.state.Leadership.{Leadership}
 use Rattle.peer_core.specs.declared.state.Phase.{Phase}
 use Rattle.peer_core.specs.declared.state.Phase.TheVariants as phases
 use Rattle.peer_core.specs.declared.state.State.{State}
-use Rattle.peer_core.proofs.Kept.{plan_of_passes}
+use Rattle.peer_core.proofs.Guarantees.{plan_of_passes}
 
 -- the peer leads no epoch
 abbrev IsNoLeader : Phase → Type 0
@@ -35,15 +36,15 @@ IsNoLeader (phases.Following f) = Unit {0}
 IsNoLeader (phases.Probing p) = Unit {0}
 IsNoLeader (phases.Electing e) = Unit {0}
 
--- the plan asks for facts alone, and comes to steady ends
+-- the plan calls only the fact keeper, and reaches steady ends
 abbrev Steadies : Plan → Type 0
 Steadies = Follows IsFactCall (λ y out. IsSteady y)
 
--- the same of what comes next, from each steady state
+-- what comes next reaches steady ends from each steady state
 abbrev GoesOn : Rest → Type 0
 GoesOn next = (y : State) (more : Out) → IsSteady y → Steadies (next y more)
 
--- a rule comes to steady ends from each state that leads no epoch
+-- a rule reaches steady ends from each state that leads no epoch
 abbrev Settles : (State → Out → Rest → Plan) → Type 0
 Settles rule = (x : State) (out : Out) (next : Rest) → IsNoLeader x.phase → GoesOn next → Steadies (rule x out next)
 
@@ -73,7 +74,7 @@ untrusted_steady (phases.Following f) fact = refl
 untrusted_steady (phases.Probing p) fact = refl
 untrusted_steady (phases.Electing e) fact = starting_steady e fact
 
--- what comes after a row leads no epoch that is ending
+-- what follows a row leads no epoch that is to end
 moved_steady : (t : Then) (x : State) → IsSteady x → IsSteady (moved t x)
 moved_steady thens.Stay x steady = steady
 moved_steady thens.Follow x steady = refl
@@ -129,7 +130,7 @@ while_13_settles (phases.Leading l) me is x out next none go = absurd is
 plan_13_settles : (me : ℕ) → Settles (plan_13 me)
 plan_13_settles me x out next none go = while_13_settles x.phase me none x out next none go
 
--- a peer that was to ask for a ballot follows, or asks for it: it leads no epoch any more
+-- a peer that should prepare a ballot prepares it or follows; it leads no epoch any more
 plan_10_settles : (me : ℕ) (best : Fact) (count : ℕ) (x : State) (out : Out) (next : Rest) → GoesOn next → Steadies (plan_10 me best count x out next)
 plan_10_settles me best count x out next go = by_test (not (is_member (views_after best) me) || count == 2 ^ 64 - 1)
   where
@@ -140,7 +141,7 @@ plan_10_settles me best count x out next go = by_test (not (is_member (views_aft
     by_test true = go _ _ refl
     by_test false = done_then_settles (plan_13 me) (plan_13_settles me) asked.0 (stood asked.1 x) out next tt go
 
--- an epoch that is not to end stays; one that is to end leads to rule 10, or the peer follows
+-- an epoch that is not to end stays; otherwise rule 10 runs, or the peer follows
 plan_26_settles : (l : Leadership) (me : ℕ) (x : State) (out : Out) (next : Rest) → x.phase ≡ phases.Leading l → GoesOn next → Steadies (plan_26 l.finishing me x out next)
 plan_26_settles l me x out next is go = by_finishing l.finishing refl
   where
@@ -160,7 +161,7 @@ while_6_settles (phases.Following f) me x out next is go = go x out (let P : Pha
 while_6_settles (phases.Probing p) me x out next is go = go x out (let P : Phase → Type 0 = λ phase. is_over_in phase x.fact ≡ false in subst P (sym is) refl)
 while_6_settles (phases.Electing e) me x out next is go = go x out (let P : Phase → Type 0 = λ phase. is_over_in phase x.fact ≡ false in subst P (sym is) refl)
 
--- a step comes to a steady state
+-- a step reaches a steady state
 pub steps_steady : (me : ℕ) (event : Event) (x : State) → Follows IsFactCall (λ y out. IsSteady y) (step_of me event x)
 steps_steady me event x =
     plan_of_passes (λ y out. IsSteady y) me event x nothing (λ y more. plan_6 me y more Done) (All-nil MaySend)

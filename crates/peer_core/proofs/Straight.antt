@@ -1,4 +1,4 @@
--- A step on a message that is answered by one message at most, put straight into the outbox.
+-- A step on a message that is answered with at most one message, put directly into the outbox.
 use Rattle.std.specs.Prelude.{IfSome, OnOk, OnErr}
 use Rattle.std.proofs.Common.{◌≡◌, ℕ, Bool, false, ◌&&◌, if◌then◌else◌, List, [], ◌++◌, Option, Some, None, Result, Ok, Err, refl, sym, subst}
 use Rattle.std.proofs.lemmas.List.{append-nil}
@@ -18,8 +18,8 @@ use Rattle.wire_frames.specs.declared.phase.PhaseOut.{PhaseOut}
 use Rattle.wire_frames.specs.declared.phase.Then.{Then}
 use Rattle.wire_frames.specs.declared.phase.Then.TheVariants as thens
 use Rattle.peer_core.specs.Calls.{Call, AnswerOf}
-use Rattle.peer_core.specs.Kept.{Follows, IsFactCall}
-use Rattle.peer_core.specs.Light.{is_over, is_over_in, IsSteady, light_answer, light_row, GoesTo, answered}
+use Rattle.peer_core.specs.Guarantees.{Follows, IsFactCall}
+use Rattle.peer_core.specs.NoAllocation.{is_over, is_over_in, IsSteady, allocation_free_answer, allocation_free_row, GoesTo, answered}
 use Rattle.peer_core.specs.Plans.{Plan, Done, Out, nothing, Rest, Ending, Finished, Stopped, Runs, Gave, with_state}
 use Rattle.peer_core.specs.Rules.{and_sends, done, onward, plan_10, plan_26, while_6, plan_6}
 use Rattle.peer_core.specs.Sends.{posted_to}
@@ -34,7 +34,7 @@ use Rattle.peer_core.specs.declared.state.Phase.{Phase}
 use Rattle.peer_core.specs.declared.state.Phase.TheVariants as phases
 use Rattle.peer_core.specs.declared.state.State.{State}
 use Rattle.peer_core.proofs.Grammar.{either}
-use Rattle.peer_core.proofs.Kept.{ran_follows}
+use Rattle.peer_core.proofs.Guarantees.{ran_follows}
 use Rattle.peer_core.proofs.Steady.{steps_steady}
 
 row_11_cases : (P : PhaseOut → Type 0) (fact : Fact) (from : ℕ) (ballot : Epoch) → P (promises_to from (at_ballot fact ballot)) → P (silent thens.Stay) → P (refuses_below from ballot fact) → P (row_11 fact from ballot)
@@ -47,39 +47,40 @@ row_19_cases P fact trusted from ballot refused followed ignored =
     either P (is_below ballot fact.ballot) (refuses_below from ballot fact) (silent (if is_same fact.epoch ballot && trusted then thens.Follow else thens.Stay)) refused
     (either (λ t. P (silent t)) (is_same fact.epoch ballot && trusted) thens.Follow thens.Stay followed ignored)
 
--- the row is all that a step does on the event, but for rule 6; it leaves a steady state, and its message goes to the sender alone
+-- the row is all that a step does on the event, except for rule 6; it leaves a steady state, and
+-- its message goes to the sender alone
 pub record IsAnswer (me : ℕ) (event : Event) (x : State) (from : ℕ) (row : PhaseOut) : Type 0 where
   pub plan : step_of me event x ≡ done row x nothing (λ y more. plan_6 me y more Done)
   pub goes : GoesTo from row
   pub steady : IsSteady x → Follows IsFactCall (λ y out. IsSteady y) (answered row x (λ y. Done y nothing))
   pub sender : HasSender event → IsPeer from
 
--- of a message
-light_answer_is : (me from : ℕ) (message : Message) (x : State) → IfSome (light_answer from message x) (λ k. IsAnswer me (events.Deliver from message) x k.0 k.1)
-light_answer_is me from (messages.Prepare ballot) x = record {
+-- for a message
+allocation_free_answer_is : (me from : ℕ) (message : Message) (x : State) → IfSome (allocation_free_answer from message x) (λ k. IsAnswer me (events.Deliver from message) x k.0 k.1)
+allocation_free_answer_is me from (messages.Prepare ballot) x = record {
   plan = refl;
   goes = row_11_cases (GoesTo from) x.fact from ballot refl tt refl;
   steady = λ steady. row_11_cases (λ row. Follows IsFactCall (λ y out. IsSteady y) (answered row x (λ y. Done y nothing))) x.fact from ballot (tt, λ u. refl) steady steady;
   sender = λ is. is;
 }
-light_answer_is me from (messages.Check epoch round) x = record { plan = refl; goes = tt; steady = λ steady. steady; sender = λ is. is }
-light_answer_is me from (messages.Beat ballot) x = record {
+allocation_free_answer_is me from (messages.Check epoch round) x = record { plan = refl; goes = tt; steady = λ steady. steady; sender = λ is. is }
+allocation_free_answer_is me from (messages.Beat ballot) x = record {
   plan = refl;
   goes = row_19_cases (GoesTo from) x.fact x.trusted from ballot refl tt tt;
   steady = λ steady. row_19_cases (λ row. Follows IsFactCall (λ y out. IsSteady y) (answered row x (λ y. Done y nothing))) x.fact x.trusted from ballot steady refl steady;
   sender = λ is. is;
 }
-light_answer_is me from other x = tt
+allocation_free_answer_is me from other x = tt
 
-light_row_is : (me : ℕ) (event : Event) (x : State) → IfSome (light_row event x) (λ k. IsAnswer me event x k.0 k.1)
-light_row_is me (events.Deliver from message) x = light_answer_is me from message x
-light_row_is me events.Tick x = tt
-light_row_is me (events.Call call) x = tt
-light_row_is me (events.Change view) x = tt
+allocation_free_row_is : (me : ℕ) (event : Event) (x : State) → IfSome (allocation_free_row event x) (λ k. IsAnswer me event x k.0 k.1)
+allocation_free_row_is me (events.Deliver from message) x = allocation_free_answer_is me from message x
+allocation_free_row_is me events.Tick x = tt
+allocation_free_row_is me (events.Call call) x = tt
+allocation_free_row_is me (events.Change view) x = tt
 
--- the row of an event is such a row
-pub is_answer : (me : ℕ) (event : Event) (x : State) (from : ℕ) (row : PhaseOut) → light_row event x ≡ Some (from, row) → IsAnswer me event x from row
-is_answer me event x from row is = subst (λ o. IfSome o (λ k. IsAnswer me event x k.0 k.1)) is (light_row_is me event x)
+-- for an event
+pub is_answer : (me : ℕ) (event : Event) (x : State) (from : ℕ) (row : PhaseOut) → allocation_free_row event x ≡ Some (from, row) → IsAnswer me event x from row
+is_answer me event x from row is = subst (λ o. IfSome o (λ k. IsAnswer me event x k.0 k.1)) is (allocation_free_row_is me event x)
 
 -- in a steady state rule 6 changes nothing
 module _ {S : Type 0} (does : S → (call : Call) → AnswerOf call → S → Type 0) (refuses : S → Call → PeerError → S → Type 0) (me : ℕ) (y : State) (out : Out)
@@ -102,14 +103,14 @@ module _ {S : Type 0} (does : S → (call : Call) → AnswerOf call → S → Ty
 
 module _ {A S : Type 0} (does : S → (call : Call) → AnswerOf call → S → Type 0) (refuses : S → Call → PeerError → S → Type 0) (me : ℕ) (event : Event) (from : ℕ) (row : PhaseOut)
     (old new : Machine S) (before after : Outbox) (answer : IsAnswer me event old.state from row) (steady : IsSteady old.state) where
-  -- such a step ends in a steady state
+  -- such an answer leaves a steady state
   pub straight_steady : (r : Result A PeerError) → Gave does refuses (λ next. answered row old.state next) old.stores (with_state r new.state) new.stores → OnOk r (IsSteady new.state)
   straight_steady (Ok u) gave =
       ran_follows does refuses IsFactCall (λ y out. IsSteady y) (answered row old.state (λ y. Done y nothing)) old.stores [] new.state nothing new.stores [] (answer.steady steady)
       (gave (λ y. Done y nothing) [] (Finished new.state nothing) new.stores [] (refl, refl, refl))
   straight_steady (Err e) gave = tt
 
-  -- such a step is a step
+  -- such an answer is a whole step
   pub straight : (r : Result A PeerError) → Gave does refuses (λ next. answered row old.state next) old.stores (with_state r new.state) new.stores
       → OnOk r (after.sends.items ≡ before.sends.items ++ posted_to row.to row.message) → OnErr r (after.sends.items ≡ before.sends.items)
       → (after.answers ≡ before.answers) × (after.notes ≡ before.notes) × (after.changes ≡ before.changes) → Steps does refuses me event old before r new after
@@ -149,7 +150,7 @@ module _ {A S : Type 0} (does : S → (call : Call) → AnswerOf call → S → 
       by_result (Err errors.Halted) gave sends kept = gave
       by_result (Err (errors.BadFact why)) gave sends kept = gave
 
--- a step that was taken ends in a steady state
+-- a step reaches a steady state
 pub steadied : {A S : Type 0} (does : S → (call : Call) → AnswerOf call → S → Type 0) (refuses : S → Call → PeerError → S → Type 0) (me : ℕ) (event : Event)
     (old new : Machine S) (before after : Outbox) (r : Result A PeerError) → Steps does refuses me event old before r new after → OnOk r (IsSteady new.state)
 steadied does refuses me event old new before after (Ok u) took =

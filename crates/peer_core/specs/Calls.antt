@@ -1,12 +1,13 @@
--- What a step asks of the stores of a peer, and what it may be answered.
+-- The calls that a step makes to the stores of a peer, and their answers.
 use Rattle.std.specs.Prelude.{ℕ, List, Option}
 use Rattle.ens_base.specs.declared.entry.Entry.{Entry}
 use Rattle.peer_fact.specs.declared.fact.Fact.{Fact}
 use Rattle.tree_node.specs.declared.body.Scan.{Scan}
 use Rattle.tree_node.specs.declared.position.Position.{Position}
 
--- what is kept is loaded, or a fact is saved; in the tree an entry is found, entered, all of it scanned, a node read, or the tree of some entries
--- installed; from the backend the bytes of a key are fetched, or put there
+-- loads or saves the fact; in the tree, finds an entry, enters one, scans all, reads a node, or
+-- installs the tree of some entries; fetches the bytes of a key from the backend, or puts them
+-- there
 pub data Call : Type 0 where
   Load : Call
   Save : (fact : Fact) → Call
@@ -18,12 +19,13 @@ pub data Call : Type 0 where
   Fetch : (key : List ℕ) → Call
   Put : (key bytes : List ℕ) → Call
 
--- what a walk down the tree comes to: what it looked for, or the first position that does not verify. Damage is an answer, and no refusal
+-- the result of a walk down the tree: what it looked for, or the first position that does not
+-- verify; damage is an answer, not an error
 pub data Walked (A : Type 0) : Type 0 where
   Reached : (found : A) → Walked A
   Broken : (at : Position) → Walked A
 
--- what a call is answered
+-- the type of the answer to a call
 abbrev pub AnswerOf : Call → Type 0
 AnswerOf Load = Option Fact
 AnswerOf (Save fact) = Unit {0}

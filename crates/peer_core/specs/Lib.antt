@@ -1,11 +1,11 @@
 pub mod Outboxes
 pub mod Sends
-pub mod Moves
+pub mod Transitions
 pub mod Calls
 pub mod Plans
-pub mod Kept
+pub mod Guarantees
 pub mod Rules
-pub mod Light
+pub mod NoAllocation
 pub mod Outcomes
 pub mod Stores
 pub mod Steps

@@ -7,7 +7,7 @@ use Rattle.peer_core.specs.declared.machine.Machine.{Machine}
 use Rattle.peer_core.specs.declared.outbox.Outbox.{Outbox}
 use Rattle.peer_core.specs.declared.state.State.{State}
 
--- what is in the outbox, but for the notes
+-- the contents of an outbox, without the notes
 abbrev pub out_of : Outbox → Out
 out_of o = record { sends = o.sends.items; answers = o.answers.items; changes = o.changes.items }
 

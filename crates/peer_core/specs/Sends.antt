@@ -4,7 +4,7 @@ use Rattle.ens_base.specs.PeerSet.{holds}
 use Rattle.wire_frames.specs.declared.message.Message.{Message}
 use Rattle.peer_core.specs.declared.outbox.Outgoing.{Outgoing}
 
--- to each peer from 1 up to this number for which the test holds, in ascending order, its word
+-- to each peer from 1 up to this number that passes the test, in ascending order, its message
 unfoldable pub posted : (ℕ → Bool) → (ℕ → Message) → ℕ → List Outgoing
 posted test word zero = []
 posted test word (suc n) = posted test word n ++ (if test (n + 1) then record { to = n + 1; message = word (n + 1) } ∷ [] else [])

@@ -3,27 +3,27 @@ use Rattle.std.specs.Prelude.{ℕ, Bool, true, false, List, [], Option, Some, No
 use Rattle.peer_fact.specs.Facts.{opening_fact}
 use Rattle.peer_fact.specs.declared.fact.Fact.{Fact}
 use Rattle.peer_core.specs.Calls.{Call, Load, Save, AnswerOf}
-use Rattle.peer_core.specs.Moves.{follower}
+use Rattle.peer_core.specs.Transitions.{follower}
 use Rattle.peer_core.specs.Plans.{Plan, Done, Ask, nothing, Finished, Stopped, Runs}
 use Rattle.peer_core.specs.declared.error.PeerError.{PeerError}
 use Rattle.peer_core.specs.declared.error.PeerError.TheVariants as errors
 use Rattle.peer_core.specs.declared.state.State.{State}
 
--- the state with which a peer starts: it follows
+-- the state in which a peer starts: it follows
 abbrev pub first_state : Fact → Bool → State
 first_state fact trusted = record { fact = fact; trusted = trusted; phase = follower }
 
--- what a start comes to, by what was kept: where nothing was, the opening fact is saved and the tree is trusted; else the
--- fact is the one that was kept, and the tree is not trusted
+-- a start from what was kept: without a kept fact the opening fact is saved and the tree is
+-- trusted; otherwise the peer continues from the kept fact, and its tree is not trusted
 abbrev pub opened : List ℕ → Option Fact → Plan
 opened view None = Ask (Save (opening_fact view)) (λ u. Done (first_state (opening_fact view) true) nothing)
 opened view (Some fact) = Done (first_state fact false) nothing
 
--- rule 1: a start, of a peer whose ensemble opens with this view
+-- rule 1: a start of a peer whose ensemble opens in this view
 abbrev pub start_of : List ℕ → Plan
 start_of view = Ask Load (λ kept. opened view kept)
 
--- the start was stopped by this error, at its load or its save
+-- this error stopped the start, at its load or its save
 abbrev pub IsStopped : {S : Type 0} → (S → (call : Call) → AnswerOf call → S → Type 0) → (S → Call → PeerError → S → Type 0)
     → Plan → S → PeerError → S → Type 0
 IsStopped does refuses plan s e t = Runs does refuses plan s [] (Stopped e) t []
@@ -34,7 +34,7 @@ abbrev pub Starts : {S : Type 0} → (S → (call : Call) → AnswerOf call → 
 Starts does refuses plan s (Ok x) t = Runs does refuses plan s [] (Finished x nothing) t []
 Starts does refuses plan s (Err e) t = IsStopped does refuses plan s e t
 
--- why a start is refused
+-- why a start failed
 abbrev pub IsStartError : PeerError → Type 0
 IsStartError errors.StoreFault = Unit {0}
 IsStartError (errors.BadFact why) = Unit {0}

@@ -21,11 +21,12 @@ HasSender events.Tick = Unit {0}
 HasSender (events.Call call) = Unit {0}
 HasSender (events.Change view) = Unit {0}
 
--- the step of a peer of this number, in this state, on an event: what it asks of the stores and notes, and how it ends
+-- the step of peer `me`, in this state, on an event: the calls it makes, what it notes, and how it
+-- ends
 abbrev pub step_of : ℕ → Event → State → Plan
 step_of me event x = whole_step me event x nothing Done
 
--- the step ended well, and what leaves the peer, and the notes, stand behind what was in the outbox
+-- the step ended well, and its output and notes follow what was in the outbox
 pub record HasStepped {S : Type 0} (does : S → (call : Call) → AnswerOf call → S → Type 0) (refuses : S → Call → PeerError → S → Type 0)
     (me : ℕ) (event : Event) (old : Machine S) (before : Outbox) (new : Machine S) (after : Outbox) : Type 0 where
   pub out : Out
@@ -36,13 +37,14 @@ pub record HasStepped {S : Type 0} (does : S → (call : Call) → AnswerOf call
   pub changes : after.changes.items ≡ before.changes.items ++ out.changes
   pub notes : after.notes.items ≡ before.notes.items ++ noted
 
--- nothing was sent, answered or told of a change
+-- nothing was sent or answered, and no request to change the view got a reply
 pub record NothingLeft (before after : Outbox) : Type 0 where
   pub sends : after.sends.items ≡ before.sends.items
   pub answers : after.answers.items ≡ before.answers.items
   pub changes : after.changes.items ≡ before.changes.items
 
--- the step was stopped by this error: the calls before it had their effects, and the notes up to it stand behind the others
+-- this error stopped the step: the calls before it had their effects, and the notes made up to it
+-- were added
 pub record HasStopped {S : Type 0} (does : S → (call : Call) → AnswerOf call → S → Type 0) (refuses : S → Call → PeerError → S → Type 0)
     (me : ℕ) (event : Event) (error : PeerError) (old : Machine S) (before : Outbox) (new : Machine S) (after : Outbox) : Type 0 where
   pub noted : List Note
@@ -50,7 +52,7 @@ pub record HasStopped {S : Type 0} (does : S → (call : Call) → AnswerOf call
   pub left : NothingLeft before after
   pub notes : after.notes.items ≡ before.notes.items ++ noted
 
--- why a step is refused
+-- why a step failed
 abbrev pub IsStepError : PeerError → Type 0
 IsStepError e = (e ≡ errors.StoreFault) ⊎ ((e ≡ errors.Memory) ⊎ (e ≡ errors.Halted))
 
@@ -70,7 +72,7 @@ abbrev pub Takes : {A S : Type 0} → (S → (call : Call) → AnswerOf call →
     → ℕ → Event → Machine S → Result A PeerError → Machine S → Outbox → Type 0
 Takes does refuses me event old result new after = Ended does refuses (step_of me event old.state) old.stores result new.state (out_of after) new.stores after.notes.items
 
--- the call took the step, behind what was in the outbox
+-- the call took the step, and its output follows what was in the outbox
 abbrev pub Steps : {A S : Type 0} → (S → (call : Call) → AnswerOf call → S → Type 0) → (S → Call → PeerError → S → Type 0)
     → ℕ → Event → Machine S → Outbox → Result A PeerError → Machine S → Outbox → Type 0
 Steps does refuses me event old before (Ok u) new after = HasStepped does refuses me event old before new after

@@ -1,4 +1,4 @@
--- What the stores of a peer may answer, as one.
+-- What the stores of a peer may answer, taken together.
 use Rattle.std.specs.Prelude.{◌≡◌, ◌⊎◌, ◌≤◌, ℕ, Option, Some, Result, Ok, Err}
 use Rattle.ens_base.specs.Causes.{Rose}
 use Rattle.ens_outside.specs.Stores.{BackendCall, BackendAnswer, Get, Put as PutObject}
@@ -19,33 +19,35 @@ pub record HasFailed (before now : ℕ) : Type 0 where
   pub later : before ≤ now
   pub rose : Rose before now
 
--- the facts alone were called
+-- only the fact keeper was called
 abbrev pub FactsAlone : {B N F : Type 0} → Stores B N F → Stores B N F → Type 0
 FactsAlone s t = (t.backend ≡ s.backend) × (t.nodes ≡ s.nodes)
 
--- the nodes alone were called
+-- only the nodes were called
 abbrev pub NodesAlone : {B N F : Type 0} → Stores B N F → Stores B N F → Type 0
 NodesAlone s t = (t.backend ≡ s.backend) × (t.facts ≡ s.facts)
 
--- the backend alone was called
+-- only the backend was called
 abbrev pub BackendAlone : {B N F : Type 0} → Stores B N F → Stores B N F → Type 0
 BackendAlone s t = (t.nodes ≡ s.nodes) × (t.facts ≡ s.facts)
 
--- why a fact was not loaded: the keeper failed, what is kept is no fact, or memory was wanted
+-- why a fact was not loaded: the keeper failed, what is kept is not a fact, or out of memory
 abbrev pub IsLoadError : Option (Result Fact FactError) → ℕ → ℕ → PeerError → Type 0
 IsLoadError kept before now errors.StoreFault = HasFailed before now
 IsLoadError kept before now (errors.BadFact why) = (kept ≡ Some (Err why)) × (before ≤ now)
 IsLoadError kept before now errors.Memory = before ≤ now
 IsLoadError kept before now e = ⊥
 
--- the same, in the words of the keeper
+-- the error of the keeper for this error of the peer
 abbrev pub keeper_error : PeerError → KeepError
 keeper_error (errors.BadFact why) = keeps.Bad why
 keeper_error errors.Memory = keeps.Memory
 keeper_error e = keeps.Failed
 
--- What a call may be answered: a load gives what is kept, a saved fact is kept from then on, and the backend answers what it may. What a tree answers
--- over its nodes is not told yet, since no rule asks it yet. Each call touches one store, whose count of faults does not fall.
+-- What a call may be answered. A load returns what is kept, a saved fact is kept from then on, and
+-- the backend answers as its contract says. Nothing is said yet about what a tree over the nodes
+-- answers, since no rule asks it. Each call touches one store, whose count of faults does not
+-- decrease.
 abbrev pub stores_do : {B N F : Type 0} → (B → (call : BackendCall) → BackendAnswer call → B → Type 0) → (B → ℕ) → (N → ℕ)
     → (F → (call : KeeperCall) → KeeperAnswer call → F → Type 0) → (F → Option (Result Fact FactError)) → (F → ℕ) → Stores B N F → (call : Call) → AnswerOf call → Stores B N F → Type 0
 stores_do gives b n tells kept f s Load a t = Loads (kept s.facts) (f s.facts) (f t.facts) (Ok a) × (kept t.facts ≡ kept s.facts) × (f s.facts ≤ f t.facts) × FactsAlone s t × tells s.facts LoadFact a t.facts
@@ -58,8 +60,8 @@ stores_do gives b n tells kept f s (Install entries) a t = (n s.nodes ≤ n t.no
 stores_do gives b n tells kept f s (Fetch key) a t = gives s.backend (Get key) a t.backend × (b s.backend ≤ b t.backend) × BackendAlone s t
 stores_do gives b n tells kept f s (Put key bytes) a t = gives s.backend (PutObject key bytes) a t.backend × (b s.backend ≤ b t.backend) × BackendAlone s t
 
--- What a refused call may leave: after a refused save the old fact is kept or the new one. The count of faults of the store
--- that was called rose.
+-- What a refused call may leave. After a refused save the old fact is kept, or the new one. The
+-- count of faults of the called store rose.
 abbrev pub stores_refuse : {B N F : Type 0} → (B → BackendCall → StoreError → B → Type 0) → (B → ℕ) → (N → ℕ)
     → (F → KeeperCall → KeepError → F → Type 0) → (F → Option (Result Fact FactError)) → (F → ℕ) → Stores B N F → Call → PeerError → Stores B N F → Type 0
 stores_refuse loses b n drops kept f s Load e t = IsLoadError (kept s.facts) (f s.facts) (f t.facts) e × (kept t.facts ≡ kept s.facts) × FactsAlone s t × drops s.facts LoadFact (keeper_error e) t.facts
@@ -72,17 +74,18 @@ stores_refuse loses b n drops kept f s (Install entries) e t = (e ≡ errors.Sto
 stores_refuse loses b n drops kept f s (Fetch key) e t = (e ≡ errors.StoreFault) × loses s.backend (Get key) Failed t.backend × HasFailed (b s.backend) (b t.backend) × BackendAlone s t
 stores_refuse loses b n drops kept f s (Put key bytes) e t = (e ≡ errors.StoreFault) × loses s.backend (PutObject key bytes) Failed t.backend × HasFailed (b s.backend) (b t.backend) × BackendAlone s t
 
--- no count of faults has fallen
+-- no count of faults decreased
 pub record AreLater {B N F : Type 0} (b : B → ℕ) (n : N → ℕ) (f : F → ℕ) (s t : Stores B N F) : Type 0 where
   pub backend : b s.backend ≤ b t.backend
   pub nodes : n s.nodes ≤ n t.nodes
   pub facts : f s.facts ≤ f t.facts
 
--- the count of faults of some store has risen
+-- the count of faults of some store rose
 abbrev pub SomeRose : {B N F : Type 0} → (B → ℕ) → (N → ℕ) → (F → ℕ) → Stores B N F → Stores B N F → Type 0
 SomeRose b n f s t = Rose (b s.backend) (b t.backend) ⊎ (Rose (n s.nodes) (n t.nodes) ⊎ Rose (f s.facts) (f t.facts))
 
--- why a plan is stopped: the count of faults of some store has risen, what is kept is no fact, or memory was wanted to load it
+-- why a plan stopped: the count of faults of some store rose, what is kept is not a fact, or out of
+-- memory while loading it
 abbrev pub IsCause : {B N F : Type 0} → (B → ℕ) → (N → ℕ) → (F → ℕ) → Stores B N F → Stores B N F → PeerError → Type 0
 IsCause b n f s t errors.StoreFault = SomeRose b n f s t
 IsCause b n f s t (errors.BadFact why) = Unit {0}

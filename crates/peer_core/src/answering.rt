@@ -1,6 +1,6 @@
 ghost use Rattle.std.specs.Prelude.{◌≡◌, ◌+◌, ◌++◌, ◌≤◌, length, OnOk, OnErr, IsErrOf};
 ghost use Rattle.ens_base.specs.View.{IsPeer};
-ghost use Rattle.peer_core.specs.Light.{GoesTo, IsLight, IsSteady, answered, light_row};
+ghost use Rattle.peer_core.specs.NoAllocation.{GoesTo, IsAllocationFree, IsSteady, answered, allocation_free_row};
 ghost use Rattle.peer_core.specs.Outboxes.{room, spare};
 ghost use Rattle.peer_core.specs.Plans.{Gave, with_state};
 ghost use Rattle.peer_core.specs.Sends.{posted_to};
@@ -21,12 +21,13 @@ use std::alloc::Global;
 use wire_frames::{Message, PhaseOut, Then};
 
 impl State {
-    ghost use Rattle.peer_core.specs.Light.{light_answer};
+    ghost use Rattle.peer_core.specs.NoAllocation.{allocation_free_answer};
 
-    /// To whom a message is answered that takes no memory to answer, and the row of its rule.
-    fn light_answer(&self, from: PeerId, message: &Message) -> Option<(PeerId, PhaseOut)>
+    /// Returns the peer to answer and the row of the rule, for a message that is answered without
+    /// allocating, and `None` for any other message.
+    fn allocation_free_answer(&self, from: PeerId, message: &Message) -> Option<(PeerId, PhaseOut)>
         requires { IsPeer from }
-        ensures { result ≡ light_answer from message.now self.now }
+        ensures { result ≡ allocation_free_answer from message.now self.now }
     {
         match message {
             Message::Prepare(ballot) => Some((from, rule_11(self.fact, from, *ballot))),
@@ -38,21 +39,22 @@ impl State {
         }
     }
 
-    /// The same, of an event.
-    fn light_row(&self, event: &Event) -> Option<(PeerId, PhaseOut)>
+    /// Returns the peer to answer and the row of the rule, for an event that is answered without
+    /// allocating, and `None` for any other event.
+    fn allocation_free_row(&self, event: &Event) -> Option<(PeerId, PhaseOut)>
         requires { HasSender event.now }
-        ensures { result ≡ light_row event.now self.now }
+        ensures { result ≡ allocation_free_row event.now self.now }
     {
         match event {
-            Event::Deliver(from, message) => self.light_answer(*from, message),
+            Event::Deliver(from, message) => self.allocation_free_answer(*from, message),
             Event::Tick | Event::Call(_) | Event::Change(_) => None,
         }
     }
 }
 
 impl<S: Store> Machine<S> {
-    /// Does what the row asks. Its message goes straight into the outbox, since after the save nothing
-    /// is left that may be refused, but for want of room.
+    /// Applies a row whose message, if any, goes to `from`. The message goes directly into the
+    /// outbox, since after the save only out of memory can fail.
     fn answer(&mut self, out: &mut Outbox, from: PeerId, row: PhaseOut) -> Result<(), PeerError>
         requires from { IsPeer from }
         requires to { GoesTo from row }
@@ -61,7 +63,7 @@ impl<S: Store> Machine<S> {
         ensures kept { OnErr result (out.new.sends.items ≡ out.old.sends.items) }
         ensures rest { (out.new.answers ≡ out.old.answers) × (out.new.notes ≡ out.old.notes) × (out.new.changes ≡ out.old.changes) }
         ensures one { length out.new.sends.items ≤ length out.old.sends.items + 1 }
-        ensures light { 1 ≤ spare out.old → ¬ IsErrOf result PeerError.Memory }
+        ensures no_allocation { 1 ≤ spare out.old → ¬ IsErrOf result PeerError.Memory }
         ensures room { room out.old ≤ room out.new }
     {
         let PhaseOut {
@@ -77,8 +79,8 @@ impl<S: Store> Machine<S> {
         out.send_one(from, message)
     }
 
-    /// Takes a step, and puts what leaves the peer behind what is in the outbox. Of a refused step only
-    /// the notes are kept.
+    /// Takes a step, and adds its output to the end of the outbox. A failed step adds only its
+    /// notes.
     pub(crate) fn step(
         &mut self,
         alloc: Global,
@@ -91,11 +93,11 @@ impl<S: Store> Machine<S> {
         requires steady { IsSteady self.old.state }
         ensures steps { Steps S.does S.refuses me event.now self.old out.old result self.new out.new }
         ensures steady { OnOk result (IsSteady self.new.state) }
-        ensures one { IsLight event.now → length out.new.sends.items ≤ length out.old.sends.items + 1 }
-        ensures light { IsLight event.now → 1 ≤ spare out.old → ¬ IsErrOf result PeerError.Memory }
+        ensures one { IsAllocationFree event.now → length out.new.sends.items ≤ length out.old.sends.items + 1 }
+        ensures no_allocation { IsAllocationFree event.now → 1 ≤ spare out.old → ¬ IsErrOf result PeerError.Memory }
         ensures room { room out.old ≤ room out.new }
     {
-        match self.state.light_row(event) {
+        match self.state.allocation_free_row(event) {
             Some(answer) => {
                 let (from, row) = answer;
                 self.answer(out, from, row)

@@ -16,7 +16,7 @@ use std::alloc::Global;
 use wire_frames::{NackCause, PhaseOut, Then};
 
 impl<S: Store> Machine<S> {
-    /// Rule 14: a peer that starts an epoch leads it once enough accepted.
+    /// Rule 14: a starting peer leads its epoch once enough peers accepted it.
     fn rule_14(&mut self, alloc: Global, out: &mut Outbox, me: PeerId) -> Result<(), PeerError>
         ensures { Acts S.does S.refuses (λ x o next. plan_14 me x o next) self.old out.old result self.new out.new }
     {
@@ -31,7 +31,7 @@ impl<S: Store> Machine<S> {
         }
     }
 
-    /// Does what a rule asks that may lead to rule 14.
+    /// Applies the answer of a rule that may run rule 14 next.
     fn finish_then_14(
         &mut self,
         alloc: Global,
@@ -52,7 +52,7 @@ impl<S: Store> Machine<S> {
         }
     }
 
-    /// Rule 13: a peer that prepares starts its epoch once enough promised.
+    /// Rule 13: a preparing peer starts its epoch once enough peers promised.
     fn rule_13(&mut self, alloc: Global, out: &mut Outbox, me: PeerId) -> Result<(), PeerError>
         requires { IsPeer me }
         ensures { Acts S.does S.refuses (λ x o next. plan_13 me x o next) self.old out.old result self.new out.new }
@@ -68,7 +68,7 @@ impl<S: Store> Machine<S> {
         }
     }
 
-    /// Does what a rule asks that may lead to rule 13.
+    /// Applies the answer of a rule that may run rule 13 next.
     fn finish_then_13(
         &mut self,
         alloc: Global,
@@ -90,7 +90,7 @@ impl<S: Store> Machine<S> {
         }
     }
 
-    /// Rule 12: a promise.
+    /// Rule 12: counts a promise.
     pub(crate) fn promise(
         &mut self,
         alloc: Global,
@@ -115,7 +115,7 @@ impl<S: Store> Machine<S> {
         }
     }
 
-    /// Rule 10: the ballot after this count is asked for, with this fact as the base so far.
+    /// Rule 10: prepares the ballot after `count`, with `best` as the base so far.
     pub(crate) fn prepare(
         &mut self,
         alloc: Global,
@@ -132,7 +132,7 @@ impl<S: Store> Machine<S> {
         self.finish_then_13(alloc, out, me, row)
     }
 
-    /// Rule 15: a refusal, in a peer that has asked for a ballot.
+    /// Rule 15: a peer that asked for a ballot is refused.
     pub(crate) fn refused(
         &mut self,
         alloc: Global,
@@ -149,7 +149,7 @@ impl<S: Store> Machine<S> {
         }
     }
 
-    /// Rule 17 in a peer that starts an epoch: an acceptance.
+    /// Rule 17 of a starting peer: counts an acceptance.
     fn accepted_while_electing(
         &mut self,
         alloc: Global,
@@ -169,7 +169,7 @@ impl<S: Store> Machine<S> {
         self.finish_then_14(alloc, out, me, row)
     }
 
-    /// Rule 17: an acceptance.
+    /// Rule 17: counts an acceptance.
     pub(crate) fn accepted(
         &mut self,
         alloc: Global,

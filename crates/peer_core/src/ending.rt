@@ -15,7 +15,7 @@ use std::alloc::Global;
 use view_change::Finishing;
 use wire_frames::PhaseOut;
 
-/// Rule 26, where no call is unanswered.
+/// The row of rule 26 with no unanswered call.
 fn row_of_end(finishing: Finishing, fact: Fact, me: PeerId) -> PhaseOut
     ensures { result ≡ (row_26 finishing fact me false).1 }
 {
@@ -24,7 +24,7 @@ fn row_of_end(finishing: Finishing, fact: Fact, me: PeerId) -> PhaseOut
 }
 
 impl<S: Store> Machine<S> {
-    /// Rule 26: the epoch ends once enough accepted its second fact.
+    /// Rule 26: the epoch ends once enough peers accepted its second fact.
     fn end_epoch(
         &mut self,
         alloc: Global,
@@ -45,7 +45,7 @@ impl<S: Store> Machine<S> {
         }
     }
 
-    /// Rule 6: at the end of each step a leader may end its epoch.
+    /// Rule 6: at the end of each step, a leader may end its epoch.
     pub(crate) fn rule_6(
         &mut self,
         alloc: Global,

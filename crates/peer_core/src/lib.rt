@@ -1,22 +1,30 @@
 //! One peer: its state, and its steps over stores that may lie or fail.
 //!
-//! A step is a plan: what it asks of the stores, what it notes, how it goes on by what they gave, and
-//! what leaves the peer at its end. The plan of an event is a definition, made of the rows of the
-//! rules, and `Peer::step` promises just that: Ok is a run of the plan over what the stores gave, with
-//! what leaves the peer behind what was in the outbox; a fault is a run up to the call that was
-//! refused, of which nothing leaves the peer. A store is known by two relations alone: how a call may
-//! be answered, and how refused. `specs/Calls` has all calls of a step, `specs/Plans` plans and their
-//! runs, `specs/Kept` what all plans keep to, `specs/Moves` and `specs/Rules` the plan of each rule,
-//! `specs/Light` the messages that take no memory to answer, `specs/Stores` what the stores of a peer
-//! may answer, and `specs/Steps` and `specs/Starts` what the public calls promise.
+//! A step is a plan: the calls it makes to the stores, what it notes, how it goes on after each
+//! answer, and what it puts out at its end. The plan of an event is a definition, built from the
+//! rows of the rules, and `Peer::step` promises exactly this plan. After `Ok` the step was a run of
+//! the plan over what the stores returned, and its output follows what was in the outbox. After a
+//! store fault it was a run up to the failed call, and it puts out nothing but notes. Two relations
+//! are all that is known of a store: how a call may be answered, and how it may be refused.
 //!
-//! Here are the rules of elections: 2 to 4, 5 (d), 6 to 17 and 19, and of rule 1 what concerns the fact.
-//! What is not here yet, and where it goes: a call and a request to change the view do nothing, and no
-//! change is begun or ended (`Leadership` then has the table of keys, and leaving it answers the calls);
-//! the other messages are ignored; there is no tree, so a start does not touch the nodes; and a sync
-//! asks nobody, so a peer that must sync before it accepts an epoch waits for another one (`State` then
-//! has the sync, which is a case of `moved` and `waiting`). The tree wants a hasher, which is lent to a
-//! step and is one more store to the plan; `start` and `step` take it already, and do not use it.
+//! `specs/Calls` lists the calls of a step, and `specs/Plans` defines plans and their runs.
+//! `specs/Guarantees` says what all plans keep to. `specs/Transitions` and `specs/Rules` give the
+//! plan of each rule, and `specs/NoAllocation` the messages that are answered without allocating.
+//! `specs/Stores` says what the stores of a peer may answer. `specs/Steps` and `specs/Starts` say
+//! what the public calls promise.
+//!
+//! The rules of elections are supported: 2 to 4, 5 (d), 6 to 17 and 19, and rule 1 for the fact.
+//! The rest is not supported yet:
+//!
+//! - A call, or a request to change the view, does nothing, and no change is begun or ended. With
+//!   calls, `Leadership` will hold the table of keys, and a leader that steps down will answer
+//!   them.
+//! - All other messages are ignored.
+//! - There is no tree, so a start does not touch the nodes. A tree needs a hasher, which is lent to
+//!   each step as one more store of the plan. `start` and `step` take a hasher already, and do not
+//!   use it.
+//! - A sync asks nobody, so a peer that must sync before it accepts an epoch waits for another
+//!   epoch. With syncs, `State` will hold the sync, and `moved` and `waiting` will start it.
 #![tactic(auto)]
 
 mod answering;
@@ -42,6 +50,3 @@ pub use outbox::{AnswerOut, Outbox, Outgoing};
 pub use peer::{Peer, StartError, Suspended};
 pub use state::{Leadership, Phase, State};
 pub use stores::Stores;
-
-#[cfg(test)]
-mod tests;

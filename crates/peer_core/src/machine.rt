@@ -1,7 +1,7 @@
 ghost use Rattle.std.specs.Prelude.{◌≡◌, ◌≤◌, IfErr};
 ghost use Rattle.peer_core.specs.Plans.{Did, Gave, with_state};
 ghost use Rattle.ens_base.specs.View.{IsPeer};
-ghost use Rattle.peer_core.specs.Light.{IsLight};
+ghost use Rattle.peer_core.specs.NoAllocation.{IsAllocationFree};
 ghost use Rattle.peer_core.specs.Outboxes.{Empty, room};
 ghost use Rattle.peer_core.specs.Outcomes.{Acts};
 ghost use Rattle.peer_core.specs.Rules.{saved, performed, done, plan_of, whole_step};
@@ -17,7 +17,7 @@ use peer_fact::{Change, Fact};
 use std::alloc::Global;
 use wire_frames::PhaseOut;
 
-/// A state over its stores.
+/// The state of a peer and its stores.
 #[derive(Drop)]
 pub struct Machine<S> {
     pub state: State,
@@ -25,7 +25,7 @@ pub struct Machine<S> {
 }
 
 impl<S: Store> Machine<S> {
-    /// Saves the fact, where there is one.
+    /// Saves the fact, if there is one.
     pub(crate) fn save(&mut self, save: Option<Fact>) -> Result<(), PeerError>
         ensures only { IfErr result (λ e. e ≡ PeerError.StoreFault) }
         ensures gave { Gave S.does S.refuses (λ next. saved save self.old.state next) self.old.stores (with_state result self.new.state) self.new.stores }
@@ -39,7 +39,7 @@ impl<S: Store> Machine<S> {
         Ok(())
     }
 
-    /// Does what a rule asks, up to what follows.
+    /// Applies the answer of a rule, except for what follows it.
     pub(crate) fn perform(
         &mut self,
         alloc: Global,
@@ -61,7 +61,7 @@ impl<S: Store> Machine<S> {
         Ok(())
     }
 
-    /// Does what a rule asks that names no rule.
+    /// Applies the answer of a rule that starts no further rule.
     pub(crate) fn finish(
         &mut self,
         alloc: Global,
@@ -78,7 +78,8 @@ impl<S: Store> Machine<S> {
 }
 
 impl<S: Store> Machine<S> {
-    /// What a peer does on an event that is not answered straight into the outbox.
+    /// Handles an event that is not answered directly into the outbox, except for the end of the
+    /// step.
     fn act(
         &mut self,
         alloc: Global,
@@ -88,7 +89,7 @@ impl<S: Store> Machine<S> {
     ) -> Result<(), PeerError>
         requires me { IsPeer me }
         requires sender { HasSender event.now }
-        requires apart { ¬ IsLight event.now }
+        requires apart { ¬ IsAllocationFree event.now }
         ensures { Acts S.does S.refuses (λ x o next. plan_of me event.now x o next) self.old out.old result self.new out.new }
     {
         match event {
@@ -98,7 +99,7 @@ impl<S: Store> Machine<S> {
         }
     }
 
-    /// What a peer does on an event, and at the end of each step.
+    /// Handles an event, and then ends the step.
     fn act_whole(
         &mut self,
         alloc: Global,
@@ -108,7 +109,7 @@ impl<S: Store> Machine<S> {
     ) -> Result<(), PeerError>
         requires me { IsPeer me }
         requires sender { HasSender event.now }
-        requires apart { ¬ IsLight event.now }
+        requires apart { ¬ IsAllocationFree event.now }
         ensures { Acts S.does S.refuses (λ x o next. whole_step me event.now x o next) self.old out.old result self.new out.new }
     {
         self.act(alloc, out, me, event)?;
@@ -125,15 +126,15 @@ impl<S: Store> Machine<S> {
     ) -> Result<(), PeerError>
         requires me { IsPeer me }
         requires sender { HasSender event.now }
-        requires apart { ¬ IsLight event.now }
+        requires apart { ¬ IsAllocationFree event.now }
         requires empty { Empty out.old }
         ensures { Takes S.does S.refuses me event.now self.old result self.new out.new }
     {
         self.act_whole(alloc, out, me, event)
     }
 
-    /// Takes a step into an outbox of its own, and then puts what leaves the peer behind what is in the
-    /// outbox. Of a refused step only the notes are kept.
+    /// Takes a step into an outbox of its own, and then adds its output to the end of the outbox. A
+    /// failed step adds only its notes.
     pub(crate) fn step_apart(
         &mut self,
         alloc: Global,
@@ -143,7 +144,7 @@ impl<S: Store> Machine<S> {
     ) -> Result<(), PeerError>
         requires me { IsPeer me }
         requires sender { HasSender event.now }
-        requires apart { ¬ IsLight event.now }
+        requires apart { ¬ IsAllocationFree event.now }
         ensures steps { Steps S.does S.refuses me event.now self.old out.old result self.new out.new }
         ensures room { room out.old ≤ room out.new }
     {

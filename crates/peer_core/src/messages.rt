@@ -1,6 +1,6 @@
 ghost use Rattle.std.specs.Prelude.{◌≡◌};
 ghost use Rattle.ens_base.specs.View.{IsPeer};
-ghost use Rattle.peer_core.specs.Light.{IsLightMessage};
+ghost use Rattle.peer_core.specs.NoAllocation.{IsAllocationFreeMessage};
 ghost use Rattle.peer_core.specs.Outcomes.{Acts};
 ghost use Rattle.peer_core.specs.Rules.{delivered, plan_16, waiting};
 
@@ -15,7 +15,7 @@ use probe::rule_8_probe;
 use std::alloc::Global;
 use wire_frames::{Message, NackCause, PhaseOut, Then};
 
-/// A peer that is to wait for a sync follows.
+/// Makes a peer that would wait for a sync follow instead.
 fn wait(then: Then) -> Then
     ensures { result ≡ waiting then }
 {
@@ -46,7 +46,7 @@ impl<S: Store> Machine<S> {
         Ok(())
     }
 
-    /// A message from a peer, which is not answered straight into the outbox.
+    /// Handles a message that is not answered directly into the outbox.
     pub(crate) fn deliver(
         &mut self,
         alloc: Global,
@@ -57,7 +57,7 @@ impl<S: Store> Machine<S> {
     ) -> Result<(), PeerError>
         requires me { IsPeer me }
         requires from { IsPeer from }
-        requires apart { ¬ IsLightMessage message.now }
+        requires apart { ¬ IsAllocationFreeMessage message.now }
         ensures { Acts S.does S.refuses (λ x o next. delivered me from message.now x o next) self.old out.old result self.new out.new }
     {
         match message {

@@ -11,7 +11,7 @@ use register_model::Note;
 use std::alloc::Global;
 use wire_frames::Message;
 
-/// A message to a peer.
+/// A message and its receiver.
 #[derive(Debug, Drop)]
 pub struct Outgoing {
     pub to: PeerId,
@@ -26,8 +26,8 @@ pub struct AnswerOut {
     pub reply: Reply,
 }
 
-/// What steps send, answer and note, and what they say of requests to change the view. A step appends
-/// to each list.
+/// The output of steps: messages, answers to calls, notes, and replies to requests to change the
+/// view. Each step appends to these lists.
 #[derive(Drop)]
 pub struct Outbox {
     pub sends: Vec<Outgoing>,
@@ -37,7 +37,7 @@ pub struct Outbox {
 }
 
 impl Outbox {
-    /// An empty outbox. It takes no memory.
+    /// Makes an empty outbox. Needs no heap memory.
     pub fn new(alloc: Global) -> Outbox
         ensures { Empty result }
     {
@@ -49,11 +49,11 @@ impl Outbox {
         }
     }
 
-    /// Makes room for so many more sends, and leaves the lists as they were.
+    /// Reserves room for `sends` more messages, and leaves the lists as they were.
     ///
     /// # Errors
     ///
-    /// Want of memory alone.
+    /// `Memory` when out of memory, and no other error.
     pub fn reserve(&mut self, sends: u32) -> Result<(), PeerError>
         ensures spare { OnOk result (sends ≤ spare self.new) }
         ensures sends { self.new.sends.items ≡ self.old.sends.items }
@@ -64,12 +64,12 @@ impl Outbox {
         Ok(())
     }
 
-    /// Sends a message to a peer.
+    /// Sends `message` to the peer `to`.
     pub(crate) fn send(&mut self, to: PeerId, message: Message) -> Result<(), PeerError>
         ensures sends { OnOk result (self.new.sends.items ≡ self.old.sends.items ++ record { to = to; message = message } ∷ []) }
         ensures kept { OnErr result (self.new.sends.items ≡ self.old.sends.items) }
         ensures one { length self.new.sends.items ≤ length self.old.sends.items + 1 }
-        ensures light { 1 ≤ spare self.old → IsOk result }
+        ensures no_allocation { 1 ≤ spare self.old → IsOk result }
         ensures room { room self.old ≤ room self.new }
         ensures rest { (self.new.answers ≡ self.old.answers) × (self.new.notes ≡ self.old.notes) × (self.new.changes ≡ self.old.changes) }
         ensures memory { IfErr result (λ e. e ≡ PeerError.Memory) }
@@ -80,14 +80,14 @@ impl Outbox {
         Ok(())
     }
 
-    /// Sends the message, if there is one, to one peer.
+    /// Sends the message, if there is one, to the peer `to`.
     pub(crate) fn send_one(&mut self, to: PeerId, message: Option<Message>) -> Result<(), PeerError>
         requires { IsPeer to }
         ensures sends { OnOk result (self.new.sends.items ≡ self.old.sends.items ++ posted_to (alone to) message) }
         ensures kept { OnErr result (self.new.sends.items ≡ self.old.sends.items) }
         ensures rest { (self.new.answers ≡ self.old.answers) × (self.new.notes ≡ self.old.notes) × (self.new.changes ≡ self.old.changes) }
         ensures one { length self.new.sends.items ≤ length self.old.sends.items + 1 }
-        ensures light { 1 ≤ spare self.old → IsOk result }
+        ensures no_allocation { 1 ≤ spare self.old → IsOk result }
         ensures room { room self.old ≤ room self.new }
         ensures memory { IfErr result (λ e. e ≡ PeerError.Memory) }
     {
@@ -138,8 +138,8 @@ impl Outbox {
 }
 
 impl Outbox {
-    /// Moves all that is in the other outbox behind what is in this one. Where memory runs out nothing
-    /// leaves the peer.
+    /// Moves everything in `more` to the end of this outbox. When out of memory, nothing leaves the
+    /// peer.
     pub(crate) fn append(&mut self, more: &mut Outbox) -> Result<(), PeerError>
         ensures sends { OnOk result (self.new.sends.items ≡ self.old.sends.items ++ more.old.sends.items) }
         ensures answers { OnOk result (self.new.answers.items ≡ self.old.answers.items ++ more.old.answers.items) }

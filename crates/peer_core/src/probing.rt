@@ -15,7 +15,7 @@ use std::alloc::Global;
 use wire_frames::{PhaseOut, Then};
 
 impl<S: Store> Machine<S> {
-    /// Does what a rule asks that may lead to rule 10, with this fact and count.
+    /// Applies the answer of a rule that may run rule 10 next, with this fact and count.
     pub(crate) fn finish_then_10(
         &mut self,
         alloc: Global,
@@ -39,7 +39,7 @@ impl<S: Store> Machine<S> {
         }
     }
 
-    /// Rule 9: a peer that probes asks for a ballot once enough were heard.
+    /// Rule 9: a probing peer asks for a ballot once it heard enough peers.
     fn rule_9(&mut self, alloc: Global, out: &mut Outbox, me: PeerId) -> Result<(), PeerError>
         requires { IsPeer me }
         ensures { Acts S.does S.refuses (λ x o next. plan_9 me x o next) self.old out.old result self.new out.new }
@@ -56,7 +56,7 @@ impl<S: Store> Machine<S> {
         }
     }
 
-    /// Does what a rule asks that may lead to rule 9.
+    /// Applies the answer of a rule that may run rule 9 next.
     fn finish_then_9(
         &mut self,
         alloc: Global,
@@ -78,7 +78,7 @@ impl<S: Store> Machine<S> {
         }
     }
 
-    /// Rule 8: a reply to a probe.
+    /// Rule 8: counts a reply to a probe.
     pub(crate) fn probe_reply(
         &mut self,
         alloc: Global,
@@ -102,7 +102,7 @@ impl<S: Store> Machine<S> {
         }
     }
 
-    /// Rule 7: probing begins.
+    /// Rule 7: begins to probe.
     pub(crate) fn begin_to_probe(
         &mut self,
         alloc: Global,

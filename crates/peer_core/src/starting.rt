@@ -1,5 +1,5 @@
 ghost use Rattle.std.specs.Prelude.{◌≡◌, IfOk};
-ghost use Rattle.peer_core.specs.Light.{IsSteady};
+ghost use Rattle.peer_core.specs.NoAllocation.{IsSteady};
 ghost use Rattle.peer_core.specs.Starts.{Starts, start_of, first_state as first, opened as opens};
 
 use crate::error::PeerError;
@@ -9,7 +9,7 @@ use ens_base::View;
 use following::Follower;
 use peer_fact::{Change, Fact};
 
-/// The state with which a peer starts: it follows.
+/// The state in which a peer starts: it follows.
 fn first_state(fact: Fact, trusted: bool) -> State
     ensures { result ≡ first fact trusted }
 {
@@ -20,7 +20,7 @@ fn first_state(fact: Fact, trusted: bool) -> State
     }
 }
 
-/// What a start comes to, by what was kept.
+/// Starts from what was kept.
 fn opened<S: Store>(stores: &mut S, opening: View, kept: Option<Fact>) -> Result<State, PeerError>
     ensures starts { Starts S.does S.refuses (opens opening kept) stores.old result stores.new }
     ensures steady { IfOk result IsSteady }
@@ -37,7 +37,7 @@ fn opened<S: Store>(stores: &mut S, opening: View, kept: Option<Fact>) -> Result
     }
 }
 
-/// Rule 1: the state with which a peer starts over these stores.
+/// Rule 1: returns the state in which a peer starts over these stores.
 pub(crate) fn start<S: Store>(stores: &mut S, opening: View) -> Result<State, PeerError>
     ensures starts { Starts S.does S.refuses (start_of opening) stores.old result stores.new }
     ensures steady { IfOk result IsSteady }

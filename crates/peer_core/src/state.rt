@@ -1,7 +1,7 @@
 ghost use Rattle.std.specs.Prelude.{◌≡◌};
 ghost use Rattle.ens_base.specs.View.{IsPeer};
 ghost use Rattle.peer_core.specs.Rules.{finishing_heard, word_of_end as end_word};
-ghost use Rattle.peer_core.specs.Moves.{follower, stopped_leading, without_candidacy, accepts_of, accepts_in, left, followed, led, untrusted, moved, sought, stood};
+ghost use Rattle.peer_core.specs.Transitions.{follower, stopped_leading, without_candidacy, accepts_of, accepts_in, left, followed, led, untrusted, moved, sought, stood};
 
 use election::Election;
 use ens_base::{Epoch, PeerId, PeerSet};
@@ -12,8 +12,8 @@ use probe::Probing;
 use view_change::Finishing;
 use wire_frames::{Message, Then};
 
-/// A peer that leads: the first fact of its epoch, who accepted it, and the end of the epoch where that
-/// has begun.
+/// A leading peer: the first fact of its epoch, the peers that accepted it, and the end of the
+/// epoch once it has begun.
 #[derive(Debug, Drop)]
 pub struct Leadership {
     pub fact: Fact,
@@ -30,8 +30,8 @@ pub enum Phase {
     Leading(Leadership),
 }
 
-/// A peer without its number and its stores: the fact as it was saved last, whether the peer trusts
-/// its tree, and its phase.
+/// A peer without its number and its stores: the last saved fact, whether the peer trusts its tree,
+/// and its phase.
 #[derive(Debug, Drop)]
 pub struct State {
     pub fact: Fact,
@@ -39,14 +39,14 @@ pub struct State {
     pub phase: Phase,
 }
 
-/// The phase of a peer that follows and has counted no quiet tick.
+/// The phase of a following peer that has counted no quiet tick.
 fn following() -> Phase
     ensures { result ≡ follower }
 {
     Phase::Following(Follower { quiet: 0 })
 }
 
-/// Who accepted the epoch that is starting.
+/// The peers that accepted the epoch that is starting.
 fn accepts_of_election(election: &Election) -> PeerSet
     ensures { result ≡ accepts_of election.now }
 {
@@ -66,7 +66,7 @@ impl Phase {
         }
     }
 
-    /// A leader leaves leading; the others stay.
+    /// Steps down a leader. Any other phase stays.
     fn leave_leading(&mut self)
         ensures { self.new ≡ stopped_leading self.old }
     {
@@ -75,7 +75,7 @@ impl Phase {
         }
     }
 
-    /// A peer that starts an epoch follows; the others stay.
+    /// Makes a starting peer follow. Any other phase stays.
     fn leave_starting(&mut self)
         ensures { self.new ≡ without_candidacy self.old }
     {
@@ -119,7 +119,7 @@ impl State {
         self.phase.leave_starting();
     }
 
-    /// What comes after the message of a rule, where no rule runs next.
+    /// Applies what follows the message of a rule, if no rule runs next.
     pub(crate) fn turn(&mut self, then: Then)
         ensures { self.new ≡ moved then self.old }
     {
@@ -131,7 +131,7 @@ impl State {
         }
     }
 
-    /// Probing begins, where it does.
+    /// Begins to probe, if `probing` is given.
     pub(crate) fn seek(&mut self, probing: Option<Probing>)
         ensures { self.new ≡ sought probing self.old }
     {
@@ -140,7 +140,7 @@ impl State {
         }
     }
 
-    /// An election begins, where it does.
+    /// Begins an election, if `election` is given.
     pub(crate) fn stand(&mut self, election: Option<Election>)
         ensures { self.new ≡ stood election self.old }
     {
@@ -153,7 +153,7 @@ impl State {
 impl Leadership {
     ghost use Rattle.peer_core.specs.Rules.{is_told, leader_heard, word_to};
 
-    /// Counts who accepted the first fact of the epoch, and who the second one.
+    /// Counts an acceptance of the first or the second fact of the epoch.
     pub(crate) fn hear(&mut self, fact: &Fact, from: PeerId, ballot: Epoch, seq: u64)
         requires { IsPeer from }
         ensures { self.new ≡ leader_heard self.old fact.now from ballot seq }
@@ -164,7 +164,7 @@ impl Leadership {
         self.finishing = heard(self.finishing, fact, from, ballot, seq);
     }
 
-    /// Whether a leader speaks to a peer at a tick.
+    /// Whether a leader sends a message to a peer at each tick.
     #[tactic(auto, unfolding(crate::specs::Rules::is_told))]
     pub(crate) fn tells(&self, me: PeerId, peer: PeerId) -> bool
         ensures { result ≡ is_told me self.now peer }
@@ -172,7 +172,7 @@ impl Leadership {
         is_member(&self.fact.views, peer) && peer != me
     }
 
-    /// What a leader says to a peer at each tick.
+    /// The message that a leader sends to a peer at each tick.
     #[tactic(auto, unfolding(crate::specs::Rules::word_to))]
     pub(crate) fn word_to(&self, fact: &Fact, peer: PeerId) -> Message
         ensures { result ≡ word_to fact.now self.now peer }
@@ -184,7 +184,7 @@ impl Leadership {
     }
 }
 
-/// Who accepted the second fact, where the epoch is ending.
+/// The acceptances of the second fact, counted if the epoch is ending.
 fn heard(
     finishing: Option<Finishing>,
     fact: &Fact,
@@ -205,7 +205,8 @@ fn heard(
     }
 }
 
-/// What a leader that may be ending its epoch says to a peer that accepted the epoch.
+/// The message of a leader to a peer that accepted the epoch: the second fact if the epoch is
+/// ending and the peer did not accept it, and otherwise a beat.
 fn word_of_end(finishing: Option<Finishing>, fact: &Fact, epoch: Epoch, peer: PeerId) -> Message
     ensures { result ≡ end_word finishing fact.now epoch peer }
 {

@@ -10,22 +10,24 @@ use std::alloc::Global;
 
 impl<B: Backend, N: NodeStore, F: FactKeeper> Peer<B, N, F> {
     ghost use Rattle.std.specs.Prelude.{◌≡◌, ◌+◌, ◌≤◌, ◌↔◌, length, true, false, OnOk, IfErr, IsErrOf};
-    ghost use Rattle.peer_core.specs.Kept.{AllObey};
-    ghost use Rattle.peer_core.specs.Light.{IsLight};
+    ghost use Rattle.peer_core.specs.Guarantees.{AllObey};
+    ghost use Rattle.peer_core.specs.NoAllocation.{IsAllocationFree};
     ghost use Rattle.peer_core.specs.Outboxes.{room, spare};
     ghost use Rattle.peer_core.specs.Outcomes.{out_of};
     ghost use Rattle.peer_core.specs.Steps.{HasSender, HasStepped, HasStopped, NothingLeft, IsStepError};
     ghost use Rattle.peer_core.specs.Stores.{SomeRose, stores_do, stores_refuse};
 
-    /// Takes one step on an event. What it sends, answers, notes and says of changes goes to the end of
-    /// the outbox. The sender of a message is 1 to 31. A Prepare, Check or Beat adds one message at
-    /// most, and takes no memory where the outbox has room for one.
+    /// Takes one step on an event, and appends its messages, answers, notes and replies to requests
+    /// to change the view to the outbox. The sender of a message must be in 1 to 31. On a Prepare,
+    /// Check or Beat the step sends at most one message, and needs no heap memory if the outbox has
+    /// room for one.
     ///
     /// # Errors
     ///
-    /// `StoreFault` only where the count of faults of a store rose in this call; want of memory; and
-    /// `Halted` exactly where the peer was halted, which changes nothing. After the others the peer is
-    /// halted, and nothing of the step is sent, answered or told; after a fault its notes are kept.
+    /// `StoreFault` only if the count of faults of a store rose in this call, and `Memory` when out
+    /// of memory. After either error the peer is halted, and the step sent nothing, answered
+    /// nothing and replied to no request; after a store fault its notes are kept. `Halted` exactly
+    /// if the peer was halted before, which changes nothing.
     pub fn step<H: Hasher16>(
         &mut self,
         alloc: Global,
@@ -41,8 +43,8 @@ impl<B: Backend, N: NodeStore, F: FactKeeper> Peer<B, N, F> {
         ensures halted { IsErrOf result PeerError.Halted ↔ (self.old.halted ≡ true) }
         ensures still { IsErrOf result PeerError.Halted → (self.new ≡ self.old) × (out.new ≡ out.old) }
         ensures obey { OnOk result (AllObey (out_of out.old) → AllObey (out_of out.new)) }
-        ensures one { IsLight event → length out.new.sends.items ≤ length out.old.sends.items + 1 }
-        ensures light { IsLight event → 1 ≤ spare out.old → ¬ IsErrOf result PeerError.Memory }
+        ensures one { IsAllocationFree event → length out.new.sends.items ≤ length out.old.sends.items + 1 }
+        ensures no_allocation { IsAllocationFree event → 1 ≤ spare out.old → ¬ IsErrOf result PeerError.Memory }
         ensures spare { room out.old ≤ room out.new }
         ensures only { IfErr result IsStepError }
         ensures me { self.new.me ≡ self.old.me }

@@ -9,16 +9,16 @@ use ens_outside::{Backend, NodeStore};
 use fact_store::{FactKeeper, KeepError};
 use peer_fact::{Change, Fact};
 
-/// What a step asks, as the stores of a peer answer it. Of an answer two relations are known; the
-/// methods are those of the rules that are there.
+/// The stores of a peer, as a step calls them. Two relations say what a call may do. The methods
+/// are the calls that the rules make so far.
 pub trait Store {
-    /// The call may be answered so, and leave the stores so.
+    /// Whether a call may give this answer, and leave the stores in this state.
     ghost does: { Self → (call : Call) → AnswerOf call → Self → Type 0 };
 
-    /// The call may be refused with this error, and leave the stores so.
+    /// Whether a call may fail with this error, and leave the stores in this state.
     ghost refuses: { Self → Call → PeerError → Self → Type 0 };
 
-    /// The fact that is kept, if there is one.
+    /// Returns the kept fact, if there is one.
     fn load(&mut self) -> Result<Option<Fact>, PeerError>
         ensures ok { IfOk result (λ kept. does self.old Load kept self.new) }
         ensures err { IfErr result (λ e. refuses self.old Load e self.new) };

@@ -20,7 +20,7 @@ use std::alloc::Global;
 use wire_frames::{PhaseOut, Then};
 
 impl<S: Store> Machine<S> {
-    /// Does what a rule asks that may lead to rule 7.
+    /// Applies the answer of a rule that may run rule 7 next.
     fn finish_then_7(
         &mut self,
         alloc: Global,
@@ -86,7 +86,7 @@ impl<S: Store> Machine<S> {
 }
 
 impl<S: Store> Machine<S> {
-    /// Rule 3 in a peer that prepares below the age of 6.
+    /// Rule 3 of a preparing peer, below the age of 6.
     fn age_preparing(
         &mut self,
         alloc: Global,
@@ -104,7 +104,7 @@ impl<S: Store> Machine<S> {
         self.finish_then_7(alloc, out, me, row)
     }
 
-    /// Rule 4 in a peer that has been starting for less than 8 ticks.
+    /// Rule 4 of a starting peer, below the age of 8.
     fn age_starting(
         &mut self,
         alloc: Global,
@@ -181,7 +181,7 @@ impl<S: Store> Machine<S> {
 }
 
 impl Outbox {
-    /// Rule 5 (d): each other member of the epoch's views is sent one message.
+    /// Rule 5 (d): sends one message to every other member of the views of the epoch.
     #[tactic(auto, unfolding(crate::specs::Sends::posted))]
     fn send_words(
         &mut self,

@@ -5,8 +5,8 @@ use Rattle.network.specs.Mail.{most_messages}
 use Rattle.schedule_text.specs.declared.event.ScheduleEvent.{ScheduleEvent}
 use Rattle.schedule_text.specs.declared.event.ScheduleEvent.TheVariants.{Tick, Deliver, Pass, Lose, Calm, CalmAmong}
 use Rattle.schedule_text.specs.declared.schedule.Schedule.{Schedule}
-use Rattle.world_runs.specs.Lines.{run_of_schedule}
-use Rattle.world_runs.specs.Runs.{Run}
+use Rattle.world_spec.specs.Lines.{run_of_schedule}
+use Rattle.world_spec.specs.Runs.{Run}
 
 -- whether a line is a tick, or delivers or loses messages
 abbrev pub is_election_line : ScheduleEvent → Bool

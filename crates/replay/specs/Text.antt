@@ -8,7 +8,7 @@ use Rattle.register_model.specs.declared.answer.Answer.{Answer}
 use Rattle.register_model.specs.declared.history.History.{History}
 use Rattle.register_model.specs.declared.printed.Printed.{Printed}
 use Rattle.register_model.specs.declared.printed.Printed.TheVariants as lines
-use Rattle.world_runs.specs.Runs.{Run}
+use Rattle.world_spec.specs.Runs.{Run}
 
 -- a reply, as the last words of its line
 abbrev pub reply_words : Reply → List ℕ

@@ -1,11 +1,11 @@
-//! Epochs, views and sets of peers, and what the answer of a rule says.
+//! Builders of epochs, views and sets of peers, and summaries of the answers of rules.
 
 use ens_base::{Epoch, PeerId, PeerSet, Version, View, ViewError};
 use peer_fact::Fact;
 use tree_node::TreeBody;
 use wire_frames::{Message, NackCause, PhaseOut, Then};
 
-/// The set of these peers; numbers outside of 1 to 31 are left out.
+/// The set of these peers. Numbers outside 1 to 31 are left out.
 pub fn set(numbers: &[u32]) -> PeerSet {
     let mut set = PeerSet::empty();
     for number in numbers {
@@ -27,7 +27,7 @@ pub fn epoch(count: u64, proposer: u32) -> Epoch {
     Epoch { count, proposer }
 }
 
-/// A message, as far as the tests look into it.
+/// The parts of a message that the tests compare.
 #[derive(Clone, Copy, Debug, PartialEq, Eq)]
 pub enum Said {
     Nothing,
@@ -48,7 +48,7 @@ pub enum Said {
     Other,
 }
 
-/// The answer of a rule, in values that are copied.
+/// The answer of a rule, as a `Copy` value.
 #[derive(Clone, Copy, Debug, PartialEq, Eq)]
 pub struct Answer {
     pub leave: bool,
@@ -94,7 +94,7 @@ fn said_of(message: &Option<Message>) -> Said {
     }
 }
 
-/// The answer, in values that are copied.
+/// Summarizes the answer of a rule as a `Copy` value.
 pub fn summary(out: PhaseOut) -> Answer {
     Answer {
         leave: out.leave,
@@ -105,7 +105,7 @@ pub fn summary(out: PhaseOut) -> Answer {
     }
 }
 
-/// The answer that saves and sends nothing.
+/// The answer that saves and sends nothing, and goes on with `then`.
 pub fn silent(then: Then) -> Answer {
     Answer {
         leave: false,

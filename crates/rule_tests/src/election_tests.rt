@@ -16,7 +16,7 @@ fn saved() -> Result<Fact, Fail> {
     Ok(fact)
 }
 
-/// The same with the view 4 5 6 in front.
+/// The same fact in a joint epoch, with the new view 4 5 6.
 fn joint() -> Result<Fact, Fail> {
     let mut fact = saved()?;
     fact.views = Views::two(view(&[4, 5, 6])?, view(&[1, 2, 3])?);
@@ -111,7 +111,7 @@ fn rule_15_ignores_other_causes(rt: HostRuntime) -> Result<(), Fail> {
 }
 
 #[test]
-fn rule_3_begins_anew_at_6(rt: HostRuntime) -> Result<(), Fail> {
+fn rule_3_probes_again_at_age_6(rt: HostRuntime) -> Result<(), Fail> {
     for (age, then) in [(0, Then::Stay), (4, Then::Stay), (5, Then::Rule(7))] {
         assert!(rt; age < 6);
         let (base, promises, asked) = (saved()?, set(&[2]), set(&[1, 2, 3]));
@@ -167,7 +167,7 @@ fn rule_10_follows_at_the_greatest_count(rt: HostRuntime) -> Result<(), Fail> {
 }
 
 #[test]
-fn rule_10_prepares_where_it_is_in_the_next_views(rt: HostRuntime) -> Result<(), Fail> {
+fn rule_10_prepares_as_a_member_of_the_next_views(rt: HostRuntime) -> Result<(), Fail> {
     let added = Fact {
         change: Change::Add(view(&[4, 5, 6])?),
         ..saved()?
@@ -266,7 +266,7 @@ fn rule_12_ignores_other_ballots(rt: HostRuntime) -> Result<(), Fail> {
 }
 
 #[test]
-fn a_peer_that_starts_prepares_no_more(rt: HostRuntime) -> Result<(), Fail> {
+fn a_starting_peer_ignores_promises(rt: HostRuntime) -> Result<(), Fail> {
     let (fact, accepts) = (saved()?, set(&[2]));
     let mut election = Election::Starting {
         fact,
@@ -371,7 +371,7 @@ fn rule_13_starts_with_a_sync(rt: HostRuntime) -> Result<(), Fail> {
 }
 
 #[test]
-fn rule_13_follows_outside_of_the_next_views(rt: HostRuntime) -> Result<(), Fail> {
+fn rule_13_follows_outside_the_next_views(rt: HostRuntime) -> Result<(), Fail> {
     let base = Fact {
         change: Change::Drop,
         ..joint()?
@@ -388,7 +388,7 @@ fn rule_13_follows_outside_of_the_next_views(rt: HostRuntime) -> Result<(), Fail
 }
 
 #[test]
-fn rule_4_insists_until_8(rt: HostRuntime) -> Result<(), Fail> {
+fn rule_4_repeats_the_epoch_until_age_8(rt: HostRuntime) -> Result<(), Fail> {
     for (age, sync_runs, then, to) in [
         (0, false, Then::Stay, set(&[1, 4, 6])),
         (6, true, Then::Resume, set(&[1, 4, 6])),
@@ -399,12 +399,12 @@ fn rule_4_insists_until_8(rt: HostRuntime) -> Result<(), Fail> {
         let (fact, accepts) = (joint()?, set(&[3, 5]));
         let mut election = Election::Starting { fact, accepts, age };
         let out = summary(election.rule_4(PeerId(2), sync_runs));
-        let told = if age < 7 {
+        let said = if age < 7 {
             Said::NewEpoch(fact)
         } else {
             Said::Nothing
         };
-        assert_eq!(rt; out.said, told, "{age}");
+        assert_eq!(rt; out.said, said, "{age}");
         assert_eq!(rt; (out.save, out.to, out.then), (None, to, then), "{age}");
         assert_eq!(rt;
             election,
@@ -419,7 +419,7 @@ fn rule_4_insists_until_8(rt: HostRuntime) -> Result<(), Fail> {
 }
 
 #[test]
-fn rule_14_leads_by_a_quorum_with_itself(rt: HostRuntime) -> Result<(), Fail> {
+fn rule_14_leads_by_a_quorum_and_its_own_acceptance(rt: HostRuntime) -> Result<(), Fail> {
     for (fact, accepts, leads) in [
         (saved()?, [2, 2, 2, 2], false),
         (saved()?, [1, 3, 3, 3], false),
@@ -467,7 +467,7 @@ fn rule_17_counts_the_first_fact_alone(rt: HostRuntime) -> Result<(), Fail> {
 }
 
 #[test]
-fn a_peer_that_prepares_starts_nothing(rt: HostRuntime) -> Result<(), Fail> {
+fn a_preparing_peer_ignores_acceptances(rt: HostRuntime) -> Result<(), Fail> {
     let (base, promises, asked) = (saved()?, set(&[1, 2]), set(&[1, 2, 3]));
     let mut election = Election::Preparing {
         base,

@@ -9,7 +9,7 @@ mod puts;
 mod requests;
 mod ticks;
 
-/// Sends this to peer 4.
+/// The answer that sends this message to peer 4.
 fn tells(said: Said, then: Then) -> Answer {
     Answer {
         to: alone(PeerId(4)),
@@ -18,12 +18,12 @@ fn tells(said: Said, then: Then) -> Answer {
     }
 }
 
-/// Tells peer 4 that its epoch is below the ballot.
+/// The answer that tells peer 4 that its epoch is below the ballot.
 fn refuses(epoch: Epoch, ballot: Epoch) -> Answer {
     tells(Said::Nack(epoch, NackCause::Greater(ballot)), Then::Stay)
 }
 
-/// The fact of this epoch and this number in it, at this ballot, of the view 1 2 3.
+/// The fact number `seq` of this epoch, at this ballot, on the view 1 2 3.
 fn fact(ballot: Epoch, epoch: Epoch, seq: u64) -> Result<Fact, ViewError> {
     Ok(Fact {
         ballot,

@@ -13,7 +13,7 @@ fn view_of(members: &[PeerId]) -> Result<View, Fail> {
 }
 
 #[test]
-fn sets_of_two_views(rt: HostRuntime) -> Result<(), Fail> {
+fn members_of_two_views(rt: HostRuntime) -> Result<(), Fail> {
     let views = Views::two(
         view_of(&[PeerId(1), PeerId(4)])?,
         view_of(&[PeerId(1), PeerId(2), PeerId(31)])?,
@@ -35,7 +35,7 @@ fn sets_of_two_views(rt: HostRuntime) -> Result<(), Fail> {
 }
 
 #[test]
-fn epochs_by_count_then_proposer(rt: HostRuntime) {
+fn epochs_compare_by_count_then_proposer(rt: HostRuntime) {
     let cases = [
         ((1, 2), (2, 1), true),
         ((2, 1), (1, 2), false),
@@ -48,7 +48,7 @@ fn epochs_by_count_then_proposer(rt: HostRuntime) {
 }
 
 #[test]
-fn a_member_of_the_new_view_may_not_accept_at_once(rt: HostRuntime) -> Result<(), Fail> {
+fn a_member_of_the_new_view_alone_may_not_accept_at_once(rt: HostRuntime) -> Result<(), Fail> {
     let old = view_of(&[PeerId(1), PeerId(2)])?;
     let mut fact = Fact::opening(old);
     assert!(rt; may_accept(true, PeerId(1), &fact));
@@ -63,7 +63,7 @@ fn a_member_of_the_new_view_may_not_accept_at_once(rt: HostRuntime) -> Result<()
 }
 
 #[test]
-fn what_is_silent_sends_nothing(rt: HostRuntime) {
+fn a_silent_answer_sends_nothing(rt: HostRuntime) {
     let out = silent(Then::Follow);
     assert!(rt; out.message.is_none() && !out.leave);
     assert_eq!(rt; out.to, PeerSet::empty());

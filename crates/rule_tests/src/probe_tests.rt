@@ -32,7 +32,7 @@ fn started(me: u32) -> Result<Probing, Fail> {
 }
 
 #[test]
-fn rule_3_begins_anew_at_6(rt: HostRuntime) -> Result<(), Fail> {
+fn rule_3_probes_again_at_age_6(rt: HostRuntime) -> Result<(), Fail> {
     for (age, then) in [(0, Then::Stay), (4, Then::Stay), (5, Then::Rule(7))] {
         let mut probing = started(1)?;
         assert!(rt; age < 6);
@@ -59,7 +59,7 @@ fn rule_7_asks_the_others(rt: HostRuntime) -> Result<(), Fail> {
 }
 
 #[test]
-fn rule_7_of_a_stranger_asks_all_members(rt: HostRuntime) -> Result<(), Fail> {
+fn rule_7_of_a_non_member_asks_all_members(rt: HostRuntime) -> Result<(), Fail> {
     let mut fact = saved()?;
     fact.views = Views::two(view(&[3, 4, 5])?, view(&[1, 2, 3])?);
     let all = set(&[1, 2, 3, 4, 5]);

@@ -43,7 +43,7 @@ fn three(a: u32, b: u32, c: u32) -> PeerSet
     joined(joined(alone(PeerId(a)), PeerId(b)), PeerId(c))
 }
 
-/// Whether the request is taken, where the answer fits that.
+/// Applies rule 24 to a request, and returns whether it is taken, or `None` if the answer does not fit.
 fn asks(fact: Fact, leading: bool, finishing: bool, view: View) -> Option<bool> {
     let (out, taken) = rule_24(fact, leading, finishing, view);
     let then = if taken { Then::Rule(25) } else { Then::Stay };
@@ -55,7 +55,7 @@ fn asks(fact: Fact, leading: bool, finishing: bool, view: View) -> Option<bool> 
 }
 
 #[test]
-fn a_request_is_taken_or_refused(rt: HostRuntime) -> Result<(), Fail> {
+fn a_request_to_change_the_view(rt: HostRuntime) -> Result<(), Fail> {
     let one = fact(1, Views::one(old_view()?), Change::None);
     let two = fact(1, Views::two(new_view()?, old_view()?), Change::None);
     for (fact, leading, finishing, view, taken) in [
@@ -72,7 +72,7 @@ fn a_request_is_taken_or_refused(rt: HostRuntime) -> Result<(), Fail> {
     Ok(())
 }
 
-/// What the beginning of a change by peer 3 asks for, where peers 3, 4 and 9 accepted the epoch.
+/// Applies rule 25 of peer 3, in an epoch that the peers 3, 4 and 9 accepted.
 fn begins(first: Fact, change: Change) -> (Answer, Option<Finishing>) {
     let (out, finishing) = rule_25(first, PeerId(3), three(3, 4, 9), change);
     (summary(out), finishing)
@@ -100,7 +100,7 @@ fn a_change_begins(rt: HostRuntime) -> Result<(), Fail> {
     Ok(())
 }
 
-/// Who accepted the second fact, after peer 3, once peer 4 has accepted a fact of this number.
+/// Applies rule 17 to an acceptance of fact number `seq` by peer 4, after peer 3 accepted the second fact.
 fn counted(fact: Fact, ballot: Epoch, seq: u64) -> (Answer, Finishing) {
     let mut finishing = Finishing {
         accepts2: alone(PeerId(3)),
@@ -111,7 +111,7 @@ fn counted(fact: Fact, ballot: Epoch, seq: u64) -> (Answer, Finishing) {
 }
 
 #[test]
-fn who_accepted_is_counted(rt: HostRuntime) -> Result<(), Fail> {
+fn acceptances_of_the_second_fact_are_counted(rt: HostRuntime) -> Result<(), Fail> {
     let fact = fact(2, Views::one(old_view()?), Change::Drop);
     let before = alone(PeerId(3));
     let after = joined(before, PeerId(4));
@@ -139,7 +139,7 @@ fn who_accepted_is_counted(rt: HostRuntime) -> Result<(), Fail> {
     Ok(())
 }
 
-/// What runs next at the end of a step, where nothing else is asked for and nothing changes.
+/// Applies rule 26, and returns which rule runs next, or `None` if the answer does anything else.
 fn ends(accepts2: PeerSet, fact: Fact, me: u32, unanswered: bool) -> Option<Then> {
     let before = Finishing { accepts2, age: 7 };
     let mut finishing = before;
@@ -152,7 +152,7 @@ fn ends(accepts2: PeerSet, fact: Fact, me: u32, unanswered: bool) -> Option<Then
 }
 
 #[test]
-fn an_epoch_ends_by_a_quorum_of_each_view(rt: HostRuntime) -> Result<(), Fail> {
+fn an_epoch_ends_with_a_quorum_of_each_view(rt: HostRuntime) -> Result<(), Fail> {
     let views = Views::two(new_view()?, old_view()?);
     for (accepts2, me, unanswered, change, then) in [
         (three(1, 3, 4), 1u32, false, Change::Drop, Then::Rule(10)),

@@ -1,4 +1,4 @@
--- One peer more is sent its word, or is not.
+-- One more peer is sent its message, or is not.
 use Rattle.std.proofs.Common.{◌≡◌, ℕ, ◌+◌, suc, Bool, true, false, if◌then◌else◌, List, [], ◌∷◌, ◌++◌, ap, arith, rules}
 use Rattle.std.proofs.lemmas.List.{append_assoc}
 use Rattle.wire_frames.specs.declared.message.Message.{Message}

@@ -1,4 +1,5 @@
--- A step as a plan: what it asks of the stores, what it notes, and how it goes on by what the stores gave. `X` is the state of the peer.
+-- A step as a plan: the calls it makes to the stores, what it notes, and how it goes on after each
+-- answer. `X` is the state of the peer.
 use Rattle.std.specs.Prelude.{◌≡◌, ◌⊎◌, Bool, List, [], ◌∷◌, ◌++◌, Result, Ok, Err}
 use Rattle.register_model.specs.declared.note.Note.{Note}
 use Rattle.step_plans.specs.Calls.{Call, AnswerOf}
@@ -7,17 +8,19 @@ use Rattle.step_plans.specs.declared.error.PeerError.TheVariants.{Memory}
 use Rattle.step_plans.specs.declared.outbox.AnswerOut.{AnswerOut}
 use Rattle.step_plans.specs.declared.outbox.Outgoing.{Outgoing}
 
--- what leaves a peer once its step has ended well: what it sends, answers, and says of requests to change the view
+-- the output of a step that ended well: messages, answers to calls, and replies to requests to
+-- change the view
 pub record Out : Type 0 where
   pub sends : List Outgoing
   pub answers : List AnswerOut
   pub changes : List Bool
 
--- nothing leaves the peer
+-- no output
 abbrev pub nothing : Out
 nothing = record { sends = []; answers = []; changes = [] }
 
--- a step ends in a state and with what leaves the peer, or something is noted, or the stores are asked
+-- the step ends in a state with its output, or notes something and goes on, or calls the stores and
+-- goes on with the answer
 pub data Plan (X : Type 0) : Type 0 where
   Done : (state : X) (out : Out) → Plan X
   Say : (note : Note) (next : Plan X) → Plan X
@@ -28,12 +31,13 @@ pub data Ending (X : Type 0) : Type 0 where
   Finished : (state : X) (out : Out) → Ending X
   Stopped : (error : PeerError) → Ending X
 
--- the run is cut here, out of memory: stores and notes stay as they are
+-- the run is cut here, out of memory: the stores and the notes stay as they are
 abbrev pub IsCut : {X P : Type 0} → P → List Note → Ending X → P → List Note → Type 0
 IsCut s ns e t ms = (e ≡ Stopped Memory) × (t ≡ s) × (ms ≡ ns)
 
--- The plan may lead from these stores and notes to that ending, those stores and notes. A run may be cut anywhere, out of memory; and a call that is refused
--- ends it. `P` is the state of the stores and the hasher together.
+-- The plan may lead from these stores and notes to this ending, with those stores and notes. A run
+-- may be cut anywhere, out of memory, and a refused call ends it. `P` is the state of the stores
+-- and the hasher together.
 abbrev pub Runs : {X P : Type 0} → (P → (call : Call) → AnswerOf call → P → Type 0) → (P → Call → PeerError → P → Type 0)
     → Plan X → P → List Note → Ending X → P → List Note → Type 0
 Runs does refuses (Done x out) s ns e t ms = IsCut s ns e t ms ⊎ ((e ≡ Finished x out) × (t ≡ s) × (ms ≡ ns))
@@ -43,22 +47,23 @@ Runs does refuses (Ask c next) s ns e t ms =
     ⊎ (((error : PeerError) × refuses s c error t × (e ≡ Stopped error) × (ms ≡ ns))
     ⊎ ((a : AnswerOf c) × (m : _) × does s c a m × Runs does refuses (next a) m ns e t ms))
 
--- how a part of a step that gives an `A` goes on: from the state, with what is to leave the peer so far
+-- how a plan goes on after a part that returns an `A`: from the state and the output so far
 abbrev pub Rest : Type 0 → Type 0 → Type 0
 Rest X A = A → X → Out → Plan X
 
--- a part of a step, which gives an `A`
+-- a part of a step, which returns an `A`
 abbrev pub Part : Type 0 → Type 0 → Type 0
 Part X A = X → Out → Rest X A → Plan X
 
--- where a step stands
+-- a point in a step: the state, the output so far, the stores, and the notes
 pub record Spot (X P : Type 0) : Type 0 where
   pub state : X
   pub out : Out
   pub stores : P
   pub notes : List Note
 
--- A part of a step did what its plan says, whatever follows: it came to its end, or to where an error stopped it.
+-- A part of a step did what its plan says, whatever follows: it reached its end, or the point where
+-- an error stopped it.
 abbrev pub Did : {X A P : Type 0} → (P → (call : Call) → AnswerOf call → P → Type 0) → (P → Call → PeerError → P → Type 0)
     → Part X A → Spot X P → Result A PeerError → Spot X P → Type 0
 Did does refuses part a (Ok v) b =
@@ -66,16 +71,16 @@ Did does refuses part a (Ok v) b =
     → Runs does refuses (part a.state a.out next) a.stores a.notes e end ls
 Did does refuses part a (Err error) b = (next : _) → Runs does refuses (part a.state a.out next) a.stores a.notes (Stopped error) b.stores b.notes
 
--- the stores are asked
+-- the part that makes one call to the stores
 unfoldable pub asked : {X : Type 0} → (call : Call) → Part X (AnswerOf call)
 asked call x out next = Ask call (λ a. next a x out)
 
--- these are noted
+-- these notes are made, and then the plan goes on
 abbrev pub noted : {X : Type 0} → List Note → Plan X → Plan X
 noted [] plan = plan
 noted (n ∷ ns) plan = Say n (noted ns plan)
 
--- each call that the plan may ask is such a call, and each end that it may come to is such an end
+-- each call that the plan may make satisfies Q, and each end that it may reach satisfies P
 abbrev pub Follows : {X : Type 0} → (Call → Type 0) → (X → Out → Type 0) → Plan X → Type 0
 Follows Q P (Done x out) = P x out
 Follows Q P (Say n p) = Follows Q P p

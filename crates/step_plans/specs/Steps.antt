@@ -1,4 +1,4 @@
--- What a call did that took a step: how its plan ended, and what came into the outbox.
+-- What a call did that took a step: how its plan ended, and what it added to the outbox.
 use Rattle.std.specs.Prelude.{◌≡◌, ◌++◌, List, Result, Ok, Err}
 use Rattle.register_model.specs.declared.note.Note.{Note}
 use Rattle.step_plans.specs.Calls.{Call, AnswerOf}
@@ -8,13 +8,14 @@ use Rattle.step_plans.specs.declared.error.PeerError.{PeerError}
 use Rattle.step_plans.specs.declared.error.PeerError.TheVariants.{Memory}
 use Rattle.step_plans.specs.declared.outbox.Outbox.{Outbox}
 
--- The plan led from these stores and notes to where the call ended. Where it ended well it may still be cut, out of memory, at the very end.
+-- The plan led from these stores and notes to the end of the call. A plan that ended well may still
+-- be cut, out of memory, at the very end.
 abbrev pub Ended : {X A P : Type 0} → (P → (call : Call) → AnswerOf call → P → Type 0) → (P → Call → PeerError → P → Type 0)
     → Plan X → P → List Note → Result A PeerError → X → Out → P → List Note → Type 0
 Ended does refuses plan s ns (Ok u) x out t ms = Runs does refuses plan s ns (Finished x out) t ms × Runs does refuses plan s ns (Stopped Memory) t ms
 Ended does refuses plan s ns (Err error) x out t ms = Runs does refuses plan s ns (Stopped error) t ms
 
--- the step ended well: what leaves the peer stands behind what was in the outbox, and what was noted behind the notes
+-- the step ended well: its output comes after what was in the outbox, and its notes after the notes
 pub record HasFinished {X P : Type 0} (does : P → (call : Call) → AnswerOf call → P → Type 0) (refuses : P → Call → PeerError → P → Type 0)
     (plan : Plan X) (s : P) (o : Outbox) (x : X) (t : P) (q : Outbox) : Type 0 where
   pub out : Out
@@ -23,7 +24,8 @@ pub record HasFinished {X P : Type 0} (does : P → (call : Call) → AnswerOf c
   pub answers : q.answers.items ≡ o.answers.items ++ out.answers
   pub changes : q.changes.items ≡ o.changes.items ++ out.changes
 
--- The step was stopped by this error: nothing leaves the peer, and the stores, the hasher and the notes are as the run had left them up to there.
+-- This error stopped the step: it puts out nothing, and the stores, the hasher and the notes are as
+-- the run left them at that point.
 pub record HasStopped {X P : Type 0} (does : P → (call : Call) → AnswerOf call → P → Type 0) (refuses : P → Call → PeerError → P → Type 0)
     (plan : Plan X) (error : PeerError) (s : P) (o : Outbox) (t : P) (q : Outbox) : Type 0 where
   pub ran : Runs does refuses plan s o.notes.items (Stopped error) t q.notes.items

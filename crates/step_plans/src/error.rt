@@ -8,17 +8,17 @@ use std::alloc::{AllocError, AllocFailed};
 /// Why a peer did not start, or did not take a step.
 #[derive(Debug, PartialEq, Eq, Drop)]
 pub enum PeerError {
-    /// A store failed: the count of its faults has risen in this call.
+    /// A store failed: its count of faults rose in this call.
     StoreFault,
-    /// Two different strings have one digest: the kept one, and the new one.
+    /// Two different strings have the same digest: the one kept, and the new one.
     Clash { first: Bytes, second: Bytes },
-    /// How many bytes the book of hashes keeps, where the new string would pass its limit.
+    /// The book of hashes would pass its limit with the new string. Holds the number of bytes kept.
     BookFull(u64),
-    /// Memory ran out.
+    /// Out of memory.
     Memory,
-    /// The peer was halted by an earlier error.
+    /// An earlier error halted the peer.
     Halted,
-    /// What the peer had saved is no fact, and why. Only a start answers so.
+    /// The saved record is not a fact, for this reason. Only a start returns this error.
     BadFact(FactError),
 }
 

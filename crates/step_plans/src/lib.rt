@@ -1,13 +1,11 @@
-//! Steps of a peer as plans, and what code that follows a plan promises. No rule stands here.
+//! Steps of a peer as plans, and what code that follows a plan promises. There is no rule here.
 //!
-//! A plan is what a step asks of the stores, what it notes, how it goes on by what the stores gave,
-//! and what leaves the peer at its end. `specs/Calls` has the calls of the stores, `specs/Plans` the
-//! plans, their runs, and the parts that a plan is made of; `specs/Steps` says what a whole step
-//! promises. Of the stores two relations are known: how a call may be answered, and how refused.
-//! Out of memory cuts a run: stores and notes stay as the run had left them.
-//!
-//! `Tasks` are the rules that are still to run in a step, and an `Outbox` is what steps send, answer
-//! and note.
+//! A plan says which calls of the stores a step makes, what it notes, how it goes on after each
+//! answer, and what it puts out at its end. `specs/Calls` lists the calls of the stores.
+//! `specs/Plans` defines plans, their runs, and the parts of a plan. `specs/Steps` says what a
+//! whole step promises. Two relations are all that is known of the stores and the hasher: how a
+//! call may be answered, and how it may be refused. `Tasks` holds the rules that a step still has
+//! to run, and `Outbox` what a step puts out.
 #![tactic(auto)]
 
 mod error;

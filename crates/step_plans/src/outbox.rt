@@ -9,7 +9,7 @@ use register_model::Note;
 use std::alloc::Global;
 use wire_frames::Message;
 
-/// A message to a peer.
+/// A message and its receiver.
 #[derive(Debug, Drop)]
 pub struct Outgoing {
     pub to: PeerId,
@@ -24,8 +24,8 @@ pub struct AnswerOut {
     pub reply: Reply,
 }
 
-/// What steps send, answer and note, and what they say of requests to change the view: true where
-/// the request is taken. A step appends to each list.
+/// The output of steps: messages, answers to calls, notes, and replies to requests to change the
+/// view, `true` if the request is taken. Each step appends to these lists.
 #[derive(Drop)]
 pub struct Outbox {
     pub sends: Vec<Outgoing>,
@@ -35,7 +35,7 @@ pub struct Outbox {
 }
 
 impl Outbox {
-    /// An empty outbox. It takes no memory.
+    /// Makes an empty outbox. Needs no heap memory.
     pub fn new(alloc: Global) -> Outbox
         ensures alone { HasNotesAlone result }
         ensures notes { result.notes.items ≡ [] }
@@ -48,11 +48,11 @@ impl Outbox {
         }
     }
 
-    /// Makes room for this many more sends, and leaves the lists as they were.
+    /// Reserves room for `sends` more messages, and leaves the lists as they were.
     ///
     /// # Errors
     ///
-    /// Out of memory alone.
+    /// `Memory` when out of memory, and no other error.
     pub fn reserve(&mut self, sends: u32) -> Result<(), PeerError>
         ensures spare { OnOk result (sends ≤ spare self.new) }
         ensures sends { self.new.sends.items ≡ self.old.sends.items }
@@ -63,12 +63,12 @@ impl Outbox {
         Ok(())
     }
 
-    /// Moves what is in the other outbox, but for its notes, behind what is in this one. Out of memory
-    /// moves nothing.
+    /// Moves everything in `more`, except its notes, to the end of this outbox. Moves nothing when
+    /// out of memory.
     ///
     /// # Errors
     ///
-    /// Out of memory alone.
+    /// `Memory` when out of memory, and no other error.
     pub fn append(&mut self, more: &mut Outbox) -> Result<(), PeerError>
         ensures sends { OnOk result (self.new.sends.items ≡ self.old.sends.items ++ more.old.sends.items) }
         ensures answers { OnOk result (self.new.answers.items ≡ self.old.answers.items ++ more.old.answers.items) }
@@ -86,11 +86,11 @@ impl Outbox {
         Ok(())
     }
 
-    /// Sends a message to a peer.
+    /// Sends `message` to the peer `to`.
     ///
     /// # Errors
     ///
-    /// Out of memory alone.
+    /// `Memory` when out of memory, and no other error.
     pub fn send(&mut self, to: PeerId, message: Message) -> Result<(), PeerError>
         ensures sends { OnOk result (self.new.sends.items ≡ self.old.sends.items ++ record { to = to; message = message } ∷ []) }
         ensures rest { (self.new.answers ≡ self.old.answers) × (self.new.notes ≡ self.old.notes) × (self.new.changes ≡ self.old.changes) }
@@ -128,7 +128,7 @@ impl Outbox {
     ///
     /// # Errors
     ///
-    /// Out of memory alone.
+    /// `Memory` when out of memory, and no other error.
     pub fn send_to(
         &mut self,
         alloc: Global,
@@ -145,11 +145,11 @@ impl Outbox {
         }
     }
 
-    /// Answers a call.
+    /// Answers the call `id` of the client `from`.
     ///
     /// # Errors
     ///
-    /// Out of memory alone.
+    /// `Memory` when out of memory, and no other error.
     pub fn answer(&mut self, from: u32, id: u64, reply: Reply) -> Result<(), PeerError>
         ensures answers { OnOk result (self.new.answers.items ≡ self.old.answers.items ++ record { from = from; id = id; reply = reply } ∷ []) }
         ensures rest { (self.new.sends ≡ self.old.sends) × (self.new.notes ≡ self.old.notes) × (self.new.changes ≡ self.old.changes) }
@@ -161,11 +161,11 @@ impl Outbox {
         Ok(())
     }
 
-    /// Says whether a request to change the view is taken.
+    /// Replies to a request to change the view: `true` if the request is taken.
     ///
     /// # Errors
     ///
-    /// Out of memory alone.
+    /// `Memory` when out of memory, and no other error.
     pub fn tell_change(&mut self, taken: bool) -> Result<(), PeerError>
         ensures changes { OnOk result (self.new.changes.items ≡ self.old.changes.items ++ taken ∷ []) }
         ensures rest { (self.new.sends ≡ self.old.sends) × (self.new.answers ≡ self.old.answers) × (self.new.notes ≡ self.old.notes) }
@@ -177,11 +177,11 @@ impl Outbox {
         Ok(())
     }
 
-    /// Notes these, behind the others. Out of memory notes none.
+    /// Appends the notes in `more`. Appends none when out of memory.
     ///
     /// # Errors
     ///
-    /// Out of memory alone.
+    /// `Memory` when out of memory, and no other error.
     pub fn note_all(&mut self, more: Vec<Note>) -> Result<(), PeerError>
         ensures notes { OnOk result (self.new.notes.items ≡ self.old.notes.items ++ more.items) }
         ensures kept { OnErr result (self.new.notes.items ≡ self.old.notes.items) }

@@ -4,20 +4,20 @@ ghost use Rattle.step_plans.specs.declared.error.PeerError.{PeerError};
 use crate::error::PeerError;
 use peer_fact::{Change, Fact};
 
-/// The stores of a peer, over a hasher that is lent to them. Two relations tell what a call may do;
-/// the methods are the calls that the rules make so far.
+/// The stores of a peer, which use a hasher lent to them. Two relations say what a call may do. The
+/// methods are the calls that the rules make so far.
 pub trait Store<H> {
-    /// The call may be answered so, and leave the stores and the hasher so.
+    /// Whether a call may give this answer, and leave the stores and the hasher in this state.
     ghost does: { Self × H → (call : Call) → AnswerOf call → Self × H → Type 0 };
 
-    /// The call may be refused with this error, and leave the stores and the hasher so.
+    /// Whether a call may fail with this error, and leave the stores and the hasher in this state.
     ghost refuses: { Self × H → Call → PeerError → Self × H → Type 0 };
 
-    /// The fact that is kept, `None` where none was ever saved.
+    /// Returns the kept fact, or `None` if no fact was ever saved.
     fn load(&mut self, hasher: &mut H) -> Result<Option<Fact>, PeerError>
         ensures { Answers does refuses (self.old, hasher.old) Load result (self.new, hasher.new) };
 
-    /// Keeps a fact in place of what was kept.
+    /// Replaces the kept fact by `fact`.
     fn save(&mut self, hasher: &mut H, fact: &Fact) -> Result<(), PeerError>
         ensures { Answers does refuses (self.old, hasher.old) (Save fact.now) result (self.new, hasher.new) };
 }

@@ -8,21 +8,21 @@ use std::alloc::{AllocError, Global};
 use std::marker::Model;
 use wire_frames::{Seen, Then};
 
-/// A rule that is still to run in a step.
+/// A rule that a step still has to run.
 #[derive(Debug, Drop)]
 pub enum Task {
     /// The rule of this number, on the state.
     Phase(u8),
     /// The rule of this number, on a key of a leader.
     Key(u8, Key),
-    /// The rule of this number once more, on a key, with what the stores gave.
+    /// The rule of this number once more, on a key, with what the stores returned.
     Again(u8, Key, Seen),
 }
 
-/// The rules that are still to run in a step, seen as a list with the next one first.
+/// The rules that a step still has to run. Contracts see a list with the next task first.
 #[derive(Drop)]
 pub struct Tasks {
-    /// The next task stands last.
+    /// The tasks in reverse: the next one is last.
     stack: Vec<Task>,
 }
 
@@ -36,7 +36,7 @@ impl Model for Tasks {
 }
 
 impl Tasks {
-    /// No task. It takes no memory.
+    /// Makes an empty list of tasks. Needs no heap memory.
     pub fn none(alloc: Global) -> Tasks
         ensures { result ≡ [] }
     {
@@ -45,11 +45,11 @@ impl Tasks {
         }
     }
 
-    /// Puts a task in front.
+    /// Puts `task` in front of all others.
     ///
     /// # Errors
     ///
-    /// Out of memory alone.
+    /// `Memory` when out of memory, and no other error.
     pub fn put_first(&mut self, task: Task) -> Result<(), PeerError>
         ensures ok { OnOk result (self.new ≡ task ∷ self.old) }
         ensures memory { IfErr result (λ e. e ≡ PeerError.Memory) }
@@ -60,11 +60,7 @@ impl Tasks {
         Ok(())
     }
 
-    /// Puts these tasks in front, in their order.
-    ///
-    /// # Errors
-    ///
-    /// Out of memory alone.
+    /// Puts the tasks of `more` in front of all others, in their order. Fails when out of memory.
     pub fn put_all(&mut self, more: Tasks) -> Result<(), AllocError>
         ensures ok { OnOk result (self.new ≡ more ++ self.old) }
     {
@@ -73,7 +69,7 @@ impl Tasks {
         Ok(())
     }
 
-    /// Takes the first task away.
+    /// Removes and returns the first task, or returns `None` if there is none.
     pub fn take(&mut self) -> Option<Task>
         ensures items { self.old ≡ option_to_list result ++ self.new }
         ensures none { IfNone result (self.old ≡ []) }
@@ -81,11 +77,11 @@ impl Tasks {
         self.stack.pop()
     }
 
-    /// The rule that the row of a phase names.
+    /// Returns the task of the rule that the row of a phase names, if it names one.
     ///
     /// # Errors
     ///
-    /// Out of memory alone, and only where a rule is named.
+    /// `Memory` when out of memory, and no other error.
     pub fn named(alloc: Global, then: Then) -> Result<Tasks, PeerError>
         ensures ok { IfOk result (λ t. t ≡ named then) }
         ensures memory { IfErr result (λ e. e ≡ PeerError.Memory) }
@@ -98,11 +94,12 @@ impl Tasks {
         Ok(tasks)
     }
 
-    /// The rule that the row of a leader names, on each of its keys.
+    /// Returns the tasks of the rule that the row of a leader names, one for each key, if it names
+    /// one.
     ///
     /// # Errors
     ///
-    /// Out of memory alone.
+    /// `Memory` when out of memory, and no other error.
     pub fn keyed(alloc: Global, then: Then, keys: Vec<Key>) -> Result<Tasks, PeerError>
         ensures ok { IfOk result (λ t. t ≡ keyed then keys.items) }
         ensures memory { IfErr result (λ e. e ≡ PeerError.Memory) }
@@ -113,7 +110,7 @@ impl Tasks {
         }
     }
 
-    /// The rule of this number on each of the keys.
+    /// Returns the tasks of rule `rule` for each of the keys, in order.
     fn on_keys(alloc: Global, rule: u8, keys: Vec<Key>) -> Result<Tasks, PeerError>
         ensures ok { IfOk result (λ t. t ≡ map (OnKey rule) keys.items) }
         ensures memory { IfErr result (λ e. e ≡ PeerError.Memory) }
@@ -128,11 +125,11 @@ impl Tasks {
         Ok(tasks)
     }
 
-    /// The rule of this number once more on the key, with what the stores gave.
+    /// Returns the task that runs rule `rule` on the key once more, with what the stores returned.
     ///
     /// # Errors
     ///
-    /// Out of memory alone.
+    /// `Memory` when out of memory, and no other error.
     pub fn again(alloc: Global, rule: u8, key: &Key, seen: Seen) -> Result<Tasks, PeerError>
         ensures ok { IfOk result (λ t. t ≡ Again rule key.now seen ∷ []) }
         ensures memory { IfErr result (λ e. e ≡ PeerError.Memory) }

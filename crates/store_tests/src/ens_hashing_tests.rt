@@ -56,7 +56,7 @@ fn two_blocks_clash_in_a_full_book_too(rt: HostRuntime) -> Result<(), Fail> {
 }
 
 #[test]
-fn a_plain_hasher_takes_both_blocks(rt: HostRuntime) -> Result<(), Fail> {
+fn a_plain_hasher_admits_both_blocks(rt: HostRuntime) -> Result<(), Fail> {
     let alloc = rt.alloc();
     assert_eq!(rt; PlainHasher.digest(alloc, b"abc").ok(), Some(Digest(ABC)));
     assert_eq!(rt;

@@ -3,7 +3,7 @@ use ens_outside::{Link, LinkError, MemLink, MemTicker, Ticker};
 use std::alloc::{AllocError, Global};
 use std::test::Fail;
 
-/// Nothing, and then a frame.
+/// The looks of a link: no frame, then one frame.
 fn looks(alloc: Global) -> Result<Vec<Option<Bytes>>, AllocError> {
     let mut looks = Vec::new(alloc);
     looks.push(None)?;
@@ -20,7 +20,7 @@ fn gave(look: Result<Option<Vec<u8>>, LinkError>, frame: Option<&[u8]>) -> bool 
 }
 
 #[test]
-fn each_look_gives_what_is_to_come(rt: HostRuntime) -> Result<(), Fail> {
+fn each_look_gives_the_next_frame_or_none(rt: HostRuntime) -> Result<(), Fail> {
     let alloc = rt.alloc();
     let mut link = MemLink::new(alloc, looks(alloc)?, Vec::new(alloc));
     assert!(rt; gave(link.receive(alloc), None));
@@ -31,7 +31,7 @@ fn each_look_gives_what_is_to_come(rt: HostRuntime) -> Result<(), Fail> {
 }
 
 #[test]
-fn a_frame_whose_look_failed_waits_on(rt: HostRuntime) -> Result<(), Fail> {
+fn a_failed_look_leaves_its_frame_waiting(rt: HostRuntime) -> Result<(), Fail> {
     let alloc = rt.alloc();
     let mut link = MemLink::new(alloc, looks(alloc)?, vec![in alloc; 2]?);
     assert!(rt; gave(link.receive(alloc), None));
@@ -42,7 +42,7 @@ fn a_frame_whose_look_failed_waits_on(rt: HostRuntime) -> Result<(), Fail> {
 }
 
 #[test]
-fn what_was_sent_is_kept_in_order(rt: HostRuntime) -> Result<(), Fail> {
+fn sent_frames_are_kept_in_order(rt: HostRuntime) -> Result<(), Fail> {
     let alloc = rt.alloc();
     let mut link = MemLink::new(alloc, Vec::new(alloc), vec![in alloc; 2]?);
     assert_eq!(rt; link.send(alloc, 32, b"one"), Ok(()));
@@ -58,7 +58,7 @@ fn what_was_sent_is_kept_in_order(rt: HostRuntime) -> Result<(), Fail> {
 }
 
 #[test]
-fn a_ticker_is_due_as_it_was_told(rt: HostRuntime) -> Result<(), Fail> {
+fn a_ticker_is_due_at_the_given_times(rt: HostRuntime) -> Result<(), Fail> {
     let alloc = rt.alloc();
     let mut ticker = MemTicker::new(vec![in alloc; false, true]?);
     for due in [false, true, false, false] {

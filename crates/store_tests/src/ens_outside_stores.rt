@@ -30,8 +30,7 @@ fn found_nothing(answer: Result<Option<Vec<u8>>, StoreError>) -> bool {
     }
 }
 
-/// Whether these bytes are found after a put of old ones and a put of new ones, the second of which
-/// fails.
+/// Whether a get returns these bytes after a put of `old` and a failed put of `new`.
 fn found_after_puts(alloc: Global, leaves: Leaves, bytes: &[u8]) -> Result<bool, Fail> {
     let key = Key::new(alloc, b"k")?;
     let mut backend = MemBackend::new(alloc, fails_at(alloc, 2, leaves)?);
@@ -42,7 +41,7 @@ fn found_after_puts(alloc: Global, leaves: Leaves, bytes: &[u8]) -> Result<bool,
 }
 
 #[test]
-fn a_put_is_what_the_next_get_gives(rt: HostRuntime) -> Result<(), Fail> {
+fn a_get_returns_the_last_put(rt: HostRuntime) -> Result<(), Fail> {
     let alloc = rt.alloc();
     let key = Key::new(alloc, b"k")?;
     let mut backend = MemBackend::new(alloc, Vec::new(alloc));
@@ -54,7 +53,7 @@ fn a_put_is_what_the_next_get_gives(rt: HostRuntime) -> Result<(), Fail> {
 }
 
 #[test]
-fn a_failed_put_leaves_the_old_or_the_new(rt: HostRuntime) -> Result<(), Fail> {
+fn a_failed_put_leaves_the_old_or_the_new_bytes(rt: HostRuntime) -> Result<(), Fail> {
     let alloc = rt.alloc();
     assert!(rt; found_after_puts(alloc, Leaves::Old, b"old")?);
     assert!(rt; found_after_puts(alloc, Leaves::New, b"new")?);
@@ -83,7 +82,9 @@ fn the_top_record_is_kept(rt: HostRuntime) -> Result<(), Fail> {
 }
 
 #[test]
-fn a_failed_top_record_is_the_old_or_the_new_one(rt: HostRuntime) -> Result<(), Fail> {
+fn a_failed_write_of_the_top_record_leaves_the_old_or_the_new_one(
+    rt: HostRuntime,
+) -> Result<(), Fail> {
     let alloc = rt.alloc();
     for (leaves, top) in [(Leaves::Old, None), (Leaves::New, Some(FIRST))] {
         let mut nodes = MemNodes::new(alloc, fails_at(alloc, 1, leaves)?);
@@ -93,7 +94,7 @@ fn a_failed_top_record_is_the_old_or_the_new_one(rt: HostRuntime) -> Result<(), 
     Ok(())
 }
 
-/// A backend that tells nothing: it has forgotten each put that it answered.
+/// A backend whose contract promises nothing: it forgets every put.
 #[derive(Drop)]
 struct Liar;
 

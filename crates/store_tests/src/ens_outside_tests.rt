@@ -37,7 +37,7 @@ fn the_listed_call_fails(rt: HostRuntime) -> Result<(), Fail> {
 }
 
 #[test]
-fn a_front_is_written_where_the_room_ends(rt: HostRuntime) -> Result<(), Fail> {
+fn a_full_sink_keeps_a_prefix(rt: HostRuntime) -> Result<(), Fail> {
     let alloc = rt.alloc();
     let mut sink = MemSink::new(alloc, 2, Vec::new(alloc))?;
     assert_eq!(rt; write_all(&mut sink, b"abc"), Err(Failed));
@@ -46,7 +46,7 @@ fn a_front_is_written_where_the_room_ends(rt: HostRuntime) -> Result<(), Fail> {
 }
 
 #[test]
-fn the_end_is_seen_and_the_ending_written(rt: HostRuntime) -> Result<(), Fail> {
+fn is_end_sees_the_end_and_finish_writes_the_ending(rt: HostRuntime) -> Result<(), Fail> {
     let alloc = rt.alloc();
     let mut source = MemSource::new(b"a\n".to_vec(alloc)?, Vec::new(alloc));
     let mut lines = Lines::new(alloc);
@@ -69,7 +69,7 @@ fn the_end_is_seen_and_the_ending_written(rt: HostRuntime) -> Result<(), Fail> {
 }
 
 #[test]
-fn readers_and_writers_of_std_are_outsides(rt: HostRuntime) -> Result<(), Fail> {
+fn std_readers_and_writers_are_sources_and_sinks(rt: HostRuntime) -> Result<(), Fail> {
     let alloc = rt.alloc();
     let mut source = ReaderSource::new(b"ab".as_slice());
     let mut buf = [0u8; 4];

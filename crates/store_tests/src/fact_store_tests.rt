@@ -17,7 +17,7 @@ fn opening() -> Result<Fact, Fail> {
     Ok(Fact::opening(View::new(&[PeerId(1), PeerId(2), PeerId(3)])?))
 }
 
-/// The same with another ballot.
+/// The opening fact with the ballot 1.1.
 fn promised() -> Result<Fact, Fail> {
     let mut fact = opening()?;
     fact.ballot = Epoch {
@@ -27,7 +27,7 @@ fn promised() -> Result<Fact, Fail> {
     Ok(fact)
 }
 
-/// A fact file on a disk with these bytes, where it can be opened.
+/// Opens a fact file on a disk with these bytes.
 fn file(alloc: Global, bytes: &[u8]) -> Result<FactFile<MemDisk>, Fail> {
     let disk = MemDisk::holding(alloc, bytes, ROOM, Failing::never(alloc))?;
     match FactFile::open(alloc, disk) {
@@ -52,7 +52,7 @@ fn the_opening_fact_has_63_bytes_on_a_disk(rt: HostRuntime) -> Result<(), Fail> 
 }
 
 #[test]
-fn the_second_fact_stands_at_512(rt: HostRuntime) -> Result<(), Fail> {
+fn the_second_fact_is_at_offset_512(rt: HostRuntime) -> Result<(), Fail> {
     let alloc = rt.alloc();
     let mut file = file(alloc, &[])?;
     assert_eq!(rt; file.save(&opening()?), Ok(()));
@@ -68,7 +68,7 @@ fn the_second_fact_stands_at_512(rt: HostRuntime) -> Result<(), Fail> {
 }
 
 #[test]
-fn a_record_that_is_no_fact_is_told(rt: HostRuntime) -> Result<(), Fail> {
+fn a_record_that_is_no_fact_is_a_bad_fact(rt: HostRuntime) -> Result<(), Fail> {
     let alloc = rt.alloc();
     let mut file = file(alloc, b"\x01\0\0\0\0\0\0\0\x01\0\x01x")?;
     assert_eq!(rt; file.load(), Err(KeepError::Bad(FactError::BadTag)));
@@ -91,7 +91,7 @@ fn a_spent_file_counts_a_fault_of_its_own(rt: HostRuntime) -> Result<(), Fail> {
 }
 
 #[test]
-fn a_keeper_in_memory_fails_at_the_listed_calls(rt: HostRuntime) -> Result<(), Fail> {
+fn a_memory_keeper_fails_at_the_listed_calls(rt: HostRuntime) -> Result<(), Fail> {
     let alloc = rt.alloc();
     let failing = Failing {
         undone: vec![in alloc; 1]?,

@@ -1,4 +1,5 @@
-//! Tests of the outside, of the hasher and of what a peer keeps, a file for each part of a tested crate.
+//! Tests of sources, sinks and stores, of the hasher, and of the file of a fact, a file for each tested
+//! crate or part of one.
 //!
 //! They show what no contract says: outside vectors, printed text, and each implementation once
 //! through its trait. The tests use public calls alone.

@@ -14,7 +14,7 @@ fn disk(alloc: Global) -> Result<MemDisk, Fail> {
     Ok(MemDisk::new(alloc, ROOM, Failing::never(alloc))?)
 }
 
-/// A file on this disk, where it can be opened.
+/// Opens a slot file on this disk.
 fn file(alloc: Global, disk: MemDisk) -> Result<SlotFile<MemDisk>, Fail> {
     match SlotFile::open(alloc, disk) {
         Ok(file) => Ok(file),
@@ -75,7 +75,7 @@ fn a_call_past_the_room_fails(rt: HostRuntime) -> Result<(), Fail> {
 }
 
 #[test]
-fn three_images_of_what_was_not_synced(rt: HostRuntime) -> Result<(), Fail> {
+fn three_crash_images_of_unsynced_writes(rt: HostRuntime) -> Result<(), Fail> {
     let alloc = rt.alloc();
     let mut disk = MemDisk::holding(alloc, b"abcd", ROOM, Failing::never(alloc))?;
     assert_eq!(rt; disk.write_at(2, b"WXYZ"), Ok(()));
@@ -125,7 +125,7 @@ fn a_record_has_at_most_480_bytes(rt: HostRuntime) -> Result<(), Fail> {
 }
 
 #[test]
-fn the_last_serial_number_is_spent(rt: HostRuntime) -> Result<(), Fail> {
+fn a_file_with_the_last_serial_number_rejects_a_save(rt: HostRuntime) -> Result<(), Fail> {
     let alloc = rt.alloc();
     let slot = b"\x01\xff\xff\xff\xff\xff\xff\xff\xff\0\x01x";
     let disk = MemDisk::holding(alloc, slot, ROOM, Failing::never(alloc))?;
@@ -135,7 +135,7 @@ fn the_last_serial_number_is_spent(rt: HostRuntime) -> Result<(), Fail> {
     Ok(())
 }
 
-/// A disk on which a save of `new` over `old` met a fault at one of its calls, the first being 1.
+/// A disk after a save of `new` over `old` of which one call failed. The first call is number 1.
 fn interrupted(alloc: Global, call: u64, is_done: bool) -> Result<MemDisk, Fail> {
     let mut before = file(alloc, disk(alloc)?)?;
     before.save(b"older").map_err(|_e| "not saved")?;
@@ -156,7 +156,7 @@ fn interrupted(alloc: Global, call: u64, is_done: bool) -> Result<MemDisk, Fail>
     }
 }
 
-/// The record on a disk with these bytes.
+/// Whether a disk with these bytes holds the record `old` or `new`.
 fn is_old_or_new(alloc: Global, bytes: &[u8]) -> Result<bool, Fail> {
     let disk = MemDisk::holding(alloc, bytes, ROOM, Failing::never(alloc))?;
     let file = file(alloc, disk)?;
@@ -164,7 +164,7 @@ fn is_old_or_new(alloc: Global, bytes: &[u8]) -> Result<bool, Fail> {
 }
 
 #[test]
-fn after_each_fault_the_file_has_the_old_record_or_the_new(rt: HostRuntime) -> Result<(), Fail> {
+fn a_save_that_fails_leaves_the_old_or_the_new_record(rt: HostRuntime) -> Result<(), Fail> {
     let alloc = rt.alloc();
     for call in 1..7 {
         for is_done in [false, true] {

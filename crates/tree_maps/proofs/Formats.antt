@@ -1,4 +1,4 @@
--- What the tree of sixteen spells is read again.
+-- Decoding what the tree of sixteen encodes gives the same node.
 use Rattle.std.proofs.Common.{◌≡◌, ℕ, zero, suc, ◌+◌, ◌*◌, ◌/◌, ◌%◌, ◌<◌, ◌≤◌, ◌^◌, Bool, true, false, cond, List, [], ◌∷◌, Option, None, Some, length, refl, ap, ◌∙◌, subst, arith}
 use Rattle.std.specs.Prelude.{slice_index, count_ones, ◌==◌}
 use Rattle.std.specs.List.{AllByRecursion}

@@ -1,4 +1,4 @@
--- Parts of a map by a test on keys, look-ups and puts.
+-- The parts of a map selected by a test on keys, look-ups and puts.
 use Rattle.std.proofs.Common.{◌≡◌, ◌≢◌, ℕ, zero, suc, ◌+◌, ◌<◌, ◌≤◌, ◌^◌, Bool, true, false, cond, List, [], ◌∷◌, Option, None, Some, length, get_or, set, replicate, refl, ap, sym, ◌∙◌, subst, arith, add-zero}
 use Rattle.std.specs.Prelude.{filter}
 use Rattle.std.specs.List.{AllByRecursion}
@@ -37,7 +37,7 @@ pub each-none : {A : Type 0} (n i : ℕ) → each_of {A = Option A} (λ _. None)
 each-none zero i = refl
 each-none (suc n) i = ap (λ xs. None ∷ xs) (each-none n (i + 1))
 
--- a place within a list, whatever the default is
+-- an element within a list does not depend on the default
 pub get_or-any : {A : Type 0} (xs : List A) (i : ℕ) (d e : A) → i < length xs → get_or xs i d ≡ get_or xs i e
 get_or-any [] i d e h = absurd (omega arith)
 get_or-any (x ∷ xs) zero d e h = refl
@@ -166,7 +166,7 @@ named-put e (x ∷ m) t = by (bytes_cmp e.key x.key)
     by Less = refl
     by Greater = refl
 
--- ## Sorted entries are what look-ups say
+-- ## Sorted entries are determined by their look-ups
 
 lookup_below : (k : List ℕ) (m : List Entry) → IsBelowAll k m → lookup k m ≡ None
 lookup_below k [] a = refl

@@ -1,12 +1,13 @@
--- A hash tree: its shape, and how its nodes are spelled.
+-- A hash tree: its shape, and how its nodes are encoded.
 use Rattle.std.specs.Prelude.{◌≡◌, ◌+◌, ◌*◌, ◌<◌, ◌^◌, ℕ, List, [], ◌∷◌, Option, None, Some, length}
 use Rattle.ens_base.specs.declared.entry.Entry.{Entry}
 use Rattle.ens_fields.specs.Numbers.{IsRun}
 use Rattle.tree_node.specs.declared.position.Position.{Position}
 use Rattle.tree_maps.specs.Entries.{IsMap}
 
--- Inner nodes have `width` children, and `depth` levels of inner nodes stand above the segments. A key goes to one child at each
--- level. An inner node spells the digests of its children, none for a child that is not there.
+-- Inner nodes have `width` children, and there are `depth` levels of inner nodes above the
+-- segments. At each level a key belongs to one child. An inner node encodes the digests of its
+-- children, and none for a missing child.
 pub record Form : Type 0 where
   pub width : ℕ
   pub depth : ℕ
@@ -28,13 +29,13 @@ pub record IsPlace (F : Form) (h : ℕ) (at : Position) : Type 0 where
   pub level : at.level + h ≡ F.depth
   pub index : at.index < F.width ^ at.level
 
--- digests of 16 bytes, or none
+-- each digest, if present, has 16 bytes
 abbrev pub AreNames : List (Option (List ℕ)) → Type 0
 AreNames [] = Unit {0}
 AreNames (None ∷ cs) = AreNames cs
 AreNames (Some d ∷ cs) = IsRun 16 d × AreNames cs
 
--- what is spelled is read again
+-- decoding what was encoded gives the same node
 pub record Laws (F : Form) : Type 0 where
   pub in_width : (key : List ℕ) (level : ℕ) → F.digit key level < F.width
   pub inner_again : (h : ℕ) (at : Position) (cs : List (Option (List ℕ))) → IsPlace F h at → length cs ≡ F.width → AreNames cs → F.inner_at at (F.inner_text at cs) ≡ Some cs

@@ -1,4 +1,5 @@
--- When a map stands under a digest: its nodes, each named by its MD5, end in a root that the digest names.
+-- When a map stands under a digest: the tree of the map, in which each node is named by its MD5,
+-- has this digest at its root.
 use Rattle.std.specs.Prelude.{◌≡◌, ◌⊎◌, ℕ, zero, suc, ◌+◌, ◌<◌, ◌==◌, List, [], ◌∷◌, Option, None, Some, filter}
 use Rattle.md5.specs.Md5.{md5}
 use Rattle.ens_base.specs.declared.entry.Entry.{Entry}
@@ -7,26 +8,26 @@ use Rattle.tree_node.specs.declared.position.Position.{Position}
 use Rattle.tree_maps.specs.Entries.{IsMap}
 use Rattle.tree_maps.specs.Forms.{Form, child, root}
 
--- f at n places from i on
+-- f at n places, starting from i
 abbrev pub each_of : {A : Type 0} → (ℕ → A) → ℕ → ℕ → List A
 each_of f zero i = []
 each_of f (suc n) i = f i ∷ each_of f n (i + 1)
 
--- the entries that go to child c
+-- the entries that belong to child c
 abbrev pub within : Form → Position → ℕ → List Entry → List Entry
 within F at c m = filter (λ e. F.digit e.key at.level == c) m
 
--- the digest of a node's text, and none where it has no entries
+-- the digest of a node's text, or none for a node without entries
 abbrev pub named : List Entry → List ℕ → Option (List ℕ)
 named [] t = None
 named (x ∷ xs) t = Some (md5 t)
 
--- the node at a position, with h levels below it, of a map
+-- the text of the node at a position, with h levels below it, of a map
 abbrev pub text : Form → ℕ → Position → List Entry → List ℕ
 text F zero at m = F.segment_text at m
 text F (suc h) at m = F.inner_text at (each_of (λ c. named (within F at c m) (text F h (child F at c) (within F at c m))) F.width 0)
 
--- the digests of the children that an inner node has
+-- the digests of the children of an inner node
 abbrev pub children : Form → ℕ → Position → List Entry → List (Option (List ℕ))
 children F h at m = each_of (λ c. named (within F at c m) (text F h (child F at c) (within F at c m))) F.width 0
 
@@ -40,10 +41,10 @@ pub record Stands (F : Form) (d : List ℕ) (m : List Entry) : Type 0 where
   pub is_map : IsMap m
   pub root_is : d ≡ md5 (text F F.depth root m)
 
--- no string of the list has the digest of a node of the map without being that node
+-- no string of the list has the digest of a different node of the map
 abbrev pub AreApart : List (List ℕ) → Form → ℕ → Position → List Entry → Type 0
 AreApart strings F h at m = (s t : List ℕ) → s ∈ strings → IsNode F h at m t → md5 s ≡ md5 t → s ≡ t
 
--- no node of one map has the digest of a node of the other without being that node
+-- no node of one map has the digest of a different node of the other
 abbrev pub NodesApart : Form → ℕ → Position → List Entry → List Entry → Type 0
 NodesApart F h at m n = (s t : List ℕ) → IsNode F h at m s → IsNode F h at n t → md5 s ≡ md5 t → s ≡ t

@@ -1,4 +1,4 @@
--- The tree of three levels of inner nodes with sixteen children each, above 4,096 segments.
+-- The tree with three levels of inner nodes, sixteen children each, above 4,096 segments.
 use Rattle.std.specs.Prelude.{ℕ, zero, suc, ◌+◌, ◌*◌, ◌/◌, ◌%◌, ◌==◌, List, [], ◌∷◌, Option, None, Some, Result, Ok, Err, slice_get, slice_index, drop, if◌then◌else◌}
 use Rattle.md5.specs.Md5.{md5}
 use Rattle.ens_base.specs.declared.entry.Entry.{Entry}
@@ -9,7 +9,7 @@ use Rattle.tree_node.specs.declared.error.NodeError.{NodeError}
 use Rattle.tree_node.specs.Nodes.{inner_spelling, segment_spelling, inner_of, segment_of}
 use Rattle.tree_maps.specs.Forms.{Form}
 
--- nibble `level` of a digest, the high one of a byte first
+-- nibble `level` of a digest; the high nibble of a byte comes first
 abbrev pub nibble : List ℕ → ℕ → ℕ
 nibble digest level = if level % 2 == 0 then slice_index digest (level / 2) / 16 % 16 else slice_index digest (level / 2) % 16
 
@@ -17,7 +17,7 @@ abbrev pub has_child : Option (List ℕ) → ℕ
 has_child None = 0
 has_child (Some d) = 1
 
--- bit c says whether child c is there
+-- bit c says whether child c is present
 abbrev pub mask_of : List (Option (List ℕ)) → ℕ
 mask_of [] = 0
 mask_of (c ∷ cs) = has_child c + 2 * mask_of cs
@@ -27,7 +27,7 @@ digests_of [] = []
 digests_of (None ∷ cs) = digests_of cs
 digests_of (Some d ∷ cs) = d ∷ digests_of cs
 
--- n children: the digests go to those whose bit is set, the first to the lowest
+-- n children: the digests belong to the children whose bits are set, the first to the lowest
 abbrev pub spread : ℕ → ℕ → List (List ℕ) → List (Option (List ℕ))
 spread zero mask ds = []
 spread (suc n) mask ds = if mask % 2 == 1 then slice_get ds 0 ∷ spread n (mask / 2) (drop 1 ds) else None ∷ spread n (mask / 2) ds

@@ -4,8 +4,8 @@ ghost use Rattle.tree_maps.specs.Forms.{root};
 ghost use Rattle.tree_maps.specs.Maps.{Stands, NodesApart};
 ghost use Rattle.tree_maps.specs.Sixteen.{sixteen};
 
-/// At most one map stands under a digest, where no node of one has the digest of a node of the other
-/// without being that node.
+/// At most one map stands under a digest, unless a node of one map and a different node of the
+/// other have the same digest.
 pub fn one_map_stands()
     ensures { (d : List ℕ) (m n : List Entry) → Stands sixteen d m → Stands sixteen d n → NodesApart sixteen sixteen.depth root m n → m ≡ n }
 {}

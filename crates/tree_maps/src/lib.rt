@@ -1,9 +1,10 @@
 //! Maps that stand under digests: what a hash tree means, apart from any store.
 //!
-//! A tree has a form: how many children an inner node has, how many levels there are, and how nodes
-//! are spelled. A map from keys to entries stands under a digest where its nodes, each named by its
-//! MD5, end in a root that the digest names. `specs/Maps.antt` says this, and `specs/Sixteen.antt` has
-//! the form of the tree that peers keep. Each law here is a function without effect.
+//! The form of a tree says how many children an inner node has, how many levels there are, and how
+//! nodes are encoded. A map from keys to entries stands under a digest if the tree of the map, in
+//! which each node is named by its MD5, has this digest at its root. `specs/Maps.antt` defines
+//! this, and `specs/Sixteen.antt` the form of the tree that peers keep. Each law is a function
+//! without effect.
 #![tactic(auto)]
 
 mod laws;

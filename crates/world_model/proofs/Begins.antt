@@ -16,7 +16,7 @@ begins_later a b c first last = record {
   printed = rw last.printed (rw first.printed (append_assoc a.printed.items first.more_printed last.more_printed));
 }
 
--- nothing was sent or printed
+-- no message was sent and no line printed
 pub begins_by : (w v : World) → v.network ≡ w.network → v.printed ≡ w.printed → Begins w v
 begins_by w v network printed = record { more_sent = []; sent = rw network (sym (append-nil w.network.sent)); more_printed = []; printed = rw printed (sym (append-nil w.printed.items)) }
 
@@ -24,7 +24,7 @@ begins_by w v network printed = record { more_sent = []; sent = rw network (sym 
 pub begins_sent : (w v : World) → v.network.sent ≡ w.network.sent → v.printed ≡ w.printed → Begins w v
 begins_sent w v sent printed = record { more_sent = []; sent = rw sent (sym (append-nil w.network.sent)); more_printed = []; printed = rw printed (sym (append-nil w.printed.items)) }
 
--- what follows from what a call did where it was Ok
+-- carries a fact about an Ok result to what follows from it
 pub on_ok : {T E P Q : Type 0} (r : Result T E) → OnOk r P → (P → Q) → OnOk r Q
 on_ok (Ok x) p f = f p
 on_ok (Err e) p f = tt

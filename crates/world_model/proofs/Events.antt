@@ -1,4 +1,4 @@
--- The events of a schedule one after the other.
+-- The events of a schedule, applied one after another.
 use Rattle.std.proofs.Common.{◌≡◌, ◌<◌, ◌≤◌, ◌+◌, ℕ, zero, suc, Some, List, [], ◌∷◌, slice_get, refl, ap, ◌∙◌, sym, arith}
 use Rattle.std.specs.Prelude.{drop}
 use Rattle.std.proofs.lemmas.List.{length-replicate}
@@ -6,12 +6,12 @@ use Rattle.std.proofs.lemmas.Option.{same_Some, none-some}
 use Rattle.network.specs.Mail.{most_messages}
 use Rattle.schedule_text.specs.Spelling.{MayStand, AllMayStand}
 use Rattle.schedule_text.specs.declared.event.ScheduleEvent.{ScheduleEvent}
-use Rattle.world_runs.proofs.Growth.{sent_in, peers_in, applied_same, run_grows}
-use Rattle.world_runs.specs.Lines.{applied, run_from, run_of_schedule}
-use Rattle.world_runs.specs.Runs.{Run, opening_run}
+use Rattle.world_spec.proofs.Growth.{sent_in, peers_in, applied_same, run_grows}
+use Rattle.world_spec.specs.Lines.{applied, run_from, run_of_schedule}
+use Rattle.world_spec.specs.Runs.{Run, opening_run}
 use Rattle.world_model.proofs.Numbers.{succ}
 
--- some events have been applied, and the others follow from here
+-- some events have been applied, and the rest lead from here to the run of the schedule
 pub record Running (peers : ℕ) (view : List ℕ) (all : List ScheduleEvent) (place : ℕ) (now : Run) : Type 0 where
   pub rest : run_from (drop place all) now ≡ run_of_schedule peers view all
   pub many : peers_in now ≡ peers
@@ -38,7 +38,7 @@ module _ (peers : ℕ) (view : List ℕ) (all : List ScheduleEvent) (place : ℕ
   pub running_over : most_messages < sent_in (applied event now) → most_messages < sent_in (run_of_schedule peers view all)
   running_over over = rw (← old.rest) (rw (drop_one all place event here) (omega (arith, over, run_grows (drop (place + 1) all) (applied event now))))
 
--- each event may stand
+-- each event of a schedule may stand
 pub stands_at : (peers : ℕ) (all : List ScheduleEvent) (place : ℕ) (event : ScheduleEvent) → AllMayStand peers all → slice_get all place ≡ Some event → MayStand peers event
 stands_at peers [] place event may here = absurd (none-some event here)
 stands_at peers (e ∷ es) zero event may here = rw (← same_Some e event here) may.0

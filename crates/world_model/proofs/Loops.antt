@@ -1,13 +1,13 @@
--- Ticks and deliveries one after the other.
+-- Ticks and deliveries, one after another.
 use Rattle.std.proofs.Common.{◌≡◌, ◌<◌, ◌≤◌, ◌+◌, ◌-◌, ℕ, Some, None, List, refl, ap, ◌∙◌, sym, arith}
 use Rattle.std.specs.Prelude.{Bool, slice_get}
 use Rattle.network.specs.Mail.{settled, is_among, oldest, most_messages}
 use Rattle.peer_core.specs.declared.event.Event.TheVariants as events
 use Rattle.wire_frames.specs.declared.frame.Frame.{Frame}
 use Rattle.wire_frames.specs.declared.message.Message.{Message}
-use Rattle.world_runs.proofs.Growth.{sent_in, ticked_grows, calmed_grows}
-use Rattle.world_runs.proofs.Turns.{no_tick, one_tick, no_turn, one_turn, last_turn}
-use Rattle.world_runs.specs.Runs.{Run, stepped, ticked, delivered, calmed}
+use Rattle.world_spec.proofs.Growth.{sent_in, ticked_grows, calmed_grows}
+use Rattle.world_spec.proofs.Turns.{no_tick, one_tick, no_turn, one_turn, last_turn}
+use Rattle.world_spec.specs.Runs.{Run, stepped, ticked, delivered, calmed}
 use Rattle.world_model.specs.Worlds.{run_of, Begins, IsWithin}
 use Rattle.world_model.specs.declared.world.World.{World}
 use Rattle.world_model.proofs.Begins.{begins_same, begins_later}
@@ -15,7 +15,7 @@ use Rattle.world_model.proofs.Begins.{begins_same, begins_later}
 minus_zero : (n : ℕ) → n - 0 ≡ n
 minus_zero n = omega arith
 
--- some of the ticks have been taken, and the others follow from here
+-- some ticks have been taken, and the rest lead from here to the same world
 pub record Ticking (peer ticks i : ℕ) (first now : World) : Type 0 where
   pub rest : ticked peer (ticks - i) (run_of now) ≡ ticked peer ticks (run_of first)
   pub within : IsWithin first now
@@ -41,7 +41,7 @@ none_left n i le = omega (arith, le)
 pub ticking_last : (peer ticks i : ℕ) (first now : World) → ticks ≤ i → Ticking peer ticks i first now → run_of now ≡ ticked peer ticks (run_of first)
 ticking_last peer ticks i first now le old = sym (no_tick peer (run_of now)) ∙ (rw (none_left ticks i le) at old.rest)
 
--- some of the turns of a calm have been taken, and the others follow from here
+-- some turns of a calm have been taken, and the rest lead from here to the same world
 pub record Calming (peers : List Bool) (i : ℕ) (first now : World) : Type 0 where
   pub rest : calmed peers (most_messages - i) (run_of now) ≡ calmed peers most_messages (run_of first)
   pub within : IsWithin first now
@@ -67,7 +67,7 @@ module _ (peers : List Bool) (i : ℕ) (first now : World) (below : i < most_mes
 pub calming_last : (peers : List Bool) (i : ℕ) (first now : World) → most_messages ≤ i → Calming peers i first now → run_of now ≡ calmed peers most_messages (run_of first)
 calming_last peers i first now le old = sym (no_turn peers (run_of now)) ∙ (rw (none_left most_messages i le) at old.rest)
 
--- a message that waits no more is delivered
+-- settling a message and stepping its receiver delivers it
 pub received_is : (w : Run) (n : ℕ) (f : Frame) (message : Message) → slice_get w.mail.sent n ≡ Some f → message ≡ f.message
     → stepped f.to (events.Deliver f.from message) (record w { mail = settled w.mail n }) ≡ delivered n w
 received_is w n f message here copied = rw here (rw copied refl)

@@ -1,9 +1,9 @@
--- The members of a list of a schedule are peers.
+-- The members named in a schedule are peers.
 use Rattle.std.proofs.Common.{◌≡◌, ◌≤◌, ◌+◌, ℕ, zero, suc, Some, List, [], ◌∷◌, slice_get, arith}
 use Rattle.std.proofs.lemmas.Option.{same_Some, none-some}
 use Rattle.schedule_words.specs.Spelling.{AscendFrom}
 
--- fewer peers are among more
+-- ascending numbers up to n are ascending numbers up to any greater m
 pub among_more : (low n m : ℕ) (members : List ℕ) → n ≤ m → AscendFrom low n members → AscendFrom low m members
 among_more low n m [] le ascend = tt
 among_more low n m (p ∷ ps) le ascend = (ascend.0, omega (arith, ascend.1, le), among_more (p + 1) n m ps le ascend.2)

@@ -4,7 +4,7 @@ use Rattle.std.proofs.Common.{◌≡◌, ◌+◌, ℕ, suc, arith}
 pub succ : (n : ℕ) → n + 1 ≡ suc n
 succ n = omega arith
 
--- a number so far above a base, and the same above the next base
+-- a number above a base, counted from the next base
 pub shifted : (m q base : ℕ) → m ≡ suc q + base → m ≡ q + (base + 1)
 shifted m q base is = omega (arith, is)
 

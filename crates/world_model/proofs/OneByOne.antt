@@ -1,4 +1,4 @@
--- Messages are sent one after the other.
+-- Messages are sent one after another.
 use Rattle.std.specs.Prelude.{All, map, IsErrOf, Ok, Bool, true, false, nat_lt}
 use Rattle.std.proofs.lemmas.Bool.Decides.{nat_tests}
 use Rattle.network.specs.declared.error.SendError.TheVariants as sends
@@ -6,13 +6,13 @@ use Rattle.std.proofs.Common.{◌≡◌, ◌≤◌, ◌<◌, ◌+◌, ℕ, List,
 use Rattle.std.proofs.lemmas.List.{append-nil, append_assoc, length-append}
 use Rattle.std.proofs.lemmas.List.Elements.{All-tail}
 use Rattle.network.specs.Mail.{Mail, posted, most_messages}
-use Rattle.peer_core.specs.Kept.{MaySend}
+use Rattle.peer_core.specs.Guarantees.{MaySend}
 use Rattle.peer_core.specs.declared.outbox.Outgoing.{Outgoing}
 use Rattle.wire_frames.specs.declared.frame.Frame.{Frame}
-use Rattle.world_runs.specs.Runs.{frame_from, posted_all}
+use Rattle.world_spec.specs.Runs.{frame_from, posted_all}
 use Rattle.world_model.specs.Messages.{StartsWith}
 
--- from the mail at first, of all that is to be sent, this mail has come, and this is left
+-- some of the messages have been sent, and the rest lead from here to the same mail
 pub record Posting (me : ℕ) (first : Mail) (all : List Outgoing) (now : Mail) (left : List Outgoing) : Type 0 where
   pub posted : posted_all (map (frame_from me) left) now ≡ posted_all (map (frame_from me) all) first
   pub may : All MaySend left
@@ -39,12 +39,12 @@ next me first all now o left below old = record {
   within = λ le. room now.sent (frame_from me o) below;
 }
 
--- where one is not sent since too many were, all of them would have been too many
+-- if one message cannot be sent at the limit, all of them would pass the limit
 pub too_many : (me : ℕ) (first : Mail) (all : List Outgoing) (now : Mail) (o : Outgoing) (left : List Outgoing) → most_messages ≤ length now.sent
     → Posting me first all now (o ∷ left) → most_messages < length first.sent + length all
 too_many me first all now o left full old = omega (arith, old.count, full)
 
--- what was sent was no error, so there was room for it
+-- a message that was sent was within the limit
 pub had_room : {T : Type 0} (r : T) (n : ℕ) → (most_messages ≤ n → IsErrOf {T = T} (Ok r) sends.Limit) → n < most_messages
 had_room r n full = below n (nat_lt n most_messages) refl (λ h. no_error r (full h)) where
   no_error : {T : Type 0} (r : T) → IsErrOf {T = T} (Ok r) sends.Limit → ⊥

@@ -7,9 +7,9 @@ use Rattle.network.specs.Mail.{most_messages}
 use Rattle.peer_core.specs.Plans.{Out}
 use Rattle.peer_core.specs.declared.event.Event.{Event}
 use Rattle.register_model.specs.declared.note.Note.{Note}
-use Rattle.world_runs.proofs.Growth.{sent_in, length_posted_all}
-use Rattle.world_runs.specs.Nodes.{Taken, taken}
-use Rattle.world_runs.specs.Runs.{Run, frame_from, place_of, stepped}
+use Rattle.world_spec.proofs.Growth.{sent_in, length_posted_all}
+use Rattle.world_spec.specs.Nodes.{Taken, taken}
+use Rattle.world_spec.specs.Runs.{Run, frame_from, place_of, stepped}
 use Rattle.world_model.proofs.Numbers.{shifted, shifted_back}
 use Rattle.world_model.specs.Peers.{MemPeer, node_of, AreNumbered}
 use Rattle.world_model.specs.Worlds.{reported}
@@ -38,14 +38,14 @@ still_from base (y ∷ ys) (suc place) x new here same numbered zero p is = numb
 still_from base (y ∷ ys) (suc place) x new here same numbered (suc q) p is =
     shifted_back p.me q base (still_from (base + 1) ys place x new here same (λ r o found. shifted o.me r base (numbered (suc r) o found)) q p is)
 
--- the numbers stay
+-- the peers keep their numbers
 pub still_numbered : (peers : List MemPeer) (place : ℕ) (x new : MemPeer) → slice_get peers place ≡ Some x → new.me ≡ x.me → AreNumbered peers → AreNumbered (slice_set peers place new)
 still_numbered peers place x new here same numbered = still_from 1 peers place x new here same numbered
 
--- the peer at the place of a number has it
+-- the peer at the index of a number has this number
 pub has_number : (peers : List MemPeer) (peer : ℕ) (x : MemPeer) → 1 ≤ peer → slice_get peers (place_of peer) ≡ Some x → AreNumbered peers → x.me ≡ peer
 has_number peers peer x first here numbered = numbered (place_of peer) x here ∙ omega (arith, first)
 
--- and so does how many there are
+-- the number of peers stays the same
 pub still_few : (peers : List MemPeer) (place : ℕ) (new : MemPeer) → length peers ≤ 31 → length (slice_set peers place new) ≤ 31
 still_few peers place new few = rw (length-set peers place new) few

@@ -1,12 +1,12 @@
--- Peers start one after the other.
+-- Peers start one after another.
 use Rattle.std.proofs.Common.{◌≡◌, ◌+◌, ℕ, zero, suc, Some, List, [], ◌∷◌, ◌++◌, length, map, replicate, slice_get, refl, ap, ◌∙◌, sym}
 use Rattle.std.proofs.lemmas.List.{map-append, length-append}
 use Rattle.std.proofs.lemmas.Option.{same_Some, none-some}
-use Rattle.world_runs.specs.Nodes.{opening_node}
+use Rattle.world_spec.specs.Nodes.{opening_node}
 use Rattle.world_model.proofs.Numbers.{succ, shifted, shifted_back}
 use Rattle.world_model.specs.Peers.{MemPeer, node_of, AreNumbered}
 
--- so many peers have started
+-- the first n peers have started
 pub record Started (view : List ℕ) (n : ℕ) (peers : List MemPeer) : Type 0 where
   pub nodes : map node_of peers ≡ replicate n (opening_node view)
   pub numbered : AreNumbered peers

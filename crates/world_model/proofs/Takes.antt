@@ -8,12 +8,12 @@ use Rattle.peer_core.specs.declared.error.PeerError.{PeerError}
 use Rattle.peer_core.specs.declared.error.PeerError.TheVariants as errors
 use Rattle.peer_core.specs.declared.event.Event.{Event}
 use Rattle.peer_core.specs.declared.outbox.Outbox.{Outbox}
-use Rattle.world_runs.proofs.Determined.{MayAnswer, MayRefuse, step_taken, step_stopped}
-use Rattle.world_runs.specs.Nodes.{Taken, taken}
+use Rattle.world_spec.proofs.Determined.{MayAnswer, MayRefuse, step_taken, step_stopped}
+use Rattle.world_spec.specs.Nodes.{Taken, taken}
 use Rattle.world_model.specs.Peers.{MemPeer, node_of}
 use Rattle.world_model.specs.Refusals.{world_error}
 
--- the error of a refusal
+-- an error as an error result
 pub as_error : {T : Type 0} (e x : PeerError) → e ≡ x → IsErrOf {T = T} (Err e) x
 as_error e x is = rw is refl
 

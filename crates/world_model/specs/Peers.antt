@@ -1,16 +1,16 @@
--- The peers of a world, seen as the nodes of a run.
+-- The peers of a world as the nodes of a run.
 use Rattle.std.specs.Prelude.{◌≡◌, ◌+◌, ℕ, Bool, true, false, List, Some, slice_get}
 use Rattle.ens_outside.specs.MemStores.{Objects, Nodes}
 use Rattle.peer_core.specs.declared.peer.Peer.{Peer}
 use Rattle.peer_core.specs.declared.state.State.{State}
-use Rattle.world_runs.specs.Nodes.{MemStores, Node, Up, Down}
-use Rattle.world_runs.specs.declared.held.HeldFact.{HeldFact}
+use Rattle.world_spec.specs.Nodes.{MemStores, Node, Up, Down}
+use Rattle.world_spec.specs.declared.held.HeldFact.{HeldFact}
 
 -- a peer over stores in memory
 abbrev pub MemPeer : Type 0
 MemPeer = Peer Objects Nodes HeldFact
 
--- a peer that was halted is down
+-- a halted peer is down
 abbrev pub node_by : Bool → State → MemStores → Node
 node_by true x s = Down s
 node_by false x s = Up x s

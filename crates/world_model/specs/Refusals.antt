@@ -1,4 +1,4 @@
--- What a refused step of a peer means for the world.
+-- How the error of a peer's step ends the run of a world.
 use Rattle.std.specs.Prelude.{◌≡◌, ◌⊎◌, Option, Some, None}
 use Rattle.network.specs.declared.error.SendError.{SendError}
 use Rattle.network.specs.declared.error.SendError.TheVariants as sends
@@ -7,7 +7,8 @@ use Rattle.peer_core.specs.declared.error.PeerError.TheVariants as errors
 use Rattle.world_model.specs.declared.error.WorldError.{WorldError}
 use Rattle.world_model.specs.declared.error.WorldError.TheVariants as worlds
 
--- a fault of a store leaves the peer down, and the world goes on; the others end the run
+-- after a store fault the peer is down and the run goes on; out of memory and a fault of the hasher
+-- end the run
 abbrev pub world_error : PeerError → Option WorldError
 world_error errors.StoreFault = None
 world_error errors.Halted = None
@@ -20,7 +21,7 @@ world_error (errors.BookFull bytes) = Some (worlds.BookFull bytes)
 abbrev pub IsApplyError : WorldError → Type 0
 IsApplyError e = (e ≡ worlds.MessageLimit) ⊎ (e ≡ worlds.Memory)
 
--- why a message is not sent, in the words of the world
+-- the world's error for a message that was not sent
 abbrev pub of_send : SendError → WorldError
 of_send sends.Limit = worlds.MessageLimit
 of_send sends.Memory = worlds.Memory

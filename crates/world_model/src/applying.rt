@@ -2,8 +2,8 @@ ghost use Rattle.std.specs.Prelude.{◌≡◌, ◌<◌, ◌≤◌, length, OnOk,
 ghost use Rattle.network.specs.Mail.{most_messages};
 ghost use Rattle.schedule_text.specs.Spelling.{MayStand};
 ghost use Rattle.schedule_words.specs.Spelling.{AreMembers};
-ghost use Rattle.world_runs.specs.Lines.{applied, effect, everyone, first_of, set_of, up_to};
-ghost use Rattle.world_runs.proofs.Growth.{sent_in};
+ghost use Rattle.world_spec.specs.Lines.{applied, effect, everyone, first_of, set_of, up_to};
+ghost use Rattle.world_spec.proofs.Growth.{sent_in};
 ghost use Rattle.world_model.specs.Refusals.{IsApplyError};
 ghost use Rattle.world_model.specs.Worlds.{run_of, Begins, IsWithin};
 
@@ -14,7 +14,7 @@ use ens_hashing::Hasher16;
 use schedule_text::ScheduleEvent;
 use std::alloc::Global;
 
-/// All peers.
+/// Returns the set of all peers, 1 to 31.
 pub(crate) fn all_peers() -> PeerSet
     ensures { result ≡ everyone }
 {
@@ -25,7 +25,7 @@ pub(crate) fn all_peers() -> PeerSet
     set
 }
 
-/// The set of these peers.
+/// Returns the set of these peers.
 fn set_of_members(members: &[PeerId]) -> PeerSet
     requires { AreMembers 31 members.now }
     ensures { result ≡ set_of members.now }
@@ -38,7 +38,7 @@ fn set_of_members(members: &[PeerId]) -> PeerSet
 }
 
 impl World {
-    /// What a line does.
+    /// Applies the effect of a line, without counting it.
     fn effect<H: Hasher16>(
         &mut self,
         alloc: Global,
@@ -80,13 +80,13 @@ impl World {
         }
     }
 
-    /// Applies a line of a schedule of as many peers as there are. The world is then the run of the lines
-    /// so far.
+    /// Applies one line of a schedule. The world is then the run of all lines applied so far.
     ///
     /// # Errors
     ///
-    /// `MessageLimit` exactly where message 500,001 would be sent, and want of memory. What was sent and
-    /// printed stays at the front of what is.
+    /// `MessageLimit` if the line would send message 500,001, and `Memory` when out of memory.
+    /// Whatever was sent and printed before the call stays, and may be followed by a part of what
+    /// the line sends and prints.
     pub fn apply<H: Hasher16>(
         &mut self,
         alloc: Global,

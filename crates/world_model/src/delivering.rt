@@ -1,8 +1,8 @@
 ghost use Rattle.std.specs.Prelude.{◌≡◌, ◌<◌, ◌≤◌, OnOk, IfErr, IsErrOf};
 ghost use Rattle.ens_base.specs.View.{IsPeer};
 ghost use Rattle.network.specs.Mail.{goes, oldest, most_messages};
-ghost use Rattle.world_runs.specs.Runs.{delivered, delivered_if, ticked, calmed};
-ghost use Rattle.world_runs.proofs.Growth.{sent_in};
+ghost use Rattle.world_spec.specs.Runs.{delivered, delivered_if, ticked, calmed};
+ghost use Rattle.world_spec.proofs.Growth.{sent_in};
 ghost use Rattle.world_model.specs.Refusals.{IsApplyError};
 ghost use Rattle.world_model.specs.Worlds.{run_of, Begins, IsWithin};
 
@@ -15,7 +15,7 @@ use peer_core::Event;
 use std::alloc::Global;
 
 impl World {
-    /// So many ticks of a peer.
+    /// Ticks `peer` `ticks` times.
     pub(crate) fn tick<H: Hasher16>(
         &mut self,
         alloc: Global,
@@ -36,7 +36,8 @@ impl World {
         Ok(())
     }
 
-    /// The message of this number, the first being 0, is delivered, if there is one.
+    /// Delivers the message `number`, counted from 0, whether or not it still waits. Does nothing
+    /// if there is no such message.
     pub(crate) fn deliver<H: Hasher16>(
         &mut self,
         alloc: Global,
@@ -58,7 +59,7 @@ impl World {
         self.step_peer(alloc, hasher, to, Event::Deliver(from, message))
     }
 
-    /// The oldest message from a peer to a peer that waits is delivered.
+    /// Delivers the oldest message waiting from `sender` to `receiver`. Does nothing if none waits.
     pub(crate) fn pass<H: Hasher16>(
         &mut self,
         alloc: Global,
@@ -79,7 +80,8 @@ impl World {
         }
     }
 
-    /// The messages between these peers are delivered in the order of sending, until none waits.
+    /// Delivers the messages waiting among `peers`, oldest first, including those sent meanwhile,
+    /// until none waits or 500,000 were delivered.
     pub(crate) fn calm<H: Hasher16>(
         &mut self,
         alloc: Global,

@@ -5,16 +5,16 @@ use ens_base::{Bytes, CopyError};
 use network::SendError;
 use std::alloc::{AllocError, AllocFailed};
 
-/// Why a world was not opened, or did not apply a line.
+/// Why a world did not open, or did not apply a line.
 #[derive(Debug, PartialEq, Eq, Drop)]
 pub enum WorldError {
-    /// Two different strings have one digest: the kept one, and the new one.
+    /// Two different strings have the same digest: the one kept, and the new one.
     Clash { first: Bytes, second: Bytes },
-    /// How many bytes the book of hashes keeps, where the new string would pass its limit.
+    /// The book of hashes would pass its limit with the new string. Holds the number of bytes kept.
     BookFull(u64),
-    /// One message more than 500,000 would be sent.
+    /// More than 500,000 messages would be sent.
     MessageLimit,
-    /// Memory ran out.
+    /// Out of memory.
     Memory,
 }
 

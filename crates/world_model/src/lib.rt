@@ -1,11 +1,11 @@
-//! Several peers over stores in memory: the run of a schedule, line by line.
+//! Several peers over stores in memory, run by the lines of a schedule.
 //!
-//! A `World` opens with all peers started on empty stores, and `apply` takes one line of a schedule
-//! after the other. Its state is the run of the lines that were applied, as a plain function
-//! (world_runs, `specs/Runs` and `specs/Lines`); `specs/Worlds` says how a `World` is seen as such a
-//! state. Every message is numbered in the order of sending and never removed. The notes of leaders go
-//! to a scribe, which tells the histories. The lines `tick`, `deliver`, `pass`, `lose` and `calm` are
-//! there; of the others nothing is done yet, but that a call line names a key, which has a history.
+//! A `World` opens with all peers started on empty stores, and `apply` applies one line of a
+//! schedule. Its state is the run of the lines applied so far, which world_spec defines as a pure
+//! function; `specs/Worlds` maps a `World` to this state. Messages are numbered in the order of
+//! sending and never removed. The notes of leaders go to a scribe, which derives the histories. The
+//! lines `tick`, `deliver`, `pass`, `lose` and `calm` have an effect. The other lines are not
+//! supported yet and have none, except that the key of a call line gets a history.
 #![tactic(auto)]
 
 mod applying;
@@ -21,6 +21,3 @@ mod world;
 
 pub use error::WorldError;
 pub use world::World;
-
-#[cfg(test)]
-mod tests;

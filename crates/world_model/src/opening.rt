@@ -1,7 +1,7 @@
 ghost use Rattle.std.specs.Prelude.{◌≡◌, ◌≤◌, length, map, replicate, IfOk, IfErr};
 ghost use Rattle.ens_base.specs.View.{IsPeer};
-ghost use Rattle.world_runs.specs.Nodes.{opening_node};
-ghost use Rattle.world_runs.specs.Runs.{opening_run};
+ghost use Rattle.world_spec.specs.Nodes.{opening_node};
+ghost use Rattle.world_spec.specs.Runs.{opening_run};
 ghost use Rattle.world_model.specs.Peers.{AreNumbered, node_of};
 ghost use Rattle.world_model.specs.Worlds.{run_of};
 
@@ -15,9 +15,9 @@ use network::Network;
 use peer_core::{Peer, PeerError, Stores};
 use schedule_text::Schedule;
 use std::alloc::Global;
-use world_runs::HeldFact;
+use world_spec::HeldFact;
 
-/// The peer of this number, started on empty stores.
+/// Starts the peer `me` on empty stores.
 fn started<H: Hasher16>(
     alloc: Global,
     me: PeerId,
@@ -43,7 +43,7 @@ fn started<H: Hasher16>(
     }
 }
 
-/// So many peers, from 1 on, started on empty stores.
+/// Starts the peers 1 to `count` on empty stores.
 fn started_peers<H: Hasher16>(
     alloc: Global,
     count: u32,
@@ -65,12 +65,12 @@ fn started_peers<H: Hasher16>(
 }
 
 impl World {
-    /// A world whose peers have started on empty stores. The lines of the schedule before its events say
-    /// how many there are, and the view with which their ensemble opens.
+    /// Opens a world: starts `schedule.peers` peers on empty stores, in an ensemble that opens in
+    /// the view of the schedule. Applies no event.
     ///
     /// # Errors
     ///
-    /// Want of memory alone.
+    /// `Memory` when out of memory, and no other error.
     pub fn open<H: Hasher16>(
         alloc: Global,
         schedule: &Schedule,

@@ -1,8 +1,8 @@
 ghost use Rattle.std.specs.Prelude.{◌≡◌, ◌<◌, ◌≤◌, ◌+◌, map, length, All, OnOk, IfErr, IsErrOf};
 ghost use Rattle.ens_base.specs.View.{IsPeer};
 ghost use Rattle.network.specs.Mail.{most_messages};
-ghost use Rattle.peer_core.specs.Kept.{MaySend};
-ghost use Rattle.world_runs.specs.Runs.{frame_from, posted_all};
+ghost use Rattle.peer_core.specs.Guarantees.{MaySend};
+ghost use Rattle.world_spec.specs.Runs.{frame_from, posted_all};
 ghost use Rattle.world_model.specs.Messages.{StartsWith};
 ghost use Rattle.world_model.specs.Refusals.{IsApplyError};
 
@@ -12,7 +12,7 @@ use network::Network;
 use peer_core::Outgoing;
 use wire_frames::Frame;
 
-/// Sends what a peer sends, until it is all sent or too much was.
+/// Sends the messages of the peer `from` in order, and stops at the first that cannot be sent.
 pub(crate) fn post_all(
     network: &mut Network,
     from: PeerId,

@@ -1,12 +1,12 @@
 ghost use Rattle.std.specs.Prelude.{◌≡◌, ◌++◌, map, IfOk};
-ghost use Rattle.world_runs.specs.Runs.{answer_line as line_of_answer, change_line as line_of_change};
+ghost use Rattle.world_spec.specs.Runs.{answer_line as line_of_answer, change_line as line_of_change};
 
 use ens_base::PeerId;
 use peer_core::AnswerOut;
 use register_model::{Answer, Printed};
 use std::alloc::{AllocError, Global};
 
-/// The line that an answer prints.
+/// Returns the printed line of an answer.
 fn answer_line(event: u64, answer: AnswerOut) -> Printed
     ensures { result ≡ line_of_answer event answer }
 {
@@ -14,14 +14,15 @@ fn answer_line(event: u64, answer: AnswerOut) -> Printed
     Printed::Answer(Answer { id, event, reply })
 }
 
-/// The line that a peer prints on a request to change its view.
+/// Returns the printed line of a peer's reply to a request to change its view.
 fn change_line(event: u64, peer: PeerId, taken: bool) -> Printed
     ensures { result ≡ line_of_change event peer taken }
 {
     Printed::Change { event, peer, taken }
 }
 
-/// The lines that a step of a peer prints, at the event of this number.
+/// Returns the lines that a step of `peer` prints at event number `event`: first its answers, then
+/// its replies to requests to change the view.
 pub(crate) fn lines_of(
     alloc: Global,
     event: u64,

@@ -1,8 +1,8 @@
 ghost use Rattle.std.specs.Prelude.{◌≡◌, ◌<◌, ◌≤◌, IfOk, IfErr, IsErrOf};
 ghost use Rattle.network.specs.Mail.{most_messages};
 ghost use Rattle.schedule_text.specs.Spelling.{IsSchedule};
-ghost use Rattle.world_runs.specs.Lines.{run_of_schedule};
-ghost use Rattle.world_runs.proofs.Growth.{sent_in};
+ghost use Rattle.world_spec.specs.Lines.{run_of_schedule};
+ghost use Rattle.world_spec.proofs.Growth.{sent_in};
 ghost use Rattle.world_model.specs.Refusals.{IsApplyError};
 ghost use Rattle.world_model.specs.Worlds.{run_of};
 
@@ -15,11 +15,12 @@ use std::alloc::{AllocError, Global};
 use wire_frames::Frame;
 
 impl World {
-    /// Opens a world and applies each event of the schedule.
+    /// Opens a world and applies every event of the schedule.
     ///
     /// # Errors
     ///
-    /// `MessageLimit` exactly where message 500,001 would be sent, and want of memory.
+    /// `MessageLimit` if the run would send more than 500,000 messages, and `Memory` when out of
+    /// memory.
     pub fn run<H: Hasher16>(
         alloc: Global,
         schedule: &Schedule,
@@ -44,22 +45,23 @@ impl World {
     ghost use Rattle.std.specs.Prelude.{◌≡◌, IfOk};
     ghost use Rattle.history_scribe.specs.Histories.{AreHistories};
 
-    /// What was answered, and what peers said of requests to change their view, in order.
+    /// Returns the answers to calls and the replies to requests to change the view, in the order
+    /// given.
     pub fn printed(&self) -> &[Printed]
         ensures { result.now ≡ (run_of self.now).printed }
     {
         self.printed.as_slice()
     }
 
-    /// The history of each key that a call line named, the keys ascending: the calls on it in the order
-    /// that the notes of the leaders tell. Want of memory is the one refusal.
+    /// Returns the history of each key named by a call line, in ascending order of keys: the calls
+    /// on the key, in the order derived from the notes of the leaders. Fails when out of memory.
     pub fn histories(&self, alloc: Global) -> Result<Vec<History>, AllocError>
         ensures { IfOk result (λ v. AreHistories (run_of self.now).notes (run_of self.now).called v.items) }
     {
         self.scribe.histories(alloc, &self.called)
     }
 
-    /// Every message that was ever sent, in order.
+    /// Returns every message sent so far, in the order of sending.
     pub fn sent(&self) -> &[Frame]
         ensures { result.now ≡ (run_of self.now).mail.sent }
     {

@@ -2,10 +2,10 @@ ghost use Rattle.std.specs.Prelude.{◌≡◌, ◌<◌, ◌≤◌, ◌+◌, leng
 ghost use Rattle.ens_base.specs.View.{IsPeer};
 ghost use Rattle.network.specs.Mail.{most_messages};
 ghost use Rattle.peer_core.specs.Outcomes.{out_of};
-ghost use Rattle.peer_core.specs.Kept.{AllObey};
+ghost use Rattle.peer_core.specs.Guarantees.{AllObey};
 ghost use Rattle.peer_core.specs.Steps.{HasSender};
-ghost use Rattle.world_runs.specs.Runs.{stepped};
-ghost use Rattle.world_runs.proofs.Growth.{sent_in};
+ghost use Rattle.world_spec.specs.Runs.{stepped};
+ghost use Rattle.world_spec.proofs.Growth.{sent_in};
 ghost use Rattle.world_model.specs.Refusals.{IsApplyError};
 ghost use Rattle.world_model.specs.Worlds.{run_of, Begins, IsWithin, reported};
 
@@ -19,11 +19,11 @@ use ens_hashing::Hasher16;
 use peer_core::{Event, Outbox};
 use std::alloc::Global;
 
-/// No peer takes the event.
+/// Drops an event for which there is no peer.
 fn ignore(_event: Event) {}
 
 impl World {
-    /// What a step of a peer leaves: its messages are on their way, and what it says is printed.
+    /// Sends the messages of a step, and adds its lines and notes to those of the world.
     fn report(&mut self, alloc: Global, peer: PeerId, out: Outbox) -> Result<(), WorldError>
         requires peer { IsPeer peer }
         requires out { AllObey (out_of out) }
@@ -46,7 +46,7 @@ impl World {
         Ok(())
     }
 
-    /// A step of a peer on an event.
+    /// Steps `peer` on `event`. Does nothing if there is no such peer.
     pub(crate) fn step_peer<H: Hasher16>(
         &mut self,
         alloc: Global,

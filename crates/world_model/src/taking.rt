@@ -1,8 +1,8 @@
 ghost use Rattle.std.specs.Prelude.{◌≡◌, IfOk, IfErr};
 ghost use Rattle.peer_core.specs.Outcomes.{out_of};
 ghost use Rattle.peer_core.specs.Steps.{HasSender};
-ghost use Rattle.peer_core.specs.Kept.{AllObey};
-ghost use Rattle.world_runs.specs.Nodes.{Taken, taken};
+ghost use Rattle.peer_core.specs.Guarantees.{AllObey};
+ghost use Rattle.world_spec.specs.Nodes.{Taken, taken};
 ghost use Rattle.world_model.specs.Peers.{node_of};
 ghost use Rattle.world_model.specs.Refusals.{world_error as error_of};
 
@@ -12,8 +12,8 @@ use ens_hashing::Hasher16;
 use peer_core::{Event, Outbox, PeerError};
 use std::alloc::Global;
 
-/// Why a refused step ends the run, if it does. A fault of a store leaves the peer down, and the world
-/// goes on.
+/// Returns the error with which a failed step ends the run, or `None` if the run goes on: after a
+/// store fault the peer is down.
 fn world_error(error: PeerError) -> Option<WorldError>
     ensures { result ≡ error_of error }
 {
@@ -25,7 +25,7 @@ fn world_error(error: PeerError) -> Option<WorldError>
     }
 }
 
-/// One step of one peer, and what it leaves.
+/// Steps one peer, and returns its output.
 pub(crate) fn take<H: Hasher16>(
     alloc: Global,
     hasher: &mut H,

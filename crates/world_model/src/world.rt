@@ -7,22 +7,22 @@ use history_scribe::Scribe;
 use network::Network;
 use peer_core::Peer;
 use register_model::Printed;
-use world_runs::HeldFact;
+use world_spec::HeldFact;
 
 /// A peer over stores in memory.
 pub(crate) type MemPeer = Peer<MemBackend, MemNodes, HeldFact>;
 
-/// Peers over stores in memory, the messages that were ever sent between them, and what they answered
-/// and noted.
+/// Several peers over stores in memory, all messages sent between them, and their answers and
+/// notes.
 #[derive(Drop)]
 pub struct World {
     pub(crate) peers: Vec<MemPeer>,
     pub(crate) network: Network,
     pub(crate) printed: Vec<Printed>,
     pub(crate) scribe: Scribe,
-    /// How many events were applied.
+    /// The number of events applied.
     pub(crate) events: u64,
-    /// The keys of the call lines among them.
+    /// The keys of the call lines applied.
     pub(crate) called: Vec<Key>,
     ghost numbered: { AreNumbered peers.items },
     ghost few: { length peers.items ≤ 31 },

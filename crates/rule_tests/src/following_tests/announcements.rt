@@ -19,7 +19,7 @@ fn beat(fact: &Fact, trusted: bool, d: Epoch) -> Answer {
 }
 
 #[test]
-fn an_epoch_below_the_ballot_is_refused(rt: HostRuntime) -> Result<(), Fail> {
+fn an_epoch_below_the_ballot_is_rejected(rt: HostRuntime) -> Result<(), Fail> {
     let saved = fact(epoch(4, 2), epoch(3, 2), 1)?;
     for (d, expected) in [
         (epoch(4, 1), refuses(epoch(4, 1), epoch(4, 2))),
@@ -49,7 +49,7 @@ fn the_accepted_epoch_is_acknowledged_again(rt: HostRuntime) -> Result<(), Fail>
     Ok(())
 }
 
-/// A leader leaves leading, the fact is accepted, and then so.
+/// The answer that accepts the fact: a leader steps down, and `then` follows.
 fn accepts(new: &Fact, then: Then) -> Answer {
     Answer {
         leave: true,
@@ -74,8 +74,8 @@ fn an_epoch_at_or_above_the_ballot_is_accepted(rt: HostRuntime) -> Result<(), Fa
     Ok(())
 }
 
-/// A leader leaves leading, and a sync on the fact begins, once its ballot is promised where that is
-/// to be.
+/// The answer that begins a sync on the fact: a leader steps down, and the fact with the promised ballot,
+/// if any, is saved first.
 fn begins(promised: Option<Fact>, new: &Fact) -> Answer {
     Answer {
         leave: true,
@@ -85,7 +85,7 @@ fn begins(promised: Option<Fact>, new: &Fact) -> Answer {
 }
 
 #[test]
-fn without_trust_a_sync_begins(rt: HostRuntime) -> Result<(), Fail> {
+fn an_untrusting_peer_begins_a_sync(rt: HostRuntime) -> Result<(), Fail> {
     let saved = fact(epoch(4, 2), epoch(3, 2), 1)?;
     let equal = fact(epoch(4, 2), epoch(4, 2), 1)?;
     assert!(rt; announce(&saved, 1, false, false, &equal) == begins(None, &equal));
@@ -99,7 +99,7 @@ fn without_trust_a_sync_begins(rt: HostRuntime) -> Result<(), Fail> {
 }
 
 #[test]
-fn without_trust_a_sync_goes_on_at_its_ballot(rt: HostRuntime) -> Result<(), Fail> {
+fn an_untrusting_peer_resumes_the_sync_of_its_ballot(rt: HostRuntime) -> Result<(), Fail> {
     let saved = fact(epoch(4, 2), epoch(3, 2), 1)?;
     for (d, then) in [(epoch(4, 2), Then::Resume)] {
         let expected = Answer {
@@ -112,7 +112,7 @@ fn without_trust_a_sync_goes_on_at_its_ballot(rt: HostRuntime) -> Result<(), Fai
 }
 
 #[test]
-fn members_of_the_new_view_sync_in_a_joint_epoch(rt: HostRuntime) -> Result<(), Fail> {
+fn members_of_the_new_view_sync_before_a_joint_epoch(rt: HostRuntime) -> Result<(), Fail> {
     let saved = fact(epoch(4, 2), epoch(3, 2), 2)?;
     let new = joint(epoch(4, 2))?;
     for (me, expected) in [
@@ -142,7 +142,7 @@ fn a_commit_is_saved_once_and_acknowledged_each_time(rt: HostRuntime) -> Result<
 }
 
 #[test]
-fn a_commit_that_is_not_taken(rt: HostRuntime) -> Result<(), Fail> {
+fn a_commit_that_is_not_accepted(rt: HostRuntime) -> Result<(), Fail> {
     let second = fact(epoch(3, 2), epoch(3, 2), 2)?;
     let untrusted = Said::Nack(epoch(3, 2), NackCause::Untrusted);
     for (accepted, trusted, expected) in [
@@ -157,7 +157,7 @@ fn a_commit_that_is_not_taken(rt: HostRuntime) -> Result<(), Fail> {
 }
 
 #[test]
-fn a_beat_ends_the_quiet_of_those_that_trust(rt: HostRuntime) -> Result<(), Fail> {
+fn a_beat_makes_a_trusting_peer_follow(rt: HostRuntime) -> Result<(), Fail> {
     let saved = fact(epoch(4, 2), epoch(4, 2), 1)?;
     for (d, trusted, then) in [
         (epoch(4, 2), true, Then::Follow),

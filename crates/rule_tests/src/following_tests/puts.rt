@@ -15,7 +15,7 @@ fn version(count: u64, proposer: u32, seq: u64) -> Version {
     }
 }
 
-/// The tombstone of the key k at version 4.2.5.
+/// The tombstone of the key `k` at version 4.2.5.
 fn object(alloc: Global) -> Result<Object, Fail> {
     Ok(Object {
         version: version(4, 2, 5),
@@ -25,7 +25,7 @@ fn object(alloc: Global) -> Result<Object, Fail> {
     })
 }
 
-/// The tree has the key k at this version.
+/// What a peer sees whose tree holds the key `k` at this version.
 fn held(alloc: Global, version: Version) -> Result<Seen, Fail> {
     let entry = Entry {
         key: Key::new(alloc, b"k")?,
@@ -38,7 +38,7 @@ fn held(alloc: Global, version: Version) -> Result<Seen, Fail> {
     })
 }
 
-/// The answer to a Put of the object, of a peer that accepted the epoch 4.2.
+/// Applies rule 22 to a Put of the object at the epoch `d`, for a peer that accepted the epoch 4.2.
 fn put(alloc: Global, trusted: bool, d: Epoch, seen: Seen) -> Result<Answer, Fail> {
     let fact = fact(epoch(4, 2), epoch(4, 2), 1)?;
     let object = object(alloc)?;
@@ -48,13 +48,13 @@ fn put(alloc: Global, trusted: bool, d: Epoch, seen: Seen) -> Result<Answer, Fai
     }
 }
 
-/// The object is acknowledged.
+/// The answer that acknowledges the object.
 fn written(then: Then) -> Answer {
     tells(Said::PutReply(epoch(4, 2), version(4, 2, 5)), then)
 }
 
 #[test]
-fn a_put_by_the_version_that_the_tree_has(rt: HostRuntime) -> Result<(), Fail> {
+fn a_put_over_a_held_version(rt: HostRuntime) -> Result<(), Fail> {
     for (old, expected) in [
         (version(4, 2, 4), written(Then::Put)),
         (version(3, 31, 9), written(Then::Put)),
@@ -83,7 +83,7 @@ fn a_put_of_a_new_key(rt: HostRuntime) -> Result<(), Fail> {
     Ok(())
 }
 
-/// A leader leaves leading, and peer 4 is told of damage.
+/// The answer to peer 4 that reports damage: a leader steps down, and trust in the tree ends.
 fn damaged(place: Position) -> Answer {
     Answer {
         leave: true,
@@ -104,7 +104,7 @@ fn a_put_on_a_damaged_path(rt: HostRuntime) -> Result<(), Fail> {
 }
 
 #[test]
-fn a_put_that_is_not_taken(rt: HostRuntime) -> Result<(), Fail> {
+fn a_put_that_is_not_stored(rt: HostRuntime) -> Result<(), Fail> {
     let untrusted = tells(Said::Nack(epoch(4, 2), NackCause::Untrusted), Then::Stay);
     for (d, trusted, expected) in [
         (epoch(4, 1), true, refuses(epoch(4, 1), epoch(4, 2))),

@@ -16,7 +16,7 @@ fn check(fact: &Fact, d: Epoch) -> Answer {
 }
 
 #[test]
-fn a_check_by_its_ballot(rt: HostRuntime) -> Result<(), Fail> {
+fn a_check_at_each_ballot(rt: HostRuntime) -> Result<(), Fail> {
     let saved = fact(epoch(4, 2), epoch(3, 2), 1)?;
     let confirmed = Said::CheckReply(epoch(4, 2), 7);
     for (d, expected) in [
@@ -29,7 +29,7 @@ fn a_check_by_its_ballot(rt: HostRuntime) -> Result<(), Fail> {
     Ok(())
 }
 
-/// The answer to a Get of the key k in round 7, of a peer that accepted the epoch 4.2.
+/// Applies rule 21 to a Get of the key `k` in round 7, for a peer that accepted the epoch 4.2.
 fn get(alloc: Global, trusted: bool, d: Epoch, seen: Seen) -> Result<Answer, Fail> {
     let fact = fact(epoch(4, 2), epoch(4, 2), 1)?;
     let key = Key::new(alloc, b"k")?;
@@ -40,7 +40,7 @@ fn get(alloc: Global, trusted: bool, d: Epoch, seen: Seen) -> Result<Answer, Fai
 }
 
 #[test]
-fn a_get_that_is_not_answered(rt: HostRuntime) -> Result<(), Fail> {
+fn a_get_without_a_reply(rt: HostRuntime) -> Result<(), Fail> {
     let untrusted = tells(Said::Nack(epoch(4, 2), NackCause::Untrusted), Then::Stay);
     for (d, trusted, expected) in [
         (epoch(4, 1), true, refuses(epoch(4, 1), epoch(4, 2))),
@@ -58,7 +58,7 @@ fn a_get_that_is_not_answered(rt: HostRuntime) -> Result<(), Fail> {
 }
 
 #[test]
-fn a_get_is_answered_with_what_is_held(rt: HostRuntime) -> Result<(), Fail> {
+fn a_get_of_an_absent_key(rt: HostRuntime) -> Result<(), Fail> {
     let reply = Said::GetReply(epoch(4, 2), 7, false);
     for (d, expected) in [(epoch(4, 2), tells(reply, Then::Stay))] {
         let seen = Seen::Held {
@@ -70,7 +70,7 @@ fn a_get_is_answered_with_what_is_held(rt: HostRuntime) -> Result<(), Fail> {
     Ok(())
 }
 
-/// A leader leaves leading, and peer 4 is told so of damage.
+/// The answer to peer 4 that reports damage: a leader steps down, and trust in the tree ends.
 fn damaged(said: Said) -> Answer {
     Answer {
         leave: true,
@@ -87,7 +87,7 @@ fn a_get_on_a_damaged_path(rt: HostRuntime) -> Result<(), Fail> {
     Ok(())
 }
 
-/// The answer to an ask for a node, of a peer that promised the ballot 4.2.
+/// Applies rule 23 to a request for a node, for a peer that promised the ballot 4.2.
 fn ask(trusted: bool, d: Epoch, body: Option<TreeBody>) -> Result<Answer, Fail> {
     let fact = fact(epoch(4, 2), epoch(3, 2), 1)?;
     match rule_23(fact, trusted, PeerId(4), d, PLACE, None, body) {
@@ -97,7 +97,7 @@ fn ask(trusted: bool, d: Epoch, body: Option<TreeBody>) -> Result<Answer, Fail> 
 }
 
 #[test]
-fn a_node_is_asked_at_another_ballot(rt: HostRuntime) -> Result<(), Fail> {
+fn a_request_for_a_node_at_another_ballot(rt: HostRuntime) -> Result<(), Fail> {
     for (d, trusted, expected) in [
         (epoch(4, 1), true, refuses(epoch(4, 1), epoch(4, 2))),
         (epoch(4, 1), false, refuses(epoch(4, 1), epoch(4, 2))),
@@ -110,7 +110,7 @@ fn a_node_is_asked_at_another_ballot(rt: HostRuntime) -> Result<(), Fail> {
 }
 
 #[test]
-fn a_damaged_node_ends_the_trust(rt: HostRuntime) -> Result<(), Fail> {
+fn a_damaged_node_ends_trust_in_the_tree(rt: HostRuntime) -> Result<(), Fail> {
     let given = Said::TreeGive(epoch(4, 2), false, true);
     for (trusted, expected) in [(true, damaged(given)), (false, damaged(given))] {
         let body = Some(TreeBody::Damaged(PLACE));
@@ -120,7 +120,7 @@ fn a_damaged_node_ends_the_trust(rt: HostRuntime) -> Result<(), Fail> {
 }
 
 #[test]
-fn a_node_is_given_with_the_word_of_trust(rt: HostRuntime) -> Result<(), Fail> {
+fn a_node_is_sent_with_the_trust_of_its_sender(rt: HostRuntime) -> Result<(), Fail> {
     for (trusted, then) in [(true, Then::Stay), (false, Then::Stay)] {
         let entries = Seq::new(Vec::new(rt.alloc()));
         let body = Some(TreeBody::Page {

@@ -8,7 +8,7 @@ use peer_fact::Fact;
 use std::test::Fail;
 use wire_frames::Then;
 
-/// The answer to a tick, and the quiet ticks after it.
+/// Ticks a follower, and returns the answer and its quiet ticks afterwards.
 fn tick(fact: &Fact, me: u32, quiet: u8) -> (Answer, u8)
     requires { quiet < 6 }
 {
@@ -18,7 +18,7 @@ fn tick(fact: &Fact, me: u32, quiet: u8) -> (Answer, u8)
 }
 
 #[test]
-fn six_quiet_ticks_of_a_member(rt: HostRuntime) -> Result<(), Fail> {
+fn a_member_probes_after_six_quiet_ticks(rt: HostRuntime) -> Result<(), Fail> {
     let fact = fact(epoch(1, 2), epoch(1, 2), 1)?;
     for (quiet, after, then) in [
         (0u8, 1u8, Then::Stay),
@@ -34,7 +34,7 @@ fn six_quiet_ticks_of_a_member(rt: HostRuntime) -> Result<(), Fail> {
 }
 
 #[test]
-fn a_peer_outside_of_its_views_waits_for_ever(rt: HostRuntime) -> Result<(), Fail> {
+fn a_peer_outside_its_views_never_probes(rt: HostRuntime) -> Result<(), Fail> {
     let fact = fact(epoch(1, 2), epoch(1, 2), 1)?;
     for (peer, then) in [(4u32, Then::Stay), (31, Then::Stay)] {
         let (answer, ticks) = tick(&fact, peer, 5);
@@ -45,7 +45,7 @@ fn a_peer_outside_of_its_views_waits_for_ever(rt: HostRuntime) -> Result<(), Fai
 }
 
 #[test]
-fn members_of_both_views_count(rt: HostRuntime) -> Result<(), Fail> {
+fn members_of_either_view_probe(rt: HostRuntime) -> Result<(), Fail> {
     let fact = joint(epoch(2, 2))?;
     for (peer, then) in [(1u32, Then::Rule(7)), (5, Then::Rule(7)), (6, Then::Stay)] {
         let (answer, _ticks) = tick(&fact, peer, 5);

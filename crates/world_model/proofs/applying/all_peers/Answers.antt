@@ -1,6 +1,6 @@
 use Rattle.std.proofs.Common.{◌+◌, ◌∙◌, ap, sym}
 use Rattle.std.specs.Prelude.{true, slice_set}
-use Rattle.world_runs.proofs.Turns.{up_to_none, up_to_more}
+use Rattle.world_spec.proofs.Turns.{up_to_none, up_to_more}
 use Rattle.world_model.proofs.applying.all_peers.Goals as goal
 
 pub loop-below-init : goal.loop-below-init

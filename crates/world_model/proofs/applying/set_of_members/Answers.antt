@@ -1,8 +1,8 @@
 use Rattle.std.proofs.Common.{rules, ◌≡◌, ◌∙◌, Some, ap, sym, slice_get}
 use Rattle.std.proofs.lemmas.Option.{slice_get_read, get_or_from_slice_get}
 use Rattle.std.specs.Prelude.{true, slice_set}
-use Rattle.world_runs.specs.Lines.{first_of}
-use Rattle.world_runs.proofs.Turns.{first_of_none, first_of_more}
+use Rattle.world_spec.specs.Lines.{first_of}
+use Rattle.world_spec.proofs.Turns.{first_of_none, first_of_more}
 use Rattle.world_model.proofs.Members.{member_at}
 use Rattle.world_model.proofs.applying.set_of_members.Goals as goal
 

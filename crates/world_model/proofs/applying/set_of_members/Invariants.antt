@@ -1,5 +1,5 @@
 use Rattle.std.proofs.Common.{◌≡◌}
-use Rattle.world_runs.specs.Lines.{first_of}
+use Rattle.world_spec.specs.Lines.{first_of}
 use Rattle.world_model.proofs.applying.set_of_members.Given as goal
 
 abbrev pub invariant-loop-place : goal.invariant-loop-place

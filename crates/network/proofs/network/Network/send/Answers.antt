@@ -1,6 +1,6 @@
 use Rattle.std.proofs.Common.{◌≡◌, ◌∷◌, ◌++◌, [], ap, List, rules, ◌∙◌}
 use Rattle.wire_frames.specs.declared.frame.Frame.{Frame}
-use Rattle.network.specs.Kept.{mail_in}
+use Rattle.network.specs.Representation.{mail_in}
 use Rattle.network.specs.Mail.{Mail, posted}
 use Rattle.network.proofs.Changes.{posted_in}
 use Rattle.network.proofs.network.Network.send.Goals as goal

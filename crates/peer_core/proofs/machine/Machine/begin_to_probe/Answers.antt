@@ -5,7 +5,7 @@ use Rattle.peer_core.specs.declared.state.State.{State}
 use Rattle.probe.specs.declared.probing.Probing.{Probing}
 use Rattle.wire_frames.specs.declared.phase.PhaseOut.{PhaseOut}
 use Rattle.probe.specs.Probing.{row_7}
-use Rattle.peer_core.specs.Moves.{sought}
+use Rattle.peer_core.specs.Transitions.{sought}
 use Rattle.peer_core.proofs.machine.Machine.begin_to_probe.Goals as goal
 
 pub returns : goal.returns

@@ -5,7 +5,7 @@ use Rattle.election.specs.declared.election.Election.{Election}
 use Rattle.election.specs.declared.election.Election.TheVariants.{Preparing, Starting}
 use Rattle.election.specs.Preparing.{row_3}
 use Rattle.election.specs.Starting.{row_4}
-use Rattle.peer_core.specs.Moves.{followed}
+use Rattle.peer_core.specs.Transitions.{followed}
 use Rattle.peer_core.proofs.machine.Machine.tick_electing.Goals as goal
 
 pub returns-else-age-lt6 : goal.returns-else-age-lt6

@@ -1,0 +1,46 @@
+-- Sets of peers, and messages to them.
+use Rattle.std.proofs.Common.{◌≡◌, ℕ, zero, suc, ◌≤◌, ◌+◌, Bool, true, false, ◌==◌, if◌then◌else◌, eqb-true, List, [], ◌∷◌, Some, arith, refl, sym, ◌∙◌, subst}
+use Rattle.std.specs.Prelude.{All, replicate, slice_index_or}
+use Rattle.std.proofs.lemmas.Bool.{eqb-false, false≢true}
+use Rattle.std.proofs.lemmas.List.{get_or-set_other}
+use Rattle.std.proofs.lemmas.List.Elements.{All-nil, All-cons, All-append}
+use Rattle.abstract_protocol.specs.Ledger.{Ledger}
+use Rattle.ens_base.specs.PeerSet.{holds}
+use Rattle.peer_core.specs.Sends.{posted, posted_to}
+use Rattle.peer_core.specs.declared.outbox.Outgoing.{Outgoing}
+use Rattle.phase_rows.specs.Peers.{nobody, joined, alone}
+use Rattle.wire_frames.specs.declared.message.Message.{Message}
+use Rattle.election_refinement.proofs.Plans.{by_test}
+use Rattle.election_refinement.specs.Refinement.{MessageHolds, SendHolds}
+
+none_held : (n q : ℕ) → slice_index_or (replicate n false) q false ≡ false
+none_held zero q = refl
+none_held (suc n) zero = refl
+none_held (suc n) (suc q) = none_held n q
+
+-- what holds of a peer and of all members of a set holds of all members once the peer joins
+pub joined_then : (P : ℕ → Type 0) (peer : ℕ) (set : List Bool) → P peer → ((q : ℕ) → holds set q ≡ true → P q) → (q : ℕ) → holds (joined peer set) q ≡ true → P q
+joined_then P peer set here old q h = by_same (peer == q) refl
+  where
+    by_same : (b : Bool) → (peer == q) ≡ b → P q
+    by_same true e = subst P (eqb-true peer q e) here
+    by_same false e = old q (sym (get_or-set_other set peer q true false (λ s. eqb-false peer q e (sym s))) ∙ h)
+
+pub alone_then : (P : ℕ → Type 0) (peer : ℕ) → P peer → (q : ℕ) → holds (alone peer) q ≡ true → P q
+alone_then P peer here = joined_then P peer nobody here (λ q h. absurd (false≢true (sym (none_held 32 q) ∙ h)))
+
+module _ (l : Ledger) (p : ℕ) where
+  -- messages to peers, each of which asserts what holds
+  pub posted_hold : (test : ℕ → Bool) (word : ℕ → Message) → ((q : ℕ) → MessageHolds l p (word q)) → (n : ℕ) → n ≤ 31 → All (SendHolds l p) (posted test word n)
+  unfolding posted
+  posted_hold test word says zero within = All-nil (SendHolds l p)
+  posted_hold test word says (suc n) within = All-append (SendHolds l p) (posted test word n) (if test (n + 1) then sent ∷ [] else []) (posted_hold test word says n (omega arith))
+      (by_test (All (SendHolds l p)) (test (n + 1)) (sent ∷ []) []
+      (λ is. All-cons (SendHolds l p) sent [] ((omega arith, omega arith), says (n + 1)) (All-nil (SendHolds l p)))
+      (λ not. All-nil (SendHolds l p)))
+    where
+      sent : Outgoing
+      sent = record { to = n + 1; message = word (n + 1) }
+
+  pub posted_to_hold : (set : List Bool) (message : Message) → MessageHolds l p message → All (SendHolds l p) (posted_to set (Some message))
+  posted_to_hold set message says = posted_hold (holds set) (λ q. message) (λ q. says) 31 (omega arith)

@@ -1,0 +1,78 @@
+-- A world keeps the number of peers with which it opened, and all of them run.
+use Rattle.std.proofs.Common.{◌≡◌, ℕ, zero, suc, ◌-◌, Bool, List, [], ◌∷◌, length, Option, Some, None, slice_get, refl, ◌∙◌, get_or}
+use Rattle.std.proofs.lemmas.List.{length-set, length-replicate}
+use Rattle.std.proofs.lemmas.Option.{slice_get-get_or}
+use Rattle.abstract_protocol.specs.Ledger.{Ledger}
+use Rattle.network.specs.Mail.{settled, goes, oldest, is_among, most_messages}
+use Rattle.peer_core.specs.declared.event.Event.{Event}
+use Rattle.peer_core.specs.declared.event.Event.TheVariants as events
+use Rattle.schedule_text.specs.declared.event.ScheduleEvent.{ScheduleEvent}
+use Rattle.schedule_text.specs.declared.event.ScheduleEvent.TheVariants.{Tick, Deliver, Pass, Lose, Calm, CalmAmong}
+use Rattle.wire_frames.specs.declared.frame.Frame.{Frame}
+use Rattle.world_spec.specs.Lines.{set_of, everyone, effect, applied, run_from, run_of_schedule}
+use Rattle.world_spec.specs.Nodes.{Node, Up, Down, taken, opening_node}
+use Rattle.world_spec.specs.Runs.{Run, opening_run, place_of, stepped, stepped_at, ticked, received_if, delivered, delivered_if, going_on, calmed}
+use Rattle.election_refinement.specs.Refinement.{NodeHolds}
+use Rattle.election_refinement.specs.Worlds.{Refines, IsRunning, PeersRun}
+
+-- the number of peers
+abbrev pub size : Run → ℕ
+size w = length w.nodes
+
+stepped_size : (p : ℕ) (event : Event) (w : Run) → size (stepped p event w) ≡ size w
+stepped_size p event w = by_node (slice_get w.nodes (place_of p))
+  where
+    by_node : (o : Option Node) → size (stepped_at o p event w) ≡ size w
+    by_node None = refl
+    by_node (Some node) = length-set w.nodes (place_of p) (taken p event node).node
+
+ticked_size : (p n : ℕ) (w : Run) → size (ticked p n w) ≡ size w
+unfolding ticked
+ticked_size p zero w = refl
+ticked_size p (suc n) w = ticked_size p n (stepped p events.Tick w) ∙ stepped_size p events.Tick w
+
+delivered_size : (n : ℕ) (w : Run) → size (delivered n w) ≡ size w
+delivered_size n w = by_frame (slice_get w.mail.sent n)
+  where
+    by_frame : (o : Option Frame) → size (received_if o n w) ≡ size w
+    by_frame None = refl
+    by_frame (Some f) = stepped_size f.to (events.Deliver f.from f.message) (record w { mail = settled w.mail n })
+
+delivered_if_size : (o : Option ℕ) (w : Run) → size (delivered_if o w) ≡ size w
+delivered_if_size None w = refl
+delivered_if_size (Some n) w = delivered_size n w
+
+calmed_size : (peers : List Bool) (n : ℕ) (w : Run) → size (calmed peers n w) ≡ size w
+unfolding calmed
+calmed_size peers zero w = refl
+calmed_size peers (suc n) w = by_oldest (oldest (is_among peers) w.mail) (λ v. calmed_size peers n v)
+  where
+    by_oldest : (o : Option ℕ) → ((v : Run) → size (calmed peers n v) ≡ size v) → size (going_on o (λ v. calmed peers n v) w) ≡ size w
+    by_oldest None rest = refl
+    by_oldest (Some m) rest = rest (delivered m w) ∙ delivered_size m w
+
+effect_size : (event : ScheduleEvent) (w : Run) → size (effect event w) ≡ size w
+effect_size (Tick peer ticks) w = ticked_size peer ticks w
+effect_size (Deliver message) w = delivered_size (message - 1) w
+effect_size (Pass sender receiver) w = delivered_if_size (oldest (goes sender receiver) w.mail) w
+effect_size (Lose sender receiver) w = refl
+effect_size Calm w = calmed_size everyone most_messages w
+effect_size (CalmAmong members) w = calmed_size (set_of members) most_messages w
+effect_size event w = refl
+
+run_from_size : (events : List ScheduleEvent) (w : Run) → size (run_from events w) ≡ size w
+run_from_size [] w = refl
+run_from_size (event ∷ more) w = run_from_size more (applied event w) ∙ effect_size event w
+
+pub schedule_size : (peers : ℕ) (view : List ℕ) (events : List ScheduleEvent) → size (run_of_schedule peers view events) ≡ peers
+schedule_size peers view events = run_from_size events (opening_run peers view) ∙ length-replicate peers (opening_node view)
+
+running : (l : Ledger) (w : Run) (place : ℕ) (node : Node) → slice_get w.nodes place ≡ Some node → NodeHolds l (suc place) node → IsRunning w place
+running l w place (Up x st) at holds = record { state = x; stores = st; at = at; kept = holds.kept }
+running l w place (Down st) at holds = absurd holds
+
+pub all_run : (peers : ℕ) (view : List ℕ) (l : Ledger) (w : Run) → size w ≡ peers → Refines view l w → PeersRun peers w
+all_run peers view l w many refines place below = running l w place (get_or w.nodes place (opening_node view)) at (refines.nodes place (get_or w.nodes place (opening_node view)) at)
+  where
+    at : slice_get w.nodes place ≡ Some (get_or w.nodes place (opening_node view))
+    at = slice_get-get_or w.nodes place (opening_node view) (rw many below)

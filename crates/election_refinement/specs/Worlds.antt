@@ -1,0 +1,103 @@
+-- When a world refines a run of the abstract protocol, and what follows for the world.
+use Rattle.std.specs.Prelude.{◌≡◌, ℕ, suc, ◌<◌, ◌≤◌, ◌⊎◌, List, ◌++◌, All, Option, Some, slice_get}
+use Rattle.abstract_protocol.specs.Ledger.{Ledger, IsAtMost}
+use Rattle.abstract_protocol.specs.Numbers.{epoch_number}
+use Rattle.abstract_protocol.specs.Protocol.{Step, IsRun, state_after}
+use Rattle.election_laws.specs.Elections.{IsClosed}
+use Rattle.ens_base.specs.Epochs.{IsEpochBelow}
+use Rattle.peer_core.specs.declared.state.Leadership.{Leadership}
+use Rattle.peer_core.specs.declared.state.Phase.TheVariants as phases
+use Rattle.peer_core.specs.declared.state.State.{State}
+use Rattle.peer_fact.specs.declared.fact.Fact.{Fact}
+use Rattle.world_spec.specs.Nodes.{MemStores, Node, Up, Down}
+use Rattle.world_spec.specs.Runs.{Run}
+use Rattle.election_refinement.specs.Refinement.{fact_place, NodeHolds, FrameHolds, IsOrderly}
+
+-- ## The refinement
+
+-- the world refines the ledger: each peer agrees with it, and what each message ever sent asserts
+-- holds
+pub record Refines (view : List ℕ) (l : Ledger) (w : Run) : Type 0 where
+  pub orderly : IsOrderly view l
+  pub nodes : (place : ℕ) (node : Node) → slice_get w.nodes place ≡ Some node → NodeHolds l (suc place) node
+  pub sent : All (FrameHolds l) w.mail.sent
+
+-- the ledger after these steps
+abbrev pub ledger_after : List ℕ → List Step → Ledger
+ledger_after view steps = (state_after view steps).objects.ledger
+
+-- these steps are a run of the abstract protocol, and the world refines the ledger after them
+pub record IsRefinement (view : List ℕ) (steps : List Step) (w : Run) : Type 0 where
+  pub run : IsRun view steps
+  pub refines : Refines view (ledger_after view steps) w
+
+-- the world refines some run
+pub record HasRun (view : List ℕ) (w : Run) : Type 0 where
+  pub steps : List Step
+  pub refinement : IsRefinement view steps w
+
+-- the world refines a run that extends these steps
+pub record GoesOn (view : List ℕ) (steps : List Step) (w : Run) : Type 0 where
+  pub more : List Step
+  pub refinement : IsRefinement view (more ++ steps) w
+
+-- ## What follows for the world
+
+-- the peer at this place runs, and its stores keep its fact; peer 1 has place 0
+pub record IsRunning (w : Run) (place : ℕ) : Type 0 where
+  pub state : State
+  pub stores : MemStores
+  pub at : slice_get w.nodes place ≡ Some (Up state stores)
+  pub kept : stores.facts.kept ≡ Some state.fact
+
+-- the peers at the first places run
+abbrev pub PeersRun : ℕ → Run → Type 0
+PeersRun peers w = (place : ℕ) → place < peers → IsRunning w place
+
+-- the fact that the stores of a peer keep
+abbrev pub kept_by : Node → Option Fact
+kept_by (Up x stores) = stores.facts.kept
+kept_by (Down stores) = stores.facts.kept
+
+-- the stores of the peer at this place keep the fact
+pub record HasFact (w : Run) (place : ℕ) (f : Fact) : Type 0 where
+  pub node : Node
+  pub at : slice_get w.nodes place ≡ Some node
+  pub kept : kept_by node ≡ Some f
+
+-- the peer at this place leads
+pub record Leads (w : Run) (place : ℕ) (leadership : Leadership) : Type 0 where
+  pub state : State
+  pub stores : MemStores
+  pub at : slice_get w.nodes place ≡ Some (Up state stores)
+  pub leads : state.phase ≡ phases.Leading leadership
+
+-- no peer's ballot decreases from one world to the other
+abbrev pub BallotsRise : Run → Run → Type 0
+BallotsRise before after = (place : ℕ) (f g : Fact) → HasFact before place f → HasFact after place g → ¬ IsEpochBelow g.ballot f.ballot
+
+-- the facts agree in leader, views and change
+pub record Agree (f g : Fact) : Type 0 where
+  pub leader : f.leader ≡ g.leader
+  pub views : f.views ≡ g.views
+  pub change : f.change ≡ g.change
+
+-- facts with the same epoch and sequence number agree
+abbrev pub FactsAgree : Run → Type 0
+FactsAgree w = (p q : ℕ) (f g : Fact) → HasFact w p f → HasFact w q g → f.epoch ≡ g.epoch → f.seq ≡ g.seq → Agree f g
+
+-- peers that lead the same epoch are the same peer
+abbrev pub EpochsHaveOneLeader : Run → Type 0
+EpochsHaveOneLeader w = (p q : ℕ) (a b : Leadership) → Leads w p a → Leads w q b → a.fact.epoch ≡ b.fact.epoch → p ≡ q
+
+-- if peers keep facts of two epochs, the greater epoch is based on a fact no older than the one of
+-- the lower epoch, or no quorum can accept the lower epoch any more
+abbrev pub FactsAreComplete : Ledger → Run → Type 0
+FactsAreComplete l w = (p q : ℕ) (f g : Fact) → HasFact w p f → HasFact w q g → 0 < epoch_number g.epoch → epoch_number g.epoch < epoch_number f.epoch
+    → IsAtMost (fact_place g) (l.base (epoch_number f.epoch)) ⊎ IsClosed l (epoch_number g.epoch)
+
+-- if a peer leads an epoch, each greater epoch of which a peer keeps a fact is based on it or on a
+-- later one
+abbrev pub LedEpochsAreKept : Ledger → Run → Type 0
+LedEpochsAreKept l w = (p q : ℕ) (a : Leadership) (f : Fact) → Leads w p a → HasFact w q f → epoch_number a.fact.epoch < epoch_number f.epoch
+    → epoch_number a.fact.epoch ≤ (l.base (epoch_number f.epoch)).epoch

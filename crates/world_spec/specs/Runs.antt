@@ -1,0 +1,108 @@
+-- The state of a world, and how deliveries and ticks change it.
+use Rattle.std.specs.Prelude.{ℕ, zero, suc, ◌+◌, ◌-◌, Bool, Option, Some, None, List, [], ◌∷◌, ◌++◌, map, replicate, slice_get, slice_set, min, ◌^◌}
+use Rattle.network.specs.Mail.{Mail, no_mail, posted, settled, is_among, oldest}
+use Rattle.peer_core.specs.Plans.{Out}
+use Rattle.peer_core.specs.declared.event.Event.{Event}
+use Rattle.peer_core.specs.declared.event.Event.TheVariants as events
+use Rattle.peer_core.specs.declared.outbox.AnswerOut.{AnswerOut}
+use Rattle.peer_core.specs.declared.outbox.Outgoing.{Outgoing}
+use Rattle.register_model.specs.declared.note.Note.{Note}
+use Rattle.register_model.specs.declared.printed.Printed.{Printed}
+use Rattle.register_model.specs.declared.printed.Printed.TheVariants as lines
+use Rattle.wire_frames.specs.declared.frame.Frame.{Frame}
+use Rattle.world_spec.specs.Nodes.{Node, Taken, taken, opening_node}
+
+-- the peers 1, 2, .. in this order, the messages, the lines printed, the notes of leaders, the
+-- number of events applied, and the keys of the call lines in order
+pub record Run : Type 0 where
+  pub nodes : List Node
+  pub mail : Mail
+  pub printed : List Printed
+  pub notes : List Note
+  pub events : ℕ
+  pub called : List (List ℕ)
+
+-- the state before the first event: the peers 1 to `peers` have started on empty stores
+abbrev pub opening_run : ℕ → List ℕ → Run
+opening_run peers view = record { nodes = replicate peers (opening_node view); mail = no_mail; printed = []; notes = []; events = 0; called = [] }
+
+-- the number of the next event; it stays at the greatest u64
+abbrev pub next_event : ℕ → ℕ
+next_event n = min (n + 1) (2 ^ 64 - 1)
+
+-- the index of a peer in the list of nodes
+abbrev pub place_of : ℕ → ℕ
+place_of peer = peer - 1
+
+-- the frame of a message that peer `me` sends
+abbrev pub frame_from : ℕ → Outgoing → Frame
+frame_from me o = record { from = me; to = o.to; message = o.message }
+
+-- these messages are sent, one after another
+abbrev pub posted_all : List Frame → Mail → Mail
+posted_all [] m = m
+posted_all (f ∷ more) m = posted_all more (posted m f)
+
+-- the printed line of an answer given at this event
+abbrev pub answer_line : ℕ → AnswerOut → Printed
+answer_line event a = lines.Answer (record { id = a.id; event = event; reply = a.reply })
+
+-- the printed line of a peer's reply to a request to change its view, at this event
+abbrev pub change_line : ℕ → ℕ → Bool → Printed
+change_line event peer taken = lines.Change event peer taken
+
+-- the printed lines of what a peer put out at this event
+abbrev pub printed_by : ℕ → ℕ → Out → List Printed
+printed_by event peer out = map (answer_line event) out.answers ++ map (change_line event peer) out.changes
+
+-- the world after a step of a peer with this outcome
+abbrev pub with_taken : ℕ → Taken → Run → Run
+with_taken peer t w = record w {
+  nodes = slice_set w.nodes (place_of peer) t.node;
+  mail = posted_all (map (frame_from peer) t.out.sends) w.mail;
+  printed = w.printed ++ printed_by (next_event w.events) peer t.out;
+  notes = w.notes ++ t.notes;
+}
+
+-- the world after a step, if there is such a peer
+abbrev pub stepped_at : Option Node → ℕ → Event → Run → Run
+stepped_at None peer event w = w
+stepped_at (Some node) peer event w = with_taken peer (taken peer event node) w
+
+-- the world after a step of a peer on an event
+abbrev pub stepped : ℕ → Event → Run → Run
+stepped peer event w = stepped_at (slice_get w.nodes (place_of peer)) peer event w
+
+-- the world after so many ticks of a peer
+unfoldable pub ticked : ℕ → ℕ → Run → Run
+ticked peer zero w = w
+ticked peer (suc n) w = ticked peer n (stepped peer events.Tick w)
+
+-- a message no longer waits, and its receiver takes a step on it
+abbrev pub received : Frame → ℕ → Run → Run
+received f n w = stepped f.to (events.Deliver f.from f.message) (record w { mail = settled w.mail n })
+
+-- the world after a delivery, if there is such a message
+abbrev pub received_if : Option Frame → ℕ → Run → Run
+received_if None n w = w
+received_if (Some f) n w = received f n w
+
+-- the message of this number is delivered; the first has number 0
+abbrev pub delivered : ℕ → Run → Run
+delivered n w = received_if (slice_get w.mail.sent n) n w
+
+-- the message of this number is delivered, if a number is given
+abbrev pub delivered_if : Option ℕ → Run → Run
+delivered_if None w = w
+delivered_if (Some n) w = delivered n w
+
+-- if a number is given, this message is delivered and then the rest follows; otherwise nothing
+-- changes
+abbrev pub going_on : Option ℕ → (Run → Run) → Run → Run
+going_on None rest w = w
+going_on (Some n) rest w = rest (delivered n w)
+
+-- the oldest message waiting among these peers is delivered, up to n times
+unfoldable pub calmed : List Bool → ℕ → Run → Run
+calmed peers zero w = w
+calmed peers (suc n) w = going_on (oldest (is_among peers) w.mail) (λ v. calmed peers n v) w
