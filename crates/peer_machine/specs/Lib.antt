@@ -1,0 +1,10 @@
+pub mod Moves
+pub mod Ages
+pub mod Rows
+pub mod Leading
+pub mod Drives
+pub mod Outcomes
+pub mod Stores
+pub mod Starts
+pub mod Kept
+pub mod Turns

@@ -1,0 +1,37 @@
+-- How a peer starts.
+use Rattle.std.specs.Prelude.{ℕ, Bool, true, false, List, [], Option, Some, None, Result, Ok, Err}
+use Rattle.peer_fact.specs.Facts.{opening_fact}
+use Rattle.peer_fact.specs.declared.fact.Fact.{Fact}
+use Rattle.step_plans.specs.Calls.{Call, Load, Save, AnswerOf}
+use Rattle.step_plans.specs.Plans.{Plan, Done, Ask, nothing, Finished, Stopped, Runs}
+use Rattle.step_plans.specs.declared.error.PeerError.{PeerError}
+use Rattle.step_plans.specs.declared.error.PeerError.TheVariants as errors
+use Rattle.peer_machine.specs.Moves.{follower}
+use Rattle.peer_machine.specs.declared.state.State.{State}
+
+-- the state with which a peer starts: it follows
+abbrev pub first_state : Fact → Bool → State
+first_state fact trusted = record { fact = fact; trusted = trusted; phase = follower }
+
+-- what a start comes to, by what was kept: where nothing was, the opening fact is saved and the tree is trusted; else the
+-- fact is the one that was kept, and the tree is not trusted
+abbrev pub opened : List ℕ → Option Fact → Plan State
+opened view None = Ask (Save (opening_fact view)) (λ u. Done (first_state (opening_fact view) true) nothing)
+opened view (Some fact) = Done (first_state fact false) nothing
+
+-- rule 1: a start, of a peer whose ensemble opens with this view. There is no tree yet
+abbrev pub start_of : List ℕ → Plan State
+start_of view = Ask Load (λ kept. opened view kept)
+
+-- the call was the start of a peer
+abbrev pub Starts : {P : Type 0} → (P → (call : Call) → AnswerOf call → P → Type 0) → (P → Call → PeerError → P → Type 0)
+    → Plan State → P → Result State PeerError → P → Type 0
+Starts does refuses plan s (Ok x) t = Runs does refuses plan s [] (Finished x nothing) t []
+Starts does refuses plan s (Err e) t = Runs does refuses plan s [] (Stopped e) t []
+
+-- why a start is refused
+abbrev pub IsStartError : PeerError → Type 0
+IsStartError errors.StoreFault = Unit {0}
+IsStartError (errors.BadFact why) = Unit {0}
+IsStartError errors.Memory = Unit {0}
+IsStartError e = ⊥

@@ -1,0 +1,16 @@
+ghost use Rattle.std.specs.Prelude.{ℕ, List};
+ghost use Rattle.step_plans.specs.Plans.{Out, Rest};
+ghost use Rattle.step_plans.specs.declared.tasks.Task.{Task};
+ghost use Rattle.step_plans.specs.declared.tasks.Task.TheVariants.{Phase};
+ghost use Rattle.peer_machine.specs.Drives.{first, task_done, driven, most_turns};
+ghost use Rattle.peer_machine.specs.Turns.{SavesAlone, IsFineAtNone};
+ghost use Rattle.peer_machine.specs.declared.event.Event.{Event};
+ghost use Rattle.peer_machine.specs.declared.state.State.{State};
+
+/// The turns of a step suffice: whatever the stores answer, nothing is left to do where they end.
+pub fn nothing_is_left()
+    // After the row of an event.
+    ensures responded { (me : ℕ) (event : Event) (x : State) (out : Out) (next : Rest State (List Task)) → IsFineAtNone next → SavesAlone (first me event x out (λ ts y o. driven me most_turns ts y o next)) }
+    // And after rule 26, at the end of a step.
+    ensures concluded { (me : ℕ) (x : State) (out : Out) (next : Rest State (List Task)) → IsFineAtNone next → SavesAlone (task_done me (Phase 26) x out (λ ts y o. driven me most_turns ts y o next)) }
+{}

@@ -1,0 +1,164 @@
+ghost use Rattle.std.specs.Prelude.{◌≡◌};
+ghost use Rattle.ens_base.specs.View.{IsPeer};
+ghost use Rattle.step_plans.specs.Calls.{Save};
+ghost use Rattle.step_plans.specs.Plans.{asked};
+ghost use Rattle.peer_machine.specs.Drives.{saved, performed, row_done, task_done, driven};
+ghost use Rattle.peer_machine.specs.Outcomes.{Acts};
+
+use crate::state::State;
+use ens_base::PeerId;
+use peer_fact::{Change, Fact};
+use std::alloc::Global;
+use step_plans::{Outbox, PeerError, Store, Task, Tasks};
+use wire_frames::PhaseOut;
+
+/// A state over its stores.
+#[derive(Drop)]
+pub struct Machine<S> {
+    pub state: State,
+    pub stores: S,
+}
+
+impl<S> Machine<S> {
+    #[tactic(auto, using(crate::proofs::Parts::asked_did))]
+    fn save_fact<H>(
+        &mut self,
+        hasher: &mut H,
+        out: &mut Outbox,
+        fact: &Fact,
+    ) -> Result<(), PeerError>
+    where
+        S: Store<H>,
+        ensures { Acts S.does S.refuses (asked (Save fact.now)) self.old hasher.old out.old result self.new hasher.new out.new }
+    {
+        self.stores.save(hasher, fact)
+    }
+
+    /// Saves the fact, where there is one.
+    #[tactic(auto, using(crate::proofs::Parts::cut))]
+    fn save<H>(
+        &mut self,
+        hasher: &mut H,
+        out: &mut Outbox,
+        save: Option<Fact>,
+    ) -> Result<(), PeerError>
+    where
+        S: Store<H>,
+        ensures { Acts S.does S.refuses (saved save) self.old hasher.old out.old result self.new hasher.new out.new }
+    {
+        match save {
+            None => Ok(()),
+            Some(fact) => {
+                self.save_fact(hasher, out, &fact)?;
+                self.state.fact = fact;
+                Ok(())
+            }
+        }
+    }
+
+    /// Does what a row asks, up to what follows.
+    #[tactic(auto, using(crate::proofs::Parts::cut))]
+    fn perform<H>(
+        &mut self,
+        hasher: &mut H,
+        alloc: Global,
+        out: &mut Outbox,
+        row: PhaseOut,
+    ) -> Result<(), PeerError>
+    where
+        S: Store<H>,
+        ensures { Acts S.does S.refuses (performed row) self.old hasher.old out.old result self.new hasher.new out.new }
+    {
+        let PhaseOut {
+            leave,
+            save,
+            to,
+            message,
+            then: _,
+        } = row;
+        self.state.leave(leave);
+        self.save(hasher, out, save)?;
+        out.send_to(alloc, to, message)?;
+        Ok(())
+    }
+
+    /// Does all that a row asks, and gives the rule that it names.
+    #[tactic(auto, using(crate::proofs::Parts::cut))]
+    pub(crate) fn row_done<H>(
+        &mut self,
+        hasher: &mut H,
+        alloc: Global,
+        out: &mut Outbox,
+        row: PhaseOut,
+    ) -> Result<Tasks, PeerError>
+    where
+        S: Store<H>,
+        ensures { Acts S.does S.refuses (row_done row) self.old hasher.old out.old result self.new hasher.new out.new }
+    {
+        let then = row.then;
+        self.perform(hasher, alloc, out, row)?;
+        self.state.turn(then);
+        Ok(Tasks::named(alloc, then)?)
+    }
+
+    /// Does the row of one task, and gives the rules that it names.
+    #[tactic(auto, using(crate::proofs::Parts::cut))]
+    pub(crate) fn task_done<H>(
+        &mut self,
+        hasher: &mut H,
+        alloc: Global,
+        out: &mut Outbox,
+        me: PeerId,
+        task: Task,
+    ) -> Result<Tasks, PeerError>
+    where
+        S: Store<H>,
+        requires { IsPeer me }
+        ensures { Acts S.does S.refuses (task_done me task) self.old hasher.old out.old result self.new hasher.new out.new }
+    {
+        match task {
+            Task::Phase(rule) => {
+                let row = self.state.phase_row(rule, me);
+                self.row_done(hasher, alloc, out, row)
+            }
+            Task::Key(_rule, _key) => Ok(Tasks::none(alloc)),
+            Task::Again(_rule, _key, _seen) => Ok(Tasks::none(alloc)),
+        }
+    }
+
+    /// Does the tasks, each before those that were there, and all that they name: at most `turns`. It
+    /// gives what is left then.
+    #[tactic(auto, using(crate::proofs::Parts::cut))]
+    pub(crate) fn drive<H>(
+        &mut self,
+        hasher: &mut H,
+        alloc: Global,
+        out: &mut Outbox,
+        me: PeerId,
+        turns: u64,
+        tasks: Tasks,
+    ) -> Result<Tasks, PeerError>
+    where
+        S: Store<H>,
+        requires { IsPeer me }
+        ensures { Acts S.does S.refuses (driven me turns tasks) self.old hasher.old out.old result self.new hasher.new out.new }
+    {
+        let mut tasks = tasks;
+        for turn in 0..turns {
+            match tasks.take() {
+                None => return Ok(tasks),
+                Some(task) => {
+                    let more = match self.task_done(hasher, alloc, out, me, task) {
+                        Ok(more) => more,
+                        Err(error) => return Err(error),
+                    };
+                    match tasks.put_all(more) {
+                        Ok(()) => {}
+                        Err(_) => return Err(PeerError::Memory),
+                    }
+                }
+            }
+        }
+        Ok(tasks)
+    }
+}

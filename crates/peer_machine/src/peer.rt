@@ -1,0 +1,171 @@
+ghost use Rattle.std.specs.Prelude.{◌≡◌, ◌↔◌, true, false};
+ghost use Rattle.ens_base.specs.View.{IsPeer};
+ghost use Rattle.peer_machine.specs.Ages.{is_young};
+
+use crate::event::Event;
+use crate::machine::Machine;
+use crate::starting::start;
+use crate::state::State;
+use crate::stores::Stores;
+use ens_base::{PeerId, View};
+use ens_hashing::Hasher16;
+use ens_outside::{Backend, NodeStore};
+use fact_store::FactKeeper;
+use std::alloc::Global;
+use step_plans::{Outbox, PeerError};
+
+/// A peer over its stores. Once halted, it takes no step.
+#[derive(Drop)]
+pub struct Peer<B, N, F> {
+    pub(crate) me: PeerId,
+    pub(crate) machine: Machine<Stores<B, N, F>>,
+    pub(crate) halted: bool,
+    ghost is_peer: { IsPeer me },
+    ghost young: { halted ≡ false → is_young machine.state.phase ≡ true },
+}
+
+/// A peer without its stores, which may be changed before it goes on.
+#[derive(Drop)]
+pub struct Suspended {
+    me: PeerId,
+    state: State,
+    halted: bool,
+    ghost is_peer: { IsPeer me },
+    ghost young: { halted ≡ false → is_young state.phase ≡ true },
+}
+
+/// Why a peer did not start, and the stores that it was given.
+#[derive(Drop)]
+pub struct StartError<B, N, F> {
+    pub error: PeerError,
+    pub held: Stores<B, N, F>,
+}
+
+impl<B: Backend, N: NodeStore, F: FactKeeper> Peer<B, N, F> {
+    ghost use Rattle.std.specs.Prelude.{[], IfOk, IfErr, OnOk, OnErr, IsErrOf};
+    ghost use Rattle.step_plans.specs.Outboxes.{out_of};
+    ghost use Rattle.step_plans.specs.Plans.{Finished, Stopped, Runs, nothing};
+    ghost use Rattle.step_plans.specs.Steps.{Steps};
+    ghost use Rattle.peer_machine.specs.Drives.{MayCome, step_of};
+    ghost use Rattle.peer_machine.specs.Kept.{AllMayGo, IsStepError};
+    ghost use Rattle.peer_machine.specs.Starts.{IsStartError, start_of};
+    ghost use Rattle.peer_machine.specs.Stores.{FactsAlone, SomeRose, stores_do, stores_refuse};
+
+    /// Rule 1: a peer starts on its stores. Where they keep no fact, the fact of an ensemble of this
+    /// view in which nothing has happened is saved, and the peer trusts its tree. Otherwise it goes on
+    /// from the fact that is kept, and trusts its tree no more. It follows. `me` is 1 to 31.
+    ///
+    /// # Errors
+    ///
+    /// `BadFact` exactly where the keeper of the fact answers so, `StoreFault` only where the count of
+    /// faults of a store rose in this call, and out of memory. The stores come back: the backend and
+    /// the nodes as they were, the fact as the load or the save that was refused left it.
+    pub fn start<H: Hasher16>(
+        me: PeerId,
+        opening: View,
+        stores: Stores<B, N, F>,
+        hasher: &mut H,
+    ) -> Result<Peer<B, N, F>, StartError<B, N, F>>
+        requires { IsPeer me }
+        ensures me { IfOk result (λ p. (p.me ≡ me) × (p.halted ≡ false)) }
+        ensures started { IfOk result (λ p. Runs (stores_do B.may_answer B.fault_count N.fault_count F.may_answer F.kept F.fault_count H.kept H.clashes H.fulls) (stores_refuse B.may_refuse B.fault_count N.fault_count F.may_refuse F.kept F.fault_count H.kept H.clashes H.fulls) (start_of opening) (stores, hasher.old) [] (Finished p.machine.state nothing) (p.machine.stores, hasher.new) []) }
+        ensures stopped { IfErr result (λ r. Runs (stores_do B.may_answer B.fault_count N.fault_count F.may_answer F.kept F.fault_count H.kept H.clashes H.fulls) (stores_refuse B.may_refuse B.fault_count N.fault_count F.may_refuse F.kept F.fault_count H.kept H.clashes H.fulls) (start_of opening) (stores, hasher.old) [] (Stopped r.error) (r.held, hasher.new) []) }
+        ensures untouched { IfErr result (λ r. FactsAlone (stores, hasher.old) (r.held, hasher.new)) }
+        ensures rose { IfErr result (λ r. r.error ≡ PeerError.StoreFault → SomeRose B.fault_count N.fault_count F.fault_count stores r.held) }
+        ensures only { IfErr result (λ r. IsStartError r.error) }
+    {
+        let mut stores = stores;
+        match start(&mut stores, hasher, opening) {
+            Ok(state) => Ok(Peer {
+                me,
+                machine: Machine { state, stores },
+                halted: false,
+            }),
+            Err(error) => Err(StartError {
+                error,
+                held: stores,
+            }),
+        }
+    }
+
+    /// Takes one step on an event. What it sends, answers, notes and says of changes goes to the end of
+    /// the outbox. The sender of a message is another peer, 1 to 31, and the message obeys the grammar
+    /// of frames.
+    ///
+    /// # Errors
+    ///
+    /// `StoreFault` only where the count of faults of a store rose in this call; out of memory; and
+    /// `Halted` exactly where the peer was halted, which changes nothing. After the others the peer is
+    /// halted, and nothing of the step is sent, answered or told; its notes are kept, and the stores
+    /// are as the step had left them.
+    pub fn step<H: Hasher16>(
+        &mut self,
+        alloc: Global,
+        event: Event,
+        hasher: &mut H,
+        out: &mut Outbox,
+    ) -> Result<(), PeerError>
+        requires { MayCome self.old.me event }
+        ensures took { (IsErrOf result PeerError.Halted → ⊥) → Steps (stores_do B.may_answer B.fault_count N.fault_count F.may_answer F.kept F.fault_count H.kept H.clashes H.fulls) (stores_refuse B.may_refuse B.fault_count N.fault_count F.may_refuse F.kept F.fault_count H.kept H.clashes H.fulls) (step_of self.old.me event self.old.machine.state) (self.old.machine.stores, hasher.old) out.old result self.new.machine.state (self.new.machine.stores, hasher.new) out.new }
+        ensures goes_on { OnOk result (self.new.halted ≡ false) }
+        ensures halts { OnErr result (self.new.halted ≡ true) }
+        ensures halted { IsErrOf result PeerError.Halted ↔ (self.old.halted ≡ true) }
+        ensures still { IsErrOf result PeerError.Halted → (self.new ≡ self.old) × (out.new ≡ out.old) × (hasher.new ≡ hasher.old) }
+        ensures rose { IsErrOf result PeerError.StoreFault → SomeRose B.fault_count N.fault_count F.fault_count self.old.machine.stores self.new.machine.stores }
+        ensures only { IfErr result IsStepError }
+        ensures may_go { OnOk result (AllMayGo self.old.me (out_of out.old) → AllMayGo self.old.me (out_of out.new)) }
+        ensures me { self.new.me ≡ self.old.me }
+    {
+        if self.halted {
+            return Err(PeerError::Halted);
+        }
+        let result = self.machine.step(hasher, alloc, out, self.me, &event);
+        self.halted = result.is_err();
+        result
+    }
+}
+
+impl<B, N, F> Peer<B, N, F> {
+    /// The stores. It takes no memory.
+    pub fn into_stores(self) -> Stores<B, N, F>
+        ensures { result ≡ self.machine.stores }
+    {
+        let Peer {
+            me: _,
+            machine,
+            halted: _,
+        } = self;
+        let Machine { state: _, stores } = machine;
+        stores
+    }
+
+    /// Takes the peer from its stores, so that these may be changed before it goes on. It takes no
+    /// memory.
+    pub fn suspend(self) -> (Suspended, Stores<B, N, F>)
+        ensures peer { (result.0.me ≡ self.me) × (result.0.state ≡ self.machine.state) × (result.0.halted ≡ self.halted) }
+        ensures stores { result.1 ≡ self.machine.stores }
+    {
+        let Peer {
+            me,
+            machine,
+            halted,
+        } = self;
+        let Machine { state, stores } = machine;
+        (Suspended { me, state, halted }, stores)
+    }
+}
+
+impl Suspended {
+    /// The peer goes on over these stores, in the state that it had. It takes no memory.
+    pub fn resume<B, N, F>(self, stores: Stores<B, N, F>) -> Peer<B, N, F>
+        ensures peer { (result.me ≡ self.me) × (result.machine.state ≡ self.state) × (result.halted ≡ self.halted) }
+        ensures stores { result.machine.stores ≡ stores }
+    {
+        let Suspended { me, state, halted } = self;
+        Peer {
+            me,
+            machine: Machine { state, stores },
+            halted,
+        }
+    }
+}

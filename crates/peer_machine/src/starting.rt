@@ -1,0 +1,54 @@
+ghost use Rattle.std.specs.Prelude.{◌≡◌, true, IfOk};
+ghost use Rattle.peer_machine.specs.Ages.{is_young};
+ghost use Rattle.peer_machine.specs.Starts.{Starts, start_of, first_state as first, opened as opens};
+
+use crate::state::{State, following};
+use ens_base::View;
+use peer_fact::{Change, Fact};
+use step_plans::{PeerError, Store};
+
+/// The state with which a peer starts: it follows.
+fn first_state(fact: Fact, trusted: bool) -> State
+    ensures { result ≡ first fact trusted }
+{
+    State {
+        fact,
+        trusted,
+        phase: following(),
+    }
+}
+
+/// What a start comes to, by what was kept.
+fn opened<H, S: Store<H>>(
+    stores: &mut S,
+    hasher: &mut H,
+    opening: View,
+    kept: Option<Fact>,
+) -> Result<State, PeerError>
+    ensures starts { Starts S.does S.refuses (opens opening kept) (stores.old, hasher.old) result (stores.new, hasher.new) }
+    ensures young { IfOk result (λ x. is_young x.phase ≡ true) }
+{
+    match kept {
+        Some(fact) => Ok(first_state(fact, false)),
+        None => {
+            let fact = Fact::opening(opening);
+            match stores.save(hasher, &fact) {
+                Ok(()) => Ok(first_state(fact, true)),
+                Err(error) => Err(error),
+            }
+        }
+    }
+}
+
+/// Rule 1: the state with which a peer starts over these stores.
+pub(crate) fn start<H, S: Store<H>>(
+    stores: &mut S,
+    hasher: &mut H,
+    opening: View,
+) -> Result<State, PeerError>
+    ensures starts { Starts S.does S.refuses (start_of opening) (stores.old, hasher.old) result (stores.new, hasher.new) }
+    ensures young { IfOk result (λ x. is_young x.phase ≡ true) }
+{
+    let kept = stores.load(hasher)?;
+    opened(stores, hasher, opening, kept)
+}
