@@ -18,7 +18,7 @@ use Rattle.tree_node.proofs.EntryLaws.{entries_valid}
 use Rattle.tree_node.proofs.NodeLaws.{inner_again, segment_again}
 use Rattle.tree_maps.specs.Entries.{IsBelowAll, Ascends, IsMap}
 use Rattle.tree_maps.specs.Forms.{IsPlace, AreNames, Laws}
-use Rattle.tree_maps.specs.Sixteen.{nibble, mask_of, digests_of, spread, inner_node, segment, children_in, entries_in, sixteen}
+use Rattle.tree_maps.specs.Sixteen.{nibble, mask_of, digests_of, spread, children_of, inner_node, segment, children_in, entries_in, sixteen}
 
 spread_again : (n : ℕ) (cs : List (Option (List ℕ))) → length cs ≡ n → spread n (mask_of cs) (digests_of cs) ≡ cs
 spread_again zero [] e = refl
@@ -32,6 +32,10 @@ spread_again (suc n) (Some d ∷ cs) e =
     let bit : ((1 + 2 * mask_of cs) % 2 == 1) ≡ true = grind (arith, nat_tests) in
     let rest : (1 + 2 * mask_of cs) / 2 ≡ mask_of cs = omega arith in
     rw (bit, rest) (ap (λ xs. Some d ∷ xs) (spread_again n cs (omega arith)))
+
+children_again : (cs : List (Option (List ℕ))) → length cs ≡ 16 → children_of (mask_of cs) (digests_of cs) ≡ cs
+unfolding children_of
+children_again cs e = spread_again 16 cs e
 
 pub mask_below : (cs : List (Option (List ℕ))) → mask_of cs < 2 ^ length cs
 mask_below [] = omega arith
@@ -78,7 +82,7 @@ map_above (e ∷ es) all a = (key_above e.key all.0.key.size.0, above_of e.key e
 inner_reads : (h : ℕ) (at : Position) (cs : List (Option (List ℕ))) → IsPlace sixteen h at → length cs ≡ 16 → AreNames cs → children_in (inner_of at (inner_spelling (inner_node at cs))) ≡ Some cs
 inner_reads h at cs p l names =
     ap children_in (inner_again at (place_position h at p) (inner_spelling (inner_node at cs)) (inner_node at cs) (record { position = place_position h at p; mask = subst (λ (n : ℕ). mask_of cs < 2 ^ n) l (mask_below cs); each = mask_ones cs; digests = names_digests cs names }) refl refl)
-    ∙ ap Some (spread_again 16 cs l)
+    ∙ ap Some (children_again cs l)
 
 segment_reads : (h : ℕ) (at : Position) (es : List Entry) → IsPlace sixteen h at → IsMap es → entries_in (segment_of at (segment_spelling (segment at es))) ≡ Some es
 segment_reads h at es p ok =

@@ -40,8 +40,12 @@ inner_node at cs = record { position = at; mask = mask_of cs; digests = digests_
 abbrev pub segment : Position → List Entry → Segment
 segment at es = record { position = at; entries = es }
 
+-- the sixteen children of an inner node
+unfoldable pub children_of : ℕ → List (List ℕ) → List (Option (List ℕ))
+children_of mask ds = spread 16 mask ds
+
 abbrev pub children_in : Result InnerNode NodeError → Option (List (Option (List ℕ)))
-children_in (Ok n) = Some (spread 16 n.mask n.digests)
+children_in (Ok n) = Some (children_of n.mask n.digests)
 children_in (Err e) = None
 
 abbrev pub entries_in : Result Segment NodeError → Option (List Entry)

@@ -1,0 +1,4 @@
+use Rattle.synctree.proofs.walk.+find.Given as goal
+
+abbrev pub decreases-find : goal.decreases-find
+decreases-find g l = l.height

@@ -1,0 +1,29 @@
+-- What the calls of a tree come to, for every map that stands under its top record.
+use Rattle.std.specs.Option.{IsSomeAnd}
+use Rattle.std.specs.Prelude.{◌≡◌, ℕ, List, Option, Some, Result, Ok, Err}
+use Rattle.ens_base.specs.declared.entry.Entry.{Entry}
+use Rattle.tree_maps.specs.Entries.{lookup}
+use Rattle.tree_maps.specs.Forms.{Form, root}
+use Rattle.tree_maps.specs.Maps.{AreApart, Stands}
+use Rattle.synctree.specs.Plans.{Call, AnswerOf, Ends}
+use Rattle.slot_disk.specs.declared.refused.Refused.{Refused}
+use Rattle.synctree.specs.declared.error.TreeError.{TreeError}
+use Rattle.synctree.specs.declared.tree.Tree.{Tree}
+use Rattle.synctree.specs.Trees.{get_plan}
+
+-- The plan of a get ended with this entry. It is that of the map that stands under the top record, unless a string that was hashed
+-- clashes with a node of that map.
+pub record Finds {S : Type 0} (does : S → (call : Call) → AnswerOf call → S → Type 0) (F : Form) (top : Option (List ℕ)) (key : List ℕ) (s : S) (o : Option Entry) (t : S) : Type 0 where
+  pub strings : List (List ℕ)
+  pub ends : Ends does (get_plan F top key) s strings (Ok o) t
+  pub answers : (digest : List ℕ) (m : List Entry) → top ≡ Some digest → Stands F digest m → AreApart strings F F.depth root m → o ≡ lookup key m
+
+-- a tree over the store as the call left it, or the refusal of the call and the store
+abbrev pub Opens : {N : Type 0} → (Result (Option (List ℕ)) TreeError → N → Type 0) → Result (Tree N) (Refused N TreeError) → Type 0
+Opens did (Ok tree) = did (Ok tree.top) tree.store
+Opens did (Err refused) = did (Err refused.error) refused.held
+
+-- a fresh tree whose top record names the digest that its plan came to, or the refusal of the plan and the store
+abbrev pub Freshens : {N : Type 0} → (Result (List ℕ) TreeError → N → Type 0) → Result (Tree N) (Refused N TreeError) → Type 0
+Freshens did (Ok tree) = IsSomeAnd tree.top (λ digest. did (Ok digest) tree.store)
+Freshens did (Err refused) = did (Err refused.error) refused.held

@@ -1,0 +1,56 @@
+ghost use Rattle.std.specs.Prelude.{◌≡◌, Some, None, length};
+ghost use Rattle.tree_node.specs.Positions.{IsPosition};
+ghost use Rattle.tree_node.specs.Nodes.{inner_of, segment_of};
+ghost use Rattle.tree_maps.specs.Entries.{lookup as found};
+ghost use Rattle.tree_maps.specs.Sixteen.{children_in, entries_in};
+ghost use Rattle.synctree.specs.Answers.{Spells, Makes};
+
+use crate::error::TreeError;
+use crate::shape::children;
+use ens_base::{Digest, Entry, Key, Seq};
+use std::alloc::Global;
+use tree_node::{NodeError, Position, decode_inner, decode_segment};
+
+/// The children of the inner node that the bytes spell.
+pub(crate) fn inner(
+    alloc: Global,
+    bytes: &[u8],
+    at: Position,
+) -> Result<Seq<Option<Digest>>, TreeError>
+    requires { IsPosition at }
+    ensures { Spells result at (children_in (inner_of at bytes.now)) }
+{
+    match decode_inner(alloc, bytes, at) {
+        Ok(node) => children(alloc, &node),
+        Err(NodeError::Memory) => Err(TreeError::Memory),
+        Err(_) => Err(TreeError::Damaged(at)),
+    }
+}
+
+/// The entries of the segment that the bytes spell.
+pub(crate) fn segment(alloc: Global, bytes: &[u8], at: Position) -> Result<Seq<Entry>, TreeError>
+    requires { IsPosition at }
+    ensures { Spells result at (entries_in (segment_of at bytes.now)) }
+{
+    match decode_segment(alloc, bytes, at) {
+        Ok(node) => Ok(node.entries),
+        Err(NodeError::Memory) => Err(TreeError::Memory),
+        Err(_) => Err(TreeError::Damaged(at)),
+    }
+}
+
+/// The entry of the key.
+pub(crate) fn lookup(
+    alloc: Global,
+    entries: &[Entry],
+    key: &Key,
+) -> Result<Option<Entry>, TreeError>
+    ensures { Makes result (found key.now entries.now) }
+{
+    for entry in entries {
+        if entry.key == *key {
+            return Ok(Some(entry.copy(alloc)?));
+        }
+    }
+    Ok(None)
+}

@@ -1,0 +1,115 @@
+ghost use Rattle.std.specs.Prelude.{◌≡◌, ◌≤◌, ◌<◌, ◌^◌, IfOk, IfErr, length, None, slice_get, get_or, if◌then◌else◌};
+ghost use Rattle.md5.specs.Md5.{md5};
+ghost use Rattle.tree_node.specs.Positions.{IsPosition};
+ghost use Rattle.tree_node.specs.Nodes.{inner_of};
+ghost use Rattle.tree_maps.specs.Forms.{child as child_of, IsPlace};
+ghost use Rattle.tree_maps.specs.Sixteen.{sixteen, children_of, mask_of, digests_of, nibble};
+ghost use Rattle.synctree.specs.declared.error.TreeError.TheVariants.{Memory};
+
+use crate::error::TreeError;
+use ens_base::{Digest, Seq};
+use std::alloc::Global;
+use tree_node::{InnerNode, Position};
+
+/// How many children an inner node has.
+pub(crate) const WIDTH: usize = 16;
+
+/// The levels of inner nodes.
+pub(crate) const DEPTH: u8 = 3;
+
+/// The root's position.
+pub(crate) const ROOT: Position = Position { level: 0, index: 0 };
+
+/// Nibble `level` of the digest, the high one of a byte first: the child that a key with this digest
+/// goes to at that level.
+pub(crate) fn nibble(digest: &Digest, level: u8) -> u8
+    requires { level < 4 }
+    ensures { result ≡ Rattle.tree_maps.specs.Sixteen.nibble digest.now level }
+{
+    let byte = digest.0[(level / 2) as usize];
+    if level % 2 == 0 {
+        byte / 16 % 16
+    } else {
+        byte % 16
+    }
+}
+
+/// The next digest, where the child is there.
+fn if_there(is_there: bool, digests: &[Digest], next: usize) -> Option<Digest>
+    ensures { result ≡ (if is_there then slice_get digests.now next else None) }
+{
+    if is_there {
+        digests.get(next).copied()
+    } else {
+        None
+    }
+}
+
+/// The digest of child `digit`, none where it is not there.
+pub(crate) fn name_of(children: &[Option<Digest>], digit: u8) -> Option<Digest>
+    ensures { result ≡ get_or children.now digit None }
+{
+    match children.get(digit as usize) {
+        Some(child) => *child,
+        None => None,
+    }
+}
+
+/// The children of an inner node, none for one that is not there.
+pub(crate) fn children(alloc: Global, node: &InnerNode) -> Result<Seq<Option<Digest>>, TreeError>
+    ensures ok { IfOk result (λ cs. cs ≡ children_of node.now.mask node.now.digests) }
+    ensures memory { IfErr result (λ e. e ≡ Memory) }
+{
+    let digests = node.digests.as_slice();
+    let mut mask = node.mask;
+    let mut next = 0;
+    let mut all = Vec::new(alloc);
+    for _ in 0..WIDTH {
+        let is_there = mask % 2 == 1;
+        all.push(if_there(is_there, digests, next))?;
+        next += usize::from(is_there);
+        mask /= 2;
+    }
+    Ok(Seq::new(all))
+}
+
+/// Bit c says whether child c is there.
+pub(crate) fn mask(children: &[Option<Digest>]) -> u16
+    requires { length children.now ≤ 16 }
+    ensures { result ≡ mask_of children.now }
+{
+    let mut mask = 0;
+    let mut c = children.len();
+    while c > 0 {
+        c -= 1;
+        mask = 2 * mask + u16::from(children[c].is_some());
+    }
+    mask
+}
+
+/// The digests of the children that are there.
+pub(crate) fn digests(alloc: Global, children: &[Option<Digest>]) -> Result<Seq<Digest>, TreeError>
+    ensures ok { IfOk result (λ ds. ds ≡ digests_of children.now) }
+    ensures memory { IfErr result (λ e. e ≡ Memory) }
+{
+    let mut all = Vec::new(alloc);
+    for child in children {
+        if let Some(digest) = child {
+            all.push(*digest)?;
+        }
+    }
+    Ok(Seq::new(all))
+}
+
+/// The child that a digit names.
+pub(crate) fn child(at: Position, digit: u8) -> Position
+    requires position { IsPosition at }
+    requires above { at.level < 3 }
+    requires digit { digit < 16 }
+    ensures { result ≡ child_of sixteen at digit }
+{
+    Position {
+        level: at.level + 1,
+        index: 16 * at.index + u32::from(digit),
+    }
+}

@@ -1,0 +1,54 @@
+ghost use Rattle.std.specs.Prelude.{◌≡◌, ℕ, List, []};
+ghost use Rattle.md5.specs.Md5.{md5};
+ghost use Rattle.tree_maps.specs.Sixteen.{sixteen};
+ghost use Rattle.synctree.specs.Outsides.{outside_does, outside_refuses};
+ghost use Rattle.synctree.specs.Plans.{Did};
+ghost use Rattle.synctree.specs.Walks.{store as store_plan};
+ghost use Rattle.synctree.specs.Trees.{fresh_plan};
+
+use crate::calls::{hash, set_top, write};
+use crate::error::TreeError;
+use crate::shape::ROOT;
+use ens_base::{Digest, Seq};
+use ens_hashing::Hasher16;
+use ens_outside::NodeStore;
+use std::alloc::Global;
+use tree_node::InnerNode;
+
+/// Writes a node under its digest.
+pub(crate) fn store<N: NodeStore, H: Hasher16>(
+    alloc: Global,
+    nodes: &mut N,
+    hasher: &mut H,
+    bytes: &[u8],
+) -> Result<Digest, TreeError>
+    ensures { Did (outside_does N.may_answer N.top_record N.fault_count H.kept H.clashes H.fulls) (outside_refuses N.may_refuse N.top_record N.fault_count H.kept H.clashes H.fulls)
+        (store_plan bytes.now) (nodes.old, hasher.old) result (nodes.new, hasher.new) }
+{
+    let digest = hash(alloc, hasher, bytes)?;
+    write(alloc, nodes, &digest, bytes)?;
+    Ok(digest)
+}
+
+/// Writes the root of the empty map, and the top record. The digest in it is the answer.
+pub(crate) fn store_empty<N: NodeStore, H: Hasher16>(
+    alloc: Global,
+    nodes: &mut N,
+    hasher: &mut H,
+) -> Result<Digest, TreeError>
+    ensures { Did (outside_does N.may_answer N.top_record N.fault_count H.kept H.clashes H.fulls) (outside_refuses N.may_refuse N.top_record N.fault_count H.kept H.clashes H.fulls)
+        (fresh_plan sixteen) (nodes.old, hasher.old) result (nodes.new, hasher.new) }
+{
+    let root = InnerNode {
+        position: ROOT,
+        mask: 0,
+        digests: Seq::new(Vec::new(alloc)),
+    };
+    let bytes = match root.encode(alloc) {
+        Ok(bytes) => bytes,
+        Err(_) => return Err(TreeError::Memory),
+    };
+    let digest = store(alloc, nodes, hasher, bytes.as_slice())?;
+    set_top(nodes, &digest)?;
+    Ok(digest)
+}

@@ -1,0 +1,119 @@
+ghost use Rattle.std.specs.Prelude.{◌≡◌, ℕ, List, [], Option, None, Some, Ok, Err, IfOk, IfErr};
+ghost use Rattle.tree_maps.specs.Maps.{Stands};
+ghost use Rattle.tree_maps.specs.Sixteen.{sixteen};
+ghost use Rattle.ens_outside.specs.Stores.{Top};
+ghost use Rattle.ens_outside.specs.Told.{IsTold};
+ghost use Rattle.synctree.specs.Halves.{NodesDid};
+ghost use Rattle.synctree.specs.Outsides.{outside_does, outside_refuses};
+ghost use Rattle.synctree.specs.Plans.{Did};
+ghost use Rattle.synctree.specs.Trees.{get_plan, fresh_plan};
+ghost use Rattle.synctree.specs.Meanings.{Finds, Opens, Freshens};
+
+use crate::calls;
+use crate::error::TreeError;
+use crate::store::store_empty;
+use crate::walk::find_from_top;
+use ens_base::{Digest, Entry, Key};
+use ens_hashing::Hasher16;
+use ens_outside::NodeStore;
+use slot_disk::Refused;
+use std::alloc::Global;
+use std::marker::Model;
+
+/// What is left of a tree when its store is taken out: the digest in the top record, if there is one.
+#[derive(Clone, Copy, Debug, PartialEq, Eq)]
+pub struct TreeMark {
+    top: Option<Digest>,
+}
+
+impl Model for TreeMark {
+    ghost use Rattle.std.specs.Prelude.{ℕ, List, Option};
+
+    ghost Value = { Option (List ℕ) };
+
+    ghost view = { λ m. m.top };
+
+    ghost inverse = { λ top. record { top = top } };
+}
+
+/// A map from keys to entries, kept as a hash tree in a store of nodes. The digest in the top record
+/// names the map; nothing else that the store gives is believed before its MD5 was compared with the
+/// digest that names it.
+#[derive(Drop)]
+pub struct Tree<N> {
+    store: N,
+    top: Option<Digest>,
+}
+
+impl<N: NodeStore> Tree<N> {
+    /// The tree of the top record. A store without a top record gives a tree whose root is damaged.
+    pub fn open(mut store: N) -> Result<Tree<N>, Refused<N, TreeError>>
+        ensures { Opens (NodesDid N.may_answer N.may_refuse N.top_record N.fault_count Top store) result }
+    {
+        match calls::top(&mut store) {
+            Ok(top) => Ok(Tree { store, top }),
+            Err(error) => Err(Refused { error, held: store }),
+        }
+    }
+
+    /// The tree of the empty map, which is written.
+    pub fn fresh<H: Hasher16>(
+        alloc: Global,
+        mut store: N,
+        hasher: &mut H,
+    ) -> Result<Tree<N>, Refused<N, TreeError>>
+        ensures did { Freshens (λ r nodes. Did (outside_does N.may_answer N.top_record N.fault_count H.kept H.clashes H.fulls) (outside_refuses N.may_refuse N.top_record N.fault_count H.kept H.clashes H.fulls)
+            (fresh_plan sixteen) (store, hasher.old) r (nodes, hasher.new)) result }
+        ensures map { IfOk result (λ tree. (digest : List ℕ) → tree.top ≡ Some digest → Stands sixteen digest []) }
+    {
+        match store_empty(alloc, &mut store, hasher) {
+            Ok(digest) => Ok(Tree {
+                store,
+                top: Some(digest),
+            }),
+            Err(error) => Err(Refused { error, held: store }),
+        }
+    }
+
+    /// The digest in the top record, if there is one.
+    pub fn top(&self) -> Option<Digest>
+        ensures { result ≡ self.now.top }
+    {
+        self.top
+    }
+
+    /// Takes the store out. `join` makes the tree again.
+    pub fn split(self) -> (TreeMark, N)
+        ensures { result ≡ (self.top, self.store) }
+    {
+        let Tree { store, top } = self;
+        (TreeMark { top }, store)
+    }
+
+    /// The tree that was split. The store, where it tells its top record, has the one of the mark.
+    pub fn join(mark: TreeMark, store: N) -> Tree<N>
+        requires { IsTold (N.top_record store) mark }
+        ensures { (result.top ≡ mark) × (result.store ≡ store) }
+    {
+        Tree {
+            store,
+            top: mark.top,
+        }
+    }
+
+    /// The entry of the key, if the map has one. `Damaged` names the first position from the root on
+    /// the path of the key that does not verify.
+    pub fn get<H: Hasher16>(
+        &mut self,
+        alloc: Global,
+        hasher: &mut H,
+        key: &Key,
+    ) -> Result<Option<Entry>, TreeError>
+        ensures did { Did (outside_does N.may_answer N.top_record N.fault_count H.kept H.clashes H.fulls) (outside_refuses N.may_refuse N.top_record N.fault_count H.kept H.clashes H.fulls)
+            (get_plan sixteen self.old.top key.now) (self.old.store, hasher.old) result (self.new.store, hasher.new) }
+        ensures finds { IfOk result (λ o. Finds (outside_does N.may_answer N.top_record N.fault_count H.kept H.clashes H.fulls) sixteen self.old.top key.now (self.old.store, hasher.old) o (self.new.store, hasher.new)) }
+        ensures top { self.new.top ≡ self.old.top }
+    {
+        find_from_top(alloc, &mut self.store, hasher, self.top, key)
+    }
+}

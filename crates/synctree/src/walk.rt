@@ -1,0 +1,140 @@
+ghost use Rattle.std.specs.Prelude.{◌≡◌, ◌≤◌, ◌<◌, ◌^◌, ℕ, List, [], ◌∷◌, Option, None, Some, IfOk, length, replicate};
+ghost use Rattle.md5.specs.Md5.{md5};
+ghost use Rattle.tree_maps.specs.Entries.{put as put_in, lookup as found};
+ghost use Rattle.tree_node.specs.Positions.{IsPosition};
+ghost use Rattle.tree_maps.specs.Forms.{IsPlace};
+ghost use Rattle.tree_maps.specs.Sixteen.{sixteen};
+ghost use Rattle.synctree.specs.Outsides.{outside_does, outside_refuses};
+ghost use Rattle.synctree.specs.Plans.{Did};
+ghost use Rattle.synctree.specs.Walks.{fetch as fetch_plan, open_node, find as find_plan, reach, store as store_plan, enter as enter_plan};
+ghost use Rattle.synctree.specs.Trees.{get_plan};
+
+use crate::calls::{hash, read};
+use crate::error::TreeError;
+use crate::reading::{inner, lookup, segment};
+use crate::shape::{DEPTH, ROOT, child, name_of, nibble};
+use ens_base::{Bytes, Digest, Entry, Key, Seq};
+use ens_hashing::Hasher16;
+use ens_outside::NodeStore;
+use std::alloc::Global;
+use tree_node::Position;
+
+/// The bytes that stand under the digest, which is their MD5.
+fn fetch<N: NodeStore, H: Hasher16>(
+    alloc: Global,
+    nodes: &mut N,
+    hasher: &mut H,
+    at: Position,
+    digest: &Digest,
+) -> Result<Bytes, TreeError>
+    ensures { Did (outside_does N.may_answer N.top_record N.fault_count H.kept H.clashes H.fulls) (outside_refuses N.may_refuse N.top_record N.fault_count H.kept H.clashes H.fulls)
+        (fetch_plan at digest.now) (nodes.old, hasher.old) result (nodes.new, hasher.new) }
+{
+    let bytes = match read(alloc, nodes, digest)? {
+        Some(bytes) => bytes,
+        None => return Err(TreeError::Damaged(at)),
+    };
+    if hash(alloc, hasher, bytes.as_slice())? == *digest {
+        Ok(bytes)
+    } else {
+        Err(TreeError::Damaged(at))
+    }
+}
+
+/// The children of the inner node that stands under the digest.
+fn open_inner<N: NodeStore, H: Hasher16>(
+    alloc: Global,
+    nodes: &mut N,
+    hasher: &mut H,
+    at: Position,
+    digest: &Digest,
+) -> Result<Seq<Option<Digest>>, TreeError>
+    requires { IsPosition at }
+    ensures { Did (outside_does N.may_answer N.top_record N.fault_count H.kept H.clashes H.fulls) (outside_refuses N.may_refuse N.top_record N.fault_count H.kept H.clashes H.fulls)
+        (open_node (sixteen.inner_at at) at digest.now) (nodes.old, hasher.old) result (nodes.new, hasher.new) }
+{
+    let bytes = fetch(alloc, nodes, hasher, at, digest)?;
+    inner(alloc, bytes.as_slice(), at)
+}
+
+/// The entries of the segment that stands under the digest.
+fn open_segment<N: NodeStore, H: Hasher16>(
+    alloc: Global,
+    nodes: &mut N,
+    hasher: &mut H,
+    at: Position,
+    digest: &Digest,
+) -> Result<Seq<Entry>, TreeError>
+    requires { IsPosition at }
+    ensures { Did (outside_does N.may_answer N.top_record N.fault_count H.kept H.clashes H.fulls) (outside_refuses N.may_refuse N.top_record N.fault_count H.kept H.clashes H.fulls)
+        (open_node (sixteen.segment_at at) at digest.now) (nodes.old, hasher.old) result (nodes.new, hasher.new) }
+{
+    let bytes = fetch(alloc, nodes, hasher, at, digest)?;
+    segment(alloc, bytes.as_slice(), at)
+}
+
+/// The entry of the key in the segment that stands under the digest.
+fn find_in_segment<N: NodeStore, H: Hasher16>(
+    alloc: Global,
+    nodes: &mut N,
+    hasher: &mut H,
+    at: Position,
+    digest: &Digest,
+    key: &Key,
+) -> Result<Option<Entry>, TreeError>
+    requires { IsPosition at }
+    ensures { Did (outside_does N.may_answer N.top_record N.fault_count H.kept H.clashes H.fulls) (outside_refuses N.may_refuse N.top_record N.fault_count H.kept H.clashes H.fulls)
+        (find_plan sixteen 0 at digest.now key.now) (nodes.old, hasher.old) result (nodes.new, hasher.new) }
+{
+    let entries = open_segment(alloc, nodes, hasher, at, digest)?;
+    lookup(alloc, entries.as_slice(), key)
+}
+
+/// The entry of the key under a node with `height` levels below it, whose digest is given. The digest
+/// of the key is its path.
+fn find<N: NodeStore, H: Hasher16>(
+    alloc: Global,
+    nodes: &mut N,
+    hasher: &mut H,
+    height: u8,
+    at: Position,
+    digest: &Digest,
+    path: &Digest,
+    key: &Key,
+) -> Result<Option<Entry>, TreeError>
+    requires place { IsPlace sixteen height at }
+    requires path { path.now ≡ md5 key.now }
+    ensures { Did (outside_does N.may_answer N.top_record N.fault_count H.kept H.clashes H.fulls) (outside_refuses N.may_refuse N.top_record N.fault_count H.kept H.clashes H.fulls)
+        (find_plan sixteen height at digest.now key.now) (nodes.old, hasher.old) result (nodes.new, hasher.new) }
+{
+    if height == 0 {
+        return find_in_segment(alloc, nodes, hasher, at, digest, key);
+    }
+    let names = open_inner(alloc, nodes, hasher, at, digest)?;
+    let digit = nibble(path, at.level);
+    match name_of(names.as_slice(), digit) {
+        Some(below) => {
+            let at = child(at, digit);
+            find(alloc, nodes, hasher, height - 1, at, &below, path, key)
+        }
+        None => Ok(None),
+    }
+}
+
+/// The entry of the key in the tree under the top record.
+pub(crate) fn find_from_top<N: NodeStore, H: Hasher16>(
+    alloc: Global,
+    nodes: &mut N,
+    hasher: &mut H,
+    top: Option<Digest>,
+    key: &Key,
+) -> Result<Option<Entry>, TreeError>
+    ensures { Did (outside_does N.may_answer N.top_record N.fault_count H.kept H.clashes H.fulls) (outside_refuses N.may_refuse N.top_record N.fault_count H.kept H.clashes H.fulls)
+        (get_plan sixteen top key.now) (nodes.old, hasher.old) result (nodes.new, hasher.new) }
+{
+    let path = hash(alloc, hasher, key.bytes())?;
+    match top {
+        Some(digest) => find(alloc, nodes, hasher, DEPTH, ROOT, &digest, &path, key),
+        None => Err(TreeError::Damaged(ROOT)),
+    }
+}
