@@ -24,7 +24,7 @@ row_or_fresh None = fresh
 row_or_fresh (Some row) = row
 
 -- the row of the key
-abbrev pub row_at : List ℕ → Rows → KeyRow
+unfoldable pub row_at : List ℕ → Rows → KeyRow
 row_at key rows = row_or_fresh (lookup (is_at (bytes_cmp key)) rows)
 
 -- the rows without that of the key
@@ -36,11 +36,11 @@ abbrev pub with_row : List ℕ → KeyRow → Rows → Rows
 with_row key row rows = insert_entry bytes_cmp (without_row key rows) key row
 
 -- the rows with this known state for the key
-abbrev pub with_known : List ℕ → Known → Rows → Rows
+unfoldable pub with_known : List ℕ → Known → Rows → Rows
 with_known key known rows = with_row key (record (row_at key rows) { known = known }) rows
 
 -- the rows with this stage for the key
-abbrev pub with_stage : List ℕ → Stage → Rows → Rows
+unfoldable pub with_stage : List ℕ → Stage → Rows → Rows
 with_stage key stage rows = with_row key (record (row_at key rows) { stage = stage }) rows
 
 -- the version that is settled of a key, if one is
@@ -64,14 +64,14 @@ abbrev pub Checks : Type 0
 Checks = List (ℕ × List ℕ)
 
 -- the key that checks in this round
-abbrev pub check_at : ℕ → Checks → Option (List ℕ)
+unfoldable pub check_at : ℕ → Checks → Option (List ℕ)
 check_at round checks = lookup (is_at (nat_cmp round)) checks
 
 -- the checks with this key for the round
-abbrev pub with_check : ℕ → List ℕ → Checks → Checks
+unfoldable pub with_check : ℕ → List ℕ → Checks → Checks
 with_check round key checks = insert_entry nat_cmp checks round key
 
 -- the checks without the one of this round, if it is one
-abbrev pub without_check : Option ℕ → Checks → Checks
+unfoldable pub without_check : Option ℕ → Checks → Checks
 without_check None checks = checks
 without_check (Some round) checks = remove_entry (is_at (nat_cmp round)) checks

@@ -13,11 +13,11 @@ abbrev pub empty_table : CallTable
 empty_table = record { calls = []; rows = []; checks = [] }
 
 -- the key has no running call: nothing is asked about it
-abbrev pub rested : List ℕ → CallTable → CallTable
+unfoldable pub rested : List ℕ → CallTable → CallTable
 rested key t = record t { rows = with_stage key Idle t.rows; checks = without_check (check_round (row_at key t.rows).stage) t.checks }
 
 -- the running call of the key is answered
-abbrev pub ended : List ℕ → CallTable → CallTable
+unfoldable pub ended : List ℕ → CallTable → CallTable
 ended key t = rested key (record t { calls = without_running key t.calls })
 
 abbrev pub rested_if : Option (List ℕ) → CallTable → CallTable
@@ -30,7 +30,7 @@ rested_all [] t = t
 rested_all (d ∷ ds) t = rested_all ds (rested_if d.running t)
 
 -- the calls that are due are answered
-abbrev pub without_due : CallTable → CallTable
+unfoldable pub without_due : CallTable → CallTable
 without_due t = let m = rested_all (due t.calls) t in record m { calls = not_due m.calls }
 
 -- the call, which stands behind `before`, is due and has a put that is not settled
@@ -43,5 +43,5 @@ late_put_after rows before [] = false
 late_put_after rows before (w ∷ ws) = is_late_put rows before w || late_put_after rows (before ++ w ∷ []) ws
 
 -- a call that is due has a put that is not settled
-abbrev pub late_put : CallTable → Bool
+unfoldable pub late_put : CallTable → Bool
 late_put t = late_put_after t.rows [] t.calls

@@ -31,6 +31,7 @@ impl Checks {
     }
 
     /// The key that checks in this round.
+    #[tactic(auto, unfolding(crate::specs::Rows::check_at))]
     pub fn key(&self, round: u64) -> Option<&Key>
         ensures { check_at round self.now ≡ option_map (λ k. k.now) result }
     {
@@ -38,6 +39,7 @@ impl Checks {
     }
 
     /// The key checks in this round.
+    #[tactic(auto, unfolding(crate::specs::Rows::with_check))]
     pub fn begin(&mut self, round: u64, key: Key) -> Result<(), AllocError>
         ensures { OnOk result (self.new ≡ with_check round key self.old) }
     {
@@ -46,6 +48,7 @@ impl Checks {
     }
 
     /// No key checks in this round.
+    #[tactic(auto, unfolding(crate::specs::Rows::without_check))]
     pub fn end(&mut self, round: u64)
         ensures { self.new ≡ without_check (Some round) self.old }
     {

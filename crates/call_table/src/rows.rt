@@ -36,6 +36,7 @@ impl Rows {
     }
 
     /// What is known of the key.
+    #[tactic(auto, unfolding(crate::specs::Rows::row_at))]
     pub fn known(&self, key: &Key) -> Known
         ensures { result ≡ (row_at key.now self.now).known }
     {
@@ -46,6 +47,7 @@ impl Rows {
     }
 
     /// The stage of the key; None is Idle.
+    #[tactic(auto, unfolding(crate::specs::Rows::row_at))]
     pub fn stage(&self, key: &Key) -> Option<&Stage>
         ensures { MatchOption result ((row_at key.now self.now).stage ≡ Idle) (λ s. (row_at key.now self.now).stage ≡ s.now) }
     {
@@ -56,6 +58,7 @@ impl Rows {
     }
 
     /// Takes the row of the key out.
+    #[tactic(auto, unfolding(crate::specs::Rows::row_at))]
     pub fn take(&mut self, key: &Key) -> KeyRow
         ensures row { result ≡ row_at key.now self.old }
         ensures rows { self.new ≡ without_row key.now self.old }
@@ -78,6 +81,7 @@ impl Rows {
     }
 
     /// This is known of the key.
+    #[tactic(auto, unfolding(crate::specs::Rows::with_known))]
     pub fn set_known(&mut self, alloc: Global, key: &Key, known: Known) -> Result<(), CopyError>
         ensures { OnOk result (self.new ≡ with_known key.now known self.old) }
     {
@@ -88,6 +92,7 @@ impl Rows {
     }
 
     /// The key has this stage.
+    #[tactic(auto, unfolding(crate::specs::Rows::with_stage))]
     pub fn set_stage(&mut self, alloc: Global, key: &Key, stage: Stage) -> Result<(), CopyError>
         ensures { OnOk result (self.new ≡ with_stage key.now stage self.old) }
     {

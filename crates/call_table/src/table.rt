@@ -108,6 +108,7 @@ impl CallTable {
         self.checks.begin(round, key)
     }
 
+    #[tactic(auto, unfolding(crate::specs::Rows::without_check))]
     fn forget(&mut self, round: Option<u64>)
         ensures { self.new ≡ record self.old { checks = without_check round self.old.checks } }
     {
@@ -117,6 +118,7 @@ impl CallTable {
     }
 
     /// Nothing is asked about the key any more.
+    #[tactic(auto, unfolding(crate::specs::Tables::rested))]
     pub fn rest(&mut self, alloc: Global, key: &Key) -> Result<(), CopyError>
         ensures { OnOk result (self.new ≡ rested key.now self.old) }
     {
@@ -126,6 +128,7 @@ impl CallTable {
     }
 
     /// Takes the running call of the key out, which is answered: nothing is asked about the key.
+    #[tactic(auto, unfolding(crate::specs::Tables::ended))]
     pub fn end_running(&mut self, alloc: Global, key: &Key) -> Result<Option<Waiting>, CopyError>
         ensures table { OnOk result (self.new ≡ ended key.now self.old) }
         ensures call { IfOk result (λ w. w ≡ running key.now self.old.calls) }
@@ -143,6 +146,7 @@ impl CallTable {
     }
 
     /// Whether a call that is due has a put that is not settled.
+    #[tactic(auto, unfolding(crate::specs::Tables::late_put))]
     pub fn has_late_put(&self) -> bool
         ensures { result ≡ late_put self.now }
     {
@@ -168,6 +172,7 @@ impl CallTable {
     }
 
     /// Takes the calls that are due out: nothing is asked about the keys on which one of them ran.
+    #[tactic(auto, unfolding(crate::specs::Tables::without_due))]
     pub fn drop_due(&mut self, alloc: Global) -> Result<Vec<DueCall>, CopyError>
         ensures table { OnOk result (self.new ≡ without_due self.old) }
         ensures due { IfOk result (λ ds. ds.items ≡ due self.old.calls) }

@@ -37,6 +37,7 @@ fn all_are_a_quorum(tally: &Tally)
 
 impl Round {
     /// A round on these views, in which `me` has answered.
+    #[tactic(auto, unfolding(crate::specs::Rounds::begun, crate::specs::Rounds::answered))]
     pub fn start(views: Views, me: PeerId) -> Round
         ensures round { result ≡ begun views me }
         ensures views { result.tally.views ≡ views }
@@ -48,6 +49,7 @@ impl Round {
     }
 
     /// The peer has answered. A second answer, and that of a peer that is in no view, change nothing.
+    #[tactic(auto, unfolding(crate::specs::Rounds::answered))]
     pub fn vote(&mut self, peer: PeerId)
         ensures round { self.new ≡ answered peer self.old }
         ensures views { self.new.tally.views ≡ self.old.tally.views }
@@ -57,6 +59,7 @@ impl Round {
     }
 
     /// What the answers come to. Each state comes exactly where its definition holds.
+    #[tactic(auto, unfolding(crate::specs::Rounds::state_of))]
     pub fn outcome(&self) -> RoundState
         ensures exact { result ≡ state_of self.now }
         ensures state { IsState (holds self.now.tally.votes) self.now.tally.views result }
