@@ -19,11 +19,11 @@ IsState votes views Met = (is_quorum votes views ≡ true) × ¬ HasEvery votes 
 IsState votes views AllAnswered = HasEvery votes views
 
 -- the round with the answer of this peer
-abbrev pub answered : ℕ → Round → Round
+unfoldable pub answered : ℕ → Round → Round
 answered peer round = record round { tally = record round.tally { votes = voted round.tally.views peer round.tally.votes } }
 
 -- a round on these views, in which `me` has answered
-abbrev pub begun : List (List ℕ) → ℕ → Round
+unfoldable pub begun : List (List ℕ) → ℕ → Round
 begun views me = answered me (record { tally = record { views = views; votes = replicate 32 false } })
 
 -- the state of a round with these votes: open without a quorum, all answered once every member of
@@ -32,5 +32,5 @@ abbrev pub state_of_votes : (ℕ → Bool) → List (List ℕ) → RoundState
 state_of_votes votes views = if is_quorum votes views then (if has_every votes views then AllAnswered else Met) else Open
 
 -- the state of a round
-abbrev pub state_of : Round → RoundState
+unfoldable pub state_of : Round → RoundState
 state_of round = state_of_votes (holds round.tally.votes) round.tally.views

@@ -39,6 +39,7 @@ fn all_are_a_quorum(tally: &Tally)
 impl Round {
     /// Begins a round on these views, with the answer of `me` counted if it is a member of some
     /// view.
+    #[tactic(auto, unfolding(crate::specs::Rounds::begun, crate::specs::Rounds::answered))]
     pub fn start(views: Views, me: PeerId) -> Round
         ensures round { result ≡ begun views me }
         ensures views { result.tally.views ≡ views }
@@ -51,6 +52,7 @@ impl Round {
 
     /// Counts the answer of `peer`. A second answer of one peer, and an answer of a peer that is in
     /// no view, change nothing.
+    #[tactic(auto, unfolding(crate::specs::Rounds::answered))]
     pub fn vote(&mut self, peer: PeerId)
         ensures round { self.new ≡ answered peer self.old }
         ensures views { self.new.tally.views ≡ self.old.tally.views }
@@ -60,6 +62,7 @@ impl Round {
     }
 
     /// Returns the state of the round.
+    #[tactic(auto, unfolding(crate::specs::Rounds::state_of))]
     pub fn outcome(&self) -> RoundState
         ensures exact { result ≡ state_of self.now }
         ensures state { IsState (holds self.now.tally.votes) self.now.tally.views result }

@@ -1,0 +1,104 @@
+ghost use Rattle.std.specs.Prelude.{◌≡◌, [], MatchOption, OnOk};
+ghost use Rattle.std.specs.BTreeMap.{insert_entry};
+ghost use Rattle.ens_base.specs.Lists.{bytes_cmp};
+ghost use Rattle.call_table.specs.declared.row.Stage.TheVariants.{Idle};
+ghost use Rattle.call_table.specs.Rows.{row_at, without_row, with_known, with_stage};
+
+use crate::row::{KeyRow, Known, Stage};
+use ens_base::{CopyError, Key};
+use std::alloc::Global;
+use std::collections::BTreeMap;
+use std::marker::Model;
+
+/// The rows of the keys that were named. Contracts see the list of them, by key.
+#[derive(Drop)]
+pub struct Rows {
+    rows: BTreeMap<Key, KeyRow>,
+}
+
+impl Model for Rows {
+    ghost use Rattle.std.specs.Prelude.{ℕ, List};
+    ghost use Rattle.call_table.specs.declared.row.KeyRow.{KeyRow as Row};
+
+    ghost Value = { List (List ℕ × Row) };
+
+    ghost view = { λ r. r.rows.entries };
+}
+
+impl Rows {
+    /// Nothing is known of any key.
+    pub fn new(alloc: Global) -> Rows
+        ensures { result ≡ [] }
+    {
+        Rows {
+            rows: BTreeMap::new(alloc),
+        }
+    }
+
+    /// What is known of the key.
+    #[tactic(auto, unfolding(crate::specs::Rows::row_at))]
+    pub fn known(&self, key: &Key) -> Known
+        ensures { result ≡ (row_at key.now self.now).known }
+    {
+        match self.rows.get(key) {
+            Some(row) => row.known,
+            None => Known::Unknown,
+        }
+    }
+
+    /// The stage of the key; None is Idle.
+    #[tactic(auto, unfolding(crate::specs::Rows::row_at))]
+    pub fn stage(&self, key: &Key) -> Option<&Stage>
+        ensures { MatchOption result ((row_at key.now self.now).stage ≡ Idle) (λ s. (row_at key.now self.now).stage ≡ s.now) }
+    {
+        match self.rows.get(key) {
+            Some(row) => Some(&row.stage),
+            None => None,
+        }
+    }
+
+    /// Takes the row of the key out.
+    #[tactic(auto, unfolding(crate::specs::Rows::row_at))]
+    pub fn take(&mut self, key: &Key) -> KeyRow
+        ensures row { result ≡ row_at key.now self.old }
+        ensures rows { self.new ≡ without_row key.now self.old }
+    {
+        match self.rows.remove(key) {
+            Some(row) => row,
+            None => KeyRow {
+                known: Known::Unknown,
+                stage: Stage::Idle,
+            },
+        }
+    }
+
+    /// Puts the row of a key in.
+    pub fn put(&mut self, key: Key, row: KeyRow) -> Result<(), CopyError>
+        ensures { OnOk result (self.new ≡ insert_entry bytes_cmp self.old key row) }
+    {
+        self.rows.insert(key, row)?;
+        Ok(())
+    }
+
+    /// This is known of the key.
+    #[tactic(auto, unfolding(crate::specs::Rows::with_known))]
+    pub fn set_known(&mut self, alloc: Global, key: &Key, known: Known) -> Result<(), CopyError>
+        ensures { OnOk result (self.new ≡ with_known key.now known self.old) }
+    {
+        let name = key.copy(alloc)?;
+        let mut row = self.take(key);
+        row.known = known;
+        self.put(name, row)
+    }
+
+    /// The key has this stage.
+    #[tactic(auto, unfolding(crate::specs::Rows::with_stage))]
+    pub fn set_stage(&mut self, alloc: Global, key: &Key, stage: Stage) -> Result<(), CopyError>
+        ensures { OnOk result (self.new ≡ with_stage key.now stage self.old) }
+    {
+        let name = key.copy(alloc)?;
+        let mut row = self.take(key);
+        row.stage = stage;
+        self.put(name, row)
+    }
+}

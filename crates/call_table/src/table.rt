@@ -1,0 +1,235 @@
+ghost use Rattle.std.specs.Prelude.{◌≡◌, ◌++◌, ◌∷◌, [], IfOk, OnOk, option_map, map, Some};
+ghost use Rattle.call_table.specs.Calls.{has_calls, waiting_on, running, older, due};
+ghost use Rattle.call_table.specs.Rows.{row_at, check_at, with_known, with_stage, with_check, without_check, check_round, has_put as has_put_of};
+ghost use Rattle.call_table.specs.Tables.{empty_table, rested, ended, rested_if, rested_all, without_due, late_put, late_put_after, is_late_put};
+
+use crate::calls::{Calls, count_on};
+use crate::checks::Checks;
+use crate::row::{Known, Stage};
+use crate::rows::Rows;
+use crate::waiting::{DueCall, Waiting};
+use ens_base::{CopyError, Key};
+use std::alloc::{AllocError, Global};
+
+/// What a leader knows: its unanswered calls in order of arrival, the row of each key, and which key
+/// checks in which round.
+#[derive(Drop)]
+pub struct CallTable {
+    calls: Calls,
+    rows: Rows,
+    checks: Checks,
+}
+
+impl CallTable {
+    /// No call, and nothing is known.
+    pub fn new(alloc: Global) -> CallTable
+        ensures { result ≡ empty_table }
+    {
+        CallTable {
+            calls: Calls::new(alloc),
+            rows: Rows::new(alloc),
+            checks: Checks::new(alloc),
+        }
+    }
+
+    /// Whether a call is unanswered.
+    pub fn unanswered(&self) -> bool
+        ensures { result ≡ has_calls self.now.calls }
+    {
+        self.calls.any()
+    }
+
+    /// How many calls on the key are unanswered.
+    pub fn waiting_on(&self, key: &Key) -> usize
+        ensures { result ≡ waiting_on key.now self.now.calls }
+    {
+        self.calls.waiting_on(key)
+    }
+
+    /// The running call of the key.
+    pub fn running(&self, alloc: Global, key: &Key) -> Result<Option<Waiting>, CopyError>
+        ensures { IfOk result (λ w. w ≡ running key.now self.now.calls) }
+    {
+        match self.calls.running(key) {
+            None => Ok(None),
+            Some(call) => Ok(Some(call.copy(alloc)?)),
+        }
+    }
+
+    /// What is known of the key.
+    pub fn known(&self, key: &Key) -> Known
+        ensures { result ≡ (row_at key.now self.now.rows).known }
+    {
+        self.rows.known(key)
+    }
+
+    /// The stage of the key.
+    pub fn stage(&self, alloc: Global, key: &Key) -> Result<Stage, CopyError>
+        ensures { IfOk result (λ s. s ≡ (row_at key.now self.now.rows).stage) }
+    {
+        match self.rows.stage(key) {
+            None => Ok(Stage::Idle),
+            Some(stage) => stage.copy(alloc),
+        }
+    }
+
+    /// The key that checks in this round.
+    pub fn check_key(&self, round: u64) -> Option<&Key>
+        ensures { check_at round self.now.checks ≡ option_map (λ k. k.now) result }
+    {
+        self.checks.key(round)
+    }
+
+    /// The call joins, as the last one.
+    pub fn join(&mut self, call: Waiting) -> Result<(), AllocError>
+        ensures { OnOk result (self.new ≡ record self.old { calls = self.old.calls ++ call ∷ [] }) }
+    {
+        self.calls.push(call)
+    }
+
+    /// This is known of the key.
+    pub fn set_known(&mut self, alloc: Global, key: &Key, known: Known) -> Result<(), CopyError>
+        ensures { OnOk result (self.new ≡ record self.old { rows = with_known key.now known self.old.rows }) }
+    {
+        self.rows.set_known(alloc, key, known)
+    }
+
+    /// The key has this stage.
+    pub fn set_stage(&mut self, alloc: Global, key: &Key, stage: Stage) -> Result<(), CopyError>
+        ensures { OnOk result (self.new ≡ record self.old { rows = with_stage key.now stage self.old.rows }) }
+    {
+        self.rows.set_stage(alloc, key, stage)
+    }
+
+    /// The key checks in this round.
+    pub fn begin_check(&mut self, round: u64, key: Key) -> Result<(), AllocError>
+        ensures { OnOk result (self.new ≡ record self.old { checks = with_check round key self.old.checks }) }
+    {
+        self.checks.begin(round, key)
+    }
+
+    #[tactic(auto, unfolding(crate::specs::Rows::without_check))]
+    fn forget(&mut self, round: Option<u64>)
+        ensures { self.new ≡ record self.old { checks = without_check round self.old.checks } }
+    {
+        if let Some(round) = round {
+            self.checks.end(round);
+        }
+    }
+
+    /// Nothing is asked about the key any more.
+    #[tactic(auto, unfolding(crate::specs::Tables::rested))]
+    pub fn rest(&mut self, alloc: Global, key: &Key) -> Result<(), CopyError>
+        ensures { OnOk result (self.new ≡ rested key.now self.old) }
+    {
+        let round = check_round_of(&self.rows, key);
+        self.forget(round);
+        self.rows.set_stage(alloc, key, Stage::Idle)
+    }
+
+    /// Takes the running call of the key out, which is answered: nothing is asked about the key.
+    #[tactic(auto, unfolding(crate::specs::Tables::ended))]
+    pub fn end_running(&mut self, alloc: Global, key: &Key) -> Result<Option<Waiting>, CopyError>
+        ensures table { OnOk result (self.new ≡ ended key.now self.old) }
+        ensures call { IfOk result (λ w. w ≡ running key.now self.old.calls) }
+    {
+        let call = self.calls.take_running(key);
+        self.rest(alloc, key)?;
+        Ok(call)
+    }
+
+    /// Each call has waited for a tick more.
+    pub fn grow_older(&mut self)
+        ensures { self.new ≡ record self.old { calls = map older self.old.calls } }
+    {
+        self.calls.grow_older();
+    }
+
+    /// Whether a call that is due has a put that is not settled.
+    #[tactic(auto, unfolding(crate::specs::Tables::late_put))]
+    pub fn has_late_put(&self) -> bool
+        ensures { result ≡ late_put self.now }
+    {
+        has_late_put(&self.rows, self.calls.as_slice())
+    }
+
+    fn rest_if(&mut self, alloc: Global, key: &Option<Key>) -> Result<(), CopyError>
+        ensures { OnOk result (self.new ≡ rested_if key.now self.old) }
+    {
+        match key {
+            None => Ok(()),
+            Some(key) => self.rest(alloc, key),
+        }
+    }
+
+    fn rest_all(&mut self, alloc: Global, due: &[DueCall]) -> Result<(), CopyError>
+        ensures { OnOk result (self.new ≡ rested_all due.now self.old) }
+    {
+        for i in 0..due.len() {
+            self.rest_if(alloc, &due[i].running)?;
+        }
+        Ok(())
+    }
+
+    /// Takes the calls that are due out: nothing is asked about the keys on which one of them ran.
+    #[tactic(auto, unfolding(crate::specs::Tables::without_due))]
+    pub fn drop_due(&mut self, alloc: Global) -> Result<Vec<DueCall>, CopyError>
+        ensures table { OnOk result (self.new ≡ without_due self.old) }
+        ensures due { IfOk result (λ ds. ds.items ≡ due self.old.calls) }
+    {
+        let due = self.calls.due(alloc)?;
+        self.rest_all(alloc, &due)?;
+        self.calls.drop_due();
+        Ok(due)
+    }
+
+    /// The unanswered calls, in order of arrival.
+    pub fn into_calls(self) -> Vec<Waiting>
+        ensures { result.items ≡ self.calls }
+    {
+        let CallTable {
+            calls,
+            rows: _rows,
+            checks: _checks,
+        } = self;
+        calls.into_vec()
+    }
+}
+
+/// The round of the check of the key, if its running call checks.
+fn check_round_of(rows: &Rows, key: &Key) -> Option<u64>
+    ensures { result ≡ check_round (row_at key.now rows.now).stage }
+{
+    match rows.stage(key) {
+        Some(stage) => stage.check_round(),
+        None => None,
+    }
+}
+
+/// Whether the stage of the key waits for acknowledgements of a put.
+fn has_put(rows: &Rows, key: &Key) -> bool
+    ensures { result ≡ has_put_of (row_at key.now rows.now).stage }
+{
+    match rows.stage(key) {
+        Some(stage) => stage.has_put(),
+        None => false,
+    }
+}
+
+/// Whether the call, which stands behind these, is due and has a put that is not settled.
+fn is_late_put(rows: &Rows, before: &[Waiting], call: &Waiting) -> bool
+    ensures { result ≡ is_late_put rows.now before.now call.now }
+{
+    call.is_due() && count_on(before, &call.key) == 0 && has_put(rows, &call.key)
+}
+
+fn has_late_put(rows: &Rows, calls: &[Waiting]) -> bool
+    ensures { result ≡ late_put_after rows.now [] calls.now }
+{
+    for i in 0..calls.len() {
+        if is_late_put(rows, &calls[..i], &calls[i]) {
+            return true;
+        }
+    }
+    false
+}

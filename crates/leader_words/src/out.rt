@@ -1,0 +1,166 @@
+ghost use Rattle.std.specs.Prelude.{◌≡◌, ◌++◌, ◌∷◌, [], OnOk, IfOk};
+ghost use Rattle.leader_words.specs.Outs.{comes, rests as rests_row, leaves as leaves_row, leads_on as leads_on_row, and_key, and_then, and_answer, and_note, and_send, and_own};
+ghost use Rattle.leader_words.specs.Sends.{is_other, sent_up_to, tells_all as tells_all_row};
+
+use crate::error::LeadError;
+use ens_base::{Key, PeerId, Reply, Seq, Views};
+use ens_object::Object;
+use joint_views::is_member;
+use register_model::Note;
+use std::alloc::Global;
+use wire_frames::{Message, Then};
+
+/// A message to a peer.
+#[derive(Debug, Drop)]
+pub struct Outgoing {
+    pub to: PeerId,
+    pub message: Message,
+}
+
+/// The answer to a call: who called, the number of the call, and the reply.
+#[derive(Debug, Drop)]
+pub struct AnswerOut {
+    pub from: u32,
+    pub id: u64,
+    pub reply: Reply,
+}
+
+/// What a rule asks of the own tree and backend. The rule is called again with what they gave.
+#[derive(Debug, Drop)]
+pub enum Own {
+    /// The entry and the object of a key are looked up, or for rule 28 the object alone.
+    Look(Key),
+    /// The object is written, its entry first.
+    Put(Object),
+}
+
+/// What a rule of a leader answers. A leader that leaves answers its calls first; then the messages
+/// go, the calls are answered and the notes made, and then `own` is asked, or the rule that `then`
+/// names runs for each of the keys, in order.
+#[derive(Debug, Drop)]
+pub struct LeadOut {
+    pub leave: bool,
+    pub sends: Seq<Outgoing>,
+    pub answers: Seq<AnswerOut>,
+    pub notes: Seq<Note>,
+    pub own: Option<Own>,
+    pub then: Then,
+    pub keys: Seq<Key>,
+}
+
+impl LeadOut {
+    /// Nothing but what comes next.
+    pub fn comes(alloc: Global, then: Then) -> LeadOut
+        ensures { result ≡ comes then }
+    {
+        LeadOut {
+            leave: false,
+            sends: Seq::new(Vec::new(alloc)),
+            answers: Seq::new(Vec::new(alloc)),
+            notes: Seq::new(Vec::new(alloc)),
+            own: None,
+            then,
+            keys: Seq::new(Vec::new(alloc)),
+        }
+    }
+
+    /// Nothing happens.
+    pub fn rests(alloc: Global) -> LeadOut
+        ensures { result ≡ rests_row }
+    {
+        LeadOut::comes(alloc, Then::Stay)
+    }
+
+    /// The leader leaves leading.
+    pub fn leaves(alloc: Global) -> LeadOut
+        ensures { result ≡ leaves_row }
+    {
+        let mut out = LeadOut::comes(alloc, Then::Stay);
+        out.leave = true;
+        out
+    }
+
+    /// This rule runs next on this key.
+    pub fn leads_on(alloc: Global, rule: u8, key: &Key) -> Result<LeadOut, LeadError>
+        ensures { IfOk result (λ o. o ≡ leads_on_row rule key.now) }
+    {
+        let mut out = LeadOut::comes(alloc, Then::Rule(rule));
+        out.key(key.copy(alloc)?)?;
+        Ok(out)
+    }
+
+    /// The next rule runs for this key, after those that are named.
+    pub fn key(&mut self, key: Key) -> Result<(), LeadError>
+        ensures { OnOk result (self.new ≡ and_key key self.old) }
+    {
+        self.keys.push(key)?;
+        Ok(())
+    }
+
+    /// This rule runs next, on this key too.
+    pub fn then(&mut self, rule: u8, key: Key) -> Result<(), LeadError>
+        ensures { OnOk result (self.new ≡ and_then rule key self.old) }
+    {
+        self.keys.push(key)?;
+        self.then = Then::Rule(rule);
+        Ok(())
+    }
+
+    /// The call is answered.
+    pub fn answer(&mut self, from: u32, id: u64, reply: Reply) -> Result<(), LeadError>
+        ensures { OnOk result (self.new ≡ and_answer from id reply self.old) }
+    {
+        self.answers.push(AnswerOut { from, id, reply })?;
+        Ok(())
+    }
+
+    /// The note is made.
+    pub fn note(&mut self, note: Note) -> Result<(), LeadError>
+        ensures { OnOk result (self.new ≡ and_note note self.old) }
+    {
+        self.notes.push(note)?;
+        Ok(())
+    }
+
+    /// The message goes to the peer.
+    pub fn send(&mut self, to: PeerId, message: Message) -> Result<(), LeadError>
+        ensures { OnOk result (self.new ≡ and_send to message self.old) }
+    {
+        self.sends.push(Outgoing { to, message })?;
+        Ok(())
+    }
+
+    /// This is asked of the own tree and backend.
+    pub fn ask(&mut self, own: Own)
+        ensures { self.new ≡ and_own own self.old }
+    {
+        self.own = Some(own);
+    }
+
+    /// The message goes to each member of the views but `me`, ascending.
+    #[tactic(auto, unfolding(crate::specs::Sends::sent_up_to))]
+    pub fn tell_all(
+        &mut self,
+        alloc: Global,
+        me: PeerId,
+        views: &Views,
+        message: &Message,
+    ) -> Result<(), LeadError>
+        ensures { OnOk result (self.new ≡ tells_all_row me views.now message.now self.old) }
+    {
+        for below in 0..31 {
+            let peer = PeerId(below + 1);
+            if is_other_member(me, views, peer) {
+                self.send(peer, message.copy(alloc)?)?;
+            }
+        }
+        Ok(())
+    }
+}
+
+/// Whether the peer is another member of the views.
+pub fn is_other_member(me: PeerId, views: &Views, peer: PeerId) -> bool
+    ensures { result ≡ is_other me views.now peer }
+{
+    is_member(views, peer) && peer != me
+}
