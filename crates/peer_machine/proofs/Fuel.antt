@@ -5,11 +5,10 @@ use Rattle.election.specs.Preparing.{row_10, row_13, first_fact, starts}
 use Rattle.election.specs.Starting.{row_14}
 use Rattle.election.specs.declared.election.Election.{Election}
 use Rattle.election.specs.declared.election.Election.TheVariants.{Preparing, Starting}
-use Rattle.joint_views.specs.Quorums.{is_quorum}
+use Rattle.joint_views.specs.Quorums.{is_quorum, is_member}
 use Rattle.peer_fact.specs.Facts.{views_after}
 use Rattle.peer_fact.specs.declared.fact.Fact.{Fact}
 use Rattle.phase_rows.specs.Orders.{may_accept}
-use Rattle.phase_rows.specs.Peers.{is_member}
 use Rattle.probe.specs.Probing.{row_9}
 use Rattle.probe.specs.declared.probing.Probing.{Probing}
 use Rattle.step_plans.specs.Plans.{Out, Rest, asked}

@@ -8,9 +8,9 @@ use Rattle.std.proofs.lemmas.List.FromFn.{get_or-map-range_with_len}
 use Rattle.std.proofs.lemmas.List.Elements.{All-nil, All-cons, All-append}
 use Rattle.ens_base.specs.PeerSet.{holds}
 use Rattle.ens_base.specs.View.{IsPeer}
-use Rattle.joint_views.specs.Quorums.{is_quorum}
+use Rattle.joint_views.specs.Quorums.{is_quorum, is_member}
 use Rattle.phase_rows.specs.Orders.{is_below, is_same, is_newer, may_accept}
-use Rattle.phase_rows.specs.Peers.{nobody, alone, those, is_member, members, others_of, others_outside}
+use Rattle.phase_rows.specs.Peers.{nobody, alone, those, members, others_of, others_outside}
 use Rattle.following.specs.Refusals.{refusal, unless_refused}
 use Rattle.ens_base.specs.declared.epoch.Epoch.{Epoch}
 use Rattle.peer_fact.specs.declared.fact.Fact.{Fact}

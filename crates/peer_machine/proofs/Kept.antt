@@ -7,13 +7,13 @@ use Rattle.election.specs.Preparing.{row_12, row_13, starts, first_fact}
 use Rattle.election.specs.Starting.{row_14, row_17}
 use Rattle.election.specs.declared.election.Election.{Election}
 use Rattle.election.specs.declared.election.Election.TheVariants.{Preparing, Starting}
-use Rattle.joint_views.specs.Quorums.{is_quorum}
+use Rattle.joint_views.specs.Quorums.{is_quorum, is_member}
 use Rattle.peer_fact.specs.Facts.{views_after}
 use Rattle.peer_fact.specs.declared.fact.Change.{Change}
 use Rattle.peer_fact.specs.declared.fact.Change.TheVariants.{Add}
 use Rattle.peer_fact.specs.declared.fact.Fact.{Fact}
 use Rattle.phase_rows.specs.Orders.{is_same, is_newer, may_accept}
-use Rattle.phase_rows.specs.Peers.{is_member, members}
+use Rattle.phase_rows.specs.Peers.{members}
 use Rattle.phase_rows.specs.Rows.{silent}
 use Rattle.probe.specs.Probing.{row_8}
 use Rattle.probe.specs.declared.probing.Probing.{Probing}

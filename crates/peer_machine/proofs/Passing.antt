@@ -9,7 +9,7 @@ use Rattle.election.specs.declared.election.Election.TheVariants.{Preparing, Sta
 use Rattle.following.specs.declared.follower.Follower.{Follower}
 use Rattle.peer_fact.specs.declared.fact.Fact.{Fact}
 use Rattle.phase_rows.specs.Orders.{is_joint}
-use Rattle.phase_rows.specs.Peers.{is_member}
+use Rattle.joint_views.specs.Quorums.{is_member}
 use Rattle.phase_rows.specs.Rows.{silent}
 use Rattle.step_plans.specs.Plans.{Done, Out, nothing, Rest, Part, Follows, asked}
 use Rattle.step_plans.specs.Sends.{posted_to}

@@ -5,7 +5,7 @@ use Rattle.ens_base.specs.declared.epoch.Epoch.{Epoch}
 use Rattle.peer_fact.specs.declared.fact.Change.TheVariants.{Drop}
 use Rattle.peer_fact.specs.declared.fact.Fact.{Fact}
 use Rattle.phase_rows.specs.Orders.{is_joint}
-use Rattle.phase_rows.specs.Peers.{is_member}
+use Rattle.joint_views.specs.Quorums.{is_member}
 use Rattle.step_plans.specs.Sends.{posted}
 use Rattle.step_plans.specs.declared.outbox.Outgoing.{Outgoing}
 use Rattle.wire_frames.specs.declared.message.Message.{Message}
