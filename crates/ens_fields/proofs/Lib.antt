@@ -6,3 +6,5 @@ pub mod ViewLaws
 pub mod EntryLaws
 pub mod MemberLoop
 pub mod FaultLaws
+pub mod FirstFaultLaws
+pub mod FieldFaults

@@ -54,7 +54,7 @@ from_test low m h = grind (arith, nat_tests)
 to_test : (low m : ℕ) → (low < m) × (m ≤ 31) → is_peer_above low m ≡ true
 to_test low m h = grind (arith, nat_tests)
 
-member_grammar : (low : ℕ) → IsGrammar (λ m. (low < m) × (m ≤ 31)) (big_bytes 4) (member_at low)
+pub member_grammar : (low : ℕ) → IsGrammar (λ m. (low < m) × (m ≤ 31)) (big_bytes 4) (member_at low)
 unfolding member_at
 member_grammar low =
     let parts : IsGrammar (λ m. (m < 2 ^ 32) × (is_peer_above low m ≡ true)) (big_bytes 4) (member_at low) = checked (is_peer_above low) (λ at. Rule at) u32_grammar in

@@ -7,3 +7,4 @@ pub mod Strings
 pub mod Views
 pub mod Entries
 pub mod Faults
+pub mod FirstFaults

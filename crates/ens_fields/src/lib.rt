@@ -10,6 +10,7 @@
 
 mod entries;
 mod fault;
+mod faults;
 mod field_error;
 mod laws;
 mod numbers;
@@ -19,6 +20,7 @@ mod views;
 
 pub use entries::{put_digest, put_entry, take_digest, take_entry};
 pub use fault::{Fault, plain, with_rule, without_rule};
+pub use faults::fields_fault_first;
 pub use field_error::FieldError;
 pub use laws::fields_have_grammars;
 pub use numbers::{

@@ -8,10 +8,12 @@
 
 mod encoding;
 mod error;
+mod faults;
 mod laws;
 mod object;
 
 pub use encoding::{put_object, take_object};
 pub use error::{ObjectError, ObjectRule};
+pub use faults::objects_fault_first;
 pub use laws::objects_stand_apart;
 pub use object::Object;

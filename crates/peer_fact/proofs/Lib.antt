@@ -1,1 +1,2 @@
 pub mod FactLaws
+pub mod FactFaults

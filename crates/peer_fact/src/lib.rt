@@ -9,11 +9,13 @@
 mod encoding;
 mod error;
 mod fact;
+mod faults;
 mod laws;
 mod reading;
 
 pub use encoding::put_fact;
 pub use error::{FactError, FactRule};
 pub use fact::{Change, Fact};
+pub use faults::facts_fault_first;
 pub use laws::facts_stand_apart;
 pub use reading::take_fact;

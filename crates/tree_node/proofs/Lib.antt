@@ -2,3 +2,5 @@ pub mod RepeatLaws
 pub mod PositionLaws
 pub mod EntryLaws
 pub mod NodeLaws
+pub mod NodeFaults
+pub mod WholeNodeFaults

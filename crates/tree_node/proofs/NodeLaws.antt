@@ -45,7 +45,7 @@ ordered_ok (Err (fields.Short at)) x e = absurd cc
 ordered_ok (Err (fields.Rule at)) x e = absurd cc
 ordered_ok (Err fields.Memory) x e = absurd cc
 
-ended_grammar : {A : Type 0} {IsValid : A → Type 0} {spelling : A → List ℕ} {read : Reader A FieldError} → IsGrammar IsValid spelling read → IsGrammar IsValid spelling (λ bytes at. ended (read bytes at))
+pub ended_grammar : {A : Type 0} {IsValid : A → Type 0} {spelling : A → List ℕ} {read : Reader A FieldError} → IsGrammar IsValid spelling read → IsGrammar IsValid spelling (λ bytes at. ended (read bytes at))
 ended_grammar {read = read} g = record {
   found = λ bytes at x end fits e. g.found bytes at x end fits (ended_ok (read bytes at) (x, end) e);
   again = λ bytes at x rest good e. ap ended (g.again bytes at x rest good e);
@@ -57,7 +57,7 @@ ordered_grammar {read = read} g = record {
   again = λ bytes at x rest good e. ap ordered (g.again bytes at x rest good e);
 }
 
-asked_grammar : (asked : Position) → IsPosition asked → IsGrammar (λ p. p ≡ asked) position_spelling (asked_at asked)
+pub asked_grammar : (asked : Position) → IsPosition asked → IsGrammar (λ p. p ≡ asked) position_spelling (asked_at asked)
 unfolding asked_at
 asked_grammar asked ok = valid_as (λ p h. from_same p asked h.1) (λ p h. (position_fits p (subst IsPosition (sym h) ok), to_same p asked h)) (checked (λ p. same_position p asked) (λ _. OtherPosition) (ended_grammar any_grammar))
 

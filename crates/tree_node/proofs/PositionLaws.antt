@@ -18,7 +18,7 @@ from_le n h = grind (arith, nat_tests)
 to_le : (n : ℕ) → n ≤ 3 → nat_le n 3 ≡ true
 to_le n h = grind (arith, nat_tests)
 
-level_grammar : IsGrammar (λ n. n ≤ 3) (λ n. n ∷ []) level_at
+pub level_grammar : IsGrammar (λ n. n ≤ 3) (λ n. n ∷ []) level_at
 unfolding level_at
 level_grammar = valid_as (λ n h. from_le n h.1) (λ n h. (omega arith, to_le n h)) (checked (λ n. nat_le n 3) (λ at. Rule at) byte_grammar)
 

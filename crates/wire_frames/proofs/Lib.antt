@@ -6,3 +6,6 @@ pub mod MessageLaws
 pub mod SizeLaws
 pub mod FrameLaws
 pub mod PlaceLaws
+pub mod PartFaults
+pub mod MessageFaults
+pub mod CauseLaws

@@ -3,3 +3,4 @@ pub mod Parts
 pub mod Calls
 pub mod Messages
 pub mod Frames
+pub mod FirstCauses

@@ -9,6 +9,7 @@
 mod decoding;
 mod encoding;
 mod error;
+mod faults;
 mod frame;
 mod laws;
 mod message;
@@ -24,6 +25,7 @@ mod take_parts;
 pub use decoding::decode_frame;
 pub use encoding::encode_frame;
 pub use error::FrameError;
+pub use faults::frames_fault_first;
 pub use frame::Frame;
 pub use laws::frames_stand_apart;
 pub use message::{Message, NackCause};
