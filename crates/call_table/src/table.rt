@@ -12,7 +12,7 @@ use ens_base::{CopyError, Key};
 use std::alloc::{AllocError, Global};
 
 /// The table of a leader: its unanswered calls in order of arrival, the row of each key, and the
-/// key that checks in each round.
+/// key that checks in each round. After a call that failed, its contents are unspecified.
 #[derive(Drop)]
 pub struct CallTable {
     calls: Calls,

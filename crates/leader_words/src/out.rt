@@ -37,7 +37,8 @@ pub enum Own {
 
 /// The answer of a rule of a leader. A leader that steps down answers its calls first. Then the
 /// messages are sent, the calls are answered and the notes are made. Then `own` is asked, or the
-/// rule that `then` names runs on each of the keys, in order.
+/// rule that `then` names runs on each of the keys, in order. After a call that failed, its contents
+/// are unspecified.
 #[derive(Debug, Drop)]
 pub struct LeadOut {
     pub leave: bool,

@@ -14,7 +14,7 @@ use wire_frames::Then;
 pub enum ChangeState {
     /// No change has begun.
     Settled,
-    /// Rule 25 begins this change next. No step ends in this state.
+    /// Rule 25 begins this change in the same step.
     Wanted(Change),
     /// The second fact of the epoch is saved, and the epoch is ending.
     Finishing(Finishing),
