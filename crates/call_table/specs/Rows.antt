@@ -1,4 +1,4 @@
--- What a leader knows of each key and asks about it.
+-- What a leader knows of each key, and what it asks about it.
 use Rattle.std.specs.Prelude.{ℕ, Bool, true, false, ◌==◌, if◌then◌else◌, Option, Some, None, List}
 use Rattle.std.specs.BTreeMap.{is_at, insert_entry}
 use Rattle.std.specs.Map.{lookup, remove_entry}
@@ -11,7 +11,7 @@ use Rattle.call_table.specs.declared.row.Stage.{Stage}
 use Rattle.call_table.specs.declared.row.Stage.TheVariants.{Idle, Reading, Checking, Putting}
 use Rattle.call_table.specs.declared.row.KeyRow.{KeyRow}
 
--- a key of which nothing is known, and about which nothing is asked
+-- the row of a key of which nothing is known, and about which nothing is asked
 abbrev pub fresh : KeyRow
 fresh = record { known = Unknown; stage = Idle }
 
@@ -27,15 +27,15 @@ row_or_fresh (Some row) = row
 unfoldable pub row_at : List ℕ → Rows → KeyRow
 row_at key rows = row_or_fresh (lookup (is_at (bytes_cmp key)) rows)
 
--- the rows without that of the key
+-- the rows without the row of the key
 abbrev pub without_row : List ℕ → Rows → Rows
 without_row key rows = remove_entry (is_at (bytes_cmp key)) rows
 
--- the rows with this one for the key
+-- the rows with this row for the key
 abbrev pub with_row : List ℕ → KeyRow → Rows → Rows
 with_row key row rows = insert_entry bytes_cmp (without_row key rows) key row
 
--- the rows with this known state for the key
+-- the rows with this knowledge of the key
 unfoldable pub with_known : List ℕ → Known → Rows → Rows
 with_known key known rows = with_row key (record (row_at key rows) { known = known }) rows
 
@@ -43,23 +43,23 @@ with_known key known rows = with_row key (record (row_at key rows) { known = kno
 unfoldable pub with_stage : List ℕ → Stage → Rows → Rows
 with_stage key stage rows = with_row key (record (row_at key rows) { stage = stage }) rows
 
--- the version that is settled of a key, if one is
+-- the settled version of a key, if there is one
 abbrev pub base_of : Known → Option Version
 base_of Unknown = None
 base_of Absent = None
 base_of (Present version stamp digest tombstone) = Some version
 
--- the round of a check
+-- the round of the check, if the stage is a check
 abbrev pub check_round : Stage → Option ℕ
 check_round (Checking round heard reply) = Some round
 check_round stage = None
 
--- the stage waits for acknowledgements of a put
+-- whether a put waits for acknowledgements
 abbrev pub has_put : Stage → Bool
 has_put (Putting object digest acks rewrite) = true
 has_put stage = false
 
--- the keys that check, by the round of the check
+-- the keys that are checking, by the round of the check
 abbrev pub Checks : Type 0
 Checks = List (ℕ × List ℕ)
 
@@ -71,7 +71,7 @@ check_at round checks = lookup (is_at (nat_cmp round)) checks
 unfoldable pub with_check : ℕ → List ℕ → Checks → Checks
 with_check round key checks = insert_entry nat_cmp checks round key
 
--- the checks without the one of this round, if it is one
+-- the checks without the check of this round, if one is given
 unfoldable pub without_check : Option ℕ → Checks → Checks
 without_check None checks = checks
 without_check (Some round) checks = remove_entry (is_at (nat_cmp round)) checks

@@ -46,8 +46,8 @@ fn better_found(best: Found, entry: Entry, object: Option<Object>) -> Found
     }
 }
 
-/// The best after one more reply: the greatest entry by version, digest and key, and an object of it
-/// where a reply with that entry had one. A reply without an entry changes nothing.
+/// Returns the best of the replies after one more: the greatest entry, by version, digest and key,
+/// and an object if a reply with this entry had one. A reply without an entry changes nothing.
 pub fn better(best: Option<Found>, entry: Option<Entry>, object: Option<Object>) -> Option<Found>
     ensures { result ≡ better_of best entry object }
 {

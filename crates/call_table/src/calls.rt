@@ -28,7 +28,7 @@ fn same_key(a: &Key, b: &Key) -> bool
     a.bytes() == b.bytes()
 }
 
-/// How many of the calls are on the key.
+/// Returns the number of calls on the key.
 pub(crate) fn count_on(calls: &[Waiting], key: &Key) -> usize
     ensures { result ≡ waiting_on key.now calls.now }
 {
@@ -52,7 +52,7 @@ fn first_on<'a>(calls: &'a [Waiting], key: &Key) -> Option<&'a Waiting>
     None
 }
 
-/// Takes the first call on the key out.
+/// Removes the first call on the key and returns it.
 fn take_first(calls: &mut Vec<Waiting>, key: &Key) -> Option<Waiting>
     ensures calls { calls.new.items ≡ without_running key.now calls.old.items }
     ensures call { result ≡ running key.now calls.old.items }
@@ -65,7 +65,7 @@ fn take_first(calls: &mut Vec<Waiting>, key: &Key) -> Option<Waiting>
     None
 }
 
-/// Each call has waited for a tick more.
+/// Adds one tick to the age of each call, up to 255.
 fn grow_older(calls: &mut [Waiting])
     ensures { calls.new ≡ map older calls.old }
 {
@@ -74,14 +74,14 @@ fn grow_older(calls: &mut [Waiting])
     }
 }
 
-/// Leaves the calls that are not due.
+/// Removes the calls that are due.
 fn keep_not_due(calls: &mut Vec<Waiting>)
     ensures { calls.new.items ≡ not_due calls.old.items }
 {
     calls.retain(|call| !call.is_due());
 }
 
-/// The key of a call, where no call before it is on the key.
+/// Returns the key of a call if no call before it is on the key. Fails only when out of memory.
 fn key_if_running(
     alloc: Global,
     before: &[Waiting],
@@ -96,7 +96,7 @@ fn key_if_running(
     }
 }
 
-/// The calls that are due.
+/// Returns the calls that are due. Fails only when out of memory.
 fn due_calls(alloc: Global, calls: &[Waiting]) -> Result<Vec<DueCall>, CopyError>
     ensures { IfOk result (λ ds. ds.items ≡ due calls.now) }
 {
@@ -115,7 +115,7 @@ fn due_calls(alloc: Global, calls: &[Waiting]) -> Result<Vec<DueCall>, CopyError
 }
 
 impl Calls {
-    /// No call.
+    /// Makes an empty list.
     pub fn new(alloc: Global) -> Calls
         ensures { result ≡ [] }
     {
@@ -124,28 +124,28 @@ impl Calls {
         }
     }
 
-    /// Whether there is a call.
+    /// Whether any call is unanswered.
     pub fn any(&self) -> bool
         ensures { result ≡ has_calls self.now }
     {
         !self.calls.is_empty()
     }
 
-    /// How many calls are on the key.
+    /// Returns the number of calls on the key.
     pub fn waiting_on(&self, key: &Key) -> usize
         ensures { result ≡ waiting_on key.now self.now }
     {
         count_on(&self.calls, key)
     }
 
-    /// The running call of the key.
+    /// Returns the running call of the key, if there is one.
     pub fn running(&self, key: &Key) -> Option<&Waiting>
         ensures { running key.now self.now ≡ option_map (λ w. w.now) result }
     {
         first_on(&self.calls, key)
     }
 
-    /// The call joins at the end.
+    /// Adds a call at the end. Fails only when out of memory.
     pub fn push(&mut self, call: Waiting) -> Result<(), AllocError>
         ensures { OnOk result (self.new ≡ self.old ++ call ∷ []) }
     {
@@ -153,7 +153,7 @@ impl Calls {
         Ok(())
     }
 
-    /// Takes the running call of the key out.
+    /// Removes the running call of the key and returns it.
     pub fn take_running(&mut self, key: &Key) -> Option<Waiting>
         ensures calls { self.new ≡ without_running key.now self.old }
         ensures call { result ≡ running key.now self.old }
@@ -161,35 +161,35 @@ impl Calls {
         take_first(&mut self.calls, key)
     }
 
-    /// Each call has waited for a tick more.
+    /// Adds one tick to the age of each call, up to 255.
     pub fn grow_older(&mut self)
         ensures { self.new ≡ map older self.old }
     {
         grow_older(&mut self.calls);
     }
 
-    /// The calls that are due.
+    /// Returns the calls that are due. Fails only when out of memory.
     pub fn due(&self, alloc: Global) -> Result<Vec<DueCall>, CopyError>
         ensures { IfOk result (λ ds. ds.items ≡ due self.now) }
     {
         due_calls(alloc, &self.calls)
     }
 
-    /// Leaves the calls that are not due.
+    /// Removes the calls that are due.
     pub fn drop_due(&mut self)
         ensures { self.new ≡ not_due self.old }
     {
         keep_not_due(&mut self.calls);
     }
 
-    /// The calls, in order of arrival.
+    /// Returns the calls, in order of arrival.
     pub fn as_slice(&self) -> &[Waiting]
         ensures { result.now ≡ self.now }
     {
         &self.calls
     }
 
-    /// The calls, in order of arrival.
+    /// Returns the calls, in order of arrival.
     pub fn into_vec(self) -> Vec<Waiting>
         ensures { result.items ≡ self }
     {

@@ -6,7 +6,7 @@ use std::alloc::{AllocError, Global};
 use std::collections::BTreeMap;
 use std::marker::Model;
 
-/// The keys whose running call checks, by the round of the check.
+/// The keys whose running call is checking, by the round of the check.
 #[derive(Drop)]
 pub struct Checks {
     keys: BTreeMap<u64, Key>,
@@ -21,7 +21,7 @@ impl Model for Checks {
 }
 
 impl Checks {
-    /// No key checks.
+    /// Makes an empty map: no key is checking.
     pub fn new(alloc: Global) -> Checks
         ensures { result ≡ [] }
     {
@@ -30,7 +30,7 @@ impl Checks {
         }
     }
 
-    /// The key that checks in this round.
+    /// Returns the key that checks in this round, if there is one.
     #[tactic(auto, unfolding(crate::specs::Rows::check_at))]
     pub fn key(&self, round: u64) -> Option<&Key>
         ensures { check_at round self.now ≡ option_map (λ k. k.now) result }
@@ -38,7 +38,7 @@ impl Checks {
         self.keys.get(&round)
     }
 
-    /// The key checks in this round.
+    /// Records that `key` checks in this round. Fails only when out of memory.
     #[tactic(auto, unfolding(crate::specs::Rows::with_check))]
     pub fn begin(&mut self, round: u64, key: Key) -> Result<(), AllocError>
         ensures { OnOk result (self.new ≡ with_check round key self.old) }
@@ -47,7 +47,7 @@ impl Checks {
         Ok(())
     }
 
-    /// No key checks in this round.
+    /// Removes the check of this round, if there is one.
     #[tactic(auto, unfolding(crate::specs::Rows::without_check))]
     pub fn end(&mut self, round: u64)
         ensures { self.new ≡ without_check (Some round) self.old }

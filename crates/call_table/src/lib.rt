@@ -1,8 +1,9 @@
-//! What a leader knows: its unanswered calls, and what is settled and asked of each key.
+//! What a leader knows: its unanswered calls, and for each key what is settled and what is being
+//! asked.
 //!
-//! All unanswered calls stand in one list in order of arrival. The calls on one key are those of the
-//! list on it, and the first of them is its running call. A key has a row: what is known of it, and
-//! how far its running call is. A key that was never named has the row of which nothing is known.
+//! All unanswered calls are in one list, in order of arrival. The first call on a key is the
+//! running call of the key. Each key has a row: what is known of it, and how far its running call
+//! has come. A key that was never named has the row of a key of which nothing is known.
 #![tactic(auto)]
 
 mod best;

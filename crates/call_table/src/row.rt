@@ -9,16 +9,16 @@ use std::alloc::Global;
 /// What a leader knows of a key.
 #[derive(Clone, Copy, Debug, PartialEq, Eq)]
 pub enum Known {
-    /// Nothing in this epoch.
+    /// Nothing is known in this epoch.
     Unknown,
-    /// It is settled that no version was ever written.
+    /// It is settled that the key was never written.
     Absent,
     /// This version is settled.
     Present {
         version: Version,
         /// The version of the write that gave the value.
         stamp: Version,
-        /// The MD5 of the object's spelling.
+        /// The MD5 of the object's bytes.
         digest: Digest,
         /// Whether the key is deleted.
         tombstone: bool,
@@ -26,7 +26,7 @@ pub enum Known {
 }
 
 impl Known {
-    /// The settled version, if one is.
+    /// Returns the settled version, if there is one.
     pub fn base(self) -> Option<Version>
         ensures { result ≡ base_of self }
     {
@@ -38,36 +38,37 @@ impl Known {
     }
 }
 
-/// The greatest entry of the replies of a round, and its object if a reply had it.
+/// The greatest entry among the replies of a round, and its object if a reply had it.
 #[derive(Debug, Drop)]
 pub struct Found {
     pub entry: Entry,
     pub object: Option<Object>,
 }
 
-/// How far the running call of a key is.
+/// How far the running call of a key has come.
 #[derive(Debug, Drop)]
 pub enum Stage {
-    /// No call runs, or it asks nobody.
+    /// No call is running, or the running call asks nobody.
     Idle,
-    /// The members are asked what they have, in this round.
+    /// The members are asked, in this round, what they have of the key.
     Reading {
         round: u64,
         heard: Round,
         best: Option<Found>,
     },
-    /// The members are asked whether they still stand at the epoch, before this reply is given.
+    /// The members are asked, in this round, whether they still stand at the epoch, before this
+    /// reply is given.
     Checking {
         round: u64,
         heard: Round,
         reply: Reply,
     },
-    /// The object was put, and is not settled.
+    /// The object was put, and is not settled yet.
     Putting {
         object: Object,
         digest: Digest,
         acks: Round,
-        /// Whether it is a rewrite, which is no call's write.
+        /// Whether the put is a rewrite, and not the write of a call.
         rewrite: bool,
     },
 }
@@ -94,7 +95,7 @@ fn copy_found(found: &Option<Found>, alloc: Global) -> Result<Option<Found>, Cop
 }
 
 impl Stage {
-    /// An equal stage.
+    /// Makes a copy. Fails only when out of memory.
     pub fn copy(&self, alloc: Global) -> Result<Stage, CopyError>
         ensures { IfOk result (λ s. s ≡ self.now) }
     {
@@ -128,7 +129,7 @@ impl Stage {
         }
     }
 
-    /// The round of a check.
+    /// Returns the round of the check, if this stage is a check.
     pub fn check_round(&self) -> Option<u64>
         ensures { result ≡ check_round self.now }
     {
@@ -138,7 +139,7 @@ impl Stage {
         }
     }
 
-    /// Whether it waits for acknowledgements of a put.
+    /// Whether a put waits for acknowledgements.
     pub fn has_put(&self) -> bool
         ensures { result ≡ has_put self.now }
     {
@@ -149,7 +150,7 @@ impl Stage {
     }
 }
 
-/// What a leader knows of a key, and how far the running call of the key is.
+/// What a leader knows of a key, and how far its running call has come.
 #[derive(Debug, Drop)]
 pub struct KeyRow {
     pub known: Known,

@@ -10,7 +10,8 @@ use std::alloc::Global;
 use std::collections::BTreeMap;
 use std::marker::Model;
 
-/// The rows of the keys that were named. Contracts see the list of them, by key.
+/// The rows of the keys that were named. Contracts see a list of keys with their rows, ordered by
+/// key.
 #[derive(Drop)]
 pub struct Rows {
     rows: BTreeMap<Key, KeyRow>,
@@ -26,7 +27,7 @@ impl Model for Rows {
 }
 
 impl Rows {
-    /// Nothing is known of any key.
+    /// Makes an empty map: nothing is known of any key.
     pub fn new(alloc: Global) -> Rows
         ensures { result ≡ [] }
     {
@@ -35,7 +36,7 @@ impl Rows {
         }
     }
 
-    /// What is known of the key.
+    /// Returns what is known of the key.
     #[tactic(auto, unfolding(crate::specs::Rows::row_at))]
     pub fn known(&self, key: &Key) -> Known
         ensures { result ≡ (row_at key.now self.now).known }
@@ -46,7 +47,7 @@ impl Rows {
         }
     }
 
-    /// The stage of the key; None is Idle.
+    /// Returns the stage of the key. `None` stands for `Idle`.
     #[tactic(auto, unfolding(crate::specs::Rows::row_at))]
     pub fn stage(&self, key: &Key) -> Option<&Stage>
         ensures { MatchOption result ((row_at key.now self.now).stage ≡ Idle) (λ s. (row_at key.now self.now).stage ≡ s.now) }
@@ -57,7 +58,8 @@ impl Rows {
         }
     }
 
-    /// Takes the row of the key out.
+    /// Removes the row of the key and returns it. A key without a row has the row of a key of which
+    /// nothing is known.
     #[tactic(auto, unfolding(crate::specs::Rows::row_at))]
     pub fn take(&mut self, key: &Key) -> KeyRow
         ensures row { result ≡ row_at key.now self.old }
@@ -72,7 +74,7 @@ impl Rows {
         }
     }
 
-    /// Puts the row of a key in.
+    /// Inserts the row of a key. Fails only when out of memory.
     pub fn put(&mut self, key: Key, row: KeyRow) -> Result<(), CopyError>
         ensures { OnOk result (self.new ≡ insert_entry bytes_cmp self.old key row) }
     {
@@ -80,7 +82,7 @@ impl Rows {
         Ok(())
     }
 
-    /// This is known of the key.
+    /// Sets what is known of the key. Fails only when out of memory.
     #[tactic(auto, unfolding(crate::specs::Rows::with_known))]
     pub fn set_known(&mut self, alloc: Global, key: &Key, known: Known) -> Result<(), CopyError>
         ensures { OnOk result (self.new ≡ with_known key.now known self.old) }
@@ -91,7 +93,7 @@ impl Rows {
         self.put(name, row)
     }
 
-    /// The key has this stage.
+    /// Sets the stage of the key. Fails only when out of memory.
     #[tactic(auto, unfolding(crate::specs::Rows::with_stage))]
     pub fn set_stage(&mut self, alloc: Global, key: &Key, stage: Stage) -> Result<(), CopyError>
         ensures { OnOk result (self.new ≡ with_stage key.now stage self.old) }

@@ -11,8 +11,8 @@ use crate::waiting::{DueCall, Waiting};
 use ens_base::{CopyError, Key};
 use std::alloc::{AllocError, Global};
 
-/// What a leader knows: its unanswered calls in order of arrival, the row of each key, and which key
-/// checks in which round.
+/// The table of a leader: its unanswered calls in order of arrival, the row of each key, and the
+/// key that checks in each round. After a call that failed, its contents are unspecified.
 #[derive(Drop)]
 pub struct CallTable {
     calls: Calls,
@@ -21,7 +21,7 @@ pub struct CallTable {
 }
 
 impl CallTable {
-    /// No call, and nothing is known.
+    /// Makes an empty table: no call, and nothing is known.
     pub fn new(alloc: Global) -> CallTable
         ensures { result ≡ empty_table }
     {
@@ -32,21 +32,22 @@ impl CallTable {
         }
     }
 
-    /// Whether a call is unanswered.
+    /// Whether any call is unanswered.
     pub fn unanswered(&self) -> bool
         ensures { result ≡ has_calls self.now.calls }
     {
         self.calls.any()
     }
 
-    /// How many calls on the key are unanswered.
+    /// Returns the number of unanswered calls on the key.
     pub fn waiting_on(&self, key: &Key) -> usize
         ensures { result ≡ waiting_on key.now self.now.calls }
     {
         self.calls.waiting_on(key)
     }
 
-    /// The running call of the key.
+    /// Returns a copy of the running call of the key, if there is one. Fails only when out of
+    /// memory.
     pub fn running(&self, alloc: Global, key: &Key) -> Result<Option<Waiting>, CopyError>
         ensures { IfOk result (λ w. w ≡ running key.now self.now.calls) }
     {
@@ -56,14 +57,14 @@ impl CallTable {
         }
     }
 
-    /// What is known of the key.
+    /// Returns what is known of the key.
     pub fn known(&self, key: &Key) -> Known
         ensures { result ≡ (row_at key.now self.now.rows).known }
     {
         self.rows.known(key)
     }
 
-    /// The stage of the key.
+    /// Returns a copy of the stage of the key. Fails only when out of memory.
     pub fn stage(&self, alloc: Global, key: &Key) -> Result<Stage, CopyError>
         ensures { IfOk result (λ s. s ≡ (row_at key.now self.now.rows).stage) }
     {
@@ -73,35 +74,35 @@ impl CallTable {
         }
     }
 
-    /// The key that checks in this round.
+    /// Returns the key that checks in this round, if there is one.
     pub fn check_key(&self, round: u64) -> Option<&Key>
         ensures { check_at round self.now.checks ≡ option_map (λ k. k.now) result }
     {
         self.checks.key(round)
     }
 
-    /// The call joins, as the last one.
+    /// Adds a call at the end. Fails only when out of memory.
     pub fn join(&mut self, call: Waiting) -> Result<(), AllocError>
         ensures { OnOk result (self.new ≡ record self.old { calls = self.old.calls ++ call ∷ [] }) }
     {
         self.calls.push(call)
     }
 
-    /// This is known of the key.
+    /// Sets what is known of the key. Fails only when out of memory.
     pub fn set_known(&mut self, alloc: Global, key: &Key, known: Known) -> Result<(), CopyError>
         ensures { OnOk result (self.new ≡ record self.old { rows = with_known key.now known self.old.rows }) }
     {
         self.rows.set_known(alloc, key, known)
     }
 
-    /// The key has this stage.
+    /// Sets the stage of the key. Fails only when out of memory.
     pub fn set_stage(&mut self, alloc: Global, key: &Key, stage: Stage) -> Result<(), CopyError>
         ensures { OnOk result (self.new ≡ record self.old { rows = with_stage key.now stage self.old.rows }) }
     {
         self.rows.set_stage(alloc, key, stage)
     }
 
-    /// The key checks in this round.
+    /// Records that `key` checks in this round. Fails only when out of memory.
     pub fn begin_check(&mut self, round: u64, key: Key) -> Result<(), AllocError>
         ensures { OnOk result (self.new ≡ record self.old { checks = with_check round key self.old.checks }) }
     {
@@ -117,7 +118,7 @@ impl CallTable {
         }
     }
 
-    /// Nothing is asked about the key any more.
+    /// Makes the key idle, and ends its check if it has one. Fails only when out of memory.
     #[tactic(auto, unfolding(crate::specs::Tables::rested))]
     pub fn rest(&mut self, alloc: Global, key: &Key) -> Result<(), CopyError>
         ensures { OnOk result (self.new ≡ rested key.now self.old) }
@@ -127,7 +128,8 @@ impl CallTable {
         self.rows.set_stage(alloc, key, Stage::Idle)
     }
 
-    /// Takes the running call of the key out, which is answered: nothing is asked about the key.
+    /// Removes the running call of the key and returns it, makes the key idle, and ends its check
+    /// if it has one. Fails only when out of memory.
     #[tactic(auto, unfolding(crate::specs::Tables::ended))]
     pub fn end_running(&mut self, alloc: Global, key: &Key) -> Result<Option<Waiting>, CopyError>
         ensures table { OnOk result (self.new ≡ ended key.now self.old) }
@@ -138,14 +140,14 @@ impl CallTable {
         Ok(call)
     }
 
-    /// Each call has waited for a tick more.
+    /// Adds one tick to the age of each call, up to 255.
     pub fn grow_older(&mut self)
         ensures { self.new ≡ record self.old { calls = map older self.old.calls } }
     {
         self.calls.grow_older();
     }
 
-    /// Whether a call that is due has a put that is not settled.
+    /// Whether a running call that is due has a put that is not settled.
     #[tactic(auto, unfolding(crate::specs::Tables::late_put))]
     pub fn has_late_put(&self) -> bool
         ensures { result ≡ late_put self.now }
@@ -171,7 +173,8 @@ impl CallTable {
         Ok(())
     }
 
-    /// Takes the calls that are due out: nothing is asked about the keys on which one of them ran.
+    /// Removes the calls that are due and returns them, and makes idle each key whose running call
+    /// is one of them. Fails only when out of memory.
     #[tactic(auto, unfolding(crate::specs::Tables::without_due))]
     pub fn drop_due(&mut self, alloc: Global) -> Result<Vec<DueCall>, CopyError>
         ensures table { OnOk result (self.new ≡ without_due self.old) }
@@ -183,7 +186,7 @@ impl CallTable {
         Ok(due)
     }
 
-    /// The unanswered calls, in order of arrival.
+    /// Returns the unanswered calls, in order of arrival.
     pub fn into_calls(self) -> Vec<Waiting>
         ensures { result.items ≡ self.calls }
     {
@@ -196,7 +199,7 @@ impl CallTable {
     }
 }
 
-/// The round of the check of the key, if its running call checks.
+/// Returns the round of the check of the key, if its running call is checking.
 fn check_round_of(rows: &Rows, key: &Key) -> Option<u64>
     ensures { result ≡ check_round (row_at key.now rows.now).stage }
 {
@@ -206,7 +209,7 @@ fn check_round_of(rows: &Rows, key: &Key) -> Option<u64>
     }
 }
 
-/// Whether the stage of the key waits for acknowledgements of a put.
+/// Whether a put of the key waits for acknowledgements.
 fn has_put(rows: &Rows, key: &Key) -> bool
     ensures { result ≡ has_put_of (row_at key.now rows.now).stage }
 {
@@ -216,7 +219,8 @@ fn has_put(rows: &Rows, key: &Key) -> bool
     }
 }
 
-/// Whether the call, which stands behind these, is due and has a put that is not settled.
+/// Whether this call, which comes after the calls `before`, is a running call that is due and has a
+/// put that is not settled.
 fn is_late_put(rows: &Rows, before: &[Waiting], call: &Waiting) -> bool
     ensures { result ≡ is_late_put rows.now before.now call.now }
 {

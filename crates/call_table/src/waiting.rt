@@ -7,30 +7,30 @@ use std::alloc::Global;
 /// An unanswered call.
 #[derive(Debug, Drop)]
 pub struct Waiting {
-    /// Who called.
+    /// The caller.
     pub from: u32,
     /// The number of the call.
     pub id: u64,
     pub key: Key,
     pub command: Command,
-    /// How many ticks it has waited for, up to 255.
+    /// The number of ticks that it has waited, up to 255.
     pub age: u8,
 }
 
-/// A call that has waited too long.
+/// A call that is due.
 #[derive(Debug, Drop)]
 pub struct DueCall {
     pub from: u32,
     pub id: u64,
-    /// Its key, where it is the running call of the key.
+    /// Its key, if it is the running call of the key.
     pub running: Option<Key>,
 }
 
 impl Waiting {
-    /// How many ticks a call may wait.
+    /// The number of ticks after which a call is due.
     pub const LIMIT: u8 = 8;
 
-    /// An equal call.
+    /// Makes a copy. Fails only when out of memory.
     pub fn copy(&self, alloc: Global) -> Result<Waiting, CopyError>
         ensures { IfOk result (λ w. w ≡ self.now) }
     {
@@ -43,7 +43,7 @@ impl Waiting {
         })
     }
 
-    /// Whether it has waited for 8 ticks.
+    /// Whether it is due: it has waited for at least 8 ticks.
     pub fn is_due(&self) -> bool
         ensures { result ≡ is_due self.now }
     {

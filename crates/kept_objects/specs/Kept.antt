@@ -15,7 +15,7 @@ object_in bytes = result_ok (object_of bytes)
 abbrev pub is_named : Entry → Object → List ℕ → Bool
 is_named entry o digest = same_bytes o.key entry.key && same_version o.version entry.version && same_bytes digest entry.digest
 
--- the object that the backend keeps, with the digest of its bytes, if the entry names it
+-- the object that the backend keeps, given with the digest of its bytes, if the entry names it
 abbrev pub matching : Entry → Option (Object × List ℕ) → Option Object
 matching entry None = None
 matching entry (Some kept) = if is_named entry kept.0 kept.1 then Some kept.0 else None

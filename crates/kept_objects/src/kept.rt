@@ -27,7 +27,8 @@ pub fn is_named(entry: &Entry, object: &Object, digest: &Digest) -> bool
     object.key == entry.key && object.version == entry.version && *digest == entry.digest
 }
 
-/// Returns the object that the backend keeps if the entry names it, with the digest of its bytes.
+/// Given the object that the backend keeps and the digest of its bytes, returns the object if the
+/// entry names it, and `None` otherwise.
 pub fn matching(entry: &Entry, kept: Option<(Object, Digest)>) -> Option<Object>
     ensures { result ≡ matching_of entry.now kept }
 {

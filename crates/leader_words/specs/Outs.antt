@@ -1,4 +1,4 @@
--- What a rule of a leader answers.
+-- The answer of a rule of a leader.
 use Rattle.std.specs.Prelude.{ℕ, true, false, List, [], ◌∷◌, ◌++◌, Some, None}
 use Rattle.ens_base.specs.declared.reply.Reply.{Reply}
 use Rattle.register_model.specs.declared.note.Note.{Note}
@@ -8,7 +8,7 @@ use Rattle.wire_frames.specs.declared.phase.Then.TheVariants.{Stay, Rule}
 use Rattle.leader_words.specs.declared.out.LeadOut.{LeadOut}
 use Rattle.leader_words.specs.declared.out.Own.{Own}
 
--- nothing but what comes next
+-- an answer that only says what follows
 abbrev pub comes : Then → LeadOut
 comes then = record { leave = false; sends = []; answers = []; notes = []; own = None; then = then; keys = [] }
 
@@ -16,11 +16,11 @@ comes then = record { leave = false; sends = []; answers = []; notes = []; own =
 abbrev pub rests : LeadOut
 rests = comes Stay
 
--- the leader leaves leading
+-- the leader steps down
 abbrev pub leaves : LeadOut
 leaves = record rests { leave = true }
 
--- the answer, and a key for which the next rule runs
+-- the answer with one more key on which the next rule runs
 abbrev pub and_key : List ℕ → LeadOut → LeadOut
 and_key key o = record o { keys = o.keys ++ key ∷ [] }
 
@@ -28,22 +28,22 @@ and_key key o = record o { keys = o.keys ++ key ∷ [] }
 abbrev pub leads_on : ℕ → List ℕ → LeadOut
 leads_on rule key = and_key key (comes (Rule rule))
 
--- the answer, and then this rule on this key
+-- the answer with this rule to run next, and one more key on which it runs
 abbrev pub and_then : ℕ → List ℕ → LeadOut → LeadOut
 and_then rule key o = record o { then = Rule rule; keys = o.keys ++ key ∷ [] }
 
--- the answer, and a reply to a call
+-- the answer with one more answer to a call
 abbrev pub and_answer : ℕ → ℕ → Reply → LeadOut → LeadOut
 and_answer from id reply o = record o { answers = o.answers ++ record { from = from; id = id; reply = reply } ∷ [] }
 
--- the answer, and a note
+-- the answer with one more note
 abbrev pub and_note : Note → LeadOut → LeadOut
 and_note note o = record o { notes = o.notes ++ note ∷ [] }
 
--- the answer, and a message to a peer
+-- the answer with one more message
 abbrev pub and_send : ℕ → Message → LeadOut → LeadOut
 and_send to message o = record o { sends = o.sends ++ record { to = to; message = message } ∷ [] }
 
--- the answer, and what is asked of the own tree and backend
+-- the answer with this to ask of the peer's own tree and backend
 abbrev pub and_own : Own → LeadOut → LeadOut
 and_own own o = record o { own = Some own }

@@ -5,10 +5,10 @@ use ens_base::CopyError;
 use key_commands::CommandError;
 use std::alloc::{AllocError, AllocFailed};
 
-/// Why a rule of a leader was not run.
+/// Why a rule of a leader failed.
 #[derive(Clone, Copy, Debug, PartialEq, Eq)]
 pub enum LeadError {
-    /// Memory ran out.
+    /// Out of memory.
     Memory,
 }
 

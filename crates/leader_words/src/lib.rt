@@ -1,8 +1,8 @@
-//! What a rule of a leader answers, and the words that its rows are made of.
+//! The answer of a rule of a leader, and the calls that build one.
 //!
-//! A rule of a leader is a pure call, like those of the phases. It answers whether the leader leaves
-//! leading, which messages go to whom, which calls are answered, what is noted, what is asked of the own
-//! tree and backend, and which rule runs next, for which keys.
+//! A rule of a leader is a pure call, like the rules of the phases. Its answer says whether the
+//! leader steps down, which messages go to which peers, which calls are answered, what is noted,
+//! what is asked of the peer's own tree and backend, and which rule runs next, on which keys.
 #![tactic(auto)]
 
 mod error;

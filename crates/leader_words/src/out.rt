@@ -10,7 +10,7 @@ use register_model::Note;
 use std::alloc::Global;
 use wire_frames::{Message, Then};
 
-/// A message to a peer.
+/// A message and its receiver.
 #[derive(Debug, Drop)]
 pub struct Outgoing {
     pub to: PeerId,
@@ -25,18 +25,20 @@ pub struct AnswerOut {
     pub reply: Reply,
 }
 
-/// What a rule asks of the own tree and backend. The rule is called again with what they gave.
+/// What a rule asks of the peer's own tree and backend. The rule runs again with what they
+/// returned.
 #[derive(Debug, Drop)]
 pub enum Own {
-    /// The entry and the object of a key are looked up, or for rule 28 the object alone.
+    /// Look up the entry and the object of a key, or for rule 28 only the object.
     Look(Key),
-    /// The object is written, its entry first.
+    /// Write the object, after its entry.
     Put(Object),
 }
 
-/// What a rule of a leader answers. A leader that leaves answers its calls first; then the messages
-/// go, the calls are answered and the notes made, and then `own` is asked, or the rule that `then`
-/// names runs for each of the keys, in order.
+/// The answer of a rule of a leader. A leader that steps down answers its calls first. Then the
+/// messages are sent, the calls are answered and the notes are made. Then `own` is asked, or the
+/// rule that `then` names runs on each of the keys, in order. After a call that failed, its contents
+/// are unspecified.
 #[derive(Debug, Drop)]
 pub struct LeadOut {
     pub leave: bool,
@@ -49,7 +51,7 @@ pub struct LeadOut {
 }
 
 impl LeadOut {
-    /// Nothing but what comes next.
+    /// Makes an answer that only says what follows.
     pub fn comes(alloc: Global, then: Then) -> LeadOut
         ensures { result ≡ comes then }
     {
@@ -64,14 +66,14 @@ impl LeadOut {
         }
     }
 
-    /// Nothing happens.
+    /// Makes an answer by which nothing happens.
     pub fn rests(alloc: Global) -> LeadOut
         ensures { result ≡ rests_row }
     {
         LeadOut::comes(alloc, Then::Stay)
     }
 
-    /// The leader leaves leading.
+    /// Makes an answer by which the leader steps down.
     pub fn leaves(alloc: Global) -> LeadOut
         ensures { result ≡ leaves_row }
     {
@@ -80,7 +82,7 @@ impl LeadOut {
         out
     }
 
-    /// This rule runs next on this key.
+    /// Makes an answer by which this rule runs next on this key. Fails only when out of memory.
     pub fn leads_on(alloc: Global, rule: u8, key: &Key) -> Result<LeadOut, LeadError>
         ensures { IfOk result (λ o. o ≡ leads_on_row rule key.now) }
     {
@@ -89,7 +91,7 @@ impl LeadOut {
         Ok(out)
     }
 
-    /// The next rule runs for this key, after those that are named.
+    /// Adds a key on which the next rule runs, after the others. Fails only when out of memory.
     pub fn key(&mut self, key: Key) -> Result<(), LeadError>
         ensures { OnOk result (self.new ≡ and_key key self.old) }
     {
@@ -97,7 +99,7 @@ impl LeadOut {
         Ok(())
     }
 
-    /// This rule runs next, on this key too.
+    /// Makes this rule run next, and adds a key on which it runs. Fails only when out of memory.
     pub fn then(&mut self, rule: u8, key: Key) -> Result<(), LeadError>
         ensures { OnOk result (self.new ≡ and_then rule key self.old) }
     {
@@ -106,7 +108,7 @@ impl LeadOut {
         Ok(())
     }
 
-    /// The call is answered.
+    /// Adds an answer to a call. Fails only when out of memory.
     pub fn answer(&mut self, from: u32, id: u64, reply: Reply) -> Result<(), LeadError>
         ensures { OnOk result (self.new ≡ and_answer from id reply self.old) }
     {
@@ -114,7 +116,7 @@ impl LeadOut {
         Ok(())
     }
 
-    /// The note is made.
+    /// Adds a note. Fails only when out of memory.
     pub fn note(&mut self, note: Note) -> Result<(), LeadError>
         ensures { OnOk result (self.new ≡ and_note note self.old) }
     {
@@ -122,7 +124,7 @@ impl LeadOut {
         Ok(())
     }
 
-    /// The message goes to the peer.
+    /// Adds a message to the peer `to`. Fails only when out of memory.
     pub fn send(&mut self, to: PeerId, message: Message) -> Result<(), LeadError>
         ensures { OnOk result (self.new ≡ and_send to message self.old) }
     {
@@ -130,14 +132,15 @@ impl LeadOut {
         Ok(())
     }
 
-    /// This is asked of the own tree and backend.
+    /// Sets what is asked of the peer's own tree and backend.
     pub fn ask(&mut self, own: Own)
         ensures { self.new ≡ and_own own self.old }
     {
         self.own = Some(own);
     }
 
-    /// The message goes to each member of the views but `me`, ascending.
+    /// Adds the message to each member of the views except `me`, in ascending order. Fails only
+    /// when out of memory.
     #[tactic(auto, unfolding(crate::specs::Sends::sent_up_to))]
     pub fn tell_all(
         &mut self,
@@ -158,7 +161,7 @@ impl LeadOut {
     }
 }
 
-/// Whether the peer is another member of the views.
+/// Whether `peer` is a member of the views other than `me`.
 pub fn is_other_member(me: PeerId, views: &Views, peer: PeerId) -> bool
     ensures { result ≡ is_other me views.now peer }
 {

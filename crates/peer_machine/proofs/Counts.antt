@@ -19,7 +19,7 @@ use Rattle.peer_machine.specs.Stores.{stores_do, stores_refuse, FactsAlone, Tree
 use Rattle.peer_machine.specs.declared.state.State.{State}
 use Rattle.peer_machine.specs.declared.stores.Stores.{Stores}
 
--- a start goes on by what was kept
+-- a start continues from what was kept
 pub began : {P : Type 0} (does : P → (call : Call) → AnswerOf call → P → Type 0) (refuses : P → Call → PeerError → P → Type 0) (view : List ℕ) (s m t : P) (found : Option Fact) (r : Result State PeerError)
     → does s Load found m → Starts does refuses (opened view found) m r t → Starts does refuses (start_of view) s r t
 began does refuses view s m t found (Ok x) did ran = inr (inr (found, m, did, ran))
@@ -28,7 +28,7 @@ began does refuses view s m t found (Err e) did ran = inr (inr (found, m, did, r
 same_count : {A : Type 0} (count : A → ℕ) (a b : A) → b ≡ a → count a ≤ count b
 same_count count a b e = omega (arith, ap count e)
 
--- a plan was stopped by this error
+-- this error stopped the plan
 abbrev stop : PeerError → Ending State
 stop e = Stopped e
 
@@ -77,7 +77,7 @@ module _ {B N F H : Type 0} (gives : B → (call : BackendCall) → BackendAnswe
     fulls = ld;
   }
 
-  -- a call that is answered lowers no count
+  -- an answered call decreases no count
   pub do_later : (s : Stores B N F × H) (call : Call) (a : AnswerOf call) (t : Stores B N F × H) → stores_do gives b n tells kept f strings c d s call a t → AreLater b n f c d s t
   do_later s Load a t did = facts_later s t did.2 did.3
   do_later s (Save fact) a t did = facts_later s t did.1 did.2
@@ -103,7 +103,7 @@ module _ {B N F H : Type 0} (gives : B → (call : BackendCall) → BackendAnswe
   tree_cause s errors.Halted t why = why
   tree_cause s (errors.BadFact bad) t why = tt
 
-  -- why a call is refused: a count rose, what is kept is no fact, or memory ran out
+  -- a call is refused because a count rose, because what is kept is not a fact, or out of memory
   pub refusal_cause : (s : Stores B N F × H) (call : Call) (e : PeerError) (t : Stores B N F × H) → stores_refuse loses b n drops kept f strings c d s call e t → IsCause b n f c d s t e
   refusal_cause s Load errors.StoreFault t off = inr (inr off.0.rose)
   refusal_cause s Load (errors.BadFact why) t off = tt
@@ -157,7 +157,8 @@ module _ {B N F H : Type 0} (gives : B → (call : BackendCall) → BackendAnswe
   stopped_by : (e error : PeerError) (s t : Stores B N F × H) → stop e ≡ stop error → IsCause b n f c d s t error → IsCause b n f c d s t e
   stopped_by e error s t same why = rw (stopped_injective e error same) why
 
-  -- why a plan is stopped
+  -- a plan stops because a count rose since its beginning, because what is kept is not a fact, or
+  -- out of memory
   pub stopped_cause : (p : Plan State) (s : Stores B N F × H) (ns : List Note) (e : PeerError) (t : Stores B N F × H) (ms : List Note)
       → Runs (stores_do gives b n tells kept f strings c d) (stores_refuse loses b n drops kept f strings c d) p s ns (Stopped e) t ms → IsCause b n f c d s t e
   stopped_cause (Done x out) s ns e t ms ran = elim ran [
@@ -174,7 +175,7 @@ module _ {B N F H : Type 0} (gives : B → (call : BackendCall) → BackendAnswe
     | inr (inr on) ↦ cause_later s on.1 t e (do_later s call on.0 on.1 on.2) (stopped_cause (next on.0) on.1 ns e t ms on.3)
   ]
 
-  -- a save is refused for a fault alone
+  -- a save is refused only for a store fault
   save_error : (s : Stores B N F × H) (call : Call) (e : PeerError) (t : Stores B N F × H) → IsSave call → stores_refuse loses b n drops kept f strings c d s call e t → IsSaveError e
   save_error s (Save fact) e t is off = rw off.0 tt
   save_error s Load e t is off = absurd is
@@ -195,7 +196,7 @@ module _ {B N F H : Type 0} (gives : B → (call : BackendCall) → BackendAnswe
   step_error : (e error : PeerError) → stop e ≡ stop error → IsSaveError error → IsSaveError e
   step_error e error same is = rw (stopped_injective e error same) is
 
-  -- a plan that asks for saves alone is stopped by a fault, or by want of memory
+  -- a plan that makes no calls except saves stops only because a store failed, or out of memory
   pub stopped_only : (P : State → Out → Type 0) (p : Plan State) (s : Stores B N F × H) (ns : List Note) (e : PeerError) (t : Stores B N F × H) (ms : List Note)
       → Follows IsSave P p → Runs (stores_do gives b n tells kept f strings c d) (stores_refuse loses b n drops kept f strings c d) p s ns (Stopped e) t ms → IsSaveError e
   stopped_only P (Done x out) s ns e t ms keeps ran = elim ran [
@@ -212,7 +213,7 @@ module _ {B N F H : Type 0} (gives : B → (call : BackendCall) → BackendAnswe
     | inr (inr on) ↦ stopped_only P (next on.0) on.1 ns e t ms (keeps.1 on.0) on.3
   ]
 
-  -- a call of the facts touches them alone
+  -- a call of the fact keeper touches nothing else
   still_alone : (s t : Stores B N F × H) → t ≡ s → FactsAlone s t
   still_alone s t same = (ap (λ (k : Stores B N F × H). k.0.backend) same, ap (λ (k : Stores B N F × H). k.0.nodes) same, ap (λ (k : Stores B N F × H). k.1) same)
 
@@ -234,7 +235,7 @@ module _ {B N F H : Type 0} (gives : B → (call : BackendCall) → BackendAnswe
     ])
   ]
 
-  -- a start that is stopped has touched the facts alone
+  -- a start that stopped touched only the fact keeper
   pub start_alone : (view : List ℕ) (s : Stores B N F × H) (ns : List Note) (e : PeerError) (t : Stores B N F × H) (ms : List Note)
       → Runs (stores_do gives b n tells kept f strings c d) (stores_refuse loses b n drops kept f strings c d) (start_of view) s ns (Stopped e) t ms → FactsAlone s t
   start_alone view s ns e t ms ran = elim ran [
@@ -269,7 +270,7 @@ module _ {B N F H : Type 0} (gives : B → (call : BackendCall) → BackendAnswe
     ]
   ]
 
-  -- why a start is refused
+  -- why a start failed
   pub start_only : (view : List ℕ) (s : Stores B N F × H) (ns : List Note) (e : PeerError) (t : Stores B N F × H) (ms : List Note)
       → Runs (stores_do gives b n tells kept f strings c d) (stores_refuse loses b n drops kept f strings c d) (start_of view) s ns (Stopped e) t ms → IsStartError e
   start_only view s ns e t ms ran = elim ran [

@@ -1,4 +1,4 @@
--- A few turns are enough for each rule: nothing is left then.
+-- A few turns are enough for each rule: after them no task is left.
 use Rattle.std.proofs.Common.{◌≡◌, ◌-◌, ◌^◌, ℕ, zero, suc, Bool, false, not, ◌&&◌, ◌||◌, ◌==◌, Option, Some, None, List, [], ◌∷◌, ◌++◌, refl, arith}
 use Rattle.ens_base.specs.PeerSet.{holds}
 use Rattle.election.specs.Preparing.{row_10, row_13, first_fact, starts}
@@ -33,12 +33,12 @@ use Rattle.peer_machine.specs.declared.state.Phase.TheVariants as phases
 use Rattle.peer_machine.specs.declared.state.State.{State}
 use Rattle.peer_machine.proofs.Grammar.{either}
 
--- no rule but this one is named
+-- the row names no rule except this one
 abbrev pub NamesOnly : ℕ → Then → Type 0
 NamesOnly k (thens.Rule n) = n ≡ k
 NamesOnly k other = Unit {0}
 
--- no rule is named
+-- the row names no rule
 abbrev pub NamesNone : Then → Type 0
 NamesNone (thens.Rule n) = ⊥
 NamesNone other = Unit {0}
@@ -109,11 +109,11 @@ while_9_names (phases.Following f) x = tt
 while_9_names (phases.Probing p) x = then_9 p
 while_9_names (phases.Leading l) x = tt
 
--- these turns leave nothing of these tasks, whatever the stores answer
+-- this many turns leave none of these tasks, whatever the stores answer
 abbrev Clears : ℕ → ℕ → List Task → Type 0
 Clears me n ts = (x : State) (out : Out) (next : Rest State (List Task)) → IsFineAtNone next → SavesAlone (driven me n ts x out next)
 
--- the same of the row of a rule
+-- this many turns leave no task after a row, whatever the stores answer
 abbrev ClearsRow : ℕ → ℕ → State × PhaseOut → Type 0
 ClearsRow me n r = (out : Out) (next : Rest State (List Task)) → IsFineAtNone next → SavesAlone (row_done r.1 r.0 out (λ ts y o. driven me n (ts ++ []) y o next))
 
@@ -147,7 +147,7 @@ none_named me n thens.Put is = none_left me n
 none_named me n thens.Resume is = none_left me n
 none_named me n (thens.SyncOn fact) is = none_left me n
 
--- where a row names one other rule at most, the turns of that one are enough
+-- for a row that names at most one rule, the turns for that rule are enough
 row_left : (me n k : ℕ) (r : State × PhaseOut) → NamesOnly k r.1.then → Clears me n (tasks.Phase k ∷ []) → ClearsRow me n r
 row_left me n k r names left out next go = saved_fine r.1.save _ _ _ (λ y o. named_left me n k r.1.then names left _ _ next go)
 
@@ -170,7 +170,7 @@ left_10 me n = one_more me (suc (suc n)) 10 (λ x. row_left me (suc (suc n)) 13 
 left_9 : (me n : ℕ) → Clears me (suc (suc (suc (suc n)))) (tasks.Phase 9 ∷ [])
 left_9 me n = one_more me (suc (suc (suc n))) 9 (λ x. row_left me (suc (suc (suc n))) 10 (while_9 x.phase x) (while_9_names x.phase x) (left_10 me n))
 
--- any rule is cleared by five turns and more
+-- after the row of any rule, four turns or more are enough
 rows_left : (me n r : ℕ) (x : State) → ClearsRow me (suc (suc (suc (suc n)))) (phase_row r me x)
 rows_left me n r x =
     let turns : ℕ = suc (suc (suc (suc n))) in
@@ -190,7 +190,7 @@ most_is_more : most_turns ≡ suc (suc (suc (suc (suc (2 ^ 64 - 6)))))
 unfolding most_turns
 most_is_more = omega arith
 
--- whatever a row names is cleared
+-- the turns of a step are enough for what a row names
 then_left : (me : ℕ) (t : Then) (x : State) (out : Out) (next : Rest State (List Task)) → IsFineAtNone next → SavesAlone (driven me most_turns (named t) x out next)
 then_left me (thens.Rule r) x out next go = rw most_is_more (any_left me (2 ^ 64 - 6) r x out next go)
 then_left me thens.Stay x out next go = none_left me most_turns x out next go

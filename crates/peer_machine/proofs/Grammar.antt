@@ -41,12 +41,12 @@ use Rattle.peer_machine.specs.declared.state.ChangeState.{ChangeState}
 use Rattle.peer_machine.specs.declared.state.ChangeState.TheVariants.{Settled, Wanted, Finishing}
 use Rattle.peer_machine.specs.declared.state.Leadership.{Leadership}
 
--- what is true of both branches is true of the choice
+-- what holds of both branches holds of the choice
 pub either : {A : Type 0} (P : A → Type 0) (t : Bool) (a b : A) → P a → P b → P (if t then a else b)
 either P true a b p q = p
 either P false a b p q = q
 
--- the message of a row, if there is one, obeys
+-- the message of a row, if there is one, obeys the grammar
 abbrev pub RowObeys : PhaseOut → Type 0
 RowObeys row = IfSome row.message Obeys
 
@@ -54,7 +54,7 @@ RowObeys row = IfSome row.message Obeys
 abbrev pub IsElsewhere : ℕ → PhaseOut → Type 0
 IsElsewhere me row = holds row.to me ≡ false
 
--- the message of a row, if there is one, obeys, and goes to others
+-- the message of a row, if there is one, obeys the grammar, and goes to other peers
 abbrev pub MayGo : ℕ → PhaseOut → Type 0
 MayGo me row = RowObeys row × IsElsewhere me row
 
@@ -77,7 +77,7 @@ posted_to_may me set (Some message) none obey = posted_may me (holds set) (λ p.
 pub and_sends_may : (me : ℕ) (out : Out) (more : List Outgoing) → AllMayGo me out → All (MaySend me) more → AllMayGo me (and_sends out more)
 and_sends_may me out more first last = All-append (MaySend me) out.sends more first last
 
--- sets that this peer is not in
+-- sets that do not contain this peer
 pub none_me : (me : ℕ) → IsPeer me → holds nobody me ≡ false
 none_me me peer = get_or-replicate 32 me false false (omega (arith, peer.1))
 
@@ -181,7 +181,7 @@ pub word_to_obeys : (fact : Fact) (l : Leadership) (p : ℕ) → Obeys (word_to 
 unfolding word_to
 word_to_obeys fact l p = grind (arith, word_of_end_obeys l.change fact l.fact.epoch p)
 
--- the messages of the rows go to others
+-- the messages of the rows go to other peers
 module _ (me : ℕ) (peer : IsPeer me) where
   pub row_8_elsewhere : (p : Probing) (from : ℕ) (reply : Fact) → IsElsewhere me (row_8 p me from reply).1
   row_8_elsewhere p from reply = either (λ (r : Probing × PhaseOut). IsElsewhere me r.1) (is_newer reply p.best) _ _ (outside_me me p.asked reply.views peer) (none_me me peer)
@@ -261,7 +261,7 @@ module _ (me : ℕ) (peer : IsPeer me) where
     pub row_20_elsewhere : (fact : Fact) (ballot : Epoch) (round : ℕ) → IsElsewhere me (row_20 fact from ballot round)
     row_20_elsewhere fact ballot round = either (IsElsewhere me) (is_below ballot fact.ballot) _ _ to_it (either (IsElsewhere me) (is_same ballot fact.ballot) _ _ to_it (none_me me peer))
 
-  -- the words of a leader go to others
+  -- the messages of a leader go to other peers
   pub told_elsewhere : (l : Leadership) → is_told me l me ≡ false
   unfolding is_told
   told_elsewhere l = not_itself (is_member l.fact.views me) me

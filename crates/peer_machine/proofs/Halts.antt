@@ -1,4 +1,4 @@
--- What a step that was taken says of each answer.
+-- What a step promises for each of its results.
 use Rattle.std.specs.Prelude.{IfErr, OnOk, Option}
 use Rattle.std.proofs.lemmas.List.Elements.{All-append}
 use Rattle.std.proofs.Common.{◌≡◌, ℕ, true, List, [], ◌∷◌, ◌++◌, Result, Ok, Err, inl, inr, subst, arith}
@@ -28,11 +28,11 @@ use Rattle.peer_machine.proofs.Counts.{stopped_cause, stopped_only}
 use Rattle.peer_machine.proofs.Passing.{steps_keep}
 use Rattle.peer_machine.proofs.Young.{young, young_test}
 
--- what a plan that ended says of its end
+-- the end that a finished plan reached
 same_end : (P : State → Out → Type 0) (y x : State) (more out : Out) → Finished x out ≡ Finished y more → P y more → P x out
 same_end P y x more out same end = let state : y ≡ x = grind (arith, same) in let sent : more ≡ out = grind (arith, same) in subst (λ k. P k out) state (subst (P y) sent end)
 
--- a plan that ran to an end came to such an end
+-- a plan that ran to an end reached one that it may reach
 pub ran_follows : {S : Type 0} (does : S → (call : Call) → AnswerOf call → S → Type 0) (refuses : S → Call → PeerError → S → Type 0) (Q : Call → Type 0) (P : State → Out → Type 0)
     (p : Plan State) (s : S) (ns : List Note) (x : State) (out : Out) (t : S) (ms : List Note)
     → Follows Q P p → Runs does refuses p s ns (Finished x out) t ms → P x out
@@ -62,13 +62,13 @@ module _ (me : ℕ) (peer : IsPeer me) (event : Event) (come : MayCome me event)
   keeps : Follows IsSave (λ z out. IsYoung z.phase × AllMayGo me out) (step_of me event x)
   keeps = steps_keep me event x peer come (young x.phase test)
 
-  -- a step that ended well leaves the state young
+  -- a step that ended well leaves each age below its limit
   pub ended_young : {S : Type 0} (does : S → (call : Call) → AnswerOf call → S → Type 0) (refuses : S → Call → PeerError → S → Type 0) (s t : S) (y : State) (out : Out) (ns ms : List Note)
       → Runs does refuses (step_of me event x) s ns (Finished y out) t ms → is_young y.phase ≡ true
   ended_young does refuses s t y out ns ms ran =
       young_test y.phase (ran_follows does refuses IsSave (λ z o. IsYoung z.phase × AllMayGo me o) (step_of me event x) s ns y out t ms keeps ran).0
 
-  -- after it all that is in the outbox may go, where it might before
+  -- after a step that ended well all messages in the outbox may be sent, if they might before
   pub all_may_go : {A S : Type 0} (does : S → (call : Call) → AnswerOf call → S → Type 0) (refuses : S → Call → PeerError → S → Type 0) (s t : S) (y : State) (before after : Outbox)
       (r : Result A PeerError) → Steps does refuses (step_of me event x) s before r y t after → OnOk r (AllMayGo me (out_of before) → AllMayGo me (out_of after))
   all_may_go does refuses s t y before after (Ok u) took = λ first.
@@ -79,7 +79,7 @@ module _ (me : ℕ) (peer : IsPeer me) (event : Event) (come : MayCome me event)
   module _ {B N F H : Type 0} (gives : B → (call : BackendCall) → BackendAnswer call → B → Type 0) (loses : B → BackendCall → StoreError → B → Type 0)
       (b : B → ℕ) (n : N → ℕ) (tells : F → (call : KeeperCall) → KeeperAnswer call → F → Type 0) (drops : F → KeeperCall → KeepError → F → Type 0) (kept : F → Option (Result Fact FactError)) (f : F → ℕ)
       (strings : H → Option (List (List ℕ))) (c d : H → ℕ) {A : Type 0} (s t : Stores B N F × H) (y : State) (before after : Outbox) where
-    -- a fault comes only where a count of faults rose
+    -- a store fault comes only if the count of faults of a store rose
     pub rose : (r : Result A PeerError) → Steps (stores_do gives b n tells kept f strings c d) (stores_refuse loses b n drops kept f strings c d) (step_of me event x) s before r y t after
         → r ≡ Err errors.StoreFault → SomeRose b n f s.0 t.0
     rose (Ok u) took is = let none : ⊥ = grind (arith, is) in absurd none
@@ -93,11 +93,11 @@ module _ (me : ℕ) (peer : IsPeer me) (event : Event) (come : MayCome me event)
     save_error (Err e) took =
         stopped_only gives loses b n tells drops kept f strings c d (λ z o. IsYoung z.phase × AllMayGo me o) (step_of me event x) s before.notes.items e t after.notes.items keeps took.ran
 
-    -- a step that is taken is never refused as halted
+    -- no step that was taken fails as halted
     pub not_halted : (r : Result A PeerError) → Steps (stores_do gives b n tells kept f strings c d) (stores_refuse loses b n drops kept f strings c d) (step_of me event x) s before r y t after → r ≡ Err errors.Halted → ⊥
     not_halted r took is = let P : Result A PeerError → Type 0 = λ k. IfErr k IsSaveError in subst P is (save_error r took)
 
-    -- why a step is refused
+    -- why a step failed
     pub only : (r : Result A PeerError) → Steps (stores_do gives b n tells kept f strings c d) (stores_refuse loses b n drops kept f strings c d) (step_of me event x) s before r y t after → IfErr r IsStepError
     only (Ok u) took = tt
     only (Err e) took = as_step_error e (save_error (Err e) took)

@@ -1,4 +1,5 @@
--- What each step keeps to, whatever the stores answer: it asks for saves alone, all that it sends obeys, and ages stay below their limits.
+-- What each row keeps to: its messages obey the grammar and go to other peers, and ages stay below
+-- their limits.
 use Rattle.std.proofs.Common.{◌≡◌, ◌≢◌, ◌<◌, ◌-◌, ◌^◌, lit<, ℕ, Bool, true, false, not, ◌&&◌, ◌||◌, ◌==◌, List, refl}
 use Rattle.ens_base.specs.PeerSet.{holds}
 use Rattle.ens_base.specs.View.{IsPeer}
@@ -37,11 +38,12 @@ use Rattle.peer_machine.specs.declared.state.Phase.TheVariants as phases
 use Rattle.peer_machine.specs.declared.state.State.{State}
 use Rattle.peer_machine.proofs.Grammar.{either, RowObeys, IsElsewhere, MayGo, none_me, alone_me, others_me, row_8_obeys, row_10_obeys, row_11_obeys, row_12_obeys, row_13_obeys, row_14_obeys, row_17_obeys, row_15_obeys, row_16_obeys, row_18_obeys, row_19_obeys, row_20_obeys, row_8_elsewhere, row_10_elsewhere, row_12_elsewhere, row_13_elsewhere, row_14_elsewhere, row_17_elsewhere, row_15_elsewhere, row_11_elsewhere, row_16_elsewhere, row_18_elsewhere, row_19_elsewhere, row_20_elsewhere}
 
--- a row leads to a young phase, and its message obeys and goes to others
+-- the row leaves a phase with ages below their limits, and its message obeys the grammar and goes
+-- to other peers
 abbrev pub IsGoodRow : ℕ → State × PhaseOut → Type 0
 IsGoodRow me r = IsYoung r.0.phase × MayGo me r.1
 
--- the phases that moves lead to are young
+-- a change of phase keeps ages below their limits
 stopped_young : (phase : Phase) → IsYoung phase → IsYoung (stopped_leading phase)
 stopped_young (phases.Leading l) young = lit< tt
 stopped_young (phases.Following f) young = young

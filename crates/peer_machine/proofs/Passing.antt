@@ -1,4 +1,5 @@
--- What all rows keep to, a step keeps to: it asks for saves alone, all that it sends obeys and goes to others, and ages stay below their limits.
+-- What all rows keep to, a step keeps to: it makes no calls except saves, its messages obey the
+-- grammar and go to other peers, and ages stay below their limits.
 use Rattle.std.proofs.Common.{◌≡◌, ◌<◌, ◌+◌, ◌-◌, ◌^◌, lit<, lit≤, ℕ, zero, suc, Bool, true, false, ◌==◌, if◌then◌else◌, List, [], ◌∷◌, ◌++◌, Option, Some, None, refl, arith}
 use Rattle.std.proofs.lemmas.Bool.Decides.{nat_tests}
 use Rattle.std.proofs.lemmas.List.Elements.{All-nil}
@@ -45,21 +46,21 @@ older_spent n young e = grind (arith, nat_tests)
 younger : (n : ℕ) → n < 6 → (n + 1 == 6) ≡ false → n + 1 < 6
 younger n young e = grind (arith, nat_tests)
 
--- a change that is not spent is young, and so is one that is wished for
+-- an age that is not at its limit after one more tick is below it, also after rule 5 (e)
 wished_young : (fact : Fact) (change : ChangeState) → IsYoungChange change → is_spent (older change) ≡ false → IsYoungChange (wished fact (older change))
 wished_young fact Settled young e = either IsYoungChange (is_joint fact.views) _ _ tt tt
 wished_young fact (Wanted change) young e = tt
 wished_young fact (Finishes f) young e = older_spent f.age young e
 
 module _ (me : ℕ) (peer : IsPeer me) (P : State → Out → Type 0) where
-  -- the state is young, and all that is to leave the peer obeys
+  -- each age is below its limit, and all messages of the output may be sent
   abbrev Good : State → Out → Type 0
   Good x out = IsYoung x.phase × AllMayGo me out
 
   abbrev Goes : {A : Type 0} → Rest State A → Type 0
   Goes {A} next = (v : A) (y : State) (o : Out) → Good y o → Follows IsSave P (next v y o)
 
-  -- from a good state the part asks for saves alone, and comes to good states
+  -- from a good state the part makes no calls except saves, and reaches good states
   abbrev Passes : {A : Type 0} → Part State A → Type 0
   Passes {A} part = (x : State) (out : Out) (next : Rest State A) → Good x out → Goes next → Follows IsSave P (part x out next)
 
@@ -91,21 +92,21 @@ module _ (me : ℕ) (peer : IsPeer me) (P : State → Out → Type 0) where
   driven_passes (suc n) (t ∷ ts) x out next good go =
       task_done_passes t x out (λ more y o. driven me n (more ++ ts) y o next) good (λ more y o fine. driven_passes n (more ++ ts) y o next fine go)
 
-  -- where rule 7 runs next, the state before it may have come to its limit
+  -- if rule 7 runs next, the age before it may be at its limit
   driven_7 : (n : ℕ) (x : State) (out : Out) (next : Rest State (List Task)) → AllMayGo me out → Goes next → Follows IsSave P (driven me (suc n) (tasks.Phase 7 ∷ []) x out next)
   unfolding driven
   driven_7 n x out next obey go =
       row_done_passes (begun me x).1 (begun_good me peer x).1 (begun me x).0 out (λ more y o. driven me n (more ++ []) y o next) ((begun_good me peer x).0, obey)
       (λ more y o fine. driven_passes n (more ++ []) y o next fine go)
 
-  -- what follows a row, until nothing is left
+  -- what follows a row, until no task is left
   abbrev onward : Rest State (Unit {0}) → Rest State (List Task)
   onward next ts y o = driven me most_turns ts y o (λ rest z q. next tt z q)
 
   onward_goes : (next : Rest State (Unit {0})) → Goes next → Goes (onward next)
   onward_goes next go ts y o good = driven_passes most_turns ts y o (λ rest z q. next tt z q) good (λ rest z q fine. go tt z q fine)
 
-  -- a tick that leads to rule 7, or leaves the peer young
+  -- a tick that runs rule 7, or leaves ages below their limits
   aged_passes : (t : Bool) (y : State) (out : Out) (next : Rest State (Unit {0})) → AllMayGo me out → (t ≡ false → IsYoung y.phase) → Goes next
       → Follows IsSave P (row_done (silent (if t then thens.Rule 7 else thens.Stay)) y out (onward next))
   aged_passes true y out next obey young go =
@@ -166,7 +167,8 @@ module _ (me : ℕ) (peer : IsPeer me) (P : State → Out → Type 0) where
   concluded_passes : Passes (concluded me)
   concluded_passes x out next good go = task_done_passes (tasks.Phase 26) x out (onward next) good (onward_goes next go)
 
--- a step asks for saves alone, all that it sends may go, and it leaves the state young
+-- a step makes no calls except saves, all its messages may be sent, and it leaves ages below their
+-- limits
 pub steps_keep : (me : ℕ) (event : Event) (x : State) → IsPeer me → MayCome me event → IsYoung x.phase → Follows IsSave (λ y out. IsYoung y.phase × AllMayGo me out) (step_of me event x)
 steps_keep me event x peer come young =
     let P : State → Out → Type 0 = λ y out. IsYoung y.phase × AllMayGo me out in

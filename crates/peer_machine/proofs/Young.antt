@@ -1,4 +1,4 @@
--- Ages below their limits, as facts and as a test.
+-- Ages below their limits, as conditions and as tests.
 use Rattle.std.proofs.Common.{◌≡◌, ◌<◌, ℕ, true, nat_lt, refl, arith}
 use Rattle.std.proofs.lemmas.Bool.Decides.{nat_tests}
 use Rattle.election.specs.declared.election.Election.{Election}

@@ -1,4 +1,5 @@
--- How long a peer has waited. At its limit it goes on to something else, so between steps each age is below its limit.
+-- How long a peer has waited. A peer that reaches a limit moves on in the same step, so between
+-- steps each age is below its limit.
 use Rattle.std.specs.Prelude.{◌<◌, Bool, true, nat_lt}
 use Rattle.election.specs.Preparing.{PreparesBelow6}
 use Rattle.election.specs.Starting.{StartsBelow8}
@@ -13,7 +14,7 @@ use Rattle.peer_machine.specs.declared.state.Phase.TheVariants as phases
 abbrev pub IsYoungElection : Election → Type 0
 IsYoungElection e = PreparesBelow6 e × StartsBelow8 e
 
--- waiting less than 8 ticks for the epoch to end
+-- the epoch has been ending for less than 8 ticks, if it is ending
 abbrev pub IsYoungChange : ChangeState → Type 0
 IsYoungChange Settled = Unit {0}
 IsYoungChange (Wanted change) = Unit {0}
@@ -25,7 +26,7 @@ IsYoung (phases.Probing p) = p.age < 6
 IsYoung (phases.Electing e) = IsYoungElection e
 IsYoung (phases.Leading l) = IsYoungChange l.change
 
--- the same as a test
+-- the same conditions as tests
 abbrev pub is_young_election : Election → Bool
 is_young_election (Preparing base promises asked age) = nat_lt age 6
 is_young_election (Starting new accepts age) = nat_lt age 8

@@ -8,7 +8,7 @@ use Rattle.step_plans.specs.declared.error.PeerError.TheVariants as errors
 use Rattle.step_plans.specs.declared.outbox.Outgoing.{Outgoing}
 use Rattle.wire_frames.specs.Messages.{Obeys}
 
--- a fact is saved. The rules ask for nothing else yet
+-- the call saves a fact; the rules make no other call yet
 abbrev pub IsSave : Call → Type 0
 IsSave (Save fact) = Unit {0}
 IsSave other = ⊥
@@ -17,17 +17,17 @@ IsSave other = ⊥
 abbrev pub MaySend : ℕ → Outgoing → Type 0
 MaySend me s = IsPeer s.to × (s.to ≢ me) × Obeys s.message
 
--- each message that leaves the peer is such a message
+-- each message of the output may be sent
 abbrev pub AllMayGo : ℕ → Out → Type 0
 AllMayGo me out = All (MaySend me) out.sends
 
--- why a save is refused, or a run is cut
+-- why a step stopped: a store failed, or out of memory
 abbrev pub IsSaveError : PeerError → Type 0
 IsSaveError errors.StoreFault = Unit {0}
 IsSaveError errors.Memory = Unit {0}
 IsSaveError e = ⊥
 
--- why a step is refused
+-- why a step failed
 abbrev pub IsStepError : PeerError → Type 0
 IsStepError errors.StoreFault = Unit {0}
 IsStepError errors.Memory = Unit {0}

@@ -16,59 +16,63 @@ use Rattle.peer_machine.specs.declared.state.ChangeState.{ChangeState}
 use Rattle.peer_machine.specs.declared.state.ChangeState.TheVariants.{Settled, Wanted, Finishing}
 use Rattle.peer_machine.specs.declared.state.Leadership.{Leadership}
 
--- what a leader sends at a tick, and what it does then
+-- what a leader sends at a tick, and what follows
 pub record LedOut : Type 0 where
   pub sends : List Outgoing
   pub turn : Then
 
--- (a) the age of an end that is awaited rises by one
+-- (a) an ending epoch is one tick older
 abbrev pub older : ChangeState → ChangeState
 older (Finishing f) = Finishing (record f { age = f.age + 1 })
 older Settled = Settled
 older (Wanted change) = Wanted change
 
--- (b) the end was awaited for 8 ticks
+-- (b) the epoch has been ending for 8 ticks
 abbrev pub is_spent : ChangeState → Bool
 is_spent (Finishing f) = f.age == 8
 is_spent Settled = false
 is_spent (Wanted change) = false
 
--- what a leader that ends its epoch says to a peer: the second fact until it is accepted
+-- the message of a leader to a peer that accepted the epoch: the second fact if the epoch is ending
+-- and the peer did not accept it, and otherwise a beat
 abbrev pub word_of_end : ChangeState → Fact → Epoch → ℕ → Message
 word_of_end (Finishing f) fact epoch p = if holds f.accepts2 p then messages.Beat epoch else messages.Commit fact
 word_of_end Settled fact epoch p = messages.Beat epoch
 word_of_end (Wanted change) fact epoch p = messages.Beat epoch
 
--- what a leader says to a peer at each tick: the epoch's first fact until it is accepted, and then that it is there
+-- the message of a leader to a peer at each tick: the first fact of the epoch until the peer
+-- accepted it, and then a beat or the second fact
 unfoldable pub word_to : Fact → Leadership → ℕ → Message
 word_to fact l p = if holds l.accepts p then word_of_end l.change fact l.fact.epoch p else messages.NewEpoch l.fact
 
--- whether a leader speaks to a peer at a tick: to each other member of the epoch's views
+-- whether a leader sends a message to a peer at each tick: to every other member of the views of
+-- the epoch
 unfoldable pub is_told : ℕ → Leadership → ℕ → Bool
 is_told me l p = is_member l.fact.views p && not (p == me)
 
--- (d) each other member of the epoch's views is sent one message
+-- (d) every other member of the views of the epoch is sent one message
 abbrev pub words : ℕ → Fact → Leadership → List Outgoing
 words me fact l = posted (is_told me l) (word_to fact l) 31
 
--- (e) in an epoch of two views, the old view is to be dropped
+-- (e) in an epoch of two views, the old view is to be dropped, unless a change has begun
 abbrev pub wished : Fact → ChangeState → ChangeState
 wished fact Settled = if is_joint fact.views then Wanted Drop else Settled
 wished fact (Wanted change) = Wanted change
 wished fact (Finishing f) = Finishing f
 
--- the rule that begins a change that is wanted
+-- rule 25, if a change is wanted
 abbrev pub begins : ChangeState → Then
 begins (Wanted change) = thens.Rule 25
 begins Settled = thens.Stay
 begins (Finishing f) = thens.Stay
 
--- (b), (d) and (e), once the age has risen
+-- (b), (d) and (e), after the age was increased
 abbrev pub reminds : ℕ → Fact → Leadership → Leadership × LedOut
 reminds me fact l =
     if is_spent l.change then (l, record { sends = []; turn = thens.Follow })
     else (record l { change = wished l.fact l.change }, record { sends = words me fact l; turn = begins (wished l.fact l.change) })
 
--- rule 5, a tick of a leader with this saved fact. A leader whose epoch does not end in 8 ticks leaves leading. No call is unanswered yet
+-- rule 5, a tick of a leader with this saved fact; a leader whose epoch has been ending for 8 ticks
+-- steps down; there are no unanswered calls yet
 abbrev pub row_5 : ℕ → Fact → Leadership → Leadership × LedOut
 row_5 me fact l = reminds me fact (record l { change = older l.change })

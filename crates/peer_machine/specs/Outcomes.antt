@@ -11,7 +11,7 @@ use Rattle.peer_machine.specs.declared.event.Event.{Event}
 use Rattle.peer_machine.specs.declared.machine.Machine.{Machine}
 use Rattle.peer_machine.specs.declared.state.State.{State}
 
--- where a step stands
+-- the point that a step has reached
 abbrev pub spot : {S H : Type 0} → Machine S → H → Outbox → Spot State (S × H)
 spot m h o = record { state = m.state; out = out_of o; stores = (m.stores, h); notes = o.notes.items }
 
@@ -20,7 +20,7 @@ abbrev pub Acts : {A S H : Type 0} → (S × H → (call : Call) → AnswerOf ca
     → Part State A → Machine S → H → Outbox → Result A PeerError → Machine S → H → Outbox → Type 0
 Acts does refuses part m h o result n k p = Did does refuses part (spot m h o) result (spot n k p)
 
--- the call took the step in an outbox of its own
+-- the call took the step, in an outbox of its own
 abbrev pub Takes : {A S H : Type 0} → (S × H → (call : Call) → AnswerOf call → S × H → Type 0) → (S × H → Call → PeerError → S × H → Type 0)
     → ℕ → Event → Machine S → H → Outbox → Result A PeerError → Machine S → H → Outbox → Type 0
 Takes does refuses me event m h o result n k p = Ended does refuses (step_of me event m.state) (m.stores, h) o.notes.items result n.state (out_of p) (n.stores, k) p.notes.items

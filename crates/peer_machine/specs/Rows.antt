@@ -1,4 +1,5 @@
--- The rules as rows of the state: where each leads, and what it asks. `me` is the number of the peer.
+-- The rules as rows: the state after each rule, and what it saves, sends and names. `me` is the
+-- number of the peer.
 use Rattle.std.specs.Prelude.{ℕ, Bool, true, false, ◌&&◌, ◌==◌, if◌then◌else◌, List, Option, Some, None}
 use Rattle.ens_base.specs.declared.epoch.Epoch.{Epoch}
 use Rattle.election.specs.Ballots.{row_11, row_15}
@@ -37,7 +38,7 @@ use Rattle.peer_machine.specs.declared.state.State.{State}
 abbrev pub calm : State → State × PhaseOut
 calm x = (x, silent thens.Stay)
 
--- rules 3 and 4, a tick while preparing or starting. No sync runs yet
+-- rules 3 and 4, a tick while preparing or starting; no sync runs yet
 abbrev pub aged_election : Election → ℕ → State → State × PhaseOut
 aged_election (Preparing base promises asked age) me x = (electing (row_3 (Preparing base promises asked age)).0 x, (row_3 (Preparing base promises asked age)).1)
 aged_election (Starting new accepts age) me x = (electing (row_4 (Starting new accepts age) me false).0 x, (row_4 (Starting new accepts age) me false).1)
@@ -49,7 +50,7 @@ aged (phases.Probing p) me x = (probing (probing_row_3 p).0 x, (probing_row_3 p)
 aged (phases.Electing e) me x = aged_election e me x
 aged (phases.Leading l) me x = calm x
 
--- rule 7: probing begins
+-- rule 7: begin to probe
 abbrev pub begun : ℕ → State → State × PhaseOut
 begun me x = (sought (row_7 x.fact me).1 x, (row_7 x.fact me).0)
 
@@ -58,16 +59,16 @@ abbrev pub while_8 : Phase → ℕ → ℕ → Fact → State → State × Phase
 while_8 (phases.Probing p) me from reply x = (probing (row_8 p me from reply).0 x, (row_8 p me from reply).1)
 while_8 other me from reply x = calm x
 
--- rule 9: a peer that probes asks for a ballot once enough were heard
+-- rule 9: a probing peer asks for a ballot once it heard enough peers
 abbrev pub while_9 : Phase → State → State × PhaseOut
 while_9 (phases.Probing p) x = (probing (row_9 p).0 x, (row_9 p).1)
 while_9 other x = calm x
 
--- rule 10: the ballot after this count is asked for, with this fact as the base so far
+-- rule 10: prepare the ballot after this count, with this fact as the base so far
 abbrev pub prepared : ℕ → Fact → ℕ → State → State × PhaseOut
 prepared me best count x = (stood (row_10 x.fact me best count).1 x, (row_10 x.fact me best count).0)
 
--- rule 10, by what the peer found while probing, or by its own fact at the end of its epoch
+-- rule 10, from what the peer found while probing, or from its own fact at the end of its epoch
 abbrev pub while_10 : Phase → ℕ → State → State × PhaseOut
 while_10 (phases.Probing p) me x = prepared me p.best p.count x
 while_10 (phases.Leading l) me x = prepared me x.fact x.fact.ballot.count x
@@ -78,23 +79,23 @@ abbrev pub while_12 : Phase → ℕ → ℕ → Epoch → Fact → State → Sta
 while_12 (phases.Electing e) me from ballot promised x = (electing (row_12 e x.fact me from ballot promised).0 x, (row_12 e x.fact me from ballot promised).1)
 while_12 other me from ballot promised x = calm x
 
--- rule 13: a peer that prepares starts its epoch once enough promised
+-- rule 13: a preparing peer starts its epoch once enough peers promised
 abbrev pub while_13 : Phase → ℕ → State → State × PhaseOut
 while_13 (phases.Electing e) me x = (electing (row_13 e x.fact me x.trusted).0 x, (row_13 e x.fact me x.trusted).1)
 while_13 other me x = calm x
 
--- rule 14: a peer that starts an epoch leads it once enough accepted
+-- rule 14: a starting peer leads its epoch once enough peers accepted it
 abbrev pub while_14 : Phase → ℕ → State → State × PhaseOut
 while_14 (phases.Electing e) me x = (electing (row_14 e me).0 x, (row_14 e me).1)
 while_14 other me x = calm x
 
--- rule 15: a refusal. A peer that follows or probes has asked for no ballot
+-- rule 15: a refusal; a following or probing peer has asked for no ballot
 abbrev pub while_15 : Phase → Epoch → NackCause → State → State × PhaseOut
 while_15 (phases.Electing e) ballot cause x = (x, row_15 x.fact ballot cause)
 while_15 (phases.Leading l) ballot cause x = (x, row_15 x.fact ballot cause)
 while_15 other ballot cause x = calm x
 
--- a peer that awaits a sync follows. A sync asks nobody yet
+-- a peer that would wait for a sync follows; a sync asks nobody yet
 abbrev pub awaiting : Then → Then
 awaiting (thens.SyncOn fact) = thens.Follow
 awaiting thens.Resume = thens.Follow
@@ -104,12 +105,12 @@ awaiting other = other
 abbrev pub announced : ℕ → ℕ → Fact → State → PhaseOut
 announced me from new x = record (row_16 x.fact me x.trusted false from new) { then = awaiting (row_16 x.fact me x.trusted false from new).then }
 
--- who accepted the second fact, where the epoch is to end
+-- the acceptances of the second fact, if the epoch is ending
 abbrev pub change_heard : ChangeState → Fact → ℕ → Epoch → ℕ → ChangeState
 change_heard (Finishes f) fact from ballot seq = Finishes (finishing_row_17 f fact from ballot seq).0
 change_heard other fact from ballot seq = other
 
--- a leader counts who accepted the first fact of its epoch, and the second one
+-- a leader counts the acceptances of the first fact of its epoch and of the second
 abbrev pub leader_heard : Leadership → Fact → ℕ → Epoch → ℕ → Leadership
 leader_heard l fact from ballot seq = record l {
   accepts = if is_same ballot fact.ballot && seq == 1 then joined from l.accepts else l.accepts;
@@ -127,32 +128,32 @@ abbrev pub leads : Phase → Bool
 leads (phases.Leading l) = true
 leads other = false
 
--- whether a change has begun
+-- whether a change is wanted or the epoch is ending
 abbrev pub has_begun : ChangeState → Bool
 has_begun Settled = false
 has_begun other = true
 
--- the same, in a phase
+-- whether the peer leads, and a change is wanted or its epoch is ending
 abbrev pub changes : Phase → Bool
 changes (phases.Leading l) = has_begun l.change
 changes other = false
 
--- a leader is to begin this change
+-- a leader wants this change
 abbrev pub wanting : Change → Phase → State → State
 wanting change (phases.Leading l) x = leading (record l { change = Wanted change }) x
 wanting change other x = x
 
--- rule 24: someone asks for a change to this view
+-- rule 24: a request to change to this view
 abbrev pub asked_change : List ℕ → State → State × (PhaseOut × Bool)
 asked_change view x =
     (if (row_24 x.fact (leads x.phase) (changes x.phase) view).1 then wanting (Add view) x.phase x else x, row_24 x.fact (leads x.phase) (changes x.phase) view)
 
--- a leader with this change, where it has begun
+-- the epoch of a leader is ending, if this is given
 abbrev pub finishing : Option Finishing → Leadership → Leadership
 finishing None l = l
 finishing (Some f) l = record l { change = Finishes f }
 
--- rule 25: the change that is wanted begins, in a leader with this saved fact
+-- rule 25: a leader with this saved fact begins the change that is wanted
 abbrev pub begun_change : ChangeState → Leadership → Fact → ℕ → Leadership × PhaseOut
 begun_change (Wanted change) l fact me = (finishing (row_25 fact me l.accepts change).1 l, (row_25 fact me l.accepts change).0)
 begun_change Settled l fact me = (l, silent thens.Stay)
@@ -162,7 +163,8 @@ abbrev pub while_25 : Phase → ℕ → State → State × PhaseOut
 while_25 (phases.Leading l) me x = (leading (begun_change l.change l x.fact me).0 x, (begun_change l.change l x.fact me).1)
 while_25 other me x = calm x
 
--- rule 26: the epoch ends once enough accepted its second fact. No call is unanswered yet
+-- rule 26: the epoch ends once enough peers accepted its second fact; there are no unanswered calls
+-- yet
 abbrev pub ended : ChangeState → Fact → ℕ → PhaseOut
 ended (Finishes f) fact me = (row_26 f fact me false).1
 ended Settled fact me = silent thens.Stay
@@ -172,7 +174,7 @@ abbrev pub while_26 : Phase → ℕ → State → State × PhaseOut
 while_26 (phases.Leading l) me x = (x, ended l.change x.fact me)
 while_26 other me x = calm x
 
--- the row of the rule of this number, which a row may name
+-- the row of the rule with this number, which a row may name
 abbrev pub phase_row : ℕ → ℕ → State → State × PhaseOut
 phase_row n me x =
     if n == 7 then begun me x
@@ -184,7 +186,8 @@ phase_row n me x =
     else (if n == 26 then while_26 x.phase me x
     else calm x))))))
 
--- the row of a message from a peer. Those that no rule counts are ignored; the rules on the rest of the messages are not there yet
+-- a message from a peer; a message that does not fit the phase is ignored, and the rules of the
+-- remaining messages are not supported yet
 abbrev pub received : ℕ → ℕ → Message → State → State × PhaseOut
 received me from messages.Probe x = (x, row_8_probe x.fact from)
 received me from (messages.ProbeReply fact) x = while_8 x.phase me from fact x

@@ -9,17 +9,17 @@ use Rattle.step_plans.specs.declared.error.PeerError.TheVariants as errors
 use Rattle.peer_machine.specs.Moves.{follower}
 use Rattle.peer_machine.specs.declared.state.State.{State}
 
--- the state with which a peer starts: it follows
+-- the state in which a peer starts: it follows
 abbrev pub first_state : Fact → Bool → State
 first_state fact trusted = record { fact = fact; trusted = trusted; phase = follower }
 
--- what a start comes to, by what was kept: where nothing was, the opening fact is saved and the tree is trusted; else the
--- fact is the one that was kept, and the tree is not trusted
+-- a start from what was kept: without a kept fact the opening fact is saved and the tree is
+-- trusted; otherwise the peer continues from the kept fact, and its tree is not trusted
 abbrev pub opened : List ℕ → Option Fact → Plan State
 opened view None = Ask (Save (opening_fact view)) (λ u. Done (first_state (opening_fact view) true) nothing)
 opened view (Some fact) = Done (first_state fact false) nothing
 
--- rule 1: a start, of a peer whose ensemble opens with this view. There is no tree yet
+-- rule 1: a start of a peer whose ensemble opens in this view; there is no tree yet
 abbrev pub start_of : List ℕ → Plan State
 start_of view = Ask Load (λ kept. opened view kept)
 
@@ -29,7 +29,7 @@ abbrev pub Starts : {P : Type 0} → (P → (call : Call) → AnswerOf call → 
 Starts does refuses plan s (Ok x) t = Runs does refuses plan s [] (Finished x nothing) t []
 Starts does refuses plan s (Err e) t = Runs does refuses plan s [] (Stopped e) t []
 
--- why a start is refused
+-- why a start failed
 abbrev pub IsStartError : PeerError → Type 0
 IsStartError errors.StoreFault = Unit {0}
 IsStartError (errors.BadFact why) = Unit {0}

@@ -1,4 +1,4 @@
--- What the three stores of a peer and the hasher that is lent to them may answer, as one.
+-- What the three stores of a peer and the hasher lent to them may answer, taken together.
 use Rattle.std.specs.Prelude.{◌≡◌, ◌⊎◌, ◌≤◌, ℕ, List, Option, Some, Result, Ok, Err}
 use Rattle.ens_base.specs.Causes.{Rose}
 use Rattle.ens_hashing.specs.Hashing.{IsClash, IsKept, Stays, Takes}
@@ -21,32 +21,33 @@ pub record HasFailed (before now : ℕ) : Type 0 where
   pub later : before ≤ now
   pub rose : Rose before now
 
--- the facts alone were called
+-- only the fact keeper was called
 abbrev pub FactsAlone : {B N F H : Type 0} → Stores B N F × H → Stores B N F × H → Type 0
 FactsAlone s t = (t.0.backend ≡ s.0.backend) × (t.0.nodes ≡ s.0.nodes) × (t.1 ≡ s.1)
 
--- the nodes alone were called, and the hasher
+-- only the nodes and the hasher were called
 abbrev pub NodesAlone : {B N F H : Type 0} → Stores B N F × H → Stores B N F × H → Type 0
 NodesAlone s t = (t.0.backend ≡ s.0.backend) × (t.0.facts ≡ s.0.facts)
 
--- the backend alone was called
+-- only the backend was called
 abbrev pub BackendAlone : {B N F H : Type 0} → Stores B N F × H → Stores B N F × H → Type 0
 BackendAlone s t = (t.0.nodes ≡ s.0.nodes) × (t.0.facts ≡ s.0.facts) × (t.1 ≡ s.1)
 
--- why a fact was not loaded: the keeper failed, what is kept is no fact, or memory ran out
+-- why a fact was not loaded: the keeper failed, what is kept is not a fact, or out of memory
 abbrev pub IsLoadError : Option (Result Fact FactError) → ℕ → ℕ → PeerError → Type 0
 IsLoadError kept before now errors.StoreFault = HasFailed before now
 IsLoadError kept before now (errors.BadFact why) = (kept ≡ Some (Err why)) × (before ≤ now)
 IsLoadError kept before now errors.Memory = before ≤ now
 IsLoadError kept before now e = ⊥
 
--- the same, in the words of the keeper
+-- the error of the keeper for this error of the peer
 abbrev pub keeper_error : PeerError → KeepError
 keeper_error (errors.BadFact why) = keeps.Bad why
 keeper_error errors.Memory = keeps.Memory
 keeper_error e = keeps.Failed
 
--- a hasher refused the bytes: each cause has its own count, which rose, no count fell, and what is kept stays
+-- why a hasher refused the bytes: two strings with one digest or a full book, whose count rose, or
+-- out of memory; no count decreased, and what is kept stays
 abbrev pub HashRefuses : {H : Type 0} → (H → Option (List (List ℕ))) → (H → ℕ) → (H → ℕ) → List ℕ → H → PeerError → H → Type 0
 HashRefuses strings c d bytes h (errors.Clash first second) k =
     Stays (strings h) (strings k) × IsClash first second × IsKept (strings h) first × (second ≡ bytes) × Rose (c h) (c k) × (d h ≤ d k)
@@ -54,11 +55,12 @@ HashRefuses strings c d bytes h (errors.BookFull kept) k = Stays (strings h) (st
 HashRefuses strings c d bytes h errors.Memory k = Stays (strings h) (strings k) × (c h ≤ c k) × (d h ≤ d k)
 HashRefuses strings c d bytes h e k = ⊥
 
--- no count of a call of the tree fell
+-- a call of the tree decreased no count, and called only the nodes and the hasher
 abbrev pub TreeLater : {B N F H : Type 0} → (N → ℕ) → (H → ℕ) → (H → ℕ) → Stores B N F × H → Stores B N F × H → Type 0
 TreeLater n c d s t = (n s.0.nodes ≤ n t.0.nodes) × (c s.1 ≤ c t.1) × (d s.1 ≤ d t.1) × NodesAlone s t
 
--- why a call of the tree was refused: a count that rose, or memory ran out
+-- why a call of the tree was refused: a store or the hasher refused, and its count rose, or out of
+-- memory
 abbrev pub IsTreeError : {B N F H : Type 0} → (N → ℕ) → (H → ℕ) → (H → ℕ) → Stores B N F × H → PeerError → Stores B N F × H → Type 0
 IsTreeError n c d s errors.StoreFault t = Rose (n s.0.nodes) (n t.0.nodes)
 IsTreeError n c d s (errors.Clash first second) t = Rose (c s.1) (c t.1)
@@ -66,14 +68,16 @@ IsTreeError n c d s (errors.BookFull kept) t = Rose (d s.1) (d t.1)
 IsTreeError n c d s errors.Memory t = Unit {0}
 IsTreeError n c d s e t = ⊥
 
--- why a call of the backend was refused: it failed, and its count rose, or memory ran out
+-- why a call of the backend was refused: it failed and its count rose, or out of memory
 abbrev pub IsBackendRefusal : {B : Type 0} → (B → BackendCall → StoreError → B → Type 0) → (B → ℕ) → B → BackendCall → PeerError → B → Type 0
 IsBackendRefusal loses b s call errors.StoreFault t = loses s call stores.Failed t × HasFailed (b s) (b t)
 IsBackendRefusal loses b s call errors.Memory t = loses s call stores.Memory t × (b t ≡ b s)
 IsBackendRefusal loses b s call e t = ⊥
 
--- What a call may be answered: a load gives what is kept, a saved fact is kept from then on, the backend answers what it may, and a hash is the MD5. What the
--- tree answers over its nodes is not told: the contract of the tree will tell it. No count falls, and a call of one store leaves the others.
+-- What a call may be answered. A load returns what is kept, a saved fact is kept from then on, the
+-- backend answers as its contract says, and a hash is the MD5. Nothing is said about what the tree
+-- answers over its nodes; the contract of the tree will say it. No count decreases, and each call
+-- leaves the other stores as they were.
 abbrev pub stores_do : {B N F H : Type 0} → (B → (call : BackendCall) → BackendAnswer call → B → Type 0) → (B → ℕ) → (N → ℕ)
     → (F → (call : KeeperCall) → KeeperAnswer call → F → Type 0) → (F → Option (Result Fact FactError)) → (F → ℕ)
     → (H → Option (List (List ℕ))) → (H → ℕ) → (H → ℕ) → Stores B N F × H → (call : Call) → AnswerOf call → Stores B N F × H → Type 0
@@ -93,8 +97,9 @@ stores_do gives b n tells kept f strings c d s (Put key bytes) a t = gives s.0.b
 stores_do gives b n tells kept f strings c d s (Hash bytes) a t =
     (a ≡ md5 bytes) × Takes bytes (strings s.1) (strings t.1) × (c s.1 ≤ c t.1) × (d s.1 ≤ d t.1) × (t.0 ≡ s.0)
 
--- What a refused call may leave: after a refused save the old fact is kept or the new one; a refused call of the tree may have written nodes. The count of the
--- store or of the hasher that refused rose, unless memory ran out or what is kept is no fact.
+-- What a refused call may leave. After a refused save the old fact is kept, or the new one; a
+-- refused call of the tree may have written nodes. The count of the store or of the hasher that
+-- refused rose, unless out of memory or what is kept is not a fact.
 abbrev pub stores_refuse : {B N F H : Type 0} → (B → BackendCall → StoreError → B → Type 0) → (B → ℕ) → (N → ℕ)
     → (F → KeeperCall → KeepError → F → Type 0) → (F → Option (Result Fact FactError)) → (F → ℕ)
     → (H → Option (List (List ℕ))) → (H → ℕ) → (H → ℕ) → Stores B N F × H → Call → PeerError → Stores B N F × H → Type 0
@@ -113,7 +118,7 @@ stores_refuse loses b n drops kept f strings c d s (Fetch key) e t = IsBackendRe
 stores_refuse loses b n drops kept f strings c d s (Put key bytes) e t = IsBackendRefusal loses b s.0.backend (PutObject key bytes) e t.0.backend × BackendAlone s t
 stores_refuse loses b n drops kept f strings c d s (Hash bytes) e t = HashRefuses strings c d bytes s.1 e t.1 × (t.0 ≡ s.0)
 
--- no count has fallen
+-- no count decreased
 pub record AreLater {B N F H : Type 0} (b : B → ℕ) (n : N → ℕ) (f : F → ℕ) (c d : H → ℕ) (s t : Stores B N F × H) : Type 0 where
   pub backend : b s.0.backend ≤ b t.0.backend
   pub nodes : n s.0.nodes ≤ n t.0.nodes
@@ -121,11 +126,12 @@ pub record AreLater {B N F H : Type 0} (b : B → ℕ) (n : N → ℕ) (f : F �
   pub clashes : c s.1 ≤ c t.1
   pub fulls : d s.1 ≤ d t.1
 
--- the count of faults of some store has risen
+-- the count of faults of some store rose
 abbrev pub SomeRose : {B N F : Type 0} → (B → ℕ) → (N → ℕ) → (F → ℕ) → Stores B N F → Stores B N F → Type 0
 SomeRose b n f s t = Rose (b s.backend) (b t.backend) ⊎ (Rose (n s.nodes) (n t.nodes) ⊎ Rose (f s.facts) (f t.facts))
 
--- why a plan is stopped: the count of a store's faults or of the hasher's refusals has risen, what is kept is no fact, or memory ran out
+-- why a plan stopped: the count of faults of some store or of refusals of the hasher rose, what is
+-- kept is not a fact, or out of memory
 abbrev pub IsCause : {B N F H : Type 0} → (B → ℕ) → (N → ℕ) → (F → ℕ) → (H → ℕ) → (H → ℕ) → Stores B N F × H → Stores B N F × H → PeerError → Type 0
 IsCause b n f c d s t errors.StoreFault = SomeRose b n f s.0 t.0
 IsCause b n f c d s t (errors.Clash first second) = Rose (c s.1) (c t.1)

@@ -1,7 +1,8 @@
 use ens_base::{Command, Key, PeerId, View};
 use wire_frames::Message;
 
-/// A call on a key: who calls, under which number, which its answer repeats, and the command.
+/// A call on a key: the caller, the number of the call, which the answer repeats, the key, and the
+/// command.
 #[derive(Debug, Drop)]
 pub struct CallIn {
     pub from: u32,
@@ -10,10 +11,10 @@ pub struct CallIn {
     pub command: Command,
 }
 
-/// What comes to a peer.
+/// An event at a peer.
 #[derive(Debug, Drop)]
 pub enum Event {
-    /// A message, with its sender.
+    /// A message and its sender.
     Deliver(PeerId, Message),
     /// Time passes.
     Tick,

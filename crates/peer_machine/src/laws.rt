@@ -7,10 +7,11 @@ ghost use Rattle.peer_machine.specs.Turns.{SavesAlone, IsFineAtNone};
 ghost use Rattle.peer_machine.specs.declared.event.Event.{Event};
 ghost use Rattle.peer_machine.specs.declared.state.State.{State};
 
-/// The turns of a step suffice: whatever the stores answer, nothing is left to do where they end.
+/// The limit on the tasks of a step is enough: whatever the stores answer, no task is left at its
+/// end.
 pub fn nothing_is_left()
-    // After the row of an event.
+    // After the row of the event.
     ensures responded { (me : ℕ) (event : Event) (x : State) (out : Out) (next : Rest State (List Task)) → IsFineAtNone next → SavesAlone (first me event x out (λ ts y o. driven me most_turns ts y o next)) }
-    // And after rule 26, at the end of a step.
+    // After rule 26, at the end of the step.
     ensures concluded { (me : ℕ) (x : State) (out : Out) (next : Rest State (List Task)) → IsFineAtNone next → SavesAlone (task_done me (Phase 26) x out (λ ts y o. driven me most_turns ts y o next)) }
 {}

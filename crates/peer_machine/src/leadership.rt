@@ -13,7 +13,7 @@ use view_change::{Finishing, rule_25};
 use wire_frames::{Message, PhaseOut, Then};
 
 impl ChangeState {
-    /// Counts who accepted the second fact, where the epoch is to end.
+    /// Rule 17: counts an acceptance of the second fact, if the epoch is ending.
     fn hear(&mut self, fact: &Fact, from: PeerId, ballot: Epoch, seq: u64)
         requires { IsPeer from }
         ensures { self.new ≡ change_heard self.old fact.now from ballot seq }
@@ -23,7 +23,7 @@ impl ChangeState {
         }
     }
 
-    /// Rule 26: the epoch ends once enough accepted its second fact.
+    /// Rule 26: the epoch ends once enough peers accepted its second fact.
     pub(crate) fn end(&self, fact: Fact, me: PeerId) -> PhaseOut
         ensures { result ≡ ended self.now fact me }
     {
@@ -36,7 +36,7 @@ impl ChangeState {
         }
     }
 
-    /// The age of an end that is awaited rises by one.
+    /// Adds one tick to the age of an ending epoch.
     fn grow_older(&mut self)
         requires { IsYoungChange self.old }
         ensures { self.new ≡ older self.old }
@@ -46,7 +46,7 @@ impl ChangeState {
         }
     }
 
-    /// Whether the end was awaited for 8 ticks.
+    /// Whether the epoch has been ending for 8 ticks.
     fn is_spent(&self) -> bool
         ensures { result ≡ is_over self.now }
     {
@@ -56,7 +56,8 @@ impl ChangeState {
         }
     }
 
-    /// What a leader that may be ending its epoch says to a peer that accepted the epoch.
+    /// The message of a leader to a peer that accepted the epoch: the second fact if the epoch is
+    /// ending and the peer did not accept it, and otherwise a beat.
     fn word_to(&self, fact: &Fact, epoch: Epoch, peer: PeerId) -> Message
         ensures { result ≡ end_word self.now fact.now epoch peer }
     {
@@ -72,7 +73,7 @@ impl ChangeState {
         }
     }
 
-    /// In an epoch of two views, the old view is to be dropped.
+    /// Plans to drop the old view, if the epoch has two views and no change has begun.
     fn wish(&mut self, first: &Fact)
         ensures { self.new ≡ wished first.now self.old }
     {
@@ -83,7 +84,7 @@ impl ChangeState {
         }
     }
 
-    /// The rule that begins a change that is wanted.
+    /// Returns rule 25 if a change is wanted, and `Stay` otherwise.
     fn begins(&self) -> Then
         ensures { result ≡ begins_by self.now }
     {
@@ -98,7 +99,7 @@ impl Leadership {
     ghost use Rattle.peer_machine.specs.Leading.{LedOut, is_told, reminds, row_5, word_to};
     ghost use Rattle.peer_machine.specs.Rows.{begun_change, finishing as finished, leader_heard};
 
-    /// Counts who accepted the first fact of the epoch, and who the second one.
+    /// Rule 17: counts an acceptance of the first or the second fact of the epoch.
     pub(crate) fn hear(&mut self, fact: &Fact, from: PeerId, ballot: Epoch, seq: u64)
         requires { IsPeer from }
         ensures { self.new ≡ leader_heard self.old fact.now from ballot seq }
@@ -109,7 +110,7 @@ impl Leadership {
         self.change.hear(fact, from, ballot, seq);
     }
 
-    /// Whether a leader speaks to a peer at a tick.
+    /// Whether a leader sends `peer` a message at each tick.
     #[tactic(auto, unfolding(crate::specs::Leading::is_told))]
     fn tells(&self, me: PeerId, peer: PeerId) -> bool
         ensures { result ≡ is_told me self.now peer }
@@ -117,7 +118,7 @@ impl Leadership {
         is_member(&self.fact.views, peer) && peer != me
     }
 
-    /// What a leader says to a peer at each tick.
+    /// The message of a leader to `peer` at each tick.
     #[tactic(auto, unfolding(crate::specs::Leading::word_to))]
     fn word_to(&self, fact: &Fact, peer: PeerId) -> Message
         ensures { result ≡ word_to fact.now self.now peer }
@@ -129,7 +130,8 @@ impl Leadership {
         }
     }
 
-    /// Sends each other member of the epoch's views one message.
+    /// Sends one message to every other member of the views of the epoch. Fails only when out of
+    /// memory.
     #[tactic(auto, unfolding(step_plans::specs::Sends::posted))]
     fn send_words(&self, out: &mut Outbox, me: PeerId, fact: &Fact) -> Result<(), PeerError>
         ensures sends { OnOk result (out.new.sends.items ≡ out.old.sends.items ++ words me fact.now self.now) }
@@ -145,7 +147,7 @@ impl Leadership {
         Ok(())
     }
 
-    /// Rule 5 (b), (d) and (e), once the age has risen.
+    /// Rule 5 (b), (d) and (e), after the age was increased. Fails only when out of memory.
     fn remind(&mut self, out: &mut Outbox, me: PeerId, fact: &Fact) -> Result<Then, PeerError>
         ensures ok { IfOk result (λ then. (self.new ≡ (reminds me fact.now self.old).0) × (then ≡ (reminds me fact.now self.old).1.turn)) }
         ensures sends { OnOk result (out.new.sends.items ≡ out.old.sends.items ++ (reminds me fact.now self.old).1.sends) }
@@ -160,7 +162,7 @@ impl Leadership {
         Ok(self.change.begins())
     }
 
-    /// Rule 5: a tick of a leader.
+    /// Rule 5: a tick of a leader. Fails only when out of memory.
     pub(crate) fn rule_5(
         &mut self,
         out: &mut Outbox,
@@ -177,7 +179,7 @@ impl Leadership {
         self.remind(out, me, fact)
     }
 
-    /// The second fact is saved, and the epoch is to end, where a change has begun.
+    /// Records that the epoch is ending, if `finishing` is given.
     fn finish(&mut self, finishing: Option<Finishing>)
         ensures { self.new ≡ finished finishing self.old }
     {
@@ -186,7 +188,7 @@ impl Leadership {
         }
     }
 
-    /// Rule 25: the change that is wanted begins.
+    /// Rule 25: begins the change that is wanted, if there is one.
     pub(crate) fn begin_change(&mut self, fact: Fact, me: PeerId) -> PhaseOut
         requires { IsPeer me }
         ensures { (self.new, result) ≡ begun_change self.old.change self.old fact me }

@@ -1,18 +1,24 @@
-//! One peer: its state, and its steps over stores that may lie or fail, as a loop over rows.
+//! One peer: its state, and its steps over stores that may lie or fail, run as a loop over rows.
 //!
-//! Each rule is a row of the state (`specs/Rows`, `specs/Leading`): where it leads, what it asks, and
-//! which rule runs next. A step begins with the row of its event. What a row names runs next, before
-//! what was left to do, until nothing is left; then rule 26 runs, by which a leader may end its epoch.
-//! `specs/Drives` says so as a plan, and `Peer::step` promises a run of that plan over what the stores
-//! gave: up to its end, or up to where an error stopped it. Out of memory is such an error: it cuts the
-//! run, and the stores and the notes stay as the run had left them. `specs/Stores` says what the stores
-//! of a peer may answer, `specs/Starts` how a peer starts, `specs/Kept` and `specs/Ages` what each step
-//! keeps to.
+//! Each rule is a row (`specs/Rows`, `specs/Leading`): from the state before, it gives the state
+//! after, what to save and send, and the rule that runs next. A step applies the row of its event.
+//! A rule that a row names runs next, before the tasks that were left; once no task is left, rule
+//! 26 runs, by which a leader may end its epoch. `specs/Drives` defines this plan, and `Peer::step`
+//! promises a run of it over what the stores returned: to its end, or to the point where an error
+//! stopped it. Out of memory may stop a run anywhere, and leaves the stores and the notes as they
+//! are at that point.
 //!
-//! Here are the rules of elections and of changes of the view: 2 to 20 and 24 to 26, of rule 1 what
-//! concerns the fact, and of rule 5 what concerns no call. What is not here yet: a call is answered
-//! unavailable, and no leader has calls; the other messages are ignored; there is no tree; and a sync
-//! asks nobody, so a peer that must sync before it accepts an epoch waits for another one.
+//! `specs/Stores` says what the stores of a peer may answer, `specs/Starts` how a peer starts, and
+//! `specs/Kept` and `specs/Ages` what each step keeps to.
+//!
+//! The rules of elections and of view changes are supported: 2 to 20, 24 to 26, rule 1 for the
+//! fact, and rule 5 except for calls. The rest is not supported yet:
+//!
+//! - A call is answered `unavailable`, and a leader has no calls.
+//! - All other messages are ignored.
+//! - There is no tree.
+//! - A sync asks nobody, so a peer that must sync before it accepts an epoch waits for another
+//!   epoch.
 #![tactic(auto)]
 
 mod event;

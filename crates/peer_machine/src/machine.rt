@@ -12,7 +12,7 @@ use std::alloc::Global;
 use step_plans::{Outbox, PeerError, Store, Task, Tasks};
 use wire_frames::PhaseOut;
 
-/// A state over its stores.
+/// The state of a peer and its stores.
 #[derive(Drop)]
 pub struct Machine<S> {
     pub state: State,
@@ -34,7 +34,7 @@ impl<S> Machine<S> {
         self.stores.save(hasher, fact)
     }
 
-    /// Saves the fact, where there is one.
+    /// Saves the fact, if there is one.
     #[tactic(auto, using(crate::proofs::Parts::cut))]
     fn save<H>(
         &mut self,
@@ -56,7 +56,8 @@ impl<S> Machine<S> {
         }
     }
 
-    /// Does what a row asks, up to what follows.
+    /// Applies a row, except for what follows it: a leader steps down if asked, the fact is saved,
+    /// and the message is sent.
     #[tactic(auto, using(crate::proofs::Parts::cut))]
     fn perform<H>(
         &mut self,
@@ -82,7 +83,7 @@ impl<S> Machine<S> {
         Ok(())
     }
 
-    /// Does all that a row asks, and gives the rule that it names.
+    /// Applies a row, and returns the rule that it names.
     #[tactic(auto, using(crate::proofs::Parts::cut))]
     pub(crate) fn row_done<H>(
         &mut self,
@@ -101,7 +102,7 @@ impl<S> Machine<S> {
         Ok(Tasks::named(alloc, then)?)
     }
 
-    /// Does the row of one task, and gives the rules that it names.
+    /// Runs the rule of one task, and returns the rules that its row names.
     #[tactic(auto, using(crate::proofs::Parts::cut))]
     pub(crate) fn task_done<H>(
         &mut self,
@@ -126,8 +127,8 @@ impl<S> Machine<S> {
         }
     }
 
-    /// Does the tasks, each before those that were there, and all that they name: at most `turns`. It
-    /// gives what is left then.
+    /// Runs `tasks`, at most `turns` of them. The rules that a row names run before the tasks that
+    /// were left. Returns the tasks that are left.
     #[tactic(auto, using(crate::proofs::Parts::cut))]
     pub(crate) fn drive<H>(
         &mut self,

@@ -14,7 +14,7 @@ use fact_store::FactKeeper;
 use std::alloc::Global;
 use step_plans::{Outbox, PeerError};
 
-/// A peer over its stores. Once halted, it takes no step.
+/// A peer over its stores. A halted peer takes no step.
 #[derive(Drop)]
 pub struct Peer<B, N, F> {
     pub(crate) me: PeerId,
@@ -24,7 +24,7 @@ pub struct Peer<B, N, F> {
     ghost young: { halted ≡ false → is_young machine.state.phase ≡ true },
 }
 
-/// A peer without its stores, which may be changed before it goes on.
+/// A peer without its stores. The stores may be changed before the peer resumes.
 #[derive(Drop)]
 pub struct Suspended {
     me: PeerId,
@@ -51,15 +51,15 @@ impl<B: Backend, N: NodeStore, F: FactKeeper> Peer<B, N, F> {
     ghost use Rattle.peer_machine.specs.Starts.{IsStartError, start_of};
     ghost use Rattle.peer_machine.specs.Stores.{FactsAlone, SomeRose, stores_do, stores_refuse};
 
-    /// Rule 1: a peer starts on its stores. Where they keep no fact, the fact of an ensemble of this
-    /// view in which nothing has happened is saved, and the peer trusts its tree. Otherwise it goes on
-    /// from the fact that is kept, and trusts its tree no more. It follows. `me` is 1 to 31.
+    /// Rule 1: starts the peer `me`, 1 to 31, on its stores. If they keep no fact, the peer saves
+    /// the opening fact of an ensemble with the view `opening`, and trusts its tree. Otherwise it
+    /// continues from the kept fact, and does not trust its tree. The peer follows.
     ///
     /// # Errors
     ///
-    /// `BadFact` exactly where the keeper of the fact answers so, `StoreFault` only where the count of
-    /// faults of a store rose in this call, and out of memory. The stores come back: the backend and
-    /// the nodes as they were, the fact as the load or the save that was refused left it.
+    /// `BadFact` exactly if the fact keeper reports it, `StoreFault` only if the count of faults of
+    /// a store rose in this call, and `Memory` when out of memory. The stores are returned: the
+    /// backend and the nodes as they were, and the fact as the failed load or save left it.
     pub fn start<H: Hasher16>(
         me: PeerId,
         opening: View,
@@ -88,16 +88,16 @@ impl<B: Backend, N: NodeStore, F: FactKeeper> Peer<B, N, F> {
         }
     }
 
-    /// Takes one step on an event. What it sends, answers, notes and says of changes goes to the end of
-    /// the outbox. The sender of a message is another peer, 1 to 31, and the message obeys the grammar
-    /// of frames.
+    /// Takes one step on an event. Its messages, answers, notes and replies to requests to change
+    /// the view are added to the end of the outbox. The sender of a message is another peer, 1 to
+    /// 31, and the message obeys the grammar of frames.
     ///
     /// # Errors
     ///
-    /// `StoreFault` only where the count of faults of a store rose in this call; out of memory; and
-    /// `Halted` exactly where the peer was halted, which changes nothing. After the others the peer is
-    /// halted, and nothing of the step is sent, answered or told; its notes are kept, and the stores
-    /// are as the step had left them.
+    /// `Halted` exactly if the peer was halted; nothing changes. `StoreFault` only if the count of
+    /// faults of a store rose in this call, and `Memory` when out of memory: the peer is then
+    /// halted, the step adds nothing but its notes to the outbox, and the stores are as the step
+    /// left them.
     pub fn step<H: Hasher16>(
         &mut self,
         alloc: Global,
@@ -126,7 +126,7 @@ impl<B: Backend, N: NodeStore, F: FactKeeper> Peer<B, N, F> {
 }
 
 impl<B, N, F> Peer<B, N, F> {
-    /// The stores. It takes no memory.
+    /// Returns the stores. Needs no heap memory.
     pub fn into_stores(self) -> Stores<B, N, F>
         ensures { result ≡ self.machine.stores }
     {
@@ -139,8 +139,8 @@ impl<B, N, F> Peer<B, N, F> {
         stores
     }
 
-    /// Takes the peer from its stores, so that these may be changed before it goes on. It takes no
-    /// memory.
+    /// Separates the peer from its stores, so that they can be changed before it resumes. Needs no
+    /// heap memory.
     pub fn suspend(self) -> (Suspended, Stores<B, N, F>)
         ensures peer { (result.0.me ≡ self.me) × (result.0.state ≡ self.machine.state) × (result.0.halted ≡ self.halted) }
         ensures stores { result.1 ≡ self.machine.stores }
@@ -156,7 +156,7 @@ impl<B, N, F> Peer<B, N, F> {
 }
 
 impl Suspended {
-    /// The peer goes on over these stores, in the state that it had. It takes no memory.
+    /// Continues over these stores, in the same state as before. Needs no heap memory.
     pub fn resume<B, N, F>(self, stores: Stores<B, N, F>) -> Peer<B, N, F>
         ensures peer { (result.me ≡ self.me) × (result.machine.state ≡ self.state) × (result.halted ≡ self.halted) }
         ensures stores { result.machine.stores ≡ stores }

@@ -52,7 +52,7 @@ impl State {
         }
     }
 
-    /// Rule 7: probing begins.
+    /// Rule 7: begins to probe.
     fn rule_7(&mut self, me: PeerId) -> PhaseOut
         requires { IsPeer me }
         ensures { (self.new, result) ≡ begun me self.old }
@@ -62,7 +62,7 @@ impl State {
         row
     }
 
-    /// Rule 8: a reply to a probe.
+    /// Rule 8: counts a reply to a probe.
     fn rule_8(&mut self, me: PeerId, from: PeerId, reply: Fact) -> PhaseOut
         requires { IsPeer from }
         ensures { (self.new, result) ≡ while_8 self.old.phase me from reply self.old }
@@ -78,7 +78,7 @@ impl State {
         }
     }
 
-    /// Rule 9: a peer that probes asks for a ballot once enough were heard.
+    /// Rule 9: a probing peer asks for a ballot once it heard enough peers.
     fn rule_9(&mut self) -> PhaseOut
         ensures { (self.new, result) ≡ while_9 self.old.phase self.old }
     {
@@ -93,7 +93,7 @@ impl State {
         }
     }
 
-    /// Rule 10: the ballot after this count is asked for, with this fact as the base so far.
+    /// Rule 10: prepares the ballot after `count`, with `best` as the base so far.
     fn prepare(&mut self, me: PeerId, best: Fact, count: u64) -> PhaseOut
         requires { IsPeer me }
         ensures { (self.new, result) ≡ prepared me best count self.old }
@@ -103,7 +103,8 @@ impl State {
         row
     }
 
-    /// Rule 10, by what the peer found while probing, or by its own fact at the end of its epoch.
+    /// Rule 10, from what the peer found while probing, or from its own fact at the end of its
+    /// epoch.
     fn rule_10(&mut self, me: PeerId) -> PhaseOut
         requires { IsPeer me }
         ensures { (self.new, result) ≡ while_10 self.old.phase me self.old }
@@ -118,7 +119,7 @@ impl State {
         }
     }
 
-    /// Rule 12: a promise.
+    /// Rule 12: counts a promise.
     fn rule_12(&mut self, me: PeerId, from: PeerId, ballot: Epoch, promised: Fact) -> PhaseOut
         requires { IsPeer me × IsPeer from }
         ensures { (self.new, result) ≡ while_12 self.old.phase me from ballot promised self.old }
@@ -134,7 +135,7 @@ impl State {
         }
     }
 
-    /// Rule 13: a peer that prepares starts its epoch once enough promised.
+    /// Rule 13: a preparing peer starts its epoch once enough peers promised.
     fn rule_13(&mut self, me: PeerId) -> PhaseOut
         requires { IsPeer me }
         ensures { (self.new, result) ≡ while_13 self.old.phase me self.old }
@@ -150,7 +151,7 @@ impl State {
         }
     }
 
-    /// Rule 14: a peer that starts an epoch leads it once enough accepted.
+    /// Rule 14: a starting peer leads its epoch once enough peers accepted it.
     fn rule_14(&mut self, me: PeerId) -> PhaseOut
         requires { IsPeer me }
         ensures { (self.new, result) ≡ while_14 self.old.phase me self.old }
@@ -166,7 +167,7 @@ impl State {
         }
     }
 
-    /// Rule 15: a refusal.
+    /// Rule 15: a peer that asked for a ballot is refused.
     fn rule_15(&self, ballot: Epoch, cause: NackCause) -> PhaseOut
         ensures { (self.now, result) ≡ while_15 self.now.phase ballot cause self.now }
     {
@@ -177,7 +178,7 @@ impl State {
     }
 }
 
-/// A peer that awaits a sync follows.
+/// Makes a peer that would wait for a sync follow instead.
 fn await_sync(then: Then) -> Then
     ensures { result ≡ awaits then }
 {
@@ -201,7 +202,7 @@ impl State {
         PhaseOut { then, ..row }
     }
 
-    /// Rule 17: an acceptance.
+    /// Rule 17: counts an acceptance.
     fn rule_17(&mut self, from: PeerId, ballot: Epoch, seq: u64) -> PhaseOut
         requires { IsPeer from }
         ensures { (self.new, result) ≡ while_17 self.old.phase from ballot seq self.old }
@@ -217,7 +218,7 @@ impl State {
         }
     }
 
-    /// Rule 25: the change that is wanted begins.
+    /// Rule 25: a leader begins the change that is wanted, if there is one.
     fn rule_25(&mut self, me: PeerId) -> PhaseOut
         requires { IsPeer me }
         ensures { (self.new, result) ≡ while_25 self.old.phase me self.old }
@@ -229,7 +230,7 @@ impl State {
         }
     }
 
-    /// Rule 26: the epoch ends once enough accepted its second fact.
+    /// Rule 26: the epoch ends once enough peers accepted its second fact.
     fn rule_26(&self, me: PeerId) -> PhaseOut
         ensures { (self.now, result) ≡ while_26 self.now.phase me self.now }
     {
@@ -239,7 +240,8 @@ impl State {
         }
     }
 
-    /// The row of the rule of this number, which a row may name.
+    /// The row of the rule with this number, one of 7, 9, 10, 13, 14, 25 and 26. For any other
+    /// number nothing happens.
     pub(crate) fn phase_row(&mut self, rule: u8, me: PeerId) -> PhaseOut
         requires { IsPeer me }
         ensures { (self.new, result) ≡ phase_row rule me self.old }
@@ -263,7 +265,8 @@ impl State {
         }
     }
 
-    /// The row of a message from a peer.
+    /// The row of the rule for a message. Nothing happens on a message that does not fit the phase,
+    /// or whose rule is not supported yet.
     pub(crate) fn receive(&mut self, me: PeerId, from: PeerId, message: &Message) -> PhaseOut
         requires { IsPeer me × IsPeer from }
         ensures { (self.new, result) ≡ received me from message.now self.old }

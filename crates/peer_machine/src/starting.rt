@@ -7,7 +7,7 @@ use ens_base::View;
 use peer_fact::{Change, Fact};
 use step_plans::{PeerError, Store};
 
-/// The state with which a peer starts: it follows.
+/// The state in which a peer starts: it follows.
 fn first_state(fact: Fact, trusted: bool) -> State
     ensures { result ≡ first fact trusted }
 {
@@ -18,7 +18,7 @@ fn first_state(fact: Fact, trusted: bool) -> State
     }
 }
 
-/// What a start comes to, by what was kept.
+/// Starts from what was kept.
 fn opened<H, S: Store<H>>(
     stores: &mut S,
     hasher: &mut H,
@@ -40,7 +40,7 @@ fn opened<H, S: Store<H>>(
     }
 }
 
-/// Rule 1: the state with which a peer starts over these stores.
+/// Rule 1: returns the state in which a peer starts over these stores.
 pub(crate) fn start<H, S: Store<H>>(
     stores: &mut S,
     hasher: &mut H,

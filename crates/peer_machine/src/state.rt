@@ -14,13 +14,14 @@ use wire_frames::Then;
 pub enum ChangeState {
     /// No change has begun.
     Settled,
-    /// This change begins next, by rule 25. No step ends here.
+    /// Rule 25 begins this change in the same step.
     Wanted(Change),
-    /// The second fact of the epoch is saved, and the epoch is to end.
+    /// The second fact of the epoch is saved, and the epoch is ending.
     Finishing(Finishing),
 }
 
-/// A peer that leads: the first fact of its epoch, who accepted it, and the change of the view.
+/// A leading peer: the first fact of its epoch, the peers that accepted it, and the change of the
+/// view.
 #[derive(Debug, Drop)]
 pub struct Leadership {
     pub fact: Fact,
@@ -37,8 +38,8 @@ pub enum Phase {
     Leading(Leadership),
 }
 
-/// A peer without its number and its stores: the fact as it was saved last, whether the peer trusts
-/// its tree, and its phase.
+/// A peer without its number and its stores: the last saved fact, whether the peer trusts its tree,
+/// and its phase.
 #[derive(Debug, Drop)]
 pub struct State {
     pub fact: Fact,
@@ -46,14 +47,14 @@ pub struct State {
     pub phase: Phase,
 }
 
-/// The phase of a peer that follows and has counted no quiet tick.
+/// The phase of a following peer that has counted no quiet tick.
 pub(crate) fn following() -> Phase
     ensures { result ≡ follower }
 {
     Phase::Following(Follower { quiet: 0 })
 }
 
-/// Who accepted the epoch that is starting.
+/// The peers that accepted the epoch that is starting.
 fn accepts_of_election(election: &Election) -> PeerSet
     ensures { result ≡ accepts_of election.now }
 {
@@ -73,7 +74,7 @@ impl Phase {
         }
     }
 
-    /// A leader leaves leading; the others stay.
+    /// Steps down a leader. Any other phase stays.
     fn leave_leading(&mut self)
         ensures { self.new ≡ stopped_leading self.old }
     {
@@ -82,7 +83,7 @@ impl Phase {
         }
     }
 
-    /// A peer that starts an epoch follows; the others stay.
+    /// Makes a starting peer follow. Any other phase stays.
     fn leave_starting(&mut self)
         ensures { self.new ≡ without_candidacy self.old }
     {
@@ -93,7 +94,7 @@ impl Phase {
 }
 
 impl State {
-    /// A leader leaves leading, where a rule asks for it.
+    /// Steps down a leader, if `leave` is true.
     pub(crate) fn leave(&mut self, leave: bool)
         ensures { self.new ≡ left leave self.old }
     {
@@ -127,7 +128,7 @@ impl State {
         self.phase.leave_starting();
     }
 
-    /// Where the state goes after a rule.
+    /// Applies what follows the message of a rule, except that it runs no rule.
     pub(crate) fn turn(&mut self, then: Then)
         ensures { self.new ≡ turned then self.old }
     {
@@ -139,7 +140,7 @@ impl State {
         }
     }
 
-    /// Probing begins, where it does.
+    /// Begins to probe, if `probing` is given.
     pub(crate) fn seek(&mut self, probing: Option<Probing>)
         ensures { self.new ≡ sought probing self.old }
     {
@@ -148,7 +149,7 @@ impl State {
         }
     }
 
-    /// An election begins, where it does.
+    /// Begins an election, if `election` is given.
     pub(crate) fn stand(&mut self, election: Option<Election>)
         ensures { self.new ≡ stood election self.old }
     {

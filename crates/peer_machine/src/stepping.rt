@@ -16,7 +16,7 @@ use step_plans::{Outbox, PeerError, Store, Task, Tasks};
 use view_change::rule_24;
 use wire_frames::PhaseOut;
 
-/// More tasks than a step ever has.
+/// A number of tasks that no step reaches.
 #[tactic(auto, unfolding(crate::specs::Drives::most_turns))]
 fn most_turns() -> u64
     ensures { result ≡ most_turns }
@@ -64,7 +64,7 @@ impl Phase {
 impl State {
     ghost use Rattle.peer_machine.specs.Rows.{wanting, asked_change};
 
-    /// A leader is to begin this change.
+    /// Makes this change wanted, if the peer leads.
     fn want(&mut self, change: Change)
         ensures { self.new ≡ wanting change self.old.phase self.old }
     {
@@ -73,7 +73,7 @@ impl State {
         }
     }
 
-    /// Rule 24: someone asks for a change to this view.
+    /// Rule 24: a request to change to this view. Returns whether the request is taken.
     fn ask_change(&mut self, view: View) -> (PhaseOut, bool)
         ensures { (self.new, result) ≡ asked_change view self.old }
     {
@@ -133,7 +133,7 @@ impl<S> Machine<S> {
         }
     }
 
-    /// The row of the rule that an event is for.
+    /// Applies the row of the rule for an event.
     #[tactic(auto, using(crate::proofs::Parts::cut))]
     fn first<H>(
         &mut self,
@@ -168,7 +168,7 @@ impl<S> Machine<S> {
         }
     }
 
-    /// That row, and all that it names.
+    /// Applies the row for an event, and runs the rules that follow from it.
     #[tactic(auto, using(crate::proofs::Parts::cut))]
     fn respond<H>(
         &mut self,
@@ -190,7 +190,7 @@ impl<S> Machine<S> {
         Ok(())
     }
 
-    /// Rule 6: at the end of each step a leader may end its epoch.
+    /// Rule 6: at the end of each step, a leader may end its epoch.
     #[tactic(auto, using(crate::proofs::Parts::cut))]
     fn conclude<H>(
         &mut self,
@@ -209,7 +209,7 @@ impl<S> Machine<S> {
         Ok(())
     }
 
-    /// A whole step.
+    /// Takes a whole step.
     #[tactic(auto, using(crate::proofs::Parts::cut))]
     fn whole<H>(
         &mut self,
@@ -231,7 +231,7 @@ impl<S> Machine<S> {
         Ok(())
     }
 
-    /// Takes a step into an outbox that has notes alone.
+    /// Takes a step into an outbox that contains nothing but notes.
     fn take<H>(
         &mut self,
         hasher: &mut H,
@@ -251,7 +251,8 @@ impl<S> Machine<S> {
         self.whole(hasher, alloc, out, me, event)
     }
 
-    /// Takes a step. What it notes goes straight into the outbox, and what leaves the peer at its end.
+    /// Takes a step. Its notes go directly into the outbox, and its output is added to it once the
+    /// step ended well.
     pub(crate) fn step<H>(
         &mut self,
         hasher: &mut H,

@@ -1,4 +1,4 @@
--- Rounds: who has answered, and the state that follows.
+-- Rounds: which members have answered, and the state that follows.
 use Rattle.std.specs.Prelude.{◌≡◌, ℕ, Bool, true, false, ◌==◌, ◌||◌, if◌then◌else◌, List, replicate}
 use Rattle.ens_base.specs.PeerSet.{holds}
 use Rattle.joint_views.specs.Quorums.{is_quorum, has_every, voted, IsMember, HasEvery}
@@ -12,7 +12,7 @@ pub record AreWith (views : List (List ℕ)) (peer : ℕ) (votes votes_now : Lis
   pub member : IsMember views peer → (p : ℕ) → holds votes_now p ≡ (p == peer || holds votes p)
   pub other : ¬ IsMember views peer → votes_now ≡ votes
 
--- open without a quorum; all answered once every member of every view voted; met in between
+-- open without a quorum; all answered once every member of every view has voted; met in between
 abbrev pub IsState : (ℕ → Bool) → List (List ℕ) → RoundState → Type 0
 IsState votes views Open = is_quorum votes views ≡ false
 IsState votes views Met = (is_quorum votes views ≡ true) × ¬ HasEvery votes views
@@ -27,7 +27,7 @@ unfoldable pub begun : List (List ℕ) → ℕ → Round
 begun views me = answered me (record { tally = record { views = views; votes = replicate 32 false } })
 
 -- the state of a round with these votes: open without a quorum, all answered once every member of
--- each view has voted, and met in between
+-- every view has voted, and met in between
 abbrev pub state_of_votes : (ℕ → Bool) → List (List ℕ) → RoundState
 state_of_votes votes views = if is_quorum votes views then (if has_every votes views then AllAnswered else Met) else Open
 

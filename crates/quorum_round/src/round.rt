@@ -9,16 +9,15 @@ use joint_views::Tally;
 /// The state of a round.
 #[derive(Clone, Copy, Debug, PartialEq, Eq)]
 pub enum RoundState {
-    /// Those who answered are not a quorum.
+    /// The peers that answered are not a quorum.
     Open,
-    /// Those who answered are a quorum, and some member of some view has not answered.
+    /// The peers that answered are a quorum, and some member of some view has not answered.
     Met,
     /// Every member of every view has answered.
     AllAnswered,
 }
 
-/// The answers to a question that the leader of some views asked of all their members. Needs no
-/// heap memory.
+/// The answers to a question that a leader asked all members of its views. Needs no heap memory.
 #[derive(Clone, Copy, Debug)]
 pub struct Round {
     /// The answers, as votes.
@@ -37,8 +36,7 @@ fn all_are_a_quorum(tally: &Tally)
 }
 
 impl Round {
-    /// Begins a round on these views, with the answer of `me` counted if it is a member of some
-    /// view.
+    /// Begins a round on these views. The answer of `me` counts if it is a member of some view.
     #[tactic(auto, unfolding(crate::specs::Rounds::begun, crate::specs::Rounds::answered))]
     pub fn start(views: Views, me: PeerId) -> Round
         ensures round { result ≡ begun views me }
@@ -50,8 +48,8 @@ impl Round {
         Round { tally }
     }
 
-    /// Counts the answer of `peer`. A second answer of one peer, and an answer of a peer that is in
-    /// no view, change nothing.
+    /// Counts the answer of `peer`. A second answer of the same peer, or an answer of a peer that
+    /// is in no view, changes nothing.
     #[tactic(auto, unfolding(crate::specs::Rounds::answered))]
     pub fn vote(&mut self, peer: PeerId)
         ensures round { self.new ≡ answered peer self.old }

@@ -7,7 +7,7 @@ use Rattle.step_plans.specs.declared.tasks.Task.{Task}
 use Rattle.peer_machine.specs.declared.state.State.{State}
 use Rattle.peer_machine.proofs.machine.Machine.drive.Given as goal
 
--- what is left to do leads on from here, whatever follows
+-- running the tasks that are left from this point completes the whole loop, whatever follows
 abbrev pub invariant-loop-turn : goal.invariant-loop-turn
 invariant-loop-turn g l = (next : Rest State (List Task)) (e : Ending State) (end : _) (ls : List Note)
     → Runs g.S.Store.does g.S.Store.refuses (driven l.me (l.turns - l.turn) l.tasks l.self.state (out_of l.out) next) (l.self.stores, l.hasher) l.out.notes.items e end ls
