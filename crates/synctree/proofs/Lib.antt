@@ -5,3 +5,4 @@ pub mod Places
 pub mod Finding
 pub mod Storing
 pub mod Meaning
+pub mod Puts

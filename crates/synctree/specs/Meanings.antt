@@ -27,3 +27,8 @@ Opens did (Err refused) = did (Err refused.error) refused.held
 abbrev pub Freshens : {N : Type 0} → (Result (List ℕ) TreeError → N → Type 0) → Result (Tree N) (Refused N TreeError) → Type 0
 Freshens did (Ok tree) = IsSomeAnd tree.top (λ digest. did (Ok digest) tree.store)
 Freshens did (Err refused) = did (Err refused.error) refused.held
+
+-- the tree after an entry was entered: its top record names the digest that the plan came to, or the tree is as it was
+abbrev pub Enters : (Result (List ℕ) TreeError → Type 0) → Option (List ℕ) → Result (Unit {0}) TreeError → Option (List ℕ) → Type 0
+Enters did old (Ok x) new = IsSomeAnd new (λ digest. did (Ok digest))
+Enters did old (Err e) new = did (Err e) × (new ≡ old)
