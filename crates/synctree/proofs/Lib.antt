@@ -6,3 +6,4 @@ pub mod Finding
 pub mod Storing
 pub mod Meaning
 pub mod Puts
+pub mod Standing

@@ -1,13 +1,11 @@
 -- The steps of a walk that enters an entry.
-use Rattle.std.proofs.Common.{◌≡◌, ◌⊎◌, ℕ, zero, suc, ◌+◌, ◌<◌, ◌≤◌, ◌/◌, ◌%◌, drop, List, [], ◌∷◌, ◌++◌, Option, None, Some, Result, Ok, Err, IfOk, get_or, set, replicate, length, refl, ap, sym, ◌∙◌, subst, arith, Bool, true, false, cond}
+use Rattle.std.proofs.Common.{◌≡◌, ℕ, zero, suc, ◌<◌, ◌≤◌, ◌/◌, ◌%◌, drop, List, [], ◌∷◌, ◌++◌, Option, None, Some, Result, Ok, Err, IfOk, get_or, set, replicate, length, refl, ap, sym, ◌∙◌, subst, arith, Bool, true, false, cond}
 use Rattle.std.specs.Prelude.{IsErr, slice_get, ◌==◌, insert}
 use Rattle.std.specs.Result.{IsErrAnd}
-use Rattle.std.specs.List.{AllByRecursion}
 use Rattle.std.specs.declared.cmp.Ordering.{Ordering}
 use Rattle.std.specs.declared.cmp.Ordering.TheVariants.{Less, Equal, Greater}
 use Rattle.ens_base.specs.declared.entry.Entry.{Entry}
 use Rattle.ens_base.specs.Lists.{bytes_cmp}
-use Rattle.ens_fields.specs.Entries.{IsEntry}
 use Rattle.ens_outside.specs.Stores.{NodeCall, NodeAnswer}
 use Rattle.ens_outside.specs.declared.errors.StoreError.{StoreError}
 use Rattle.tree_node.specs.declared.position.Position.{Position}
@@ -19,7 +17,6 @@ use Rattle.tree_node.specs.Repeats.{AreListed}
 use Rattle.tree_maps.specs.Entries.{IsBelowAll, Ascends, put}
 use Rattle.tree_maps.specs.Forms.{Form, child}
 use Rattle.tree_maps.specs.Sixteen.{sixteen, spread, children_of, inner_node, segment, children_in}
-use Rattle.tree_maps.proofs.Orders.{less_trans}
 use Rattle.tree_maps.proofs.Parts.{ascends-put, below_trans}
 use Rattle.synctree.specs.declared.error.TreeError.{TreeError}
 use Rattle.synctree.specs.Plans.{Call, AnswerOf, Did}

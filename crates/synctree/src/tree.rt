@@ -1,4 +1,5 @@
-ghost use Rattle.std.specs.Prelude.{◌≡◌, ℕ, List, [], Option, None, Some, Ok, Err, IfOk, IfErr};
+ghost use Rattle.std.specs.Prelude.{◌≡◌, ℕ, List, [], Option, None, Some, Ok, Err, IfOk, IfErr, OnOk};
+ghost use Rattle.std.specs.Option.{IsSomeAnd};
 ghost use Rattle.tree_maps.specs.Maps.{Stands};
 ghost use Rattle.tree_maps.specs.Sixteen.{sixteen};
 ghost use Rattle.ens_outside.specs.Stores.{Top};
@@ -7,7 +8,7 @@ ghost use Rattle.synctree.specs.Halves.{NodesDid};
 ghost use Rattle.synctree.specs.Outsides.{outside_does, outside_refuses};
 ghost use Rattle.synctree.specs.Plans.{Did};
 ghost use Rattle.synctree.specs.Trees.{get_plan, insert_plan, fresh_plan};
-ghost use Rattle.synctree.specs.Meanings.{Finds, Opens, Freshens, Enters};
+ghost use Rattle.synctree.specs.Meanings.{Finds, Opens, Freshens, Enters, Inserts};
 
 use crate::calls;
 use crate::entering::enter_from_top;
@@ -129,6 +130,7 @@ impl<N: NodeStore> Tree<N> {
     ) -> Result<(), TreeError>
         ensures did { Enters (λ r. Did (outside_does N.may_answer N.top_record N.fault_count H.kept H.clashes H.fulls) (outside_refuses N.may_refuse N.top_record N.fault_count H.kept H.clashes H.fulls)
             (insert_plan sixteen self.old.top entry.now) (self.old.store, hasher.old) r (self.new.store, hasher.new)) self.old.top result self.new.top }
+        ensures stands { OnOk result (IsSomeAnd self.new.top (λ new. Inserts (outside_does N.may_answer N.top_record N.fault_count H.kept H.clashes H.fulls) sixteen self.old.top entry.now (self.old.store, hasher.old) new (self.new.store, hasher.new))) }
     {
         let new = enter_from_top(alloc, &mut self.store, hasher, self.top, entry)?;
         self.top = Some(new);

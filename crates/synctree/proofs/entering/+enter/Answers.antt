@@ -1,4 +1,4 @@
-use Rattle.std.proofs.Common.{◌≡◌, ◌<◌, ◌∙◌, ◌-◌, get_or, set, replicate, ap, sym, subst, arith, ℕ, suc, List, Option, None, Some, Ok, Err}
+use Rattle.std.proofs.Common.{◌<◌, ◌∙◌, ◌-◌, get_or, replicate, ap, sym, subst, arith, ℕ, List, Option, None, Ok, Err}
 use Rattle.tree_node.specs.declared.position.Position.{Position}
 use Rattle.tree_maps.specs.Sixteen.{sixteen, nibble}
 use Rattle.synctree.specs.Walks.{reach, store, enter}

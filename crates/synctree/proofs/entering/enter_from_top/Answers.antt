@@ -1,4 +1,4 @@
-use Rattle.std.proofs.Common.{◌≡◌, ◌∙◌, ap, sym, subst, refl, ℕ, List, [], Option, None, Some, Ok, Err}
+use Rattle.std.proofs.Common.{sym, subst, refl, ℕ, List, [], Option, Ok, Err}
 use Rattle.tree_maps.specs.Forms.{root}
 use Rattle.tree_maps.specs.Sixteen.{sixteen}
 use Rattle.synctree.specs.declared.error.TreeError.TheVariants.{Damaged}

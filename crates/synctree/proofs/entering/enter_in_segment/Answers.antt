@@ -1,9 +1,8 @@
-use Rattle.std.proofs.Common.{◌≡◌, ◌∙◌, ap, sym, subst, ℕ, List, [], Option, Ok, Err}
+use Rattle.std.proofs.Common.{sym, subst, List, []}
 use Rattle.ens_base.specs.declared.entry.Entry.{Entry}
 use Rattle.tree_node.specs.Entries.{AreAbove}
 use Rattle.tree_maps.specs.Entries.{put}
 use Rattle.tree_maps.specs.Sixteen.{sixteen}
-use Rattle.synctree.specs.declared.error.TreeError.{TreeError}
 use Rattle.synctree.specs.Walks.{reach, store}
 use Rattle.synctree.proofs.Exits.{DidOutside, after, cut_off, passed_on, memory_did}
 use Rattle.synctree.proofs.Puts.{put_above}

@@ -1,4 +1,4 @@
-use Rattle.std.proofs.Common.{◌≡◌, ◌∙◌, ap, sym, subst, refl, ℕ, List, [], Option, Some, Ok, Err}
+use Rattle.std.proofs.Common.{sym, subst, refl, ℕ, [], Some, Ok, Err}
 use Rattle.ens_outside.specs.Stores.{SetTop}
 use Rattle.tree_maps.specs.Forms.{root, IsPlace}
 use Rattle.tree_maps.specs.Sixteen.{sixteen}

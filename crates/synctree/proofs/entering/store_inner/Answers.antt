@@ -1,5 +1,4 @@
-use Rattle.std.proofs.Common.{◌≡◌, ◌∙◌, length, ap, sym, subst, ℕ, List, Option}
-use Rattle.tree_node.specs.declared.node.InnerNode.{InnerNode}
+use Rattle.std.proofs.Common.{◌∙◌, length, ap, sym, subst, ℕ, List}
 use Rattle.tree_node.specs.Nodes.{inner_spelling}
 use Rattle.std.specs.Prelude.{count_ones}
 use Rattle.tree_maps.proofs.Formats.{mask_ones}

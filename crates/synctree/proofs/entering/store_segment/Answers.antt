@@ -1,4 +1,4 @@
-use Rattle.std.proofs.Common.{◌≡◌, ◌∙◌, ap, sym, subst, ℕ, List, Option}
+use Rattle.std.proofs.Common.{◌∙◌, sym, subst, ℕ, List}
 use Rattle.synctree.specs.Walks.{store}
 use Rattle.synctree.proofs.Exits.{DidOutside}
 use Rattle.synctree.proofs.Puts.{segment_text_is}
