@@ -89,3 +89,7 @@ module _ {N H : Type 0} (may : N → (call : NodeCall) → NodeAnswer call → N
 
   pub cut_off : {A B : Type 0} (p : Plan A) (f : A → Plan B) (s t : N × H) (r : Result B TreeError) (e : TreeError) (G : TreeError → Type 0) → DidOutside p s (Err e) t → IsErr r → IsErrAnd r G → ((d : TreeError) → G d → d ≡ e) → DidOutside (p >>= f) s r t
   cut_off p f s t r e G a is and same = passed_on r e G (λ x. DidOutside (p >>= f) s x t) is and same (did_err (outside_does may top faults kept clashes fulls) (outside_refuses loses top faults kept clashes fulls) p f s t e a)
+
+  -- a refusal that is that memory ran out
+  pub memory_did : {A : Type 0} (plan : Plan A) (s : N × H) (e : TreeError) → e ≡ Memory → DidOutside plan s (Err e) s
+  memory_did plan s e is = subst (λ (x : TreeError). DidOutside plan s (Err x) s) (sym is) (out_of_memory plan s)

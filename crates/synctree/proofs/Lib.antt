@@ -5,3 +5,5 @@ pub mod Places
 pub mod Finding
 pub mod Storing
 pub mod Meaning
+pub mod Puts
+pub mod Standing

@@ -18,7 +18,7 @@ use Rattle.synctree.specs.Walks.{spelled, open_node, onward, find, store, set_to
 use Rattle.synctree.specs.Trees.{get_plan, fresh_plan}
 use Rattle.synctree.proofs.Composing.{hashed_append}
 
-ok_once : {A : Type 0} (x y : A) → (let r : Result A Position = Ok x in r) ≡ Ok y → x ≡ y
+pub ok_once : {A : Type 0} (x y : A) → (let r : Result A Position = Ok x in r) ≡ Ok y → x ≡ y
 ok_once x y e = cc
 
 in_left : (x : List ℕ) (xs ys : List (List ℕ)) → x ∈ xs → x ∈ (xs ++ ys)
@@ -30,13 +30,13 @@ in_right : (x : List ℕ) (xs ys : List (List ℕ)) → x ∈ ys → x ∈ (xs +
 in_right x [] ys h = h
 in_right x (y ∷ xs) ys h = inr (in_right x xs ys h)
 
-apart_left : (F : Form) (h : ℕ) (at : Position) (m : List Entry) (xs ys : List (List ℕ)) → AreApart (xs ++ ys) F h at m → AreApart xs F h at m
+pub apart_left : (F : Form) (h : ℕ) (at : Position) (m : List Entry) (xs ys : List (List ℕ)) → AreApart (xs ++ ys) F h at m → AreApart xs F h at m
 apart_left F h at m xs ys a s t i = a s t (in_left s xs ys i)
 
-apart_right : (F : Form) (h : ℕ) (at : Position) (m : List Entry) (xs ys : List (List ℕ)) → AreApart (xs ++ ys) F h at m → AreApart ys F h at m
+pub apart_right : (F : Form) (h : ℕ) (at : Position) (m : List Entry) (xs ys : List (List ℕ)) → AreApart (xs ++ ys) F h at m → AreApart ys F h at m
 apart_right F h at m xs ys a s t i = a s t (in_right s xs ys i)
 
-apart_child : (F : Form) (h : ℕ) (at : Position) (m : List Entry) (c : ℕ) → c < F.width → (xs : List (List ℕ)) → AreApart xs F (suc h) at m → AreApart xs F h (child F at c) (within F at c m)
+pub apart_child : (F : Form) (h : ℕ) (at : Position) (m : List Entry) (c : ℕ) → c < F.width → (xs : List (List ℕ)) → AreApart xs F (suc h) at m → AreApart xs F h (child F at c) (within F at c m)
 apart_child F h at m c l xs a s t i n = a s t i (inr (c, l, n))
 
 -- a plan after a plan that came to a value: what each came to

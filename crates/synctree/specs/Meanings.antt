@@ -1,15 +1,16 @@
 -- What the calls of a tree come to, for every map that stands under its top record.
 use Rattle.std.specs.Option.{IsSomeAnd}
-use Rattle.std.specs.Prelude.{◌≡◌, ℕ, List, Option, Some, Result, Ok, Err}
+use Rattle.std.specs.Prelude.{◌≡◌, ◌<◌, ◌^◌, length, ℕ, List, Option, Some, Result, Ok, Err}
 use Rattle.ens_base.specs.declared.entry.Entry.{Entry}
-use Rattle.tree_maps.specs.Entries.{lookup}
+use Rattle.ens_fields.specs.Entries.{IsEntry}
+use Rattle.tree_maps.specs.Entries.{lookup, put}
 use Rattle.tree_maps.specs.Forms.{Form, root}
 use Rattle.tree_maps.specs.Maps.{AreApart, Stands}
 use Rattle.synctree.specs.Plans.{Call, AnswerOf, Ends}
 use Rattle.slot_disk.specs.declared.refused.Refused.{Refused}
 use Rattle.synctree.specs.declared.error.TreeError.{TreeError}
 use Rattle.synctree.specs.declared.tree.Tree.{Tree}
-use Rattle.synctree.specs.Trees.{get_plan}
+use Rattle.synctree.specs.Trees.{get_plan, insert_plan}
 
 -- The plan of a get ended with this entry. It is that of the map that stands under the top record, unless a string that was hashed
 -- clashes with a node of that map.
@@ -27,3 +28,15 @@ Opens did (Err refused) = did (Err refused.error) refused.held
 abbrev pub Freshens : {N : Type 0} → (Result (List ℕ) TreeError → N → Type 0) → Result (Tree N) (Refused N TreeError) → Type 0
 Freshens did (Ok tree) = IsSomeAnd tree.top (λ digest. did (Ok digest) tree.store)
 Freshens did (Err refused) = did (Err refused.error) refused.held
+
+-- the tree after an entry was entered: its top record names the digest that the plan came to, or the tree is as it was
+abbrev pub Enters : (Result (List ℕ) TreeError → Type 0) → Option (List ℕ) → Result (Unit {0}) TreeError → Option (List ℕ) → Type 0
+Enters did old (Ok x) new = IsSomeAnd new (λ digest. did (Ok digest))
+Enters did old (Err e) new = did (Err e) × (new ≡ old)
+
+-- The plan of an insert ended with this digest in the top record. It names the map with the entry, where a map stood under the old
+-- top record, unless a string that was hashed clashes with a node of that map.
+pub record Inserts {S : Type 0} (does : S → (call : Call) → AnswerOf call → S → Type 0) (F : Form) (top : Option (List ℕ)) (e : Entry) (s : S) (new : List ℕ) (t : S) : Type 0 where
+  pub strings : List (List ℕ)
+  pub ends : Ends does (insert_plan F top e) s strings (Ok new) t
+  pub stands : (digest : List ℕ) (m : List Entry) → top ≡ Some digest → Stands F digest m → IsEntry e → length (put e m) < 2 ^ 32 → AreApart strings F F.depth root m → Stands F new (put e m)

@@ -10,9 +10,13 @@ use Rattle.synctree.specs.Walks.{find, enter, store, set_top, from_top}
 abbrev pub get_plan : Form → Option (List ℕ) → List ℕ → Plan (Option Entry)
 get_plan F top key = Ask (Hash key) (λ _. from_top top (λ digest. find F F.depth root digest key))
 
+-- the nodes of an entry's path from the root, and the top record
+abbrev pub publish_plan : Form → List ℕ → Entry → Plan (List ℕ)
+publish_plan F digest e = enter F F.depth root (Some digest) e >>= set_top
+
 -- enters an entry: the nodes of its path, and the top record last
 abbrev pub insert_plan : Form → Option (List ℕ) → Entry → Plan (List ℕ)
-insert_plan F top e = Ask (Hash e.key) (λ _. from_top top (λ digest. enter F F.depth root (Some digest) e >>= set_top))
+insert_plan F top e = Ask (Hash e.key) (λ _. from_top top (λ digest. publish_plan F digest e))
 
 -- the empty map
 abbrev pub fresh_plan : Form → Plan (List ℕ)

@@ -2,6 +2,7 @@
 #![tactic(auto)]
 
 mod calls;
+mod entering;
 mod error;
 mod reading;
 mod shape;

@@ -1,4 +1,5 @@
-ghost use Rattle.std.specs.Prelude.{◌≡◌, Some, None, length};
+ghost use Rattle.std.specs.Prelude.{◌≡◌, Some, None, length, IfOk};
+ghost use Rattle.tree_node.specs.Entries.{AreEntries};
 ghost use Rattle.tree_node.specs.Positions.{IsPosition};
 ghost use Rattle.tree_node.specs.Nodes.{inner_of, segment_of};
 ghost use Rattle.tree_maps.specs.Entries.{lookup as found};
@@ -30,7 +31,8 @@ pub(crate) fn inner(
 /// The entries of the segment that the bytes spell.
 pub(crate) fn segment(alloc: Global, bytes: &[u8], at: Position) -> Result<Seq<Entry>, TreeError>
     requires { IsPosition at }
-    ensures { Spells result at (entries_in (segment_of at bytes.now)) }
+    ensures read { Spells result at (entries_in (segment_of at bytes.now)) }
+    ensures entries { IfOk result (λ entries. AreEntries entries) }
 {
     match decode_segment(alloc, bytes, at) {
         Ok(node) => Ok(node.entries),

@@ -1,4 +1,4 @@
-ghost use Rattle.std.specs.Prelude.{◌≡◌, ◌≤◌, ◌<◌, ◌^◌, IfOk, IfErr, length, None, slice_get, get_or, if◌then◌else◌};
+ghost use Rattle.std.specs.Prelude.{◌≡◌, ◌≤◌, ◌<◌, ◌^◌, IfOk, IfErr, length, None, Some, set, slice_get, get_or, if◌then◌else◌};
 ghost use Rattle.md5.specs.Md5.{md5};
 ghost use Rattle.tree_node.specs.Positions.{IsPosition};
 ghost use Rattle.tree_node.specs.Nodes.{inner_of};
@@ -99,6 +99,20 @@ pub(crate) fn digests(alloc: Global, children: &[Option<Digest>]) -> Result<Seq<
         }
     }
     Ok(Seq::new(all))
+}
+
+/// The children with this digest for child `digit`.
+pub(crate) fn with_child(
+    children: Seq<Option<Digest>>,
+    digit: u8,
+    digest: Digest,
+) -> Seq<Option<Digest>>
+    requires { digit < length children }
+    ensures { result ≡ set children digit (Some digest) }
+{
+    let mut children = children.into_vec();
+    children[digit as usize] = Some(digest);
+    Seq::new(children)
 }
 
 /// The child that a digit names.

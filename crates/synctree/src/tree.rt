@@ -1,4 +1,5 @@
-ghost use Rattle.std.specs.Prelude.{◌≡◌, ℕ, List, [], Option, None, Some, Ok, Err, IfOk, IfErr};
+ghost use Rattle.std.specs.Prelude.{◌≡◌, ℕ, List, [], Option, None, Some, Ok, Err, IfOk, IfErr, OnOk};
+ghost use Rattle.std.specs.Option.{IsSomeAnd};
 ghost use Rattle.tree_maps.specs.Maps.{Stands};
 ghost use Rattle.tree_maps.specs.Sixteen.{sixteen};
 ghost use Rattle.ens_outside.specs.Stores.{Top};
@@ -6,10 +7,11 @@ ghost use Rattle.ens_outside.specs.Told.{IsTold};
 ghost use Rattle.synctree.specs.Halves.{NodesDid};
 ghost use Rattle.synctree.specs.Outsides.{outside_does, outside_refuses};
 ghost use Rattle.synctree.specs.Plans.{Did};
-ghost use Rattle.synctree.specs.Trees.{get_plan, fresh_plan};
-ghost use Rattle.synctree.specs.Meanings.{Finds, Opens, Freshens};
+ghost use Rattle.synctree.specs.Trees.{get_plan, insert_plan, fresh_plan};
+ghost use Rattle.synctree.specs.Meanings.{Finds, Opens, Freshens, Enters, Inserts};
 
 use crate::calls;
+use crate::entering::enter_from_top;
 use crate::error::TreeError;
 use crate::store::store_empty;
 use crate::walk::find_from_top;
@@ -115,5 +117,23 @@ impl<N: NodeStore> Tree<N> {
         ensures top { self.new.top ≡ self.old.top }
     {
         find_from_top(alloc, &mut self.store, hasher, self.top, key)
+    }
+
+    /// Enters the entry in the map, in place of one that has its key: writes the nodes on the path of
+    /// the key, the lowest first, and the top record last. After a refusal the tree is as it was; where
+    /// the store failed at its top record, that record is the old one or the new one.
+    pub fn insert<H: Hasher16>(
+        &mut self,
+        alloc: Global,
+        hasher: &mut H,
+        entry: &Entry,
+    ) -> Result<(), TreeError>
+        ensures did { Enters (λ r. Did (outside_does N.may_answer N.top_record N.fault_count H.kept H.clashes H.fulls) (outside_refuses N.may_refuse N.top_record N.fault_count H.kept H.clashes H.fulls)
+            (insert_plan sixteen self.old.top entry.now) (self.old.store, hasher.old) r (self.new.store, hasher.new)) self.old.top result self.new.top }
+        ensures stands { OnOk result (IsSomeAnd self.new.top (λ new. Inserts (outside_does N.may_answer N.top_record N.fault_count H.kept H.clashes H.fulls) sixteen self.old.top entry.now (self.old.store, hasher.old) new (self.new.store, hasher.new))) }
+    {
+        let new = enter_from_top(alloc, &mut self.store, hasher, self.top, entry)?;
+        self.top = Some(new);
+        Ok(())
     }
 }

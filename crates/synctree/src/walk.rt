@@ -1,6 +1,7 @@
 ghost use Rattle.std.specs.Prelude.{◌≡◌, ◌≤◌, ◌<◌, ◌^◌, ℕ, List, [], ◌∷◌, Option, None, Some, IfOk, length, replicate};
 ghost use Rattle.md5.specs.Md5.{md5};
 ghost use Rattle.tree_maps.specs.Entries.{put as put_in, lookup as found};
+ghost use Rattle.tree_node.specs.Entries.{AreEntries};
 ghost use Rattle.tree_node.specs.Positions.{IsPosition};
 ghost use Rattle.tree_maps.specs.Forms.{IsPlace};
 ghost use Rattle.tree_maps.specs.Sixteen.{sixteen};
@@ -42,7 +43,7 @@ fn fetch<N: NodeStore, H: Hasher16>(
 }
 
 /// The children of the inner node that stands under the digest.
-fn open_inner<N: NodeStore, H: Hasher16>(
+pub(crate) fn open_inner<N: NodeStore, H: Hasher16>(
     alloc: Global,
     nodes: &mut N,
     hasher: &mut H,
@@ -58,7 +59,7 @@ fn open_inner<N: NodeStore, H: Hasher16>(
 }
 
 /// The entries of the segment that stands under the digest.
-fn open_segment<N: NodeStore, H: Hasher16>(
+pub(crate) fn open_segment<N: NodeStore, H: Hasher16>(
     alloc: Global,
     nodes: &mut N,
     hasher: &mut H,
@@ -66,8 +67,9 @@ fn open_segment<N: NodeStore, H: Hasher16>(
     digest: &Digest,
 ) -> Result<Seq<Entry>, TreeError>
     requires { IsPosition at }
-    ensures { Did (outside_does N.may_answer N.top_record N.fault_count H.kept H.clashes H.fulls) (outside_refuses N.may_refuse N.top_record N.fault_count H.kept H.clashes H.fulls)
+    ensures did { Did (outside_does N.may_answer N.top_record N.fault_count H.kept H.clashes H.fulls) (outside_refuses N.may_refuse N.top_record N.fault_count H.kept H.clashes H.fulls)
         (open_node (sixteen.segment_at at) at digest.now) (nodes.old, hasher.old) result (nodes.new, hasher.new) }
+    ensures entries { IfOk result (λ entries. AreEntries entries) }
 {
     let bytes = fetch(alloc, nodes, hasher, at, digest)?;
     segment(alloc, bytes.as_slice(), at)

@@ -1,0 +1,229 @@
+ghost use Rattle.std.specs.Prelude.{◌≡◌, ◌≤◌, ◌<◌, [], None, IfOk, length, replicate};
+ghost use Rattle.md5.specs.Md5.{md5};
+ghost use Rattle.tree_node.specs.Positions.{IsPosition};
+ghost use Rattle.tree_node.specs.Entries.{AreAbove, AreEntries};
+ghost use Rattle.tree_maps.specs.Entries.{put};
+ghost use Rattle.tree_maps.specs.Forms.{IsPlace};
+ghost use Rattle.tree_maps.specs.Sixteen.{sixteen};
+ghost use Rattle.synctree.specs.Answers.{Makes};
+ghost use Rattle.synctree.specs.Outsides.{outside_does, outside_refuses};
+ghost use Rattle.synctree.specs.Plans.{Did};
+ghost use Rattle.synctree.specs.Walks.{reach, store as store_plan, enter as enter_plan};
+ghost use Rattle.synctree.specs.Trees.{publish_plan, insert_plan};
+
+use crate::calls::{hash, set_top};
+use crate::error::TreeError;
+use crate::shape::{DEPTH, ROOT, WIDTH, child, digests, mask, name_of, nibble, with_child};
+use crate::store::store;
+use crate::walk::{open_inner, open_segment};
+use ens_base::{Digest, Entry, Seq};
+use ens_hashing::Hasher16;
+use ens_outside::NodeStore;
+use std::alloc::Global;
+use std::cmp::Ordering;
+use tree_node::{InnerNode, Position, Segment};
+
+/// As many children as an inner node has, none of them there.
+fn no_children(alloc: Global) -> Result<Seq<Option<Digest>>, TreeError>
+    ensures { Makes result (replicate 16 None) }
+{
+    Ok(Seq::new(Vec::from_elem(alloc, None, WIDTH)?))
+}
+
+/// The children of the inner node under the digest, or of one without children.
+fn reach_inner<N: NodeStore, H: Hasher16>(
+    alloc: Global,
+    nodes: &mut N,
+    hasher: &mut H,
+    at: Position,
+    named: Option<Digest>,
+) -> Result<Seq<Option<Digest>>, TreeError>
+    requires { IsPosition at }
+    ensures did { Did (outside_does N.may_answer N.top_record N.fault_count H.kept H.clashes H.fulls) (outside_refuses N.may_refuse N.top_record N.fault_count H.kept H.clashes H.fulls)
+        (reach (sixteen.inner_at at) (replicate 16 None) at named) (nodes.old, hasher.old) result (nodes.new, hasher.new) }
+    ensures width { IfOk result (λ names. length names ≡ 16) }
+{
+    match named {
+        Some(digest) => open_inner(alloc, nodes, hasher, at, &digest),
+        None => no_children(alloc),
+    }
+}
+
+/// The entries of the segment under the digest, or no entries.
+fn reach_segment<N: NodeStore, H: Hasher16>(
+    alloc: Global,
+    nodes: &mut N,
+    hasher: &mut H,
+    at: Position,
+    named: Option<Digest>,
+) -> Result<Seq<Entry>, TreeError>
+    requires { IsPosition at }
+    ensures did { Did (outside_does N.may_answer N.top_record N.fault_count H.kept H.clashes H.fulls) (outside_refuses N.may_refuse N.top_record N.fault_count H.kept H.clashes H.fulls)
+        (reach (sixteen.segment_at at) [] at named) (nodes.old, hasher.old) result (nodes.new, hasher.new) }
+    ensures entries { IfOk result (λ entries. AreEntries entries) }
+{
+    match named {
+        Some(digest) => open_segment(alloc, nodes, hasher, at, &digest),
+        None => Ok(Seq::new(Vec::new(alloc))),
+    }
+}
+
+/// The entries with this one, in place of one that has its key.
+fn put_into(alloc: Global, entries: Seq<Entry>, entry: &Entry) -> Result<Seq<Entry>, TreeError>
+    ensures made { Makes result (put entry.now entries) }
+    ensures key { 1 ≤ length entry.now.key }
+{
+    let key = entry.key.bytes();
+    let copy = entry.copy(alloc)?;
+    let mut entries = entries.into_vec();
+    for i in 0..entries.len() {
+        match key.cmp(entries[i].key.bytes()) {
+            Ordering::Less => {
+                entries.insert(i, copy)?;
+                return Ok(Seq::new(entries));
+            }
+            Ordering::Equal => {
+                entries[i] = copy;
+                return Ok(Seq::new(entries));
+            }
+            Ordering::Greater => {}
+        }
+    }
+    entries.push(copy)?;
+    Ok(Seq::new(entries))
+}
+
+/// Writes the segment with these entries, and gives its digest.
+fn store_segment<N: NodeStore, H: Hasher16>(
+    alloc: Global,
+    nodes: &mut N,
+    hasher: &mut H,
+    at: Position,
+    entries: Seq<Entry>,
+) -> Result<Digest, TreeError>
+    requires position { IsPosition at }
+    requires ascending { AreAbove [] entries }
+    ensures { Did (outside_does N.may_answer N.top_record N.fault_count H.kept H.clashes H.fulls) (outside_refuses N.may_refuse N.top_record N.fault_count H.kept H.clashes H.fulls)
+        (store_plan (sixteen.segment_text at entries)) (nodes.old, hasher.old) result (nodes.new, hasher.new) }
+{
+    if entries.as_slice().len() > u32::MAX as usize {
+        return Err(TreeError::Memory);
+    }
+    let segment = Segment {
+        position: at,
+        entries,
+    };
+    let bytes = match segment.encode(alloc) {
+        Ok(bytes) => bytes,
+        Err(_) => return Err(TreeError::Memory),
+    };
+    store(alloc, nodes, hasher, bytes.as_slice())
+}
+
+/// Writes the inner node with these children, and gives its digest.
+fn store_inner<N: NodeStore, H: Hasher16>(
+    alloc: Global,
+    nodes: &mut N,
+    hasher: &mut H,
+    at: Position,
+    names: &[Option<Digest>],
+) -> Result<Digest, TreeError>
+    requires position { IsPosition at }
+    requires width { length names.now ≤ 16 }
+    ensures { Did (outside_does N.may_answer N.top_record N.fault_count H.kept H.clashes H.fulls) (outside_refuses N.may_refuse N.top_record N.fault_count H.kept H.clashes H.fulls)
+        (store_plan (sixteen.inner_text at names.now)) (nodes.old, hasher.old) result (nodes.new, hasher.new) }
+{
+    let node = InnerNode {
+        position: at,
+        mask: mask(names),
+        digests: digests(alloc, names)?,
+    };
+    let bytes = match node.encode(alloc) {
+        Ok(bytes) => bytes,
+        Err(_) => return Err(TreeError::Memory),
+    };
+    store(alloc, nodes, hasher, bytes.as_slice())
+}
+
+/// Writes the segment under the digest with the entry.
+fn enter_in_segment<N: NodeStore, H: Hasher16>(
+    alloc: Global,
+    nodes: &mut N,
+    hasher: &mut H,
+    at: Position,
+    named: Option<Digest>,
+    entry: &Entry,
+) -> Result<Digest, TreeError>
+    requires { IsPosition at }
+    ensures { Did (outside_does N.may_answer N.top_record N.fault_count H.kept H.clashes H.fulls) (outside_refuses N.may_refuse N.top_record N.fault_count H.kept H.clashes H.fulls)
+        (enter_plan sixteen 0 at named entry.now) (nodes.old, hasher.old) result (nodes.new, hasher.new) }
+{
+    let old = reach_segment(alloc, nodes, hasher, at, named)?;
+    let new = put_into(alloc, old, entry)?;
+    store_segment(alloc, nodes, hasher, at, new)
+}
+
+/// Writes the nodes on the path of the entry from one with `height` levels below it, the lowest node
+/// first, and gives the digest of the uppermost. The digest of the key is its path.
+fn enter<N: NodeStore, H: Hasher16>(
+    alloc: Global,
+    nodes: &mut N,
+    hasher: &mut H,
+    height: u8,
+    at: Position,
+    named: Option<Digest>,
+    path: &Digest,
+    entry: &Entry,
+) -> Result<Digest, TreeError>
+    requires place { IsPlace sixteen height at }
+    requires path { path.now ≡ md5 entry.now.key }
+    ensures { Did (outside_does N.may_answer N.top_record N.fault_count H.kept H.clashes H.fulls) (outside_refuses N.may_refuse N.top_record N.fault_count H.kept H.clashes H.fulls)
+        (enter_plan sixteen height at named entry.now) (nodes.old, hasher.old) result (nodes.new, hasher.new) }
+{
+    if height == 0 {
+        return enter_in_segment(alloc, nodes, hasher, at, named, entry);
+    }
+    let names = reach_inner(alloc, nodes, hasher, at, named)?;
+    let digit = nibble(path, at.level);
+    let named = name_of(names.as_slice(), digit);
+    let place = child(at, digit);
+    let below = enter(alloc, nodes, hasher, height - 1, place, named, path, entry)?;
+    let names = with_child(names, digit, below);
+    store_inner(alloc, nodes, hasher, at, names.as_slice())
+}
+
+/// Enters the entry in the tree under the top record, and gives the digest that is the new one.
+pub(crate) fn enter_from_top<N: NodeStore, H: Hasher16>(
+    alloc: Global,
+    nodes: &mut N,
+    hasher: &mut H,
+    top: Option<Digest>,
+    entry: &Entry,
+) -> Result<Digest, TreeError>
+    ensures { Did (outside_does N.may_answer N.top_record N.fault_count H.kept H.clashes H.fulls) (outside_refuses N.may_refuse N.top_record N.fault_count H.kept H.clashes H.fulls)
+        (insert_plan sixteen top entry.now) (nodes.old, hasher.old) result (nodes.new, hasher.new) }
+{
+    let path = hash(alloc, hasher, entry.key.bytes())?;
+    match top {
+        Some(digest) => publish(alloc, nodes, hasher, digest, &path, entry),
+        None => Err(TreeError::Damaged(ROOT)),
+    }
+}
+
+/// Writes the path of the entry from the root, and then the top record.
+fn publish<N: NodeStore, H: Hasher16>(
+    alloc: Global,
+    nodes: &mut N,
+    hasher: &mut H,
+    digest: Digest,
+    path: &Digest,
+    entry: &Entry,
+) -> Result<Digest, TreeError>
+    requires { path.now ≡ md5 entry.now.key }
+    ensures { Did (outside_does N.may_answer N.top_record N.fault_count H.kept H.clashes H.fulls) (outside_refuses N.may_refuse N.top_record N.fault_count H.kept H.clashes H.fulls)
+        (publish_plan sixteen digest entry.now) (nodes.old, hasher.old) result (nodes.new, hasher.new) }
+{
+    let new = enter(alloc, nodes, hasher, DEPTH, ROOT, Some(digest), path, entry)?;
+    set_top(nodes, &new)?;
+    Ok(new)
+}

@@ -1,0 +1,5 @@
+//! Tests of the hash tree, one file a tested crate.
+#![tactic(auto)]
+
+#[cfg(test)]
+mod synctree_tests;
