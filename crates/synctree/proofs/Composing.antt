@@ -1,4 +1,4 @@
--- A plan after a plan.
+-- One plan after another.
 use Rattle.std.proofs.Common.{◌≡◌, ℕ, List, ◌++◌, Result, Ok, Err, refl, ap, ◌∙◌, inl, inr}
 use Rattle.tree_node.specs.declared.position.Position.{Position}
 use Rattle.synctree.specs.declared.error.TreeError.{TreeError}
@@ -27,7 +27,7 @@ module _ {S : Type 0} (does : S → (call : Call) → AnswerOf call → S → Ty
       broken a b e = let one : a ≡ b = cc in ap Err one
   ends_broken (Ask call next) f s t xs at (answer, v, rest, d, e, more) = (answer, v, rest, d, e, ends_broken (next answer) f v t rest at more)
 
-  -- memory may run out anywhere
+  -- any plan may stop, out of memory
   pub stops_memory : {A : Type 0} (p : Plan A) (s : S) → Stops does refuses p s Memory s
   stops_memory (Done x) s = (refl, refl)
   stops_memory (Broken at) s = (refl, refl)
@@ -49,7 +49,7 @@ module _ {S : Type 0} (does : S → (call : Call) → AnswerOf call → S → Ty
   stops_then (Broken at) f s u t xs x e (n, is, same) then = absurd cc
   stops_then (Ask call next) f s u t xs x e (answer, v, rest, d, n, more) then = inr (inr (answer, v, d, stops_then (next answer) f v u t rest x e more then))
 
-  -- the first part came to a value, and the second did what follows it
+  -- the first part returned a value, and the second did what follows it
   pub did_then : {A B : Type 0} (p : Plan A) (f : A → Plan B) (s u t : S) (x : A) (r : Result B TreeError) → Did does refuses p s (Ok x) u → Did does refuses (f x) u r t → Did does refuses (p >>= f) s r t
   did_then p f s u t x (Ok y) (xs, a) (ys, b) = (xs ++ ys, ends_then p f s u t xs ys x (Ok y) a b)
   did_then p f s u t x (Err (Damaged at)) (xs, a) (ys, b) = (xs ++ ys, ends_then p f s u t xs ys x (Err at) a b)
@@ -58,7 +58,7 @@ module _ {S : Type 0} (does : S → (call : Call) → AnswerOf call → S → Ty
   did_then p f s u t x (Err (BookFull n)) (xs, a) b = stops_then p f s u t xs x (BookFull n) a b
   did_then p f s u t x (Err Memory) (xs, a) b = stops_then p f s u t xs x Memory a b
 
-  -- the first part was refused, and so is the whole
+  -- the first part failed, and so does the whole
   pub did_err : {A B : Type 0} (p : Plan A) (f : A → Plan B) (s t : S) (e : TreeError) → Did does refuses p s (Err e) t → Did does refuses (p >>= f) s (Err e) t
   did_err p f s t (Damaged at) (xs, a) = (xs, ends_broken p f s t xs at a)
   did_err p f s t Failed a = stops_first p f s t Failed a
@@ -66,7 +66,7 @@ module _ {S : Type 0} (does : S → (call : Call) → AnswerOf call → S → Ty
   did_err p f s t (BookFull n) a = stops_first p f s t (BookFull n) a
   did_err p f s t Memory a = stops_first p f s t Memory a
 
-  -- a plan's first call was answered
+  -- the first call of a plan was answered
   pub did_ask : {A : Type 0} (call : Call) (next : AnswerOf call → Plan A) (s u t : S) (answer : AnswerOf call) (r : Result A TreeError) → does s call answer u → Did does refuses (next answer) u r t → Did does refuses (Ask call next) s r t
   did_ask call next s u t answer (Ok y) d (ys, b) = (hashed call ys, (answer, u, ys, d, refl, b))
   did_ask call next s u t answer (Err (Damaged at)) d (ys, b) = (hashed call ys, (answer, u, ys, d, refl, b))

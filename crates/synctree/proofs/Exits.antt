@@ -1,4 +1,4 @@
--- How a call of the store or of the hasher begins a plan.
+-- How a call to the store or to the hasher begins a plan.
 use Rattle.std.proofs.Common.{◌≡◌, ℕ, List, [], Option, None, Some, Result, Ok, Err, refl, ap, sym, ◌∙◌, subst, inl, inr}
 use Rattle.std.specs.Prelude.{IsErr}
 use Rattle.std.specs.Result.{IsErrAnd}
@@ -17,7 +17,7 @@ use Rattle.synctree.specs.Walks.{verified, fetch, spelled}
 use Rattle.synctree.specs.Answers.{Spells, Makes}
 use Rattle.synctree.proofs.Composing.{did_ask, did_then, did_err, stops_memory}
 
--- what `?` gives back is the error that it met
+-- `?` returns the error that it met
 pub passed_on : {A : Type 0} (r : Result A TreeError) (e : TreeError) (G : TreeError → Type 0) (P : Result A TreeError → Type 0) → IsErr r → IsErrAnd r G → ((d : TreeError) → G d → d ≡ e) → P (Err e) → P r
 passed_on (Ok x) e G P is and same h = absurd cc
 passed_on {A} (Err d) e G P is and same h = subst (λ (x : TreeError). P (failed A x)) (sym (same d and)) h
@@ -79,7 +79,7 @@ module _ {N H : Type 0} (may : N → (call : NodeCall) → NodeAnswer call → N
   spelled_did (Err (BookFull b)) at o s is = absurd is
   spelled_did (Err Memory) at o s is = out_of_memory (spelled at o) s
 
-  -- a value that is made, unless memory runs out
+  -- a value is made, or out of memory
   pub made_did : {A : Type 0} (r : Result A TreeError) (x : A) (s : N × H) → Makes r x → DidOutside (Done x) s r s
   made_did (Ok y) x s is = rw is ([], (refl, refl, refl))
   made_did (Err e) x s is = rw is (refl, refl)
@@ -90,6 +90,6 @@ module _ {N H : Type 0} (may : N → (call : NodeCall) → NodeAnswer call → N
   pub cut_off : {A B : Type 0} (p : Plan A) (f : A → Plan B) (s t : N × H) (r : Result B TreeError) (e : TreeError) (G : TreeError → Type 0) → DidOutside p s (Err e) t → IsErr r → IsErrAnd r G → ((d : TreeError) → G d → d ≡ e) → DidOutside (p >>= f) s r t
   cut_off p f s t r e G a is and same = passed_on r e G (λ x. DidOutside (p >>= f) s x t) is and same (did_err (outside_does may top faults kept clashes fulls) (outside_refuses loses top faults kept clashes fulls) p f s t e a)
 
-  -- a refusal that is that memory ran out
+  -- any plan may stop with an error that is out of memory
   pub memory_did : {A : Type 0} (plan : Plan A) (s : N × H) (e : TreeError) → e ≡ Memory → DidOutside plan s (Err e) s
   memory_did plan s e is = subst (λ (x : TreeError). DidOutside plan s (Err x) s) (sym is) (out_of_memory plan s)

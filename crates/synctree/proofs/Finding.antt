@@ -1,4 +1,4 @@
--- The steps of a walk that finds.
+-- The steps of a walk that finds an entry.
 use Rattle.std.proofs.Common.{◌≡◌, ℕ, suc, List, [], Option, None, Some, Result, Ok, Err, get_or, refl, ap, sym, ◌∙◌, subst}
 use Rattle.std.specs.Prelude.{IsErr}
 use Rattle.std.specs.Result.{IsErrAnd}

@@ -1,4 +1,4 @@
--- What the walks of a tree come to, for every map that stands under its digest.
+-- What the walks of a tree return, for every map that stands under its digest.
 use Rattle.std.proofs.Common.{◌≡◌, ℕ, zero, suc, ◌<◌, Bool, true, false, cond, List, [], ◌∷◌, ◌++◌, Option, None, Some, Result, Ok, Err, IfOk, get_or, arith, refl, ap, sym, ◌∙◌, subst, inl, inr}
 use Rattle.std.specs.Prelude.{◌==◌}
 use Rattle.md5.specs.Md5.{md5}
@@ -39,7 +39,7 @@ apart_right F h at m xs ys a s t i = a s t (in_right s xs ys i)
 pub apart_child : (F : Form) (h : ℕ) (at : Position) (m : List Entry) (c : ℕ) → c < F.width → (xs : List (List ℕ)) → AreApart xs F (suc h) at m → AreApart xs F h (child F at c) (within F at c m)
 apart_child F h at m c l xs a s t i n = a s t i (inr (c, l, n))
 
--- a plan after a plan that came to a value: what each came to
+-- one plan after another, both ended well: what each returned
 pub record Parted {A B S : Type 0} (does : S → (call : Call) → AnswerOf call → S → Type 0) (p : Plan A) (f : A → Plan B) (s : S) (xs : List (List ℕ)) (y : B) (t : S) : Type 0 where
   pub first : List (List ℕ)
   pub second : List (List ℕ)
@@ -57,7 +57,7 @@ module _ {S : Type 0} (does : S → (call : Call) → AnswerOf call → S → Ty
       let r = parted (next answer) f u t rest y more in
       record { first = hashed call r.first; second = r.second; value = r.value; between = r.between; came = (answer, u, r.first, d, refl, r.came); went_on = r.went_on; strings = e ∙ ap (hashed call) r.strings ∙ sym (hashed_append call r.first r.second) }
 
-  -- bytes that have the digest and spell the node were hashed
+  -- bytes that have the digest and encode the node were hashed
   pub record Opened {A : Type 0} (node_at : List ℕ → Option A) (digest : List ℕ) (xs : List (List ℕ)) (node : A) : Type 0 where
     pub bytes : List ℕ
     pub hashes : xs ≡ bytes ∷ []
@@ -117,7 +117,7 @@ module _ {S : Type 0} (does : S → (call : Call) → AnswerOf call → S → Ty
             (λ e. below r.second r.between t (apart_child F h at m (F.digit key at.level) (laws.in_width key at.level) r.second (apart_right F (suc h) at m r.first r.second both)) e)
             ∙ sym (lookup_within F at key m)
 
-    -- the entry that a get answers is that of every map that stands under the top record
+    -- the entry that a get returns is the one of every map that stands under the top record
     pub get_answers : (digest key : List ℕ) (m : List Entry) (s t : S) (xs : List (List ℕ)) (o : Option Entry) → Stands F digest m → AreApart xs F F.depth root m → Ends does (get_plan F (Some digest) key) s xs (Ok o) t → o ≡ lookup key m
     get_answers digest key m s t xs o stands apart (tt, u, rest, d, e, more) = find_finds F.depth root m digest key u t rest o (root_place F) stands.is_map stands.root_is (λ a b i n. apart a b (subst (λ zs. a ∈ zs) (sym e) (inr i)) n) more
 

@@ -1,4 +1,4 @@
--- Positions of the tree of sixteen.
+-- Positions in the tree of sixteen.
 use Rattle.std.proofs.Common.{◌≡◌, ℕ, zero, suc, ◌+◌, ◌-◌, ◌*◌, ◌/◌, ◌%◌, ◌<◌, ◌≤◌, ◌^◌, Bool, true, false, cond, List, refl, sym, subst, arith}
 use Rattle.std.specs.Prelude.{slice_index, ◌==◌}
 use Rattle.tree_maps.proofs.Unique.{child_place}

@@ -95,7 +95,7 @@ put_above e (x ∷ es) l a = by (bytes_cmp e.key x.key) refl
     by Equal is = let s = rw is at sorted in rw is (some_above e.key l, ascends_above e.key es s.0 s.1)
     by Greater is = let s = rw is at sorted in rw is (some_above x.key a.0.1.key.size.0, ascends_above x.key (put e es) s.0 s.1)
 
--- where an entry goes
+-- the place of an entry
 pub put_same : (e : Entry) (xs : List Entry) (i : ℕ) → i < length xs → ((j : ℕ) → j < i → bytes_cmp e.key (get_or xs j e).key ≡ Greater) → bytes_cmp e.key (get_or xs i e).key ≡ Equal → put e xs ≡ set xs i e
 put_same e [] i l above same = absurd (omega arith)
 put_same e (x ∷ xs) zero l above same = rw same refl

@@ -1,4 +1,4 @@
--- What entering an entry comes to, for every map that stood under the top record.
+-- What entering an entry does to every map that stood under the top record.
 use Rattle.std.proofs.Common.{◌≡◌, ◌≢◌, ℕ, zero, suc, ◌+◌, ◌<◌, ◌^◌, false, List, [], ◌∷◌, ◌++◌, Option, None, Some, Ok, get_or, set, replicate, length, refl, ap, sym, ◌∙◌, subst, arith, inr}
 use Rattle.std.specs.Prelude.{◌==◌}
 use Rattle.std.proofs.lemmas.Bool.Decides.{nat_tests}
@@ -19,7 +19,7 @@ use Rattle.synctree.specs.Walks.{reach, store, set_top, enter}
 use Rattle.synctree.specs.Trees.{insert_plan}
 use Rattle.synctree.proofs.Meaning.{ok_once, apart_left, apart_right, apart_child, parted, opened, segment_is, names_are}
 
--- the digest of a part of a map, none where it has no node
+-- the digest of the node of a part of a map, or none if the part is empty
 abbrev Names : Form → ℕ → Position → Option (List ℕ) → List Entry → Type 0
 Names F h at None m = m ≡ []
 Names F h at (Some d) m = d ≡ md5 (text F h at m)

@@ -1,4 +1,4 @@
--- What one call of the store, or of the hasher, did.
+-- What one call to the store, or to the hasher, did.
 use Rattle.std.specs.Prelude.{◌≡◌, ◌≤◌, ℕ, List, Option, Result, Ok, Err}
 use Rattle.ens_base.specs.Causes.{Rose}
 use Rattle.ens_hashing.specs.Hashing.{Takes, Stays, Refuses}
@@ -25,7 +25,7 @@ HasherDid kept clashes fulls bytes s (Err (BookFull n)) t = Stays (kept s) (kept
 HasherDid kept clashes fulls bytes s (Err Memory) t = Stays (kept s) (kept t) × Refuses bytes (kept s) (clashes s) (clashes t) (fulls s) (fulls t) hashes.Memory
 HasherDid kept clashes fulls bytes s (Err e) t = ⊥
 
--- the refusal of a hasher, in the words of a tree
+-- the error of a tree for this error of a hasher
 abbrev pub refused : HashError → TreeError
 refused (hashes.Clash first second) = Clash first second
 refused (hashes.BookFull n) = BookFull n

@@ -9,7 +9,7 @@ use ens_hashing::{HashError, Hasher16};
 use ens_outside::{NodeStore, StoreError};
 use std::alloc::Global;
 
-/// The bytes that stand under the digest, if any do.
+/// Returns the bytes under `digest`, or `None` if there are none.
 pub(crate) fn read<N: NodeStore>(
     alloc: Global,
     nodes: &mut N,
@@ -25,7 +25,7 @@ pub(crate) fn read<N: NodeStore>(
     }
 }
 
-/// Writes these bytes under the digest.
+/// Stores `bytes` under `digest`.
 pub(crate) fn write<N: NodeStore>(
     alloc: Global,
     nodes: &mut N,
@@ -41,7 +41,7 @@ pub(crate) fn write<N: NodeStore>(
     }
 }
 
-/// Writes the top record.
+/// Writes `digest` into the top record.
 pub(crate) fn set_top<N: NodeStore>(nodes: &mut N, digest: &Digest) -> Result<(), TreeError>
     ensures { NodesDid N.may_answer N.may_refuse N.top_record N.fault_count (SetTop digest.now) nodes.old result nodes.new }
 {
@@ -52,7 +52,7 @@ pub(crate) fn set_top<N: NodeStore>(nodes: &mut N, digest: &Digest) -> Result<()
     }
 }
 
-/// The digest in the top record, if there is one.
+/// Returns the digest in the top record, or `None` if there is no record.
 pub(crate) fn top<N: NodeStore>(nodes: &mut N) -> Result<Option<Digest>, TreeError>
     ensures { NodesDid N.may_answer N.may_refuse N.top_record N.fault_count Top nodes.old result nodes.new }
 {
@@ -63,7 +63,7 @@ pub(crate) fn top<N: NodeStore>(nodes: &mut N) -> Result<Option<Digest>, TreeErr
     }
 }
 
-/// The MD5 of the bytes, which the hasher takes.
+/// Gives the bytes to the hasher, and returns their MD5.
 pub(crate) fn hash<H: Hasher16>(
     alloc: Global,
     hasher: &mut H,
@@ -78,7 +78,7 @@ pub(crate) fn hash<H: Hasher16>(
     }
 }
 
-/// The refusal of a hasher, in the words of a tree.
+/// Returns the error of a tree for this error of a hasher.
 fn refused(e: HashError) -> TreeError
     ensures { result ≡ Rattle.synctree.specs.Halves.refused e }
 {

@@ -23,14 +23,14 @@ use std::alloc::Global;
 use std::cmp::Ordering;
 use tree_node::{InnerNode, Position, Segment};
 
-/// As many children as an inner node has, none of them there.
+/// Returns the children of an inner node that has none.
 fn no_children(alloc: Global) -> Result<Seq<Option<Digest>>, TreeError>
     ensures { Makes result (replicate 16 None) }
 {
     Ok(Seq::new(Vec::from_elem(alloc, None, WIDTH)?))
 }
 
-/// The children of the inner node under the digest, or of one without children.
+/// Returns the children of the inner node that is named, or of one that has none.
 fn reach_inner<N: NodeStore, H: Hasher16>(
     alloc: Global,
     nodes: &mut N,
@@ -49,7 +49,7 @@ fn reach_inner<N: NodeStore, H: Hasher16>(
     }
 }
 
-/// The entries of the segment under the digest, or no entries.
+/// Returns the entries of the segment that is named, or no entries.
 fn reach_segment<N: NodeStore, H: Hasher16>(
     alloc: Global,
     nodes: &mut N,
@@ -68,7 +68,7 @@ fn reach_segment<N: NodeStore, H: Hasher16>(
     }
 }
 
-/// The entries with this one, in place of one that has its key.
+/// Adds a copy of `entry`, in place of the entry of its key. Fails only when out of memory.
 fn put_into(alloc: Global, entries: Seq<Entry>, entry: &Entry) -> Result<Seq<Entry>, TreeError>
     ensures made { Makes result (put entry.now entries) }
     ensures key { 1 ≤ length entry.now.key }
@@ -93,7 +93,7 @@ fn put_into(alloc: Global, entries: Seq<Entry>, entry: &Entry) -> Result<Seq<Ent
     Ok(Seq::new(entries))
 }
 
-/// Writes the segment with these entries, and gives its digest.
+/// Writes the segment with these entries, and returns its digest.
 fn store_segment<N: NodeStore, H: Hasher16>(
     alloc: Global,
     nodes: &mut N,
@@ -120,7 +120,7 @@ fn store_segment<N: NodeStore, H: Hasher16>(
     store(alloc, nodes, hasher, bytes.as_slice())
 }
 
-/// Writes the inner node with these children, and gives its digest.
+/// Writes the inner node with these children, and returns its digest.
 fn store_inner<N: NodeStore, H: Hasher16>(
     alloc: Global,
     nodes: &mut N,
@@ -145,7 +145,8 @@ fn store_inner<N: NodeStore, H: Hasher16>(
     store(alloc, nodes, hasher, bytes.as_slice())
 }
 
-/// Writes the segment under the digest with the entry.
+/// Enters the entry into the segment that is named, or into an empty one. Returns the digest of the
+/// segment that was written.
 fn enter_in_segment<N: NodeStore, H: Hasher16>(
     alloc: Global,
     nodes: &mut N,
@@ -163,8 +164,8 @@ fn enter_in_segment<N: NodeStore, H: Hasher16>(
     store_segment(alloc, nodes, hasher, at, new)
 }
 
-/// Writes the nodes on the path of the entry from one with `height` levels below it, the lowest node
-/// first, and gives the digest of the uppermost. The digest of the key is its path.
+/// Enters the entry under a node with `height` levels below it: writes the nodes on its path, the
+/// lowest first, and returns the digest of the topmost. `path` is the digest of the entry's key.
 fn enter<N: NodeStore, H: Hasher16>(
     alloc: Global,
     nodes: &mut N,
@@ -192,7 +193,7 @@ fn enter<N: NodeStore, H: Hasher16>(
     store_inner(alloc, nodes, hasher, at, names.as_slice())
 }
 
-/// Enters the entry in the tree under the top record, and gives the digest that is the new one.
+/// Enters the entry into the tree under the top record, and returns the digest of the new root.
 pub(crate) fn enter_from_top<N: NodeStore, H: Hasher16>(
     alloc: Global,
     nodes: &mut N,
@@ -210,7 +211,8 @@ pub(crate) fn enter_from_top<N: NodeStore, H: Hasher16>(
     }
 }
 
-/// Writes the path of the entry from the root, and then the top record.
+/// Writes the nodes on the path of the entry from the root, and then the top record. Returns the
+/// digest of the new root.
 fn publish<N: NodeStore, H: Hasher16>(
     alloc: Global,
     nodes: &mut N,

@@ -5,19 +5,19 @@ use ens_base::CopyError;
 use std::alloc::{AllocError, AllocFailed};
 use tree_node::Position;
 
-/// Why a tree did not answer.
+/// Why a call of a tree failed.
 #[derive(Debug, PartialEq, Eq, Drop)]
 pub enum TreeError {
-    /// The first position from the root that does not verify: its node is missing, or its MD5 is not
-    /// the digest above it, or its bytes are no node of that position.
+    /// The first position from the root that does not verify: its node is missing, its MD5 is not
+    /// the digest that names it, or its bytes are not a node of this position.
     Damaged(Position),
-    /// The store failed. Its count of faults has risen.
+    /// The store failed: its count of faults rose.
     Failed,
-    /// Two different strings have one digest: the kept one, and the new one.
+    /// Two different strings have the same digest: the one kept, and the new one.
     Clash { first: Vec<u8>, second: Vec<u8> },
-    /// How many bytes are kept, where the new string would pass the limit.
+    /// The book of hashes would pass its limit with the new string. Holds the number of bytes kept.
     BookFull(u64),
-    /// Memory ran out.
+    /// Out of memory.
     Memory,
 }
 

@@ -12,7 +12,8 @@ use ens_base::{Digest, Entry, Key, Seq};
 use std::alloc::Global;
 use tree_node::{NodeError, Position, decode_inner, decode_segment};
 
-/// The children of the inner node that the bytes spell.
+/// Decodes an inner node, and returns its children. `Damaged` names `at` if the bytes are not an
+/// inner node of that position.
 pub(crate) fn inner(
     alloc: Global,
     bytes: &[u8],
@@ -28,7 +29,8 @@ pub(crate) fn inner(
     }
 }
 
-/// The entries of the segment that the bytes spell.
+/// Decodes a segment, and returns its entries. `Damaged` names `at` if the bytes are not a segment
+/// of that position.
 pub(crate) fn segment(alloc: Global, bytes: &[u8], at: Position) -> Result<Seq<Entry>, TreeError>
     requires { IsPosition at }
     ensures read { Spells result at (entries_in (segment_of at bytes.now)) }
@@ -41,7 +43,7 @@ pub(crate) fn segment(alloc: Global, bytes: &[u8], at: Position) -> Result<Seq<E
     }
 }
 
-/// The entry of the key.
+/// Returns a copy of the entry of the key, if there is one. Fails only when out of memory.
 pub(crate) fn lookup(
     alloc: Global,
     entries: &[Entry],

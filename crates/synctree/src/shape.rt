@@ -11,17 +11,17 @@ use ens_base::{Digest, Seq};
 use std::alloc::Global;
 use tree_node::{InnerNode, Position};
 
-/// How many children an inner node has.
+/// The number of children of an inner node.
 pub(crate) const WIDTH: usize = 16;
 
-/// The levels of inner nodes.
+/// The number of levels of inner nodes.
 pub(crate) const DEPTH: u8 = 3;
 
-/// The root's position.
+/// The position of the root.
 pub(crate) const ROOT: Position = Position { level: 0, index: 0 };
 
-/// Nibble `level` of the digest, the high one of a byte first: the child that a key with this digest
-/// goes to at that level.
+/// Returns nibble `level` of the digest, the high nibble of a byte first: at this level, a key with
+/// this digest belongs to the child of this number.
 pub(crate) fn nibble(digest: &Digest, level: u8) -> u8
     requires { level < 4 }
     ensures { result ≡ Rattle.tree_maps.specs.Sixteen.nibble digest.now level }
@@ -34,7 +34,7 @@ pub(crate) fn nibble(digest: &Digest, level: u8) -> u8
     }
 }
 
-/// The next digest, where the child is there.
+/// Returns digest `next` if the child is present.
 fn if_there(is_there: bool, digests: &[Digest], next: usize) -> Option<Digest>
     ensures { result ≡ (if is_there then slice_get digests.now next else None) }
 {
@@ -45,7 +45,7 @@ fn if_there(is_there: bool, digests: &[Digest], next: usize) -> Option<Digest>
     }
 }
 
-/// The digest of child `digit`, none where it is not there.
+/// Returns the digest of child `digit`, or `None` if there is no such child.
 pub(crate) fn name_of(children: &[Option<Digest>], digit: u8) -> Option<Digest>
     ensures { result ≡ get_or children.now digit None }
 {
@@ -55,7 +55,8 @@ pub(crate) fn name_of(children: &[Option<Digest>], digit: u8) -> Option<Digest>
     }
 }
 
-/// The children of an inner node, none for one that is not there.
+/// Returns the children of an inner node, `None` for each that is missing. Fails only when out of
+/// memory.
 pub(crate) fn children(alloc: Global, node: &InnerNode) -> Result<Seq<Option<Digest>>, TreeError>
     ensures ok { IfOk result (λ cs. cs ≡ children_of node.now.mask node.now.digests) }
     ensures memory { IfErr result (λ e. e ≡ Memory) }
@@ -73,7 +74,7 @@ pub(crate) fn children(alloc: Global, node: &InnerNode) -> Result<Seq<Option<Dig
     Ok(Seq::new(all))
 }
 
-/// Bit c says whether child c is there.
+/// Returns the mask of the children: bit c says whether child c is present.
 pub(crate) fn mask(children: &[Option<Digest>]) -> u16
     requires { length children.now ≤ 16 }
     ensures { result ≡ mask_of children.now }
@@ -87,7 +88,7 @@ pub(crate) fn mask(children: &[Option<Digest>]) -> u16
     mask
 }
 
-/// The digests of the children that are there.
+/// Returns the digests of the children that are present. Fails only when out of memory.
 pub(crate) fn digests(alloc: Global, children: &[Option<Digest>]) -> Result<Seq<Digest>, TreeError>
     ensures ok { IfOk result (λ ds. ds ≡ digests_of children.now) }
     ensures memory { IfErr result (λ e. e ≡ Memory) }
@@ -101,7 +102,7 @@ pub(crate) fn digests(alloc: Global, children: &[Option<Digest>]) -> Result<Seq<
     Ok(Seq::new(all))
 }
 
-/// The children with this digest for child `digit`.
+/// Sets the digest of child `digit`.
 pub(crate) fn with_child(
     children: Seq<Option<Digest>>,
     digit: u8,
@@ -115,7 +116,7 @@ pub(crate) fn with_child(
     Seq::new(children)
 }
 
-/// The child that a digit names.
+/// Returns the position of child `digit`.
 pub(crate) fn child(at: Position, digit: u8) -> Position
     requires position { IsPosition at }
     requires above { at.level < 3 }

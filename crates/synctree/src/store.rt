@@ -15,7 +15,7 @@ use ens_outside::NodeStore;
 use std::alloc::Global;
 use tree_node::InnerNode;
 
-/// Writes a node under its digest.
+/// Writes a node under its MD5, and returns the digest.
 pub(crate) fn store<N: NodeStore, H: Hasher16>(
     alloc: Global,
     nodes: &mut N,
@@ -30,7 +30,7 @@ pub(crate) fn store<N: NodeStore, H: Hasher16>(
     Ok(digest)
 }
 
-/// Writes the root of the empty map, and the top record. The digest in it is the answer.
+/// Writes the root of the empty map, and then the top record. Returns the digest of the root.
 pub(crate) fn store_empty<N: NodeStore, H: Hasher16>(
     alloc: Global,
     nodes: &mut N,

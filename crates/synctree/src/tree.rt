@@ -22,7 +22,8 @@ use slot_disk::Refused;
 use std::alloc::Global;
 use std::marker::Model;
 
-/// What is left of a tree when its store is taken out: the digest in the top record, if there is one.
+/// What remains of a tree when its store is taken out: the digest in the top record, if there is
+/// one.
 #[derive(Clone, Copy, Debug, PartialEq, Eq)]
 pub struct TreeMark {
     top: Option<Digest>,
@@ -38,9 +39,9 @@ impl Model for TreeMark {
     ghost inverse = { λ top. record { top = top } };
 }
 
-/// A map from keys to entries, kept as a hash tree in a store of nodes. The digest in the top record
-/// names the map; nothing else that the store gives is believed before its MD5 was compared with the
-/// digest that names it.
+/// A map from keys to entries, kept as a hash tree in a store of nodes. The digest in the top
+/// record names the map. Nothing else that the store returns is used before its MD5 was compared
+/// with the digest that names it.
 #[derive(Drop)]
 pub struct Tree<N> {
     store: N,
@@ -48,7 +49,8 @@ pub struct Tree<N> {
 }
 
 impl<N: NodeStore> Tree<N> {
-    /// The tree of the top record. A store without a top record gives a tree whose root is damaged.
+    /// Opens the tree under the top record. Without a top record, the root of the tree is damaged.
+    /// Fails if the store does, or when out of memory, and then returns the store.
     pub fn open(mut store: N) -> Result<Tree<N>, Refused<N, TreeError>>
         ensures { Opens (NodesDid N.may_answer N.may_refuse N.top_record N.fault_count Top store) result }
     {
@@ -58,7 +60,8 @@ impl<N: NodeStore> Tree<N> {
         }
     }
 
-    /// The tree of the empty map, which is written.
+    /// Writes the empty map, and returns its tree. Fails if the store or the hasher does, or when
+    /// out of memory, and then returns the store.
     pub fn fresh<H: Hasher16>(
         alloc: Global,
         mut store: N,
@@ -77,14 +80,14 @@ impl<N: NodeStore> Tree<N> {
         }
     }
 
-    /// The digest in the top record, if there is one.
+    /// Returns the digest in the top record, if there is one.
     pub fn top(&self) -> Option<Digest>
         ensures { result ≡ self.now.top }
     {
         self.top
     }
 
-    /// Takes the store out. `join` makes the tree again.
+    /// Takes the store out of the tree. `join` makes the tree again.
     pub fn split(self) -> (TreeMark, N)
         ensures { result ≡ (self.top, self.store) }
     {
@@ -92,7 +95,8 @@ impl<N: NodeStore> Tree<N> {
         (TreeMark { top }, store)
     }
 
-    /// The tree that was split. The store, where it tells its top record, has the one of the mark.
+    /// Makes the tree of `mark` over `store`. If the top record of the store is known, it is the
+    /// one of the mark.
     pub fn join(mark: TreeMark, store: N) -> Tree<N>
         requires { IsTold (N.top_record store) mark }
         ensures { (result.top ≡ mark) × (result.store ≡ store) }
@@ -103,8 +107,10 @@ impl<N: NodeStore> Tree<N> {
         }
     }
 
-    /// The entry of the key, if the map has one. `Damaged` names the first position from the root on
-    /// the path of the key that does not verify.
+    /// Returns the entry of the key, or `None` if the map has none. `Damaged` names the first
+    /// position on the path of the key, from the root, that does not verify. If a map stands under
+    /// the top record, the answer is the one of that map, unless a string that was hashed has the
+    /// digest of a different node of the map.
     pub fn get<H: Hasher16>(
         &mut self,
         alloc: Global,
@@ -119,9 +125,13 @@ impl<N: NodeStore> Tree<N> {
         find_from_top(alloc, &mut self.store, hasher, self.top, key)
     }
 
-    /// Enters the entry in the map, in place of one that has its key: writes the nodes on the path of
-    /// the key, the lowest first, and the top record last. After a refusal the tree is as it was; where
-    /// the store failed at its top record, that record is the old one or the new one.
+    /// Enters the entry into the map, in place of the entry of its key: writes the nodes on the
+    /// path of the key, the lowest first, and the top record last. If a map stands under the old
+    /// top record, the map with the entry, if it has fewer than 2^32 entries, stands under the new
+    /// one, unless a string that was hashed has the digest of a different node of the old map.
+    ///
+    /// After an error the tree still has its old root. If the store failed while it wrote the top
+    /// record, the stored record is the old one or the new one.
     pub fn insert<H: Hasher16>(
         &mut self,
         alloc: Global,

@@ -20,7 +20,8 @@ use ens_outside::NodeStore;
 use std::alloc::Global;
 use tree_node::Position;
 
-/// The bytes that stand under the digest, which is their MD5.
+/// Returns the bytes stored under the digest, which is their MD5. `Damaged` names `at` if there are
+/// no such bytes.
 fn fetch<N: NodeStore, H: Hasher16>(
     alloc: Global,
     nodes: &mut N,
@@ -42,7 +43,7 @@ fn fetch<N: NodeStore, H: Hasher16>(
     }
 }
 
-/// The children of the inner node that stands under the digest.
+/// Returns the children of the inner node under the digest.
 pub(crate) fn open_inner<N: NodeStore, H: Hasher16>(
     alloc: Global,
     nodes: &mut N,
@@ -58,7 +59,7 @@ pub(crate) fn open_inner<N: NodeStore, H: Hasher16>(
     inner(alloc, bytes.as_slice(), at)
 }
 
-/// The entries of the segment that stands under the digest.
+/// Returns the entries of the segment under the digest.
 pub(crate) fn open_segment<N: NodeStore, H: Hasher16>(
     alloc: Global,
     nodes: &mut N,
@@ -75,7 +76,7 @@ pub(crate) fn open_segment<N: NodeStore, H: Hasher16>(
     segment(alloc, bytes.as_slice(), at)
 }
 
-/// The entry of the key in the segment that stands under the digest.
+/// Returns the entry of the key in the segment under the digest.
 fn find_in_segment<N: NodeStore, H: Hasher16>(
     alloc: Global,
     nodes: &mut N,
@@ -92,8 +93,8 @@ fn find_in_segment<N: NodeStore, H: Hasher16>(
     lookup(alloc, entries.as_slice(), key)
 }
 
-/// The entry of the key under a node with `height` levels below it, whose digest is given. The digest
-/// of the key is its path.
+/// Returns the entry of the key under a node with this digest and `height` levels below it. `path`
+/// is the digest of the key.
 fn find<N: NodeStore, H: Hasher16>(
     alloc: Global,
     nodes: &mut N,
@@ -123,7 +124,7 @@ fn find<N: NodeStore, H: Hasher16>(
     }
 }
 
-/// The entry of the key in the tree under the top record.
+/// Returns the entry of the key in the tree under the top record.
 pub(crate) fn find_from_top<N: NodeStore, H: Hasher16>(
     alloc: Global,
     nodes: &mut N,
