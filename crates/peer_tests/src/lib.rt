@@ -9,6 +9,10 @@ mod network_tests;
 #[cfg(test)]
 mod peer_core_tests;
 #[cfg(test)]
+mod peer_machine_tests;
+#[cfg(test)]
+mod step_plans_tests;
+#[cfg(test)]
 mod world_model_tests;
 #[cfg(test)]
 mod world_spec_tests;
