@@ -102,3 +102,7 @@ sixteen_laws = record {
   inner_again = λ h at cs p l names. inner_reads h at cs p l names;
   segment_again = λ h at es p ok. segment_reads h at es p ok;
 }
+
+pub sixteen_shape : (sixteen.width ≡ 16) × (sixteen.depth ≡ 3)
+unfolding sixteen
+sixteen_shape = (refl, refl)

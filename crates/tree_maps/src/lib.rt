@@ -9,4 +9,4 @@
 
 mod laws;
 
-pub use laws::one_map_stands;
+pub use laws::{nodes_are_read_again, one_map_stands};
