@@ -1,13 +1,11 @@
 //! Tests of the leader's crates: the counting of votes and rounds, the outcome of each command, the
-//! objects that a backend keeps, the table of a leader's calls, and the rules of a leader.
+//! objects that a backend keeps, and the table of a leader's calls.
 #![tactic(auto)]
 
 #[cfg(test)]
 mod commands;
 #[cfg(test)]
 mod kept;
-#[cfg(test)]
-mod leaders;
 #[cfg(test)]
 mod rounds;
 #[cfg(test)]
