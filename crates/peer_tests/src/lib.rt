@@ -9,8 +9,6 @@ mod network_tests;
 #[cfg(test)]
 mod peer_core_tests;
 #[cfg(test)]
-mod peer_machine_tests;
-#[cfg(test)]
 mod step_plans_tests;
 #[cfg(test)]
 mod world_model_tests;
