@@ -105,3 +105,20 @@ state_after view (step ∷ steps) = happens (state_after view steps) step
 abbrev pub IsRun : List ℕ → List Step → Type 0
 IsRun view [] = 0 < length view
 IsRun view (step ∷ steps) = IsRun view steps × MayCome (state_after view steps) step
+
+-- ## Several steps from a state
+
+-- the state after these steps, given oldest first
+abbrev pub after : State → List Step → State
+after s [] = s
+after s (step ∷ steps) = after (happens s step) steps
+
+-- the guards of each step are met when it comes
+abbrev pub MayAll : State → List Step → Type 0
+MayAll s [] = Unit {0}
+MayAll s (step ∷ steps) = MayCome s step × MayAll (happens s step) steps
+
+-- a run, newest step first, with these steps after it, given oldest first
+abbrev pub onto : List Step → List Step → List Step
+onto [] run = run
+onto (step ∷ steps) run = onto steps (step ∷ run)

@@ -1,15 +1,22 @@
 -- What is preserved by each step.
-use Rattle.std.proofs.Common.{◌≡◌, ℕ, ◌+◌, ◌≤◌, Bool, true, false, List, [], ◌∷◌, ◌==◌, cond, arith, refl}
+use Rattle.std.proofs.Common.{◌≡◌, ℕ, ◌+◌, ◌<◌, ◌≤◌, ◌∙◌, le_trans, Bool, true, false, List, [], ◌∷◌, ◌==◌, cond, arith, refl}
 use Rattle.std.proofs.lemmas.Bool.Decides.{nat_tests}
 use Rattle.joint_views.proofs.Majorities.{quorum_less}
 use Rattle.election_laws.proofs.Sound.{accept_established, join_established, elect_established}
-use Rattle.abstract_protocol.specs.Ledger.{Place, Change, Ledger, put, raise, elect, accept, commit, adopt, join, MayElect}
+use Rattle.abstract_protocol.specs.Ledger.{Place, Change, Ledger, put, mark, raise, elect, accept, commit, adopt, join, MayElect}
 use Rattle.abstract_protocol.specs.Objects.{Objects}
 use Rattle.election_laws.specs.Elections.{may_accept, Stays, times_elected}
 use Rattle.abstract_protocol.specs.Protocol.{Step, Begin, Ask, Raise, Elect, Accept, Commit, Adopt, Write, Acknowledge, Install, EndSync, Propose, Settle, Note, Answer, Lose, Revert, objects_after, MayDo, state_after, IsRun}
 
 pub stays_same : (l : Ledger) → Stays l l
-stays_same l = record { ballot = λ q. omega arith; elected = λ d h. h; base = λ d h. refl; views = λ d h. refl; changed = λ d h. (h, refl); established = λ d e h. h; closed = λ d e h. h }
+stays_same l = record { ballot = λ q. omega arith; elected = λ d h. h; base = λ d h. refl; views = λ d h. refl; changed = λ d h. (h, refl); accepted = λ a q h. h; adopted = λ a q h. h; synced = λ a q h. h; passed = λ a q l h. h; established = λ d e h. h; closed = λ d e h. h }
+
+marked : (r : ℕ → ℕ → Bool) (p x d q : ℕ) → r d q ≡ true → mark r x p d q ≡ true
+marked r p x d q h = grind (arith, nat_tests)
+
+-- a peer accepts only at its ballot
+old_mark : (l : Ledger) (p x d q : ℕ) → l.ballot p ≡ x → d < l.ballot q → mark l.accepted x p d q ≡ true → l.accepted d q ≡ true
+old_mark l p x d q stands r m = grind (arith, nat_tests)
 
 pub put_rises : (f : ℕ → ℕ) (p d : ℕ) → f p ≤ d → (q : ℕ) → f q ≤ put f p d q
 put_rises f p d h q = grind (arith, nat_tests)
@@ -27,6 +34,10 @@ raise_stays l p d may = record {
   base = λ a h. refl;
   views = λ a h. refl;
   changed = λ a h. (h, refl);
+  accepted = λ a q h. h;
+  adopted = λ a q h. h;
+  synced = λ a q h. h;
+  passed = λ a q l h. h;
   established = λ a e h. h;
   closed = λ a e h. quorum_less (may_accept l a) (may_accept (raise l p d) a) (l.views a) (raise_less l p d a may) h;
 }
@@ -38,6 +49,10 @@ elect_stays l d b may = record {
   base = λ a h. grind (arith, nat_tests, may.fresh);
   views = λ a h. grind (arith, nat_tests, may.fresh);
   changed = λ a h. (h, refl);
+  accepted = λ a q h. h;
+  adopted = λ a q h. h;
+  synced = λ a q h. h;
+  passed = λ a q l h. h;
   established = λ a e h. elect_established l d b a may e h;
   closed = λ a e h. grind (arith, nat_tests, may.fresh);
 }
@@ -49,6 +64,10 @@ accept_stays l p d may = record {
   base = λ a h. refl;
   views = λ a h. refl;
   changed = λ a h. (h, refl);
+  accepted = λ a q h. marked l.accepted p d a q h;
+  adopted = λ a q h. h;
+  synced = λ a q h. h;
+  passed = λ a q r h. old_mark l p d a q may r h;
   established = λ a e h. accept_established l p d a h;
   closed = λ a e h. quorum_less (may_accept l a) (may_accept (accept l p d) a) (l.views a) (accept_less l p d a may) h;
 }
@@ -60,15 +79,19 @@ join_stays l p d may = record {
   base = λ a h. refl;
   views = λ a h. refl;
   changed = λ a h. (h, refl);
+  accepted = λ a q h. marked l.accepted p d a q h;
+  adopted = λ a q h. h;
+  synced = λ a q h. marked l.synced p d a q h;
+  passed = λ a q r h. old_mark l p d a q may r h;
   established = λ a e h. join_established l p d a h;
   closed = λ a e h. quorum_less (may_accept l a) (may_accept (join l p d) a) (l.views a) (accept_less l p d a may) h;
 }
 
 commit_stays : (l : Ledger) (d : ℕ) (c : Change) → l.changed d ≡ false → Stays l (commit l d c)
-commit_stays l d c fresh = record { ballot = λ q. omega arith; elected = λ a h. h; base = λ a h. refl; views = λ a h. refl; changed = λ a h. (grind (arith, nat_tests), grind (arith, nat_tests)); established = λ a e h. h; closed = λ a e h. h }
+commit_stays l d c fresh = record { ballot = λ q. omega arith; elected = λ a h. h; base = λ a h. refl; views = λ a h. refl; changed = λ a h. (grind (arith, nat_tests), grind (arith, nat_tests)); accepted = λ a q h. h; adopted = λ a q h. h; synced = λ a q h. h; passed = λ a q l h. h; established = λ a e h. h; closed = λ a e h. h }
 
 adopt_stays : (l : Ledger) (p d : ℕ) → Stays l (adopt l p d)
-adopt_stays l p d = record { ballot = λ q. omega arith; elected = λ a h. h; base = λ a h. refl; views = λ a h. refl; changed = λ a h. (h, refl); established = λ a e h. h; closed = λ a e h. h }
+adopt_stays l p d = record { ballot = λ q. omega arith; elected = λ a h. h; base = λ a h. refl; views = λ a h. refl; changed = λ a h. (h, refl); accepted = λ a q h. h; adopted = λ a q h. marked l.adopted p d a q h; synced = λ a q h. h; passed = λ a q l h. h; established = λ a e h. h; closed = λ a e h. h }
 
 pub step_stays : (o : Objects) (e : Step) → MayDo o e → Stays o.ledger (objects_after o e).ledger
 step_stays o Begin may = stays_same o.ledger
@@ -88,6 +111,21 @@ step_stays o (Note i k u d) may = stays_same o.ledger
 step_stays o (Answer i r) may = stays_same o.ledger
 step_stays o (Lose p) may = stays_same o.ledger
 step_stays o (Revert p m) may = stays_same o.ledger
+
+pub stays_then : (l m n : Ledger) → Stays l m → Stays m n → Stays l n
+stays_then l m n a b = record {
+  ballot = λ q. le_trans (a.ballot q) (b.ballot q);
+  elected = λ d e. b.elected d (a.elected d e);
+  base = λ d e. b.base d (a.elected d e) ∙ a.base d e;
+  views = λ d e. b.views d (a.elected d e) ∙ a.views d e;
+  changed = λ d e. ((b.changed d (a.changed d e).0).0, (b.changed d (a.changed d e).0).1 ∙ (a.changed d e).1);
+  accepted = λ d q h. b.accepted d q (a.accepted d q h);
+  adopted = λ d q h. b.adopted d q (a.adopted d q h);
+  synced = λ d q h. b.synced d q (a.synced d q h);
+  passed = λ d q r h. a.passed d q r (b.passed d q (le_trans r (a.ballot q)) h);
+  established = λ d e h. b.established d (a.elected d e) (a.established d e h);
+  closed = λ d e h. b.closed d (a.elected d e) (a.closed d e h);
+}
 
 pub run_stays : (view : List ℕ) (steps : List Step) (e : Step) → IsRun view (e ∷ steps) → Stays (state_after view steps).objects.ledger (state_after view (e ∷ steps)).objects.ledger
 run_stays view steps e run = step_stays (state_after view steps).objects e run.1.0

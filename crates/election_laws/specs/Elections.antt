@@ -95,12 +95,18 @@ times_elected d [] = 0
 times_elected d (Elect e base ∷ steps) = cond (d == e) 1 0 + times_elected d steps
 times_elected d (step ∷ steps) = times_elected d steps
 
--- what is preserved from one state to the next
+-- what is preserved from one state to the next: ballots do not fall; an elected epoch keeps its
+-- base and its views; what was accepted stays accepted; and a peer that reached a ballot accepts no
+-- lower epoch any more
 pub record Stays (l m : Ledger) : Type 0 where
   pub ballot : (q : ℕ) → l.ballot q ≤ m.ballot q
   pub elected : (d : ℕ) → l.elected d ≡ true → m.elected d ≡ true
   pub base : (d : ℕ) → l.elected d ≡ true → m.base d ≡ l.base d
   pub views : (d : ℕ) → l.elected d ≡ true → m.views d ≡ l.views d
   pub changed : (d : ℕ) → l.changed d ≡ true → (m.changed d ≡ true) × (m.change d ≡ l.change d)
+  pub accepted : (d q : ℕ) → l.accepted d q ≡ true → m.accepted d q ≡ true
+  pub adopted : (d q : ℕ) → l.adopted d q ≡ true → m.adopted d q ≡ true
+  pub synced : (d q : ℕ) → l.synced d q ≡ true → m.synced d q ≡ true
+  pub passed : (d q : ℕ) → d < l.ballot q → m.accepted d q ≡ true → l.accepted d q ≡ true
   pub established : (d : ℕ) → l.elected d ≡ true → is_established l d ≡ true → is_established m d ≡ true
   pub closed : (d : ℕ) → l.elected d ≡ true → IsClosed l d → IsClosed m d

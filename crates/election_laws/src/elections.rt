@@ -24,7 +24,8 @@ pub fn two_leaders_of_an_epoch_are_one()
 {}
 
 /// From one state of a run to the next no ballot falls, an elected epoch keeps its base and its
-/// views, an established epoch stays established, and a closed one stays closed.
+/// views, what was accepted stays accepted, a peer accepts no epoch below its ballot any more, an
+/// established epoch stays established, and a closed one stays closed.
 pub fn elections_stay()
     ensures { (view : List ℕ) (steps : List Step) (step : Step) → IsRun view (step ∷ steps) → Stays (state_after view steps).objects.ledger (state_after view (step ∷ steps)).objects.ledger }
 {}
