@@ -5,4 +5,5 @@ pub mod Views
 pub mod Keeping
 pub mod Descent
 pub mod Trees
+pub mod Stays
 pub mod Sources

@@ -8,12 +8,12 @@ use Rattle.election_laws.proofs.Epochs.{not_both}
 use Rattle.election_laws.proofs.Rising.{put_rises}
 use Rattle.version_laws.proofs.Maps.{entry_then, epoch_mono, put_other}
 use Rattle.version_laws.proofs.Basics.{Basics}
-use Rattle.version_laws.proofs.Dead.{settled_alive, dead_stays}
+use Rattle.version_laws.proofs.Dead.{settled_alive}
 use Rattle.version_laws.proofs.Keeping.{found_from, write_rises}
 use Rattle.version_laws.proofs.Descent.{Whole, run_whole}
 use Rattle.abstract_protocol.specs.Ledger.{put}
-use Rattle.abstract_protocol.specs.Objects.{Map, Objects, epoch_of, set_entry, floor_after, write, install, propose, IsGenuine, IsHonest, MayWrite, MayPropose}
-use Rattle.version_laws.specs.Versions.{may_acknowledge, Descends, itself, further, Link, Successor, Genuine, Sight, FloorsAreLow, ShowsFloors, VersionsAreSafe, VersionsStay}
+use Rattle.abstract_protocol.specs.Objects.{Map, Objects, epoch_of, set_entry, write, install, propose, IsGenuine, IsHonest, MayWrite, MayPropose}
+use Rattle.version_laws.specs.Versions.{may_acknowledge, Descends, itself, further, Link, Successor, Genuine, Sight, FloorsAreLow, ShowsFloors, VersionsAreSafe}
 use Rattle.abstract_protocol.specs.Protocol.{Step, Begin, Ask, Raise, Elect, Accept, Commit, Adopt, Write, Acknowledge, Install, EndSync, Propose, Settle, Note, Answer, Lose, Revert, objects_after, MayDo, IsRun, state_after}
 
 -- ## Genuine maps
@@ -162,31 +162,6 @@ low_step o (Answer i r) may old = old
 low_step o (Lose p) may old = old
 low_step o (Revert p m) may old = old
 
-raise_falls : (o : Objects) (p b q d : ℕ) (k : List ℕ) → o.ledger.ballot p ≤ b → d ≤ o.ledger.ballot q → floor_after o p q d k ≤ o.floor q d k
-raise_falls o p b q d k may l = grind (arith, nat_tests)
-
-install_falls : (o : Objects) (p e : ℕ) (m : Map) (q d : ℕ) (k : List ℕ) → (install o p e m).floor q d k ≤ o.floor q d k
-install_falls o p e m q d k = grind (arith, nat_tests)
-
-floors_fall : (o : Objects) (e : Step) → MayDo o e → (q d : ℕ) (k : List ℕ) → d ≤ o.ledger.ballot q → (objects_after o e).floor q d k ≤ o.floor q d k
-floors_fall o (Raise p b) may q d k l = raise_falls o p b q d k may l
-floors_fall o (Install p b m) may q d k l = install_falls o p b m q d k
-floors_fall o Begin may q d k l = omega arith
-floors_fall o (Ask c) may q d k l = omega arith
-floors_fall o (Elect e b) may q d k l = omega arith
-floors_fall o (Accept p e) may q d k l = omega arith
-floors_fall o (Commit e c) may q d k l = omega arith
-floors_fall o (Adopt p e) may q d k l = omega arith
-floors_fall o (Write p v) may q d k l = omega arith
-floors_fall o (Acknowledge p v) may q d k l = omega arith
-floors_fall o (EndSync p e) may q d k l = omega arith
-floors_fall o (Propose x j u y z c) may q d k l = omega arith
-floors_fall o (Settle v) may q d k l = omega arith
-floors_fall o (Note i j u e) may q d k l = omega arith
-floors_fall o (Answer i r) may q d k l = omega arith
-floors_fall o (Lose p) may q d k l = omega arith
-floors_fall o (Revert p m) may q d k l = omega arith
-
 -- ## In each run
 
 pub record Trees (o : Objects) : Type 0 where
@@ -261,48 +236,3 @@ run_versions view steps run =
       shows = shows o t.sight t.floors;
       settled = λ v h. record { proposed = w.settled.proposed v h; quorum = w.settled.quorum v h; acked = λ q a. w.settled.acked v q h a; alive = settled_alive o v w.settled h };
     }
-
--- ## What is preserved
-
-same_stay : (o : Objects) (e : Step) → MayDo o e → Basics o → (objects_after o e).proposed ≡ o.proposed → (objects_after o e).key ≡ o.key → (objects_after o e).parent ≡ o.parent → (objects_after o e).settled ≡ o.settled → VersionsStay o (objects_after o e)
-same_stay o e may basics p k u h = record {
-  floors = floors_fall o e may;
-  dead = λ v pv. dead_stays o e may v (basics.elected v pv);
-  proposed = λ v pv. (ap (λ (f : ℕ → Bool). f v) p ∙ pv, ap (λ (f : ℕ → List ℕ). f v) k, ap (λ (f : ℕ → ℕ). f v) u);
-  settled = λ v hv. ap (λ (f : ℕ → Bool). f v) h ∙ hv;
-}
-
-versions_stay : (o : Objects) (e : Step) → MayDo o e → Basics o → VersionsStay o (objects_after o e)
-versions_stay o (Propose x k u y z c) may basics = record {
-  floors = floors_fall o (Propose x k u y z c) may;
-  dead = λ v pv d. d;
-  proposed = λ v pv. (put_other o.proposed x true v (other v pv) ∙ pv, put_other o.key x k v (other v pv), put_other o.parent x u v (other v pv));
-  settled = λ v h. h;
-}
-  where
-    other : (v : ℕ) → o.proposed v ≡ true → x ≡ v → ⊥
-    other v pv e = not_both pv (rw (← e) may.fresh)
-versions_stay o (Settle x) may basics = record {
-  floors = floors_fall o (Settle x) may;
-  dead = λ v pv d. d;
-  proposed = λ v pv. (pv, refl, refl);
-  settled = λ v h. put_other o.settled x true v (λ e. not_both h (rw (← e) may.fresh)) ∙ h;
-}
-versions_stay o Begin may basics = same_stay o Begin may basics refl refl refl refl
-versions_stay o (Ask c) may basics = same_stay o (Ask c) may basics refl refl refl refl
-versions_stay o (Raise p d) may basics = same_stay o (Raise p d) may basics refl refl refl refl
-versions_stay o (Elect d b) may basics = same_stay o (Elect d b) may basics refl refl refl refl
-versions_stay o (Accept p d) may basics = same_stay o (Accept p d) may basics refl refl refl refl
-versions_stay o (Commit d c) may basics = same_stay o (Commit d c) may basics refl refl refl refl
-versions_stay o (Adopt p d) may basics = same_stay o (Adopt p d) may basics refl refl refl refl
-versions_stay o (Write p v) may basics = same_stay o (Write p v) may basics refl refl refl refl
-versions_stay o (Acknowledge p v) may basics = same_stay o (Acknowledge p v) may basics refl refl refl refl
-versions_stay o (Install p d m) may basics = same_stay o (Install p d m) may basics refl refl refl refl
-versions_stay o (EndSync p d) may basics = same_stay o (EndSync p d) may basics refl refl refl refl
-versions_stay o (Note i k u d) may basics = same_stay o (Note i k u d) may basics refl refl refl refl
-versions_stay o (Answer i r) may basics = same_stay o (Answer i r) may basics refl refl refl refl
-versions_stay o (Lose p) may basics = same_stay o (Lose p) may basics refl refl refl refl
-versions_stay o (Revert p m) may basics = same_stay o (Revert p m) may basics refl refl refl refl
-
-pub run_versions_stay : (view : List ℕ) (steps : List Step) (step : Step) → IsRun view (step ∷ steps) → VersionsStay (state_after view steps).objects (state_after view (step ∷ steps)).objects
-run_versions_stay view steps step run = versions_stay (state_after view steps).objects step run.1.0 (run_whole view steps run.0).basics

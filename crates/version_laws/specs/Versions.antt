@@ -3,6 +3,7 @@ use Rattle.std.specs.Prelude.{◌≡◌, ℕ, ◌<◌, ◌≤◌, Bool, true, fa
 use Rattle.ens_base.specs.Views.{last_view}
 use Rattle.joint_views.specs.Quorums.{is_majority, is_quorum, MissesEveryQuorum}
 use Rattle.abstract_protocol.specs.Ledger.{is_established}
+use Rattle.election_laws.specs.Elections.{Stays}
 use Rattle.abstract_protocol.specs.Objects.{Map, Objects, epoch_of, IsGenuine, IsHonest}
 
 -- the peer acknowledged the version, or still may
@@ -141,9 +142,17 @@ pub record VersionsAreSafe (o : Objects) : Type 0 where
   pub shows : ShowsFloors o
   pub settled : (v : ℕ) → o.settled v ≡ true → IsSettled o v
 
--- what is preserved from one state to the next
+-- what is preserved from one state to the next: what the ledger preserves; a floor does not rise once
+-- its ballot is reached; a dead version stays dead; a version keeps its key and its parent, and what
+-- was proposed, acknowledged, settled or reverted stays so
 pub record VersionsStay (o next : Objects) : Type 0 where
+  pub ledger : Stays o.ledger next.ledger
   pub floors : (q d : ℕ) (k : List ℕ) → d ≤ o.ledger.ballot q → next.floor q d k ≤ o.floor q d k
-  pub dead : (v : ℕ) → o.proposed v ≡ true → IsDead o v → IsDead next v
-  pub proposed : (v : ℕ) → o.proposed v ≡ true → (next.proposed v ≡ true) × (next.key v ≡ o.key v) × (next.parent v ≡ o.parent v)
+  pub dead : (v : ℕ) → o.ledger.elected (epoch_of v) ≡ true → IsDead o v → IsDead next v
+  pub proposed : (v : ℕ) → o.proposed v ≡ true → next.proposed v ≡ true
+  pub key : (v : ℕ) → o.proposed v ≡ true → next.key v ≡ o.key v
+  pub parent : (v : ℕ) → o.proposed v ≡ true → next.parent v ≡ o.parent v
+  pub acked : (v q : ℕ) → o.acked v q ≡ true → next.acked v q ≡ true
   pub settled : (v : ℕ) → o.settled v ≡ true → next.settled v ≡ true
+  pub settled_by : (v : ℕ) → o.settled v ≡ true → next.settled_by v ≡ o.settled_by v
+  pub reverted : (q : ℕ) → o.reverted q ≡ true → next.reverted q ≡ true

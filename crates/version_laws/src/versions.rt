@@ -13,8 +13,8 @@ pub fn versions_are_safe()
 {}
 
 /// From one state of a run to the next a floor does not rise once its ballot is reached, a dead
-/// version stays dead, and a version keeps its key and parent and stays settled. So what a message
-/// said of these stays true.
+/// version stays dead, and a version keeps its key, its parent, its acknowledgements and those by
+/// which it was settled. So what a message said of these stays true.
 pub fn versions_stay()
     ensures { (view : List ℕ) (steps : List Step) (step : Step) → IsRun view (step ∷ steps) → VersionsStay (state_after view steps).objects (state_after view (step ∷ steps)).objects }
 {}
