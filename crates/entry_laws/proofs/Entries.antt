@@ -10,7 +10,7 @@ use Rattle.election_laws.proofs.Epochs.{not_both}
 use Rattle.version_laws.proofs.Maps.{zero_not, put_other, put_here}
 use Rattle.version_laws.proofs.Basics.{Basics, Settled, proposed_then, new_parent}
 use Rattle.version_laws.proofs.Descent.{Whole, IsOld, heard_has, old_parent}
-use Rattle.entry_laws.proofs.Later.{Later}
+use Rattle.entry_laws.specs.Stays.{Later}
 use Rattle.abstract_protocol.specs.Ledger.{put}
 use Rattle.abstract_protocol.specs.Objects.{Objects, epoch_of, IsNewest, MayPropose}
 use Rattle.abstract_protocol.specs.Book.{Seen, register_at, stood_below, Wrote, IsOpenCall, MayNoteProposal, MayWriteFor, MayRewrite, MayNoteRead, IsAbsentHere}
@@ -22,25 +22,25 @@ use Rattle.abstract_protocol.specs.Protocol.{State, Step, Begin, Ask, Raise, Ele
 
 pub call_later : (s t : State) → Later s t → (i : ℕ) → s.book.called i ≡ true → CallKeeps s i → CallKeeps t i
 call_later s t l i h k = record {
-  own_id = ap (λ (c : Call). c.id) (l.calls.asked i h) ∙ k.own_id;
-  event = rw (l.calls.asked i h) (le_trans k.event l.elections.now);
-  stood = λ q. rw (l.calls.stood i q h) (le_trans (k.stood q) (l.elections.stays.ballot q));
+  own_id = ap (λ (c : Call). c.id) (l.stay.asked i h) ∙ k.own_id;
+  event = rw (l.stay.asked i h) (le_trans k.event l.stay.now);
+  stood = λ q. rw (l.stay.stood i q h) (le_trans (k.stood q) (l.stay.versions.ledger.ballot q));
 }
 
 -- ## Elections
 
 pub elected_later : (s t : State) → Later s t → ((d : ℕ) → s.objects.ledger.elected d ≡ true → s.book.elected_at d ≤ s.book.now) → (d : ℕ) → s.objects.ledger.elected d ≡ true → t.book.elected_at d ≤ t.book.now
-elected_later s t l k d e = rw (l.elections.at d e) (le_trans (k d e) l.elections.now)
+elected_later s t l k d e = rw (l.stay.elected_at d e) (le_trans (k d e) l.stay.now)
 
 -- ## Proposals
 
 write_later : (s t : State) → Later s t → Basics s.objects → (v : ℕ) → s.objects.proposed v ≡ true → (i : ℕ) → WriteKeeps s v i → WriteKeeps t v i
 write_later s t l basics v p i k = record {
-  called = l.calls.called i k.called;
-  on_key = ap (λ (c : Call). c.key) (l.calls.asked i k.called) ∙ k.on_key ∙ sym (l.versions.key v p);
-  after = rw (l.calls.asked i k.called, l.versions.at v p) k.after;
-  own_stamp = l.versions.stamp v p ∙ k.own_stamp;
-  applies = rw (l.calls.asked i k.called, l.versions.parent v p, l.versions.register (s.objects.parent v) (old_parent s.objects basics v (inr p)), l.versions.content v p) k.applies;
+  called = l.stay.called i k.called;
+  on_key = ap (λ (c : Call). c.key) (l.stay.asked i k.called) ∙ k.on_key ∙ sym (l.stay.versions.key v p);
+  after = rw (l.stay.asked i k.called, l.stay.proposed_at v p) k.after;
+  own_stamp = l.stay.stamp v p ∙ k.own_stamp;
+  applies = rw (l.stay.asked i k.called, l.stay.versions.parent v p, l.stay.register (s.objects.parent v) (old_parent s.objects basics v (inr p)), l.stay.content v p) k.applies;
 }
 
 zero_lower : (n : ℕ) → n ≡ 0 → 0 < n → ⊥
@@ -52,9 +52,9 @@ rewrite_later s t l basics v p k = by_parent (basics.parents v p)
     by_parent : (s.objects.parent v ≡ 0) ⊎ (s.objects.proposed (s.objects.parent v) ≡ true) → RewriteKeeps t v
     by_parent (inl z) = absurd (zero_lower (s.objects.parent v) z k.some)
     by_parent (inr q) = record {
-      some = rw (l.versions.parent v p) k.some;
-      same_stamp = rw (l.versions.parent v p, l.versions.stamp v p, l.versions.stamp (s.objects.parent v) q) k.same_stamp;
-      same_content = rw (l.versions.parent v p, l.versions.content v p, l.versions.content (s.objects.parent v) q) k.same_content;
+      some = rw (l.stay.versions.parent v p) k.some;
+      same_stamp = rw (l.stay.versions.parent v p, l.stay.stamp v p, l.stay.stamp (s.objects.parent v) q) k.same_stamp;
+      same_content = rw (l.stay.versions.parent v p, l.stay.content v p, l.stay.content (s.objects.parent v) q) k.same_content;
     }
 
 zero_not_proposed : (o : Objects) → Basics o → (v : ℕ) → v ≡ 0 → o.proposed v ≡ true → ⊥
@@ -62,16 +62,16 @@ zero_not_proposed o basics v z p = zero_not v (basics.led v p) z
 
 proposal_later : (s t : State) → Later s t → Basics s.objects → Basics t.objects → (v : ℕ) → s.objects.proposed v ≡ true → ProposalKeeps s v → ProposalKeeps t v
 proposal_later s t l basics next v p k = record {
-  elected = rw (l.elections.at (epoch_of v) (basics.elected v p), l.versions.at v p) k.elected;
-  now = rw (l.versions.at v p) (le_trans k.now l.elections.now);
+  elected = rw (l.stay.elected_at (epoch_of v) (basics.elected v p), l.stay.proposed_at v p) k.elected;
+  now = rw (l.stay.proposed_at v p) (le_trans k.now l.stay.now);
   after_parent = by_parent (basics.parents v p);
-  write = λ i c. write_later s t l basics v p i (k.write i (sym (l.versions.call v p) ∙ c));
-  rewrite = λ c. rewrite_later s t l basics v p (k.rewrite (sym (l.versions.call v p) ∙ c));
+  write = λ i c. write_later s t l basics v p i (k.write i (sym (l.stay.call v p) ∙ c));
+  rewrite = λ c. rewrite_later s t l basics v p (k.rewrite (sym (l.stay.call v p) ∙ c));
 }
   where
     by_parent : (s.objects.parent v ≡ 0) ⊎ (s.objects.proposed (s.objects.parent v) ≡ true) → t.objects.proposed (t.objects.parent v) ≡ true → t.book.proposed_at (t.objects.parent v) ≤ t.book.proposed_at v
-    by_parent (inr q) h = rw (l.versions.parent v p, l.versions.at v p, l.versions.at (s.objects.parent v) q) (k.after_parent q)
-    by_parent (inl z) h = absurd (zero_not_proposed t.objects next (t.objects.parent v) (l.versions.parent v p ∙ z) h)
+    by_parent (inr q) h = rw (l.stay.versions.parent v p, l.stay.proposed_at v p, l.stay.proposed_at (s.objects.parent v) q) (k.after_parent q)
+    by_parent (inl z) h = absurd (zero_not_proposed t.objects next (t.objects.parent v) (l.stay.versions.parent v p ∙ z) h)
 
 module _ (s : State) (x : ℕ) (k : List ℕ) (u : ℕ) (y : Version) (z : Option (List ℕ)) (may : MayPropose s.objects x k u) (basics : Basics s.objects) (entries : EntriesAreSafe s) where
   at_now : (v : ℕ) → put s.objects.proposed x true v ≡ true → put s.book.proposed_at x s.book.now v ≤ s.book.now
@@ -91,7 +91,7 @@ module _ (s : State) (x : ℕ) (k : List ℕ) (u : ℕ) (y : Version) (z : Optio
     after = rw (put_here s.book.proposed_at x s.book.now) (entries.calls j noting.waiting.called).event;
     own_stamp = put_here s.book.stamp x y ∙ noting.own_stamp;
     applies = ap (λ p. outcome (s.book.asked j).command (register_at (happens s (Propose x k u y z (Some j))).book p)) (put_here s.objects.parent x u)
-        ∙ ap (λ (r : Register). outcome (s.book.asked j).command r) (l.versions.register u old_parent_of) ∙ noting.applies ∙ ap (λ (c : Option (List ℕ)). Writes c) (sym (put_here s.book.content x z));
+        ∙ ap (λ (r : Register). outcome (s.book.asked j).command r) (l.stay.register u old_parent_of) ∙ noting.applies ∙ ap (λ (c : Option (List ℕ)). Writes c) (sym (put_here s.book.content x z));
   }
 
   new_rewrite : Later s (happens s (Propose x k u y z None)) → MayRewrite s.book u y z → RewriteKeeps (happens s (Propose x k u y z None)) x
@@ -153,8 +153,8 @@ proposals_step s (Revert q m) may l basics next entries v p = proposal_later s (
 
 settled_later : (s t : State) → Later s t → Settled s.objects → (v : ℕ) → s.objects.settled v ≡ true → SettledKeeps s v → SettledKeeps t v
 settled_later s t l settled v h k = record {
-  after = rw (l.versions.at v (settled.proposed v h), l.versions.settled_at v h) k.after;
-  now = rw (l.versions.settled_at v h) (le_trans k.now l.elections.now);
+  after = rw (l.stay.proposed_at v (settled.proposed v h), l.stay.settled_at v h) k.after;
+  now = rw (l.stay.settled_at v h) (le_trans k.now l.stay.now);
 }
 
 pub settled_step_keeps : (s : State) (e : Step) → MayCome s e → Later s (happens s e) → Settled s.objects → EntriesAreSafe s → (v : ℕ) → (happens s e).objects.settled v ≡ true → SettledKeeps (happens s e) v
@@ -186,7 +186,7 @@ module _ (s : State) (x : ℕ) (k : List ℕ) (u : ℕ) (y : Version) (z : Optio
   old_write i v n w = (sym (put_other s.objects.proposed x true v n) ∙ w.0, sym (put_other s.book.call x c v n) ∙ w.1)
 
   new_write_open : (i v : ℕ) → x ≡ v → Wrote (happens s (Propose x k u y z c)).objects (happens s (Propose x k u y z c)).book i v → IsOpenCall s.objects s.book i
-  new_write_open i v e w = l.versions.fresh_call v i w.0 (rw (← e) fresh) w.1
+  new_write_open i v e w = l.new_write v i w.0 (rw (← e) fresh) w.1
 
   propose_once : (v w i : ℕ) → Wrote (happens s (Propose x k u y z c)).objects (happens s (Propose x k u y z c)).book i v → Wrote (happens s (Propose x k u y z c)).objects (happens s (Propose x k u y z c)).book i w → v ≡ w
   propose_once v w i a b = by_cases (cases_eq x v) (cases_eq x w)
@@ -228,28 +228,28 @@ once_step s (Revert q m) may l once = record { once = once.once; apart = once.ap
 
 -- ## Reads
 
-nothing_later : (s t : State) → Later s t → (n : Seen) → n.event ≤ s.book.now → s.objects.ledger.elected n.epoch ≡ true → SawNothing s n → SawNothing t n
-nothing_later s t l n past elected k = record {
+nothing_later : (s t : State) → Later s t → Basics s.objects → (n : Seen) → n.event ≤ s.book.now → s.objects.ledger.elected n.epoch ≡ true → SawNothing s n → SawNothing t n
+nothing_later s t l basics n past elected k = record {
   none = k.none;
   untouched = λ v p key e. untouched v p key e (s.objects.proposed v) refl;
   dead = λ v p key e. dead v p key e (s.objects.proposed v) refl;
 }
   where
     untouched : (v : ℕ) → t.objects.proposed v ≡ true → t.objects.key v ≡ n.key → epoch_of v ≡ n.epoch → (b : Bool) → s.objects.proposed v ≡ b → n.event ≤ t.book.proposed_at v
-    untouched v p key e true q = rw (l.versions.at v q) (k.untouched v q (sym (l.versions.key v q) ∙ key) e)
-    untouched v p key e false q = le_trans past (l.versions.new v p q)
+    untouched v p key e true q = rw (l.stay.proposed_at v q) (k.untouched v q (sym (l.stay.versions.key v q) ∙ key) e)
+    untouched v p key e false q = le_trans past (l.new_version v p q)
 
     dead : (v : ℕ) → t.objects.proposed v ≡ true → t.objects.key v ≡ n.key → epoch_of v < n.epoch → (b : Bool) → s.objects.proposed v ≡ b → IsDead t.objects v
-    dead v p key e true q = l.versions.dead v q (k.dead v q (sym (l.versions.key v q) ∙ key) e)
-    dead v p key e false q = l.versions.born v n.epoch p q elected e
+    dead v p key e true q = l.stay.versions.dead v (basics.elected v q) (k.dead v q (sym (l.stay.versions.key v q) ∙ key) e)
+    dead v p key e false q = l.new_dead v n.epoch p q elected e
 
 newest_later : (s t : State) → Later s t → (n : Seen) → n.event ≤ s.book.now → SawNewest s n → SawNewest t n
 newest_later s t l n past k = record {
-  proposed = l.versions.proposed n.base k.proposed;
-  key = l.versions.key n.base k.proposed ∙ k.key;
+  proposed = l.stay.versions.proposed n.base k.proposed;
+  key = l.stay.versions.key n.base k.proposed ∙ k.key;
   epoch = k.epoch;
-  settled = l.versions.settled n.base k.settled;
-  before = rw (l.versions.settled_at n.base k.settled) k.before;
+  settled = l.stay.versions.settled n.base k.settled;
+  before = rw (l.stay.settled_at n.base k.settled) k.before;
   greatest = λ v p key e a. greatest v p key e a (s.objects.proposed v) refl;
 }
   where
@@ -257,37 +257,37 @@ newest_later s t l n past k = record {
     too_late v a b = omega arith
 
     greatest : (v : ℕ) → t.objects.proposed v ≡ true → t.objects.key v ≡ n.key → epoch_of v ≡ n.epoch → t.book.proposed_at v < n.event → (b : Bool) → s.objects.proposed v ≡ b → v ≤ n.base
-    greatest v p key e a true q = k.greatest v q (sym (l.versions.key v q) ∙ key) e (rw (← l.versions.at v q) a)
-    greatest v p key e a false q = absurd (too_late v (l.versions.new v p q) a)
+    greatest v p key e a true q = k.greatest v q (sym (l.stay.versions.key v q) ∙ key) e (rw (← l.stay.proposed_at v q) a)
+    greatest v p key e a false q = absurd (too_late v (l.new_version v p q) a)
 
 pub base_old : (s : State) (n : Seen) → SawNothing s n ⊎ SawNewest s n → IsOld s.objects n.base
 base_old s n (inl k) = inl k.none
 base_old s n (inr k) = inr k.proposed
 
-base_later : (s t : State) → Later s t → (n : Seen) → n.event ≤ s.book.now → s.objects.ledger.elected n.epoch ≡ true → SawNothing s n ⊎ SawNewest s n → SawNothing t n ⊎ SawNewest t n
-base_later s t l n past e (inl k) = inl (nothing_later s t l n past e k)
-base_later s t l n past e (inr k) = inr (newest_later s t l n past k)
+base_later : (s t : State) → Later s t → Basics s.objects → (n : Seen) → n.event ≤ s.book.now → s.objects.ledger.elected n.epoch ≡ true → SawNothing s n ⊎ SawNewest s n → SawNothing t n ⊎ SawNewest t n
+base_later s t l basics n past e (inl k) = inl (nothing_later s t l basics n past e k)
+base_later s t l basics n past e (inr k) = inr (newest_later s t l n past k)
 
 same_below : (s t : State) (i d q : ℕ) → t.book.stood i q ≡ s.book.stood i q → stood_below s.book i d q ≡ true → stood_below t.book i d q ≡ true
 same_below s t i d q e h = rw e h
 
-read_later : (s t : State) → Later s t → (i : ℕ) (n : Seen) → ReadKeeps s i n → ReadKeeps t i n
-read_later s t l i n k = record {
-  called = l.calls.called i k.called;
-  on_key = ap (λ (c : Call). c.key) (l.calls.asked i k.called) ∙ k.on_key;
-  after = rw (l.calls.asked i k.called) k.after;
-  now = le_trans k.now l.elections.now;
-  elected = l.elections.stays.elected n.epoch k.elected;
-  before = rw (l.elections.at n.epoch k.elected, l.calls.asked i k.called) k.before;
-  established = l.elections.stays.established n.epoch k.elected k.established;
-  quorum = rw (l.elections.stays.views n.epoch k.elected) (quorum_more (stood_below s.book i n.epoch) (stood_below t.book i n.epoch) (λ q. same_below s t i n.epoch q (l.calls.stood i q k.called)) (s.objects.ledger.views n.epoch) k.quorum);
-  base = base_later s t l n k.now k.elected k.base;
+read_later : (s t : State) → Later s t → Basics s.objects → (i : ℕ) (n : Seen) → ReadKeeps s i n → ReadKeeps t i n
+read_later s t l basics i n k = record {
+  called = l.stay.called i k.called;
+  on_key = ap (λ (c : Call). c.key) (l.stay.asked i k.called) ∙ k.on_key;
+  after = rw (l.stay.asked i k.called) k.after;
+  now = le_trans k.now l.stay.now;
+  elected = l.stay.versions.ledger.elected n.epoch k.elected;
+  before = rw (l.stay.elected_at n.epoch k.elected, l.stay.asked i k.called) k.before;
+  established = l.stay.versions.ledger.established n.epoch k.elected k.established;
+  quorum = rw (l.stay.versions.ledger.views n.epoch k.elected) (quorum_more (stood_below s.book i n.epoch) (stood_below t.book i n.epoch) (λ q. same_below s t i n.epoch q (l.stay.stood i q k.called)) (s.objects.ledger.views n.epoch) k.quorum);
+  base = base_later s t l basics n k.now k.elected k.base;
   reply = k.reply;
-  keeps = ap (λ (c : Call). outcome c.command (register_at t.book n.base)) (l.calls.asked i k.called) ∙ ap (λ (r : Register). outcome (s.book.asked i).command r) (l.versions.register n.base (base_old s n k.base)) ∙ k.keeps;
+  keeps = ap (λ (c : Call). outcome c.command (register_at t.book n.base)) (l.stay.asked i k.called) ∙ ap (λ (r : Register). outcome (s.book.asked i).command r) (l.stay.register n.base (base_old s n k.base)) ∙ k.keeps;
 }
 
-read_kept : (s t : State) → Later s t → EntriesAreSafe s → (i : ℕ) → s.book.noted i ≡ true → ReadKeeps t i (t.book.seen i)
-read_kept s t l entries i h = subst (λ (n : Seen). ReadKeeps t i n) (sym (l.calls.seen i h)) (read_later s t l i (s.book.seen i) (entries.reads i h))
+read_kept : (s t : State) → Later s t → Basics s.objects → EntriesAreSafe s → (i : ℕ) → s.book.noted i ≡ true → ReadKeeps t i (t.book.seen i)
+read_kept s t l basics entries i h = subst (λ (n : Seen). ReadKeeps t i n) (sym (l.stay.seen i h)) (read_later s t l basics i (s.book.seen i) (entries.reads i h))
 
 new_read : (s : State) (i : ℕ) (k : List ℕ) (u d : ℕ) → MayNoteRead s.objects s.book i k u d → Whole s.objects → EntriesAreSafe s → ReadKeeps (happens s (Note i k u d)) i (record { key = k; base = u; epoch = d; event = s.book.now })
 new_read s i k u d may w entries = record {
@@ -324,26 +324,26 @@ new_read s i k u d may w entries = record {
     })
 
 pub reads_step : (s : State) (e : Step) → MayCome s e → Later s (happens s e) → Whole s.objects → EntriesAreSafe s → (i : ℕ) → (happens s e).book.noted i ≡ true → ReadKeeps (happens s e) i ((happens s e).book.seen i)
-reads_step s (Note j k u d) may l w entries i h = proposed_then s.book.noted j (λ i. ReadKeeps (happens s (Note j k u d)) i (put s.book.seen j n i)) here (λ i m h. read_kept s (happens s (Note j k u d)) l entries i h) i h
+reads_step s (Note j k u d) may l w entries i h = proposed_then s.book.noted j (λ i. ReadKeeps (happens s (Note j k u d)) i (put s.book.seen j n i)) here (λ i m h. read_kept s (happens s (Note j k u d)) l w.basics entries i h) i h
   where
     n : Seen
     n = record { key = k; base = u; epoch = d; event = s.book.now }
 
     here : ReadKeeps (happens s (Note j k u d)) j (put s.book.seen j n j)
     here = subst (λ (m : Seen). ReadKeeps (happens s (Note j k u d)) j m) (sym (put_here s.book.seen j n)) (new_read s j k u d may.1 w entries)
-reads_step s (Propose x k u y z c) may l w entries i h = read_kept s (happens s (Propose x k u y z c)) l entries i h
-reads_step s Begin may l w entries i h = read_kept s (happens s Begin) l entries i h
-reads_step s (Ask c) may l w entries i h = read_kept s (happens s (Ask c)) l entries i h
-reads_step s (Raise q d) may l w entries i h = read_kept s (happens s (Raise q d)) l entries i h
-reads_step s (Elect d b) may l w entries i h = read_kept s (happens s (Elect d b)) l entries i h
-reads_step s (Accept q d) may l w entries i h = read_kept s (happens s (Accept q d)) l entries i h
-reads_step s (Commit d c) may l w entries i h = read_kept s (happens s (Commit d c)) l entries i h
-reads_step s (Adopt q d) may l w entries i h = read_kept s (happens s (Adopt q d)) l entries i h
-reads_step s (Write q v) may l w entries i h = read_kept s (happens s (Write q v)) l entries i h
-reads_step s (Acknowledge q v) may l w entries i h = read_kept s (happens s (Acknowledge q v)) l entries i h
-reads_step s (Install q d m) may l w entries i h = read_kept s (happens s (Install q d m)) l entries i h
-reads_step s (EndSync q d) may l w entries i h = read_kept s (happens s (EndSync q d)) l entries i h
-reads_step s (Settle v) may l w entries i h = read_kept s (happens s (Settle v)) l entries i h
-reads_step s (Answer j r) may l w entries i h = read_kept s (happens s (Answer j r)) l entries i h
-reads_step s (Lose q) may l w entries i h = read_kept s (happens s (Lose q)) l entries i h
-reads_step s (Revert q m) may l w entries i h = read_kept s (happens s (Revert q m)) l entries i h
+reads_step s (Propose x k u y z c) may l w entries i h = read_kept s (happens s (Propose x k u y z c)) l w.basics entries i h
+reads_step s Begin may l w entries i h = read_kept s (happens s Begin) l w.basics entries i h
+reads_step s (Ask c) may l w entries i h = read_kept s (happens s (Ask c)) l w.basics entries i h
+reads_step s (Raise q d) may l w entries i h = read_kept s (happens s (Raise q d)) l w.basics entries i h
+reads_step s (Elect d b) may l w entries i h = read_kept s (happens s (Elect d b)) l w.basics entries i h
+reads_step s (Accept q d) may l w entries i h = read_kept s (happens s (Accept q d)) l w.basics entries i h
+reads_step s (Commit d c) may l w entries i h = read_kept s (happens s (Commit d c)) l w.basics entries i h
+reads_step s (Adopt q d) may l w entries i h = read_kept s (happens s (Adopt q d)) l w.basics entries i h
+reads_step s (Write q v) may l w entries i h = read_kept s (happens s (Write q v)) l w.basics entries i h
+reads_step s (Acknowledge q v) may l w entries i h = read_kept s (happens s (Acknowledge q v)) l w.basics entries i h
+reads_step s (Install q d m) may l w entries i h = read_kept s (happens s (Install q d m)) l w.basics entries i h
+reads_step s (EndSync q d) may l w entries i h = read_kept s (happens s (EndSync q d)) l w.basics entries i h
+reads_step s (Settle v) may l w entries i h = read_kept s (happens s (Settle v)) l w.basics entries i h
+reads_step s (Answer j r) may l w entries i h = read_kept s (happens s (Answer j r)) l w.basics entries i h
+reads_step s (Lose q) may l w entries i h = read_kept s (happens s (Lose q)) l w.basics entries i h
+reads_step s (Revert q m) may l w entries i h = read_kept s (happens s (Revert q m)) l w.basics entries i h

@@ -17,7 +17,8 @@ use Rattle.election_laws.proofs.Epochs.{not_both, blocked}
 use Rattle.version_laws.proofs.Basics.{proposed_then}
 use Rattle.version_laws.proofs.Descent.{Whole, whole_step, run_whole}
 use Rattle.version_laws.proofs.Maps.{put_other, put_here}
-use Rattle.entry_laws.proofs.Later.{Later, later_step}
+use Rattle.entry_laws.proofs.Later.{later_step}
+use Rattle.entry_laws.specs.Stays.{Later}
 use Rattle.entry_laws.proofs.Entries.{call_later, elected_later, proposals_step, settled_step_keeps, once_step, reads_step, base_old}
 use Rattle.abstract_protocol.specs.Ledger.{put}
 use Rattle.abstract_protocol.specs.Book.{Seen, register_at, Wrote, MayCall, MayAnswer, IsWriteReply, IsReadReply}
@@ -79,25 +80,25 @@ elected_step s (Revert q m) may l entries d h = elected_later s (happens s (Reve
 by_write_later : (s t : State) → Later s t → (i : ℕ) (a : Given) → IsByWrite s i a → IsByWrite t i a
 by_write_later s t l i a k = record {
   version = k.version;
-  proposed = l.versions.proposed k.version k.proposed;
-  call = l.versions.call k.version k.proposed ∙ k.call;
-  settled = l.versions.settled k.version k.settled;
-  in_time = rw (l.versions.settled_at k.version k.settled) k.in_time;
+  proposed = l.stay.versions.proposed k.version k.proposed;
+  call = l.stay.call k.version k.proposed ∙ k.call;
+  settled = l.stay.versions.settled k.version k.settled;
+  in_time = rw (l.stay.settled_at k.version k.settled) k.in_time;
   reply = k.reply;
 }
 
 by_read_later : (s t : State) → Later s t → EntriesAreSafe s → (i : ℕ) (a : Given) → s.book.called i ≡ true → IsByRead s i (s.book.seen i) a → IsByRead t i (t.book.seen i) a
-by_read_later s t l entries i a called k = subst (λ (n : Seen). IsByRead t i n a) (sym (l.calls.seen i k.noted)) (record {
-  noted = l.calls.noted i k.noted;
+by_read_later s t l entries i a called k = subst (λ (n : Seen). IsByRead t i n a) (sym (l.stay.seen i k.noted)) (record {
+  noted = l.stay.noted i k.noted;
   in_time = k.in_time;
-  keeps = ap (λ (c : Call). outcome c.command (register_at t.book (s.book.seen i).base)) (l.calls.asked i called) ∙ ap (λ (r : Register). outcome (s.book.asked i).command r) (l.versions.register (s.book.seen i).base (base_old s (s.book.seen i) (entries.reads i k.noted).base)) ∙ k.keeps;
+  keeps = ap (λ (c : Call). outcome c.command (register_at t.book (s.book.seen i).base)) (l.stay.asked i called) ∙ ap (λ (r : Register). outcome (s.book.asked i).command r) (l.stay.register (s.book.seen i).base (base_old s (s.book.seen i) (entries.reads i k.noted).base)) ∙ k.keeps;
 })
 
 answer_later : (s t : State) → Later s t → EntriesAreSafe s → (i : ℕ) → s.book.answered i ≡ true → AnswerKeeps s i (s.book.answer i) → AnswerKeeps t i (s.book.answer i)
 answer_later s t l entries i h k = record {
-  called = l.calls.called i k.called;
+  called = l.stay.called i k.called;
   own_id = k.own_id;
-  now = le_trans k.now l.elections.now;
+  now = le_trans k.now l.stay.now;
   done = λ d. done (k.done d);
   not_written = λ r v w. not_written r v w (s.objects.proposed v) refl;
   not_noted = λ r n. not_noted r n (s.book.noted i) refl;
@@ -108,12 +109,12 @@ answer_later s t l entries i h k = record {
     done (inr r) = inr (by_read_later s t l entries i (s.book.answer i) k.called r)
 
     not_written : IsRefused (s.book.answer i).reply → (v : ℕ) → Wrote t.objects t.book i v → (b : Bool) → s.objects.proposed v ≡ b → ⊥
-    not_written r v w true p = k.not_written r v (p, sym (l.versions.call v p) ∙ w.1)
-    not_written r v w false p = (l.versions.fresh_call v i w.0 p w.1).not_refused h r
+    not_written r v w true p = k.not_written r v (p, sym (l.stay.call v p) ∙ w.1)
+    not_written r v w false p = (l.new_write v i w.0 p w.1).not_refused h r
 
     not_noted : IsRefused (s.book.answer i).reply → t.book.noted i ≡ true → (b : Bool) → s.book.noted i ≡ b → ⊥
     not_noted r n true p = k.not_noted r p
-    not_noted r n false p = (l.calls.fresh_note i n p).not_refused h r
+    not_noted r n false p = (l.new_note i n p).not_refused h r
 
 new_answer : (s : State) (i : ℕ) (r : Reply) → MayAnswer s.objects s.book i r → EntriesAreSafe s → AnswerKeeps (happens s (Answer i r)) i (record { id = i; event = s.book.now; reply = r })
 new_answer s i r may entries = record {
@@ -169,16 +170,16 @@ past_later s t l i called call k d e ed ee low before after opened = by_elected 
     too_late x a b c = omega arith
 
     asked : t.book.asked i ≡ s.book.asked i
-    asked = l.calls.asked i called
+    asked = l.stay.asked i called
 
     by_open : s.objects.ledger.elected d ≡ true → s.objects.ledger.elected e ≡ true → (b : Bool) → is_quorum (may_accept s.objects.ledger d) (s.objects.ledger.views d) ≡ b → is_quorum (stood_above t.book i d) (t.objects.ledger.views d) ≡ true
-    by_open p q false c = absurd (not_both opened (l.elections.stays.closed d p c))
-    by_open p q true o = rw (l.elections.stays.views d p) (quorum_more (stood_above s.book i d) (stood_above t.book i d) (λ r. same_above s t i d r (l.calls.stood i r called)) (s.objects.ledger.views d)
-        (k d e p q low (rw (asked, l.elections.at d p) at before) (rw (asked, l.elections.at e q) at after) o))
+    by_open p q false c = absurd (not_both opened (l.stay.versions.ledger.closed d p c))
+    by_open p q true o = rw (l.stay.versions.ledger.views d p) (quorum_more (stood_above s.book i d) (stood_above t.book i d) (λ r. same_above s t i d r (l.stay.stood i r called)) (s.objects.ledger.views d)
+        (k d e p q low (rw (asked, l.stay.elected_at d p) at before) (rw (asked, l.stay.elected_at e q) at after) o))
 
     by_elected : (a : Bool) → s.objects.ledger.elected d ≡ a → (b : Bool) → s.objects.ledger.elected e ≡ b → is_quorum (stood_above t.book i d) (t.objects.ledger.views d) ≡ true
-    by_elected false p b q = absurd (too_late d (l.elections.new d ed p) (rw asked at before) call.event)
-    by_elected true p false q = absurd (too_late e (l.elections.new e ee q) (rw asked at after) call.event)
+    by_elected false p b q = absurd (too_late d (l.new_epoch d ed p) (rw asked at before) call.event)
+    by_elected true p false q = absurd (too_late e (l.new_epoch e ee q) (rw asked at after) call.event)
     by_elected true p true q = by_open p q (is_quorum (may_accept s.objects.ledger d) (s.objects.ledger.views d)) refl
 
 new_past : (s : State) (c : Call) → Sound s.objects.ledger → PastKeeps (happens s (Ask c)) c.id

@@ -15,7 +15,8 @@ use Rattle.abstract_protocol.proofs.Ranks.{rank-version_of, rank-version_or_none
 use Rattle.safety_laws.proofs.Ordered.{Ordered, ordered_push, ordered_more, in_left, in_right, pushed_then}
 use Rattle.version_laws.proofs.Basics.{proposed_then, Settled}
 use Rattle.version_laws.proofs.Descent.{Whole, run_whole}
-use Rattle.entry_laws.proofs.Later.{Later, later_step}
+use Rattle.entry_laws.proofs.Later.{later_step}
+use Rattle.entry_laws.specs.Stays.{Later}
 use Rattle.entry_laws.specs.Entries.{EntriesAreSafe}
 use Rattle.entry_laws.proofs.Replies.{run_entries}
 use Rattle.abstract_protocol.specs.Ledger.{put}
@@ -64,13 +65,13 @@ pub record Listed (s : State) : Type 0 where
 
 holds_later : (s t : State) → Later s t → Settled s.objects → (n : Noted) → Holds s n → Holds t n
 holds_later s t l settled (Proposed k w parent call) h = record {
-  proposed = l.versions.proposed (rank w) h.proposed;
-  key = l.versions.key (rank w) h.proposed ∙ h.key;
-  parent = l.versions.parent (rank w) h.proposed ∙ h.parent;
-  call_of = l.versions.call (rank w) h.proposed ∙ h.call_of;
+  proposed = l.stay.versions.proposed (rank w) h.proposed;
+  key = l.stay.versions.key (rank w) h.proposed ∙ h.key;
+  parent = l.stay.versions.parent (rank w) h.proposed ∙ h.parent;
+  call_of = l.stay.call (rank w) h.proposed ∙ h.call_of;
 }
-holds_later s t l settled (SettledNote k w) h = record { settled = l.versions.settled (rank w) h.settled; key = l.versions.key (rank w) (settled.proposed (rank w) h.settled) ∙ h.key }
-holds_later s t l settled (Read i k base) h = record { noted = l.calls.noted i h.noted; key = ap (λ (n : Seen). n.key) (l.calls.seen i h.noted) ∙ h.key; base = ap (λ (n : Seen). n.base) (l.calls.seen i h.noted) ∙ h.base }
+holds_later s t l settled (SettledNote k w) h = record { settled = l.stay.versions.settled (rank w) h.settled; key = l.stay.versions.key (rank w) (settled.proposed (rank w) h.settled) ∙ h.key }
+holds_later s t l settled (Read i k base) h = record { noted = l.stay.noted i h.noted; key = ap (λ (n : Seen). n.key) (l.stay.seen i h.noted) ∙ h.key; base = ap (λ (n : Seen). n.base) (l.stay.seen i h.noted) ∙ h.base }
 
 read_noted : (s : State) (i : ℕ) (k : List ℕ) (b : Option Version) (n : Noted) → n ≡ Read i k b → Holds s n → s.book.noted i ≡ true
 read_noted s i k b n e h = noted (subst (Holds s) e h)
@@ -81,20 +82,20 @@ read_noted s i k b n e h = noted (subst (Holds s) e h)
 rises_later : (s t : State) → Later s t → (n m : Noted) → Holds s n → Holds s m → Rises s n m → Rises t n m
 rises_later s t l n m hn hm r i j k g b c e f =
     let p = r i j k g b c e f in
-    (p.0, rw (l.calls.seen i (read_noted s i k b n e hn), l.calls.seen j (read_noted s j g c m f hm)) p.1)
+    (p.0, rw (l.stay.seen i (read_noted s i k b n e hn), l.stay.seen j (read_noted s j g c m f hm)) p.1)
 
 -- the notes after a step that notes nothing
 kept_rises : (s t : State) → Later s t → Listed s → Ordered (Rises t) s.book.notes
 kept_rises s t l old = ordered_more (Rises s) (Rises t) s.book.notes (λ n m p q. rises_later s t l n m (old.holds n p) (old.holds m q)) old.rises
 
 proposed_kept : (s t : State) → Later s t → Listed s → (v : ℕ) → s.objects.proposed v ≡ true → Proposed (t.objects.key v) (version_of v) (version_or_none (t.objects.parent v)) (t.book.call v) ∈ s.book.notes
-proposed_kept s t l old v p = rw (l.versions.key v p, l.versions.parent v p, l.versions.call v p) (old.proposed_in v p)
+proposed_kept s t l old v p = rw (l.stay.versions.key v p, l.stay.versions.parent v p, l.stay.call v p) (old.proposed_in v p)
 
 settled_kept : (s t : State) → Later s t → Settled s.objects → Listed s → (v : ℕ) → s.objects.settled v ≡ true → SettledNote (t.objects.key v) (version_of v) ∈ s.book.notes
-settled_kept s t l settled old v h = rw (l.versions.key v (settled.proposed v h)) (old.settled_in v h)
+settled_kept s t l settled old v h = rw (l.stay.versions.key v (settled.proposed v h)) (old.settled_in v h)
 
 read_kept : (s t : State) → Later s t → Listed s → (i : ℕ) → s.book.noted i ≡ true → Read i (t.book.seen i).key (version_or_none (t.book.seen i).base) ∈ s.book.notes
-read_kept s t l old i h = rw (l.calls.seen i h) (old.read_in i h)
+read_kept s t l old i h = rw (l.stay.seen i h) (old.read_in i h)
 
 record Quiet (s t : State) : Type 0 where
   pub proposed : t.objects.proposed ≡ s.objects.proposed
@@ -278,7 +279,7 @@ note_listed s i k u d fresh entries l settled old = record {
     last n h a b p q c e f g = rises (read_noted s a p c n f (old.holds n h)) (same_id b q e g)
       where
         rises : s.book.noted a ≡ true → i ≡ b → (a ≡ b → ⊥) × ((t.book.seen a).event ≤ (t.book.seen b).event)
-        rises m same = (λ r. not_both m (subst (λ x. s.book.noted x ≡ false) (same ∙ sym r) fresh), subst (λ x. (t.book.seen a).event ≤ (t.book.seen x).event) same (rw (l.calls.seen a m, put_here s.book.seen i seen) (entries.reads a m).now))
+        rises m same = (λ r. not_both m (subst (λ x. s.book.noted x ≡ false) (same ∙ sym r) fresh), subst (λ x. (t.book.seen a).event ≤ (t.book.seen x).event) same (rw (l.stay.seen a m, put_here s.book.seen i seen) (entries.reads a m).now))
 
 listed_step : (s : State) (e : Step) → MayCome s e → Later s (happens s e) → Whole s.objects → EntriesAreSafe s → Listed s → Listed (happens s e)
 listed_step s (Ask c) may l w entries old = ask_listed s c may.1 l w.settled old

@@ -12,6 +12,6 @@ pub use election_laws::{
     ballots_are_prepared_once, elections_are_safe, elections_stay, lists_share_a_view,
     two_leaders_of_an_epoch_are_one,
 };
-pub use entry_laws::entries_are_safe;
+pub use entry_laws::{entries_are_safe, entries_stay};
 pub use histories::histories_are_legal;
 pub use version_laws::{syncs_may_end, versions_are_safe, versions_stay};
