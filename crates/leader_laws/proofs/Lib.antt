@@ -1,0 +1,15 @@
+pub mod Guards
+pub mod Growth
+pub mod Replying
+pub mod Others
+pub mod Moves
+pub mod Rounds
+pub mod Acts
+pub mod Turns
+pub mod Rules
+pub mod Tables
+pub mod Runs
+pub mod Witness
+pub mod Links
+pub mod Rows
+pub mod Rewritten
