@@ -6,7 +6,7 @@ use Rattle.ens_base.specs.declared.reply.Reply.{Reply}
 use Rattle.register_model.specs.declared.call.Call.{Call}
 use Rattle.abstract_protocol.specs.Book.{version_of}
 use Rattle.abstract_protocol.specs.Protocol.{Step, Ask, Raise, Elect, Accept, Write, Acknowledge, Settle, Note, MayCome, IsRun, state_after}
-use Rattle.leader_laws.proofs.Runs.{run_tables, run_rows, run_leaders}
+use Rattle.leader_laws.proofs.Runs.{run_tables, run_peers, run_rows, run_leaders}
 use Rattle.leader_laws.proofs.Witness.{view, key, one, at_one, seat, wrote, object, ghosts_12, steps_14, run_14, turns_14}
 use Rattle.leader_laws.specs.Laws.{HasRewritten}
 use Rattle.leader_laws.specs.Leaders.{Object, Unknown, Idle, Begun, Reading, Sure, Rewriting, Leader, Ghosts, IsObjectOf, IsUnled, TurnsHold, GetReplySays, RowHolds, LeaderHolds, IsLeaderMove, version_at, with_row, with_home, held, row_of, new_leader, round_of, turn_of, put_rewrite, rewrite_step, owing}
@@ -63,7 +63,7 @@ run_18 : IsRun view steps_18
 run_18 = (run_17, move_18.may.0)
 
 row_18 : RowHolds ghosts_18 (state_after view steps_18) (seat []) 2 key (row_of Unknown (Begun 4) [])
-row_18 = (run_rows view steps_18 run_18).begins ghosts_18 (seat []) 2 key Unknown 4 [] (move_18.holds.rows key)
+row_18 = (run_rows view steps_18 ghosts_18 (seat []) 2 key Unknown [] run_18).begins 4 (move_18.holds.rows key)
 
 abbrev ghosts_19 : Ghosts
 ghosts_19 = turn_of ghosts_18 table_18 Unknown 4
@@ -72,10 +72,10 @@ abbrev table_19 : Leader
 table_19 = round_of table_18 key (row_of Unknown (Reading 4 1 (λ q. false) 0 None) [])
 
 move_19 : IsLeaderMove ghosts_18 (state_after view steps_18) [] ghosts_19 table_19
-move_19 = (run_leaders view steps_18 run_18).reading_starts ghosts_18 table_18 key Unknown 4 [] move_18.holds row_18
+move_19 = ((run_leaders view steps_18 run_18).rows ghosts_18 table_18 key Unknown [] move_18.holds).reading_starts 4 row_18
 
 turns_19 : TurnsHold ghosts_19 (state_after view steps_18)
-turns_19 = (run_leaders view steps_18 run_18).turns_start ghosts_18 2 1 (record { call = 4; base = 0 }) ((run_leaders view steps_18 run_18).round_holds ghosts_18 table_18 key Unknown 4 [] move_18.holds row_18)
+turns_19 = (run_leaders view steps_18 run_18).turns_start ghosts_18 2 1 (record { call = 4; base = 0 }) (((run_leaders view steps_18 run_18).rows ghosts_18 table_18 key Unknown [] move_18.holds).round_holds 4 row_18)
     ((run_tables view steps_14 run_14).turns ghosts_18 (Raise 1 2 ∷ Elect 2 (record { epoch = 1; seq = 1 }) ∷ Accept 1 2 ∷ Ask fourth ∷ []) (run_15.1, (run_16.1, (run_17.1, (move_18.may.0, tt)))) turns_14)
 
 -- what the tree shows is the object that was written
@@ -88,11 +88,11 @@ shown x e = subst (IsObjectOf (state_after view steps_18) wrote) (same e) (recor
 
 reply_19 : GetReplySays ghosts_19 (state_after view steps_18) 1 2 1 key wrote (Some object)
 unfolding version_at
-reply_19 = (run_tables view steps_18 run_18).get_reply ghosts_19 1 2 1 key (Some object) turns_19 (record { turn = record { call = 4; base = 0 }; started = refl; on_key = refl }) refl refl shown
+reply_19 = (run_peers view steps_18 1 2 run_18 refl).get_reply ghosts_19 1 key (Some object) turns_19 (record { turn = record { call = 4; base = 0 }; started = refl; on_key = refl }) refl shown
 
 row_19 : RowHolds ghosts_19 (state_after view steps_18) (seat []) 2 key (row_of Unknown (Reading 4 1 (put (λ q. false) 1 true) wrote (Some object)) [])
 unfolding version_at
-row_19 = (run_rows view steps_18 run_18).reply_counts ghosts_19 (seat []) 2 key Unknown [] 4 1 (λ q. false) 0 None 1 wrote (Some object) reply_19 (move_19.holds.rows key)
+row_19 = (run_rows view steps_18 ghosts_19 (seat []) 2 key Unknown [] run_18).reply_counts 4 1 (λ q. false) 0 None 1 wrote (Some object) reply_19 (move_19.holds.rows key)
 
 abbrev again : ℕ
 again = version_at 2 1
@@ -101,7 +101,7 @@ abbrev table_20 : Leader
 table_20 = put_rewrite table_19 key Unknown 4 [] object
 
 move_20 : IsLeaderMove ghosts_19 (state_after view steps_18) (rewrite_step table_19 key wrote object ∷ []) ghosts_19 table_20
-move_20 = (run_leaders view steps_18 run_18).read_then_rewrite ghosts_19 table_19 key Unknown 4 1 (put (λ q. false) 1 true) wrote object [] move_19.holds row_19 (lit< tt) refl
+move_20 = ((run_leaders view steps_18 run_18).rows ghosts_19 table_19 key Unknown [] move_19.holds).read_then_rewrite 4 1 (put (λ q. false) 1 true) wrote object row_19 (lit< tt) refl
 
 abbrev steps_20 : List Step
 steps_20 = rewrite_step table_19 key wrote object ∷ steps_18
@@ -135,13 +135,13 @@ unfolding version_at
 acked = refl
 
 row_21 : RowHolds ghosts_19 (state_after view steps_21) (seat []) 2 key (row_of Unknown (Rewriting 4 again object (put (λ q. false) 1 true)) [])
-row_21 = (run_rows view steps_21 run_21).rewrite_counts ghosts_19 (seat []) 2 key Unknown [] 4 again object (λ q. false) 1 acked (leader_21.rows key)
+row_21 = (run_rows view steps_21 ghosts_19 (seat []) 2 key Unknown [] run_21).rewrite_counts 4 again object (λ q. false) 1 acked (leader_21.rows key)
 
 abbrev table_22 : Leader
 table_22 = with_row table_20 key (row_of (held ghosts_19 key again object) (Sure 4) [])
 
 move_22 : IsLeaderMove ghosts_19 (state_after view steps_21) (Settle again ∷ []) ghosts_19 table_22
-move_22 = (run_leaders view steps_21 run_21).settles_rewrite ghosts_19 table_20 key Unknown 4 [] again object (put (λ q. false) 1 true) leader_21 row_21 refl
+move_22 = ((run_leaders view steps_21 run_21).rows ghosts_19 table_20 key Unknown [] leader_21).settles_rewrite 4 again object (put (λ q. false) 1 true) row_21 refl
 
 abbrev steps_22 : List Step
 steps_22 = Settle again ∷ steps_21
@@ -151,7 +151,7 @@ run_22 = (run_21, move_22.may.0)
 
 move_23 : IsLeaderMove ghosts_19 (state_after view steps_22) (Note 4 key again 2 ∷ []) ghosts_19 (owing table_22 key (row_of (held ghosts_19 key again object) Idle []) 4 (Reply.Value (version_of wrote) (97 ∷ [])))
 unfolding version_at
-move_23 = (run_leaders view steps_22 run_22).reads ghosts_19 table_22 key (held ghosts_19 key again object) 4 [] (Reply.Value (version_of wrote) (97 ∷ [])) move_22.holds (move_22.holds.rows key) refl
+move_23 = ((run_leaders view steps_22 run_22).rows ghosts_19 table_22 key (held ghosts_19 key again object) [] move_22.holds).reads 4 (Reply.Value (version_of wrote) (97 ∷ [])) (move_22.holds.rows key) refl
 
 pub has_rewritten : HasRewritten (1 ∷ [])
 unfolding version_at

@@ -9,7 +9,7 @@ use Rattle.ens_base.specs.declared.reply.Reply.{Reply}
 use Rattle.register_model.specs.declared.call.Call.{Call}
 use Rattle.abstract_protocol.specs.Book.{version_of}
 use Rattle.abstract_protocol.specs.Protocol.{Step, Ask, Raise, Elect, Accept, Write, Acknowledge, Propose, Settle, Note, Answer, MayCome, IsRun, state_after}
-use Rattle.leader_laws.proofs.Runs.{run_tables, run_rows, run_leaders}
+use Rattle.leader_laws.proofs.Runs.{run_tables, run_peers, run_keys, run_rows, run_leaders}
 use Rattle.leader_laws.specs.Laws.{HasLed}
 use Rattle.leader_laws.specs.Leaders.{Object, Known, Unknown, Nothing, Idle, Begun, Reading, Sure, Checking, Writing, Leader, Turn, Ghosts, GetReplySays, CheckReplySays, TurnsHold, RowHolds, LeaderHolds, IsLeaderMove, version_at, with_row, with_home, held, row_of, new_leader, round_of, turn_of, put_write, write_step, Seat, Owed, owing}
 
@@ -81,7 +81,7 @@ run_4 : IsRun view steps_4
 run_4 = (run_3, move_4.may.0)
 
 row_4 : RowHolds ghosts_4 (state_after view steps_4) (seat []) 1 key (row_of Unknown (Begun 1) [])
-row_4 = (run_rows view steps_4 run_4).begins ghosts_4 (seat []) 1 key Unknown 1 [] (move_4.holds.rows key)
+row_4 = (run_rows view steps_4 ghosts_4 (seat []) 1 key Unknown [] run_4).begins 1 (move_4.holds.rows key)
 
 abbrev pub ghosts_5 : Ghosts
 ghosts_5 = turn_of ghosts_4 table_4 Unknown 1
@@ -90,29 +90,29 @@ abbrev pub table_5 : Leader
 table_5 = round_of table_4 key (row_of Unknown (Reading 1 1 (λ q. false) 0 None) [])
 
 move_5 : IsLeaderMove ghosts_4 (state_after view steps_4) [] ghosts_5 table_5
-move_5 = (run_leaders view steps_4 run_4).reading_starts ghosts_4 table_4 key Unknown 1 [] move_4.holds row_4
+move_5 = ((run_leaders view steps_4 run_4).rows ghosts_4 table_4 key Unknown [] move_4.holds).reading_starts 1 row_4
 
 turns_5 : TurnsHold ghosts_5 (state_after view steps_4)
-turns_5 = (run_leaders view steps_4 run_4).turns_start ghosts_4 1 1 (record { call = 1; base = 0 }) ((run_leaders view steps_4 run_4).round_holds ghosts_4 table_4 key Unknown 1 [] move_4.holds row_4) (λ d r t e. absurd (none_some t e))
+turns_5 = (run_leaders view steps_4 run_4).turns_start ghosts_4 1 1 (record { call = 1; base = 0 }) (((run_leaders view steps_4 run_4).rows ghosts_4 table_4 key Unknown [] move_4.holds).round_holds 1 row_4) (λ d r t e. absurd (none_some t e))
   where
     none_some : (t : Turn) → None ≡ Some t → ⊥
     none_some t e = cc
 
 reply_5 : GetReplySays ghosts_5 (state_after view steps_4) 1 1 1 key 0 None
-reply_5 = (run_tables view steps_4 run_4).get_reply ghosts_5 1 1 1 key None turns_5 (record { turn = record { call = 1; base = 0 }; started = refl; on_key = refl }) refl refl (λ y e. absurd (none_some y e))
+reply_5 = (run_peers view steps_4 1 1 run_4 refl).get_reply ghosts_5 1 key None turns_5 (record { turn = record { call = 1; base = 0 }; started = refl; on_key = refl }) refl (λ y e. absurd (none_some y e))
   where
     none_some : (y : Object) → None ≡ Some y → ⊥
     none_some y e = cc
 
 row_5 : RowHolds ghosts_5 (state_after view steps_4) (seat []) 1 key (row_of Nothing (Sure 1) [])
-row_5 = (run_rows view steps_4 run_4).finds_nothing ghosts_5 (seat []) 1 key Unknown [] 1 1 (put (λ q. false) 1 true) 0 None refl refl refl
-    ((run_rows view steps_4 run_4).reply_counts ghosts_5 (seat []) 1 key Unknown [] 1 1 (λ q. false) 0 None 1 0 None reply_5 (move_5.holds.rows key))
+row_5 = (run_rows view steps_4 ghosts_5 (seat []) 1 key Unknown [] run_4).finds_nothing 1 1 (put (λ q. false) 1 true) 0 None refl refl refl
+    ((run_rows view steps_4 ghosts_5 (seat []) 1 key Unknown [] run_4).reply_counts 1 1 (λ q. false) 0 None 1 0 None reply_5 (move_5.holds.rows key))
 
 abbrev pub steps_5 : List Step
 steps_5 = Note 1 key 0 1 ∷ steps_4
 
 move_5a : IsLeaderMove ghosts_5 (state_after view steps_4) (Note 1 key 0 1 ∷ []) ghosts_5 (owing table_5 key (row_of Nothing Idle []) 1 Reply.NotFound)
-move_5a = (run_leaders view steps_4 run_4).reads ghosts_5 table_5 key Nothing 1 [] Reply.NotFound move_5.holds row_5 refl
+move_5a = ((run_leaders view steps_4 run_4).rows ghosts_5 table_5 key Nothing [] move_5.holds).reads 1 Reply.NotFound row_5 refl
 
 run_5 : IsRun view steps_5
 run_5 = (run_4, move_5a.may.0)
@@ -150,7 +150,7 @@ run_7 : IsRun view steps_7
 run_7 = (run_6, move_7.may.0)
 
 row_7 : RowHolds ghosts_7 (state_after view steps_7) (seat []) 1 key (row_of Nothing (Begun 2) [])
-row_7 = (run_rows view steps_7 run_7).begins ghosts_7 (seat []) 1 key Nothing 2 [] (move_7.holds.rows key)
+row_7 = (run_rows view steps_7 ghosts_7 (seat []) 1 key Nothing [] run_7).begins 2 (move_7.holds.rows key)
 
 abbrev pub wrote : ℕ
 wrote = version_at 1 1
@@ -162,7 +162,7 @@ abbrev pub table_8 : Leader
 table_8 = put_write table_7 key Nothing 2 [] (Some (97 ∷ []))
 
 move_8 : IsLeaderMove ghosts_7 (state_after view steps_7) (write_step table_7 key 0 (Some (97 ∷ [])) 2 ∷ []) ghosts_7 table_8
-move_8 = (run_leaders view steps_7 run_7).writes ghosts_7 table_7 key Nothing 2 [] 0 (Some (97 ∷ [])) move_7.holds (lit< tt) row_7 ((run_leaders view steps_7 run_7).settled_parent ghosts_7 1 key Nothing tt (row_7.known refl)) refl
+move_8 = ((run_leaders view steps_7 run_7).rows ghosts_7 table_7 key Nothing [] move_7.holds).writes 2 0 (Some (97 ∷ [])) (lit< tt) row_7 ((run_keys view steps_7 ghosts_7 1 key run_7).settled_parent Nothing tt (row_7.known refl)) refl
 
 abbrev pub steps_8 : List Step
 steps_8 = Propose wrote key 0 (version_of wrote) (Some (97 ∷ [])) (Some 2) ∷ steps_7
@@ -196,13 +196,13 @@ unfolding version_at
 acked = refl
 
 row_9 : RowHolds ghosts_7 (state_after view steps_9) (seat []) 1 key (row_of Nothing (Writing 2 wrote object (put (λ q. false) 1 true)) [])
-row_9 = (run_rows view steps_9 run_9).write_counts ghosts_7 (seat []) 1 key Nothing [] 2 wrote object (λ q. false) 1 acked (leader_9.rows key)
+row_9 = (run_rows view steps_9 ghosts_7 (seat []) 1 key Nothing [] run_9).write_counts 2 wrote object (λ q. false) 1 acked (leader_9.rows key)
 
 abbrev pub steps_9a : List Step
 steps_9a = Settle wrote ∷ steps_9
 
 move_9 : IsLeaderMove ghosts_7 (state_after view steps_9) (Settle wrote ∷ []) ghosts_7 (owing table_8 key (row_of (held ghosts_7 key wrote object) Idle []) 2 (Reply.Ok (version_of wrote)))
-move_9 = (run_leaders view steps_9 run_9).settles_write ghosts_7 table_8 key Nothing 2 [] wrote object (put (λ q. false) 1 true) leader_9 row_9 refl
+move_9 = ((run_leaders view steps_9 run_9).rows ghosts_7 table_8 key Nothing [] leader_9).settles_write 2 wrote object (put (λ q. false) 1 true) row_9 refl
 
 run_9a : IsRun view steps_9a
 run_9a = (run_9, move_9.may.0)
@@ -240,7 +240,7 @@ run_11 : IsRun view steps_11
 run_11 = (run_10, move_11.may.0)
 
 row_11 : RowHolds ghosts_11 (state_after view steps_11) (seat []) 1 key (row_of wrote_known (Begun 3) [])
-row_11 = (run_rows view steps_11 run_11).begins ghosts_11 (seat []) 1 key wrote_known 3 [] (move_11.holds.rows key)
+row_11 = (run_rows view steps_11 ghosts_11 (seat []) 1 key wrote_known [] run_11).begins 3 (move_11.holds.rows key)
 
 abbrev pub table_11 : Leader
 table_11 = with_row table_10 key (row_of wrote_known Idle (3 ∷ []))
@@ -253,24 +253,24 @@ value = Reply.Value (version_of wrote) (97 ∷ [])
 
 move_12 : IsLeaderMove ghosts_11 (state_after view steps_11) [] ghosts_12 (round_of table_11 key (row_of wrote_known (Checking 3 2 (λ q. false) (Reply.Value (version_of wrote) (97 ∷ []))) []))
 unfolding version_at
-move_12 = (run_leaders view steps_11 run_11).checking_starts ghosts_11 table_11 key wrote_known 3 [] (Reply.Value (version_of wrote) (97 ∷ [])) move_11.holds row_11 tt refl
+move_12 = ((run_leaders view steps_11 run_11).rows ghosts_11 table_11 key wrote_known [] move_11.holds).checking_starts 3 (Reply.Value (version_of wrote) (97 ∷ [])) row_11 tt refl
 
 turns_11 : TurnsHold ghosts_11 (state_after view steps_11)
 turns_11 = (run_tables view steps_4 run_4).turns ghosts_5 (Note 1 key 0 1 ∷ Answer 1 Reply.NotFound ∷ Ask second ∷ Propose wrote key 0 (version_of wrote) (Some (97 ∷ [])) (Some 2) ∷ Write 1 wrote ∷ Acknowledge 1 wrote ∷ Settle wrote ∷ Answer 2 (Reply.Ok (version_of wrote)) ∷ Ask third ∷ [])
     (move_5a.may.0, (move_6.may.0, (move_7.may.0, (move_8.may.0, (may_9.0, (may_9.1.0, (move_9.may.0, (move_10.may.0, (move_11.may.0, tt))))))))) turns_5
 
 turns_12 : TurnsHold ghosts_12 (state_after view steps_11)
-turns_12 = (run_leaders view steps_11 run_11).turns_start ghosts_11 1 2 (record { call = 3; base = wrote }) ((run_leaders view steps_11 run_11).round_holds ghosts_11 table_11 key wrote_known 3 [] move_11.holds row_11) turns_11
+turns_12 = (run_leaders view steps_11 run_11).turns_start ghosts_11 1 2 (record { call = 3; base = wrote }) (((run_leaders view steps_11 run_11).rows ghosts_11 table_11 key wrote_known [] move_11.holds).round_holds 3 row_11) turns_11
 
 says_12 : CheckReplySays ghosts_12 (state_after view steps_11) 1 1 2
-says_12 = (run_tables view steps_11 run_11).check_reply ghosts_12 1 1 2 turns_12 (record { turn = record { call = 3; base = wrote }; started = refl }) refl
+says_12 = (run_peers view steps_11 1 1 run_11 refl).check_reply ghosts_12 2 turns_12 (record { turn = record { call = 3; base = wrote }; started = refl })
 
 abbrev pub table_12 : Leader
 table_12 = round_of table_11 key (row_of wrote_known (Checking 3 2 (λ q. false) (Reply.Value (version_of wrote) (97 ∷ []))) [])
 
 move_13 : IsLeaderMove ghosts_12 (state_after view steps_11) (Note 3 key wrote 1 ∷ []) ghosts_12 (owing table_12 key (row_of wrote_known Idle []) 3 (Reply.Value (version_of wrote) (97 ∷ [])))
-move_13 = (run_leaders view steps_11 run_11).check_then_answer ghosts_12 table_12 key wrote_known 3 2 (put (λ q. false) 1 true) (Reply.Value (version_of wrote) (97 ∷ [])) [] move_12.holds
-    ((run_rows view steps_11 run_11).check_counts ghosts_12 (seat []) 1 key wrote_known [] 3 2 (λ q. false) (Reply.Value (version_of wrote) (97 ∷ [])) 1 says_12 (move_12.holds.rows key)) refl
+move_13 = ((run_leaders view steps_11 run_11).rows ghosts_12 table_12 key wrote_known [] move_12.holds).check_then_answer 3 2 (put (λ q. false) 1 true) (Reply.Value (version_of wrote) (97 ∷ []))
+    ((run_rows view steps_11 ghosts_12 (seat []) 1 key wrote_known [] run_11).check_counts 3 2 (λ q. false) (Reply.Value (version_of wrote) (97 ∷ [])) 1 says_12 (move_12.holds.rows key)) refl
 
 run_13 : IsRun view (Note 3 key wrote 1 ∷ steps_11)
 run_13 = (run_11, move_13.may.0)

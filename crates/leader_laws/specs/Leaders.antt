@@ -153,9 +153,13 @@ abbrev pub IsSettledKey : Known → Type 0
 IsSettledKey Unknown = ⊥
 IsSettledKey known = Unit {0}
 
+-- the peers are a quorum of the epoch's views
+abbrev pub IsQuorumAt : State → ℕ → (ℕ → Bool) → Type 0
+IsQuorumAt s d peers = is_quorum peers (s.objects.ledger.views d) ≡ true
+
 -- a quorum stood at the epoch or below when the call came
 abbrev pub IsFresh : State → ℕ → ℕ → Type 0
-IsFresh s d i = is_quorum (stood_below s.book i d) (s.objects.ledger.views d) ≡ true
+IsFresh s d i = IsQuorumAt s d (stood_below s.book i d)
 
 -- a read: what each peer that replied showed of the key is at most the best entry, and so is the settled version of the key where the peer had acknowledged it when it was settled
 pub record ReadingHolds (g : Ghosts) (s : State) (d : ℕ) (k : List ℕ) (base i r : ℕ) (replied : ℕ → Bool) (best : ℕ) (object : Option Object) : Type 0 where
@@ -240,13 +244,17 @@ abbrev pub OwesHold : Ghosts → State → ℕ → List Owed → Type 0
 OwesHold g s p [] = Unit {0}
 OwesHold g s p (a ∷ rest) = OwedHolds g s p a.call a.reply × ((a.call ∈ calls_owed rest → ⊥) × OwesHold g s p rest)
 
+-- no round after the leader's last was started in its epoch
+abbrev pub HasNoLater : Ghosts → Leader → Type 0
+HasNoLater g l = (r : ℕ) → l.round < r → g.turn l.epoch r ≡ None
+
 -- a leader of an established epoch: its versions have numbers up to its last, its rounds are those up to its last
 pub record LeaderHolds (g : Ghosts) (s : State) (l : Leader) : Type 0 where
   pub led : 0 < l.epoch
   pub elected : s.objects.ledger.elected l.epoch ≡ true
   pub established : is_established s.objects.ledger l.epoch ≡ true
   pub numbers : (v : ℕ) → s.objects.proposed v ≡ true → epoch_of v ≡ l.epoch → v ≤ version_at l.epoch l.seq
-  pub rounds : (r : ℕ) → l.round < r → g.turn l.epoch r ≡ None
+  pub rounds : HasNoLater g l
   pub rows : (k : List ℕ) → RowHolds g s l.seat l.epoch k (l.rows k)
   pub owes : OwesHold g s l.seat.peer l.seat.owed
 
