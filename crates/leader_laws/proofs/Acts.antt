@@ -24,7 +24,9 @@ use Rattle.leader_laws.proofs.Rounds.{ghosts_same, move_same}
 use Rattle.leader_laws.proofs.Moves.{row_then, row_set, held_holds}
 use Rattle.leader_laws.proofs.Guards.{version_next, version_some, version_epoch, may_propose, may_write, may_rewrite, may_settle, may_note_read}
 use Rattle.leader_laws.proofs.Replying.{keeps_done, done_not_refused}
-use Rattle.leader_laws.specs.Leaders.{Seat, calls_owed, owe, owing, OwedHolds, Object, Known, Stage, Idle, Begun, Reading, Sure, Checking, Writing, Rewriting, KeyRow, Leader, Ghosts, version_at, base_of, calls_of, set_row, IsUnwritten, IsObjectOf, KnownHolds, IsFresh, PutHolds, CallHolds, RowHolds, LeaderHolds, with_row, IsDropped, held, IsLeaderMove, row_of, IsParent}
+use Rattle.leader_laws.specs.Tables.{Seat, calls_owed, owe, owing, Object, Known, Stage, Idle, Begun, Reading, Sure, Checking, Writing, Rewriting, KeyRow, Leader, Ghosts, version_at, base_of, calls_of, set_row, with_row, held, row_of}
+use Rattle.leader_laws.specs.Leaders.{OwedHolds, IsUnwritten, IsObjectOf, KnownHolds, IsFresh, PutHolds, CallHolds, RowHolds, LeaderHolds, IsParent}
+use Rattle.leader_laws.specs.Moves.{IsDropped, IsLeaderMove}
 
 -- ## Every stage without a put has what a call that began has
 

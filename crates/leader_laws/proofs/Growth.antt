@@ -14,7 +14,9 @@ use Rattle.abstract_protocol.specs.Objects.{epoch_of, IsGenuine, IsUntouched, Is
 use Rattle.ens_base.specs.declared.reply.Reply.{Reply}
 use Rattle.abstract_protocol.specs.Book.{Seen, IsWriteReply, IsReadReply, register_at, stood_below, Wrote}
 use Rattle.abstract_protocol.specs.Protocol.{State, Step, Begin, Ask, Raise, Elect, Accept, Commit, Adopt, Write, Acknowledge, Install, EndSync, Propose, Settle, Note, Answer, Lose, Revert, happens}
-use Rattle.leader_laws.specs.Leaders.{Owed, Seat, calls_owed, owe, OwedHolds, OwesHold, CallSpared, SparesCall, Object, Known, Unknown, Nothing, Held, Stage, Idle, Begun, Reading, Sure, Checking, Writing, Rewriting, KeyRow, Ghosts, base_of, has_put, with_running, calls_of, IsUnwritten, IsObjectOf, KnownHolds, IsFresh, PutHolds, StageHolds, CallHolds, RowHolds, RowSpared, SparesRow, GhostsGrow}
+use Rattle.leader_laws.specs.Tables.{Owed, Seat, calls_owed, owe, Object, Known, Unknown, Nothing, Held, Stage, Idle, Begun, Reading, Sure, Checking, Writing, Rewriting, KeyRow, Ghosts, base_of, has_put, with_running, calls_of}
+use Rattle.leader_laws.specs.Leaders.{OwedHolds, OwesHold, IsUnwritten, IsObjectOf, KnownHolds, IsFresh, PutHolds, StageHolds, CallHolds, RowHolds}
+use Rattle.leader_laws.specs.Moves.{CallSpared, SparesCall, RowSpared, SparesRow, GhostsGrow}
 
 -- ## One step
 

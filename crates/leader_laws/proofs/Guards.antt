@@ -14,7 +14,8 @@ use Rattle.entry_laws.specs.Entries.{EntriesAreSafe}
 use Rattle.abstract_protocol.specs.Objects.{epoch_of, IsGenuine, IsNewest, IsUntouched, MayBegin, MayPropose, MaySettle}
 use Rattle.abstract_protocol.specs.Book.{version_of, register_at, stood_below, IsOpenCall, IsAbsentHere, MayCall, MayNoteProposal, MayNoteRead}
 use Rattle.abstract_protocol.specs.Protocol.{State, Ask, happens}
-use Rattle.leader_laws.specs.Leaders.{Seat, Ghosts, Object, Known, Unknown, Nothing, Held, Leader, version_at, base_of, IsUnwritten, IsObjectOf, KnownHolds, IsSettledKey, IsFresh, ReadingHolds, PutHolds, CallHolds, LeaderHolds, IsParent}
+use Rattle.leader_laws.specs.Tables.{Seat, Ghosts, Object, Known, Unknown, Nothing, Held, Leader, version_at, base_of}
+use Rattle.leader_laws.specs.Leaders.{IsUnwritten, IsObjectOf, KnownHolds, IsSettledKey, IsFresh, ReadingHolds, PutHolds, CallHolds, LeaderHolds, IsParent}
 
 -- ## Reads
 

@@ -10,6 +10,6 @@ pub mod Rules
 pub mod Tables
 pub mod Runs
 pub mod Witness
-pub mod Links
+pub mod Roles
 pub mod Rows
 pub mod Rewritten

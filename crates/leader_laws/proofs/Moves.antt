@@ -16,7 +16,9 @@ use Rattle.abstract_protocol.specs.Objects.{epoch_of, IsGenuine, IsUntouched, Is
 use Rattle.abstract_protocol.specs.Book.{register_at}
 use Rattle.abstract_protocol.specs.Protocol.{State}
 use Rattle.leader_laws.proofs.Guards.{newest_of_reread, fresh_of_replies}
-use Rattle.leader_laws.specs.Leaders.{Seat, Object, Known, Unknown, Nothing, Held, Stage, Idle, Begun, Reading, Sure, Checking, Writing, Rewriting, KeyRow, Leader, Turn, Ghosts, base_of, set_row, IsObjectOf, KnownHolds, IsSettledKey, ReadingHolds, PutHolds, RowHolds, LeaderHolds, GetReplySays, CheckReplySays, with_row, one_of, better_object, held}
+use Rattle.leader_laws.specs.Tables.{Seat, Object, Known, Unknown, Nothing, Held, Stage, Idle, Begun, Reading, Sure, Checking, Writing, Rewriting, KeyRow, Leader, Turn, Ghosts, base_of, set_row, with_row, one_of, better_object, held}
+use Rattle.leader_laws.specs.Leaders.{IsObjectOf, KnownHolds, IsSettledKey, ReadingHolds, PutHolds, RowHolds, LeaderHolds}
+use Rattle.leader_laws.specs.Messages.{GetReplySays, CheckReplySays}
 
 -- ## One row in the table
 

@@ -14,7 +14,10 @@ use Rattle.abstract_protocol.specs.Objects.{epoch_of, set_entry, IsGenuine}
 use Rattle.abstract_protocol.specs.Protocol.{State, Step, Begin, Ask, Raise, Elect, Accept, Commit, Adopt, Write, Acknowledge, Install, EndSync, Propose, Settle, Note, Answer, Lose, Revert, happens, MayCome, MayAll}
 use Rattle.version_laws.proofs.Stays.{genuine_stays}
 use Rattle.leader_laws.proofs.Growth.{object_stays, genuine_proposed, spared_step, row_stays, call_spared_step, owes_stay, owed_home}
-use Rattle.leader_laws.specs.Leaders.{calls_owed, CallSpared, SparesCall, Ghosts, Object, Leader, Turn, calls_of, IsObjectOf, LeaderHolds, TurnHolds, TurnsHold, GetSays, CheckSays, PutSays, GetReplySays, CheckReplySays, RowSpared, IsOfOthers, SparesLeader, GhostsGrow, SparesRow}
+use Rattle.leader_laws.specs.Tables.{calls_owed, Ghosts, Object, Leader, Turn, calls_of}
+use Rattle.leader_laws.specs.Leaders.{IsObjectOf, LeaderHolds, TurnHolds, TurnsHold}
+use Rattle.leader_laws.specs.Messages.{GetSays, CheckSays, PutSays, GetReplySays, CheckReplySays}
+use Rattle.leader_laws.specs.Moves.{CallSpared, SparesCall, RowSpared, IsOfOthers, SparesLeader, GhostsGrow, SparesRow}
 
 -- ## The table
 

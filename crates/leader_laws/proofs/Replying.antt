@@ -17,7 +17,8 @@ use Rattle.version_laws.proofs.Descent.{Whole}
 use Rattle.abstract_protocol.specs.Book.{version_of, register_at}
 use Rattle.abstract_protocol.specs.Protocol.{State}
 use Rattle.leader_laws.specs.Rows.{needs_bytes}
-use Rattle.leader_laws.specs.Leaders.{Object, IsObjectOf, Ghosts, HeldHolds, is_gone, IsNoClash}
+use Rattle.leader_laws.specs.Tables.{Object, Ghosts, is_gone}
+use Rattle.leader_laws.specs.Leaders.{IsObjectOf, HeldHolds, IsNoClash}
 
 chosen : (b : Bool) (c : Option (List ℕ)) (r : Reply) → (if b then Writes c else Keeps Reply.Failed) ≡ Keeps r → Reply.Failed ≡ r
 chosen true c r e = absurd (cc)

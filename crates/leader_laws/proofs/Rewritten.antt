@@ -9,7 +9,10 @@ use Rattle.abstract_protocol.specs.Protocol.{Step, Ask, Raise, Elect, Accept, Wr
 use Rattle.leader_laws.proofs.Runs.{run_tables, run_peers, run_rows, run_leaders}
 use Rattle.leader_laws.proofs.Witness.{view, key, one, at_one, seat, wrote, object, ghosts_12, steps_14, run_14, turns_14}
 use Rattle.leader_laws.specs.Laws.{HasRewritten}
-use Rattle.leader_laws.specs.Leaders.{Object, Unknown, Idle, Begun, Reading, Sure, Rewriting, Leader, Ghosts, IsObjectOf, IsUnled, TurnsHold, GetReplySays, RowHolds, LeaderHolds, IsLeaderMove, version_at, with_row, with_home, held, row_of, new_leader, round_of, turn_of, put_rewrite, rewrite_step, owing}
+use Rattle.leader_laws.specs.Tables.{Object, Unknown, Idle, Begun, Reading, Sure, Rewriting, Leader, Ghosts, version_at, with_row, with_home, held, row_of, new_leader, round_of, turn_of, owing}
+use Rattle.leader_laws.specs.Leaders.{IsObjectOf, IsUnled, TurnsHold, RowHolds, LeaderHolds}
+use Rattle.leader_laws.specs.Messages.{GetReplySays}
+use Rattle.leader_laws.specs.Moves.{IsLeaderMove, put_rewrite, rewrite_step}
 
 abbrev steps_15 : List Step
 steps_15 = Raise 1 2 ∷ steps_14

@@ -6,7 +6,9 @@ use Rattle.election_laws.proofs.Epochs.{not_both}
 use Rattle.version_laws.proofs.Maps.{put_other}
 use Rattle.abstract_protocol.specs.Protocol.{State, Step, after, MayAll}
 use Rattle.leader_laws.proofs.Growth.{row_stays, owes_stay, call_spared_none}
-use Rattle.leader_laws.specs.Leaders.{Seat, Turn, Leader, Known, Unknown, Nothing, Held, Ghosts, base_of, calls_of, start_turn, KnownHolds, CallHolds, LeaderHolds, TurnHolds, TurnsHold, RowSpared, GhostsGrow, with_turn, with_home, AreOfLeader, IsLeaderMove}
+use Rattle.leader_laws.specs.Tables.{Seat, Turn, Leader, Known, Unknown, Nothing, Held, Ghosts, base_of, calls_of, start_turn, with_turn, with_home}
+use Rattle.leader_laws.specs.Leaders.{KnownHolds, CallHolds, LeaderHolds, TurnHolds, TurnsHold}
+use Rattle.leader_laws.specs.Moves.{RowSpared, GhostsGrow, AreOfLeader, IsLeaderMove}
 
 -- ## No step
 

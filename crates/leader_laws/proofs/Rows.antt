@@ -17,7 +17,9 @@ use Rattle.leader_laws.proofs.Rounds.{move_same}
 use Rattle.leader_laws.proofs.Acts.{reads}
 use Rattle.leader_laws.proofs.Moves.{read_finds_nothing, read_finds_settled}
 use Rattle.leader_laws.proofs.Rules.{sure_writes, read_then_over, read_then_rewrite, read_then_lost, begun_writes}
-use Rattle.leader_laws.specs.Leaders.{Object, Known, Nothing, Reading, Sure, Leader, Ghosts, base_of, RowHolds, LeaderHolds, IsLeaderMove, row_of, held, Unknown, Held, Begun, IsObjectOf, IsSettledKey}
+use Rattle.leader_laws.specs.Tables.{Object, Known, Nothing, Reading, Sure, Leader, Ghosts, base_of, row_of, held, Unknown, Held, Begun}
+use Rattle.leader_laws.specs.Leaders.{RowHolds, LeaderHolds, IsObjectOf, IsSettledKey}
+use Rattle.leader_laws.specs.Moves.{IsLeaderMove}
 use Rattle.leader_laws.specs.Rows.{Moved, applied, overwrites, by_epoch, by_every, by_object, by_over, by_entry, after_replies, RepliesMove, begun, needs_bytes, by_seen, by_need, call_starts, StartsMove}
 
 abbrev Moves : Ghosts → State → Moved → Type 0

@@ -17,7 +17,9 @@ use Rattle.leader_laws.proofs.Rounds.{spared_none, ghosts_same}
 use Rattle.leader_laws.proofs.Moves.{check_ends}
 use Rattle.leader_laws.proofs.Acts.{reading_began, sure_began, writes, rewrites, reads, is_lost}
 use Rattle.leader_laws.proofs.Guards.{read_parent, settled_parent, fresh_of_replies}
-use Rattle.leader_laws.specs.Leaders.{Turn, Object, Known, Idle, Begun, Reading, Sure, Checking, Leader, Ghosts, base_of, calls_of, IsSettledKey, RowHolds, LeaderHolds, TurnsHold, IsUnled, IsOfLeader, AreOfLeader, IsOfOthers, IsLeaderMove, row_of, new_leader, put_write, write_step, put_rewrite, rewrite_step, Seat, OwesHold, owing}
+use Rattle.leader_laws.specs.Tables.{Turn, Object, Known, Idle, Begun, Reading, Sure, Checking, Leader, Ghosts, base_of, calls_of, row_of, new_leader, Seat, owing}
+use Rattle.leader_laws.specs.Leaders.{IsSettledKey, RowHolds, LeaderHolds, TurnsHold, IsUnled, OwesHold}
+use Rattle.leader_laws.specs.Moves.{IsOfLeader, AreOfLeader, IsOfOthers, IsLeaderMove, put_write, write_step, put_rewrite, rewrite_step}
 
 -- ## A call that is sure, or begins, on a settled key: the command is applied
 

@@ -18,7 +18,8 @@ use Rattle.leader_laws.proofs.Rounds.{turn_holds, turns_start}
 use Rattle.leader_laws.proofs.Rules.{move_for_others, turns_after, leader_begins, unled_at_first, unled_after, unled_moves, check_then_answer, read_then_over, read_then_rewrite}
 use Rattle.leader_laws.proofs.Tables.{move_then, leader_same, put_leaves_nothing_known}
 use Rattle.leader_laws.specs.Laws.{TablesStay, PeersReply, KeyLaws, RowMoves, LeaderMoves, LeadersMove}
-use Rattle.leader_laws.specs.Leaders.{Ghosts, Seat, Known, Leader, LeaderHolds}
+use Rattle.leader_laws.specs.Tables.{Ghosts, Seat, Known, Leader}
+use Rattle.leader_laws.specs.Leaders.{LeaderHolds}
 
 tables : (s : State) → Whole s.objects → VersionsAreSafe s.objects → EntriesAreSafe s → TablesStay s
 tables s w versions entries = record {

@@ -7,7 +7,9 @@ use Rattle.election_laws.proofs.Epochs.{not_both}
 use Rattle.version_laws.proofs.Maps.{same_bytes_eq, eq_same_bytes}
 use Rattle.version_laws.proofs.Descent.{Whole}
 use Rattle.abstract_protocol.specs.Protocol.{State, Step, Propose, Settle, Note, Answer, after}
-use Rattle.leader_laws.specs.Leaders.{Object, Known, Unknown, Nothing, Held, KeyRow, Leader, Ghosts, KnownHolds, PutHolds, RowHolds, LeaderHolds, set_row, IsOfLeader, AreOfLeader, IsLeaderMove, Unknown, TableEntry, rows_of, put_row}
+use Rattle.leader_laws.specs.Tables.{Object, Known, Unknown, Nothing, Held, KeyRow, Leader, Ghosts, set_row, Unknown, TableEntry, rows_of, put_row}
+use Rattle.leader_laws.specs.Leaders.{KnownHolds, PutHolds, RowHolds, LeaderHolds}
+use Rattle.leader_laws.specs.Moves.{IsOfLeader, AreOfLeader, IsLeaderMove}
 
 -- ## One move after another
 

@@ -23,7 +23,9 @@ use Rattle.leader_laws.proofs.Rounds.{spared_none, turn_here, leader_starts, hom
 use Rattle.leader_laws.proofs.Moves.{row_set, read_starts, check_starts}
 use Rattle.leader_laws.proofs.Acts.{dropped, leader_owes}
 use Rattle.leader_laws.proofs.Guards.{IsNewCall, new_call}
-use Rattle.leader_laws.specs.Leaders.{Object, Known, Stage, Idle, Begun, Reading, Sure, Checking, Writing, Rewriting, KeyRow, Leader, Turn, Ghosts, base_of, with_running, calls_of, IsUnwritten, IsSettledKey, PutHolds, CallHolds, RowHolds, LeaderHolds, TurnHolds, with_row, IsDropped, IsLeaderMove, without, with_home, timeouts, row_of, round_of, turn_of, Seat, Owed, calls_owed, owe, owing, OwedHolds, OwesHold, seated}
+use Rattle.leader_laws.specs.Tables.{Object, Known, Stage, Idle, Begun, Reading, Sure, Checking, Writing, Rewriting, KeyRow, Leader, Turn, Ghosts, base_of, with_running, calls_of, with_row, without, with_home, timeouts, row_of, round_of, turn_of, Seat, Owed, calls_owed, owe, owing, seated}
+use Rattle.leader_laws.specs.Leaders.{IsUnwritten, IsSettledKey, PutHolds, CallHolds, RowHolds, LeaderHolds, TurnHolds, OwedHolds, OwesHold}
+use Rattle.leader_laws.specs.Moves.{IsDropped, IsLeaderMove}
 
 -- ## Rounds
 

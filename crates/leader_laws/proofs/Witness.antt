@@ -11,7 +11,10 @@ use Rattle.abstract_protocol.specs.Book.{version_of}
 use Rattle.abstract_protocol.specs.Protocol.{Step, Ask, Raise, Elect, Accept, Write, Acknowledge, Propose, Settle, Note, Answer, MayCome, IsRun, state_after}
 use Rattle.leader_laws.proofs.Runs.{run_tables, run_peers, run_keys, run_rows, run_leaders}
 use Rattle.leader_laws.specs.Laws.{HasLed}
-use Rattle.leader_laws.specs.Leaders.{Object, Known, Unknown, Nothing, Idle, Begun, Reading, Sure, Checking, Writing, Leader, Turn, Ghosts, GetReplySays, CheckReplySays, TurnsHold, RowHolds, LeaderHolds, IsLeaderMove, version_at, with_row, with_home, held, row_of, new_leader, round_of, turn_of, put_write, write_step, Seat, Owed, owing}
+use Rattle.leader_laws.specs.Tables.{Object, Known, Unknown, Nothing, Idle, Begun, Reading, Sure, Checking, Writing, Leader, Turn, Ghosts, version_at, with_row, with_home, held, row_of, new_leader, round_of, turn_of, Seat, Owed, owing}
+use Rattle.leader_laws.specs.Leaders.{TurnsHold, RowHolds, LeaderHolds}
+use Rattle.leader_laws.specs.Messages.{GetReplySays, CheckReplySays}
+use Rattle.leader_laws.specs.Moves.{IsLeaderMove, put_write, write_step}
 
 abbrev pub view : List ℕ
 view = 1 ∷ []

@@ -13,7 +13,10 @@ use Rattle.abstract_protocol.specs.Objects.{epoch_of, IsNewest}
 use Rattle.abstract_protocol.specs.Book.{version_of, register_at, MayCall}
 use Rattle.abstract_protocol.specs.Protocol.{State, Step, Ask, Write, Acknowledge, Settle, Note, Answer, happens, MayCome, IsRun, state_after, after, MayAll}
 use Rattle.leader_laws.specs.Rows.{needs_bytes}
-use Rattle.leader_laws.specs.Leaders.{HasNoLater, IsQuorumAt, Object, Known, Nothing, Stage, Idle, Begun, Reading, Sure, Checking, Writing, Rewriting, KeyRow, Leader, Turn, Ghosts, base_of, calls_of, IsObjectOf, HeldHolds, KnownHolds, IsSettledKey, IsFresh, ReadingHolds, PutHolds, RowHolds, LeaderHolds, TurnHolds, TurnsHold, IsUnled, AreOfLeader, GetSays, CheckSays, PutSays, GetReplySays, CheckReplySays, GhostsGrow, IsOfOthers, SparesLeader, with_row, better_object, held, IsLeaderMove, with_turn, without, with_home, timeouts, row_of, new_leader, round_of, turn_of, put_write, write_step, put_rewrite, rewrite_step, IsParent, set_row, TableEntry, rows_of, put_row, IsNoClash, Seat, Owed, calls_owed, owe, owing, seated, OwesHold, SparesCall}
+use Rattle.leader_laws.specs.Tables.{Object, Known, Nothing, Stage, Idle, Begun, Reading, Sure, Checking, Writing, Rewriting, KeyRow, Leader, Turn, Ghosts, base_of, calls_of, with_row, better_object, held, with_turn, without, with_home, timeouts, row_of, new_leader, round_of, turn_of, set_row, TableEntry, rows_of, put_row, Seat, Owed, calls_owed, owe, owing, seated}
+use Rattle.leader_laws.specs.Leaders.{HasNoLater, IsQuorumAt, IsObjectOf, HeldHolds, KnownHolds, IsSettledKey, IsFresh, ReadingHolds, PutHolds, RowHolds, LeaderHolds, TurnHolds, TurnsHold, IsUnled, IsParent, IsNoClash, OwesHold}
+use Rattle.leader_laws.specs.Messages.{GetSays, CheckSays, PutSays, GetReplySays, CheckReplySays}
+use Rattle.leader_laws.specs.Moves.{AreOfLeader, GhostsGrow, IsOfOthers, SparesLeader, IsLeaderMove, put_write, write_step, put_rewrite, rewrite_step, SparesCall}
 
 -- ## What stays
 

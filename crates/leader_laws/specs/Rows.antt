@@ -1,4 +1,5 @@
--- One rule of a leader as a function of plain records: what it does when replies to a read have come.
+-- Two rules of a leader as functions: the start of a call, and what it does when replies to a read
+-- have come.
 use Rattle.ens_base.specs.declared.epoch.Version.{Version}
 use Rattle.std.specs.Prelude.{◌≡◌, ℕ, suc, ◌<◌, ◌^◌, Bool, true, false, List, [], ◌∷◌, Option, None, Some, ◌==◌}
 use Rattle.ens_base.specs.declared.command.Command.{Command}
@@ -9,19 +10,21 @@ use Rattle.register_model.specs.Registers.{Outcome, Keeps, Writes, outcome, writ
 use Rattle.joint_views.specs.Quorums.{is_quorum}
 use Rattle.abstract_protocol.specs.Objects.{epoch_of}
 use Rattle.abstract_protocol.specs.Protocol.{State, Step, Note}
-use Rattle.leader_laws.specs.Leaders.{Object, Known, Nothing, Idle, Reading, Leader, Ghosts, base_of, RowHolds, LeaderHolds, IsLeaderMove, row_of, held, owing, put_write, write_step, put_rewrite, rewrite_step, Unknown, Held, Begun, Checking, IsObjectOf, turn_of, round_of}
+use Rattle.leader_laws.specs.Tables.{Object, Known, Nothing, Idle, Reading, Leader, Ghosts, base_of, row_of, held, owing, Unknown, Held, Begun, Checking, turn_of, round_of}
+use Rattle.leader_laws.specs.Leaders.{RowHolds, LeaderHolds, IsObjectOf}
+use Rattle.leader_laws.specs.Moves.{IsLeaderMove, put_write, write_step, put_rewrite, rewrite_step}
 
--- a table, and the steps that led to it
+-- a leader, and the steps that led to it
 pub record Moved : Type 0 where
   pub lead : Leader
   pub steps : List Step
 
--- a command that came to this on the settled register
+-- the command has this outcome on the settled register: it is written, or noted and answered
 abbrev pub applied : Leader → List ℕ → Known → ℕ → List ℕ → Outcome → Moved
 applied l k known i rest (Writes z) = record { lead = put_write l k known i rest z; steps = write_step l k (base_of known) z i ∷ [] }
 applied l k known i rest (Keeps reply) = record { lead = owing l k (row_of known Idle rest) i reply; steps = Note i k (base_of known) l.epoch ∷ [] }
 
--- what a command writes whatever there is
+-- what a command writes on any register, if it does
 abbrev pub overwrites : Command → Option (Option (List ℕ))
 overwrites (Over value) = Some (Some value)
 overwrites Delete = Some None
@@ -32,7 +35,7 @@ abbrev pub by_epoch : Ghosts → Leader → List ℕ → Known → ℕ → ℕ �
 by_epoch g l k known i best rest command x true = applied l k (held g k best x) i rest (outcome command (written x.stamp x.content))
 by_epoch g l k known i best rest command x false = record { lead = put_rewrite l k known i rest x; steps = rewrite_step l k best x ∷ [] }
 
--- every member replied, or not
+-- the best entry has no object: the call is lost if every member replied
 abbrev pub by_every : Leader → List ℕ → Known → ℕ → List ℕ → Bool → Moved
 by_every l k known i rest true = record { lead = owing l k (row_of known Idle rest) i Reply.Lost; steps = [] }
 by_every l k known i rest false = record { lead = l; steps = [] }
@@ -49,7 +52,7 @@ abbrev pub by_entry : Ghosts → Leader → List ℕ → Known → ℕ → ℕ �
 by_entry g l k known i best object rest command every true = applied l k Nothing i rest (outcome command Absent)
 by_entry g l k known i best object rest command every false = by_over g l k known i best object rest command every (overwrites command)
 
--- the replies are a quorum or not, and of every member or not
+-- the replies are a quorum, or those of every member
 abbrev pub after_replies : Ghosts → Leader → List ℕ → Known → ℕ → ℕ → Option Object → List ℕ → Command → (quorum every : Bool) → Moved
 after_replies g l k known i best object rest command false every = record { lead = l; steps = [] }
 after_replies g l k known i best object rest command true every = by_entry g l k known i best object rest command every (best == 0)
@@ -61,7 +64,7 @@ RepliesMove s = (g : Ghosts) (l : Leader) (k : List ℕ) (known : Known) (i r : 
 
 -- ## The start of a call
 
--- a table, the ghosts, and the steps that led to them
+-- a leader, what is remembered, and the steps that led to them
 pub record Started : Type 0 where
   pub ghosts : Ghosts
   pub lead : Leader
@@ -71,12 +74,12 @@ pub record Started : Type 0 where
 abbrev pub reads_first : Ghosts → Leader → List ℕ → Known → ℕ → List ℕ → Started
 reads_first g l k known i rest = record { ghosts = turn_of g l known i; lead = round_of l k (row_of known (Reading i (suc l.round) (λ q. false) 0 None) rest); steps = [] }
 
--- a command that came to this on the settled register, before a quorum replied
+-- the command has this outcome on the settled register, before a quorum replied: it is written, or checked
 abbrev pub begun : Ghosts → Leader → List ℕ → Known → ℕ → List ℕ → Outcome → Started
 begun g l k known i rest (Writes z) = record { ghosts = g; lead = put_write l k known i rest z; steps = write_step l k (base_of known) z i ∷ [] }
 begun g l k known i rest (Keeps reply) = record { ghosts = turn_of g l known i; lead = round_of l k (row_of known (Checking i (suc l.round) (λ q. false) reply) rest); steps = [] }
 
--- the command has to see the bytes of a value
+-- the command depends on the bytes of a value, not only on its stamp
 abbrev pub needs_bytes : Command → Bool
 needs_bytes (PutOnce v) = false
 needs_bytes (Update w v) = false
@@ -84,7 +87,7 @@ needs_bytes (Over v) = false
 needs_bytes Delete = false
 needs_bytes command = true
 
--- the object that the own backend has of the settled version, or none
+-- what the leader's own backend has of the settled version, if anything
 abbrev pub by_seen : Ghosts → Leader → List ℕ → Known → ℕ → List ℕ → Command → Option Object → Started
 by_seen g l k known i rest command (Some x) = begun g l k known i rest (outcome command (written x.stamp x.content))
 by_seen g l k known i rest command None = reads_first g l k known i rest

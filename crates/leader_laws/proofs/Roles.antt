@@ -20,10 +20,12 @@ use Rattle.leader_laws.proofs.Growth.{owes_stay, call_spared_step, call_spared_n
 use Rattle.leader_laws.proofs.Others.{others_step, get_stays, check_stays, put_says_stays, get_reply_stays, check_reply_stays}
 use Rattle.leader_laws.proofs.Rounds.{ghosts_same, home_grows}
 use Rattle.leader_laws.proofs.Rules.{move_for_others, turns_after, leader_begins, unled_at_first, unled_after, unled_moves, unled_step}
-use Rattle.leader_laws.specs.Leaders.{Leader, Turn, Ghosts, calls_of, TurnsHold, GhostsGrow, IsOfLeader, AreOfLeader, IsOfOthers, IsLeaderMove, timeouts, with_home, new_leader, Owed, OwedHolds, OwesHold, SparesCall, seated, LeaderHolds}
+use Rattle.leader_laws.specs.Tables.{Leader, Turn, Ghosts, calls_of, timeouts, with_home, new_leader, Owed, seated}
+use Rattle.leader_laws.specs.Leaders.{TurnsHold, OwedHolds, OwesHold, LeaderHolds}
+use Rattle.leader_laws.specs.Moves.{GhostsGrow, IsOfLeader, AreOfLeader, IsOfOthers, IsLeaderMove, SparesCall}
 use Rattle.leader_laws.proofs.Acts.{leader_owes}
 use Rattle.leader_laws.proofs.Turns.{asks, new_dropped, leader_leaves, owes_give, leader_gives, refused_call}
-use Rattle.leader_laws.specs.Links.{Role, Follows, Starts, Leads, Said, Reads, Entry, Checks, Stands, Puts, Acks, Sent, IsLeaderOf, IsStartOf, RoleHolds, SaidHolds, LinkHolds, IsSilent, LinksMove, with_owed, owed_by}
+use Rattle.leader_laws.specs.Roles.{Role, Follows, Starts, Leads, Said, Reads, Entry, Checks, Stands, Puts, Acks, Sent, IsLeaderOf, IsStartOf, RoleHolds, SaidHolds, RolesHold, IsSilent, RoleMoves, RolesMove, with_owed, owed_by}
 
 -- ## Messages
 
@@ -106,21 +108,21 @@ role_silent g s e may silent w q (Leads m) a = record { peer = a.peer; own = a.o
 -- ## The link
 
 -- before the first step nobody leads, no round was started and no message sent
-pub link_opens : (view : List ℕ) (hash : Version → List ℕ → Version → Option (List ℕ) → List ℕ) → LinkHolds (record { turn = λ d r. None; home = λ i. 0; hash = hash }) (opening view) (λ p. Follows []) []
-link_opens view hash = record { turns = λ d r t e. absurd (none_some t e); roles_hold = λ p. tt; sent_hold = λ m at. absurd at }
+pub roles_open : (view : List ℕ) (hash : Version → List ℕ → Version → Option (List ℕ) → List ℕ) → RolesHold (record { turn = λ d r. None; home = λ i. 0; hash = hash }) (opening view) (λ p. Follows []) []
+roles_open view hash = record { turns = λ d r t e. absurd (none_some t e); roles_hold = λ p. tt; sent_hold = λ m at. absurd at }
   where
     none_some : (t : Turn) → None ≡ Some t → ⊥
     none_some t e = cc
 
 module _ (s : State) (w : Whole s.objects) where
-  pub silent : (g : Ghosts) (roles : ℕ → Role) (sent : List Sent) (e : Step) → MayCome s e → IsSilent e → LinkHolds g s roles sent → LinkHolds g (happens s e) roles sent
+  pub silent : (g : Ghosts) (roles : ℕ → Role) (sent : List Sent) (e : Step) → MayCome s e → IsSilent e → RolesHold g s roles sent → RolesHold g (happens s e) roles sent
   silent g roles sent e may quiet a = record {
     turns = turns_after g s (e ∷ []) (may, tt) w a.turns;
     roles_hold = λ q. role_silent g s e may quiet w q (roles q) (a.roles_hold q);
     sent_hold = λ m at. said_stays g g s (happens s e) m.from m.said (stay_step s e may) (ghosts_same s g) a.turns (a.sent_hold m at);
   }
 
-  pub leads : (g h : Ghosts) (roles : ℕ → Role) (sent : List Sent) (p : ℕ) (l m : Leader) (steps : List Step) → roles p ≡ Leads l → m.epoch ≡ l.epoch → m.seat.peer ≡ l.seat.peer → IsLeaderMove g s steps h m → TurnsHold h (after s steps) → LinkHolds g s roles sent → LinkHolds h (after s steps) (put roles p (Leads m)) sent
+  pub leads : (g h : Ghosts) (roles : ℕ → Role) (sent : List Sent) (p : ℕ) (l m : Leader) (steps : List Step) → roles p ≡ Leads l → m.epoch ≡ l.epoch → m.seat.peer ≡ l.seat.peer → IsLeaderMove g s steps h m → TurnsHold h (after s steps) → RolesHold g s roles sent → RolesHold h (after s steps) (put roles p (Leads m)) sent
   leads g h roles sent p l m steps is same_epoch same_peer move turns a = record {
     turns = turns;
     roles_hold = role_then roles p (Leads m) (RoleHolds h (after s steps)) (record { peer = peer; own = own; table = move.holds }) (λ q n. role_moves g h s steps p m w peer own move q (roles q) n (a.roles_hold q));
@@ -136,12 +138,12 @@ module _ (s : State) (w : Whole s.objects) where
       own : proposer_of m.epoch ≡ p
       own = ap proposer_of same_epoch ∙ old.own
 
-  pub leaves : (g : Ghosts) (roles : ℕ → Role) (sent : List Sent) (p : ℕ) (l : Leader) (is : List ℕ) → roles p ≡ Leads l → AreDistinct is → ((i : ℕ) → i ∈ is → (k : List ℕ) × (i ∈ calls_of (l.rows k))) → LinkHolds g s roles sent → LinkHolds g s (put roles p (Follows (l.seat.owed ++ timeouts is))) sent
+  pub leaves : (g : Ghosts) (roles : ℕ → Role) (sent : List Sent) (p : ℕ) (l : Leader) (is : List ℕ) → roles p ≡ Leads l → AreDistinct is → ((i : ℕ) → i ∈ is → (k : List ℕ) × (i ∈ calls_of (l.rows k))) → RolesHold g s roles sent → RolesHold g s (put roles p (Follows (l.seat.owed ++ timeouts is))) sent
   leaves g roles sent p l is role distinct among a = let old : IsLeaderOf g s p l = subst (RoleHolds g s p) role (a.roles_hold p) in
       record { turns = a.turns; roles_hold = role_then roles p (Follows (l.seat.owed ++ timeouts is)) (RoleHolds g s) (subst (λ b. OwesHold g s b (l.seat.owed ++ timeouts is)) old.peer (leader_leaves g s l is old.table distinct among)) (λ q n. a.roles_hold q); sent_hold = a.sent_hold }
 
   -- the oldest answer is given
-  pub gives : (g : Ghosts) (roles : ℕ → Role) (sent : List Sent) (p : ℕ) (x : Owed) (o : List Owed) → owed_by (roles p) ≡ x ∷ o → LinkHolds g s roles sent → MayCome s (Answer x.call x.reply) × LinkHolds g (happens s (Answer x.call x.reply)) (put roles p (with_owed (roles p) o)) sent
+  pub gives : (g : Ghosts) (roles : ℕ → Role) (sent : List Sent) (p : ℕ) (x : Owed) (o : List Owed) → owed_by (roles p) ≡ x ∷ o → RolesHold g s roles sent → MayCome s (Answer x.call x.reply) × RolesHold g (happens s (Answer x.call x.reply)) (put roles p (with_owed (roles p) o)) sent
   gives g roles sent p x o owed a = (
     mine.0,
     record {
@@ -178,17 +180,17 @@ module _ (s : State) (w : Whole s.objects) where
       others q (Starts d b) n h = record { own = h.own; owes = owes_steps g s (step ∷ []) 0 p q b w (mine.0, tt) (home, tt) n h.owes; unled = unled_after g s d (suc d) p (step ∷ []) (home, tt) (other_than d) h.unled }
       others q (Leads m) n h = record { peer = h.peer; own = h.own; table = others_step g g s step m mine.0 w (ghosts_same s g) h.table.rounds (λ same. n (sym home ∙ same ∙ h.peer)) h.table }
 
-  pub elects : (g : Ghosts) (roles : ℕ → Role) (sent : List Sent) (p d : ℕ) (b : Place) (o : List Owed) → proposer_of d ≡ p → MayCome s (Elect d b) → roles p ≡ Follows o → LinkHolds g s roles sent → LinkHolds g (happens s (Elect d b)) (put roles p (Starts d o)) sent
+  pub elects : (g : Ghosts) (roles : ℕ → Role) (sent : List Sent) (p d : ℕ) (b : Place) (o : List Owed) → proposer_of d ≡ p → MayCome s (Elect d b) → roles p ≡ Follows o → RolesHold g s roles sent → RolesHold g (happens s (Elect d b)) (put roles p (Starts d o)) sent
   elects g roles sent p d b o own may is a = record {
     turns = next.turns;
     roles_hold = role_then roles p (Starts d o) (RoleHolds g (happens s (Elect d b))) (record { own = own; owes = subst (RoleHolds g (happens s (Elect d b)) p) is (next.roles_hold p); unled = unled_step g s d (suc d) 0 (Elect d b) tt (other_than d) (unled_at_first g s d w a.turns may.0.fresh) }) (λ q n. next.roles_hold q);
     sent_hold = next.sent_hold;
   }
     where
-      next : LinkHolds g (happens s (Elect d b)) roles sent
+      next : RolesHold g (happens s (Elect d b)) roles sent
       next = silent g roles sent (Elect d b) may tt a
 
-  pub begins : (g : Ghosts) (roles : ℕ → Role) (sent : List Sent) (p d : ℕ) (o : List Owed) → 0 < d → s.objects.ledger.elected d ≡ true → is_established s.objects.ledger d ≡ true → roles p ≡ Starts d o → LinkHolds g s roles sent → LinkHolds g s (put roles p (Leads (new_leader d (record { peer = p; owed = o })))) sent
+  pub begins : (g : Ghosts) (roles : ℕ → Role) (sent : List Sent) (p d : ℕ) (o : List Owed) → 0 < d → s.objects.ledger.elected d ≡ true → is_established s.objects.ledger d ≡ true → roles p ≡ Starts d o → RolesHold g s roles sent → RolesHold g s (put roles p (Leads (new_leader d (record { peer = p; owed = o })))) sent
   begins g roles sent p d o led elected established is a = record {
     turns = a.turns;
     roles_hold = role_then roles p (Leads (new_leader d (record { peer = p; owed = o }))) (RoleHolds g s) (record { peer = refl; own = old.own; table = leader_begins g s d (record { peer = p; owed = o }) old.owes led elected established old.unled }) (λ q n. a.roles_hold q);
@@ -198,13 +200,13 @@ module _ (s : State) (w : Whole s.objects) where
       old : IsStartOf g s p d o
       old = subst (RoleHolds g s p) is (a.roles_hold p)
 
-  pub gives_up : (g : Ghosts) (roles : ℕ → Role) (sent : List Sent) (p d : ℕ) (o : List Owed) → roles p ≡ Starts d o → LinkHolds g s roles sent → LinkHolds g s (put roles p (Follows o)) sent
+  pub gives_up : (g : Ghosts) (roles : ℕ → Role) (sent : List Sent) (p d : ℕ) (o : List Owed) → roles p ≡ Starts d o → RolesHold g s roles sent → RolesHold g s (put roles p (Follows o)) sent
   gives_up g roles sent p d o is a = let old : IsStartOf g s p d o = subst (RoleHolds g s p) is (a.roles_hold p) in record { turns = a.turns; roles_hold = role_then roles p (Follows o) (RoleHolds g s) old.owes (λ q n. a.roles_hold q); sent_hold = a.sent_hold }
 
-  pub stops : (g : Ghosts) (roles : ℕ → Role) (sent : List Sent) (p : ℕ) → LinkHolds g s roles sent → LinkHolds g s (put roles p (Follows [])) sent
+  pub stops : (g : Ghosts) (roles : ℕ → Role) (sent : List Sent) (p : ℕ) → RolesHold g s roles sent → RolesHold g s (put roles p (Follows [])) sent
   stops g roles sent p a = record { turns = a.turns; roles_hold = role_then roles p (Follows []) (RoleHolds g s) tt (λ q n. a.roles_hold q); sent_hold = a.sent_hold }
 
-  pub sends : (g : Ghosts) (roles : ℕ → Role) (sent : List Sent) (m : Sent) → SaidHolds g s m.from m.said → LinkHolds g s roles sent → LinkHolds g s roles (m ∷ sent)
+  pub sends : (g : Ghosts) (roles : ℕ → Role) (sent : List Sent) (m : Sent) → SaidHolds g s m.from m.said → RolesHold g s roles sent → RolesHold g s roles (m ∷ sent)
   sends g roles sent m says a = record { turns = a.turns; roles_hold = a.roles_hold; sent_hold = λ x at. by_place x at }
     where
       by_place : (x : Sent) → (x ≡ m) ⊎ (x ∈ sent) → SaidHolds g s x.from x.said
@@ -212,7 +214,7 @@ module _ (s : State) (w : Whole s.objects) where
       by_place x (inr at) = a.sent_hold x at
 
   -- a call comes to a peer, and is to be refused
-  pub refuses : EntriesAreSafe s → (g : Ghosts) (roles : ℕ → Role) (sent : List Sent) (p : ℕ) (c : Call) (r : Reply) → IsRefused r → MayCall s.book c → LinkHolds g s roles sent → LinkHolds (with_home g c.id p) (happens s (Ask c)) (put roles p (with_owed (roles p) (owed_by (roles p) ++ record { call = c.id; reply = r } ∷ []))) sent
+  pub refuses : EntriesAreSafe s → (g : Ghosts) (roles : ℕ → Role) (sent : List Sent) (p : ℕ) (c : Call) (r : Reply) → IsRefused r → MayCall s.book c → RolesHold g s roles sent → RolesHold (with_home g c.id p) (happens s (Ask c)) (put roles p (with_owed (roles p) (owed_by (roles p) ++ record { call = c.id; reply = r } ∷ []))) sent
   refuses entries g roles sent p c r refused may a = record {
     turns = turns_after g s (Ask c ∷ []) ((tt, may), tt) w a.turns;
     roles_hold = role_then roles p (with_owed (roles p) (owed_by (roles p) ++ record { call = c.id; reply = r } ∷ [])) (RoleHolds h t) (mine (roles p) (a.roles_hold p)) (λ q n. others q (roles q) (a.roles_hold q));
@@ -241,16 +243,21 @@ module _ (s : State) (w : Whole s.objects) where
       mine (Starts d o) b = record { own = b.own; owes = more o b.owes; unled = record { none = b.unled.none; fresh = b.unled.fresh } }
       mine (Leads m) b = record { peer = b.peer; own = b.own; table = leader_owes h t m c.id r (asks g s m c p b.table w may) (new_dropped g s m c.id b.table may.fresh) (λ n. not_both (owed_called g s m.seat.peer m.seat.owed c.id b.table.owes n) may.fresh) (subst (λ x. OwedHolds h t x c.id r) (sym b.peer) (refused_call g s c r p refused entries may)) }
 
-pub run_links : (view : List ℕ) (steps : List Step) → IsRun view steps → LinksMove (state_after view steps)
-run_links view steps run = let s = state_after view steps in let w = run_whole view steps run in record {
+peer_moves : (s : State) → Whole s.objects → EntriesAreSafe s → (g : Ghosts) (roles : ℕ → Role) (sent : List Sent) (p : ℕ) → RolesHold g s roles sent → RoleMoves s g roles sent p
+peer_moves s w entries g roles sent p a = record {
+  leads = λ h l m steps role same_epoch same_peer move turns. leads s w g h roles sent p l m steps role same_epoch same_peer move turns a;
+  leaves = λ l is role distinct among. leaves s w g roles sent p l is role distinct among a;
+  refuses = λ c r refused may. refuses s w entries g roles sent p c r refused may a;
+  gives = λ x o owes. gives s w g roles sent p x o owes a;
+  elects = λ d b o own may role. elects s w g roles sent p d b o own may role a;
+  begins = λ d o led elected established role. begins s w g roles sent p d o led elected established role a;
+  gives_up = λ d o role. gives_up s w g roles sent p d o role a;
+  stops = stops s w g roles sent p a;
+}
+
+pub run_roles : (view : List ℕ) (steps : List Step) → IsRun view steps → RolesMove (state_after view steps)
+run_roles view steps run = let s = state_after view steps in let w = run_whole view steps run in record {
+  peer = λ g roles sent p a. peer_moves s w (run_entries view steps run) g roles sent p a;
   silent = silent s w;
-  leads = leads s w;
-  leaves = leaves s w;
-  gives = gives s w;
-  stops = stops s w;
-  refuses = refuses s w (run_entries view steps run);
-  elects = elects s w;
-  begins = begins s w;
-  gives_up = gives_up s w;
   sends = sends s w;
 }
