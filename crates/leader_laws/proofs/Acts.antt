@@ -97,7 +97,7 @@ module _ (g : Ghosts) (s : State) (p : Seat) (d : ℕ) (k : List ℕ) (known : K
   new_calls : (y : Version) (z : Option (List ℕ)) (c : Option ℕ) → MayCome s (Propose v k u y z c) → (j : ℕ) → j ∈ (i ∷ rest) → CallHolds g (happens s (Propose v k u y z c)) p d k j
   new_calls y z c may j m = call_kept g s (happens s (Propose v k u y z c)) p d k j (stay_step s (Propose v k u y z c) may) elected refl refl (a.calls j m)
 
-  -- the write of the running call move out
+  -- the write of the running call is proposed
   pub write_goes_out : (z : Option (List ℕ)) → MayCome s (Propose v k u (version_of v) z (Some i)) → RowHolds g (happens s (Propose v k u (version_of v) z (Some i))) p d k (row_of known (Writing i v (record { stamp = version_of v; content = z }) (λ q. false)) rest)
   write_goes_out z may = record {
     known = λ n. absurd (true≢false n);
@@ -115,7 +115,7 @@ module _ (g : Ghosts) (s : State) (p : Seat) (d : ℕ) (k : List ℕ) (known : K
       none j m x (inl h) = a.distinct.0 (rw (some_same i j h.1) m)
       none j m x (inr h) = a.waiting j m x h
 
-  -- a rewrite move out for the running call
+  -- a rewrite is proposed for the running call
   pub rewrite_goes_out : (y : Version) (z : Option (List ℕ)) → IsFresh s d i → MayCome s (Propose v k u y z None) → RowHolds g (happens s (Propose v k u y z None)) p d k (row_of known (Rewriting i v (record { stamp = y; content = z }) (λ q. false)) rest)
   rewrite_goes_out y z fresh may = record {
     known = λ n. absurd (true≢false n);

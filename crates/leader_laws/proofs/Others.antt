@@ -151,7 +151,7 @@ put_is_there s q d k v x versions stands trusted accepted a e = (record { propos
     same : (m : ℕ) → m ≡ v → v ≤ m
     same m f = omega arith
 
--- the peer's entry is lower: the version move into its tree, and it acknowledges it
+-- the peer's entry is lower: the version goes into its tree, and it acknowledges it
 pub put_goes_in : (s : State) (q d : ℕ) (k : List ℕ) (v : ℕ) (x : Object) → VersionsAreSafe s.objects → s.objects.ledger.ballot q ≡ d → s.objects.trusted q ≡ true → s.objects.ledger.accepted d q ≡ true → PutSays s d k v x → s.objects.visible q k ≤ v → MayAll s (Write q v ∷ Acknowledge q v ∷ [])
 put_goes_in s q d k v x versions stands trusted accepted a l = ((record { honest = versions.sight.trusted q trusted; proposed = a.proposed; low = low a.epoch stands; higher = rw a.key (subst (λ m. m ≤ v) (versions.sight.trusted q trusted k) l) }, tt), ((record { proposed = a.proposed; stands = stands ∙ sym a.epoch; accepted = rw a.epoch accepted; has = has }, tt), tt))
   where

@@ -1,4 +1,4 @@
--- All leaders at once, and all messages.
+-- All leaders at once, and all messages of calls.
 use Rattle.election_laws.proofs.Epochs.{not_both}
 use Rattle.entry_laws.proofs.Later.{stay_step, stay_after, stay_same}
 use Rattle.entry_laws.specs.Stays.{EntriesStay}
@@ -105,7 +105,7 @@ role_silent g s e may silent w q (Follows o) a = owes_silent g s e q o may silen
 role_silent g s e may silent w q (Starts d o) a = record { own = a.own; owes = owes_silent g s e q o may silent w a.owes; unled = unled_step g s d (suc d) 0 e (silent_of g (suc d) 0 e silent) (other_than d) a.unled }
 role_silent g s e may silent w q (Leads m) a = record { peer = a.peer; own = a.own; table = others_step g g s e m may w (ghosts_same s g) a.table.rounds (silent_others g m e silent) a.table }
 
--- ## The link
+-- ## All roles
 
 -- before the first step nobody leads, no round was started and no message sent
 pub roles_open : (view : List ℕ) (hash : Version → List ℕ → Version → Option (List ℕ) → List ℕ) → RolesHold (record { turn = λ d r. None; home = λ i. 0; hash = hash }) (opening view) (λ p. Follows []) []

@@ -1,4 +1,4 @@
--- A round that starts: the ghosts, the table of its leader and those of others.
+-- A round that starts: what is remembered, the table of its leader and those of others.
 use Rattle.std.proofs.Common.{◌≡◌, ℕ, suc, ◌<◌, Bool, true, false, List, [], Option, None, Some, eqb, eqb-true, arith, refl, inl, inr, sym, ◌∙◌, subst}
 use Rattle.entry_laws.proofs.Later.{stay_same}
 use Rattle.std.proofs.lemmas.Bool.Decides.{nat_tests}

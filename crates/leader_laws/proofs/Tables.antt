@@ -77,7 +77,7 @@ put_found (e ∷ table) k row j = by_cases (put_found table k row j) (same_bytes
 
 -- ## While a put is out
 
--- nothing that a leader may know of the key is so: no stage with a put may be dropped by a leader that move on
+-- nothing that a leader may know of the key holds, so a leader that goes on may drop no put
 pub put_leaves_nothing_known : (g : Ghosts) (s : State) (d : ℕ) (k : List ℕ) (v : ℕ) (x : Object) (acks : ℕ → Bool) (known : Known) → PutHolds s d k v x acks → KnownHolds g s d k known → ⊥
 put_leaves_nothing_known g s d k v x acks Unknown a b = b v a.proposed a.key a.epoch
 put_leaves_nothing_known g s d k v x acks Nothing a b = b.untouched v a.proposed a.key a.epoch

@@ -341,7 +341,7 @@ own_write s p d k v x acks versions stands trusted a = record {
     low : epoch_of v ≡ d → epoch_of v ≤ s.objects.ledger.ballot p
     low e = omega arith
 
--- the peer stands at the epoch, which it accepted, and trusts its tree: the put move into its tree, and it acknowledges it
+-- the peer stands at the epoch, which it accepted, and trusts its tree: the put goes into its tree, and it acknowledges it
 pub own_acknowledgement : (s : State) (p d : ℕ) (k : List ℕ) (v : ℕ) (x : Object) (acks : ℕ → Bool) → VersionsAreSafe s.objects → s.objects.ledger.ballot p ≡ d → s.objects.trusted p ≡ true → s.objects.ledger.accepted d p ≡ true → PutHolds s d k v x acks → MayAll s (Write p v ∷ Acknowledge p v ∷ [])
 own_acknowledgement s p d k v x acks versions stands trusted accepted a = ((own_write s p d k v x acks versions stands trusted a, tt), ((record { proposed = a.proposed; stands = stands ∙ sym a.epoch; accepted = rw a.epoch accepted; has = has }, tt), tt))
   where

@@ -1,0 +1,15 @@
+pub mod Covered
+pub mod Exchange
+pub mod Growth
+pub mod Keeping
+pub mod Orderly
+pub mod Syncing
+pub mod Trust
+pub mod Electing
+pub mod Changing
+pub mod States
+pub mod Runs
+pub mod Witness
+pub mod Ruling
+pub mod Putting
+pub mod Healed

@@ -1,0 +1,9 @@
+pub mod Facts
+pub mod Trees
+pub mod Syncs
+pub mod Exchange
+pub mod Peers
+pub mod Messages
+pub mod Moves
+pub mod Laws
+pub mod Rules

@@ -1,0 +1,35 @@
+-- Trees of peers: their maps, and what a scan finds.
+use Rattle.std.specs.Prelude.{◌≡◌, ℕ, Bool, true, false, List, ◌∷◌, ◌⊎◌}
+use Rattle.ens_base.specs.Lists.{◌∈◌}
+use Rattle.abstract_protocol.specs.Objects.{Map, Objects, IsGenuine}
+
+-- a set of keys
+abbrev pub Part : Type 0
+Part = List ℕ → Bool
+
+-- a tree: the map under its top record, all maps that ever stood there, and whether the top record
+-- verifies; it always does, unless the peer has a seal and this is another record
+pub record Tree : Type 0 where
+  pub top : Map
+  pub named : List Map
+  pub intact : Bool
+
+abbrev pub shows_now : Tree → Map → Tree
+shows_now t m = record { top = m; named = m ∷ t.named; intact = true }
+
+-- the peer shows the map under its top record; each map that ever stood there has genuine entries
+pub record TreeHolds (o : Objects) (p : ℕ) (t : Tree) : Type 0 where
+  pub shown : (k : List ℕ) → o.visible p k ≡ t.top k
+  pub named : (m : Map) → m ∈ t.named → (k : List ℕ) → IsGenuine o (o.ledger.ballot p) k (m k)
+
+-- what the own scan found: the map under the top record, without what is damaged
+pub record IsScan (t : Tree) (scan : Map) (broken : Part) (damaged : Bool) : Type 0 where
+  pub entries : (k : List ℕ) → broken k ≡ false → scan k ≡ t.top k
+  pub lost : (k : List ℕ) → broken k ≡ true → scan k ≡ 0
+  pub whole : damaged ≡ false → (k : List ℕ) → broken k ≡ false
+  pub verifies : damaged ≡ false → t.intact ≡ true
+
+-- tree u is tree t with this map under its top record, or with another one of the same entries
+pub record Shows (t : Tree) (m : Map) (u : Tree) : Type 0 where
+  pub top : (k : List ℕ) → m k ≡ u.top k
+  pub named : (n : Map) → n ∈ u.named → (n ∈ t.named) ⊎ ((k : List ℕ) → n k ≡ m k)
