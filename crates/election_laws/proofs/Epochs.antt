@@ -1,12 +1,13 @@
 -- The laws of elections in one state, derived from the plain facts. No step is mentioned here.
 use Rattle.std.proofs.Common.{◌≡◌, ℕ, zero, ◌<◌, ◌≤◌, Bool, true, false, ◌⊎◌, List, [], ◌∷◌, length, arith, subst, refl, inl, inr, sym, suc, ◌∙◌, le_trans}
+use Rattle.std.specs.Prelude.{◌||◌, nat_le}
 use Rattle.std.proofs.lemmas.Bool.Decides.{nat_tests}
 use Rattle.std.proofs.lemmas.Bool.{true≢false, cases_order}
-use Rattle.joint_views.proofs.Majorities.{meet_of_quorums, majority_of_quorum, majority_more_on, outside_of_quorum, quorum_more, quorum_of_all, shares_first, shares_itself, shares_back}
+use Rattle.joint_views.proofs.Majorities.{meet_of_quorums, majority_of_quorum, majority_more_on, outside_of_quorum, quorum_less, quorum_more, quorum_of_all, shares_first, shares_itself, shares_back}
 use Rattle.joint_views.specs.Quorums.{is_quorum, SharesView}
 use Rattle.election_laws.proofs.Sound.{Election, Sound, run_sound}
 use Rattle.abstract_protocol.specs.Ledger.{Change, Add, Drop, Ledger, IsAtMost, changed_views, is_established}
-use Rattle.election_laws.specs.Elections.{may_accept, IsClosed, IsOpen, Completeness, IsLastOpen, Follows, Lists, IsBlocked, Blocked, Joined, ClosedByQuorums, EstablishedIsKept, ElectionsAreSafe}
+use Rattle.election_laws.specs.Elections.{may_accept, IsClosed, IsOpen, Completeness, IsLastOpen, Follows, Lists, IsBlocked, Blocked, Joined, ClosedByQuorums, ClosedIsNotEstablished, EstablishedIsKept, ElectionsAreSafe}
 use Rattle.abstract_protocol.specs.Protocol.{Step, IsRun, state_after}
 
 -- ## Induction on all smaller numbers
@@ -207,6 +208,12 @@ module _ (l : Ledger) (sound : Sound l) where
   pub joined : Joined l
   joined d u v established joint = majority_more_on (l.accepted d) (l.synced d) u (λ q has a. sound.peers.joined q d a (rw joint has)) (majority_of_quorum (l.accepted d) (l.views d) u (rw joint (inl refl)) established)
 
+  not_established : ClosedIsNotEstablished l
+  not_established a closed = quorum_less (may_accept l a) (l.accepted a) (l.views a) (λ q h. also (nat_le (l.ballot q) a) (l.accepted a q) h) closed
+    where
+      also : (b c : Bool) → c ≡ true → (b || c) ≡ true
+      also b c h = grind arith
+
   closed_by_quorums : ClosedByQuorums l
   closed_by_quorums a closed quorum q = outside_of_quorum quorum (may_accept l a) (l.views a) q closed
 
@@ -221,6 +228,7 @@ module _ (l : Ledger) (sound : Sound l) where
     blocked = blocked;
     joined = joined;
     closed = closed_by_quorums;
+    not_established = not_established;
     kept = established_is_kept;
   }
 

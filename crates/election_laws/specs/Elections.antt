@@ -75,6 +75,10 @@ Joined l = (d : ℕ) (view old : List ℕ) → is_established l d ≡ true → l
 abbrev pub ClosedByQuorums : Ledger → Type 0
 ClosedByQuorums l = (a : ℕ) → IsClosed l a → MissesEveryQuorum (may_accept l a) (l.views a)
 
+-- a closed epoch is not established, and since it stays closed, it never will be
+abbrev pub ClosedIsNotEstablished : Ledger → Type 0
+ClosedIsNotEstablished l = (a : ℕ) → IsClosed l a → is_established l a ≡ false
+
 -- an established epoch is the base of each greater elected epoch, or below the base
 abbrev pub EstablishedIsKept : Ledger → Type 0
 EstablishedIsKept l = (d a : ℕ) → l.elected d ≡ true → l.elected a ≡ true → a < d → is_established l a ≡ true → a ≤ (l.base d).epoch
@@ -87,6 +91,7 @@ pub record ElectionsAreSafe (l : Ledger) : Type 0 where
   pub blocked : Blocked l
   pub joined : Joined l
   pub closed : ClosedByQuorums l
+  pub not_established : ClosedIsNotEstablished l
   pub kept : EstablishedIsKept l
 
 -- how many of the steps elected the epoch

@@ -4,8 +4,8 @@ ghost use Rattle.election_laws.specs.Elections.{ElectionsAreSafe, Lists, Stays, 
 
 /// In each run a peer accepts at its ballot or below, and only elected epochs; only an established
 /// epoch changes its views. The base of an epoch is at least each lower epoch that is not closed,
-/// and an open epoch below an elected one has been left by a quorum. In an established joint epoch
-/// a majority of the new view accepted by ending a sync. An established epoch is at or below the
+/// and an open epoch below an elected one has been left by a quorum. A closed epoch is never
+/// established. In an established joint epoch a majority of the new view accepted by ending a sync. An established epoch is at or below the
 /// base of each greater one.
 pub fn elections_are_safe()
     ensures { (view : List ℕ) (steps : List Step) → IsRun view steps → ElectionsAreSafe (state_after view steps).objects.ledger }

@@ -1,4 +1,4 @@
--- What the messages of calls say, and the rounds of leaders.
+-- What the messages of calls say.
 use Rattle.std.specs.Prelude.{◌≡◌, ℕ, ◌≤◌, true, List, Option, Some}
 use Rattle.abstract_protocol.specs.Objects.{epoch_of, IsGenuine}
 use Rattle.abstract_protocol.specs.Protocol.{State}

@@ -4,7 +4,7 @@ use Rattle.ens_base.specs.Lists.{◌∈◌}
 use Rattle.abstract_protocol.specs.Objects.{epoch_of}
 use Rattle.abstract_protocol.specs.Book.{version_of, Wrote}
 use Rattle.abstract_protocol.specs.Protocol.{State, Step, Propose, Settle, Note, Answer, after, MayAll}
-use Rattle.leader_laws.specs.Tables.{Object, Known, calls_owed, Leader, Turn, Ghosts, version_at, calls_of, set_row, row_of, Writing, Rewriting}
+use Rattle.leader_laws.specs.Tables.{Object, Known, calls_owed, Leader, Turn, Ghosts, next_version, calls_of, set_row, row_of, Writing, Rewriting}
 use Rattle.leader_laws.specs.Leaders.{LeaderHolds}
 
 -- from s to t no version of the key is proposed or settled in the epoch, and none of the calls gets a
@@ -84,14 +84,16 @@ pub record IsLeaderMove (g : Ghosts) (s : State) (steps : List Step) (h : Ghosts
 
 -- the leader, with a write of its next number out
 abbrev pub put_write : Leader → List ℕ → Known → ℕ → List ℕ → Option (List ℕ) → Leader
-put_write l k known i rest z = record l { seq = suc l.seq; rows = set_row l.rows k (row_of known (Writing i (version_at l.epoch (suc l.seq)) (record { stamp = version_of (version_at l.epoch (suc l.seq)); content = z }) (λ q. false)) rest) }
+put_write l k known i rest z = record l { seq = suc l.seq; rows = set_row l.rows k (row_of known (Writing i (next_version l) (record { stamp = version_of (next_version l); content = z }) (λ q. false)) rest) }
 
+-- the step that proposes it
 abbrev pub write_step : Leader → List ℕ → ℕ → Option (List ℕ) → ℕ → Step
-write_step l k u z i = Propose (version_at l.epoch (suc l.seq)) k u (version_of (version_at l.epoch (suc l.seq))) z (Some i)
+write_step l k u z i = Propose (next_version l) k u (version_of (next_version l)) z (Some i)
 
 -- the leader, with a rewrite of its next number out
 abbrev pub put_rewrite : Leader → List ℕ → Known → ℕ → List ℕ → Object → Leader
-put_rewrite l k known i rest x = record l { seq = suc l.seq; rows = set_row l.rows k (row_of known (Rewriting i (version_at l.epoch (suc l.seq)) x (λ q. false)) rest) }
+put_rewrite l k known i rest x = record l { seq = suc l.seq; rows = set_row l.rows k (row_of known (Rewriting i (next_version l) x (λ q. false)) rest) }
 
+-- the step that proposes it
 abbrev pub rewrite_step : Leader → List ℕ → ℕ → Object → Step
-rewrite_step l k u x = Propose (version_at l.epoch (suc l.seq)) k u x.stamp x.content None
+rewrite_step l k u x = Propose (next_version l) k u x.stamp x.content None

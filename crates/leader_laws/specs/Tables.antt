@@ -159,8 +159,13 @@ abbrev pub timeouts : List ℕ → List Owed
 timeouts [] = []
 timeouts (i ∷ is) = record { call = i; reply = Reply.Timeout } ∷ timeouts is
 
+-- a row, from its parts
 abbrev pub row_of : Known → Stage → List ℕ → KeyRow
 row_of known stage rest = record { known = known; stage = stage; waiting = rest }
+
+-- the next version of the leader
+abbrev pub next_version : Leader → ℕ
+next_version l = version_at l.epoch (suc l.seq)
 
 -- a leader that begins: it knows of no key
 abbrev pub new_leader : ℕ → Seat → Leader
@@ -170,9 +175,11 @@ new_leader d p = record { epoch = d; seat = p; seq = 0; round = 0; rows = λ k. 
 abbrev pub round_of : Leader → List ℕ → KeyRow → Leader
 round_of l k row = record l { round = suc l.round; rows = set_row l.rows k row }
 
+-- what is remembered once the leader has started a round for the call
 abbrev pub turn_of : Ghosts → Leader → Known → ℕ → Ghosts
 turn_of g l known i = with_turn g l.epoch (suc l.round) (record { call = i; base = base_of known })
 
+-- a table that is kept as a list
 pub record TableEntry : Type 0 where
   pub key : List ℕ
   pub row : KeyRow
