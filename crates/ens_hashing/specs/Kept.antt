@@ -1,8 +1,8 @@
 -- The strings of a book, and the exact answers of a book.
-use Rattle.std.specs.Prelude.{◌≡◌, ◌≢◌, ◌⊎◌, ◌+◌, ◌<◌, ◌≤◌, ℕ, List, map, length, sum_by, All, Vec, Contains, Result, Ok, Err}
+use Rattle.std.specs.Prelude.{◌≡◌, ◌⊎◌, ◌+◌, ◌<◌, ◌≤◌, ℕ, List, map, length, sum_by, All, Vec, Contains, Result, Ok, Err}
 use Rattle.std.specs.declared.alloc.Global.{Global}
 use Rattle.md5.specs.Md5.{md5}
-use Rattle.ens_hashing.specs.Hashing.{IsClash}
+use Rattle.ens_hashing.specs.Hashing.{IsClash, IsNew}
 use Rattle.ens_hashing.specs.declared.error.HashError.{HashError}
 use Rattle.ens_hashing.specs.declared.error.HashError.TheVariants.{Clash, BookFull, Memory}
 use Rattle.ens_base.specs.Causes.{counted}
@@ -21,10 +21,6 @@ IsKeyed es = All (λ e. e.0 ≡ md5 e.1.items) es
 -- the number of bytes kept
 abbrev pub total : List (List ℕ) → ℕ
 total xs = sum_by (λ s. length s) xs
-
--- no kept string has the digest of these bytes
-abbrev pub IsNew : List (List ℕ) → List ℕ → Type 0
-IsNew kept bytes = All (λ s. md5 s ≢ md5 bytes) kept
 
 -- the answer of a book with this limit: a kept string is admitted, a string that clashes with a
 -- kept one is rejected, and a new string is admitted exactly if it does not exceed the limit

@@ -1,7 +1,8 @@
 ghost use Rattle.std.specs.Prelude.{◌≡◌, ◌≢◌, ◌+◌, ◌<◌, ◌≤◌, ◌++◌, ◌∷◌, [], length, Some, All, Contains, IfSome, IfNone, IfOk, IfErr, OnOk, OnErr, Option};
 ghost use Rattle.md5.specs.Md5.{md5};
-ghost use Rattle.ens_hashing.specs.Kept.{strings_of, IsKeyed, IsNew, BookAnswers, Counts, total};
-ghost use Rattle.ens_hashing.specs.Hashing.{Admits};
+ghost use Rattle.ens_hashing.specs.Kept.{strings_of, IsKeyed, BookAnswers, Counts, total};
+ghost use Rattle.ens_hashing.specs.Hashing.{Admits, IsNew, IsClashFree};
+ghost use Rattle.ens_hashing.specs.Props.{IsClashFree-prop};
 
 use crate::digest::digest_of;
 use crate::error::HashError;
@@ -22,6 +23,7 @@ pub struct HashBook {
     fulls: u64,
     ghost keyed: { IsKeyed kept.entries },
     ghost counted: { bytes ≡ total (strings_of kept.entries) },
+    ghost free: { IsClashFree (strings_of kept.entries) } by { IsClashFree-prop (strings_of kept.entries) },
 }
 
 impl HashBook {
@@ -74,6 +76,8 @@ impl Hasher16 for HashBook {
     ghost clashes = { λ b. b.clashes };
 
     ghost fulls = { λ b. b.fulls };
+
+    ghost clash_free = { λ b. b.free };
 
     fn digest(&mut self, alloc: Global, bytes: &[u8]) -> Result<Digest, HashError>
         ensures digest { IfOk result (λ d. d ≡ md5 bytes.now) }

@@ -1,6 +1,6 @@
 ghost use Rattle.std.specs.Prelude.{◌≡◌, ℕ, List, Option, IfOk};
 ghost use Rattle.md5.specs.Md5.{md5};
-ghost use Rattle.ens_hashing.specs.Hashing.{Admits};
+ghost use Rattle.ens_hashing.specs.Hashing.{Admits, AreClashFree};
 
 use crate::error::HashError;
 use ens_base::Digest;
@@ -28,4 +28,7 @@ pub trait Hasher16 {
     fn admit(&mut self, alloc: Global, bytes: &[u8], digest: &Digest) -> Result<(), HashError>
         requires { digest.now ≡ md5 bytes.now }
         ensures admits { Admits bytes.now (kept self.old) (kept self.new) (clashes self.old) (clashes self.new) (fulls self.old) (fulls self.new) result };
+
+    /// The strings, if known, are distinct and free of clashes at any time.
+    ghost clash_free: { (hasher : Self) → AreClashFree (kept hasher) };
 }

@@ -10,10 +10,12 @@ mod book;
 mod digest;
 mod error;
 mod hasher;
+mod laws;
 mod plain;
 
 pub use book::HashBook;
 pub use digest::digest_of;
 pub use error::HashError;
 pub use hasher::Hasher16;
+pub use laws::{a_digest_names_its_string, kept_strings_stay_clash_free};
 pub use plain::PlainHasher;

@@ -1,6 +1,7 @@
 use Rattle.std.proofs.Common.{◌≡◌, ◌∙◌, ◌∷◌, [], ◌++◌, rules, ◌+◌, ℕ, ap, length}
 use Rattle.indexmap.proofs.CallerLemmas.{insert_entry-new}
 use Rattle.ens_hashing.proofs.Lookups.{absent, total-push, strings_of-push, IsKeyed-push}
+use Rattle.ens_hashing.proofs.ClashFree.{free_push}
 use Rattle.ens_hashing.specs.Kept.{strings_of, total}
 use Rattle.ens_base.specs.contracts.digest.DigestPartialEq.TheImpl.{eq-value}
 use Rattle.ens_hashing.proofs.book.HashBook.keep.Goals as goal
@@ -16,6 +17,7 @@ pub invariant_of-self-2 : goal.invariant_of-self-2
 invariant_of-self-2 c = record {
   keyed = IsKeyed-push c.args.self.now.kept.entries _ c.args.digest.now c.in_ok-copy.copy grown c.args.self.now.keyed (rw c.in_ok-copy.ensures.items c.requires.digest);
   counted = counts;
+  free = rw strings (rw c.in_ok-copy.ensures.items (free_push _ c.args.bytes.now c.args.self.now.free c.requires.fresh));
 }
   where
     grown : c.insert.new.self.entries ≡ c.args.self.now.kept.entries ++ (c.args.digest.now, c.in_ok-copy.copy) ∷ []
