@@ -1,16 +1,23 @@
 -- What a crash leaves after one more call of a disk that records its calls.
-use Rattle.std.proofs.Common.{◌≡◌, ◌⊎◌, inl, inr, ℕ, ◌+◌, ◌-◌, ◌<◌, ◌≤◌, min, List, [], ◌∷◌, ◌++◌, length, take, drop, replicate, reverse, refl, sym, ◌∙◌, ap, subst, arith, length-append, length-drop}
-use Rattle.std.proofs.lemmas.List.{take_all, take-append-le, drop_at, length-take, take-take, length-replicate}
+use Rattle.std.proofs.Common.{◌≡◌, ◌⊎◌, inl, inr, ℕ, ◌+◌, ◌<◌, ◌≤◌, List, [], ◌∷◌, ◌++◌, length, take, reverse, refl, sym, ◌∙◌, ap, subst, arith, length-append}
+use Rattle.std.proofs.lemmas.List.{take_all, take-append-le}
 use Rattle.std.proofs.lemmas.Bool.{cases_lt}
 use Rattle.std.proofs.lemmas.List.{reverse-append}
-use Rattle.slot_disk.specs.Crash.{written, Torn, Cut, Elapses}
+use Rattle.std.specs.Prelude.{Result, Ok, Err, OnErr}
+use Rattle.slot_disk.specs.Crash.{written, Cut, Elapses}
 use Rattle.slot_disk.specs.Images.{new_part, partly_written, cut_in, image_after, image_of, Advances, IsReplayed}
 use Rattle.slot_disk.specs.declared.image.Image.{Image}
 use Rattle.slot_disk.specs.declared.image.Image.TheVariants as images
 use Rattle.slot_disk.proofs.Files.{partly_torn}
+use Rattle.slot_disk.specs.Outcomes.{cut_whole, cut_none, seen_is_image}
 use Rattle.slot_disk.specs.declared.step.Step.{Step}
 use Rattle.slot_disk.proofs.Recorded.{deeds_push}
 use Rattle.slot_disk.specs.Steps.{deeds, deed_of, Deed, Wrote, CutTo, Synced, seen_of, IsImage, Leaves, LeftSince}
+
+-- what holds in any case holds after an error
+pub any_err : {T E : Type 0} (r : Result T E) (P : Type 0) → P → OnErr r P
+any_err (Ok x) P p = tt
+any_err (Err e) P p = p
 
 -- time after one more call
 pub elapses : (first later : List ℕ) (old new : List Deed) (d : Deed) → later ≡ first → new ≡ old ++ d ∷ [] → Elapses (length old) (length new) (LeftSince first old) (LeftSince later new) (Leaves later new)
@@ -25,45 +32,6 @@ elapses first later old new d same is =
     by : (t : ℕ) (c : List ℕ) (left : LeftSince first (old ++ d ∷ []) t c) → (length old < left.0) ⊎ (left.0 ≤ length old) → LeftSince first old t c ⊎ Leaves first (old ++ d ∷ []) c
     by t c left (inl more) = inr (subst (λ (l : List Deed). Leaves first l c) (take_all left.0 (old ++ d ∷ []) (omega (arith, length-append old (d ∷ [])))) left.3)
     by t c left (inr le) = inl (left.0, left.1, le, subst (λ (l : List Deed). Leaves first l c) (take-append-le left.0 old (d ∷ []) le) left.3)
-
-pub length-front : (old : List ℕ) (at : ℕ) → length (take at old ++ replicate (at - length old) 0) ≡ at
-length-front old at = omega (arith, length-append (take at old) (replicate (at - length old) 0), length-take at old, length-replicate {A = ℕ} (at - length old) 0)
-
-length-put : (old : List ℕ) (at : ℕ) (bytes : List ℕ) → length ((take at old ++ replicate (at - length old) 0) ++ bytes) ≡ at + length bytes
-length-put old at bytes = omega (arith, length-append (take at old ++ replicate (at - length old) 0) bytes, length-front old at)
-
-pub length-written : (old : List ℕ) (at : ℕ) (bytes : List ℕ) → length (written old at bytes) ≡ at + length bytes + (length old - (at + length bytes))
-length-written old at bytes = omega (arith, length-append ((take at old ++ replicate (at - length old) 0) ++ bytes) (drop (at + length bytes) old), length-put old at bytes, length-drop (at + length bytes) old)
-
--- a complete write is one of the outcomes of a crash
-pub torn_whole : (old : List ℕ) (at : ℕ) (bytes : List ℕ) → Torn at (length bytes) old (written old at bytes)
-torn_whole old at bytes = record {
-  before = take-append-le (min at (length old)) ((take at old ++ replicate (at - length old) 0) ++ bytes) (drop (at + length bytes) old) (omega (arith, length-put old at bytes))
-      ∙ take-append-le (min at (length old)) (take at old ++ replicate (at - length old) 0) bytes (omega (arith, length-front old at))
-      ∙ take-append-le (min at (length old)) (take at old) (replicate (at - length old) 0) (omega (arith, length-take at old))
-      ∙ take-take (min at (length old)) at old (omega arith);
-  after = drop_at ((take at old ++ replicate (at - length old) 0) ++ bytes) (drop (at + length bytes) old) (at + length bytes) (length-put old at bytes);
-  no_shorter = omega (arith, length-written old at bytes);
-  no_longer = omega (arith, length-written old at bytes);
-}
-
-pub cut_whole : (old : List ℕ) (n : ℕ) → Cut n old (take n old)
-cut_whole old n = record { no_shorter = omega (arith, length-take n old); front = ends (cases_lt (length old) n) }
-  where
-    ends : (length old < n) ⊎ (n ≤ length old) → take (length (take n old)) old ≡ take n old
-    ends (inl past) = ap (λ (l : List ℕ). take (length l) old) (take_all n old (omega arith)) ∙ take_all (length old) old (omega arith) ∙ sym (take_all n old (omega arith))
-    ends (inr within) = ap (λ (k : ℕ). take k old) (let e : length (take n old) ≡ n = omega (arith, length-take n old) in e)
-
--- a cut may not have been done
-pub cut_none : (old : List ℕ) (n : ℕ) → Cut n old old
-cut_none old n = record { no_shorter = omega arith; front = take_all (length old) old (omega arith) }
-
--- the file that a read returns is one of the outcomes too
-pub seen_is_image : (first : List ℕ) (all : List Deed) → IsImage first all (seen_of first all)
-seen_is_image first [] = refl
-seen_is_image first (Wrote at bytes ∷ earlier) = (seen_of first earlier, seen_is_image first earlier, torn_whole (seen_of first earlier) at bytes)
-seen_is_image first (CutTo len ∷ earlier) = (seen_of first earlier, seen_is_image first earlier, cut_whole (seen_of first earlier) len)
-seen_is_image first (Synced ∷ earlier) = refl
 
 -- after a sync a crash leaves nothing new
 pub sync_leaves : (first later : List ℕ) (old new : List Deed) → later ≡ first → new ≡ old ++ Synced ∷ [] → (c : List ℕ) → Leaves later new c → Leaves first old c

@@ -5,7 +5,7 @@ use Rattle.slot_disk.specs.Crash.{written, Torn, IsOn}
 use Rattle.slot_disk.specs.Slots.{start, slot, current, record_in, record_of, next_slot, last_serial, body, IsOldOrNew, IsSaved}
 use Rattle.slot_disk.specs.Saving.{IsFree, IsBody, IsClosed}
 use Rattle.slot_disk.specs.declared.slot.Slot.{Slot}
-use Rattle.slot_disk.proofs.Moments.{torn_whole}
+use Rattle.slot_disk.specs.Outcomes.{torn_whole}
 use Rattle.slot_disk.proofs.Stages.{closing_done, closed_current, body_closed, body_spelled, opening_current, opening_done}
 
 -- the outcomes of a sequence, from those of its last write

@@ -10,7 +10,7 @@ use Rattle.slot_disk.specs.declared.slot.Slot.TheVariants.{A, B}
 use Rattle.slot_disk.specs.Saving.{IsKept, IsClosed}
 use Rattle.slot_disk.proofs.SlotBytes.{slot_open, slot_shut, slot_gate, slot_spelled, shut_front}
 use Rattle.slot_disk.proofs.SlotFiles.{torn_behind, torn_before, first_kept, first_current, newer_without_a, newer_without_b, newer_with_a, newer_with_b}
-use Rattle.slot_disk.proofs.Moments.{torn_whole, length-front}
+use Rattle.slot_disk.specs.Outcomes.{torn_whole, length-front}
 
 -- the bytes from the place of a write on
 drop-written : (old : List ℕ) (at : ℕ) (bytes : List ℕ) → drop at (written old at bytes) ≡ bytes ++ drop (at + length bytes) old

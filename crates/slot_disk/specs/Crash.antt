@@ -1,5 +1,5 @@
 -- What the calls of a disk do to its bytes, and what a crash may leave between two syncs.
-use Rattle.std.specs.Prelude.{◌≡◌, ◌⊎◌, ℕ, ◌+◌, ◌-◌, ◌≤◌, min, max, List, ◌++◌, length, take, drop, replicate, Option, None, Some}
+use Rattle.std.specs.Prelude.{◌≡◌, ◌⊎◌, ℕ, ◌+◌, ◌-◌, ◌≤◌, min, max, List, ◌++◌, length, take, drop, replicate, Option, None, Some, Result, Ok, Err}
 
 -- the file after these bytes were written at this place; a gap past the end is filled with zeros
 abbrev pub written : List ℕ → ℕ → List ℕ → List ℕ
@@ -57,3 +57,9 @@ pub record IsOn {D : Type 0} (seen : D → Option (List ℕ)) (may_leave : D →
 -- a read returns a file with property P
 abbrev pub SeenIn : {D : Type 0} → (D → Option (List ℕ)) → D → (List ℕ → Type 0) → Type 0
 SeenIn seen disk P = (file : List ℕ) × (seen disk ≡ Some file) × P file
+
+-- syncs and reads leave the file unchanged; if they failed, a read returns one of the files that a
+-- crash might have left before
+abbrev pub StaysSeen : {D T E : Type 0} → (D → Option (List ℕ)) → (D → List ℕ → Type 0) → D → D → Result T E → Type 0
+StaysSeen seen may_leave old new (Ok x) = Stay (seen old) (seen new)
+StaysSeen seen may_leave old new (Err e) = Told (seen old) (λ bytes. SeenIn seen new (may_leave old))

@@ -1,6 +1,8 @@
 pub mod Crash
+pub mod Faults
 pub mod Failing
 pub mod Steps
+pub mod Outcomes
 pub mod StepLaws
 pub mod Slots
 pub mod Saving

@@ -27,10 +27,10 @@ pub record IsClosed (first : List ℕ) (s : Slot) (file : List ℕ) : Type 0 whe
   pub kept : IsKept first s file
   pub closed : shut_at file s ≡ true
 
--- why a slot was not read: the disk failed, or out of memory
+-- why a slot was not read: the disk failed, or out of memory, which leaves the count unchanged
 abbrev pub IsReadError : ℕ → ℕ → SlotError → Type 0
 IsReadError before now errors.Failed = Rose before now
-IsReadError before now errors.Memory = Unit {0}
+IsReadError before now errors.Memory = now ≡ before
 IsReadError before now e = ⊥
 
 -- these bytes determine what the slot holds, and its gate

@@ -1,5 +1,5 @@
 -- The recorded calls of a disk in memory, and their effects.
-use Rattle.std.specs.Prelude.{◌≡◌, ℕ, ◌+◌, ◌-◌, ◌^◌, ◌<◌, ◌≤◌, min, List, [], ◌∷◌, length, take, drop, reverse, Bool, true, nat_le, ◌&&◌}
+use Rattle.std.specs.Prelude.{◌≡◌, ℕ, ◌+◌, ◌<◌, ◌≤◌, List, [], ◌∷◌, length, take, drop, reverse, Bool, true, nat_le, ◌&&◌}
 use Rattle.slot_disk.specs.Crash.{written, Torn, Cut}
 use Rattle.slot_disk.specs.declared.step.Step.{Step}
 use Rattle.slot_disk.specs.declared.step.Step.TheVariants as steps
@@ -54,10 +54,6 @@ Leaves first all c = IsImage first (reverse all) c
 -- what a crash may have left at some moment from t on
 abbrev pub LeftSince : List ℕ → List Deed → ℕ → List ℕ → Type 0
 LeftSince first all t c = (k : ℕ) × (t ≤ k) × (k ≤ length all) × Leaves first (take k all) c
-
--- the number of the next call
-abbrev pub next_call : ℕ → ℕ
-next_call calls = min (calls + 1) (2 ^ 64 - 1)
 
 -- there is room to record one more call
 abbrev pub HasStep : Room → List Step → Type 0

@@ -1,13 +1,14 @@
-ghost use Rattle.std.specs.Prelude.{◌≡◌, ◌-◌, ◌≤◌, ◌⊎◌, List, ℕ, Option, Some, length, take, drop, min, IfOk, OnOk, OnErr};
+ghost use Rattle.std.specs.Prelude.{◌≡◌, ◌-◌, ◌≤◌, List, ℕ, Option, Some, length, take, drop, min, IfOk, OnOk, OnErr};
 ghost use Rattle.std.specs.Io.{ReadsAtMost};
-ghost use Rattle.ens_base.specs.Causes.{HasCause};
-ghost use Rattle.slot_disk.specs.Crash.{written, Torn, Cut, Follows, Only, Elapses, Told, Stay};
+ghost use Rattle.slot_disk.specs.Crash.{written, Torn, Cut, Follows, Only, Elapses, Told, Stay, SeenIn};
+ghost use Rattle.slot_disk.specs.Faults.{CountsFaults};
 
 use ens_base::Failed;
 
 /// A file on a disk that may crash: what a read returns, and what a crash may leave. Between two
 /// syncs a crash may leave any bytes in each written range and past the old end; all other bytes
-/// stay. The fault count never falls, and a call fails only if the count rose in that call.
+/// stay. A call that fails has raised the fault count, and one that succeeds leaves it unchanged. A
+/// write or a cut that failed may be done in part, and a failed sync may have lost writes.
 pub trait Disk {
     /// The bytes that a read returns; `None` if unknown.
     ghost seen: { Self → Option (List ℕ) };
@@ -34,7 +35,7 @@ pub trait Disk {
         ensures seen { Stay (seen self.old) (seen self.new) }
         ensures crash { (c : List ℕ) → may_leave self.new c → may_leave self.old c }
         ensures time { Elapses (moment self.old) (moment self.new) (left_since self.old) (left_since self.new) (may_leave self.new) }
-        ensures cause { HasCause (fault_count self.old) (fault_count self.new) result };
+        ensures cause { CountsFaults (fault_count self.old) (fault_count self.new) result };
 
     /// Reads into the front of `buf`, from byte `at` on. Returns how many bytes were read: fewer
     /// than `buf` holds only at the end of the file.
@@ -44,32 +45,38 @@ pub trait Disk {
         ensures seen { Stay (seen self.old) (seen self.new) }
         ensures crash { (c : List ℕ) → may_leave self.new c → may_leave self.old c }
         ensures time { Elapses (moment self.old) (moment self.new) (left_since self.old) (left_since self.new) (may_leave self.new) }
-        ensures cause { HasCause (fault_count self.old) (fault_count self.new) result };
+        ensures cause { CountsFaults (fault_count self.old) (fault_count self.new) result };
 
     /// Writes `bytes` from byte `at` on, over the old bytes and past the end; a gap is filled with
-    /// zeros. After an error a read returns the old bytes or the new ones.
+    /// zeros. After an error a read returns what a crash during the write may leave.
     fn write_at(&mut self, at: u64, bytes: &[u8]) -> Result<(), Failed>
         ensures written { OnOk result (Told (seen self.old) (λ old. seen self.new ≡ Some (written old at bytes.now))) }
-        ensures failed { OnErr result (Told (seen self.old) (λ old. (seen self.new ≡ Some old) ⊎ (seen self.new ≡ Some (written old at bytes.now)))) }
+        ensures failed { OnErr result (Told (seen self.old) (λ old. SeenIn seen self.new (Torn at (length bytes.now) old))) }
         ensures crash { Follows (Torn at (length bytes.now)) (may_leave self.old) (may_leave self.new) }
         ensures time { Elapses (moment self.old) (moment self.new) (left_since self.old) (left_since self.new) (may_leave self.new) }
-        ensures cause { HasCause (fault_count self.old) (fault_count self.new) result };
+        ensures cause { CountsFaults (fault_count self.old) (fault_count self.new) result };
 
-    /// Cuts the file to at most `len` bytes. After an error it was cut or is unchanged.
+    /// Cuts the file to at most `len` bytes. After an error a read returns what a crash during the
+    /// cut may leave.
     fn cut(&mut self, len: u64) -> Result<(), Failed>
         ensures cut { OnOk result (Told (seen self.old) (λ old. seen self.new ≡ Some (take len old))) }
-        ensures failed { OnErr result (Told (seen self.old) (λ old. (seen self.new ≡ Some old) ⊎ (seen self.new ≡ Some (take len old)))) }
+        ensures failed { OnErr result (Told (seen self.old) (λ old. SeenIn seen self.new (Cut len old))) }
         ensures crash { Follows (Cut len) (may_leave self.old) (may_leave self.new) }
         ensures time { Elapses (moment self.old) (moment self.new) (left_since self.old) (left_since self.new) (may_leave self.new) }
-        ensures cause { HasCause (fault_count self.old) (fault_count self.new) result };
+        ensures cause { CountsFaults (fault_count self.old) (fault_count self.new) result };
 
-    /// Makes all writes durable: after it a crash leaves exactly what a read returns.
+    /// Makes all writes durable: after it a crash leaves exactly what a read returns. After an error
+    /// a read returns one of the files that a crash might have left before.
     fn sync(&mut self) -> Result<(), Failed>
         ensures durable { OnOk result (Told (seen self.old) (λ bytes. Only bytes (may_leave self.new))) }
-        ensures seen { Stay (seen self.old) (seen self.new) }
+        ensures seen { OnOk result (Stay (seen self.old) (seen self.new)) }
+        ensures failed { OnErr result (Told (seen self.old) (λ bytes. SeenIn seen self.new (may_leave self.old))) }
         ensures crash { (c : List ℕ) → may_leave self.new c → may_leave self.old c }
         ensures time { Elapses (moment self.old) (moment self.new) (left_since self.old) (left_since self.new) (may_leave self.new) }
-        ensures cause { HasCause (fault_count self.old) (fault_count self.new) result };
+        ensures cause { CountsFaults (fault_count self.old) (fault_count self.new) result };
+
+    /// A crash may leave what a read returns.
+    ghost may_stay: { (disk : Self) (bytes : List ℕ) → seen disk ≡ Some bytes → may_leave disk bytes };
 
     /// The present moment is one of those since any earlier one.
     ghost counts_now: { (disk : Self) (t : ℕ) (c : List ℕ) → t ≤ moment disk → may_leave disk c → left_since disk t c };

@@ -1,9 +1,10 @@
 ghost use Rattle.std.specs.Prelude.{◌≡◌, ◌≢◌, ◌-◌, ◌<◌, ◌≤◌, ◌+◌, ◌++◌, ◌∷◌, ◌⊎◌, ◌↔◌, [], List, ℕ, Option, Some, length, take, drop, min, replicate, reverse, IfOk, OnOk, OnErr, vec_capacity, vec_len, true, false, IsTrue};
 ghost use Rattle.std.specs.Io.{ReadsAtMost};
-ghost use Rattle.ens_base.specs.Causes.{Rose, HasCause};
-ghost use Rattle.slot_disk.specs.Crash.{written, Torn, Cut, Follows, Only, Elapses, Told, Stay};
+ghost use Rattle.ens_base.specs.Causes.{counted, Rose};
+ghost use Rattle.slot_disk.specs.Crash.{written, Torn, Cut, Follows, Only, Elapses, Told, Stay, SeenIn};
+ghost use Rattle.slot_disk.specs.Faults.{CountsFaults, CountsEach};
 ghost use Rattle.slot_disk.specs.Failing.{fate_of};
-ghost use Rattle.slot_disk.specs.Steps.{deeds, Wrote, CutTo, Synced, are_within, seen_of, Leaves, LeftSince, next_call, HasStep, HasRoom};
+ghost use Rattle.slot_disk.specs.Steps.{deeds, Wrote, CutTo, Synced, are_within, seen_of, Leaves, LeftSince, HasStep, HasRoom};
 ghost use Rattle.slot_disk.specs.declared.failing.Fate.TheVariants.{Works, Fails, FailsDone};
 
 use crate::disk::Disk;
@@ -131,7 +132,7 @@ impl MemDisk {
     /// Counts a call, and returns its planned outcome.
     fn next_fate(&mut self) -> Fate
         ensures fate { result ≡ fate_of self.old.failing.undone.items self.old.failing.done.items self.new.calls }
-        ensures calls { self.new.calls ≡ next_call self.old.calls }
+        ensures calls { self.new.calls ≡ counted self.old.calls }
         ensures faults { self.new.faults ≡ self.old.faults }
         ensures file { (self.new.first ≡ self.old.first) × (self.new.file ≡ self.old.file) }
         ensures steps { (self.new.log ≡ self.old.log) × (self.new.steps ≡ self.old.steps) }
@@ -143,7 +144,8 @@ impl MemDisk {
 
     /// Counts a fault.
     fn fault(&mut self) -> Failed
-        ensures faults { Rose self.old.faults self.new.faults × (self.old.faults ≤ self.new.faults) }
+        ensures faults { self.new.faults ≡ counted self.old.faults }
+        ensures rose { (self.old.faults ≤ self.new.faults) × Rose self.old.faults self.new.faults }
         ensures calls { self.new.calls ≡ self.old.calls }
         ensures file { (self.new.first ≡ self.old.first) × (self.new.file ≡ self.old.file) }
         ensures steps { (self.new.log ≡ self.old.log) × (self.new.steps ≡ self.old.steps) }
@@ -156,7 +158,8 @@ impl MemDisk {
     /// Returns the result of a call that took effect; counts a fault if the call is planned to
     /// fail.
     fn answer(&mut self, fate: Fate) -> Result<(), Failed>
-        ensures cause { HasCause self.old.faults self.new.faults result }
+        ensures faults { CountsEach self.old.faults self.new.faults result }
+        ensures cause { CountsFaults self.old.faults self.new.faults result }
         ensures ok { OnOk result (fate ≢ FailsDone) }
         ensures failed { OnErr result (fate ≡ FailsDone) }
         ensures calls { self.new.calls ≡ self.old.calls }
@@ -240,7 +243,8 @@ impl MemDisk {
 
 impl Disk for MemDisk {
     ghost use Rattle.slot_disk.specs.StepLaws.{left_now, now_left};
-    ghost use Rattle.slot_disk.specs.MemDisks.{history, fate_next, HasOneMore, HasRoomFor};
+    ghost use Rattle.slot_disk.specs.MemDisks.{history, fate_next, HasOneMore, HasRoomFor, HasSameBase};
+    ghost use Rattle.slot_disk.specs.Outcomes.{seen_is_left};
 
     ghost seen = { λ m. Some m.file.items };
 
@@ -251,6 +255,8 @@ impl Disk for MemDisk {
     ghost left_since = { λ m t c. LeftSince m.first.items (deeds m.log.items m.steps.items) t c };
 
     ghost fault_count = { λ m. m.faults };
+
+    ghost may_stay = { λ m bytes is. seen_is_left m.first.items m.file.items bytes (deeds m.log.items m.steps.items) m.stands is };
 
     ghost counts_now = { λ m t c le now. left_now m.first.items (deeds m.log.items m.steps.items) t c le now };
 
@@ -265,11 +271,13 @@ impl Disk for MemDisk {
         ensures seen { Stay (Some self.old.file.items) (Some self.new.file.items) }
         ensures crash { (c : List ℕ) → Leaves self.new.first.items (history self.new) c → Leaves self.old.first.items (history self.old) c }
         ensures time { Elapses (length (history self.old)) (length (history self.new)) (LeftSince self.old.first.items (history self.old)) (LeftSince self.new.first.items (history self.new)) (Leaves self.new.first.items (history self.new)) }
-        ensures cause { HasCause self.old.faults self.new.faults result }
+        ensures cause { CountsFaults self.old.faults self.new.faults result }
         // Exactly the listed calls fail.
         ensures works { OnOk result (fate_next self.old ≡ Works) }
         ensures fails { OnErr result (fate_next self.old ≢ Works) }
-        ensures calls { self.new.calls ≡ next_call self.old.calls }
+        ensures calls { (self.new.calls ≡ counted self.old.calls) × CountsEach self.old.faults self.new.faults result }
+        ensures base { HasSameBase self.old self.new }
+        ensures history { history self.new ≡ history self.old }
     {
         if self.next_fate() != Fate::Works {
             return Err(self.fault());
@@ -283,11 +291,13 @@ impl Disk for MemDisk {
         ensures seen { Stay (Some self.old.file.items) (Some self.new.file.items) }
         ensures crash { (c : List ℕ) → Leaves self.new.first.items (history self.new) c → Leaves self.old.first.items (history self.old) c }
         ensures time { Elapses (length (history self.old)) (length (history self.new)) (LeftSince self.old.first.items (history self.old)) (LeftSince self.new.first.items (history self.new)) (Leaves self.new.first.items (history self.new)) }
-        ensures cause { HasCause self.old.faults self.new.faults result }
+        ensures cause { CountsFaults self.old.faults self.new.faults result }
         // Exactly the listed calls fail.
         ensures works { OnOk result (fate_next self.old ≡ Works) }
         ensures fails { OnErr result (fate_next self.old ≢ Works) }
-        ensures calls { self.new.calls ≡ next_call self.old.calls }
+        ensures calls { (self.new.calls ≡ counted self.old.calls) × CountsEach self.old.faults self.new.faults result }
+        ensures base { HasSameBase self.old self.new }
+        ensures history { history self.new ≡ history self.old }
     {
         if self.next_fate() != Fate::Works {
             return Err(self.fault());
@@ -300,16 +310,18 @@ impl Disk for MemDisk {
 
     fn write_at(&mut self, at: u64, bytes: &[u8]) -> Result<(), Failed>
         ensures written { OnOk result (Told (Some self.old.file.items) (λ old. Some self.new.file.items ≡ Some (written old at bytes.now))) }
-        ensures failed { OnErr result (Told (Some self.old.file.items) (λ old. (Some self.new.file.items ≡ Some old) ⊎ (Some self.new.file.items ≡ Some (written old at bytes.now)))) }
+        ensures failed { OnErr result (Told (Some self.old.file.items) (λ old. SeenIn (λ m. Some m.file.items) self.new (Torn at (length bytes.now) old))) }
         ensures crash { Follows (Torn at (length bytes.now)) (Leaves self.old.first.items (history self.old)) (Leaves self.new.first.items (history self.new)) }
         ensures time { Elapses (length (history self.old)) (length (history self.new)) (LeftSince self.old.first.items (history self.old)) (LeftSince self.new.first.items (history self.new)) (Leaves self.new.first.items (history self.new)) }
-        ensures cause { HasCause self.old.faults self.new.faults result }
+        ensures cause { CountsFaults self.old.faults self.new.faults result }
         // Exactly the listed calls fail, and those without room.
         ensures works { OnOk result ((fate_next self.old ≡ Works) × HasRoomFor self.old at (length bytes.now)) }
         ensures fails { OnErr result ((fate_next self.old ≢ Works) ⊎ (HasRoomFor self.old at (length bytes.now) → ⊥)) }
-        ensures calls { self.new.calls ≡ next_call self.old.calls }
-        // A failed call has its effect or not, as listed.
+        ensures calls { (self.new.calls ≡ counted self.old.calls) × CountsEach self.old.faults self.new.faults result }
+        ensures base { HasSameBase self.old self.new }
+        // A failed call has its effect or not, as listed; without room it has none.
         ensures undone { fate_next self.old ≡ Fails → history self.new ≡ history self.old }
+        ensures no_room { (HasRoomFor self.old at (length bytes.now) → ⊥) → history self.new ≡ history self.old }
         ensures done { fate_next self.old ≢ Fails → HasRoomFor self.old at (length bytes.now) → history self.new ≡ history self.old ++ Wrote at bytes.now ∷ [] }
     {
         let fate = self.next_fate();
@@ -322,16 +334,18 @@ impl Disk for MemDisk {
 
     fn cut(&mut self, len: u64) -> Result<(), Failed>
         ensures cut { OnOk result (Told (Some self.old.file.items) (λ old. Some self.new.file.items ≡ Some (take len old))) }
-        ensures failed { OnErr result (Told (Some self.old.file.items) (λ old. (Some self.new.file.items ≡ Some old) ⊎ (Some self.new.file.items ≡ Some (take len old)))) }
+        ensures failed { OnErr result (Told (Some self.old.file.items) (λ old. SeenIn (λ m. Some m.file.items) self.new (Cut len old))) }
         ensures crash { Follows (Cut len) (Leaves self.old.first.items (history self.old)) (Leaves self.new.first.items (history self.new)) }
         ensures time { Elapses (length (history self.old)) (length (history self.new)) (LeftSince self.old.first.items (history self.old)) (LeftSince self.new.first.items (history self.new)) (Leaves self.new.first.items (history self.new)) }
-        ensures cause { HasCause self.old.faults self.new.faults result }
+        ensures cause { CountsFaults self.old.faults self.new.faults result }
         // Exactly the listed calls fail, and those without room.
         ensures works { OnOk result ((fate_next self.old ≡ Works) × HasOneMore self.old) }
         ensures fails { OnErr result ((fate_next self.old ≢ Works) ⊎ (HasOneMore self.old → ⊥)) }
-        ensures calls { self.new.calls ≡ next_call self.old.calls }
-        // A failed call has its effect or not, as listed.
+        ensures calls { (self.new.calls ≡ counted self.old.calls) × CountsEach self.old.faults self.new.faults result }
+        ensures base { HasSameBase self.old self.new }
+        // A failed call has its effect or not, as listed; without room it has none.
         ensures undone { fate_next self.old ≡ Fails → history self.new ≡ history self.old }
+        ensures no_room { (HasOneMore self.old → ⊥) → history self.new ≡ history self.old }
         ensures done { fate_next self.old ≢ Fails → HasOneMore self.old → history self.new ≡ history self.old ++ CutTo len ∷ [] }
     {
         let fate = self.next_fate();
@@ -344,16 +358,19 @@ impl Disk for MemDisk {
 
     fn sync(&mut self) -> Result<(), Failed>
         ensures durable { OnOk result (Told (Some self.old.file.items) (λ bytes. Only bytes (Leaves self.new.first.items (history self.new)))) }
-        ensures seen { Stay (Some self.old.file.items) (Some self.new.file.items) }
+        ensures seen { OnOk result (Stay (Some self.old.file.items) (Some self.new.file.items)) }
+        ensures failed { OnErr result (Told (Some self.old.file.items) (λ bytes. SeenIn (λ m. Some m.file.items) self.new (Leaves self.old.first.items (history self.old)))) }
         ensures crash { (c : List ℕ) → Leaves self.new.first.items (history self.new) c → Leaves self.old.first.items (history self.old) c }
         ensures time { Elapses (length (history self.old)) (length (history self.new)) (LeftSince self.old.first.items (history self.old)) (LeftSince self.new.first.items (history self.new)) (Leaves self.new.first.items (history self.new)) }
-        ensures cause { HasCause self.old.faults self.new.faults result }
+        ensures cause { CountsFaults self.old.faults self.new.faults result }
         // Exactly the listed calls fail, and those without room.
         ensures works { OnOk result ((fate_next self.old ≡ Works) × HasOneMore self.old) }
         ensures fails { OnErr result ((fate_next self.old ≢ Works) ⊎ (HasOneMore self.old → ⊥)) }
-        ensures calls { self.new.calls ≡ next_call self.old.calls }
-        // A failed call has its effect or not, as listed.
+        ensures calls { (self.new.calls ≡ counted self.old.calls) × CountsEach self.old.faults self.new.faults result }
+        ensures base { HasSameBase self.old self.new }
+        // A failed call has its effect or not, as listed; without room it has none.
         ensures undone { fate_next self.old ≡ Fails → history self.new ≡ history self.old }
+        ensures no_room { (HasOneMore self.old → ⊥) → history self.new ≡ history self.old }
         ensures done { fate_next self.old ≢ Fails → HasOneMore self.old → history self.new ≡ history self.old ++ Synced ∷ [] }
     {
         let fate = self.next_fate();

@@ -1,6 +1,7 @@
 ghost use Rattle.std.specs.Prelude.{◌≡◌, ◌∷◌, [], List, ℕ, Option, Some, None, length, take, drop, IfOk, OnOk, IfSome, IfErr, option_map, ◌≤◌, ◌-◌};
-ghost use Rattle.ens_base.specs.Causes.{Rose, HasCause};
-ghost use Rattle.slot_disk.specs.Crash.{Told, Stay, LeavesOnly, IsOn};
+ghost use Rattle.ens_base.specs.Causes.{Rose};
+ghost use Rattle.slot_disk.specs.Crash.{Told, Stay, StaysSeen, LeavesOnly, IsOn};
+ghost use Rattle.slot_disk.specs.Faults.{CountsFaults};
 ghost use Rattle.slot_disk.specs.Slots.{slot, shut, slot_at, shut_at, held_slot, newer};
 ghost use Rattle.slot_disk.specs.Saving.{IsReadError, IsSlotOf};
 ghost use Rattle.slot_disk.specs.Found.{AreSlots, picked};
@@ -77,7 +78,7 @@ fn read_bytes<D: Disk>(
     ensures seen { Stay (D.seen disk.old) (D.seen disk.new) }
     ensures crash { (c : List ℕ) → D.may_leave disk.new c → D.may_leave disk.old c }
     ensures any_moment { LeavesOnly D.moment D.left_since disk.old disk.new (D.may_leave disk.old) }
-    ensures cause { HasCause (D.fault_count disk.old) (D.fault_count disk.new) result }
+    ensures cause { CountsFaults (D.fault_count disk.old) (D.fault_count disk.new) result }
 {
     disk.read(slot.start(), buf)
 }
@@ -91,6 +92,7 @@ pub(crate) fn read_slot<D: Disk>(
     ensures found { IfOk result (λ f. Told (D.seen disk.old) (λ file. (f.is_shut ≡ shut_at file slot) × (held_slot f.held ≡ slot_at file slot))) }
     ensures error { IfErr result (λ e. IsReadError (D.fault_count disk.old) (D.fault_count disk.new) e) }
     ensures later { D.fault_count disk.old ≤ D.fault_count disk.new }
+    ensures good { OnOk result (D.fault_count disk.new ≡ D.fault_count disk.old) }
     ensures seen { Stay (D.seen disk.old) (D.seen disk.new) }
     ensures crash { (c : List ℕ) → D.may_leave disk.new c → D.may_leave disk.old c }
     ensures any_moment { LeavesOnly D.moment D.left_since disk.old disk.new (D.may_leave disk.old) }
@@ -114,7 +116,8 @@ pub(crate) fn read_both<D: Disk>(alloc: Global, disk: &mut D) -> Result<Both, Sl
     ensures durable { OnOk result (Told (D.seen disk.old) (λ file. IsOn D.seen D.may_leave disk.new file)) }
     ensures error { IfErr result (λ e. IsReadError (D.fault_count disk.old) (D.fault_count disk.new) e) }
     ensures later { D.fault_count disk.old ≤ D.fault_count disk.new }
-    ensures seen { Stay (D.seen disk.old) (D.seen disk.new) }
+    ensures good { OnOk result (D.fault_count disk.new ≡ D.fault_count disk.old) }
+    ensures seen { StaysSeen D.seen D.may_leave disk.old disk.new result }
     ensures crash { (c : List ℕ) → D.may_leave disk.new c → D.may_leave disk.old c }
     ensures any_moment { LeavesOnly D.moment D.left_since disk.old disk.new (D.may_leave disk.old) }
 {

@@ -1,6 +1,6 @@
 ghost use Rattle.std.specs.Prelude.{◌≡◌, ◌⊎◌, ◌↔◌, ◌+◌, ◌-◌, ◌^◌, ◌<◌, ◌≤◌, List, ℕ, Option, Some, None, length, IfOk, IfErr, OnOk, OnErr, IsErrOf, false, option_map};
 ghost use Rattle.ens_base.specs.Causes.{Rose};
-ghost use Rattle.slot_disk.specs.Crash.{Told, Stay, LeavesOnly, SeenIn, IsOn};
+ghost use Rattle.slot_disk.specs.Crash.{Told, StaysSeen, LeavesOnly, SeenIn, IsOn};
 ghost use Rattle.slot_disk.specs.Slots.{record_in, last_serial, next_slot, other, IsOldOrNew, newer, held_slot, current, shut_at};
 ghost use Rattle.slot_disk.specs.Saving.{IsReadError};
 ghost use Rattle.slot_disk.specs.Found.{kept_now};
@@ -81,7 +81,8 @@ fn prepare<D: Disk>(alloc: Global, disk: &mut D) -> Result<Parts, SlotError>
     ensures durable { OnOk result (Told (D.seen disk.old) (λ file. IsOn D.seen D.may_leave disk.new file)) }
     ensures error { IfErr result (λ e. IsReadError (D.fault_count disk.old) (D.fault_count disk.new) e) }
     ensures later { D.fault_count disk.old ≤ D.fault_count disk.new }
-    ensures seen { Stay (D.seen disk.old) (D.seen disk.new) }
+    ensures good { OnOk result (D.fault_count disk.new ≡ D.fault_count disk.old) }
+    ensures seen { StaysSeen D.seen D.may_leave disk.old disk.new result }
     ensures crash { (c : List ℕ) → D.may_leave disk.new c → D.may_leave disk.old c }
     ensures any_moment { LeavesOnly D.moment D.left_since disk.old disk.new (D.may_leave disk.old) }
 {
@@ -98,13 +99,15 @@ impl<D: Disk> SlotFile<D> {
     ///
     /// # Errors
     ///
-    /// `Failed` only if the fault count of the disk rose, or `Memory`. The error returns the disk,
-    /// with its bytes unchanged.
+    /// `Failed` only if the fault count of the disk rose, or `Memory`, which leaves that count
+    /// unchanged. The error returns the disk. A read of it then returns one of the files that a
+    /// crash might have left before, such as the old one.
     pub fn open(alloc: Global, disk: D) -> Result<SlotFile<D>, Refused<D, SlotError>>
         ensures at_rest { IfOk result (λ file. Told (D.seen disk) (λ bytes. IsAtRest D.seen D.may_leave file × (remembered file ≡ current bytes))) }
         ensures error { IfErr result (λ r. IsReadError (D.fault_count disk) (D.fault_count r.held) r.error) }
         ensures later { D.fault_count disk ≤ D.fault_count (disk_after result) }
-        ensures seen { Stay (D.seen disk) (D.seen (disk_after result)) }
+        ensures good { OnOk result (D.fault_count (disk_after result) ≡ D.fault_count disk) }
+        ensures seen { StaysSeen D.seen D.may_leave disk (disk_after result) result }
         ensures crash { (c : List ℕ) → D.may_leave (disk_after result) c → D.may_leave disk c }
         ensures any_moment { LeavesOnly D.moment D.left_since disk (disk_after result) (D.may_leave disk) }
     {
@@ -143,6 +146,7 @@ impl<D: Disk> SlotFile<D> {
         ensures error { IfErr result (λ e. IsSaveError (D.fault_count self.old.disk) (D.fault_count self.new.disk) (last_serial (remembered self.old)) (length bytes.now) e) }
         ensures can { OnOk result ((length bytes.now ≤ 480) × (last_serial (remembered self.old) < 2 ^ 64 - 1)) }
         ensures later { D.fault_count self.old.disk ≤ D.fault_count self.new.disk }
+        ensures good { OnOk result (D.fault_count self.new.disk ≡ D.fault_count self.old.disk) }
         ensures refused { OnErr result (IsErrOf result errors.Failed ⊎ (self.new.disk ≡ self.old.disk)) }
     {
         if bytes.len() > RECORD_LIMIT {

@@ -1,6 +1,6 @@
 ghost use Rattle.std.specs.Prelude.{◌≡◌, ◌+◌, List, ℕ, length, OnOk, [], ◌∷◌};
-ghost use Rattle.ens_base.specs.Causes.{HasCause};
 ghost use Rattle.slot_disk.specs.Crash.{written, Torn, LeavesOnly, IsOn, SeenIn};
+ghost use Rattle.slot_disk.specs.Faults.{CountsFaults};
 ghost use Rattle.slot_disk.specs.Slots.{start, current, IsOldOrNew, record_of, IsSaved};
 ghost use Rattle.slot_disk.specs.Saving.{IsFree, IsBody, IsClosed};
 
@@ -13,7 +13,7 @@ fn write_synced<D: Disk>(disk: &mut D, at: u64, bytes: &[u8]) -> Result<(), Fail
     ensures done { OnOk result ((file : List ℕ) → IsOn D.seen D.may_leave disk.old file → IsOn D.seen D.may_leave disk.new (written file at bytes.now)) }
     ensures seen { (file : List ℕ) → IsOn D.seen D.may_leave disk.old file → SeenIn D.seen disk.new (Torn at (length bytes.now) file) }
     ensures any_moment { (file : List ℕ) → IsOn D.seen D.may_leave disk.old file → LeavesOnly D.moment D.left_since disk.old disk.new (Torn at (length bytes.now) file) }
-    ensures cause { HasCause (D.fault_count disk.old) (D.fault_count disk.new) result }
+    ensures cause { CountsFaults (D.fault_count disk.old) (D.fault_count disk.new) result }
 {
     disk.write_at(at, bytes)?;
     disk.sync()
@@ -24,7 +24,7 @@ fn close<D: Disk>(disk: &mut D, slot: Slot, is_shut: bool) -> Result<(), Failed>
     ensures done { OnOk result ((file : List ℕ) → IsOn D.seen D.may_leave disk.old file → IsFree file slot is_shut → (after : List ℕ) × IsOn D.seen D.may_leave disk.new after × IsClosed file slot after) }
     ensures seen { (file : List ℕ) → IsOn D.seen D.may_leave disk.old file → IsFree file slot is_shut → SeenIn D.seen disk.new (λ c. current c ≡ current file) }
     ensures any_moment { (file : List ℕ) → IsOn D.seen D.may_leave disk.old file → IsFree file slot is_shut → LeavesOnly D.moment D.left_since disk.old disk.new (λ c. current c ≡ current file) }
-    ensures cause { HasCause (D.fault_count disk.old) (D.fault_count disk.new) result }
+    ensures cause { CountsFaults (D.fault_count disk.old) (D.fault_count disk.new) result }
 {
     if is_shut {
         return Ok(());
@@ -43,7 +43,7 @@ pub(crate) fn replace<D: Disk>(
     ensures done { OnOk result ((file bytes : List ℕ) → IsOn D.seen D.may_leave disk.old file → IsFree file slot is_shut → IsBody file bytes spelled.now → (after : List ℕ) × IsOn D.seen D.may_leave disk.new after × IsSaved file slot bytes after) }
     ensures seen { (file bytes : List ℕ) → IsOn D.seen D.may_leave disk.old file → IsFree file slot is_shut → IsBody file bytes spelled.now → SeenIn D.seen disk.new (IsOldOrNew (record_of file) bytes) }
     ensures any_moment { (file bytes : List ℕ) → IsOn D.seen D.may_leave disk.old file → IsFree file slot is_shut → IsBody file bytes spelled.now → LeavesOnly D.moment D.left_since disk.old disk.new (IsOldOrNew (record_of file) bytes) }
-    ensures cause { HasCause (D.fault_count disk.old) (D.fault_count disk.new) result }
+    ensures cause { CountsFaults (D.fault_count disk.old) (D.fault_count disk.new) result }
 {
     close(disk, slot, is_shut)?;
     write_synced(disk, slot.start() + 1, spelled)?;
