@@ -1,12 +1,14 @@
 -- A record that encodes a fact.
 use Rattle.std.proofs.Common.{◌≡◌, inl, inr, ⊎_elim, ℕ, List, ◌++◌, length, take, Option, Some, Result, Ok, sym, ◌∙◌, ap}
-use Rattle.std.specs.Prelude.{OnOk, Err}
+use Rattle.std.specs.Prelude.{OnOk, IfErr, Err}
 use Rattle.std.proofs.lemmas.List.{take_at}
 use Rattle.slot_disk.specs.Slots.{IsOldOrNew as IsOldOrNewRecord, record_of}
 use Rattle.peer_fact.specs.declared.fact.Fact.{Fact}
 use Rattle.peer_fact.specs.declared.error.FactError.{FactError}
 use Rattle.peer_fact.specs.FactBytes.{fact_of, fact_spelling}
-use Rattle.fact_store.specs.Keeping.{fact_in, IsOldOrNewIn}
+use Rattle.fact_store.specs.Keeping.{fact_in, IsBad, IsOldOrNewIn}
+use Rattle.fact_store.specs.declared.error.KeepError.{KeepError}
+use Rattle.fact_store.specs.declared.error.KeepError.TheVariants as errors
 
 -- the front of a buffer that a fact was encoded into
 pub front_spelled : (fact : Fact) (out rest : List ℕ) (n : ℕ) → out ≡ fact_spelling fact ++ rest → n ≡ length (fact_spelling fact) → take n out ≡ fact_spelling fact
@@ -23,3 +25,10 @@ facts_too old fact bytes file spelled again is = ⊎_elim (λ e. inl (ap fact_in
 pub on_ok : {T E : Type 0} (r : Result T E) (P Q : Type 0) → (P → Q) → OnOk r P → OnOk r Q
 on_ok (Ok x) P Q implies p = implies p
 on_ok (Err e) P Q implies p = p
+
+-- what holds of each bad fact holds of an error that is one
+pub bad_only : {T : Type 0} (r : Result T KeepError) (P : KeepError → Type 0) → IfErr r IsBad → ((why : FactError) → P (errors.Bad why)) → IfErr r P
+bad_only (Ok x) P bad each = tt
+bad_only (Err (errors.Bad why)) P bad each = each why
+bad_only (Err errors.Failed) P bad each = absurd bad
+bad_only (Err errors.Memory) P bad each = absurd bad

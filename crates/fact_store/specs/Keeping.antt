@@ -1,5 +1,5 @@
 -- The answers of a fact keeper.
-use Rattle.std.specs.Prelude.{◌≡◌, ◌-◌, ◌^◌, ◌⊎◌, ℕ, List, Option, Some, None, Result, Ok, Err}
+use Rattle.std.specs.Prelude.{◌≡◌, ◌-◌, ◌^◌, ◌<◌, ◌⊎◌, ℕ, List, Option, Some, None, Result, Ok, Err}
 use Rattle.std.specs.Option.{option_map}
 use Rattle.ens_base.specs.Causes.{Rose}
 use Rattle.slot_disk.specs.Slots.{record_of}
@@ -48,17 +48,22 @@ IsOldOrNewIn old fact file = IsOldOrNew old fact (file_fact file)
 
 -- why a fact was not saved in a slot file, from the fault counts and the last serial number
 abbrev pub IsPutError : ℕ → ℕ → ℕ → SlotError → Type 0
-IsPutError before now last slots.Failed = Rose before now
+IsPutError before now last slots.Failed = (last < 2 ^ 64 - 1) × Rose before now
 IsPutError before now last slots.Spent = last ≡ 2 ^ 64 - 1
 IsPutError before now last e = ⊥
 
--- why a fact file was not opened
+-- why a fact file was not opened: the disk failed, or out of memory, which leaves the count unchanged
 abbrev pub IsOpenError : ℕ → ℕ → KeepError → Type 0
 IsOpenError before now errors.Failed = Rose before now
-IsOpenError before now errors.Memory = Unit {0}
+IsOpenError before now errors.Memory = now ≡ before
 IsOpenError before now (errors.Bad e) = ⊥
 
 -- the error of opening the slot file, as one of the fact file
 abbrev pub opened_with : SlotError → KeepError
 opened_with slots.Memory = errors.Memory
 opened_with e = errors.Failed
+
+-- the kept bytes are not a fact
+abbrev pub IsBad : KeepError → Type 0
+IsBad (errors.Bad why) = Unit {0}
+IsBad e = ⊥

@@ -1,11 +1,12 @@
-ghost use Rattle.std.specs.Prelude.{◌≡◌, ◌≤◌, ◌+◌, ◌-◌, ◌^◌, min, ℕ, List, Option, Some, None, Result, Ok, Err, IfOk, IfErr, OnOk, OnErr};
+ghost use Rattle.std.specs.Prelude.{◌≡◌, ◌≤◌, ◌<◌, ◌⊎◌, ◌+◌, ◌-◌, ◌^◌, min, ℕ, List, Option, Some, None, Result, Ok, Err, IfOk, IfErr, IsErrOf, OnOk, OnErr};
 ghost use Rattle.ens_base.specs.Causes.{HasCause, Rose};
-ghost use Rattle.slot_disk.specs.Crash.{Told, Stay, LeavesOnly, SeenIn};
+ghost use Rattle.slot_disk.specs.Crash.{Told, StaysSeen, LeavesOnly, SeenIn};
 ghost use Rattle.slot_disk.specs.Slots.{record_in, last_serial};
 ghost use Rattle.slot_disk.specs.SlotFiles.{remembered, IsAtRest};
 ghost use Rattle.peer_fact.specs.FactBytes.{fact_of};
-ghost use Rattle.fact_store.specs.Keeping.{Loads, IsOldOrNew, IsOldOrNewIn, IsPutError, IsOpenError, opened_with, fact_in, file_fact};
+ghost use Rattle.fact_store.specs.Keeping.{IsBad, Loads, IsOldOrNew, IsOldOrNewIn, IsPutError, IsOpenError, opened_with, fact_in, file_fact};
 ghost use Rattle.fact_store.specs.declared.error.KeepError.TheVariants as errors;
+ghost use Rattle.slot_disk.specs.declared.error.SlotError.TheVariants as slot_errors;
 
 use crate::error::KeepError;
 use crate::keeper::FactKeeper;
@@ -22,7 +23,8 @@ pub struct FactFile<D: Disk> {
 
 /// Decodes a record.
 fn loaded(bytes: &[u8]) -> Result<Option<Fact>, KeepError>
-    ensures { (before now : ℕ) → Loads (Some (fact_of bytes.now)) before now result }
+    ensures loads { (before now : ℕ) → Loads (Some (fact_of bytes.now)) before now result }
+    ensures bad { IfErr result IsBad }
 {
     match Fact::decode(bytes) {
         Ok(fact) => Ok(Some(fact)),
@@ -37,6 +39,10 @@ fn put<D: Disk>(slots: &mut SlotFile<D>, fact: &Fact) -> Result<(), SlotError>
     ensures at_rest { OnOk result (IsAtRest D.seen D.may_leave slots.old → IsAtRest D.seen D.may_leave slots.new) }
     ensures ok { OnOk result (fact_in (record_in (remembered slots.new)) ≡ Some (Ok fact.now)) }
     ensures err { OnErr result (remembered slots.new ≡ remembered slots.old) }
+    ensures serial { OnOk result (last_serial (remembered slots.new) ≡ last_serial (remembered slots.old) + 1) }
+    ensures can { OnOk result (last_serial (remembered slots.old) < 2 ^ 64 - 1) }
+    ensures refused { OnErr result (IsErrOf result slot_errors.Failed ⊎ (slots.new.disk ≡ slots.old.disk)) }
+    ensures good { OnOk result (D.fault_count slots.new.disk ≡ D.fault_count slots.old.disk) }
     ensures error { IfErr result (λ e. IsPutError (D.fault_count slots.old.disk) (D.fault_count slots.new.disk) (last_serial (remembered slots.old)) e) }
     ensures later { D.fault_count slots.old.disk ≤ D.fault_count slots.new.disk }
 {
@@ -52,14 +58,16 @@ impl<D: Disk> FactFile<D> {
     ///
     /// # Errors
     ///
-    /// `Failed` only if the fault count of the disk rose, or `Memory`. The error returns the disk,
-    /// with its bytes unchanged.
+    /// `Failed` only if the fault count of the disk rose, or `Memory`, which leaves that count
+    /// unchanged. The error returns the disk. A read of it then returns one of the files that a
+    /// crash might have left before, such as the old one.
     pub fn open(alloc: Global, disk: D) -> Result<FactFile<D>, Refused<D, KeepError>>
         ensures at_rest { IfOk result (λ f. Told (D.seen disk) (λ bytes. IsAtRest D.seen D.may_leave f.slots × (fact_in (record_in (remembered f.slots)) ≡ file_fact bytes))) }
         ensures spent { IfOk result (λ f. f.spent ≡ 0) }
         ensures error { IfErr result (λ r. IsOpenError (D.fault_count disk) (D.fault_count r.held) r.error) }
         ensures later { D.fault_count disk ≤ D.fault_count (disk_after result) }
-        ensures seen { Stay (D.seen disk) (D.seen (disk_after result)) }
+        ensures good { OnOk result (D.fault_count (disk_after result) ≡ D.fault_count disk) }
+        ensures seen { StaysSeen D.seen D.may_leave disk (disk_after result) result }
         ensures crash { (c : List ℕ) → D.may_leave (disk_after result) c → D.may_leave disk c }
         ensures any_moment { LeavesOnly D.moment D.left_since disk (disk_after result) (D.may_leave disk) }
     {
@@ -93,14 +101,15 @@ fn open_error(e: SlotError) -> KeepError
 }
 
 impl<D: Disk> FactKeeper for FactFile<D> {
-    // `kept` alone describes the content of a file.
-    ghost may_answer = { λ f call answer g. Unit {0} };
+    ghost use Rattle.fact_store.specs.Files.{file_kept, file_faults, FileAnswers, FileRefuses};
 
-    ghost may_refuse = { λ f call error g. Unit {0} };
+    ghost may_answer = { λ f call answer g. FileAnswers D.seen D.may_leave D.moment D.left_since D.fault_count f call answer g };
 
-    ghost kept = { λ f. fact_in (record_in (remembered f.slots)) };
+    ghost may_refuse = { λ f call error g. FileRefuses D.seen D.may_leave D.moment D.left_since D.fault_count f call error g };
 
-    ghost fault_count = { λ f. min (D.fault_count f.slots.disk + f.spent) (2 ^ 64 - 1) };
+    ghost kept = { λ f. file_kept f };
+
+    ghost fault_count = { λ f. file_faults D.fault_count f };
 
     fn faults(&self) -> u64 {
         self.slots.faults().saturating_add(self.spent)
@@ -113,18 +122,7 @@ impl<D: Disk> FactKeeper for FactFile<D> {
         }
     }
 
-    fn save(&mut self, fact: &Fact) -> Result<(), KeepError>
-        ensures ok { OnOk result (fact_in (record_in (remembered self.new.slots)) ≡ Some (Ok fact.now)) }
-        ensures failed { OnErr result (IsOldOrNew (fact_in (record_in (remembered self.old.slots))) fact.now (fact_in (record_in (remembered self.new.slots)))) }
-        ensures error { IfErr result (λ e. e ≡ errors.Failed) }
-        ensures answer { OnOk result (Unit {0}) }
-        ensures refusal { IfErr result (λ e. Unit {0}) }
-        ensures cause { HasCause (min (D.fault_count self.old.slots.disk + self.old.spent) (2 ^ 64 - 1)) (min (D.fault_count self.new.slots.disk + self.new.spent) (2 ^ 64 - 1)) result }
-        // A save replaces the record of the file atomically.
-        ensures any_moment { IsAtRest D.seen D.may_leave self.old.slots → LeavesOnly D.moment D.left_since self.old.slots.disk self.new.slots.disk (IsOldOrNewIn (fact_in (record_in (remembered self.old.slots))) fact.now) }
-        ensures seen { IsAtRest D.seen D.may_leave self.old.slots → SeenIn D.seen self.new.slots.disk (IsOldOrNewIn (fact_in (record_in (remembered self.old.slots))) fact.now) }
-        ensures at_rest { OnOk result (IsAtRest D.seen D.may_leave self.old.slots → IsAtRest D.seen D.may_leave self.new.slots) }
-    {
+    fn save(&mut self, fact: &Fact) -> Result<(), KeepError> {
         match put(&mut self.slots, fact) {
             Ok(()) => Ok(()),
             Err(SlotError::Failed) => Err(KeepError::Failed),

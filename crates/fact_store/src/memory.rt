@@ -1,9 +1,8 @@
 ghost use Rattle.std.specs.Prelude.{◌≡◌, ◌↔◌, IsErrOf, ◌≢◌, ◌≤◌, ℕ, Option, Some, None, Result, Ok, Err, IfOk, IfErr, OnOk, OnErr};
-ghost use Rattle.ens_base.specs.Causes.{HasCause, Rose};
+ghost use Rattle.ens_base.specs.Causes.{counted, Rose};
 ghost use Rattle.slot_disk.specs.Failing.{fate_of};
-ghost use Rattle.slot_disk.specs.Steps.{next_call};
 ghost use Rattle.slot_disk.specs.declared.failing.Fate.TheVariants.{Works, Fails, FailsDone};
-ghost use Rattle.fact_store.specs.Keeping.{Load, Save, Loads, IsOldOrNew};
+ghost use Rattle.fact_store.specs.Keeping.{IsBad, Loads};
 ghost use Rattle.fact_store.specs.Memory.{kept_of};
 ghost use Rattle.fact_store.specs.declared.error.KeepError.TheVariants as errors;
 ghost use Rattle.fact_store.specs.declared.kept.Kept.TheVariants as kinds;
@@ -24,6 +23,8 @@ pub struct MemFacts {
 }
 
 impl MemFacts {
+    ghost use Rattle.fact_store.specs.MemFacts.{asked, faulted, fate_next};
+
     /// Makes a keeper with this content, which fails at the calls listed in `failing`.
     pub fn new(kept: Kept, failing: Failing) -> MemFacts
         ensures kept { (result.kept ≡ kept) × (result.failing ≡ failing) }
@@ -39,10 +40,9 @@ impl MemFacts {
 
     /// Counts a call, and returns its planned outcome.
     fn next_fate(&mut self) -> Fate
-        ensures fate { result ≡ fate_of self.old.failing.undone.items self.old.failing.done.items self.new.calls }
-        ensures calls { self.new.calls ≡ next_call self.old.calls }
-        ensures rest { (self.new.kept ≡ self.old.kept) × (self.new.failing ≡ self.old.failing) }
-        ensures faults { self.new.faults ≡ self.old.faults }
+        ensures fate { result ≡ fate_next self.old }
+        ensures asked { self.new ≡ asked self.old }
+        ensures rest { (self.new.kept ≡ self.old.kept) × (self.new.faults ≡ self.old.faults) }
     {
         self.calls = self.calls.saturating_add(1);
         self.failing.fate(self.calls)
@@ -51,9 +51,9 @@ impl MemFacts {
     /// Counts a fault.
     fn fault(&mut self) -> KeepError
         ensures error { result ≡ errors.Failed }
-        ensures faults { Rose self.old.faults self.new.faults × (self.old.faults ≤ self.new.faults) }
-        ensures rest { (self.new.kept ≡ self.old.kept) × (self.new.failing ≡ self.old.failing) }
-        ensures calls { self.new.calls ≡ self.old.calls }
+        ensures faulted { self.new ≡ faulted self.old }
+        ensures rose { (self.old.faults ≤ self.new.faults) × Rose self.old.faults self.new.faults }
+        ensures kept { self.new.kept ≡ self.old.kept }
     {
         self.faults = self.faults.saturating_add(1);
         KeepError::Failed
@@ -63,7 +63,7 @@ impl MemFacts {
 /// Returns the result of loading this content.
 fn loaded(kept: Kept) -> Result<Option<Fact>, KeepError>
     ensures loads { (before now : ℕ) → Loads (kept_of kept) before now result }
-    ensures works { IfErr result (λ e. e ≢ errors.Failed) }
+    ensures bad { IfErr result IsBad }
 {
     match kept {
         Kept::Nothing => Ok(None),
@@ -73,7 +73,7 @@ fn loaded(kept: Kept) -> Result<Option<Fact>, KeepError>
 }
 
 impl FactKeeper for MemFacts {
-    ghost use Rattle.fact_store.specs.MemFacts.{fate_next, AnswersAsListed, RefusesAsListed};
+    ghost use Rattle.fact_store.specs.MemFacts.{AnswersAsListed, RefusesAsListed};
 
     ghost may_answer = { λ m call answer n. AnswersAsListed m call answer n };
 
@@ -87,37 +87,14 @@ impl FactKeeper for MemFacts {
         self.faults
     }
 
-    fn load(&mut self) -> Result<Option<Fact>, KeepError>
-        ensures loads { Loads (kept_of self.old.kept) self.old.faults self.new.faults result }
-        ensures answer { IfOk result (λ o. AnswersAsListed self.old Load o self.new) }
-        ensures refusal { IfErr result (λ e. RefusesAsListed self.old Load e self.new) }
-        ensures kept { kept_of self.new.kept ≡ kept_of self.old.kept }
-        ensures later { self.old.faults ≤ self.new.faults }
-        // Exactly the listed calls fail.
-        ensures exactly { IsErrOf result errors.Failed ↔ (fate_next self.old ≢ Works) }
-        ensures calls { self.new.calls ≡ next_call self.old.calls }
-    {
+    fn load(&mut self) -> Result<Option<Fact>, KeepError> {
         if self.next_fate() != Fate::Works {
             return Err(self.fault());
         }
         loaded(self.kept)
     }
 
-    fn save(&mut self, fact: &Fact) -> Result<(), KeepError>
-        ensures ok { OnOk result (kept_of self.new.kept ≡ Some (Ok fact.now)) }
-        ensures failed { OnErr result (IsOldOrNew (kept_of self.old.kept) fact.now (kept_of self.new.kept)) }
-        ensures error { IfErr result (λ e. e ≡ errors.Failed) }
-        ensures answer { OnOk result (AnswersAsListed self.old (Save fact.now) tt self.new) }
-        ensures refusal { IfErr result (λ e. RefusesAsListed self.old (Save fact.now) e self.new) }
-        ensures cause { HasCause self.old.faults self.new.faults result }
-        // Exactly the listed calls fail.
-        ensures works { OnOk result (fate_next self.old ≡ Works) }
-        ensures fails { OnErr result (fate_next self.old ≢ Works) }
-        ensures calls { self.new.calls ≡ next_call self.old.calls }
-        // A failed call has its effect or not, as listed.
-        ensures undone { fate_next self.old ≡ Fails → kept_of self.new.kept ≡ kept_of self.old.kept }
-        ensures done { fate_next self.old ≡ FailsDone → kept_of self.new.kept ≡ Some (Ok fact.now) }
-    {
+    fn save(&mut self, fact: &Fact) -> Result<(), KeepError> {
         let fate = self.next_fate();
         if fate == Fate::Fails {
             return Err(self.fault());
