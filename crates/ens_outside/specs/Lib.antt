@@ -7,3 +7,4 @@ pub mod Maps
 pub mod Failures
 pub mod MemStores
 pub mod MemLink
+pub mod MemStreams

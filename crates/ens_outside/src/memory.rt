@@ -51,6 +51,8 @@ impl MemSource {
 }
 
 impl Source for MemSource {
+    ghost use Rattle.ens_outside.specs.MemStreams.{ReadDid, IsAfterRead};
+
     ghost left = { λ s. Some (drop s.at s.bytes.items) };
 
     ghost fault_count = { λ s. s.faults };
@@ -63,7 +65,8 @@ impl Source for MemSource {
         ensures bound { ReadsAtMost result buf.new }
         ensures bytes { ReadConsumes (Some (drop self.old.at self.old.bytes.items)) (Some (drop self.new.at self.new.bytes.items)) result buf.new }
         ensures cause { HasCause self.old.faults self.new.faults result }
-        ensures exactly { IsErr result ↔ Contains self.old.failing.items self.new.calls }
+        ensures did { ReadDid self.old (length buf.new) result self.new }
+        ensures after { IsAfterRead self.old self.new }
     {
         self.calls = self.calls.saturating_add(1);
         if self.failing.contains(&self.calls) {
@@ -119,6 +122,8 @@ impl MemSink {
 }
 
 impl Sink for MemSink {
+    ghost use Rattle.ens_outside.specs.MemStreams.{WriteDid, IsAfterWrite};
+
     ghost written = { λ s. Some s.bytes.items };
 
     ghost fault_count = { λ s. s.faults };
@@ -132,8 +137,8 @@ impl Sink for MemSink {
         ensures progress { IfOk result (λ n. 0 < length bytes.now → 0 < n) }
         ensures bytes { WriteAppends (Some self.old.bytes.items) (Some self.new.bytes.items) result bytes.now }
         ensures cause { HasCause self.old.faults self.new.faults result }
-        ensures count { IfOk result (λ n. n ≡ min (length bytes.now) (self.old.room - length self.old.bytes.items)) }
-        ensures exactly { IsErr result ↔ (Contains self.old.failing.items self.new.calls ⊎ IsWithoutRoom self.old.room self.old.bytes.items bytes.now) }
+        ensures did { WriteDid self.old bytes.now result self.new }
+        ensures after { IsAfterWrite self.old self.new }
     {
         let call = self.calls.saturating_add(1);
         self.calls = call;
