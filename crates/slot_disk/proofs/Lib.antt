@@ -8,3 +8,4 @@ pub mod Runs
 pub mod Saves
 pub mod SlotReads
 pub mod Rests
+pub mod Ranges

@@ -25,7 +25,7 @@ module _ {D E : Type 0} (seen : D → Option (List ℕ)) (may_leave : D → List
 pub old_stays : (file new bytes : List ℕ) → current new ≡ current file → IsOldOrNew (record_of file) bytes new
 old_stays file new bytes is = inl (ap record_in is)
 
-length-body : (serial : ℕ) (bytes : List ℕ) → length (body serial bytes) ≡ 10 + length bytes
+pub length-body : (serial : ℕ) (bytes : List ℕ) → length (body serial bytes) ≡ 10 + length bytes
 length-body serial bytes = omega arith
 
 module _ (s : Slot) (file mid spelled bytes : List ℕ) (next : next_slot (current file) ≡ s) (has_body : IsBody file bytes spelled) (stage : IsClosed file s mid) where

@@ -1,6 +1,7 @@
 -- What a save does to a file of two slots.
-use Rattle.std.specs.Prelude.{◌≡◌, ℕ, ◌+◌, ◌≤◌, ◌<◌, ◌^◌, List, length, Bool, true}
-use Rattle.slot_disk.specs.Slots.{slot, shut, current, last_serial, next_slot, shut_at, slot_at, other, body}
+use Rattle.std.specs.Prelude.{◌≡◌, ℕ, ◌+◌, ◌≤◌, ◌<◌, ◌^◌, List, length, Bool, true, [], ◌∷◌, if◌then◌else◌}
+use Rattle.slot_disk.specs.Crash.{written}
+use Rattle.slot_disk.specs.Slots.{start, slot, shut, current, last_serial, next_slot, shut_at, slot_at, other, body}
 use Rattle.ens_base.specs.Causes.{Rose}
 use Rattle.slot_disk.specs.declared.error.SlotError.{SlotError}
 use Rattle.slot_disk.specs.declared.error.SlotError.TheVariants as errors
@@ -16,6 +17,10 @@ pub record IsBody (file bytes spelled : List ℕ) : Type 0 where
   pub spelled_so : spelled ≡ body (last_serial (current file) + 1) bytes
   pub short : length bytes ≤ 480
   pub serial : last_serial (current file) + 1 < 2 ^ 64
+
+-- the file with the gate of a slot present and closed
+abbrev pub with_gate_closed : List ℕ → Slot → Bool → List ℕ
+with_gate_closed file s is_shut = if is_shut then file else written file (start s) (0 ∷ [])
 
 -- the other slot is unchanged since the first file
 pub record IsKept (first : List ℕ) (s : Slot) (file : List ℕ) : Type 0 where

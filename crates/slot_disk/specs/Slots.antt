@@ -71,6 +71,10 @@ next_slot (Some (B, s)) = A
 abbrev pub body : ℕ → List ℕ → List ℕ
 body serial bytes = to_be_bytes w64 serial ++ to_be_bytes w16 (length bytes) ++ bytes
 
+-- the bytes of an open slot
+abbrev pub open_slot : ℕ → List ℕ → List ℕ
+open_slot serial bytes = 1 ∷ body serial bytes
+
 -- the file holds the old record, or the new one
 abbrev pub IsOldOrNew : Option (List ℕ) → List ℕ → List ℕ → Type 0
 IsOldOrNew old new file = (record_of file ≡ old) ⊎ (record_of file ≡ Some new)

@@ -1,7 +1,7 @@
 ghost use Rattle.std.specs.Prelude.{◌≡◌, ◌⊎◌, ◌↔◌, ◌+◌, ◌-◌, ◌^◌, ◌<◌, ◌≤◌, List, ℕ, Option, Some, None, length, IfOk, IfErr, OnOk, OnErr, IsErrOf, false, option_map};
 ghost use Rattle.ens_base.specs.Causes.{Rose};
-ghost use Rattle.slot_disk.specs.Crash.{Told, StaysSeen, LeavesOnly, SeenIn, IsOn};
-ghost use Rattle.slot_disk.specs.Slots.{record_in, last_serial, next_slot, other, IsOldOrNew, newer, held_slot, current, shut_at};
+ghost use Rattle.slot_disk.specs.Crash.{written, Torn, Told, StaysSeen, LeavesOnly, SeenIn, IsOn};
+ghost use Rattle.slot_disk.specs.Slots.{start, open_slot, record_in, last_serial, next_slot, other, IsOldOrNew, newer, held_slot, current, shut_at};
 ghost use Rattle.slot_disk.specs.Saving.{IsReadError};
 ghost use Rattle.slot_disk.specs.Found.{kept_now};
 ghost use Rattle.slot_disk.specs.declared.error.SlotError.TheVariants as errors;
@@ -129,7 +129,8 @@ impl<D: Disk> SlotFile<D> {
 
     /// Replaces the record by `bytes`, at most 480. Allocates nothing. On a file at rest, as a
     /// successful `open` or `save` leaves it, a crash after `Ok` leaves the new record; a crash at
-    /// any moment of the call, or after an error, leaves the old record or the new one.
+    /// any moment of the call, or after an error, leaves the old record or the new one. Bytes outside
+    /// the slot that is not current stay.
     ///
     /// # Errors
     ///
@@ -147,6 +148,12 @@ impl<D: Disk> SlotFile<D> {
         ensures can { OnOk result ((length bytes.now ≤ 480) × (last_serial (remembered self.old) < 2 ^ 64 - 1)) }
         ensures later { D.fault_count self.old.disk ≤ D.fault_count self.new.disk }
         ensures good { OnOk result (D.fault_count self.new.disk ≡ D.fault_count self.old.disk) }
+        // Only the slot that is not current is written, and in the end it holds the new record.
+        ensures exact { OnOk result ((rest : IsAtRest D.seen D.may_leave self.old) → D.seen self.new.disk ≡ Some (written rest.bytes (start (next_slot (remembered self.old))) (open_slot (last_serial (remembered self.old) + 1) bytes.now))) }
+        ensures inside { (rest : IsAtRest D.seen D.may_leave self.old) → LeavesOnly D.moment D.left_since self.old.disk self.new.disk (Torn (start (next_slot (remembered self.old))) (11 + length bytes.now) rest.bytes) }
+        ensures inside_seen { (rest : IsAtRest D.seen D.may_leave self.old) → SeenIn D.seen self.new.disk (Torn (start (next_slot (remembered self.old))) (11 + length bytes.now) rest.bytes) }
+        // After a failure the gate of that slot is not taken for closed.
+        ensures doubted { IsErrOf result errors.Failed → remembers_shut self.new (next_slot (remembered self.old)) ≡ false }
         ensures refused { OnErr result (IsErrOf result errors.Failed ⊎ (self.new.disk ≡ self.old.disk)) }
     {
         if bytes.len() > RECORD_LIMIT {
@@ -161,7 +168,10 @@ impl<D: Disk> SlotFile<D> {
         let is_shut = self.is_shut(slot);
         let done = replace(&mut self.disk, slot, is_shut, self.spelled.as_slice());
         match done {
-            Err(_failed) => Err(SlotError::Failed),
+            Err(_failed) => {
+                self.doubt(slot);
+                Err(SlotError::Failed)
+            }
             Ok(()) => {
                 self.note(slot, last + 1, bytes);
                 Ok(())
@@ -209,6 +219,19 @@ impl<D: Disk> SlotFile<D> {
     {
         self.content.set(bytes);
         self.current = Some(Current { slot, serial });
+        match slot {
+            Slot::A => self.a_is_shut = false,
+            Slot::B => self.b_is_shut = false,
+        }
+    }
+
+    /// Notes that the gate of a slot may be open.
+    fn doubt(&mut self, slot: Slot)
+        ensures here { remembers_shut self.new slot ≡ false }
+        ensures other { remembers_shut self.new (other slot) ≡ remembers_shut self.old (other slot) }
+        ensures now { remembered self.new ≡ remembered self.old }
+        ensures disk { self.new.disk ≡ self.old.disk }
+    {
         match slot {
             Slot::A => self.a_is_shut = false,
             Slot::B => self.b_is_shut = false,
