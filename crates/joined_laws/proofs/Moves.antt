@@ -1,6 +1,6 @@
 -- Moves of peers keep the tables, and moves of tables the peers.
 use Rattle.std.proofs.Common.{◌≡◌, ℕ, ◌<◌, Bool, true, List, [], ◌∷◌, None, refl, ap, sym, ◌∙◌, subst}
-use Rattle.version_laws.proofs.Maps.{put_here, put_other}
+use Rattle.version_laws.proofs.Maps.{put_here, put_other, put_then}
 use Rattle.version_laws.proofs.Descent.{Whole, whole_step, run_whole}
 use Rattle.abstract_protocol.specs.Ledger.{Place, put, is_established}
 use Rattle.abstract_protocol.specs.Protocol.{State, Step, Elect, happens, IsRun, state_after, after, MayAll}
@@ -23,7 +23,7 @@ silent_all g s [] roles sent w may silent a = a
 silent_all g s (e ∷ es) roles sent w may silent a = silent_all g (happens s e) es roles sent (whole_step s.objects e may.0.0 w) may.1 silent.1 (links.silent s w g roles sent e may.0 silent.0 a)
 
 agree_then : (roles : ℕ → Role) (peers : ℕ → Peer) (p : ℕ) (r : Role) (x : Peer) → term_of r ≡ term_at x.mode → ((q : ℕ) → term_of (roles q) ≡ term_at (peers q).mode) → (q : ℕ) → term_of (put roles p r q) ≡ term_at (put peers p x q).mode
-agree_then roles peers p r x here old = orderly.put_then peers p x (λ q y. term_of (put roles p r q) ≡ term_at y.mode) first (λ q n. rest q n)
+agree_then roles peers p r x here old = put_then peers p x (λ q y. term_of (put roles p r q) ≡ term_at y.mode) first (λ q n. rest q n)
   where
     first : term_of (put roles p r p) ≡ term_at x.mode
     first = subst (λ z. term_of z ≡ term_at x.mode) (sym (put_here roles p r)) here
@@ -40,7 +40,7 @@ module _ (s : State) (w : Whole s.objects) (lines : Lines) (roles : ℕ → Role
   }
 
   same_role : (g : Ghosts) → leaders.RolesHold g s roles calls → leaders.RolesHold g s (put roles p (roles p)) calls
-  same_role g a = record { turns = a.turns; roles_hold = orderly.put_then roles p (roles p) (leaders.RoleHolds g s) (a.roles_hold p) (λ q n. a.roles_hold q); sent_hold = a.sent_hold }
+  same_role g a = record { turns = a.turns; roles_hold = put_then roles p (roles p) (leaders.RoleHolds g s) (a.roles_hold p) (λ q n. a.roles_hold q); sent_hold = a.sent_hold }
 
   move_on : (g : Ghosts) (es : List Step) (x : Peer) → IsPeerMove lines s p es x → AreSilent es → term_at (peers p).mode ≡ term_at x.mode → JoinedHold g lines s roles peers calls sent → JoinedHold g lines (after s es) (put roles p (roles p)) (put peers p x) calls sent
   move_on g es x move silent same a = moves g es (roles p) x (same_role g a.tables) move silent (a.agree p ∙ same) a

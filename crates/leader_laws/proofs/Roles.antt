@@ -2,14 +2,14 @@
 use Rattle.election_laws.proofs.Epochs.{not_both}
 use Rattle.entry_laws.proofs.Later.{stay_step, stay_after, stay_same}
 use Rattle.entry_laws.specs.Stays.{EntriesStay}
-use Rattle.std.proofs.Common.{◌≡◌, ℕ, suc, ◌<◌, Bool, true, false, ◌⊎◌, List, [], ◌∷◌, Option, None, Some, eqb, eqb-true, eq-eqb, arith, ap, refl, inl, inr, sym, ◌∙◌, subst, ◌++◌}
-use Rattle.std.proofs.lemmas.Bool.{false≢true}
+use Rattle.std.proofs.Common.{◌≡◌, ℕ, suc, ◌<◌, true, ◌⊎◌, List, [], ◌∷◌, Option, None, Some, arith, ap, refl, inl, inr, sym, ◌∙◌, subst, ◌++◌}
 use Rattle.ens_base.specs.Lists.{◌∈◌, AreDistinct}
 use Rattle.ens_base.specs.declared.epoch.Version.{Version}
 use Rattle.ens_base.specs.declared.reply.Reply.{Reply}
 use Rattle.register_model.specs.declared.call.Call.{Call}
 use Rattle.register_model.specs.Histories.{IsRefused}
 use Rattle.election_laws.specs.Preparing.{proposer_of}
+use Rattle.version_laws.proofs.Maps.{put_then}
 use Rattle.version_laws.proofs.Descent.{Whole, whole_step, run_whole}
 use Rattle.entry_laws.proofs.Replies.{run_entries}
 use Rattle.entry_laws.specs.Entries.{EntriesAreSafe}
@@ -38,14 +38,6 @@ said_stays g h s t q (Puts d k v x) stay ghosts turns a = put_says_stays s t d k
 said_stays g h s t q (Acks v) stay ghosts turns a = stay.versions.acked v q a
 
 -- ## Roles
-
--- the new role of one peer, and the old ones of the others
-role_then : (roles : ℕ → Role) (p : ℕ) (role : Role) (P : ℕ → Role → Type 0) → P p role → ((q : ℕ) → (p ≡ q → ⊥) → P q (roles q)) → (q : ℕ) → P q (put roles p role q)
-role_then roles p role P here old q = by_cases (eqb p q) refl
-  where
-    by_cases : (b : Bool) → eqb p q ≡ b → P q (put roles p role q)
-    by_cases true t = rw t (subst (λ n. P n role) (eqb-true p q t) here)
-    by_cases false t = rw t (old q (λ e. false≢true (sym t ∙ eq-eqb p q e)))
 
 -- epochs of two peers are two
 epochs_apart : (p q d e : ℕ) → proposer_of d ≡ p → proposer_of e ≡ q → (p ≡ q → ⊥) → d ≡ e → ⊥
@@ -125,7 +117,7 @@ module _ (s : State) (w : Whole s.objects) where
   pub leads : (g h : Ghosts) (roles : ℕ → Role) (sent : List Sent) (p : ℕ) (l m : Leader) (steps : List Step) → roles p ≡ Leads l → m.epoch ≡ l.epoch → m.seat.peer ≡ l.seat.peer → IsLeaderMove g s steps h m → TurnsHold h (after s steps) → RolesHold g s roles sent → RolesHold h (after s steps) (put roles p (Leads m)) sent
   leads g h roles sent p l m steps is same_epoch same_peer move turns a = record {
     turns = turns;
-    roles_hold = role_then roles p (Leads m) (RoleHolds h (after s steps)) (record { peer = peer; own = own; table = move.holds }) (λ q n. role_moves g h s steps p m w peer own move q (roles q) n (a.roles_hold q));
+    roles_hold = put_then roles p (Leads m) (RoleHolds h (after s steps)) (record { peer = peer; own = own; table = move.holds }) (λ q n. role_moves g h s steps p m w peer own move q (roles q) n (a.roles_hold q));
     sent_hold = λ x at. said_stays g h s (after s steps) x.from x.said (stay_after s steps move.may) move.ghosts a.turns (a.sent_hold x at);
   }
     where
@@ -140,7 +132,7 @@ module _ (s : State) (w : Whole s.objects) where
 
   pub leaves : (g : Ghosts) (roles : ℕ → Role) (sent : List Sent) (p : ℕ) (l : Leader) (is : List ℕ) → roles p ≡ Leads l → AreDistinct is → ((i : ℕ) → i ∈ is → (k : List ℕ) × (i ∈ calls_of (l.rows k))) → RolesHold g s roles sent → RolesHold g s (put roles p (Follows (l.seat.owed ++ timeouts is))) sent
   leaves g roles sent p l is role distinct among a = let old : IsLeaderOf g s p l = subst (RoleHolds g s p) role (a.roles_hold p) in
-      record { turns = a.turns; roles_hold = role_then roles p (Follows (l.seat.owed ++ timeouts is)) (RoleHolds g s) (subst (λ b. OwesHold g s b (l.seat.owed ++ timeouts is)) old.peer (leader_leaves g s l is old.table distinct among)) (λ q n. a.roles_hold q); sent_hold = a.sent_hold }
+      record { turns = a.turns; roles_hold = put_then roles p (Follows (l.seat.owed ++ timeouts is)) (RoleHolds g s) (subst (λ b. OwesHold g s b (l.seat.owed ++ timeouts is)) old.peer (leader_leaves g s l is old.table distinct among)) (λ q n. a.roles_hold q); sent_hold = a.sent_hold }
 
   -- the oldest answer is given
   pub gives : (g : Ghosts) (roles : ℕ → Role) (sent : List Sent) (p : ℕ) (x : Owed) (o : List Owed) → owed_by (roles p) ≡ x ∷ o → RolesHold g s roles sent → MayCome s (Answer x.call x.reply) × RolesHold g (happens s (Answer x.call x.reply)) (put roles p (with_owed (roles p) o)) sent
@@ -148,7 +140,7 @@ module _ (s : State) (w : Whole s.objects) where
     mine.0,
     record {
       turns = turns_after g s (step ∷ []) (mine.0, tt) w a.turns;
-      roles_hold = role_then roles p (with_owed (roles p) o) (RoleHolds g (happens s step)) mine.1 (λ q n. others q (roles q) n (a.roles_hold q));
+      roles_hold = put_then roles p (with_owed (roles p) o) (RoleHolds g (happens s step)) mine.1 (λ q n. others q (roles q) n (a.roles_hold q));
       sent_hold = λ m at. said_stays g g s (happens s step) m.from m.said (stay_step s step mine.0) (ghosts_same s g) a.turns (a.sent_hold m at);
     },
   )
@@ -183,7 +175,7 @@ module _ (s : State) (w : Whole s.objects) where
   pub elects : (g : Ghosts) (roles : ℕ → Role) (sent : List Sent) (p d : ℕ) (b : Place) (o : List Owed) → proposer_of d ≡ p → MayCome s (Elect d b) → roles p ≡ Follows o → RolesHold g s roles sent → RolesHold g (happens s (Elect d b)) (put roles p (Starts d o)) sent
   elects g roles sent p d b o own may is a = record {
     turns = next.turns;
-    roles_hold = role_then roles p (Starts d o) (RoleHolds g (happens s (Elect d b))) (record { own = own; owes = subst (RoleHolds g (happens s (Elect d b)) p) is (next.roles_hold p); unled = unled_step g s d (suc d) 0 (Elect d b) tt (other_than d) (unled_at_first g s d w a.turns may.0.fresh) }) (λ q n. next.roles_hold q);
+    roles_hold = put_then roles p (Starts d o) (RoleHolds g (happens s (Elect d b))) (record { own = own; owes = subst (RoleHolds g (happens s (Elect d b)) p) is (next.roles_hold p); unled = unled_step g s d (suc d) 0 (Elect d b) tt (other_than d) (unled_at_first g s d w a.turns may.0.fresh) }) (λ q n. next.roles_hold q);
     sent_hold = next.sent_hold;
   }
     where
@@ -193,7 +185,7 @@ module _ (s : State) (w : Whole s.objects) where
   pub begins : (g : Ghosts) (roles : ℕ → Role) (sent : List Sent) (p d : ℕ) (o : List Owed) → 0 < d → s.objects.ledger.elected d ≡ true → is_established s.objects.ledger d ≡ true → roles p ≡ Starts d o → RolesHold g s roles sent → RolesHold g s (put roles p (Leads (new_leader d (record { peer = p; owed = o })))) sent
   begins g roles sent p d o led elected established is a = record {
     turns = a.turns;
-    roles_hold = role_then roles p (Leads (new_leader d (record { peer = p; owed = o }))) (RoleHolds g s) (record { peer = refl; own = old.own; table = leader_begins g s d (record { peer = p; owed = o }) old.owes led elected established old.unled }) (λ q n. a.roles_hold q);
+    roles_hold = put_then roles p (Leads (new_leader d (record { peer = p; owed = o }))) (RoleHolds g s) (record { peer = refl; own = old.own; table = leader_begins g s d (record { peer = p; owed = o }) old.owes led elected established old.unled }) (λ q n. a.roles_hold q);
     sent_hold = a.sent_hold;
   }
     where
@@ -201,10 +193,10 @@ module _ (s : State) (w : Whole s.objects) where
       old = subst (RoleHolds g s p) is (a.roles_hold p)
 
   pub gives_up : (g : Ghosts) (roles : ℕ → Role) (sent : List Sent) (p d : ℕ) (o : List Owed) → roles p ≡ Starts d o → RolesHold g s roles sent → RolesHold g s (put roles p (Follows o)) sent
-  gives_up g roles sent p d o is a = let old : IsStartOf g s p d o = subst (RoleHolds g s p) is (a.roles_hold p) in record { turns = a.turns; roles_hold = role_then roles p (Follows o) (RoleHolds g s) old.owes (λ q n. a.roles_hold q); sent_hold = a.sent_hold }
+  gives_up g roles sent p d o is a = let old : IsStartOf g s p d o = subst (RoleHolds g s p) is (a.roles_hold p) in record { turns = a.turns; roles_hold = put_then roles p (Follows o) (RoleHolds g s) old.owes (λ q n. a.roles_hold q); sent_hold = a.sent_hold }
 
   pub stops : (g : Ghosts) (roles : ℕ → Role) (sent : List Sent) (p : ℕ) → RolesHold g s roles sent → RolesHold g s (put roles p (Follows [])) sent
-  stops g roles sent p a = record { turns = a.turns; roles_hold = role_then roles p (Follows []) (RoleHolds g s) tt (λ q n. a.roles_hold q); sent_hold = a.sent_hold }
+  stops g roles sent p a = record { turns = a.turns; roles_hold = put_then roles p (Follows []) (RoleHolds g s) tt (λ q n. a.roles_hold q); sent_hold = a.sent_hold }
 
   pub sends : (g : Ghosts) (roles : ℕ → Role) (sent : List Sent) (m : Sent) → SaidHolds g s m.from m.said → RolesHold g s roles sent → RolesHold g s roles (m ∷ sent)
   sends g roles sent m says a = record { turns = a.turns; roles_hold = a.roles_hold; sent_hold = λ x at. by_place x at }
@@ -217,7 +209,7 @@ module _ (s : State) (w : Whole s.objects) where
   pub refuses : EntriesAreSafe s → (g : Ghosts) (roles : ℕ → Role) (sent : List Sent) (p : ℕ) (c : Call) (r : Reply) → IsRefused r → MayCall s.book c → RolesHold g s roles sent → RolesHold (with_home g c.id p) (happens s (Ask c)) (put roles p (with_owed (roles p) (owed_by (roles p) ++ record { call = c.id; reply = r } ∷ []))) sent
   refuses entries g roles sent p c r refused may a = record {
     turns = turns_after g s (Ask c ∷ []) ((tt, may), tt) w a.turns;
-    roles_hold = role_then roles p (with_owed (roles p) (owed_by (roles p) ++ record { call = c.id; reply = r } ∷ [])) (RoleHolds h t) (mine (roles p) (a.roles_hold p)) (λ q n. others q (roles q) (a.roles_hold q));
+    roles_hold = put_then roles p (with_owed (roles p) (owed_by (roles p) ++ record { call = c.id; reply = r } ∷ [])) (RoleHolds h t) (mine (roles p) (a.roles_hold p)) (λ q n. others q (roles q) (a.roles_hold q));
     sent_hold = λ x at. said_stays g h s t x.from x.said (stay_step s (Ask c) (tt, may)) (home_grows s g c.id p may.fresh) a.turns (a.sent_hold x at);
   }
     where

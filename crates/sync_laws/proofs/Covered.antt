@@ -81,7 +81,7 @@ new_ask_holds g o d scan q stage waits = record {
 
 -- ## What is merged
 
-pub scan_below : (y : Sync) (view : List ℕ) (k : List ℕ) → y.scan k ≤ gathered y view k
+pub scan_below : (y : Sync) (view : List ℕ) (k : List ℕ) → y.scan.entries k ≤ gathered y view k
 scan_below y [] k = omega arith
 scan_below y (q ∷ rest) k = le_trans (scan_below y rest k) (max_right (given_by y q k) (gathered y rest k))
 
@@ -115,11 +115,11 @@ module _ (g : Lines) (o : Objects) (p : ℕ) (fact : Fact) (t : Tree) (trusted :
   source_of : (q : ℕ) → q ∈ sources_of y → is_finished (y.asks q).stage ≡ true → ((y.asks q).flagged || g.firm q) ≡ true → IsSource o y.fact.epoch (merged_of y) q
   source_of q at done sure = record {
     reached = (old.asks q).reached [] ((old.asks q).done done []);
-    given = λ k. le_trans ((old.asks q).covered sure k ((old.asks q).done done k)) (max_least ((y.asks q).received k) (y.scan k) (merged_of y k) (given_below y (sources_of y) q k at done) (scan_below y (sources_of y) k));
+    given = λ k. le_trans ((old.asks q).covered sure k ((old.asks q).done done k)) (max_least ((y.asks q).received k) (y.scan.entries k) (merged_of y k) (given_below y (sources_of y) q k at done) (scan_below y (sources_of y) k));
   }
 
   -- so is the own map where the scan met no damage
-  source_here : y.damaged ≡ false → (trusted || g.firm p) ≡ true → IsSource o y.fact.epoch (merged_of y) p
+  source_here : y.scan.damaged ≡ false → (trusted || g.firm p) ≡ true → IsSource o y.fact.epoch (merged_of y) p
   source_here none sure = record { reached = same (o.ledger.ballot p) y.fact.epoch fact.ballot stands old.stands; given = λ k. le_trans (old.whole none sure k) (scan_below y (sources_of y) k) }
     where
       same : (a d b : ℕ) → a ≡ b → d ≡ b → d ≤ a
@@ -128,8 +128,8 @@ module _ (g : Lines) (o : Objects) (p : ℕ) (fact : Fact) (t : Tree) (trusted :
   sure_source : (q : ℕ) → q ∈ sources_of y → is_sure p trusted y q ≡ true → IsSource o y.fact.epoch (merged_of y) q
   sure_source q at sure = by_peer (eqb p q) refl sure
     where
-      by_peer : (b : Bool) → eqb p q ≡ b → (if b then trusted && not y.damaged else is_finished (y.asks q).stage && (y.asks q).flagged) ≡ true → IsSource o y.fact.epoch (merged_of y) q
-      by_peer true e h = subst (IsSource o y.fact.epoch (merged_of y)) (eqb-true p q e) (source_here (undamaged trusted y.damaged h) (own trusted y.damaged (g.firm p) h))
+      by_peer : (b : Bool) → eqb p q ≡ b → (if b then trusted && not y.scan.damaged else is_finished (y.asks q).stage && (y.asks q).flagged) ≡ true → IsSource o y.fact.epoch (merged_of y) q
+      by_peer true e h = subst (IsSource o y.fact.epoch (merged_of y)) (eqb-true p q e) (source_here (undamaged trusted y.scan.damaged h) (own trusted y.scan.damaged (g.firm p) h))
         where
           undamaged : (t d : Bool) → (t && not d) ≡ true → d ≡ false
           undamaged t d h = grind arith
@@ -147,8 +147,8 @@ module _ (g : Lines) (o : Objects) (p : ℕ) (fact : Fact) (t : Tree) (trusted :
       either : (a b : Bool) → b ≡ true → (a || b) ≡ true
       either a b h = grind arith
 
-      by_peer : (b : Bool) → eqb p q ≡ b → (if b then not y.damaged else is_finished (y.asks q).stage) ≡ true → IsSource o y.fact.epoch (merged_of y) q
-      by_peer true e h = subst (IsSource o y.fact.epoch (merged_of y)) (eqb-true p q e) (source_here (undamaged y.damaged h) (either trusted (g.firm p) (subst (λ x. g.firm x ≡ true) (back p q e) firm)))
+      by_peer : (b : Bool) → eqb p q ≡ b → (if b then not y.scan.damaged else is_finished (y.asks q).stage) ≡ true → IsSource o y.fact.epoch (merged_of y) q
+      by_peer true e h = subst (IsSource o y.fact.epoch (merged_of y)) (eqb-true p q e) (source_here (undamaged y.scan.damaged h) (either trusted (g.firm p) (subst (λ x. g.firm x ≡ true) (back p q e) firm)))
         where
           undamaged : (d : Bool) → not d ≡ true → d ≡ false
           undamaged d h = grind arith

@@ -6,7 +6,7 @@ use Rattle.std.proofs.lemmas.Bool.{cases_order}
 use Rattle.ens_base.specs.Lists.{◌∈◌}
 use Rattle.abstract_protocol.specs.Objects.{Map}
 use Rattle.sync_laws.proofs.Covered.{max_left, max_right}
-use Rattle.sync_laws.specs.Trees.{Tree, IsScan, Part}
+use Rattle.sync_laws.specs.Trees.{Tree, IsScan, Part, Scan}
 use Rattle.sync_laws.specs.Syncs.{Asking}
 use Rattle.sync_laws.specs.Exchange.{Answers, Kid, open_kids, page_ask, inner_ask}
 
@@ -70,8 +70,8 @@ inner_answers shown scan a part rest kids open_part held skipped = record {
         by_some (inr (inr l)) = absurd (omega arith)
 
 -- a child is skipped fairly: its digest is that of the own child, so both maps agree under it, and no position of the own scan at, under or above it is damaged
-pub skip_fair : (shown scan : Map) (t : Tree) (broken : Part) (damaged : Bool) (kid : Kid) → IsScan t scan broken damaged → ((k : List ℕ) → kid.part k ≡ true → shown k ≡ t.top k) → ((k : List ℕ) → kid.part k ≡ true → broken k ≡ false) → (k : List ℕ) → kid.part k ≡ true → shown k ≤ scan k
-skip_fair shown scan t broken damaged kid found same sound k inside = least (shown k) (scan k) (same k inside ∙ sym (found.entries k (sound k inside)))
+pub skip_fair : (shown : Map) (t : Tree) (scan : Scan) (kid : Kid) → IsScan t scan → ((k : List ℕ) → kid.part k ≡ true → shown k ≡ t.top k) → ((k : List ℕ) → kid.part k ≡ true → scan.broken k ≡ false) → (k : List ℕ) → kid.part k ≡ true → shown k ≤ scan.entries k
+skip_fair shown t scan kid found same sound k inside = least (shown k) (scan.entries k) (same k inside ∙ sym (found.entries k (sound k inside)))
   where
     least : (a b : ℕ) → a ≡ b → a ≤ b
     least a b e = omega arith

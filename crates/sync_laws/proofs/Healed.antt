@@ -10,7 +10,7 @@ use Rattle.sync_laws.proofs.Syncing.{shows_already}
 use Rattle.sync_laws.proofs.States.{run_syncs, run_trust, run_stops, run_terms, peers_open}
 use Rattle.sync_laws.proofs.Runs as runs
 use Rattle.sync_laws.specs.Facts.{Fact, Lines, AreFirm, place_of, at_ballot, first_of, next_ballot}
-use Rattle.sync_laws.specs.Trees.{Tree, IsScan}
+use Rattle.sync_laws.specs.Trees.{Tree, IsScan, Scan}
 use Rattle.sync_laws.specs.Syncs.{Finished, Asking, Sync, has_finished, with_ask, new_sync, merged_of}
 use Rattle.sync_laws.specs.Exchange.{Counts}
 use Rattle.sync_laws.specs.Peers.{Following, Preparing, Starting, Up, Peer, PeerHolds, peer_of, down_of, nobody}
@@ -51,11 +51,11 @@ f1 = at_ballot f0 d
 abbrev n : Fact
 n = first_of d f0
 
-abbrev nothing : List ℕ → Bool
-nothing k = false
+abbrev clean : Scan
+clean = record { entries = no_entries; broken = λ k. false; damaged = false }
 
 abbrev y0 : Sync
-y0 = new_sync n no_entries nothing false
+y0 = new_sync n clean
 
 -- all gives of peers that do not trust their trees
 abbrev done : Asking
@@ -67,10 +67,10 @@ y1 = with_ask y0 2 done
 abbrev y2 : Sync
 y2 = with_ask y1 3 done
 
-found : IsScan t no_entries nothing false
+found : IsScan t clean
 found = record { entries = λ k e. refl; lost = λ k e. refl; whole = λ e k. refl; verifies = λ e. refl }
 
-counted : (y : Sync) (q : ℕ) → (y.asks q).received ≡ no_entries → (y.asks q).flagged ≡ true → y.scan ≡ no_entries → Counts no_entries y.scan false (y.asks q) done
+counted : (y : Sync) (q : ℕ) → (y.asks q).received ≡ no_entries → (y.asks q).flagged ≡ true → y.scan.entries ≡ no_entries → Counts no_entries y.scan.entries false (y.asks q) done
 counted y q r flag scan = record { flagged = rw flag refl; from = λ k. inr refl; keeps = λ k v some l c e. absurd (none v some l); done = λ e k. refl }
   where
     none : (v : ℕ) → 0 < v → v ≤ 0 → ⊥
@@ -170,7 +170,7 @@ elects : Three (preparing two) up up → Three (starting None) up up
 elects a = (put a.0 1 (starting None), refl, a.2, a.3, runs.moves g three a.0 [] a.4 1 (Elect d (place_of f0) ∷ []) (starting None) ((terms a.0 a.4 1 f1 false).elects f0 two None refl (at a.0 a.4 1 (preparing two) a.1)).0)
 
 asks : Three (starting None) up up → Three (starting (Some y0)) up up
-asks a = let h = at a.0 a.4 1 (starting None) a.1 in (put a.0 1 (starting (Some y0)), refl, a.2, a.3, runs.rests g three a.0 [] a.4 1 (starting (Some y0)) ((syncs a.0 a.4 1 f1 false).starts (Starting n nobody) None n no_entries nothing false h.mode.0.started.first refl (lit< tt) tt found h))
+asks a = let h = at a.0 a.4 1 (starting None) a.1 in (put a.0 1 (starting (Some y0)), refl, a.2, a.3, runs.rests g three a.0 [] a.4 1 (starting (Some y0)) ((syncs a.0 a.4 1 f1 false).starts (Starting n nobody) None n clean h.mode.0.started.first refl (lit< tt) tt found h))
 
 gives_two : Three (starting (Some y0)) up up → Three (starting (Some y1)) up up
 gives_two a = (put a.0 1 (starting (Some y1)), refl, a.2, a.3, runs.rests g three a.0 [] a.4 1 (starting (Some y1)) ((syncs a.0 a.4 1 f1 false).counts (Starting n nobody) y0 2 false no_entries done ((syncs a.0 a.4 2 f1 false).give_says Following None refl (at a.0 a.4 2 up a.2)) (counted y0 2 refl refl refl) (at a.0 a.4 1 (starting (Some y0)) a.1)))

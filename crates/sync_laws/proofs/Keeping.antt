@@ -59,9 +59,9 @@ module _ (g : Lines) (o t : Objects) (stay : VersionsStay o t) where
     stands = a.stands;
     newer = a.newer;
     found = a.found;
-    scanned = λ k. genuine_stays o t stay y.fact.epoch k (y.scan k) (a.scanned k);
+    scanned = λ k. genuine_stays o t stay y.fact.epoch k (y.scan.entries k) (a.scanned k);
     whole = λ none sure k. le_trans (stay.floors p y.fact.epoch k (at (o.ledger.ballot p) y.fact.epoch fact.ballot stands a.stands)) (a.whole none sure k);
-    asks = λ q. ask_stays y.fact.epoch y.scan q (y.asks q) (a.asks q);
+    asks = λ q. ask_stays y.fact.epoch y.scan.entries q (y.asks q) (a.asks q);
   }
     where
       at : (b d f : ℕ) → b ≡ f → d ≡ f → d ≤ b

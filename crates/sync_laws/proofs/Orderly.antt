@@ -1,15 +1,14 @@
 -- Lists of views and changes of them, and all peers at once.
-use Rattle.std.proofs.Common.{◌≡◌, ℕ, suc, ◌≤◌, Bool, true, false, ◌⊎◌, List, [], ◌∷◌, ◌++◌, eqb, eqb-true, arith, ap, refl, inl, inr, sym, ◌∙◌, subst, le_trans}
+use Rattle.std.proofs.Common.{◌≡◌, ℕ, suc, ◌≤◌, Bool, true, ◌⊎◌, List, [], ◌∷◌, ◌++◌, arith, ap, refl, inl, inr, sym, ◌∙◌, subst, le_trans}
 use Rattle.abstract_protocol.proofs.Steps.{after_both, may_both}
 use Rattle.version_laws.proofs.Stays.{versions_after}
-use Rattle.std.proofs.lemmas.Bool.Decides.{nat_tests}
 use Rattle.ens_base.specs.Lists.{◌∈◌}
 use Rattle.ens_base.specs.Views.{last_view}
 use Rattle.election_laws.specs.Preparing.{proposer_of}
 use Rattle.election_laws.proofs.Epochs.{not_both}
 use Rattle.election_laws.proofs.Sound.{Sound, sound_step}
 use Rattle.election_laws.proofs.Rising.{step_stays}
-use Rattle.version_laws.proofs.Maps.{put_other}
+use Rattle.version_laws.proofs.Maps.{put_other, put_then}
 use Rattle.abstract_protocol.specs.Ledger.{Place, Change, Add, Drop, Ledger, IsFact, changed_views, next_views, elect, commit, MayElect, put}
 use Rattle.abstract_protocol.specs.Objects.{Objects}
 use Rattle.abstract_protocol.specs.Protocol.{State, Step, Raise, Elect, Accept, Commit, Adopt, EndSync, happens, objects_after, MayDo, MayCome, after, MayAll}
@@ -41,17 +40,6 @@ pub next_list : (g : Lines) (l : Ledger) (b : Place) → IsOrderly g l → l.ele
 next_list g l b orderly elected (inl z) = rw z.1 (orderly.views b.epoch elected)
 next_list g l b orderly elected (inr (inl h)) = rw h.1 (orderly.views b.epoch elected)
 next_list g l b orderly elected (inr (inr h)) = rw h.1 (fits_list g (l.change b.epoch) (l.views b.epoch) (orderly.changes b.epoch h.0) (orderly.views b.epoch elected))
-
--- what holds at x, and at each other one, holds at each
-pub put_then : {A : Type 0} (f : ℕ → A) (x : ℕ) (a : A) (P : ℕ → A → Type 0) → P x a → ((y : ℕ) → (x ≡ y → ⊥) → P y (f y)) → (y : ℕ) → P y (put f x a y)
-put_then f x a P here old y = by_cases (eqb x y) refl
-  where
-    by_cases : (b : Bool) → eqb x y ≡ b → P y (put f x a y)
-    by_cases true t = rw t (subst (λ z. P z a) (eqb-true x y t) here)
-    by_cases false t = rw t (old y (λ e. differ y t e))
-      where
-        differ : (y : ℕ) → eqb x y ≡ false → x ≡ y → ⊥
-        differ y t e = grind (arith, nat_tests)
 
 true_or : (f : ℕ → Bool) (x y : ℕ) → (x ≡ y → ⊥) → put f x true y ≡ true → f y ≡ true
 true_or f x y n h = sym (put_other f x true y n) ∙ h

@@ -8,7 +8,6 @@ use Rattle.ens_base.specs.Lists.{◌∈◌}
 use Rattle.joint_views.specs.Quorums.{is_majority, is_quorum, is_in, has_all}
 use Rattle.election_laws.proofs.Sound.{run_sound}
 use Rattle.version_laws.proofs.Trees.{run_versions}
-use Rattle.abstract_protocol.specs.Objects.{Map}
 use Rattle.abstract_protocol.specs.Protocol.{State, Step, Raise, Elect, Accept, Install, EndSync, happens, IsRun, state_after}
 use Rattle.abstract_protocol.specs.Ledger.{IsNew, put}
 use Rattle.sync_laws.proofs.Keeping.{first_stays}
@@ -18,7 +17,7 @@ use Rattle.sync_laws.proofs.Trust as trust
 use Rattle.sync_laws.proofs.Electing as electing
 use Rattle.sync_laws.proofs.Changing as changing
 use Rattle.sync_laws.specs.Facts.{Fact, Lines, AreFirm, IsOrderly, IsTrue, IsFirst, place_of, at_ballot, first_of, next_ballot, count_of}
-use Rattle.sync_laws.specs.Trees.{Part, Tree, IsScan, Shows}
+use Rattle.sync_laws.specs.Trees.{Tree, IsScan, Shows, Scan}
 use Rattle.sync_laws.specs.Syncs.{Sync, IsOver, with_ask, new_sync, sources_of, merged_of, has_finished, is_sure}
 use Rattle.sync_laws.specs.Peers.{Phase, Following, Probing, Preparing, Starting, Leading, Peer, PeerHolds, MaySync, peer_of, with_own, nobody}
 use Rattle.sync_laws.specs.Moves.{IsPeerMove}
@@ -91,13 +90,13 @@ module _ (view : List ℕ) (steps : List Step) (run : IsRun view steps) (g : Lin
   now = state_after view steps
 
   -- a sync starts, and may be over
-  starts_over : (phase : Phase) (sync : Option Sync) (n : Fact) (scan : Map) (broken : Part) (damaged differs : Bool) → IsFirst now.objects.ledger n → n.epoch ≡ f.ballot → f.epoch < n.epoch → MaySync phase → IsScan t scan broken damaged → Differs (new_sync n scan broken damaged) differs → PeerHolds g now.objects p (peer_of f t trusted phase sync)
-      → IsPeerMove g now p (outcome p f t trusted phase (new_sync n scan broken damaged) differs).steps (outcome p f t trusted phase (new_sync n scan broken damaged) differs).peer
-  starts_over phase sync n scan broken damaged differs first stands newer may found same a = outcomes view steps run g p f t trusted phase (new_sync n scan broken damaged) differs orderly firm same (syncing.starts_sync g now (run_versions view steps run) p f t trusted phase sync n scan broken damaged first stands newer may found a)
+  starts_over : (phase : Phase) (sync : Option Sync) (n : Fact) (scan : Scan) (differs : Bool) → IsFirst now.objects.ledger n → n.epoch ≡ f.ballot → f.epoch < n.epoch → MaySync phase → IsScan t scan → Differs (new_sync n scan) differs → PeerHolds g now.objects p (peer_of f t trusted phase sync)
+      → IsPeerMove g now p (outcome p f t trusted phase (new_sync n scan) differs).steps (outcome p f t trusted phase (new_sync n scan) differs).peer
+  starts_over phase sync n scan differs first stands newer may found same a = outcomes view steps run g p f t trusted phase (new_sync n scan) differs orderly firm same (syncing.starts_sync g now (run_versions view steps run) p f t trusted phase sync n scan first stands newer may found a)
 
-pub announces : (view : List ℕ) (steps : List Step) (run : IsRun view steps) (g : Lines) (p : ℕ) (f : Fact) (t : Tree) (trusted : Bool) (phase : Phase) (sync : Option Sync) (n : Fact) (scan : Map) (broken : Part) (damaged differs may : Bool) → IsOrderly g (state_after view steps).objects.ledger → AreFirm g → IsFirst (state_after view steps).objects.ledger n → IsScan t scan broken damaged → Differs (new_sync n scan broken damaged) differs → May p trusted n may
-    → PeerHolds g (state_after view steps).objects p (peer_of f t trusted phase sync) → IsPeerMove g (state_after view steps) p (announced p f t trusted phase sync n scan broken damaged differs may).steps (announced p f t trusted phase sync n scan broken damaged differs may).peer
-announces view steps run g p f t trusted phase sync n scan broken damaged differs may orderly firm first found same allows a = low (nat_lt n.epoch f.ballot) refl
+pub announces : (view : List ℕ) (steps : List Step) (run : IsRun view steps) (g : Lines) (p : ℕ) (f : Fact) (t : Tree) (trusted : Bool) (phase : Phase) (sync : Option Sync) (n : Fact) (scan : Scan) (differs may : Bool) → IsOrderly g (state_after view steps).objects.ledger → AreFirm g → IsFirst (state_after view steps).objects.ledger n → IsScan t scan → Differs (new_sync n scan) differs → May p trusted n may
+    → PeerHolds g (state_after view steps).objects p (peer_of f t trusted phase sync) → IsPeerMove g (state_after view steps) p (announced p f t trusted phase sync n scan differs may).steps (announced p f t trusted phase sync n scan differs may).peer
+announces view steps run g p f t trusted phase sync n scan differs may orderly firm first found same allows a = low (nat_lt n.epoch f.ballot) refl
   where
     s : State
     s = state_after view steps
@@ -120,29 +119,29 @@ announces view steps run g p f t trusted phase sync n scan broken damaged differ
     equal : (x y : ℕ) → y ≤ x → x ≤ y → x ≡ y
     equal x y l m = omega arith
 
-    by_running : f.ballot ≤ n.epoch → n.epoch ≤ f.ballot → f.epoch < n.epoch → (y : Option Sync) → PeerHolds g s.objects p (peer_of f t trusted phase y) → IsPeerMove g s p (by_sync p f t trusted y n scan broken damaged differs).steps (by_sync p f t trusted y n scan broken damaged differs).peer
+    by_running : f.ballot ≤ n.epoch → n.epoch ≤ f.ballot → f.epoch < n.epoch → (y : Option Sync) → PeerHolds g s.objects p (peer_of f t trusted phase y) → IsPeerMove g s p (by_sync p f t trusted y n scan differs).steps (by_sync p f t trusted y n scan differs).peer
     by_running l m newer (Some y) h = stays_at g s p (peer_of f t trusted Following (Some y)) (syncing.resumes g s (run_versions view steps run) p f t trusted phase (Some y) h)
-    by_running l m newer None h = starts_over view steps run g p f t trusted firm orderly Following None n scan broken damaged differs first (equal n.epoch f.ballot l m) newer tt found same (trust.follows g s p f t trusted phase None h)
+    by_running l m newer None h = starts_over view steps run g p f t trusted firm orderly Following None n scan differs first (equal n.epoch f.ballot l m) newer tt found same (trust.follows g s p f t trusted phase None h)
 
-    above : f.ballot ≤ n.epoch → f.epoch < n.epoch → (b : Bool) → nat_lt f.ballot n.epoch ≡ b → IsPeerMove g s p (by_above p f t trusted sync n scan broken damaged differs b).steps (by_above p f t trusted sync n scan broken damaged differs b).peer
-    above l newer true e = move_then g s p (Raise p n.epoch ∷ []) (outcome p (at_ballot f n.epoch) t trusted Following (new_sync n scan broken damaged) differs).steps (peer_of (at_ballot f n.epoch) t trusted Following None) (outcome p (at_ballot f n.epoch) t trusted Following (new_sync n scan broken damaged) differs).peer (raised l) (starts_over view (Raise p n.epoch ∷ steps) (after_raise l) g p (at_ballot f n.epoch) t trusted firm (still l) Following None n scan broken damaged differs (firsts l) refl newer tt found same (raised l).holds)
+    above : f.ballot ≤ n.epoch → f.epoch < n.epoch → (b : Bool) → nat_lt f.ballot n.epoch ≡ b → IsPeerMove g s p (by_above p f t trusted sync n scan differs b).steps (by_above p f t trusted sync n scan differs b).peer
+    above l newer true e = move_then g s p (Raise p n.epoch ∷ []) (outcome p (at_ballot f n.epoch) t trusted Following (new_sync n scan) differs).steps (peer_of (at_ballot f n.epoch) t trusted Following None) (outcome p (at_ballot f n.epoch) t trusted Following (new_sync n scan) differs).peer (raised l) (starts_over view (Raise p n.epoch ∷ steps) (after_raise l) g p (at_ballot f n.epoch) t trusted firm (still l) Following None n scan differs (firsts l) refl newer tt found same (raised l).holds)
     above l newer false e = by_running l (not_low f.ballot n.epoch e) newer sync a
 
-    allowed : f.ballot ≤ n.epoch → f.epoch < n.epoch → (b : Bool) → may ≡ b → IsPeerMove g s p (by_may p f t trusted sync n scan broken damaged differs b).steps (by_may p f t trusted sync n scan broken damaged differs b).peer
+    allowed : f.ballot ≤ n.epoch → f.epoch < n.epoch → (b : Bool) → may ≡ b → IsPeerMove g s p (by_may p f t trusted sync n scan differs b).steps (by_may p f t trusted sync n scan differs b).peer
     allowed l newer true e = move_then g s p (Raise p n.epoch ∷ []) (Accept p n.epoch ∷ []) (peer_of (at_ballot f n.epoch) t trusted Following None) (peer_of n t true Following None) (raised l) (electing.accepts g (happens s (Raise p n.epoch)) (run_sound view (Raise p n.epoch ∷ steps) (after_raise l)) p (at_ballot f n.epoch) t trusted Following None (raised l).holds n (firsts l) refl newer (allows e).0 (allows e).1 tt)
     allowed l newer false e = above l newer (nat_lt f.ballot n.epoch) refl
 
-    as_own : f.ballot ≤ n.epoch → (b : Bool) → (n.epoch == f.epoch) ≡ b → IsPeerMove g s p (by_same p f t trusted sync n scan broken damaged differs may b).steps (by_same p f t trusted sync n scan broken damaged differs may b).peer
+    as_own : f.ballot ≤ n.epoch → (b : Bool) → (n.epoch == f.epoch) ≡ b → IsPeerMove g s p (by_same p f t trusted sync n scan differs may b).steps (by_same p f t trusted sync n scan differs may b).peer
     as_own l true e = stays_at g s p (peer_of f t trusted Following sync) (syncing.resumes g s (run_versions view steps run) p f t trusted phase sync a)
     as_own l false e = allowed l (strict l a.saved.known.below (differ n.epoch f.epoch e)) may refl
 
-    low : (b : Bool) → nat_lt n.epoch f.ballot ≡ b → IsPeerMove g s p (by_low p f t trusted phase sync n scan broken damaged differs may b).steps (by_low p f t trusted phase sync n scan broken damaged differs may b).peer
+    low : (b : Bool) → nat_lt n.epoch f.ballot ≡ b → IsPeerMove g s p (by_low p f t trusted phase sync n scan differs may b).steps (by_low p f t trusted phase sync n scan differs may b).peer
     low true e = stays_at g s p (peer_of f t trusted phase sync) a
     low false e = as_own (not_low n.epoch f.ballot e) (n.epoch == f.epoch) refl
 
-pub votes : (view : List ℕ) (steps : List Step) (run : IsRun view steps) (g : Lines) (p : ℕ) (f : Fact) (t : Tree) (trusted : Bool) (base : Fact) (promises : ℕ → Bool) (scan : Map) (broken : Part) (damaged differs may : Bool) → IsOrderly g (state_after view steps).objects.ledger → AreFirm g → IsScan t scan broken damaged → Differs (new_sync (first_of f.ballot base) scan broken damaged) differs → May p trusted (first_of f.ballot base) may
-    → PeerHolds g (state_after view steps).objects p (peer_of f t trusted (Preparing base promises) None) → IsPeerMove g (state_after view steps) p (voted p f t trusted base promises scan broken damaged differs may).steps (voted p f t trusted base promises scan broken damaged differs may).peer
-votes view steps run g p f t trusted base promises scan broken damaged differs may orderly firm found same allows a = by_quorum (is_quorum promises base.views) refl
+pub votes : (view : List ℕ) (steps : List Step) (run : IsRun view steps) (g : Lines) (p : ℕ) (f : Fact) (t : Tree) (trusted : Bool) (base : Fact) (promises : ℕ → Bool) (scan : Scan) (differs may : Bool) → IsOrderly g (state_after view steps).objects.ledger → AreFirm g → IsScan t scan → Differs (new_sync (first_of f.ballot base) scan) differs → May p trusted (first_of f.ballot base) may
+    → PeerHolds g (state_after view steps).objects p (peer_of f t trusted (Preparing base promises) None) → IsPeerMove g (state_after view steps) p (voted p f t trusted base promises scan differs may).steps (voted p f t trusted base promises scan differs may).peer
+votes view steps run g p f t trusted base promises scan differs may orderly firm found same allows a = by_quorum (is_quorum promises base.views) refl
   where
     s : State
     s = state_after view steps
@@ -165,17 +164,17 @@ votes view steps run g p f t trusted base promises scan broken damaged differs m
     then_run : (q : is_quorum promises base.views ≡ true) → IsRun view (step ∷ steps)
     then_run q = (run, (elected q).may.0)
 
-    allowed : (q : is_quorum promises base.views ≡ true) (b : Bool) → may ≡ b → IsPeerMove g next p (by_may_start p f t trusted n scan broken damaged differs b).steps (by_may_start p f t trusted n scan broken damaged differs b).peer
+    allowed : (q : is_quorum promises base.views ≡ true) (b : Bool) → may ≡ b → IsPeerMove g next p (by_may_start p f t trusted n scan differs b).steps (by_may_start p f t trusted n scan differs b).peer
     allowed q true e = leads_after view (step ∷ steps) (then_run q) g p (Accept p n.epoch) n t true (with_own p (Starting n nobody)) (electing.accepts g next (run_sound view (step ∷ steps) (then_run q)) p f t trusted (Starting n nobody) None (elected q).holds n (elected q).holds.mode.0.started.first refl newer (allows e).0 (allows e).1 tt)
-    allowed q false e = starts_over view (step ∷ steps) (then_run q) g p f t trusted firm (orderly_step g s.objects p step (run_sound view steps run) (elected q).may.0.0 (elected q).own.0 orderly) (Starting n nobody) None n scan broken damaged differs (elected q).holds.mode.0.started.first refl newer tt found same (elected q).holds
+    allowed q false e = starts_over view (step ∷ steps) (then_run q) g p f t trusted firm (orderly_step g s.objects p step (run_sound view steps run) (elected q).may.0.0 (elected q).own.0 orderly) (Starting n nobody) None n scan differs (elected q).holds.mode.0.started.first refl newer tt found same (elected q).holds
 
-    by_quorum : (b : Bool) → is_quorum promises base.views ≡ b → IsPeerMove g s p (by_votes p f t trusted base promises scan broken damaged differs may b).steps (by_votes p f t trusted base promises scan broken damaged differs may b).peer
-    by_quorum true e = move_then g s p (step ∷ []) (by_may_start p f t trusted n scan broken damaged differs may).steps (peer_of f t trusted (Starting n nobody) None) (by_may_start p f t trusted n scan broken damaged differs may).peer (elected e) (allowed e may refl)
+    by_quorum : (b : Bool) → is_quorum promises base.views ≡ b → IsPeerMove g s p (by_votes p f t trusted base promises scan differs may b).steps (by_votes p f t trusted base promises scan differs may b).peer
+    by_quorum true e = move_then g s p (step ∷ []) (by_may_start p f t trusted n scan differs may).steps (peer_of f t trusted (Starting n nobody) None) (by_may_start p f t trusted n scan differs may).peer (elected e) (allowed e may refl)
     by_quorum false e = stays_at g s p (peer_of f t trusted (Preparing base promises) None) a
 
-pub prepares : (view : List ℕ) (steps : List Step) (run : IsRun view steps) (g : Lines) (p : ℕ) (f : Fact) (t : Tree) (trusted : Bool) (phase : Phase) (sync : Option Sync) (best : Fact) (count : ℕ) (scan : Map) (broken : Part) (damaged differs may : Bool) → IsOrderly g (state_after view steps).objects.ledger → AreFirm g → p < 2 ^ 32 → IsTrue (state_after view steps).objects.ledger best → f.epoch ≤ best.epoch → count_of best.ballot ≤ count → count_of f.ballot ≤ count
-    → IsScan t scan broken damaged → Differs (new_sync (first_of (next_ballot count p) best) scan broken damaged) differs → May p trusted (first_of (next_ballot count p) best) may → PeerHolds g (state_after view steps).objects p (peer_of f t trusted phase sync) → IsPeerMove g (state_after view steps) p (prepared p f t trusted best count scan broken damaged differs may).steps (prepared p f t trusted best count scan broken damaged differs may).peer
-prepares view steps run g p f t trusted phase sync best count scan broken damaged differs may orderly firm small known newer counts own found same allows a = move_then g s p (step ∷ []) later.steps (peer_of (at_ballot f (next_ballot count p)) t trusted (Preparing best (put nobody p true)) None) later.peer raised (votes view (step ∷ steps) (run, raised.may.0) g p (at_ballot f (next_ballot count p)) t trusted best (put nobody p true) scan broken damaged differs may (orderly_step g s.objects p step (run_sound view steps run) raised.may.0.0 refl orderly) firm found same allows raised.holds)
+pub prepares : (view : List ℕ) (steps : List Step) (run : IsRun view steps) (g : Lines) (p : ℕ) (f : Fact) (t : Tree) (trusted : Bool) (phase : Phase) (sync : Option Sync) (best : Fact) (count : ℕ) (scan : Scan) (differs may : Bool) → IsOrderly g (state_after view steps).objects.ledger → AreFirm g → p < 2 ^ 32 → IsTrue (state_after view steps).objects.ledger best → f.epoch ≤ best.epoch → count_of best.ballot ≤ count → count_of f.ballot ≤ count
+    → IsScan t scan → Differs (new_sync (first_of (next_ballot count p) best) scan) differs → May p trusted (first_of (next_ballot count p) best) may → PeerHolds g (state_after view steps).objects p (peer_of f t trusted phase sync) → IsPeerMove g (state_after view steps) p (prepared p f t trusted best count scan differs may).steps (prepared p f t trusted best count scan differs may).peer
+prepares view steps run g p f t trusted phase sync best count scan differs may orderly firm small known newer counts own found same allows a = move_then g s p (step ∷ []) later.steps (peer_of (at_ballot f (next_ballot count p)) t trusted (Preparing best (put nobody p true)) None) later.peer raised (votes view (step ∷ steps) (run, raised.may.0) g p (at_ballot f (next_ballot count p)) t trusted best (put nobody p true) scan differs may (orderly_step g s.objects p step (run_sound view steps run) raised.may.0.0 refl orderly) firm found same allows raised.holds)
   where
     s : State
     s = state_after view steps
@@ -184,7 +183,7 @@ prepares view steps run g p f t trusted phase sync best count scan broken damage
     step = Raise p (next_ballot count p)
 
     later : Moved
-    later = voted p (at_ballot f (next_ballot count p)) t trusted best (put nobody p true) scan broken damaged differs may
+    later = voted p (at_ballot f (next_ballot count p)) t trusted best (put nobody p true) scan differs may
 
     raised : IsPeerMove g s p (step ∷ []) (peer_of (at_ballot f (next_ballot count p)) t trusted (Preparing best (put nobody p true)) None)
     raised = electing.prepares g s (run_sound view steps run) p f t trusted phase sync a orderly best count small known newer counts own
@@ -215,7 +214,7 @@ pub run_rules : (view : List ℕ) (steps : List Step) (g : Lines) (p : ℕ) (f :
 run_rules view steps g p f t trusted run orderly firm = record {
   outcomes = λ phase y differs same a. outcomes view steps run g p f t trusted phase y differs orderly firm same a;
   gives = λ phase y q flag shown b differs says counted same a. outcomes view steps run g p f t trusted phase (with_ask y q b) differs orderly firm same (syncing.counts g (state_after view steps) (run_versions view steps run) p f t trusted phase y q flag shown b says counted a);
-  announces = λ phase sync n scan broken damaged differs may first found same allows a. announces view steps run g p f t trusted phase sync n scan broken damaged differs may orderly firm first found same allows a;
-  votes = λ base promises scan broken damaged differs may found same allows a. votes view steps run g p f t trusted base promises scan broken damaged differs may orderly firm found same allows a;
-  prepares = λ phase sync best count scan broken damaged differs may small known newer counts own found same allows a. prepares view steps run g p f t trusted phase sync best count scan broken damaged differs may orderly firm small known newer counts own found same allows a;
+  announces = λ phase sync n scan differs may first found same allows a. announces view steps run g p f t trusted phase sync n scan differs may orderly firm first found same allows a;
+  votes = λ base promises scan differs may found same allows a. votes view steps run g p f t trusted base promises scan differs may orderly firm found same allows a;
+  prepares = λ phase sync best count scan differs may small known newer counts own found same allows a. prepares view steps run g p f t trusted phase sync best count scan differs may orderly firm small known newer counts own found same allows a;
 }

@@ -43,7 +43,7 @@ run_peers view steps run = let s = state_after view steps in let sound = run_sou
 pub run_syncs : (view : List ℕ) (steps : List Step) (g : Lines) (p : ℕ) (f : Fact) (t : Tree) (trusted : Bool) → IsRun view steps → SyncMoves (state_after view steps) g p f t trusted
 run_syncs view steps g p f t trusted run = let s = state_after view steps in let v = run_versions view steps run in record {
   give_says = λ phase sync verifies a. syncing.give_says g s v p f t trusted phase sync verifies a;
-  starts = λ phase sync n scan broken damaged first stands newer may found a. syncing.starts_sync g s v p f t trusted phase sync n scan broken damaged first stands newer may found a;
+  starts = λ phase sync n scan first stands newer may found a. syncing.starts_sync g s v p f t trusted phase sync n scan first stands newer may found a;
   resumes = λ phase sync a. syncing.resumes g s v p f t trusted phase sync a;
   counts = λ phase y q flag shown b says counts a. syncing.counts g s v p f t trusted phase y q flag shown b says counts a;
   asks_anew = λ phase y q stage waits a. syncing.asks_anew g s v p f t trusted phase y q stage waits a;

@@ -4,16 +4,16 @@ use Rattle.version_laws.proofs.Stays.{versions_step, genuine_stays}
 use Rattle.std.proofs.lemmas.Bool.Decides.{nat_tests}
 use Rattle.ens_base.specs.Lists.{◌∈◌}
 use Rattle.ens_base.specs.Views.{last_view}
-use Rattle.version_laws.proofs.Maps.{put_here}
+use Rattle.version_laws.proofs.Maps.{put_here, put_then}
 use Rattle.version_laws.specs.Versions.{VersionsAreSafe}
 use Rattle.abstract_protocol.specs.Ledger.{Place, Ledger, put, mark, MayJoin}
 use Rattle.abstract_protocol.specs.Objects.{Map, Objects, IsGenuine, IsHonest, IsSynced, MayInstall, MayEndSync, install}
 use Rattle.abstract_protocol.specs.Protocol.{State, Step, Install, EndSync, happens, objects_after}
 use Rattle.sync_laws.proofs.Covered.{give_counts, new_ask_holds, gathered_genuine, synced}
 use Rattle.sync_laws.proofs.Keeping.{first_stays, tree_stays}
-use Rattle.sync_laws.proofs.Orderly.{last_votes, put_then, move_then}
+use Rattle.sync_laws.proofs.Orderly.{last_votes, move_then}
 use Rattle.sync_laws.specs.Facts.{Fact, Lines, AreFirm, IsOrderly, IsFirst}
-use Rattle.sync_laws.specs.Trees.{Part, Tree, IsScan, Shows, shows_now}
+use Rattle.sync_laws.specs.Trees.{Tree, IsScan, Shows, shows_now, Scan}
 use Rattle.sync_laws.specs.Syncs.{Stage, Open, Asking, Sync, AskHolds, IsOver, is_finished, new_ask, with_ask, new_sync, sources_of, merged_of}
 use Rattle.sync_laws.specs.Exchange.{Counts}
 use Rattle.sync_laws.specs.Peers.{Phase, Following, Probing, Preparing, Starting, Leading, MaySync, SyncsHold, PhaseHolds, PeerHolds, peer_of, with_own}
@@ -46,7 +46,7 @@ module _ (g : Lines) (s : State) (versions : VersionsAreSafe s.objects) (p : ℕ
 
   -- ## Asks
 
-  ask_set : (y : Sync) (q : ℕ) (b : Asking) → AskHolds g s.objects y.fact.epoch y.scan q b → PeerHolds g s.objects p (peer_of f t trusted phase (Some y)) → PeerHolds g s.objects p (peer_of f t trusted phase (Some (with_ask y q b)))
+  ask_set : (y : Sync) (q : ℕ) (b : Asking) → AskHolds g s.objects y.fact.epoch y.scan.entries q b → PeerHolds g s.objects p (peer_of f t trusted phase (Some y)) → PeerHolds g s.objects p (peer_of f t trusted phase (Some (with_ask y q b)))
   ask_set y q b new a = record {
     saved = a.saved;
     trusted = a.trusted;
@@ -62,7 +62,7 @@ module _ (g : Lines) (s : State) (versions : VersionsAreSafe s.objects) (p : ℕ
           found = a.mode.1.0.found;
           scanned = a.mode.1.0.scanned;
           whole = a.mode.1.0.whole;
-          asks = put_then y.asks q b (AskHolds g s.objects y.fact.epoch y.scan) new (λ r n. a.mode.1.0.asks r);
+          asks = put_then y.asks q b (AskHolds g s.objects y.fact.epoch y.scan.entries) new (λ r n. a.mode.1.0.asks r);
         },
         a.mode.1.1,
       ),
@@ -70,17 +70,17 @@ module _ (g : Lines) (s : State) (versions : VersionsAreSafe s.objects) (p : ℕ
   }
 
   -- a give is counted
-  pub counts : (y : Sync) (q : ℕ) (flag : Bool) (shown : Map) (b : Asking) → GiveSays g s.objects q y.fact.epoch flag shown → Counts shown y.scan flag (y.asks q) b → PeerHolds g s.objects p (peer_of f t trusted phase (Some y)) → PeerHolds g s.objects p (peer_of f t trusted phase (Some (with_ask y q b)))
-  counts y q flag shown b says counted a = ask_set y q b (give_counts g s.objects y.fact.epoch y.scan q flag shown (y.asks q) b says counted (a.mode.1.0.asks q)) a
+  pub counts : (y : Sync) (q : ℕ) (flag : Bool) (shown : Map) (b : Asking) → GiveSays g s.objects q y.fact.epoch flag shown → Counts shown y.scan.entries flag (y.asks q) b → PeerHolds g s.objects p (peer_of f t trusted phase (Some y)) → PeerHolds g s.objects p (peer_of f t trusted phase (Some (with_ask y q b)))
+  counts y q flag shown b says counted a = ask_set y q b (give_counts g s.objects y.fact.epoch y.scan.entries q flag shown (y.asks q) b says counted (a.mode.1.0.asks q)) a
 
   -- a source is dropped, or asked anew
   pub asks_anew : (y : Sync) (q : ℕ) (stage : Stage) → is_finished stage ≡ false → PeerHolds g s.objects p (peer_of f t trusted phase (Some y)) → PeerHolds g s.objects p (peer_of f t trusted phase (Some (with_ask y q (new_ask stage))))
-  asks_anew y q stage waits a = ask_set y q (new_ask stage) (new_ask_holds g s.objects y.fact.epoch y.scan q stage waits) a
+  asks_anew y q stage waits a = ask_set y q (new_ask stage) (new_ask_holds g s.objects y.fact.epoch y.scan.entries q stage waits) a
 
   -- ## The start of a sync
 
-  pub starts_sync : (sync : Option Sync) (n : Fact) (scan : Map) (broken : Part) (damaged : Bool) → IsFirst s.objects.ledger n → n.epoch ≡ f.ballot → f.epoch < n.epoch → MaySync phase → IsScan t scan broken damaged → PeerHolds g s.objects p (peer_of f t trusted phase sync) → PeerHolds g s.objects p (peer_of f t trusted phase (Some (new_sync n scan broken damaged)))
-  starts_sync sync n scan broken damaged first stands newer may found a = record {
+  pub starts_sync : (sync : Option Sync) (n : Fact) (scan : Scan) → IsFirst s.objects.ledger n → n.epoch ≡ f.ballot → f.epoch < n.epoch → MaySync phase → IsScan t scan → PeerHolds g s.objects p (peer_of f t trusted phase sync) → PeerHolds g s.objects p (peer_of f t trusted phase (Some (new_sync n scan)))
+  starts_sync sync n scan first stands newer may found a = record {
     saved = a.saved;
     trusted = a.trusted;
     tree = a.tree;
@@ -93,18 +93,18 @@ module _ (g : Lines) (s : State) (versions : VersionsAreSafe s.objects) (p : ℕ
           stands = stands;
           newer = newer;
           found = found;
-          scanned = λ k. scanned k (broken k) refl;
-          whole = λ none sure k. subst (λ d. s.objects.floor p d k ≤ scan k) (sym stands) (subst (λ v. s.objects.floor p f.ballot k ≤ v) (sym (found.entries k (found.whole none k))) (shown_floor sync (found.verifies none) a sure k));
-          asks = λ q. new_ask_holds g s.objects n.epoch scan q Open refl;
+          scanned = λ k. scanned k (scan.broken k) refl;
+          whole = λ none sure k. subst (λ d. s.objects.floor p d k ≤ scan.entries k) (sym stands) (subst (λ v. s.objects.floor p f.ballot k ≤ v) (sym (found.entries k (found.whole none k))) (shown_floor sync (found.verifies none) a sure k));
+          asks = λ q. new_ask_holds g s.objects n.epoch scan.entries q Open refl;
         },
         may,
       ),
     );
   }
     where
-      scanned : (k : List ℕ) (b : Bool) → broken k ≡ b → IsGenuine s.objects n.epoch k (scan k)
+      scanned : (k : List ℕ) (b : Bool) → scan.broken k ≡ b → IsGenuine s.objects n.epoch k (scan.entries k)
       scanned k true e = inl (found.lost k e)
-      scanned k false e = subst (λ d. IsGenuine s.objects d k (scan k)) (sym stands) (subst (λ v. IsGenuine s.objects f.ballot k v) (sym (found.entries k e)) (shown_genuine sync a k))
+      scanned k false e = subst (λ d. IsGenuine s.objects d k (scan.entries k)) (sym stands) (subst (λ v. IsGenuine s.objects f.ballot k v) (sym (found.entries k e)) (shown_genuine sync a k))
 
   -- a running sync goes on while the peer follows
   pub resumes : (sync : Option Sync) → PeerHolds g s.objects p (peer_of f t trusted phase sync) → PeerHolds g s.objects p (peer_of f t trusted Following sync)

@@ -10,7 +10,7 @@ use Rattle.sync_laws.proofs.Syncing.{shows_already}
 use Rattle.sync_laws.proofs.States.{run_syncs, run_trust, run_stops, run_terms, run_any, peers_open}
 use Rattle.sync_laws.proofs.Runs as runs
 use Rattle.sync_laws.specs.Facts.{Fact, Lines, AreFirm, place_of, at_ballot, first_of, second_of, next_ballot}
-use Rattle.sync_laws.specs.Trees.{Tree, IsScan}
+use Rattle.sync_laws.specs.Trees.{Tree, IsScan, Scan}
 use Rattle.sync_laws.specs.Syncs.{Finished, Asking, Sync, with_ask, new_sync, merged_of}
 use Rattle.sync_laws.specs.Exchange.{Counts}
 use Rattle.sync_laws.specs.Peers.{Following, Preparing, Starting, Leading, Up, Peer, PeerHolds, peer_of, down_of, nobody}
@@ -52,11 +52,11 @@ f1 = at_ballot f0 d1
 abbrev n1 : Fact
 n1 = first_of d1 f0
 
-abbrev nothing : List ℕ → Bool
-nothing k = false
+abbrev clean : Scan
+clean = record { entries = no_entries; broken = λ k. false; damaged = false }
 
 abbrev y1 : Sync
-y1 = new_sync n1 no_entries nothing false
+y1 = new_sync n1 clean
 
 abbrev f2 : Fact
 f2 = second_of n1 (Add both)
@@ -71,9 +71,9 @@ abbrev n2 : Fact
 n2 = first_of d2 f2
 
 abbrev y2 : Sync
-y2 = new_sync n2 no_entries nothing false
+y2 = new_sync n2 clean
 
-found : IsScan t no_entries nothing false
+found : IsScan t clean
 found = record { entries = λ k e. refl; lost = λ k e. refl; whole = λ e k. refl; verifies = λ e. refl }
 
 -- the runs, with one peer, and with both
@@ -112,7 +112,7 @@ elected : Alone (peer_of f1 t false (Preparing f0 me) None) → Alone (peer_of f
 elected a = (put a.0 1 (peer_of f1 t false (Starting n1 nobody) None), refl, a.2, runs.moves g one a.0 [] a.3 1 (Elect d1 (place_of f0) ∷ []) (peer_of f1 t false (Starting n1 nobody) None) ((terms a.0 [] a.3 1 f1 false).elects f0 me None refl (at a.0 [] a.3 1 (peer_of f1 t false (Preparing f0 me) None) a.1)).0)
 
 syncing : Alone (peer_of f1 t false (Starting n1 nobody) None) → Alone (peer_of f1 t false (Starting n1 nobody) (Some y1))
-syncing a = let h = at a.0 [] a.3 1 (peer_of f1 t false (Starting n1 nobody) None) a.1 in (put a.0 1 (peer_of f1 t false (Starting n1 nobody) (Some y1)), refl, a.2, runs.rests g one a.0 [] a.3 1 (peer_of f1 t false (Starting n1 nobody) (Some y1)) ((syncs a.0 [] a.3 1 f1 false).starts (Starting n1 nobody) None n1 no_entries nothing false h.mode.0.started.first refl (lit< tt) tt found h))
+syncing a = let h = at a.0 [] a.3 1 (peer_of f1 t false (Starting n1 nobody) None) a.1 in (put a.0 1 (peer_of f1 t false (Starting n1 nobody) (Some y1)), refl, a.2, runs.rests g one a.0 [] a.3 1 (peer_of f1 t false (Starting n1 nobody) (Some y1)) ((syncs a.0 [] a.3 1 f1 false).starts (Starting n1 nobody) None n1 clean h.mode.0.started.first refl (lit< tt) tt found h))
 
 over_alone : (n : Fact) → n.views ≡ one ∷ [] → (q : ℕ) → q ∈ one → (if 1 == q then true else false) ≡ true
 over_alone n e q (inl same) = rw same refl
@@ -137,7 +137,7 @@ elected_next : Alone (peer_of f3 t true (Preparing f2 me) None) → Alone (peer_
 elected_next a = (put a.0 1 (peer_of f3 t true (Starting n2 nobody) None), refl, a.2, runs.moves g one a.0 [] a.3 1 (Elect d2 (place_of f2) ∷ []) (peer_of f3 t true (Starting n2 nobody) None) ((terms a.0 [] a.3 1 f3 true).elects f2 me None refl (at a.0 [] a.3 1 (peer_of f3 t true (Preparing f2 me) None) a.1)).0)
 
 syncing_next : Alone (peer_of f3 t true (Starting n2 nobody) None) → Alone (peer_of f3 t true (Starting n2 nobody) (Some y2))
-syncing_next a = let h = at a.0 [] a.3 1 (peer_of f3 t true (Starting n2 nobody) None) a.1 in (put a.0 1 (peer_of f3 t true (Starting n2 nobody) (Some y2)), refl, a.2, runs.rests g one a.0 [] a.3 1 (peer_of f3 t true (Starting n2 nobody) (Some y2)) ((syncs a.0 [] a.3 1 f3 true).starts (Starting n2 nobody) None n2 no_entries nothing false h.mode.0.started.first refl (lit< tt) tt found h))
+syncing_next a = let h = at a.0 [] a.3 1 (peer_of f3 t true (Starting n2 nobody) None) a.1 in (put a.0 1 (peer_of f3 t true (Starting n2 nobody) (Some y2)), refl, a.2, runs.rests g one a.0 [] a.3 1 (peer_of f3 t true (Starting n2 nobody) (Some y2)) ((syncs a.0 [] a.3 1 f3 true).starts (Starting n2 nobody) None n2 clean h.mode.0.started.first refl (lit< tt) tt found h))
 
 -- a trusted majority of the old view
 synced_next : Alone (peer_of f3 t true (Starting n2 nobody) (Some y2)) → Alone (peer_of n2 t true (Starting n2 me) None)
@@ -168,7 +168,7 @@ raised : Alone (peer_of n2 t true (Starting n2 me) None) → Two (peer_of n2 t t
 raised a = (put a.0 2 (peer_of g0 t true Following None), [], a.1, refl, runs.moves g one a.0 [] a.3 2 (Raise 2 d2 ∷ []) (peer_of g0 t true Following None) ((trusts a.0 [] a.3 2 f0 true).raises Following None d2 (lit≤ tt) (at a.0 [] a.3 2 (opening_peer one) a.2)))
 
 asks : Two (peer_of n2 t true (Starting n2 me) None) (peer_of g0 t true Following None) → Two (peer_of n2 t true (Starting n2 me) None) (peer_of g0 t true Following (Some y2))
-asks a = (put a.0 2 (peer_of g0 t true Following (Some y2)), a.1, a.2, refl, runs.rests g one a.0 a.1 a.4 2 (peer_of g0 t true Following (Some y2)) ((syncs a.0 a.1 a.4 2 g0 true).starts Following None n2 no_entries nothing false (at a.0 a.1 a.4 1 (peer_of n2 t true (Starting n2 me) None) a.2).mode.0.started.first refl (lit< tt) tt found (at a.0 a.1 a.4 2 (peer_of g0 t true Following None) a.3)))
+asks a = (put a.0 2 (peer_of g0 t true Following (Some y2)), a.1, a.2, refl, runs.rests g one a.0 a.1 a.4 2 (peer_of g0 t true Following (Some y2)) ((syncs a.0 a.1 a.4 2 g0 true).starts Following None n2 clean (at a.0 a.1 a.4 1 (peer_of n2 t true (Starting n2 me) None) a.2).mode.0.started.first refl (lit< tt) tt found (at a.0 a.1 a.4 2 (peer_of g0 t true Following None) a.3)))
 
 gives : Two (peer_of n2 t true (Starting n2 me) None) (peer_of g0 t true Following (Some y2)) → Two (peer_of n2 t true (Starting n2 me) None) (peer_of g0 t true Following (Some y3))
 gives a = (put a.0 2 (peer_of g0 t true Following (Some y3)), a.1, a.2, refl, runs.rests g one a.0 a.1 a.4 2 (peer_of g0 t true Following (Some y3)) ((syncs a.0 a.1 a.4 2 g0 true).counts Following y2 1 true no_entries done ((syncs a.0 a.1 a.4 1 n2 true).give_says (Starting n2 me) None refl (at a.0 a.1 a.4 1 (peer_of n2 t true (Starting n2 me) None) a.2)) counted (at a.0 a.1 a.4 2 (peer_of g0 t true Following (Some y2)) a.3)))

@@ -8,7 +8,7 @@ use Rattle.abstract_protocol.specs.Ledger.{Change, IsNew, put}
 use Rattle.abstract_protocol.specs.Objects.{Map, epoch_of, set_entry, IsGenuine, IsHonest, MayWrite, MayAcknowledge}
 use Rattle.abstract_protocol.specs.Protocol.{State, Step, Raise, Elect, Accept, Commit, Adopt, Write, Acknowledge, Install, EndSync, Propose, Lose, Revert, happens, opening, MayCome, IsRun, state_after, after, MayAll}
 use Rattle.sync_laws.specs.Facts.{Fact, Lines, AreFirm, Fits, IsOrderly, IsTrue, IsFirst, IsSecond, place_of, at_ballot, first_of, second_of, count_of, next_ballot}
-use Rattle.sync_laws.specs.Trees.{Part, Tree, IsScan, Shows, shows_now}
+use Rattle.sync_laws.specs.Trees.{Part, Tree, IsScan, Shows, shows_now, Scan}
 use Rattle.sync_laws.specs.Syncs.{Stage, Asking, Sync, AskHolds, SyncHolds, IsOver, is_finished, is_sure, sources_of, new_ask, with_ask, new_sync, merged_of}
 use Rattle.sync_laws.specs.Exchange.{Counts, Answers, Kid, page_ask, inner_ask}
 use Rattle.sync_laws.specs.Peers.{Phase, Following, Probing, Preparing, Starting, Leading, Mode, Up, Peer, MaySync, PeerHolds, IsIdle, peer_of, down_of, with_own, nobody, unled}
@@ -50,9 +50,9 @@ module _ (s : State) (g : Lines) (p : ℕ) (f : Fact) (t : Tree) (trusted : Bool
     -- a give without damage says what it shows
     pub give_says : (phase : Phase) (sync : Option Sync) → t.intact ≡ true → Runs phase sync → GiveSays g s.objects p f.ballot trusted t.top
     -- a sync starts, goes on in another phase, counts a give, and asks a source anew
-    pub starts : (phase : Phase) (sync : Option Sync) (n : Fact) (scan : Map) (broken : Part) (damaged : Bool) → IsFirst s.objects.ledger n → n.epoch ≡ f.ballot → f.epoch < n.epoch → MaySync phase → IsScan t scan broken damaged → Runs phase sync → Runs phase (Some (new_sync n scan broken damaged))
+    pub starts : (phase : Phase) (sync : Option Sync) (n : Fact) (scan : Scan) → IsFirst s.objects.ledger n → n.epoch ≡ f.ballot → f.epoch < n.epoch → MaySync phase → IsScan t scan → Runs phase sync → Runs phase (Some (new_sync n scan))
     pub resumes : (phase : Phase) (sync : Option Sync) → Runs phase sync → Runs Following sync
-    pub counts : (phase : Phase) (y : Sync) (q : ℕ) (flag : Bool) (shown : Map) (b : Asking) → GiveSays g s.objects q y.fact.epoch flag shown → Counts shown y.scan flag (y.asks q) b → Runs phase (Some y) → Runs phase (Some (with_ask y q b))
+    pub counts : (phase : Phase) (y : Sync) (q : ℕ) (flag : Bool) (shown : Map) (b : Asking) → GiveSays g s.objects q y.fact.epoch flag shown → Counts shown y.scan.entries flag (y.asks q) b → Runs phase (Some y) → Runs phase (Some (with_ask y q b))
     pub asks_anew : (phase : Phase) (y : Sync) (q : ℕ) (stage : Stage) → is_finished stage ≡ false → Runs phase (Some y) → Runs phase (Some (with_ask y q (new_ask stage)))
     -- it ends, by either of its endings; where the save of the fact is refused, the tree alone is there
     pub ends : (u : Tree) (phase : Phase) (y : Sync) → IsOrderly g s.objects.ledger → AreFirm g → IsOver p trusted y → Shows t (merged_of y) u → Runs phase (Some y) → Moves (Install p y.fact.epoch (merged_of y) ∷ EndSync p y.fact.epoch ∷ []) (peer_of y.fact u true (with_own p phase) None)
@@ -166,7 +166,7 @@ pub record ExchangeAnswers : Type 0 where
   pub inner : (shown scan : Map) (a : Asking) (part rest : Part) (kids : List Kid) → ((k : List ℕ) → a.left k ≡ (part k || rest k)) → ((k : List ℕ) → part k ≡ true → 0 < shown k → (kid : Kid) × (kid ∈ kids) × (kid.part k ≡ true))
       → ((kid : Kid) → kid ∈ kids → kid.skip ≡ true → (k : List ℕ) → kid.part k ≡ true → shown k ≤ scan k) → Answers shown scan a (inner_ask a kids rest)
   -- the own scan has as much under a child if both maps agree there, and nothing there is damaged
-  pub skip : (shown scan : Map) (t : Tree) (broken : Part) (damaged : Bool) (kid : Kid) → IsScan t scan broken damaged → ((k : List ℕ) → kid.part k ≡ true → shown k ≡ t.top k) → ((k : List ℕ) → kid.part k ≡ true → broken k ≡ false) → (k : List ℕ) → kid.part k ≡ true → shown k ≤ scan k
+  pub skip : (shown : Map) (t : Tree) (scan : Scan) (kid : Kid) → IsScan t scan → ((k : List ℕ) → kid.part k ≡ true → shown k ≡ t.top k) → ((k : List ℕ) → kid.part k ≡ true → scan.broken k ≡ false) → (k : List ℕ) → kid.part k ≡ true → shown k ≤ scan.entries k
   -- a give that answers may be counted
   pub counts : (shown scan : Map) (flag : Bool) (a b : Asking) → Answers shown scan a b → b.flagged ≡ (a.flagged && flag) → (is_finished b.stage ≡ true → (k : List ℕ) → b.left k ≡ false) → Counts shown scan flag a b
 

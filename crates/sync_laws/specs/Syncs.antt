@@ -6,7 +6,7 @@ use Rattle.joint_views.specs.Quorums.{is_majority}
 use Rattle.abstract_protocol.specs.Ledger.{put}
 use Rattle.abstract_protocol.specs.Objects.{Map, Objects, IsGenuine}
 use Rattle.sync_laws.specs.Facts.{Fact, Lines, IsFirst}
-use Rattle.sync_laws.specs.Trees.{Part, Tree, IsScan}
+use Rattle.sync_laws.specs.Trees.{Tree, IsScan, Scan}
 
 -- how far the questions to a source are
 pub data Stage : Type 0 where
@@ -30,20 +30,18 @@ pub record Asking : Type 0 where
 abbrev pub new_ask : Stage → Asking
 new_ask stage = record { stage = stage; flagged = true; received = λ k. 0; left = λ k. true }
 
--- a running sync: the fact that it will accept, the entries that a scan of the own tree found, the
--- keys under a damaged position, whether there was one, and the questions to each source
+-- a running sync: the fact that it will accept, the scan of the own tree, and the questions to each
+-- source
 pub record Sync : Type 0 where
   pub fact : Fact
-  pub scan : Map
-  pub broken : Part
-  pub damaged : Bool
+  pub scan : Scan
   pub asks : ℕ → Asking
 
 abbrev pub with_ask : Sync → ℕ → Asking → Sync
 with_ask y q a = record y { asks = put y.asks q a }
 
-abbrev pub new_sync : Fact → Map → Part → Bool → Sync
-new_sync n scan broken damaged = record { fact = n; scan = scan; broken = broken; damaged = damaged; asks = λ q. new_ask Open }
+abbrev pub new_sync : Fact → Scan → Sync
+new_sync n scan = record { fact = n; scan = scan; asks = λ q. new_ask Open }
 
 -- the sources: the members of the old view, or of the only one
 abbrev pub sources_of : Sync → List ℕ
@@ -55,7 +53,7 @@ given_by y q k = if is_finished (y.asks q).stage then (y.asks q).received k else
 
 -- the greatest entries of the sources and of the own scan
 abbrev pub gathered : Sync → List ℕ → Map
-gathered y [] k = y.scan k
+gathered y [] k = y.scan.entries k
 gathered y (q ∷ rest) k = max (given_by y q k) (gathered y rest k)
 
 abbrev pub merged_of : Sync → Map
@@ -63,10 +61,10 @@ merged_of y = gathered y (sources_of y)
 
 -- whether a source has finished; the peer itself has, if its scan met no damage
 abbrev pub has_finished : ℕ → Sync → ℕ → Bool
-has_finished p y q = if p == q then not y.damaged else is_finished (y.asks q).stage
+has_finished p y q = if p == q then not y.scan.damaged else is_finished (y.asks q).stage
 
 abbrev pub is_sure : ℕ → Bool → Sync → ℕ → Bool
-is_sure p trusted y q = if p == q then trusted && not y.damaged else is_finished (y.asks q).stage && (y.asks q).flagged
+is_sure p trusted y q = if p == q then trusted && not y.scan.damaged else is_finished (y.asks q).stage && (y.asks q).flagged
 
 -- the sync may end: more than half of the sources have finished and trust their trees, or all have
 -- finished
@@ -92,7 +90,7 @@ pub record SyncHolds (g : Lines) (o : Objects) (p : ℕ) (fact : Fact) (t : Tree
   pub first : IsFirst o.ledger y.fact
   pub stands : y.fact.epoch ≡ fact.ballot
   pub newer : fact.epoch < y.fact.epoch
-  pub found : IsScan t y.scan y.broken y.damaged
-  pub scanned : (k : List ℕ) → IsGenuine o y.fact.epoch k (y.scan k)
-  pub whole : y.damaged ≡ false → (trusted || g.firm p) ≡ true → (k : List ℕ) → o.floor p y.fact.epoch k ≤ y.scan k
-  pub asks : (q : ℕ) → AskHolds g o y.fact.epoch y.scan q (y.asks q)
+  pub found : IsScan t y.scan
+  pub scanned : (k : List ℕ) → IsGenuine o y.fact.epoch k (y.scan.entries k)
+  pub whole : y.scan.damaged ≡ false → (trusted || g.firm p) ≡ true → (k : List ℕ) → o.floor p y.fact.epoch k ≤ y.scan.entries k
+  pub asks : (q : ℕ) → AskHolds g o y.fact.epoch y.scan.entries q (y.asks q)

@@ -22,12 +22,19 @@ pub record TreeHolds (o : Objects) (p : ℕ) (t : Tree) : Type 0 where
   pub shown : (k : List ℕ) → o.visible p k ≡ t.top k
   pub named : (m : Map) → m ∈ t.named → (k : List ℕ) → IsGenuine o (o.ledger.ballot p) k (m k)
 
--- what the own scan found: the map under the top record, without what is damaged
-pub record IsScan (t : Tree) (scan : Map) (broken : Part) (damaged : Bool) : Type 0 where
-  pub entries : (k : List ℕ) → broken k ≡ false → scan k ≡ t.top k
-  pub lost : (k : List ℕ) → broken k ≡ true → scan k ≡ 0
-  pub whole : damaged ≡ false → (k : List ℕ) → broken k ≡ false
-  pub verifies : damaged ≡ false → t.intact ≡ true
+-- a scan of the own tree: the entries that it found, the keys under a damaged position, and whether
+-- there was one
+pub record Scan : Type 0 where
+  pub entries : Map
+  pub broken : Part
+  pub damaged : Bool
+
+-- what a scan found: the map under the top record, without what is damaged
+pub record IsScan (t : Tree) (x : Scan) : Type 0 where
+  pub entries : (k : List ℕ) → x.broken k ≡ false → x.entries k ≡ t.top k
+  pub lost : (k : List ℕ) → x.broken k ≡ true → x.entries k ≡ 0
+  pub whole : x.damaged ≡ false → (k : List ℕ) → x.broken k ≡ false
+  pub verifies : x.damaged ≡ false → t.intact ≡ true
 
 -- tree u is tree t with this map under its top record, or with another one of the same entries
 pub record Shows (t : Tree) (m : Map) (u : Tree) : Type 0 where

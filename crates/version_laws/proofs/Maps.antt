@@ -47,3 +47,14 @@ put_here f x a = by_cases (eqb x x) refl
     by_cases : (b : Bool) → eqb x x ≡ b → put f x a x ≡ a
     by_cases true t = rw t refl
     by_cases false t = absurd (grind (arith, nat_tests))
+
+-- what holds of the new value at x, and of each old one at another place, holds everywhere
+pub put_then : {A : Type 0} (f : ℕ → A) (x : ℕ) (a : A) (P : ℕ → A → Type 0) → P x a → ((y : ℕ) → (x ≡ y → ⊥) → P y (f y)) → (y : ℕ) → P y (put f x a y)
+put_then f x a P here old y = by_cases (eqb x y) refl
+  where
+    by_cases : (b : Bool) → eqb x y ≡ b → P y (put f x a y)
+    by_cases true t = rw t (subst (λ z. P z a) (eqb-true x y t) here)
+    by_cases false t = rw t (old y (λ e. differ y t e))
+      where
+        differ : (y : ℕ) → eqb x y ≡ false → x ≡ y → ⊥
+        differ y t e = grind (arith, nat_tests)
