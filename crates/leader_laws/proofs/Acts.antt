@@ -19,11 +19,11 @@ use Rattle.register_model.specs.Histories.{IsDone, IsRefused}
 use Rattle.abstract_protocol.specs.Book.{IsWriteReply, IsReadReply, Seen, version_of, register_at, Wrote}
 use Rattle.abstract_protocol.specs.Protocol.{State, Step, Propose, Settle, Note, happens, MayCome}
 use Rattle.leader_laws.proofs.Growth.{known_old, spared_step, row_stays, call_spared_step, owes_stay, owe_in, owes_more}
-use Rattle.leader_laws.proofs.Others.{leader_step}
+use Rattle.leader_laws.proofs.Steps.{leader_step}
 use Rattle.leader_laws.proofs.Rounds.{ghosts_same, move_same}
 use Rattle.leader_laws.proofs.Moves.{row_then, row_set, held_holds}
 use Rattle.leader_laws.proofs.Guards.{version_next, version_some, version_epoch, may_propose, may_write, may_rewrite, may_settle, may_note_read}
-use Rattle.leader_laws.proofs.Replying.{keeps_done, done_not_refused}
+use Rattle.leader_laws.proofs.Outcomes.{keeps_done, done_not_refused}
 use Rattle.leader_laws.specs.Tables.{Seat, calls_owed, owe, owing, Object, Known, Stage, Idle, Begun, Reading, Sure, Checking, Writing, Rewriting, KeyRow, Leader, Ghosts, version_at, base_of, calls_of, set_row, with_row, held, row_of}
 use Rattle.leader_laws.specs.Leaders.{OwedHolds, IsUnwritten, IsObjectOf, KnownHolds, IsFresh, PutHolds, CallHolds, RowHolds, LeaderHolds, IsParent}
 use Rattle.leader_laws.specs.Moves.{IsDropped, IsLeaderMove}

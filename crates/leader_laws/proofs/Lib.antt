@@ -1,7 +1,7 @@
 pub mod Guards
 pub mod Growth
-pub mod Replying
-pub mod Others
+pub mod Outcomes
+pub mod Steps
 pub mod Moves
 pub mod Rounds
 pub mod Acts
@@ -12,4 +12,4 @@ pub mod Runs
 pub mod Witness
 pub mod Roles
 pub mod Rows
-pub mod Rewritten
+pub mod Rewrites

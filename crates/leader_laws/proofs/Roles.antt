@@ -17,7 +17,7 @@ use Rattle.abstract_protocol.specs.Ledger.{Place, is_established, put}
 use Rattle.abstract_protocol.specs.Book.{MayCall}
 use Rattle.abstract_protocol.specs.Protocol.{State, Step, Ask, Elect, Propose, Settle, Note, Answer, happens, MayCome, opening, IsRun, state_after, after, MayAll}
 use Rattle.leader_laws.proofs.Growth.{owes_stay, call_spared_step, call_spared_none, owed_home, owed_called, owes_more}
-use Rattle.leader_laws.proofs.Others.{others_step, get_stays, check_stays, put_says_stays, get_reply_stays, check_reply_stays}
+use Rattle.leader_laws.proofs.Steps.{others_step, get_stays, check_stays, put_says_stays, get_reply_stays, check_reply_stays}
 use Rattle.leader_laws.proofs.Rounds.{ghosts_same, home_grows}
 use Rattle.leader_laws.proofs.Rules.{move_for_others, turns_after, leader_begins, unled_at_first, unled_after, unled_moves, unled_step}
 use Rattle.leader_laws.specs.Tables.{Leader, Turn, Ghosts, calls_of, timeouts, with_home, new_leader, Owed, seated}

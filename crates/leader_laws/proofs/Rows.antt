@@ -12,7 +12,7 @@ use Rattle.version_laws.proofs.Descent.{Whole, run_whole}
 use Rattle.abstract_protocol.specs.Objects.{epoch_of}
 use Rattle.abstract_protocol.specs.Book.{register_at}
 use Rattle.abstract_protocol.specs.Protocol.{State, Step, IsRun, state_after}
-use Rattle.leader_laws.proofs.Replying.{object_register, gone_register, stamp_outcome}
+use Rattle.leader_laws.proofs.Outcomes.{object_register, gone_register, stamp_outcome}
 use Rattle.leader_laws.proofs.Rounds.{move_same}
 use Rattle.leader_laws.proofs.Acts.{reads}
 use Rattle.leader_laws.proofs.Moves.{read_finds_nothing, read_finds_settled}

@@ -12,7 +12,7 @@ use Rattle.abstract_protocol.specs.Objects.{epoch_of}
 use Rattle.abstract_protocol.specs.Book.{register_at}
 use Rattle.abstract_protocol.specs.Protocol.{State, Step, Begin, Ask, Raise, Elect, Accept, Commit, Adopt, Write, Acknowledge, Install, EndSync, Propose, Settle, Note, Answer, Lose, Revert, happens, after, MayAll}
 use Rattle.leader_laws.proofs.Growth.{call_spared_none}
-use Rattle.leader_laws.proofs.Others.{leader_stays, others_step, turn_stays}
+use Rattle.leader_laws.proofs.Steps.{leader_stays, others_step, turn_stays}
 use Rattle.leader_laws.proofs.Rounds.{spared_none, ghosts_same}
 use Rattle.leader_laws.proofs.Moves.{check_ends}
 use Rattle.leader_laws.proofs.Acts.{reading_began, sure_began, writes, rewrites, reads, is_lost}

@@ -8,10 +8,10 @@ use Rattle.version_laws.specs.Versions.{VersionsAreSafe}
 use Rattle.entry_laws.proofs.Replies.{run_entries}
 use Rattle.entry_laws.specs.Entries.{EntriesAreSafe}
 use Rattle.abstract_protocol.specs.Protocol.{State, Step, IsRun, state_after}
-use Rattle.leader_laws.proofs.Others.{leader_step, others_step, get_reply, check_reply, get_reply_stays, check_reply_stays, get_stays, put_says_stays, put_is_there, put_goes_in}
+use Rattle.leader_laws.proofs.Steps.{leader_step, others_step, get_reply, check_reply, get_reply_stays, check_reply_stays, get_stays, put_says_stays, put_is_there, put_goes_in}
 use Rattle.leader_laws.proofs.Moves.{next_begins, reply_counts, check_counts, write_counts, rewrite_counts, read_finds_nothing, read_finds_settled, check_ends}
 use Rattle.leader_laws.proofs.Guards.{newest_of_reread, settled_parent, read_parent}
-use Rattle.leader_laws.proofs.Replying.{object_register, gone_register, stamp_outcome, matched_object}
+use Rattle.leader_laws.proofs.Outcomes.{object_register, gone_register, stamp_outcome, matched_object}
 use Rattle.leader_laws.proofs.Acts.{reading_began, sure_began, checking_began, writes, rewrites, settles_write, settles_rewrite, reads, times_out, is_lost}
 use Rattle.leader_laws.proofs.Turns.{call_joins, call_is_refused, waiting_times_out, row_moves, reading_starts, checking_starts, own_acknowledgement, leader_leaves, leader_gives, owes_give}
 use Rattle.leader_laws.proofs.Rounds.{turn_holds, turns_start}

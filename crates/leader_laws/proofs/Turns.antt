@@ -1,5 +1,5 @@
 -- The other moves of a leader: rounds, replies, calls that come, wait, time out or are refused, its own acknowledgement, and its leaving.
-use Rattle.leader_laws.proofs.Replying.{done_not_refused}
+use Rattle.leader_laws.proofs.Outcomes.{done_not_refused}
 use Rattle.entry_laws.proofs.Later.{stay_step, stay_same}
 use Rattle.std.proofs.Common.{◌≡◌, ℕ, suc, ◌+◌, ◌<◌, ◌≤◌, Bool, true, false, ◌⊎◌, List, [], ◌∷◌, ◌++◌, None, eqb, eq-eqb, arith, ap, refl, inl, inr, sym, ◌∙◌, subst}
 use Rattle.std.proofs.lemmas.Bool.{false≢true, cases_order}
@@ -18,7 +18,7 @@ use Rattle.abstract_protocol.specs.Objects.{epoch_of, IsGenuine, MayWrite, set_e
 use Rattle.abstract_protocol.specs.Book.{register_at, MayCall, MayAnswer, IsWriteReply, IsReadReply}
 use Rattle.abstract_protocol.specs.Protocol.{State, Ask, Write, Acknowledge, Answer, happens, MayCome, Step, MayAll}
 use Rattle.leader_laws.proofs.Growth.{row_stays, owed_called, owes_both, owes_stay, call_spared_step, spared_step}
-use Rattle.leader_laws.proofs.Others.{leader_step}
+use Rattle.leader_laws.proofs.Steps.{leader_step}
 use Rattle.leader_laws.proofs.Rounds.{spared_none, turn_here, leader_starts, home_grows, turn_holds, turn_grows, move_same, move_round, move_home, ghosts_same}
 use Rattle.leader_laws.proofs.Moves.{row_set, read_starts, check_starts}
 use Rattle.leader_laws.proofs.Acts.{dropped, leader_owes}

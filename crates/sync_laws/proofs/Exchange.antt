@@ -5,7 +5,7 @@ use Rattle.std.proofs.lemmas.Bool.Decides.{nat_tests}
 use Rattle.std.proofs.lemmas.Bool.{cases_order}
 use Rattle.ens_base.specs.Lists.{◌∈◌}
 use Rattle.abstract_protocol.specs.Objects.{Map}
-use Rattle.sync_laws.proofs.Covered.{max_left, max_right}
+use Rattle.sync_laws.proofs.Coverage.{max_left, max_right}
 use Rattle.sync_laws.specs.Trees.{Tree, IsScan, Part, Scan}
 use Rattle.sync_laws.specs.Syncs.{Asking}
 use Rattle.sync_laws.specs.Exchange.{Answers, Kid, open_kids, page_ask, inner_ask}

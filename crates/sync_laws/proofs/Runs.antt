@@ -1,10 +1,10 @@
--- Runs that tell peers and messages.
+-- Runs that reach peers and messages.
 use Rattle.std.proofs.Common.{ℕ, List, [], ◌∷◌, sym, subst}
 use Rattle.abstract_protocol.proofs.Steps.{onto_run, onto_state}
 use Rattle.election_laws.proofs.Sound.{run_sound}
 use Rattle.abstract_protocol.specs.Ledger.{put}
 use Rattle.abstract_protocol.specs.Protocol.{State, Step, MayCome, state_after, onto}
-use Rattle.sync_laws.proofs.Orderly.{move_on, silent, sends}
+use Rattle.sync_laws.proofs.Views.{move_on, silent, sends}
 use Rattle.sync_laws.specs.Facts.{Lines}
 use Rattle.sync_laws.specs.Peers.{Peer, PeerHolds}
 use Rattle.sync_laws.specs.Messages.{PeersHold, Said, SaidHolds, Sent}

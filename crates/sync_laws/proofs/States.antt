@@ -11,15 +11,15 @@ use Rattle.abstract_protocol.specs.Ledger.{Place}
 use Rattle.abstract_protocol.specs.Objects.{Map, Objects, IsGenuine}
 use Rattle.abstract_protocol.specs.Protocol.{State, Step, opening, IsRun, state_after}
 use Rattle.sync_laws.proofs.Growth.{spared_step}
-use Rattle.sync_laws.proofs.Keeping.{peer_stays, said_stays, ask_stays, sync_stays}
-use Rattle.sync_laws.proofs.Covered.{answers_count}
+use Rattle.sync_laws.proofs.Peers.{peer_stays, said_stays, ask_stays, sync_stays}
+use Rattle.sync_laws.proofs.Coverage.{answers_count}
 use Rattle.sync_laws.proofs.Exchange.{page_answers, inner_answers, skip_fair}
-use Rattle.sync_laws.proofs.Orderly as orderly
-use Rattle.sync_laws.proofs.Syncing as syncing
+use Rattle.sync_laws.proofs.Views as views
+use Rattle.sync_laws.proofs.Gives as gives
 use Rattle.sync_laws.proofs.Trust as trust
-use Rattle.sync_laws.proofs.Electing as electing
-use Rattle.sync_laws.proofs.Changing as changing
-use Rattle.sync_laws.proofs.Putting as putting
+use Rattle.sync_laws.proofs.Elections as elections
+use Rattle.sync_laws.proofs.Changes as changes
+use Rattle.sync_laws.proofs.Puts as puts
 use Rattle.sync_laws.specs.Facts.{Fact, Lines}
 use Rattle.sync_laws.specs.Trees.{Tree}
 use Rattle.sync_laws.specs.Syncs.{Sync}
@@ -30,25 +30,25 @@ pub run_peers : (view : List ℕ) (steps : List Step) → IsRun view steps → P
 run_peers view steps run = let s = state_after view steps in let sound = run_sound view steps run in record {
   others = λ g p q e x n may own a. peer_stays g s.objects _ (versions_step s.objects e may.0) p x (spared_step g s.objects p q e n own) a;
   said = λ g es q m may a. said_stays g s.objects _ (versions_after s es may) q m a;
-  orderly = λ g p es may own a. orderly.orderly_after g s p es sound may own a;
+  orderly = λ g p es may own a. views.orderly_after g s p es sound may own a;
   asks = λ g e d scan q a may h. ask_stays g s.objects _ (versions_step s.objects e may.0) d scan q a h;
   syncs = λ g e p f t trusted y may at h. sync_stays g s.objects _ (versions_step s.objects e may.0) p f t trusted y at h;
-  move_on = λ g p es x peers sent move a. orderly.move_on g s p es x peers sent sound move a;
-  silent = λ g p e peers sent may own a. orderly.silent g s p e peers sent sound may own a;
-  sends = λ g peers sent m says a. orderly.sends g s.objects peers sent m says a;
-  move_then = λ g p es fs x y a b. orderly.move_then g s p es fs x y a b;
+  move_on = λ g p es x peers sent move a. views.move_on g s p es x peers sent sound move a;
+  silent = λ g p e peers sent may own a. views.silent g s p e peers sent sound may own a;
+  sends = λ g peers sent m says a. views.sends g s.objects peers sent m says a;
+  move_then = λ g p es fs x y a b. views.move_then g s p es fs x y a b;
   may_first = λ es fs a. may_first s es fs a;
 }
 
 pub run_syncs : (view : List ℕ) (steps : List Step) (g : Lines) (p : ℕ) (f : Fact) (t : Tree) (trusted : Bool) → IsRun view steps → SyncMoves (state_after view steps) g p f t trusted
 run_syncs view steps g p f t trusted run = let s = state_after view steps in let v = run_versions view steps run in record {
-  give_says = λ phase sync verifies a. syncing.give_says g s v p f t trusted phase sync verifies a;
-  starts = λ phase sync n scan first stands newer may found a. syncing.starts_sync g s v p f t trusted phase sync n scan first stands newer may found a;
-  resumes = λ phase sync a. syncing.resumes g s v p f t trusted phase sync a;
-  counts = λ phase y q flag shown b says counts a. syncing.counts g s v p f t trusted phase y q flag shown b says counts a;
-  asks_anew = λ phase y q stage waits a. syncing.asks_anew g s v p f t trusted phase y q stage waits a;
-  ends = λ u phase y orderly firm over shows a. syncing.ends_sync g s v p f t u trusted phase y orderly firm over shows a;
-  installs = λ u phase y orderly firm over shows a. syncing.installs g s v p f t trusted phase y u (syncing.may_install g s v p f t trusted phase y orderly firm over a) shows a;
+  give_says = λ phase sync verifies a. gives.give_says g s v p f t trusted phase sync verifies a;
+  starts = λ phase sync n scan first stands newer may found a. gives.starts_sync g s v p f t trusted phase sync n scan first stands newer may found a;
+  resumes = λ phase sync a. gives.resumes g s v p f t trusted phase sync a;
+  counts = λ phase y q flag shown b says counts a. gives.counts g s v p f t trusted phase y q flag shown b says counts a;
+  asks_anew = λ phase y q stage waits a. gives.asks_anew g s v p f t trusted phase y q stage waits a;
+  ends = λ u phase y orderly firm over shows a. gives.ends_sync g s v p f t u trusted phase y orderly firm over shows a;
+  installs = λ u phase y orderly firm over shows a. gives.installs g s v p f t trusted phase y u (gives.may_install g s v p f t trusted phase y orderly firm over a) shows a;
 }
 
 stands : (g : Lines) (s : State) (p : ℕ) (f : Fact) (t : Tree) (phase : Phase) (sync : Option Sync) (d : ℕ) → Sound s.objects.ledger → VersionsAreSafe s.objects → f.epoch ≡ d → f.ballot ≤ d → PeerHolds g s.objects p (peer_of f t true phase sync) → Stands s p t d
@@ -79,7 +79,7 @@ run_stops view steps g p f t run = let s = state_after view steps in record {
   starts = λ a. trust.starts g s p f t a;
   reverts = λ m intact at seal a. trust.reverts g s p f t m intact at seal a;
   tree_changes = λ u genuine named seal a. trust.tree_changes g s p f t u genuine named seal a;
-  torn = λ mode m genuine a. putting.torn g s p f t mode m genuine a;
+  torn = λ mode m genuine a. puts.torn g s p f t mode m genuine a;
 }
 
 accepted_last : (g : Lines) (o : Objects) (p : ℕ) (x : Peer) → Sound o.ledger → PeerHolds g o p x → o.ledger.accepted x.fact.epoch p ≡ true
@@ -90,34 +90,34 @@ adopted_last g o p x sound two a = subst (λ (y : Place). o.ledger.adopted y.epo
 
 pub run_terms : (view : List ℕ) (steps : List Step) (g : Lines) (p : ℕ) (f : Fact) (t : Tree) (trusted : Bool) → IsRun view steps → TermMoves (state_after view steps) g p f t trusted
 run_terms view steps g p f t trusted run = let s = state_after view steps in let sound = run_sound view steps run in record {
-  probes = λ phase sync a. changing.probes g s.objects p f t trusted phase sync a;
-  probe_older = λ best n count sync a. changing.probe_older g s.objects p f t trusted best n count sync a;
-  probe_newer = λ best n count sync known newer a. changing.probe_newer g s.objects p f t trusted best n count sync known newer a;
-  prepares = λ phase sync best count orderly small known newer counts own a. electing.prepares g s sound p f t trusted phase sync a orderly best count small known newer counts own;
-  promise_older = λ base n promises q sync says older a. changing.promise_older g s.objects p f t trusted base n promises q sync says older a;
-  promise_newer = λ base n promises q sync says newer a. changing.promise_newer g s.objects p f t trusted base n promises q sync says newer a;
-  elects = λ base promises sync quorum a. (electing.elects g s sound p f t trusted _ sync a base promises a.mode.0 quorum, electing.is_newer g s sound p f t trusted _ sync a a.mode.0.fresh);
-  accepts = λ phase sync n first stands newer sees old may a. electing.accepts g s sound p f t trusted phase sync a n first stands newer sees old may;
-  start_counts = λ new peers q sync says a. changing.start_counts g s.objects p f t trusted new peers q sync says a;
-  leads = λ new peers sync among quorum a. changing.leads g s.objects p f t trusted sound new peers sync among quorum a;
-  lead_counts = λ new peers finishing q sync says a. changing.lead_counts g s.objects p f t trusted new peers finishing q sync says a;
-  unchanged = λ new peers sync a. changing.lead_unchanged g s.objects p f t trusted new peers sync a;
-  commits = λ new peers sync c fits a. changing.commits g s sound p f t trusted new peers sync c fits a;
-  adopts = λ phase sync n second same low sees a. electing.adopts g s sound p f t trusted phase sync a n second same low sees;
-  adopt_counts = λ new peers adopts q sync says a. changing.adopt_counts g s.objects p f t trusted new peers adopts q sync says a;
-  announces = λ new peers sync a. changing.announces g s.objects p f t trusted new peers sync a;
-  leader_announces = λ new peers finishing sync a. changing.leader_announces g s.objects p f t trusted new peers finishing sync a;
-  finishing = λ new peers adopts sync a. changing.commit_says g s.objects p f t trusted new peers adopts sync a;
-  idle = λ phase sync d q theirs other same low a. changing.is_idle g s.objects p f t trusted phase sync d q theirs other same low a;
+  probes = λ phase sync a. changes.probes g s.objects p f t trusted phase sync a;
+  probe_older = λ best n count sync a. changes.probe_older g s.objects p f t trusted best n count sync a;
+  probe_newer = λ best n count sync known newer a. changes.probe_newer g s.objects p f t trusted best n count sync known newer a;
+  prepares = λ phase sync best count orderly small known newer counts own a. elections.prepares g s sound p f t trusted phase sync a orderly best count small known newer counts own;
+  promise_older = λ base n promises q sync says older a. changes.promise_older g s.objects p f t trusted base n promises q sync says older a;
+  promise_newer = λ base n promises q sync says newer a. changes.promise_newer g s.objects p f t trusted base n promises q sync says newer a;
+  elects = λ base promises sync quorum a. (elections.elects g s sound p f t trusted _ sync a base promises a.mode.0 quorum, elections.is_newer g s sound p f t trusted _ sync a a.mode.0.fresh);
+  accepts = λ phase sync n first stands newer sees old may a. elections.accepts g s sound p f t trusted phase sync a n first stands newer sees old may;
+  start_counts = λ new peers q sync says a. changes.start_counts g s.objects p f t trusted new peers q sync says a;
+  leads = λ new peers sync among quorum a. changes.leads g s.objects p f t trusted sound new peers sync among quorum a;
+  lead_counts = λ new peers finishing q sync says a. changes.lead_counts g s.objects p f t trusted new peers finishing q sync says a;
+  unchanged = λ new peers sync a. changes.lead_unchanged g s.objects p f t trusted new peers sync a;
+  commits = λ new peers sync c fits a. changes.commits g s sound p f t trusted new peers sync c fits a;
+  adopts = λ phase sync n second same low sees a. elections.adopts g s sound p f t trusted phase sync a n second same low sees;
+  adopt_counts = λ new peers adopts q sync says a. changes.adopt_counts g s.objects p f t trusted new peers adopts q sync says a;
+  announces = λ new peers sync a. changes.announces g s.objects p f t trusted new peers sync a;
+  leader_announces = λ new peers finishing sync a. changes.leader_announces g s.objects p f t trusted new peers finishing sync a;
+  finishing = λ new peers adopts sync a. changes.commit_says g s.objects p f t trusted new peers adopts sync a;
+  idle = λ phase sync d q theirs other same low a. changes.is_idle g s.objects p f t trusted phase sync d q theirs other same low a;
 }
 
 pub run_puts : (view : List ℕ) (steps : List Step) (g : Lines) (p : ℕ) (f : Fact) (t : Tree) (phase : Phase) → IsRun view steps → PutMoves (state_after view steps) g p f t phase
 run_puts view steps g p f t phase run = let s = state_after view steps in let v = run_versions view steps run in record {
   sees = λ sync d same low a. stands g s p f t phase sync d (run_sound view steps run) v same low a;
   may_write = λ sync x proposed low above a. trust.may_write g s p f t v phase sync x proposed low above a;
-  has_it = λ v proposed epoch low same a. putting.has_it view steps run g p f t phase v proposed epoch low same a;
-  takes = λ v proposed epoch low above a. putting.takes view steps run g p f t phase v proposed epoch low above a;
-  puts = λ v k u x y c may epoch low greatest a. putting.puts view steps run g p f t phase v k u x y c may epoch low greatest a;
+  has_it = λ v proposed epoch low same a. puts.has_it view steps run g p f t phase v proposed epoch low same a;
+  takes = λ v proposed epoch low above a. puts.takes view steps run g p f t phase v proposed epoch low above a;
+  puts = λ v k u x y c may epoch low greatest a. puts.puts view steps run g p f t phase v k u x y c may epoch low greatest a;
 }
 
 pub run_any : (view : List ℕ) (steps : List Step) (g : Lines) (p : ℕ) (x : Peer) → IsRun view steps → AnyMoves (state_after view steps) g p x
@@ -125,7 +125,7 @@ run_any view steps g p x run = let s = state_after view steps in let sound = run
   acknowledges = λ v may a. trust.acknowledges g s p x.fact x.tree x v may a;
   says_first = λ a. inl (refl, accepted_last g s.objects p x sound a);
   says_second = λ two a. inr (refl, adopted_last g s.objects p x sound two a);
-  refused = λ steps a. putting.refused g s p steps x a;
+  refused = λ steps a. puts.refused g s p steps x a;
 }
 
 pub exchange_answers : ExchangeAnswers

@@ -10,7 +10,7 @@ use Rattle.version_laws.specs.Versions.{VersionsAreSafe}
 use Rattle.abstract_protocol.specs.Ledger.{Place, Ledger}
 use Rattle.abstract_protocol.specs.Objects.{Map, Objects, epoch_of, IsGenuine, MayWrite, MayAcknowledge, set_entry}
 use Rattle.abstract_protocol.specs.Protocol.{State, Raise, Write, Acknowledge, Lose, Revert, happens, objects_after, MayDo}
-use Rattle.sync_laws.proofs.Keeping.{tree_stays, peer_stays}
+use Rattle.sync_laws.proofs.Peers.{tree_stays, peer_stays}
 use Rattle.sync_laws.specs.Facts.{Fact, Lines, IsSaved, HasPromised, at_ballot}
 use Rattle.sync_laws.specs.Trees.{Tree, TreeHolds, shows_now}
 use Rattle.sync_laws.specs.Syncs.{Sync}

@@ -6,7 +6,7 @@ use Rattle.joint_views.specs.Quorums.{is_majority}
 use Rattle.election_laws.proofs.Sound.{run_sound}
 use Rattle.abstract_protocol.specs.Ledger.{Add, IsNew, put}
 use Rattle.abstract_protocol.specs.Protocol.{Raise, Elect, Commit, Adopt, Install, EndSync, Lose, state_after}
-use Rattle.sync_laws.proofs.Syncing.{shows_already}
+use Rattle.sync_laws.proofs.Gives.{shows_already}
 use Rattle.sync_laws.proofs.States.{run_syncs, run_trust, run_stops, run_terms, run_any, peers_open}
 use Rattle.sync_laws.proofs.Runs as runs
 use Rattle.sync_laws.specs.Facts.{Fact, Lines, AreFirm, place_of, at_ballot, first_of, second_of, next_ballot}

@@ -1,4 +1,4 @@
-use Rattle.sync_laws.proofs.Ruling.{may_is, run_rules}
+use Rattle.sync_laws.proofs.Rules.{may_is, run_rules}
 use Rattle.sync_laws.proofs.syncs.rules_move.Goals as goal
 
 pub returns-clause-rules : goal.returns-clause-rules

@@ -1,5 +1,5 @@
 use Rattle.sync_laws.proofs.Runs.{runs_reach}
-use Rattle.sync_laws.proofs.Healed.{has_healed}
+use Rattle.sync_laws.proofs.Healing.{has_healed}
 use Rattle.sync_laws.proofs.Witness.{has_joined}
 use Rattle.sync_laws.proofs.syncs.runs_reach.Goals as goal
 

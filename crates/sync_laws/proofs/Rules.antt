@@ -10,12 +10,12 @@ use Rattle.election_laws.proofs.Sound.{run_sound}
 use Rattle.version_laws.proofs.Trees.{run_versions}
 use Rattle.abstract_protocol.specs.Protocol.{State, Step, Raise, Elect, Accept, Install, EndSync, happens, IsRun, state_after}
 use Rattle.abstract_protocol.specs.Ledger.{IsNew, put}
-use Rattle.sync_laws.proofs.Keeping.{first_stays}
-use Rattle.sync_laws.proofs.Orderly.{move_then, orderly_step}
-use Rattle.sync_laws.proofs.Syncing as syncing
+use Rattle.sync_laws.proofs.Peers.{first_stays}
+use Rattle.sync_laws.proofs.Views.{move_then, orderly_step}
+use Rattle.sync_laws.proofs.Gives as gives
 use Rattle.sync_laws.proofs.Trust as trust
-use Rattle.sync_laws.proofs.Electing as electing
-use Rattle.sync_laws.proofs.Changing as changing
+use Rattle.sync_laws.proofs.Elections as elections
+use Rattle.sync_laws.proofs.Changes as changes
 use Rattle.sync_laws.specs.Facts.{Fact, Lines, AreFirm, IsOrderly, IsTrue, IsFirst, place_of, at_ballot, first_of, next_ballot, count_of}
 use Rattle.sync_laws.specs.Trees.{Tree, IsScan, Shows, Scan}
 use Rattle.sync_laws.specs.Syncs.{Sync, IsOver, with_ask, new_sync, sources_of, merged_of, has_finished, is_sure}
@@ -60,7 +60,7 @@ module _ (view : List ℕ) (steps : List Step) (run : IsRun view steps) where
   leads_if g p f t trusted (Starting new accepts) a = by_quorum (accepts p && is_quorum accepts new.views) refl
     where
       by_quorum : (b : Bool) → (accepts p && is_quorum accepts new.views) ≡ b → PeerHolds g s.objects p (peer_of f t trusted (if b then Leading new accepts None else Starting new accepts) None)
-      by_quorum true e = let parts = and_parts (accepts p) (is_quorum accepts new.views) e in changing.leads g s.objects p f t trusted (run_sound view steps run) new accepts None parts.0 parts.1 a
+      by_quorum true e = let parts = and_parts (accepts p) (is_quorum accepts new.views) e in changes.leads g s.objects p f t trusted (run_sound view steps run) new accepts None parts.0 parts.1 a
       by_quorum false e = a
   leads_if g p f t trusted (Leading new accepts finishing) a = a
 
@@ -78,11 +78,11 @@ outcomes view steps run g p f t trusted phase y differs orderly firm same a = by
     s = state_after view steps
 
     shows : (b : Bool) → differs ≡ b → Shows t (merged_of y) (built t (merged_of y) b)
-    shows true e = syncing.shows_built t (merged_of y)
-    shows false e = let h = same e in syncing.shows_already t (merged_of y) (λ k. h.1 k ∙ a.mode.1.0.found.entries k (a.mode.1.0.found.whole h.0 k))
+    shows true e = gives.shows_built t (merged_of y)
+    shows false e = let h = same e in gives.shows_already t (merged_of y) (λ k. h.1 k ∙ a.mode.1.0.found.entries k (a.mode.1.0.found.whole h.0 k))
 
     by_over : (b : Bool) → is_over p trusted y ≡ b → IsPeerMove g s p (by_outcome p f t trusted phase y differs b).steps (by_outcome p f t trusted phase y differs b).peer
-    by_over true e = leads_after_two view steps run g p (Install p y.fact.epoch (merged_of y)) (EndSync p y.fact.epoch) y.fact (built t (merged_of y) differs) true (with_own p phase) (syncing.ends_sync g s (run_versions view steps run) p f t (built t (merged_of y) differs) trusted phase y orderly firm (over p trusted y e) (shows differs refl) a)
+    by_over true e = leads_after_two view steps run g p (Install p y.fact.epoch (merged_of y)) (EndSync p y.fact.epoch) y.fact (built t (merged_of y) differs) true (with_own p phase) (gives.ends_sync g s (run_versions view steps run) p f t (built t (merged_of y) differs) trusted phase y orderly firm (over p trusted y e) (shows differs refl) a)
     by_over false e = stays_at g s p (peer_of f t trusted phase (Some y)) a
 
 module _ (view : List ℕ) (steps : List Step) (run : IsRun view steps) (g : Lines) (p : ℕ) (f : Fact) (t : Tree) (trusted : Bool) (firm : AreFirm g) (orderly : IsOrderly g (state_after view steps).objects.ledger) where
@@ -92,7 +92,7 @@ module _ (view : List ℕ) (steps : List Step) (run : IsRun view steps) (g : Lin
   -- a sync starts, and may be over
   starts_over : (phase : Phase) (sync : Option Sync) (n : Fact) (scan : Scan) (differs : Bool) → IsFirst now.objects.ledger n → n.epoch ≡ f.ballot → f.epoch < n.epoch → MaySync phase → IsScan t scan → Differs (new_sync n scan) differs → PeerHolds g now.objects p (peer_of f t trusted phase sync)
       → IsPeerMove g now p (outcome p f t trusted phase (new_sync n scan) differs).steps (outcome p f t trusted phase (new_sync n scan) differs).peer
-  starts_over phase sync n scan differs first stands newer may found same a = outcomes view steps run g p f t trusted phase (new_sync n scan) differs orderly firm same (syncing.starts_sync g now (run_versions view steps run) p f t trusted phase sync n scan first stands newer may found a)
+  starts_over phase sync n scan differs first stands newer may found same a = outcomes view steps run g p f t trusted phase (new_sync n scan) differs orderly firm same (gives.starts_sync g now (run_versions view steps run) p f t trusted phase sync n scan first stands newer may found a)
 
 pub announces : (view : List ℕ) (steps : List Step) (run : IsRun view steps) (g : Lines) (p : ℕ) (f : Fact) (t : Tree) (trusted : Bool) (phase : Phase) (sync : Option Sync) (n : Fact) (scan : Scan) (differs may : Bool) → IsOrderly g (state_after view steps).objects.ledger → AreFirm g → IsFirst (state_after view steps).objects.ledger n → IsScan t scan → Differs (new_sync n scan) differs → May p trusted n may
     → PeerHolds g (state_after view steps).objects p (peer_of f t trusted phase sync) → IsPeerMove g (state_after view steps) p (announced p f t trusted phase sync n scan differs may).steps (announced p f t trusted phase sync n scan differs may).peer
@@ -120,7 +120,7 @@ announces view steps run g p f t trusted phase sync n scan differs may orderly f
     equal x y l m = omega arith
 
     by_running : f.ballot ≤ n.epoch → n.epoch ≤ f.ballot → f.epoch < n.epoch → (y : Option Sync) → PeerHolds g s.objects p (peer_of f t trusted phase y) → IsPeerMove g s p (by_sync p f t trusted y n scan differs).steps (by_sync p f t trusted y n scan differs).peer
-    by_running l m newer (Some y) h = stays_at g s p (peer_of f t trusted Following (Some y)) (syncing.resumes g s (run_versions view steps run) p f t trusted phase (Some y) h)
+    by_running l m newer (Some y) h = stays_at g s p (peer_of f t trusted Following (Some y)) (gives.resumes g s (run_versions view steps run) p f t trusted phase (Some y) h)
     by_running l m newer None h = starts_over view steps run g p f t trusted firm orderly Following None n scan differs first (equal n.epoch f.ballot l m) newer tt found same (trust.follows g s p f t trusted phase None h)
 
     above : f.ballot ≤ n.epoch → f.epoch < n.epoch → (b : Bool) → nat_lt f.ballot n.epoch ≡ b → IsPeerMove g s p (by_above p f t trusted sync n scan differs b).steps (by_above p f t trusted sync n scan differs b).peer
@@ -128,11 +128,11 @@ announces view steps run g p f t trusted phase sync n scan differs may orderly f
     above l newer false e = by_running l (not_low f.ballot n.epoch e) newer sync a
 
     allowed : f.ballot ≤ n.epoch → f.epoch < n.epoch → (b : Bool) → may ≡ b → IsPeerMove g s p (by_may p f t trusted sync n scan differs b).steps (by_may p f t trusted sync n scan differs b).peer
-    allowed l newer true e = move_then g s p (Raise p n.epoch ∷ []) (Accept p n.epoch ∷ []) (peer_of (at_ballot f n.epoch) t trusted Following None) (peer_of n t true Following None) (raised l) (electing.accepts g (happens s (Raise p n.epoch)) (run_sound view (Raise p n.epoch ∷ steps) (after_raise l)) p (at_ballot f n.epoch) t trusted Following None (raised l).holds n (firsts l) refl newer (allows e).0 (allows e).1 tt)
+    allowed l newer true e = move_then g s p (Raise p n.epoch ∷ []) (Accept p n.epoch ∷ []) (peer_of (at_ballot f n.epoch) t trusted Following None) (peer_of n t true Following None) (raised l) (elections.accepts g (happens s (Raise p n.epoch)) (run_sound view (Raise p n.epoch ∷ steps) (after_raise l)) p (at_ballot f n.epoch) t trusted Following None (raised l).holds n (firsts l) refl newer (allows e).0 (allows e).1 tt)
     allowed l newer false e = above l newer (nat_lt f.ballot n.epoch) refl
 
     as_own : f.ballot ≤ n.epoch → (b : Bool) → (n.epoch == f.epoch) ≡ b → IsPeerMove g s p (by_same p f t trusted sync n scan differs may b).steps (by_same p f t trusted sync n scan differs may b).peer
-    as_own l true e = stays_at g s p (peer_of f t trusted Following sync) (syncing.resumes g s (run_versions view steps run) p f t trusted phase sync a)
+    as_own l true e = stays_at g s p (peer_of f t trusted Following sync) (gives.resumes g s (run_versions view steps run) p f t trusted phase sync a)
     as_own l false e = allowed l (strict l a.saved.known.below (differ n.epoch f.epoch e)) may refl
 
     low : (b : Bool) → nat_lt n.epoch f.ballot ≡ b → IsPeerMove g s p (by_low p f t trusted phase sync n scan differs may b).steps (by_low p f t trusted phase sync n scan differs may b).peer
@@ -150,7 +150,7 @@ votes view steps run g p f t trusted base promises scan differs may orderly firm
     n = first_of f.ballot base
 
     newer : f.epoch < f.ballot
-    newer = electing.is_newer g s (run_sound view steps run) p f t trusted (Preparing base promises) None a a.mode.0.fresh
+    newer = elections.is_newer g s (run_sound view steps run) p f t trusted (Preparing base promises) None a a.mode.0.fresh
 
     step : Step
     step = Elect f.ballot (place_of base)
@@ -159,13 +159,13 @@ votes view steps run g p f t trusted base promises scan differs may orderly firm
     next = happens s step
 
     elected : is_quorum promises base.views ≡ true → IsPeerMove g s p (step ∷ []) (peer_of f t trusted (Starting n nobody) None)
-    elected q = electing.elects g s (run_sound view steps run) p f t trusted (Preparing base promises) None a base promises a.mode.0 q
+    elected q = elections.elects g s (run_sound view steps run) p f t trusted (Preparing base promises) None a base promises a.mode.0 q
 
     then_run : (q : is_quorum promises base.views ≡ true) → IsRun view (step ∷ steps)
     then_run q = (run, (elected q).may.0)
 
     allowed : (q : is_quorum promises base.views ≡ true) (b : Bool) → may ≡ b → IsPeerMove g next p (by_may_start p f t trusted n scan differs b).steps (by_may_start p f t trusted n scan differs b).peer
-    allowed q true e = leads_after view (step ∷ steps) (then_run q) g p (Accept p n.epoch) n t true (with_own p (Starting n nobody)) (electing.accepts g next (run_sound view (step ∷ steps) (then_run q)) p f t trusted (Starting n nobody) None (elected q).holds n (elected q).holds.mode.0.started.first refl newer (allows e).0 (allows e).1 tt)
+    allowed q true e = leads_after view (step ∷ steps) (then_run q) g p (Accept p n.epoch) n t true (with_own p (Starting n nobody)) (elections.accepts g next (run_sound view (step ∷ steps) (then_run q)) p f t trusted (Starting n nobody) None (elected q).holds n (elected q).holds.mode.0.started.first refl newer (allows e).0 (allows e).1 tt)
     allowed q false e = starts_over view (step ∷ steps) (then_run q) g p f t trusted firm (orderly_step g s.objects p step (run_sound view steps run) (elected q).may.0.0 (elected q).own.0 orderly) (Starting n nobody) None n scan differs (elected q).holds.mode.0.started.first refl newer tt found same (elected q).holds
 
     by_quorum : (b : Bool) → is_quorum promises base.views ≡ b → IsPeerMove g s p (by_votes p f t trusted base promises scan differs may b).steps (by_votes p f t trusted base promises scan differs may b).peer
@@ -186,7 +186,7 @@ prepares view steps run g p f t trusted phase sync best count scan differs may o
     later = voted p (at_ballot f (next_ballot count p)) t trusted best (put nobody p true) scan differs may
 
     raised : IsPeerMove g s p (step ∷ []) (peer_of (at_ballot f (next_ballot count p)) t trusted (Preparing best (put nobody p true)) None)
-    raised = electing.prepares g s (run_sound view steps run) p f t trusted phase sync a orderly best count small known newer counts own
+    raised = elections.prepares g s (run_sound view steps run) p f t trusted phase sync a orderly best count small known newer counts own
 
 member : (xs : List ℕ) (q : ℕ) → q ∈ xs → is_in xs q ≡ true
 member [] q at = absurd at
@@ -213,7 +213,7 @@ may_is p trusted n h = let parts = and_parts trusted (not (is_new n.views p)) h 
 pub run_rules : (view : List ℕ) (steps : List Step) (g : Lines) (p : ℕ) (f : Fact) (t : Tree) (trusted : Bool) → IsRun view steps → IsOrderly g (state_after view steps).objects.ledger → AreFirm g → RuleMoves (state_after view steps) g p f t trusted
 run_rules view steps g p f t trusted run orderly firm = record {
   outcomes = λ phase y differs same a. outcomes view steps run g p f t trusted phase y differs orderly firm same a;
-  gives = λ phase y q flag shown b differs says counted same a. outcomes view steps run g p f t trusted phase (with_ask y q b) differs orderly firm same (syncing.counts g (state_after view steps) (run_versions view steps run) p f t trusted phase y q flag shown b says counted a);
+  gives = λ phase y q flag shown b differs says counted same a. outcomes view steps run g p f t trusted phase (with_ask y q b) differs orderly firm same (gives.counts g (state_after view steps) (run_versions view steps run) p f t trusted phase y q flag shown b says counted a);
   announces = λ phase sync n scan differs may first found same allows a. announces view steps run g p f t trusted phase sync n scan differs may orderly firm first found same allows a;
   votes = λ base promises scan differs may found same allows a. votes view steps run g p f t trusted base promises scan differs may orderly firm found same allows a;
   prepares = λ phase sync best count scan differs may small known newer counts own found same allows a. prepares view steps run g p f t trusted phase sync best count scan differs may orderly firm small known newer counts own found same allows a;

@@ -1,4 +1,4 @@
--- What is covered by the asks of a sync, and what it merges.
+-- What is covered in a sync, and what it merges.
 use Rattle.std.proofs.Common.{◌≡◌, ℕ, ◌<◌, ◌≤◌, Bool, true, false, ◌&&◌, ◌||◌, not, max, ◌⊎◌, List, [], ◌∷◌, eqb, eqb-true, arith, refl, sym, inl, inr, subst, le_trans}
 use Rattle.std.specs.Prelude.{if◌then◌else◌}
 use Rattle.std.proofs.lemmas.Bool.Decides.{nat_tests}

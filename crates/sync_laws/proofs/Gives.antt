@@ -1,4 +1,4 @@
--- Gives, the asks of a sync, its start and its end.
+-- Gives, the questions of a sync, its start and its end.
 use Rattle.std.proofs.Common.{◌≡◌, ℕ, ◌<◌, ◌≤◌, Bool, true, false, ◌||◌, ◌⊎◌, List, [], ◌∷◌, Option, None, Some, arith, ap, refl, inl, inr, sym, ◌∙◌, subst, le_trans}
 use Rattle.version_laws.proofs.Stays.{versions_step, genuine_stays}
 use Rattle.std.proofs.lemmas.Bool.Decides.{nat_tests}
@@ -9,9 +9,9 @@ use Rattle.version_laws.specs.Versions.{VersionsAreSafe}
 use Rattle.abstract_protocol.specs.Ledger.{Place, Ledger, put, mark, MayJoin}
 use Rattle.abstract_protocol.specs.Objects.{Map, Objects, IsGenuine, IsHonest, IsSynced, MayInstall, MayEndSync, install}
 use Rattle.abstract_protocol.specs.Protocol.{State, Step, Install, EndSync, happens, objects_after}
-use Rattle.sync_laws.proofs.Covered.{give_counts, new_ask_holds, gathered_genuine, synced}
-use Rattle.sync_laws.proofs.Keeping.{first_stays, tree_stays}
-use Rattle.sync_laws.proofs.Orderly.{last_votes, move_then}
+use Rattle.sync_laws.proofs.Coverage.{give_counts, new_ask_holds, gathered_genuine, synced}
+use Rattle.sync_laws.proofs.Peers.{first_stays, tree_stays}
+use Rattle.sync_laws.proofs.Views.{last_votes, move_then}
 use Rattle.sync_laws.specs.Facts.{Fact, Lines, AreFirm, IsOrderly, IsFirst}
 use Rattle.sync_laws.specs.Trees.{Tree, IsScan, Shows, shows_now, Scan}
 use Rattle.sync_laws.specs.Syncs.{Stage, Open, Asking, Sync, AskHolds, IsOver, is_finished, new_ask, with_ask, new_sync, sources_of, merged_of}

@@ -13,7 +13,7 @@ use Rattle.abstract_protocol.specs.Ledger.{Place, Change, Add, Drop, Ledger, IsF
 use Rattle.abstract_protocol.specs.Objects.{Objects}
 use Rattle.abstract_protocol.specs.Protocol.{State, Step, Raise, Elect, Accept, Commit, Adopt, EndSync, happens, objects_after, MayDo, MayCome, after, MayAll}
 use Rattle.sync_laws.proofs.Growth.{spared_after}
-use Rattle.sync_laws.proofs.Keeping.{peer_stays, said_stays}
+use Rattle.sync_laws.proofs.Peers.{peer_stays, said_stays}
 use Rattle.sync_laws.specs.Facts.{Lines, IsList, Fits, IsOrderly}
 use Rattle.sync_laws.specs.Peers.{Peer, PeerHolds}
 use Rattle.sync_laws.specs.Messages.{Sent, SaidHolds, PeersHold}

@@ -12,7 +12,7 @@ use Rattle.version_laws.proofs.Maps.{put_here}
 use Rattle.abstract_protocol.specs.Ledger.{Place, Change, Ledger, IsFact, mark, is_established, MayCommit, MayAdopt, put}
 use Rattle.abstract_protocol.specs.Objects.{Objects}
 use Rattle.abstract_protocol.specs.Protocol.{State, Commit, Adopt, happens, objects_after}
-use Rattle.sync_laws.proofs.Keeping.{tree_stays, started_stays}
+use Rattle.sync_laws.proofs.Peers.{tree_stays, started_stays}
 use Rattle.sync_laws.specs.Facts.{Fact, Lines, Fits, IsTrue, IsSecond, HasPromised, second_of, count_of, place_of}
 use Rattle.sync_laws.specs.Trees.{Tree}
 use Rattle.sync_laws.specs.Syncs.{Sync}

@@ -12,8 +12,8 @@ use Rattle.version_laws.proofs.Maps.{put_here}
 use Rattle.abstract_protocol.specs.Ledger.{Place, Ledger, IsFact, IsNew, next_views, changed_views, MayElect, MayAccept, MayAdopt, put}
 use Rattle.abstract_protocol.specs.Objects.{Objects}
 use Rattle.abstract_protocol.specs.Protocol.{State, Raise, Elect, Accept, Adopt, objects_after}
-use Rattle.sync_laws.proofs.Keeping.{true_stays, first_stays, second_stays, tree_stays}
-use Rattle.sync_laws.proofs.Syncing.{accepted_phase, place_here}
+use Rattle.sync_laws.proofs.Peers.{true_stays, first_stays, second_stays, tree_stays}
+use Rattle.sync_laws.proofs.Gives.{accepted_phase, place_here}
 use Rattle.sync_laws.proofs.Trust.{raised_saved, promised}
 use Rattle.sync_laws.specs.Facts.{Fact, Lines, IsOrderly, IsTrue, IsFirst, IsSecond, HasPromised, at_ballot, first_of, next_of, views_after, count_of, place_of, next_ballot}
 use Rattle.sync_laws.specs.Trees.{Tree}

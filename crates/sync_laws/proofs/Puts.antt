@@ -10,8 +10,8 @@ use Rattle.version_laws.proofs.Trees.{run_versions}
 use Rattle.abstract_protocol.specs.Ledger.{Place, put}
 use Rattle.abstract_protocol.specs.Objects.{Map, Objects, epoch_of, set_entry, IsGenuine, MayAcknowledge}
 use Rattle.abstract_protocol.specs.Protocol.{State, Step, Write, Acknowledge, Propose, Lose, Revert, happens, MayCome, IsRun, state_after, after}
-use Rattle.sync_laws.proofs.Keeping.{peer_stays}
-use Rattle.sync_laws.proofs.Orderly.{move_then}
+use Rattle.sync_laws.proofs.Peers.{peer_stays}
+use Rattle.sync_laws.proofs.Views.{move_then}
 use Rattle.sync_laws.proofs.Trust as trust
 use Rattle.sync_laws.specs.Facts.{Fact, Lines}
 use Rattle.sync_laws.specs.Trees.{Tree, shows_now}

@@ -6,7 +6,7 @@ use Rattle.joint_views.specs.Quorums.{is_majority}
 use Rattle.election_laws.proofs.Sound.{run_sound}
 use Rattle.abstract_protocol.specs.Ledger.{Place, put}
 use Rattle.abstract_protocol.specs.Protocol.{Raise, Elect, Install, EndSync, Lose, Revert, state_after}
-use Rattle.sync_laws.proofs.Syncing.{shows_already}
+use Rattle.sync_laws.proofs.Gives.{shows_already}
 use Rattle.sync_laws.proofs.States.{run_syncs, run_trust, run_stops, run_terms, peers_open}
 use Rattle.sync_laws.proofs.Runs as runs
 use Rattle.sync_laws.specs.Facts.{Fact, Lines, AreFirm, place_of, at_ballot, first_of, next_ballot}
