@@ -8,3 +8,4 @@ pub mod Failures
 pub mod MemStores
 pub mod MemLink
 pub mod MemStreams
+pub mod MemQueue

@@ -2,6 +2,7 @@ ghost use Rattle.std.specs.Prelude.{◌≡◌, ◌≢◌, ◌↔◌, ℕ, List, 
 ghost use Rattle.ens_base.specs.Lists.{◌∈◌};
 ghost use Rattle.ens_outside.specs.Maps.{Entries, value_at, with_value};
 ghost use Rattle.ens_outside.specs.Failures.{planned};
+ghost use Rattle.ens_outside.specs.MemQueue.{frame_at};
 ghost use Rattle.ens_outside.specs.declared.memory.failing_call.FailingCall.{FailingCall};
 
 /// A lookup finds the bytes that were last stored under its key, and storing under one key changes
@@ -15,4 +16,11 @@ pub fn what_was_put_is_found()
 /// Exactly the calls whose numbers are listed are planned to fail.
 pub fn exactly_the_listed_fail()
     ensures { (call : ℕ) (listed : List FailingCall) → (planned call listed ≢ None) ↔ (call ∈ map (λ f. f.call) listed) }
+{}
+
+/// After as many looks as frames were sent before a frame, that frame is given next, whatever was
+/// sent after it; after as many looks as frames were sent, none is.
+pub fn frames_come_in_order()
+    ensures next { (before after : List (ℕ × List ℕ)) (to : ℕ) (frame : List ℕ) → frame_at (length before) (before ++ (to, frame) ∷ after) ≡ Some frame }
+    ensures none { (sent : List (ℕ × List ℕ)) → frame_at (length sent) sent ≡ None }
 {}

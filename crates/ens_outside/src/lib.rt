@@ -27,11 +27,11 @@ mod ticker;
 pub use backend::Backend;
 pub use ending::finish;
 pub use errors::{LinkError, StoreError};
-pub use laws::{exactly_the_listed_fail, what_was_put_is_found};
+pub use laws::{exactly_the_listed_fail, frames_come_in_order, what_was_put_is_found};
 pub use lines::{LINE_LIMIT, Lines, Next, NextError};
 pub use link::Link;
 pub use memory::{
-    FailingCall, Leaves, MemBackend, MemLink, MemNodes, MemSink, MemSource, MemTicker,
+    FailingCall, Leaves, MemBackend, MemLink, MemNodes, MemQueue, MemSink, MemSource, MemTicker,
 };
 pub use node_store::NodeStore;
 pub use sink::{Sink, write_all};

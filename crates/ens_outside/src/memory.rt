@@ -9,6 +9,7 @@ mod failing_call;
 mod failures;
 mod link;
 mod nodes;
+mod queue;
 mod ticker;
 
 use crate::sink::Sink;
@@ -18,6 +19,7 @@ use ens_base::Failed;
 pub use failing_call::{FailingCall, Leaves};
 pub use link::MemLink;
 pub use nodes::MemNodes;
+pub use queue::MemQueue;
 use std::alloc::{AllocError, Global};
 pub use ticker::MemTicker;
 
