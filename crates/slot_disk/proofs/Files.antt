@@ -1,9 +1,9 @@
 -- Bytes written over those of a file.
-use Rattle.std.proofs.Common.{◌≡◌, ◌⊎◌, inl, inr, ℕ, ◌+◌, ◌-◌, ◌<◌, ◌≤◌, min, length-drop, subst, List, ◌++◌, length, take, drop, replicate, sym, ◌∙◌, ap, arith, length-append}
+use Rattle.std.proofs.Common.{◌≡◌, ◌⊎◌, inl, inr, ℕ, ◌+◌, ◌-◌, ◌<◌, ◌≤◌, min, length-drop, subst, List, [], ◌∷◌, ◌++◌, length, take, drop, replicate, refl, sym, ◌∙◌, ap, arith, length-append}
 use Rattle.std.proofs.Math.Seq.{take-append-add}
 use Rattle.std.proofs.lemmas.List.{length-take, take-take, drop-drop, drop_at, take_all, drop_all, take-append-le, take-replicate, length-replicate, append-nil}
 use Rattle.std.proofs.lemmas.Bool.{cases_lt}
-use Rattle.slot_disk.specs.Crash.{written, Torn}
+use Rattle.slot_disk.specs.Crash.{overlaid, written, Torn}
 use Rattle.slot_disk.specs.Images.{filled, partly_written}
 
 -- zeros after the file, up to the place
@@ -35,16 +35,25 @@ back old end = by (cases_lt (length old) end)
     by (inr le) = ap (λ (m : ℕ). drop end (old ++ replicate m 0)) (let e : end - length old ≡ 0 = omega arith in e) ∙ ap (λ (l : List ℕ). drop end l) (append-nil old)
 
 -- a file that was first extended with zeros
-pub written_over : (old : List ℕ) (at : ℕ) (bytes : List ℕ)
-    → take at (old ++ replicate (at + length bytes - length old) 0) ++ bytes ++ drop (at + length bytes) (old ++ replicate (at + length bytes - length old) 0) ≡ written old at bytes
-written_over old at bytes =
+overlaid_over : (old : List ℕ) (at : ℕ) (bytes : List ℕ)
+    → take at (old ++ replicate (at + length bytes - length old) 0) ++ bytes ++ drop (at + length bytes) (old ++ replicate (at + length bytes - length old) 0) ≡ overlaid old at bytes
+overlaid_over old at bytes =
     ap (λ (l : List ℕ). l ++ bytes ++ drop (at + length bytes) (old ++ replicate (at + length bytes - length old) 0)) (front old at (length bytes))
     ∙ ap (λ (l : List ℕ). (take at old ++ replicate (at - length old) 0) ++ bytes ++ l) (back old (at + length bytes))
 
+pub written_over : (old : List ℕ) (at : ℕ) (bytes : List ℕ) → 0 < length bytes
+    → take at (old ++ replicate (at + length bytes - length old) 0) ++ bytes ++ drop (at + length bytes) (old ++ replicate (at + length bytes - length old) 0) ≡ written old at bytes
+written_over old at [] some = absurd (omega (arith, some))
+written_over old at (byte ∷ bytes) some = overlaid_over old at (byte ∷ bytes)
+
+pub nothing_written : (old : List ℕ) (at : ℕ) (bytes : List ℕ) → length bytes ≡ 0 → written old at bytes ≡ old
+nothing_written old at [] none = refl
+nothing_written old at (byte ∷ bytes) none = absurd (omega (arith, none))
+
 -- a write of which a part was done
-pub torn_part : (old bytes : List ℕ) (at n part : ℕ) → part ≤ n → length bytes ≡ part
+pub torn_part : (old bytes : List ℕ) (at n part : ℕ) → 0 < n → part ≤ n → length bytes ≡ part
     → Torn at n old (take at (old ++ replicate (at + n - length old) 0) ++ bytes ++ drop (at + part) (old ++ replicate (at + n - length old) 0))
-torn_part old bytes at n part le size = record {
+torn_part old bytes at n part some le size = record {
   before = take-append-le m (take at full ++ bytes) rest (omega (arith, length-append (take at full) bytes, front_long))
       ∙ take-append-le m (take at full) bytes (omega (arith, front_long))
       ∙ take-take m at full (omega arith)
@@ -52,6 +61,7 @@ torn_part old bytes at n part le size = record {
   after = behind;
   no_shorter = omega (arith, long, whole);
   no_longer = omega (arith, long, whole);
+  nothing = λ e. absurd (omega (arith, some, e));
 }
   where
     m : ℕ
@@ -90,22 +100,33 @@ torn_part old bytes at n part le size = record {
         ∙ back old (at + n)
 
 -- the same law, stated for the file that it leaves
-pub partly : (old full new bytes : List ℕ) (at end part : ℕ) → part ≤ length bytes → end ≡ at + length bytes → full ≡ filled old end → new ≡ take at full ++ take part bytes ++ drop (at + length (take part bytes)) full
-    → new ≡ partly_written old at bytes part
-partly old full new bytes at end part le end_is full_is new_is =
+partly_over : (old full new bytes : List ℕ) (at end part : ℕ) → part ≤ length bytes → end ≡ at + length bytes → full ≡ filled old end → new ≡ take at full ++ take part bytes ++ drop (at + length (take part bytes)) full
+    → new ≡ overlaid (filled old (at + length bytes)) at (take part bytes)
+partly_over old full new bytes at end part le end_is full_is new_is =
     let filled_is : full ≡ filled old (at + length bytes) = full_is ∙ ap (λ (m : ℕ). filled old m) end_is in
     let long : at ≤ length full = omega (arith, length-append old (replicate (end - length old) 0), length-replicate {A = ℕ} (end - length old) 0, ap (λ (l : List ℕ). length l) full_is, end_is) in
     new_is
     ∙ ap (λ (l : List ℕ). l ++ take part bytes ++ drop (at + length (take part bytes)) full) (sym (append-nil (take at full)) ∙ ap (λ (m : ℕ). take at full ++ replicate m 0) (let e : 0 ≡ at - length full = omega (arith, long) in e))
-    ∙ ap (λ (l : List ℕ). written l at (take part bytes)) filled_is
+    ∙ ap (λ (l : List ℕ). overlaid l at (take part bytes)) filled_is
+
+pub partly : (old full new bytes : List ℕ) (at end part : ℕ) → 0 < length bytes → part ≤ length bytes → end ≡ at + length bytes → full ≡ filled old end → new ≡ take at full ++ take part bytes ++ drop (at + length (take part bytes)) full
+    → new ≡ partly_written old at bytes part
+partly old full new [] at end part some = absurd (omega (arith, some))
+partly old full new (byte ∷ bytes) at end part some = partly_over old full new (byte ∷ bytes) at end part
+
+pub nothing_partly : (old : List ℕ) (at : ℕ) (bytes : List ℕ) (part : ℕ) → length bytes ≡ 0 → partly_written old at bytes part ≡ old
+nothing_partly old at [] part none = refl
+nothing_partly old at (byte ∷ bytes) part none = absurd (omega (arith, none))
 
 -- it is one of the files that a crash may leave
 pub partly_torn : (old bytes : List ℕ) (at part : ℕ) → part ≤ length bytes → Torn at (length bytes) old (partly_written old at bytes part)
-partly_torn old bytes at part le =
+partly_torn old [] at part le = record { before = refl; after = refl; no_shorter = omega arith; no_longer = omega arith; nothing = λ e. refl }
+partly_torn old (byte ∷ rest) at part le =
+    let bytes : List ℕ = byte ∷ rest in
     let full : List ℕ = filled old (at + length bytes) in
     let size : length (take part bytes) ≡ part = omega (arith, length-take part bytes, le) in
     let long : at ≤ length full = omega (arith, length-append old (replicate (at + length bytes - length old) 0), length-replicate {A = ℕ} (at + length bytes - length old) 0) in
     let same : take at full ++ take part bytes ++ drop (at + part) full ≡ partly_written old at bytes part =
     ap (λ (l : List ℕ). l ++ take part bytes ++ drop (at + part) full) (sym (append-nil (take at full)) ∙ ap (λ (m : ℕ). take at full ++ replicate m 0) (let e : 0 ≡ at - length full = omega (arith, long) in e))
     ∙ ap (λ (k : ℕ). (take at full ++ replicate (at - length full) 0) ++ take part bytes ++ drop (at + k) full) (sym size) in
-    subst (λ (l : List ℕ). Torn at (length bytes) old l) same (torn_part old (take part bytes) at (length bytes) part le size)
+    subst (λ (l : List ℕ). Torn at (length bytes) old l) same (torn_part old (take part bytes) at (length bytes) part (omega arith) le size)

@@ -12,7 +12,7 @@ use Rattle.slot_disk.proofs.SlotFiles.{torn_before, torn_behind}
 use Rattle.slot_disk.proofs.Saves.{length-body}
 
 pub torn_same : (at n : ℕ) (file : List ℕ) → Torn at n file file
-torn_same at n file = record { before = refl; after = refl; no_shorter = omega arith; no_longer = omega arith }
+torn_same at n file = record { before = refl; after = refl; no_shorter = omega arith; no_longer = omega arith; nothing = λ e. refl }
 
 -- one write after the other, in a range that has both
 pub torn_both : (lo m at n at' n' : ℕ) (a b c : List ℕ) → lo ≤ at → at + n ≤ lo + m → lo ≤ at' → at' + n' ≤ lo + m → Torn at n a b → Torn at' n' b c → Torn lo m a c
@@ -21,6 +21,7 @@ torn_both lo m at n at' n' a b c from to from' to' first second = record {
   after = torn_behind (lo + m) at' n' b c second to' ∙ torn_behind (lo + m) at n a b first to;
   no_shorter = omega (arith, first.no_shorter, second.no_shorter);
   no_longer = omega (arith, first.no_longer, second.no_longer);
+  nothing = λ e. second.nothing (omega (arith, e, from, to, from', to')) ∙ first.nothing (omega (arith, e, from, to, from', to'));
 }
   where
     k : ℕ
@@ -65,9 +66,10 @@ module _ {D : Type 0} (seen : D → Option (List ℕ)) (may_leave : D → List �
 
 -- a write behind the front of a file
 written_behind : (front rest xs : List ℕ) (at : ℕ) → length front ≡ at → written (front ++ rest) at xs ≡ (front ++ xs) ++ drop (length xs) rest
-written_behind front rest xs at size =
-    ap (λ (l : List ℕ). (l ++ xs) ++ drop (at + length xs) (front ++ rest)) begins
-    ∙ ap (λ (l : List ℕ). (front ++ xs) ++ l) ends
+written_behind front rest [] at size = ap (λ (l : List ℕ). l ++ rest) (sym (append-nil front))
+written_behind front rest (byte ∷ bytes) at size =
+    ap (λ (l : List ℕ). (l ++ (byte ∷ bytes)) ++ drop (at + length (byte ∷ bytes)) (front ++ rest)) begins
+    ∙ ap (λ (l : List ℕ). (front ++ (byte ∷ bytes)) ++ l) ends
   where
     none : at - length (front ++ rest) ≡ 0
     none = omega (arith, size, length-append front rest)
@@ -75,8 +77,8 @@ written_behind front rest xs at size =
     begins : take at (front ++ rest) ++ replicate (at - length (front ++ rest)) 0 ≡ front
     begins = ap (λ (n : ℕ). take at (front ++ rest) ++ replicate n 0) none ∙ append-nil (take at (front ++ rest)) ∙ take_at front rest at size
 
-    ends : drop (at + length xs) (front ++ rest) ≡ drop (length xs) rest
-    ends = sym (drop-drop (length xs) at (front ++ rest)) ∙ ap (λ (l : List ℕ). drop (length xs) l) (drop_at front rest at size)
+    ends : drop (at + length (byte ∷ bytes)) (front ++ rest) ≡ drop (length (byte ∷ bytes)) rest
+    ends = sym (drop-drop (length (byte ∷ bytes)) at (front ++ rest)) ∙ ap (λ (l : List ℕ). drop (length (byte ∷ bytes)) l) (drop_at front rest at size)
 
 -- the body behind a gate, and then the gate
 opened : (front rest xs : List ℕ) (gate at : ℕ) → length front ≡ at → written (written (front ++ gate ∷ rest) (at + 1) xs) at (1 ∷ []) ≡ (front ++ 1 ∷ xs) ++ drop (length xs) rest

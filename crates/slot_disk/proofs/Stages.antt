@@ -14,7 +14,9 @@ use Rattle.slot_disk.specs.Outcomes.{torn_whole, length-front}
 
 -- the bytes from the place of a write on
 drop-written : (old : List ℕ) (at : ℕ) (bytes : List ℕ) → drop at (written old at bytes) ≡ bytes ++ drop (at + length bytes) old
-drop-written old at bytes =
+drop-written old at [] = ap (λ (n : ℕ). drop n old) (let e : at ≡ at + 0 = omega arith in e)
+drop-written old at (byte ∷ rest) =
+    let bytes = byte ∷ rest in
     let front = take at old ++ replicate (at - length old) 0 in
     ap (λ (l : List ℕ). drop at l) (append_assoc front bytes (drop (at + length bytes) old)) ∙ drop_at front (bytes ++ drop (at + length bytes) old) at (length-front old at)
 

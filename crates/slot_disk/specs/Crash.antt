@@ -1,17 +1,23 @@
 -- What the calls of a disk do to its bytes, and what a crash may leave between two syncs.
-use Rattle.std.specs.Prelude.{◌≡◌, ◌⊎◌, ℕ, ◌+◌, ◌-◌, ◌≤◌, min, max, List, ◌++◌, length, take, drop, replicate, Option, None, Some, Result, Ok, Err}
+use Rattle.std.specs.Prelude.{◌≡◌, ◌⊎◌, ℕ, ◌+◌, ◌-◌, ◌≤◌, min, max, List, [], ◌∷◌, ◌++◌, length, take, drop, replicate, Option, None, Some, Result, Ok, Err}
 
--- the file after these bytes were written at this place; a gap past the end is filled with zeros
+-- the file with these bytes laid over it at this place; a gap past the end is filled with zeros
+abbrev pub overlaid : List ℕ → ℕ → List ℕ → List ℕ
+overlaid old at bytes = (take at old ++ replicate (at - length old) 0) ++ bytes ++ drop (at + length bytes) old
+
+-- the file after these bytes were written at this place: a write of no bytes changes nothing
 abbrev pub written : List ℕ → ℕ → List ℕ → List ℕ
-written old at bytes = (take at old ++ replicate (at - length old) 0) ++ bytes ++ drop (at + length bytes) old
+written old at [] = old
+written old at (byte ∷ bytes) = overlaid old at (byte ∷ bytes)
 
 -- after a crash during or after a write of n bytes: any bytes in the range and past the old end,
--- and the old bytes elsewhere
+-- and the old bytes elsewhere; a write of no bytes leaves the file
 pub record Torn (at n : ℕ) (old new : List ℕ) : Type 0 where
   pub before : take (min at (length old)) new ≡ take (min at (length old)) old
   pub after : drop (at + n) new ≡ drop (at + n) old
   pub no_shorter : length old ≤ length new
   pub no_longer : length new ≤ max (length old) (at + n)
+  pub nothing : n ≡ 0 → new ≡ old
 
 -- after a crash during or after a cut to n bytes: a front of the file, not shorter than the cut one
 pub record Cut (n : ℕ) (old new : List ℕ) : Type 0 where

@@ -1,7 +1,7 @@
 -- The images of a crash that a disk in memory builds, and the effect of one more call on the file
 -- and on an image.
 use Rattle.std.specs.Prelude.{◌≡◌, ℕ, ◌+◌, ◌-◌, ◌/◌, List, [], ◌∷◌, ◌++◌, length, take, replicate, reverse}
-use Rattle.slot_disk.specs.Crash.{written}
+use Rattle.slot_disk.specs.Crash.{overlaid, written}
 use Rattle.slot_disk.specs.Steps.{Deed, Wrote, CutTo, Synced, deeds, seen_of}
 use Rattle.slot_disk.specs.declared.image.Image.{Image}
 use Rattle.slot_disk.specs.declared.image.Image.TheVariants as images
@@ -20,7 +20,8 @@ filled file end = file ++ replicate (end - length file) 0
 -- after a write of which a crash keeps the first `part` bytes: the others are old, with zeros past
 -- the old end
 abbrev pub partly_written : List ℕ → ℕ → List ℕ → ℕ → List ℕ
-partly_written old at bytes part = written (filled old (at + length bytes)) at (take part bytes)
+partly_written old at [] part = old
+partly_written old at (byte ∷ bytes) part = overlaid (filled old (at + length (byte ∷ bytes))) at (take part (byte ∷ bytes))
 
 -- after a cut, which the old image does not keep
 abbrev pub cut_in : Image → List ℕ → ℕ → List ℕ

@@ -2,7 +2,7 @@
 use Rattle.std.proofs.Common.{◌≡◌, ◌⊎◌, inl, inr, ℕ, ◌+◌, ◌-◌, ◌<◌, ◌≤◌, min, List, [], ◌∷◌, ◌++◌, length, take, drop, replicate, reverse, Some, refl, sym, ◌∙◌, ap, subst, arith, length-append, length-drop}
 use Rattle.std.proofs.lemmas.List.{take_all, take-append-le, drop_at, length-take, take-take, length-replicate}
 use Rattle.std.proofs.lemmas.Bool.{cases_lt}
-use Rattle.slot_disk.specs.Crash.{written, Torn, Cut}
+use Rattle.slot_disk.specs.Crash.{overlaid, written, Torn, Cut}
 use Rattle.slot_disk.specs.Steps.{Deed, Wrote, CutTo, Synced, seen_of, IsImage, Leaves}
 
 pub length-front : (old : List ℕ) (at : ℕ) → length (take at old ++ replicate (at - length old) 0) ≡ at
@@ -11,19 +11,21 @@ length-front old at = omega (arith, length-append (take at old) (replicate (at -
 length-put : (old : List ℕ) (at : ℕ) (bytes : List ℕ) → length ((take at old ++ replicate (at - length old) 0) ++ bytes) ≡ at + length bytes
 length-put old at bytes = omega (arith, length-append (take at old ++ replicate (at - length old) 0) bytes, length-front old at)
 
-pub length-written : (old : List ℕ) (at : ℕ) (bytes : List ℕ) → length (written old at bytes) ≡ at + length bytes + (length old - (at + length bytes))
-length-written old at bytes = omega (arith, length-append ((take at old ++ replicate (at - length old) 0) ++ bytes) (drop (at + length bytes) old), length-put old at bytes, length-drop (at + length bytes) old)
+pub length-overlaid : (old : List ℕ) (at : ℕ) (bytes : List ℕ) → length (overlaid old at bytes) ≡ at + length bytes + (length old - (at + length bytes))
+length-overlaid old at bytes = omega (arith, length-append ((take at old ++ replicate (at - length old) 0) ++ bytes) (drop (at + length bytes) old), length-put old at bytes, length-drop (at + length bytes) old)
 
 -- a complete write is one of the outcomes of a crash
 pub torn_whole : (old : List ℕ) (at : ℕ) (bytes : List ℕ) → Torn at (length bytes) old (written old at bytes)
-torn_whole old at bytes = record {
+torn_whole old at [] = record { before = refl; after = refl; no_shorter = omega arith; no_longer = omega arith; nothing = λ e. refl }
+torn_whole old at (byte ∷ rest) = let bytes = byte ∷ rest in record {
   before = take-append-le (min at (length old)) ((take at old ++ replicate (at - length old) 0) ++ bytes) (drop (at + length bytes) old) (omega (arith, length-put old at bytes))
       ∙ take-append-le (min at (length old)) (take at old ++ replicate (at - length old) 0) bytes (omega (arith, length-front old at))
       ∙ take-append-le (min at (length old)) (take at old) (replicate (at - length old) 0) (omega (arith, length-take at old))
       ∙ take-take (min at (length old)) at old (omega arith);
   after = drop_at ((take at old ++ replicate (at - length old) 0) ++ bytes) (drop (at + length bytes) old) (at + length bytes) (length-put old at bytes);
-  no_shorter = omega (arith, length-written old at bytes);
-  no_longer = omega (arith, length-written old at bytes);
+  no_shorter = omega (arith, length-overlaid old at bytes);
+  no_longer = omega (arith, length-overlaid old at bytes);
+  nothing = λ e. absurd (omega (arith, e));
 }
 
 pub cut_whole : (old : List ℕ) (n : ℕ) → Cut n old (take n old)

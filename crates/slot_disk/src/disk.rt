@@ -48,7 +48,7 @@ pub trait Disk {
         ensures cause { CountsFaults (fault_count self.old) (fault_count self.new) result };
 
     /// Writes `bytes` from byte `at` on, over the old bytes and past the end; a gap is filled with
-    /// zeros. After an error a read returns what a crash during the write may leave.
+    /// zeros. A write of no bytes changes nothing. After an error a read returns what a crash during the write may leave.
     fn write_at(&mut self, at: u64, bytes: &[u8]) -> Result<(), Failed>
         ensures written { OnOk result (Told (seen self.old) (λ old. seen self.new ≡ Some (written old at bytes.now))) }
         ensures failed { OnErr result (Told (seen self.old) (λ old. SeenIn seen self.new (Torn at (length bytes.now) old))) }

@@ -45,10 +45,14 @@ fn grow(file: &mut Vec<u8>, end: usize) -> Result<(), AllocError>
 }
 
 /// Writes the first `part` bytes of a write that a crash cuts short.
+#[tactic(auto, using(crate::proofs::Files::nothing_partly))]
 fn write_part(file: &mut Vec<u8>, at: u64, bytes: &[u8], part: usize) -> Result<(), AllocError>
     requires { part ≤ length bytes.now }
     ensures { OnOk result (file.new.items ≡ partly_written file.old.items at bytes.now part) }
 {
+    if bytes.is_empty() {
+        return Ok(());
+    }
     let place = at as usize;
     let end = place.checked_add(bytes.len()).ok_or(AllocError)?;
     grow(file, end)?;
@@ -57,10 +61,13 @@ fn write_part(file: &mut Vec<u8>, at: u64, bytes: &[u8], part: usize) -> Result<
 }
 
 /// Writes `bytes` at byte `at`.
-#[tactic(auto, using(crate::proofs::Files::written_over))]
+#[tactic(auto, using(crate::proofs::Files::written_over, crate::proofs::Files::nothing_written))]
 fn write_whole(file: &mut Vec<u8>, at: u64, bytes: &[u8]) -> Result<(), AllocError>
     ensures { OnOk result (file.new.items ≡ written file.old.items at bytes.now) }
 {
+    if bytes.is_empty() {
+        return Ok(());
+    }
     let place = at as usize;
     let end = place.checked_add(bytes.len()).ok_or(AllocError)?;
     grow(file, end)?;

@@ -55,12 +55,15 @@ pub(crate) fn overwrite(file: &mut Vec<u8>, at: usize, bytes: &[u8])
 }
 
 /// Writes `bytes` at byte `at`, within the capacity of the file; a gap is filled with zeros.
-#[tactic(auto, using(crate::proofs::Files::written_over))]
+#[tactic(auto, using(crate::proofs::Files::written_over, crate::proofs::Files::nothing_written))]
 fn put(file: &mut Vec<u8>, at: usize, bytes: &[u8])
     requires { at + length bytes.now ≤ vec_capacity file.old }
     ensures written { file.new.items ≡ written file.old.items at bytes.now }
     ensures capacity { vec_capacity file.old ≤ vec_capacity file.new }
 {
+    if bytes.is_empty() {
+        return;
+    }
     stretch(file, at + bytes.len());
     overwrite(file, at, bytes);
 }
