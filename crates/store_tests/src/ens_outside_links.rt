@@ -1,5 +1,5 @@
 use ens_base::Bytes;
-use ens_outside::{Link, LinkError, MemLink, MemTicker, Ticker};
+use ens_outside::{Link, LinkError, MemLink, MemQueue, MemTicker, Ticker};
 use std::alloc::{AllocError, Global};
 use std::test::Fail;
 
@@ -54,6 +54,21 @@ fn sent_frames_are_kept_in_order(rt: HostRuntime) -> Result<(), Fail> {
         assert_eq!(rt; (*to, frame.as_slice()), (want, text.as_bytes()));
     }
     assert_eq!(rt; sent.next().is_none(), true);
+    Ok(())
+}
+
+#[test]
+fn a_queue_gives_frames_in_the_order_of_sending(rt: HostRuntime) -> Result<(), Fail> {
+    let alloc = rt.alloc();
+    let mut queue = MemQueue::new(alloc, vec![in alloc; 3]?);
+    assert!(rt; gave(queue.receive(alloc), None));
+    assert_eq!(rt; queue.send(alloc, 2, b"one"), Ok(()));
+    assert_eq!(rt; queue.send(alloc, 1, b"lost"), Err(LinkError::Failed));
+    assert_eq!(rt; queue.send(alloc, 1, b"two"), Ok(()));
+    assert!(rt; gave(queue.receive(alloc), Some(b"one")));
+    assert!(rt; gave(queue.receive(alloc), Some(b"two")));
+    assert!(rt; gave(queue.receive(alloc), None));
+    assert_eq!(rt; queue.faults(), 1);
     Ok(())
 }
 

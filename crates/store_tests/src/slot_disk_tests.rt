@@ -38,6 +38,19 @@ fn a_write_past_the_end_leaves_zeros(rt: HostRuntime) -> Result<(), Fail> {
 }
 
 #[test]
+fn a_write_of_no_bytes_changes_nothing(rt: HostRuntime) -> Result<(), Fail> {
+    let alloc = rt.alloc();
+    let mut disk = MemDisk::holding(alloc, b"ab", ROOM, Failing::never(alloc))?;
+    assert_eq!(rt; disk.write_at(9, &[]), Ok(()));
+    assert_eq!(rt; disk.bytes(), b"ab".as_slice());
+    for image in [Image::Old, Image::New, Image::Half] {
+        let left = disk.crash(alloc, image)?;
+        assert_eq!(rt; left.as_slice(), b"ab".as_slice());
+    }
+    Ok(())
+}
+
+#[test]
 fn listed_calls_fail_with_effect_or_without(rt: HostRuntime) -> Result<(), Fail> {
     let alloc = rt.alloc();
     let failing = Failing {
