@@ -13,6 +13,7 @@
 mod calls;
 mod entering;
 mod error;
+mod nodes;
 mod reading;
 mod shape;
 mod store;
