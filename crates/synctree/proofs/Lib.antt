@@ -7,3 +7,4 @@ pub mod Storing
 pub mod Meaning
 pub mod Puts
 pub mod Standing
+pub mod Writing

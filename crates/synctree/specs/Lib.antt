@@ -5,3 +5,4 @@ pub mod Answers
 pub mod Walks
 pub mod Trees
 pub mod Meanings
+pub mod Installs
