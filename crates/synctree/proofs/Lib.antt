@@ -8,3 +8,4 @@ pub mod Meaning
 pub mod Puts
 pub mod Standing
 pub mod Descending
+pub mod Writing

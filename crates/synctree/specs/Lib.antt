@@ -6,3 +6,4 @@ pub mod Walks
 pub mod Trees
 pub mod Meanings
 pub mod Nodes
+pub mod Installs

@@ -5,6 +5,7 @@ ghost use Rattle.tree_maps.specs.Sixteen.{sixteen};
 ghost use Rattle.ens_outside.specs.Stores.{Top};
 ghost use Rattle.ens_outside.specs.Told.{IsTold};
 ghost use Rattle.synctree.specs.Halves.{NodesDid};
+ghost use Rattle.synctree.specs.Installs.{store_does, store_refuses, install_plan};
 ghost use Rattle.synctree.specs.Outsides.{outside_does, outside_refuses};
 ghost use Rattle.synctree.specs.Plans.{Did};
 ghost use Rattle.synctree.specs.Trees.{get_plan, insert_plan, fresh_plan};
@@ -15,8 +16,10 @@ ghost use Rattle.tree_node.specs.Positions.{IsPosition};
 use crate::calls;
 use crate::entering::enter_from_top;
 use crate::error::TreeError;
+use crate::installing::install_all;
 use crate::nodes::node_from_top;
 use crate::store::store_empty;
+use crate::stored_node::StoredNode;
 use crate::walk::find_from_top;
 use ens_base::{Bytes, Digest, Entry, Key};
 use ens_hashing::Hasher16;
@@ -166,6 +169,24 @@ impl<N: NodeStore> Tree<N> {
         ensures stands { OnOk result (IsSomeAnd self.new.top (λ new. Inserts (outside_does N.may_answer N.top_record N.fault_count H.kept H.clashes H.fulls) sixteen self.old.top entry.now (self.old.store, hasher.old) new (self.new.store, hasher.new))) }
     {
         let new = enter_from_top(alloc, &mut self.store, hasher, self.top, entry)?;
+        self.top = Some(new);
+        Ok(())
+    }
+
+    /// Writes the nodes in order, each under its digest, and `top` into the top record last. After
+    /// an error the tree still has its old root. If the store failed while it wrote the top record,
+    /// the stored record is the old one or the new one.
+    pub fn install(
+        &mut self,
+        alloc: Global,
+        nodes: &[StoredNode],
+        top: &Digest,
+    ) -> Result<(), TreeError>
+        ensures did { Enters (λ r. Did (store_does N.may_answer N.top_record N.fault_count) (store_refuses N.may_refuse N.top_record N.fault_count)
+            (install_plan nodes.now top.now) self.old.store r self.new.store) self.old.top result self.new.top }
+        ensures top { OnOk result (self.new.top ≡ Some top.now) }
+    {
+        let new = install_all(alloc, &mut self.store, nodes, top)?;
         self.top = Some(new);
         Ok(())
     }
