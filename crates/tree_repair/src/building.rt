@@ -7,12 +7,14 @@ ghost use Rattle.tree_repair.specs.Admitting.{AdmitsAll};
 ghost use Rattle.tree_repair.specs.Builds.{somes, digest_if, names_of, nodes_down, stored, build_nodes, build_of};
 
 use crate::built::Built;
+use crate::gate::Gate;
 use crate::hashing::digests;
 use crate::inner::inner_texts;
 use crate::segments::segment_texts;
 use ens_base::{Bytes, Digest, Entry, Seq};
 use ens_hashing::{HashError, Hasher16};
 use std::alloc::Global;
+use std::thread::Threads;
 use synctree::StoredNode;
 
 /// The level of the root.
@@ -65,9 +67,11 @@ fn keep_all<H: Hasher16>(
 }
 
 /// Hashes the texts of a level, admits them and appends them to the nodes. Returns their digests.
-fn keep_level<H: Hasher16>(
+fn keep_level<H: Hasher16, R: Threads + Sync, G: Gate + Sync>(
+    rt: &R,
     alloc: Global,
     hasher: &mut H,
+    gate: &G,
     texts: Vec<Option<Bytes>>,
     nodes: &mut Vec<StoredNode>,
 ) -> Result<Vec<Option<Digest>>, HashError>
@@ -75,16 +79,18 @@ fn keep_level<H: Hasher16>(
     ensures nodes { OnOk result (nodes.new.items ≡ nodes.old.items ++ map stored (somes texts.items)) }
     ensures admits { AdmitsAll H.kept H.clashes H.fulls (somes texts.items) hasher.old result hasher.new }
 {
-    let names = digests(alloc, texts.as_slice())?;
+    let names = digests(rt, alloc, texts.as_slice(), gate)?;
     keep_all(alloc, hasher, texts, names.as_slice(), nodes)?;
     Ok(names)
 }
 
 /// Builds the nodes of a level and of all levels below it, the lowest level first. Returns the
 /// digests of the level.
-fn build_level<H: Hasher16>(
+fn build_level<H: Hasher16, R: Threads + Sync, G: Gate + Sync>(
+    rt: &R,
     alloc: Global,
     hasher: &mut H,
+    gate: &G,
     level: u8,
     entries: &[Entry],
     nodes: &mut Vec<StoredNode>,
@@ -97,19 +103,22 @@ fn build_level<H: Hasher16>(
 {
     if level == LAST_LEVEL {
         let texts = segment_texts(alloc, entries)?;
-        return keep_level(alloc, hasher, texts, nodes);
+        return keep_level(rt, alloc, hasher, gate, texts, nodes);
     }
-    let names = build_level(alloc, hasher, level + 1, entries, nodes)?;
+    let names = build_level(rt, alloc, hasher, gate, level + 1, entries, nodes)?;
     let texts = inner_texts(alloc, level, names.as_slice())?;
-    keep_level(alloc, hasher, texts, nodes)
+    keep_level(rt, alloc, hasher, gate, texts, nodes)
 }
 
-/// Returns the plain build of a map, given as its entries in ascending order of keys. The hasher
-/// admits each node, in the order of the build. Fails only if the hasher rejects a node, or when out
+/// Returns the plain build of a map, given as its entries in ascending order of keys. The nodes of a
+/// level are hashed by threads, in pieces that the gate sees begin. The hasher admits each node, in
+/// the order of the build. Fails only if the hasher rejects a node, or when out
 /// of memory, which a segment of 2^32 entries or more counts as.
-pub fn build<H: Hasher16>(
+pub fn build<H: Hasher16, R: Threads + Sync, G: Gate + Sync>(
+    rt: &R,
     alloc: Global,
     hasher: &mut H,
+    gate: &G,
     entries: &[Entry],
 ) -> Result<Built, HashError>
     requires { AreAbove [] entries.now }
@@ -118,7 +127,7 @@ pub fn build<H: Hasher16>(
     ensures admits { AdmitsAll H.kept H.clashes H.fulls (build_nodes sixteen entries.now) hasher.old result hasher.new }
 {
     let mut nodes = Vec::new(alloc);
-    let names = build_level(alloc, hasher, ROOT_LEVEL, entries, &mut nodes)?;
+    let names = build_level(rt, alloc, hasher, gate, ROOT_LEVEL, entries, &mut nodes)?;
     Ok(Built {
         nodes: Seq::new(nodes),
         top: names[0].unwrap(),
