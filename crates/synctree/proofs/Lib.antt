@@ -7,3 +7,5 @@ pub mod Storing
 pub mod Meaning
 pub mod Puts
 pub mod Standing
+pub mod Descending
+pub mod Writing

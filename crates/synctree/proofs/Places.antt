@@ -37,6 +37,10 @@ pub position_of : (h : ℕ) (at : Position) → IsPlace sixteen h at → IsPosit
 unfolding sixteen
 position_of h at p = record { level = omega (arith, p.level); index = p.index }
 
+pub place_of : (at : Position) → IsPosition at → IsPlace sixteen (3 - at.level) at
+unfolding sixteen
+place_of at p = record { level = omega (arith, p.level); index = p.index }
+
 pub level_below : (h : ℕ) (at : Position) → IsPlace sixteen h at → 0 < h → at.level < 3
 unfolding sixteen
 level_below h at p some = omega (arith, p.level)

@@ -5,3 +5,5 @@ pub mod Answers
 pub mod Walks
 pub mod Trees
 pub mod Meanings
+pub mod Nodes
+pub mod Installs

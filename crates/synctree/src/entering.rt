@@ -12,8 +12,9 @@ ghost use Rattle.synctree.specs.Walks.{reach, store as store_plan, enter as ente
 ghost use Rattle.synctree.specs.Trees.{publish_plan, insert_plan};
 
 use crate::calls::{hash, set_top};
+use crate::encoding::{encode_inner, encode_segment};
 use crate::error::TreeError;
-use crate::shape::{DEPTH, ROOT, WIDTH, child, digests, mask, name_of, nibble, with_child};
+use crate::shape::{DEPTH, ROOT, WIDTH, child, name_of, nibble, with_child};
 use crate::store::store;
 use crate::walk::{open_inner, open_segment};
 use ens_base::{Digest, Entry, Seq};
@@ -21,7 +22,7 @@ use ens_hashing::Hasher16;
 use ens_outside::NodeStore;
 use std::alloc::Global;
 use std::cmp::Ordering;
-use tree_node::{InnerNode, Position, Segment};
+use tree_node::{Position, Segment};
 
 /// Returns the children of an inner node that has none.
 fn no_children(alloc: Global) -> Result<Seq<Option<Digest>>, TreeError>
@@ -106,17 +107,11 @@ fn store_segment<N: NodeStore, H: Hasher16>(
     ensures { Did (outside_does N.may_answer N.top_record N.fault_count H.kept H.clashes H.fulls) (outside_refuses N.may_refuse N.top_record N.fault_count H.kept H.clashes H.fulls)
         (store_plan (sixteen.segment_text at entries)) (nodes.old, hasher.old) result (nodes.new, hasher.new) }
 {
-    if entries.as_slice().len() > u32::MAX as usize {
-        return Err(TreeError::Memory);
-    }
     let segment = Segment {
         position: at,
         entries,
     };
-    let bytes = match segment.encode(alloc) {
-        Ok(bytes) => bytes,
-        Err(_) => return Err(TreeError::Memory),
-    };
+    let bytes = encode_segment(alloc, &segment)?;
     store(alloc, nodes, hasher, bytes.as_slice())
 }
 
@@ -133,15 +128,7 @@ fn store_inner<N: NodeStore, H: Hasher16>(
     ensures { Did (outside_does N.may_answer N.top_record N.fault_count H.kept H.clashes H.fulls) (outside_refuses N.may_refuse N.top_record N.fault_count H.kept H.clashes H.fulls)
         (store_plan (sixteen.inner_text at names.now)) (nodes.old, hasher.old) result (nodes.new, hasher.new) }
 {
-    let node = InnerNode {
-        position: at,
-        mask: mask(names),
-        digests: digests(alloc, names)?,
-    };
-    let bytes = match node.encode(alloc) {
-        Ok(bytes) => bytes,
-        Err(_) => return Err(TreeError::Memory),
-    };
+    let bytes = encode_inner(alloc, at, names)?;
     store(alloc, nodes, hasher, bytes.as_slice())
 }
 

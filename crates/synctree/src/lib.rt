@@ -11,13 +11,19 @@
 #![tactic(auto)]
 
 mod calls;
+mod encoding;
 mod entering;
 mod error;
+mod installing;
+mod nodes;
 mod reading;
 mod shape;
 mod store;
+mod stored_node;
 mod tree;
 mod walk;
 
+pub use encoding::{encode_inner, encode_segment};
 pub use error::TreeError;
+pub use stored_node::StoredNode;
 pub use tree::{Tree, TreeMark};

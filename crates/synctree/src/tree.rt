@@ -5,22 +5,29 @@ ghost use Rattle.tree_maps.specs.Sixteen.{sixteen};
 ghost use Rattle.ens_outside.specs.Stores.{Top};
 ghost use Rattle.ens_outside.specs.Told.{IsTold};
 ghost use Rattle.synctree.specs.Halves.{NodesDid};
+ghost use Rattle.synctree.specs.Installs.{store_does, store_refuses, install_plan};
 ghost use Rattle.synctree.specs.Outsides.{outside_does, outside_refuses};
 ghost use Rattle.synctree.specs.Plans.{Did};
 ghost use Rattle.synctree.specs.Trees.{get_plan, insert_plan, fresh_plan};
 ghost use Rattle.synctree.specs.Meanings.{Finds, Opens, Freshens, Enters, Inserts};
+ghost use Rattle.synctree.specs.Nodes.{node_plan, Reads};
+ghost use Rattle.tree_node.specs.Positions.{IsPosition};
 
 use crate::calls;
 use crate::entering::enter_from_top;
 use crate::error::TreeError;
+use crate::installing::install_all;
+use crate::nodes::node_from_top;
 use crate::store::store_empty;
+use crate::stored_node::StoredNode;
 use crate::walk::find_from_top;
-use ens_base::{Digest, Entry, Key};
+use ens_base::{Bytes, Digest, Entry, Key};
 use ens_hashing::Hasher16;
 use ens_outside::NodeStore;
 use slot_disk::Refused;
 use std::alloc::Global;
 use std::marker::Model;
+use tree_node::Position;
 
 /// What remains of a tree when its store is taken out: the digest in the top record, if there is
 /// one.
@@ -125,6 +132,25 @@ impl<N: NodeStore> Tree<N> {
         find_from_top(alloc, &mut self.store, hasher, self.top, key)
     }
 
+    /// Returns the verified bytes of the node at a position, or `None` if the position is empty.
+    /// `Damaged` names the first position on the way to it, from the root, that does not verify. If
+    /// a map stands under the top record, the bytes are those of the node of that map, unless a
+    /// string that was hashed has the digest of a different node of the map.
+    pub fn node<H: Hasher16>(
+        &mut self,
+        alloc: Global,
+        hasher: &mut H,
+        at: Position,
+    ) -> Result<Option<Bytes>, TreeError>
+        requires { IsPosition at }
+        ensures did { Did (outside_does N.may_answer N.top_record N.fault_count H.kept H.clashes H.fulls) (outside_refuses N.may_refuse N.top_record N.fault_count H.kept H.clashes H.fulls)
+            (node_plan sixteen self.old.top at) (self.old.store, hasher.old) result (self.new.store, hasher.new) }
+        ensures reads { IfOk result (λ o. Reads (outside_does N.may_answer N.top_record N.fault_count H.kept H.clashes H.fulls) sixteen self.old.top at (self.old.store, hasher.old) o (self.new.store, hasher.new)) }
+        ensures top { self.new.top ≡ self.old.top }
+    {
+        node_from_top(alloc, &mut self.store, hasher, self.top, at)
+    }
+
     /// Enters the entry into the map, in place of the entry of its key: writes the nodes on the
     /// path of the key, the lowest first, and the top record last. If a map stands under the old
     /// top record, the map with the entry, if it has fewer than 2^32 entries, stands under the new
@@ -143,6 +169,24 @@ impl<N: NodeStore> Tree<N> {
         ensures stands { OnOk result (IsSomeAnd self.new.top (λ new. Inserts (outside_does N.may_answer N.top_record N.fault_count H.kept H.clashes H.fulls) sixteen self.old.top entry.now (self.old.store, hasher.old) new (self.new.store, hasher.new))) }
     {
         let new = enter_from_top(alloc, &mut self.store, hasher, self.top, entry)?;
+        self.top = Some(new);
+        Ok(())
+    }
+
+    /// Writes the nodes in order, each under its digest, and `top` into the top record last. After
+    /// an error the tree still has its old root. If the store failed while it wrote the top record,
+    /// the stored record is the old one or the new one.
+    pub fn install(
+        &mut self,
+        alloc: Global,
+        nodes: &[StoredNode],
+        top: &Digest,
+    ) -> Result<(), TreeError>
+        ensures did { Enters (λ r. Did (store_does N.may_answer N.top_record N.fault_count) (store_refuses N.may_refuse N.top_record N.fault_count)
+            (install_plan nodes.now top.now) self.old.store r self.new.store) self.old.top result self.new.top }
+        ensures top { OnOk result (self.new.top ≡ Some top.now) }
+    {
+        let new = install_all(alloc, &mut self.store, nodes, top)?;
         self.top = Some(new);
         Ok(())
     }

@@ -22,7 +22,7 @@ use tree_node::Position;
 
 /// Returns the bytes stored under the digest, which is their MD5. `Damaged` names `at` if there are
 /// no such bytes.
-fn fetch<N: NodeStore, H: Hasher16>(
+pub(crate) fn fetch<N: NodeStore, H: Hasher16>(
     alloc: Global,
     nodes: &mut N,
     hasher: &mut H,

@@ -3,3 +3,4 @@ pub mod Parts
 pub mod Names
 pub mod Unique
 pub mod Formats
+pub mod Below

@@ -2,3 +2,4 @@ pub mod Entries
 pub mod Forms
 pub mod Maps
 pub mod Sixteen
+pub mod Paths

@@ -3,3 +3,5 @@
 
 #[cfg(test)]
 mod synctree_tests;
+#[cfg(test)]
+mod tree_repair_tests;

@@ -1,9 +1,8 @@
-use Rattle.std.proofs.Common.{◌∙◌, sym, subst, ℕ, List}
+use Rattle.std.proofs.Common.{◌∙◌, subst, ℕ, List}
 use Rattle.synctree.specs.Walks.{store}
 use Rattle.synctree.proofs.Exits.{DidOutside}
-use Rattle.synctree.proofs.Puts.{segment_text_is}
 use Rattle.synctree.proofs.entering.store_segment.Goals as goal
 
 pub returns : goal.returns
 returns g c = subst (λ (b : List ℕ). DidOutside g.N.NodeStore.may_answer g.N.NodeStore.may_refuse g.N.NodeStore.top_record g.N.NodeStore.fault_count g.H.Hasher16.kept g.H.Hasher16.clashes g.H.Hasher16.fulls (store b) (c.args.nodes.now, c.args.hasher.now) c.store.result (c.store.new.nodes, c.store.new.hasher))
-    (c.as_slice-2.ensures.value ∙ c.in-Ok.ensures.ok ∙ sym (segment_text_is c.args.at c.args.entries)) c.store.ensures
+    (c.as_slice.ensures.value ∙ c.in_ok-bytes.ensures) c.store.ensures

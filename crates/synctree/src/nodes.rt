@@ -1,0 +1,165 @@
+ghost use Rattle.std.specs.Prelude.{◌≡◌, ◌-◌, ◌/◌, ◌<◌};
+ghost use Rattle.tree_node.specs.Positions.{IsPosition};
+ghost use Rattle.std.specs.Option.{is_some};
+ghost use Rattle.tree_node.specs.Nodes.{inner_of, segment_of};
+ghost use Rattle.tree_maps.specs.Sixteen.{sixteen, children_in, entries_in};
+ghost use Rattle.synctree.specs.Answers.{Makes};
+ghost use Rattle.synctree.specs.Outsides.{outside_does, outside_refuses};
+ghost use Rattle.synctree.specs.Plans.{Did};
+ghost use Rattle.synctree.specs.Nodes.{child_name as child_name_plan, name_at as name_plan, node_bytes as bytes_plan, is_node as encodes, node_under, node_plan};
+
+use crate::error::TreeError;
+use crate::shape::{DEPTH, ROOT, name_of};
+use crate::walk::{fetch, open_inner};
+use ens_base::{Bytes, Digest};
+use ens_hashing::Hasher16;
+use ens_outside::NodeStore;
+use std::alloc::Global;
+use tree_node::{NodeError, Position, decode_inner, decode_segment};
+
+/// Returns the position of the parent.
+fn parent(at: Position) -> Position
+    requires { 0 < at.level }
+    ensures { result ≡ record { level = at.level - 1; index = at.index / 16 } }
+{
+    Position {
+        level: at.level - 1,
+        index: at.index / 16,
+    }
+}
+
+/// Returns the digest of a child of the inner node under the digest, or `None` if there is no such
+/// child.
+fn child_name<N: NodeStore, H: Hasher16>(
+    alloc: Global,
+    nodes: &mut N,
+    hasher: &mut H,
+    at: Position,
+    digit: u8,
+    digest: &Digest,
+) -> Result<Option<Digest>, TreeError>
+    requires { IsPosition at }
+    ensures { Did (outside_does N.may_answer N.top_record N.fault_count H.kept H.clashes H.fulls) (outside_refuses N.may_refuse N.top_record N.fault_count H.kept H.clashes H.fulls)
+        (child_name_plan sixteen at digit digest.now) (nodes.old, hasher.old) result (nodes.new, hasher.new) }
+{
+    let names = open_inner(alloc, nodes, hasher, at, digest)?;
+    Ok(name_of(names.as_slice(), digit))
+}
+
+/// Returns the digest of the node at a position of the tree whose root has digest `top`, or `None`
+/// if the position is empty.
+fn name_at<N: NodeStore, H: Hasher16>(
+    alloc: Global,
+    nodes: &mut N,
+    hasher: &mut H,
+    top: &Digest,
+    at: Position,
+) -> Result<Option<Digest>, TreeError>
+    requires { IsPosition at }
+    ensures { Did (outside_does N.may_answer N.top_record N.fault_count H.kept H.clashes H.fulls) (outside_refuses N.may_refuse N.top_record N.fault_count H.kept H.clashes H.fulls)
+        (name_plan sixteen top.now at.level at.index) (nodes.old, hasher.old) result (nodes.new, hasher.new) }
+{
+    if at.level == 0 {
+        return Ok(Some(*top));
+    }
+    let above = parent(at);
+    let digit = (at.index % 16) as u8;
+    match name_at(alloc, nodes, hasher, top, above)? {
+        Some(digest) => child_name(alloc, nodes, hasher, above, digit, &digest),
+        None => Ok(None),
+    }
+}
+
+/// Tests whether the bytes encode a node of this position. Fails only when out of memory.
+fn is_node(alloc: Global, bytes: &[u8], at: Position) -> Result<bool, TreeError>
+    requires { IsPosition at }
+    ensures { Makes result (encodes sixteen (3 - at.level) at bytes.now) }
+{
+    if at.level == DEPTH {
+        is_segment(alloc, bytes, at)
+    } else {
+        is_inner(alloc, bytes, at)
+    }
+}
+
+/// Tests whether the bytes encode an inner node of this position. Fails only when out of memory.
+fn is_inner(alloc: Global, bytes: &[u8], at: Position) -> Result<bool, TreeError>
+    requires { IsPosition at }
+    ensures { Makes result (is_some (children_in (inner_of at bytes.now))) }
+{
+    match decode_inner(alloc, bytes, at) {
+        Ok(_node) => Ok(true),
+        Err(NodeError::Memory) => Err(TreeError::Memory),
+        Err(_) => Ok(false),
+    }
+}
+
+/// Tests whether the bytes encode a segment of this position. Fails only when out of memory.
+fn is_segment(alloc: Global, bytes: &[u8], at: Position) -> Result<bool, TreeError>
+    requires { IsPosition at }
+    ensures { Makes result (is_some (entries_in (segment_of at bytes.now))) }
+{
+    match decode_segment(alloc, bytes, at) {
+        Ok(_node) => Ok(true),
+        Err(NodeError::Memory) => Err(TreeError::Memory),
+        Err(_) => Ok(false),
+    }
+}
+
+/// Returns the bytes of the node under the digest.
+fn node_bytes<N: NodeStore, H: Hasher16>(
+    alloc: Global,
+    nodes: &mut N,
+    hasher: &mut H,
+    at: Position,
+    digest: &Digest,
+) -> Result<Option<Bytes>, TreeError>
+    requires { IsPosition at }
+    ensures { Did (outside_does N.may_answer N.top_record N.fault_count H.kept H.clashes H.fulls) (outside_refuses N.may_refuse N.top_record N.fault_count H.kept H.clashes H.fulls)
+        (bytes_plan sixteen at digest.now) (nodes.old, hasher.old) result (nodes.new, hasher.new) }
+{
+    let bytes = fetch(alloc, nodes, hasher, at, digest)?;
+    if is_node(alloc, bytes.as_slice(), at)? {
+        Ok(Some(bytes))
+    } else {
+        Err(TreeError::Damaged(at))
+    }
+}
+
+/// Returns the bytes of the node at a position of the tree whose root has digest `top`, or `None`
+/// if the position is empty.
+fn node_at<N: NodeStore, H: Hasher16>(
+    alloc: Global,
+    nodes: &mut N,
+    hasher: &mut H,
+    top: &Digest,
+    at: Position,
+) -> Result<Option<Bytes>, TreeError>
+    requires { IsPosition at }
+    ensures { Did (outside_does N.may_answer N.top_record N.fault_count H.kept H.clashes H.fulls) (outside_refuses N.may_refuse N.top_record N.fault_count H.kept H.clashes H.fulls)
+        (node_under sixteen at top.now) (nodes.old, hasher.old) result (nodes.new, hasher.new) }
+{
+    match name_at(alloc, nodes, hasher, top, at)? {
+        Some(digest) => node_bytes(alloc, nodes, hasher, at, &digest),
+        None => Ok(None),
+    }
+}
+
+/// Returns the bytes of the node at a position of the tree under the top record, or `None` if the
+/// position is empty.
+pub(crate) fn node_from_top<N: NodeStore, H: Hasher16>(
+    alloc: Global,
+    nodes: &mut N,
+    hasher: &mut H,
+    top: Option<Digest>,
+    at: Position,
+) -> Result<Option<Bytes>, TreeError>
+    requires { IsPosition at }
+    ensures { Did (outside_does N.may_answer N.top_record N.fault_count H.kept H.clashes H.fulls) (outside_refuses N.may_refuse N.top_record N.fault_count H.kept H.clashes H.fulls)
+        (node_plan sixteen top at) (nodes.old, hasher.old) result (nodes.new, hasher.new) }
+{
+    match top {
+        Some(digest) => node_at(alloc, nodes, hasher, &digest, at),
+        None => Err(TreeError::Damaged(ROOT)),
+    }
+}

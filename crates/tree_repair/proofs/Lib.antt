@@ -1,0 +1,5 @@
+pub mod Lists
+pub mod Levels
+pub mod Buckets
+pub mod Admissions
+pub mod Climbing

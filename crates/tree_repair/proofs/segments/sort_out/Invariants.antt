@@ -1,0 +1,9 @@
+use Rattle.std.proofs.Common.{◌≡◌, ◌^◌, take}
+use Rattle.tree_maps.specs.Maps.{each_of}
+use Rattle.tree_maps.specs.Paths.{under}
+use Rattle.tree_maps.specs.Sixteen.{sixteen, segment}
+use Rattle.tree_repair.specs.Builds.{place}
+use Rattle.tree_repair.proofs.segments.sort_out.Given as goal
+
+abbrev pub invariant-loop-entry : goal.invariant-loop-entry
+invariant-loop-entry l = l.segments.items ≡ each_of (λ i. segment (place 3 i) (under sixteen (place 3 i) (take l.entry-index l.entries))) (sixteen.width ^ 3) 0

@@ -1,0 +1,135 @@
+ghost use Rattle.std.specs.Prelude.{◌≡◌, ◌≤◌, ◌-◌, ◌++◌, ◌∷◌, [], map, IfOk, OnOk};
+ghost use Rattle.tree_node.specs.Entries.{AreAbove};
+ghost use Rattle.tree_maps.specs.Entries.{IsMap};
+ghost use Rattle.tree_maps.specs.Maps.{Stands};
+ghost use Rattle.tree_maps.specs.Sixteen.{sixteen};
+ghost use Rattle.tree_repair.specs.Admitting.{AdmitsAll};
+ghost use Rattle.tree_repair.specs.Builds.{somes, digest_if, names_of, nodes_down, stored, build_nodes, build_of};
+
+use crate::built::Built;
+use crate::gate::Gate;
+use crate::hashing::digests;
+use crate::inner::inner_texts;
+use crate::segments::segment_texts;
+use ens_base::{Bytes, Digest, Entry, Seq};
+use ens_hashing::{HashError, Hasher16};
+use std::alloc::Global;
+use std::thread::Threads;
+use synctree::StoredNode;
+
+/// The level of the root.
+const ROOT_LEVEL: u8 = 0;
+
+/// The level of the segments.
+const LAST_LEVEL: u8 = 3;
+
+/// Admits a text, if there is one, and appends it to the nodes.
+fn keep<H: Hasher16>(
+    alloc: Global,
+    hasher: &mut H,
+    text: Option<Bytes>,
+    name: Option<Digest>,
+    nodes: &mut Vec<StoredNode>,
+) -> Result<(), HashError>
+    requires { name ≡ digest_if text }
+    ensures nodes { OnOk result (nodes.new.items ≡ nodes.old.items ++ map stored (somes (text ∷ []))) }
+    ensures admits { AdmitsAll H.kept H.clashes H.fulls (somes (text ∷ [])) hasher.old result hasher.new }
+{
+    let bytes = match text {
+        Some(bytes) => bytes,
+        None => return Ok(()),
+    };
+    let digest = match name {
+        Some(digest) => digest,
+        None => return Ok(()),
+    };
+    hasher.admit(alloc, bytes.as_slice(), &digest)?;
+    nodes.push(StoredNode { digest, bytes })?;
+    Ok(())
+}
+
+/// Admits each text that is there, from left to right, and appends it to the nodes.
+fn keep_all<H: Hasher16>(
+    alloc: Global,
+    hasher: &mut H,
+    mut texts: Vec<Option<Bytes>>,
+    names: &[Option<Digest>],
+    nodes: &mut Vec<StoredNode>,
+) -> Result<(), HashError>
+    requires { names.now ≡ map digest_if texts.items }
+    ensures nodes { OnOk result (nodes.new.items ≡ nodes.old.items ++ map stored (somes texts.items)) }
+    ensures admits { AdmitsAll H.kept H.clashes H.fulls (somes texts.items) hasher.old result hasher.new }
+{
+    for i in 0..texts.len() {
+        keep(alloc, hasher, texts[i].take(), names[i], nodes)?;
+    }
+    Ok(())
+}
+
+/// Hashes the texts of a level, admits them and appends them to the nodes. Returns their digests.
+fn keep_level<H: Hasher16, R: Threads + Sync, G: Gate + Sync>(
+    rt: &R,
+    alloc: Global,
+    hasher: &mut H,
+    gate: &G,
+    texts: Vec<Option<Bytes>>,
+    nodes: &mut Vec<StoredNode>,
+) -> Result<Vec<Option<Digest>>, HashError>
+    ensures names { IfOk result (λ v. v.items ≡ map digest_if texts.items) }
+    ensures nodes { OnOk result (nodes.new.items ≡ nodes.old.items ++ map stored (somes texts.items)) }
+    ensures admits { AdmitsAll H.kept H.clashes H.fulls (somes texts.items) hasher.old result hasher.new }
+{
+    let names = digests(rt, alloc, texts.as_slice(), gate)?;
+    keep_all(alloc, hasher, texts, names.as_slice(), nodes)?;
+    Ok(names)
+}
+
+/// Builds the nodes of a level and of all levels below it, the lowest level first. Returns the
+/// digests of the level.
+fn build_level<H: Hasher16, R: Threads + Sync, G: Gate + Sync>(
+    rt: &R,
+    alloc: Global,
+    hasher: &mut H,
+    gate: &G,
+    level: u8,
+    entries: &[Entry],
+    nodes: &mut Vec<StoredNode>,
+) -> Result<Vec<Option<Digest>>, HashError>
+    requires level { level ≤ 3 }
+    requires ascending { AreAbove [] entries.now }
+    ensures names { IfOk result (λ v. v.items ≡ names_of sixteen level entries.now) }
+    ensures nodes { OnOk result (nodes.new.items ≡ nodes.old.items ++ map stored (nodes_down sixteen (3 - level) level entries.now)) }
+    ensures admits { AdmitsAll H.kept H.clashes H.fulls (nodes_down sixteen (3 - level) level entries.now) hasher.old result hasher.new }
+{
+    if level == LAST_LEVEL {
+        let texts = segment_texts(alloc, entries)?;
+        return keep_level(rt, alloc, hasher, gate, texts, nodes);
+    }
+    let names = build_level(rt, alloc, hasher, gate, level + 1, entries, nodes)?;
+    let texts = inner_texts(alloc, level, names.as_slice())?;
+    keep_level(rt, alloc, hasher, gate, texts, nodes)
+}
+
+/// Returns the plain build of a map, given as its entries in ascending order of keys. The nodes of a
+/// level are hashed by threads, in pieces that the gate sees begin. The hasher admits each node, in
+/// the order of the build. Fails only if the hasher rejects a node, or when out
+/// of memory, which a segment of 2^32 entries or more counts as.
+pub fn build<H: Hasher16, R: Threads + Sync, G: Gate + Sync>(
+    rt: &R,
+    alloc: Global,
+    hasher: &mut H,
+    gate: &G,
+    entries: &[Entry],
+) -> Result<Built, HashError>
+    requires { AreAbove [] entries.now }
+    ensures built { IfOk result (λ b. b ≡ build_of sixteen entries.now) }
+    ensures stands { IfOk result (λ b. IsMap entries.now → Stands sixteen b.top entries.now) }
+    ensures admits { AdmitsAll H.kept H.clashes H.fulls (build_nodes sixteen entries.now) hasher.old result hasher.new }
+{
+    let mut nodes = Vec::new(alloc);
+    let names = build_level(rt, alloc, hasher, gate, ROOT_LEVEL, entries, &mut nodes)?;
+    Ok(Built {
+        nodes: Seq::new(nodes),
+        top: names[0].unwrap(),
+    })
+}

@@ -1,0 +1,21 @@
+//! The plain build of a hash tree, and its install.
+//!
+//! [`build`] returns the nodes of the tree of a map, the lowest level first, each with its digest,
+//! and the digest of the root; it hashes the nodes of a level by threads. [`install`] writes them into the store of a tree, and the top record
+//! last; then the map stands under the new top record. `specs/Builds.antt` defines the plain build,
+//! which knows of no store and of no hasher, and `specs/Admitting.antt` what the hasher did.
+#![tactic(auto)]
+
+mod building;
+mod built;
+mod gate;
+mod hashing;
+mod inner;
+mod installing;
+mod segments;
+
+pub use building::build;
+pub use built::Built;
+pub use gate::{Gate, NoGate};
+pub use hashing::digests;
+pub use installing::install;
