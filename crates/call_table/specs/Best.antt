@@ -1,11 +1,11 @@
 -- The best of the replies of a round: the greatest entry by version, digest and key, and its
 -- object.
-use Rattle.std.specs.Prelude.{Bool, true, false, Option, Some, None, List, [], ◌∷◌}
+use Rattle.std.specs.Prelude.{◌≡◌, Option, Some, None, List, [], ◌∷◌}
 use Rattle.std.specs.Ordering.{on, then_cmp}
 use Rattle.std.specs.declared.cmp.Ordering.{Ordering}
 use Rattle.std.specs.declared.cmp.Ordering.TheVariants.{Less, Equal, Greater}
 use Rattle.ens_base.specs.Epochs.{version_cmp}
-use Rattle.ens_base.specs.Lists.{bytes_cmp}
+use Rattle.ens_base.specs.Lists.{bytes_cmp, ◌∈◌}
 use Rattle.ens_base.specs.declared.entry.Entry.{Entry}
 use Rattle.ens_object.specs.declared.object.Object.{Object}
 use Rattle.call_table.specs.declared.row.Found.{Found}
@@ -31,3 +31,19 @@ abbrev pub better : Option Found → Option Entry → Option Object → Option F
 better best None object = best
 better None (Some entry) object = Some (record { entry = entry; object = object })
 better (Some best) (Some entry) object = Some (better_at (entry_cmp best.entry entry) best entry object)
+
+-- the best of the replies, the newest first
+abbrev pub best_of : List (Option Entry × Option Object) → Option Found
+best_of [] = None
+best_of (r ∷ replies) = better (best_of replies) r.0 r.1
+
+-- f has the greatest entry of the replies, and an object exactly if a reply with this entry has one
+pub record IsGreatest (replies : List (Option Entry × Option Object)) (f : Found) : Type 0 where
+  pub entry : (object : Option Object) × ((Some f.entry, object) ∈ replies)
+  pub greatest : (e : Entry) (object : Option Object) → (Some e, object) ∈ replies → ¬ (entry_cmp f.entry e ≡ Less)
+  pub object : (o : Object) → f.object ≡ Some o → (Some f.entry, Some o) ∈ replies
+  pub no_object : f.object ≡ None → (o : Object) → ¬ ((Some f.entry, Some o) ∈ replies)
+
+abbrev pub IsBest : List (Option Entry × Option Object) → Option Found → Type 0
+IsBest replies None = (e : Entry) (object : Option Object) → ¬ ((Some e, object) ∈ replies)
+IsBest replies (Some f) = IsGreatest replies f

@@ -1,12 +1,12 @@
 -- The table of a leader, and how it changes.
-use Rattle.std.specs.Prelude.{ℕ, Bool, true, false, ◌==◌, ◌&&◌, ◌||◌, if◌then◌else◌, Option, Some, None, List, [], ◌∷◌, ◌++◌}
+use Rattle.std.specs.Prelude.{ℕ, Bool, Option, Some, None, List, [], ◌∷◌}
 use Rattle.call_table.specs.declared.table.CallTable.{CallTable}
-use Rattle.call_table.specs.declared.waiting.Waiting.{Waiting}
 use Rattle.call_table.specs.declared.waiting.DueCall.{DueCall}
 use Rattle.call_table.specs.declared.row.Stage.TheVariants.{Idle}
 use Rattle.call_table.specs.declared.row.KeyRow.{KeyRow}
-use Rattle.call_table.specs.Calls.{without_running, is_due, due, not_due, waiting_on}
-use Rattle.call_table.specs.Rows.{Rows, row_at, with_stage, without_check, check_round, has_put}
+use Rattle.call_table.specs.Calls.{without_running, due, not_due}
+use Rattle.call_table.specs.Late.{late_put_after}
+use Rattle.call_table.specs.Rows.{row_at, with_stage, without_check, check_round}
 
 -- no call, nothing is known, and nothing is asked
 abbrev pub empty_table : CallTable
@@ -32,17 +32,6 @@ rested_all (d ∷ ds) t = rested_all ds (rested_if d.running t)
 -- the calls that are due are removed, and each key whose running call is one of them is idle
 unfoldable pub without_due : CallTable → CallTable
 without_due t = let m = rested_all (due t.calls) t in record m { calls = not_due m.calls }
-
--- whether this call, which comes after the calls `before`, is a running call that is due and has a
--- put that is not settled
-abbrev pub is_late_put : Rows → List Waiting → Waiting → Bool
-is_late_put rows before w = is_due w && (waiting_on w.key before == 0 && has_put (row_at w.key rows).stage)
-
--- whether one of these calls, which come after the calls `before`, is a running call that is due
--- and has a put that is not settled
-abbrev pub late_put_after : Rows → List Waiting → List Waiting → Bool
-late_put_after rows before [] = false
-late_put_after rows before (w ∷ ws) = is_late_put rows before w || late_put_after rows (before ++ w ∷ []) ws
 
 -- whether a running call that is due has a put that is not settled
 unfoldable pub late_put : CallTable → Bool

@@ -9,12 +9,16 @@
 mod best;
 mod calls;
 mod checks;
+mod laws;
+mod places;
+mod queue;
 mod row;
 mod rows;
 mod table;
 mod waiting;
 
 pub use best::better;
+pub use laws::the_best_is_the_greatest;
 pub use row::{Found, KeyRow, Known, Stage};
 pub use table::CallTable;
 pub use waiting::{DueCall, Waiting};

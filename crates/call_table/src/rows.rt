@@ -2,7 +2,7 @@ ghost use Rattle.std.specs.Prelude.{◌≡◌, [], MatchOption, OnOk};
 ghost use Rattle.std.specs.BTreeMap.{insert_entry};
 ghost use Rattle.ens_base.specs.Lists.{bytes_cmp};
 ghost use Rattle.call_table.specs.declared.row.Stage.TheVariants.{Idle};
-ghost use Rattle.call_table.specs.Rows.{row_at, without_row, with_known, with_stage};
+ghost use Rattle.call_table.specs.Rows.{has_put, row_at, without_row, with_known, with_stage};
 
 use crate::row::{KeyRow, Known, Stage};
 use ens_base::{CopyError, Key};
@@ -55,6 +55,16 @@ impl Rows {
         match self.rows.get(key) {
             Some(row) => Some(&row.stage),
             None => None,
+        }
+    }
+
+    /// Whether a put of the key waits for acknowledgements.
+    pub fn has_put(&self, key: &Key) -> bool
+        ensures { result ≡ has_put (row_at key.now self.now).stage }
+    {
+        match self.stage(key) {
+            Some(stage) => stage.has_put(),
+            None => false,
         }
     }
 

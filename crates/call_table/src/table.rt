@@ -1,9 +1,9 @@
 ghost use Rattle.std.specs.Prelude.{◌≡◌, ◌++◌, ◌∷◌, [], IfOk, OnOk, option_map, map, Some};
 ghost use Rattle.call_table.specs.Calls.{has_calls, waiting_on, running, older, due};
-ghost use Rattle.call_table.specs.Rows.{row_at, check_at, with_known, with_stage, with_check, without_check, check_round, has_put as has_put_of};
-ghost use Rattle.call_table.specs.Tables.{empty_table, rested, ended, rested_if, rested_all, without_due, late_put, late_put_after, is_late_put};
+ghost use Rattle.call_table.specs.Rows.{row_at, check_at, with_known, with_stage, with_check, without_check, check_round};
+ghost use Rattle.call_table.specs.Tables.{empty_table, rested, ended, rested_if, rested_all, without_due, late_put};
 
-use crate::calls::{Calls, count_on};
+use crate::calls::Calls;
 use crate::checks::Checks;
 use crate::row::{Known, Stage};
 use crate::rows::Rows;
@@ -82,10 +82,10 @@ impl CallTable {
     }
 
     /// Adds a call at the end. Fails only when out of memory.
-    pub fn join(&mut self, call: Waiting) -> Result<(), AllocError>
+    pub fn join(&mut self, alloc: Global, call: Waiting) -> Result<(), CopyError>
         ensures { OnOk result (self.new ≡ record self.old { calls = self.old.calls ++ call ∷ [] }) }
     {
-        self.calls.push(call)
+        self.calls.push(alloc, call)
     }
 
     /// Sets what is known of the key. Fails only when out of memory.
@@ -152,7 +152,7 @@ impl CallTable {
     pub fn has_late_put(&self) -> bool
         ensures { result ≡ late_put self.now }
     {
-        has_late_put(&self.rows, self.calls.as_slice())
+        self.calls.has_late_put(&self.rows)
     }
 
     fn rest_if(&mut self, alloc: Global, key: &Option<Key>) -> Result<(), CopyError>
@@ -182,20 +182,20 @@ impl CallTable {
     {
         let due = self.calls.due(alloc)?;
         self.rest_all(alloc, &due)?;
-        self.calls.drop_due();
+        self.calls.drop_due(alloc)?;
         Ok(due)
     }
 
-    /// Returns the unanswered calls, in order of arrival.
-    pub fn into_calls(self) -> Vec<Waiting>
-        ensures { result.items ≡ self.calls }
+    /// Returns the unanswered calls, in order of arrival. Fails only when out of memory.
+    pub fn into_calls(self, alloc: Global) -> Result<Vec<Waiting>, AllocError>
+        ensures { IfOk result (λ v. v.items ≡ self.calls) }
     {
         let CallTable {
             calls,
             rows: _rows,
             checks: _checks,
         } = self;
-        calls.into_vec()
+        calls.into_vec(alloc)
     }
 }
 
@@ -207,33 +207,4 @@ fn check_round_of(rows: &Rows, key: &Key) -> Option<u64>
         Some(stage) => stage.check_round(),
         None => None,
     }
-}
-
-/// Whether a put of the key waits for acknowledgements.
-fn has_put(rows: &Rows, key: &Key) -> bool
-    ensures { result ≡ has_put_of (row_at key.now rows.now).stage }
-{
-    match rows.stage(key) {
-        Some(stage) => stage.has_put(),
-        None => false,
-    }
-}
-
-/// Whether this call, which comes after the calls `before`, is a running call that is due and has a
-/// put that is not settled.
-fn is_late_put(rows: &Rows, before: &[Waiting], call: &Waiting) -> bool
-    ensures { result ≡ is_late_put rows.now before.now call.now }
-{
-    call.is_due() && count_on(before, &call.key) == 0 && has_put(rows, &call.key)
-}
-
-fn has_late_put(rows: &Rows, calls: &[Waiting]) -> bool
-    ensures { result ≡ late_put_after rows.now [] calls.now }
-{
-    for i in 0..calls.len() {
-        if is_late_put(rows, &calls[..i], &calls[i]) {
-            return true;
-        }
-    }
-    false
 }

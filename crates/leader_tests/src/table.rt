@@ -81,9 +81,9 @@ fn an_object_of_either_reply_serves(rt: HostRuntime) -> Result<(), Fail> {
 fn the_running_call_is_the_oldest_of_its_key(rt: HostRuntime) -> Result<(), Fail> {
     let alloc = rt.alloc();
     let mut table = CallTable::new(alloc);
-    table.join(call(alloc, 1, b"k")?)?;
-    table.join(call(alloc, 2, b"j")?)?;
-    table.join(call(alloc, 3, b"k")?)?;
+    table.join(alloc, call(alloc, 1, b"k")?)?;
+    table.join(alloc, call(alloc, 2, b"j")?)?;
+    table.join(alloc, call(alloc, 3, b"k")?)?;
     let key = Key::new(alloc, b"k")?;
     assert_eq!(rt; table.waiting_on(&key), 2);
     assert_eq!(rt; table.end_running(alloc, &key)?.map(|w| w.id), Some(1));
@@ -98,14 +98,14 @@ fn the_running_call_is_the_oldest_of_its_key(rt: HostRuntime) -> Result<(), Fail
 fn two_keys_time_out_in_one_tick(rt: HostRuntime) -> Result<(), Fail> {
     let alloc = rt.alloc();
     let mut table = CallTable::new(alloc);
-    table.join(call(alloc, 1, b"k")?)?;
-    table.join(call(alloc, 2, b"j")?)?;
-    table.join(call(alloc, 3, b"k")?)?;
+    table.join(alloc, call(alloc, 1, b"k")?)?;
+    table.join(alloc, call(alloc, 2, b"j")?)?;
+    table.join(alloc, call(alloc, 3, b"k")?)?;
     for _ in 0..7 {
         table.grow_older();
         assert!(rt; table.drop_due(alloc)?.is_empty());
     }
-    table.join(call(alloc, 4, b"j")?)?;
+    table.join(alloc, call(alloc, 4, b"j")?)?;
     table.grow_older();
     assert!(rt; !table.has_late_put());
     let due = table.drop_due(alloc)?;
@@ -114,7 +114,32 @@ fn two_keys_time_out_in_one_tick(rt: HostRuntime) -> Result<(), Fail> {
     for (call, (id, ran)) in due.iter().zip(wanted) {
         assert_eq!(rt; (call.id, call.running.is_some()), (id, ran));
     }
-    let rest = table.into_calls();
+    let rest = table.into_calls(alloc)?;
     assert_eq!(rt; rest.len(), 1);
+    Ok(())
+}
+
+#[test]
+fn many_answers_leave_the_order_of_arrival(rt: HostRuntime) -> Result<(), Fail> {
+    let alloc = rt.alloc();
+    let mut table = CallTable::new(alloc);
+    for id in 0..60 {
+        let key = if id % 20 == 0 { b"j" } else { b"k" };
+        table.join(alloc, call(alloc, id, key)?)?;
+    }
+    let key = Key::new(alloc, b"k")?;
+    for _ in 0..57 {
+        assert!(rt; table.end_running(alloc, &key)?.is_some());
+    }
+    assert_eq!(rt; table.waiting_on(&key), 0);
+    table.join(alloc, call(alloc, 60, b"k")?)?;
+    assert_eq!(rt; table.running(alloc, &key)?.map(|w| w.id), Some(60));
+    let other = Key::new(alloc, b"j")?;
+    assert_eq!(rt; table.end_running(alloc, &other)?.map(|w| w.id), Some(0));
+    let rest = table.into_calls(alloc)?;
+    assert_eq!(rt; rest.len(), 3);
+    for (call, id) in rest.iter().zip([20, 40, 60]) {
+        assert_eq!(rt; call.id, id);
+    }
     Ok(())
 }

@@ -115,7 +115,7 @@ impl Leader {
             table,
             task: _task,
         } = self;
-        let calls = table.into_calls();
+        let calls = table.into_calls(alloc)?;
         left_answers(alloc, &calls)
     }
 

@@ -58,13 +58,14 @@ impl Leader {
         if waiting == 0 {
             out = LeadOut::leads_on(alloc, 28, &key)?;
         }
-        self.table.join(Waiting {
+        let call = Waiting {
             from,
             id,
             key,
             command,
             age: 0,
-        })?;
+        };
+        self.table.join(alloc, call)?;
         Ok(out)
     }
 
