@@ -1,9 +1,8 @@
-pub mod Counts
-pub mod Grammar
-pub mod Halts
-pub mod Guarantees
-pub mod Alone
-pub mod Steady
-pub mod Straight
 pub mod Parts
-pub mod Sending
+pub mod Grammar
+pub mod Kept
+pub mod Passing
+pub mod Counts
+pub mod Halts
+pub mod Fuel
+pub mod Young

@@ -1,62 +1,63 @@
--- Parts of a step, one after another.
-use Rattle.std.proofs.Common.{◌≡◌, ◌<◌, ◌≤◌, ℕ, true, false, nat_lt, arith, subst, List, [], Result, Ok, Err, refl}
-use Rattle.std.proofs.lemmas.Bool.Decides.{nat_tests}
+-- The loop of a step, one task after another.
+use Rattle.std.proofs.Common.{◌≡◌, ◌<◌, ◌≤◌, ◌∙◌, sym, subst, ℕ, zero, suc, ◌+◌, ◌-◌, arith, List, [], ◌∷◌, ◌++◌, Result, Ok, Err, refl}
 use Rattle.register_model.specs.declared.note.Note.{Note}
-use Rattle.peer_core.specs.Calls.{Call, AnswerOf}
-use Rattle.peer_core.specs.Plans.{Plan, Done, Out, nothing, Rest, Ending, Finished, Stopped, Runs, Did}
-use Rattle.peer_core.specs.declared.error.PeerError.{PeerError}
-use Rattle.peer_core.specs.declared.error.PeerError.TheVariants as errors
+use Rattle.step_plans.specs.Calls.{Call, AnswerOf, Answers}
+use Rattle.step_plans.specs.Plans.{Plan, Out, Rest, Spot, Ending, Stopped, Runs, Did, asked}
+use Rattle.step_plans.specs.declared.error.PeerError.{PeerError}
+use Rattle.step_plans.specs.declared.error.PeerError.TheVariants.{Memory}
+use Rattle.step_plans.specs.declared.tasks.Task.{Task}
+use Rattle.step_plans.proofs.Parts.{cut as cut_at, asked_did as asks}
+use Rattle.peer_core.specs.Drives.{task_done, driven}
 use Rattle.peer_core.specs.declared.state.State.{State}
-use Rattle.peer_core.specs.Outboxes.{Empty}
-use Rattle.peer_core.specs.Outcomes.{Acts, out_of}
-use Rattle.peer_core.specs.Steps.{Ended}
-use Rattle.peer_core.specs.declared.machine.Machine.{Machine}
-use Rattle.peer_core.specs.declared.outbox.Outbox.{Outbox}
 
--- if plan q goes on from the point that p reached, then what q did, p did
-pub did_after : {A S : Type 0} (does : S → (call : Call) → AnswerOf call → S → Type 0) (refuses : S → Call → PeerError → S → Type 0) (p q : Rest → Plan)
-    (s m : S) (ns ks : List Note) (r : Result A PeerError) (x : State) (out : Out) (t : S) (ms : List Note)
-    → ((next : Rest) (e : Ending) (end : S) (ls : List Note) → Runs does refuses (q next) m ks e end ls → Runs does refuses (p next) s ns e end ls)
-    → Did does refuses q m ks r x out t ms → Did does refuses p s ns r x out t ms
-did_after does refuses p q s m ns ks (Ok u) x out t ms step did = λ next e end ls h. step next e end ls (did next e end ls h)
-did_after does refuses p q s m ns ks (Err errors.StoreFault) x out t ms step did = λ next. step next (Stopped errors.StoreFault) t ms (did next)
-did_after does refuses p q s m ns ks (Err (errors.Clash first second)) x out t ms step did = λ next. step next (Stopped (errors.Clash first second)) t ms (did next)
-did_after does refuses p q s m ns ks (Err (errors.BookFull bytes)) x out t ms step did = λ next. step next (Stopped (errors.BookFull bytes)) t ms (did next)
-did_after does refuses p q s m ns ks (Err errors.Memory) x out t ms step did = tt
-did_after does refuses p q s m ns ks (Err errors.Halted) x out t ms step did = did
-did_after does refuses p q s m ns ks (Err (errors.BadFact why)) x out t ms step did = did
+one_turn : (turns turn : ℕ) → turn < turns → turns - turn ≡ suc (turns - (turn + 1))
+one_turn turns turn lt = omega (arith, lt)
 
--- a part that is a whole step, from an empty outbox
-pub whole : {A S : Type 0} (does : S → (call : Call) → AnswerOf call → S → Type 0) (refuses : S → Call → PeerError → S → Type 0) (p : Rest → Plan)
-    (s : S) (r : Result A PeerError) (x : State) (out : Out) (t : S) (ms : List Note)
-    → Did does refuses p s [] r x out t ms → Ended does refuses (p Done) s r x out t ms
-whole does refuses p s (Ok u) x out t ms did = did Done (Finished x out) t ms (refl, refl, refl)
-whole does refuses p s (Err errors.StoreFault) x out t ms did = did Done
-whole does refuses p s (Err (errors.Clash first second)) x out t ms did = did Done
-whole does refuses p s (Err (errors.BookFull bytes)) x out t ms did = did Done
-whole does refuses p s (Err errors.Memory) x out t ms did = tt
-whole does refuses p s (Err errors.Halted) x out t ms did = did
-whole does refuses p s (Err (errors.BadFact why)) x out t ms did = did
+module _ {P : Type 0} (does : P → (call : Call) → AnswerOf call → P → Type 0) (refuses : P → Call → PeerError → P → Type 0) where
+  -- each plan may be cut at once, out of memory
+  pub cut : (p : Plan State) (s : P) (ns : List Note) → Runs does refuses p s ns (Stopped Memory) s ns
+  cut p s ns = cut_at does refuses p s ns
 
--- an empty outbox has no output
-pub empty_out : (o : Outbox) → Empty o → out_of o ≡ nothing
-empty_out o e = rw e.sends (rw e.answers (rw e.changes refl))
+  -- a call to the stores, answered or refused, is a part of a step
+  pub asked_did : (call : Call) (x : State) (out : Out) (s t : P) (ns : List Note) (r : Result (AnswerOf call) PeerError) → Answers does refuses s call r t
+      → Did does refuses (asked call) (record { state = x; out = out; stores = s; notes = ns }) r (record { state = x; out = out; stores = t; notes = ns })
+  asked_did call x out s t ns r told = asks does refuses call x out s t ns r told
 
--- a part that begins with an outbox known to be empty
-pub begun : {A S : Type 0} (does : S → (call : Call) → AnswerOf call → S → Type 0) (refuses : S → Call → PeerError → S → Type 0) (p : Out → Rest → Plan)
-    (first : Out) (s : S) (ns : List Note) (r : Result A PeerError) (x : State) (out : Out) (t : S) (ms : List Note)
-    → first ≡ nothing → ns ≡ [] → Did does refuses (p first) s ns r x out t ms → Ended does refuses (p nothing Done) s r x out t ms
-begun does refuses p first s ns r x out t ms none silent did = whole does refuses (p nothing) s r x out t ms (rw (← none) (rw (← silent) did))
+  driven_none : (me n : ℕ) (x : State) (out : Out) (next : Rest State (List Task)) → driven me n [] x out next ≡ next [] x out
+  unfolding driven
+  driven_none me zero x out next = refl
+  driven_none me (suc n) x out next = refl
 
--- what did a part also did the equal part at an equal value
-pub at_equal : {R A S : Type 0} (does : S → (call : Call) → AnswerOf call → S → Type 0) (refuses : S → Call → PeerError → S → Type 0) (part : R → State → Out → Rest → Plan)
-    (old : Machine S) (before : Outbox) (r : Result A PeerError) (new : Machine S) (after : Outbox) (a b : R)
-    → a ≡ b → Acts does refuses (part a) old before r new after → Acts does refuses (part b) old before r new after
-at_equal does refuses part old before r new after a b same acts = subst (λ k. Acts does refuses (part k) old before r new after) same acts
+  -- no task is left
+  pub all_done : (me n : ℕ) (ts rest : List Task) (a : Spot State P) (next : Rest State (List Task)) (e : Ending State) (t : P) (ls : List Note) → ts ≡ [] → ts ≡ rest
+      → Runs does refuses (next rest a.state a.out) a.stores a.notes e t ls → Runs does refuses (driven me n ts a.state a.out next) a.stores a.notes e t ls
+  all_done me n ts rest a next e t ls none same ran =
+      rw none (rw (driven_none me n a.state a.out next) (subst (λ k. Runs does refuses (next k a.state a.out) a.stores a.notes e t ls) (sym same ∙ none) ran))
 
--- tests of numbers
-pub is_below : (n m : ℕ) → n < m → true ≡ nat_lt n m
-is_below n m h = grind (arith, nat_tests)
+  driven_all : (me n : ℕ) (ts : List Task) (x : State) (out : Out) (next : Rest State (List Task)) → n ≡ 0 → driven me n ts x out next ≡ next ts x out
+  unfolding driven
+  driven_all me zero ts x out next is = refl
+  driven_all me (suc n) ts x out next is = let none : ⊥ = grind (arith, is) in absurd none
 
-pub is_not_below : (n m : ℕ) → m ≤ n → false ≡ nat_lt n m
-is_not_below n m h = grind (arith, nat_tests)
+  -- no turn is left
+  pub no_turns : (me turns turn : ℕ) (ts : List Task) (a : Spot State P) (next : Rest State (List Task)) (e : Ending State) (t : P) (ls : List Note) → turns ≤ turn
+      → Runs does refuses (next ts a.state a.out) a.stores a.notes e t ls → Runs does refuses (driven me (turns - turn) ts a.state a.out next) a.stores a.notes e t ls
+  no_turns me turns turn ts a next e t ls over ran =
+      let none : turns - turn ≡ 0 = omega (arith, over) in rw (driven_all me (turns - turn) ts a.state a.out next none) ran
+
+  -- one task was run
+  pub one_done : (me turns turn : ℕ) (ts rest more : List Task) (task : Task) (a b : Spot State P) (next : Rest State (List Task)) (e : Ending State) (t : P) (ls : List Note)
+      → turn < turns → ts ≡ task ∷ rest → Did does refuses (task_done me task) a (Ok more) b
+      → Runs does refuses (driven me (turns - (turn + 1)) (more ++ rest) b.state b.out next) b.stores b.notes e t ls
+      → Runs does refuses (driven me (turns - turn) ts a.state a.out next) a.stores a.notes e t ls
+  unfolding driven
+  one_done me turns turn ts rest more task a b next e t ls lt is did ran =
+      rw is (rw (one_turn turns turn lt) (did (λ more y o. driven me (turns - (turn + 1)) (more ++ rest) y o next) e t ls ran))
+
+  -- one task stopped
+  pub one_stopped : (me turns turn : ℕ) (ts rest : List Task) (task : Task) (a b : Spot State P) (error : PeerError) (next : Rest State (List Task))
+      → turn < turns → ts ≡ task ∷ rest → Did {A = List Task} does refuses (task_done me task) a (Err error) b
+      → Runs does refuses (driven me (turns - turn) ts a.state a.out next) a.stores a.notes (Stopped error) b.stores b.notes
+  unfolding driven
+  one_stopped me turns turn ts rest task a b error next lt is did =
+      rw is (rw (one_turn turns turn lt) (did (λ more y o. driven me (turns - (turn + 1)) (more ++ rest) y o next)))

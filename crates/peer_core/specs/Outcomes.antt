@@ -1,18 +1,26 @@
--- What a call did to a peer's state, its stores and the outbox.
-use Rattle.std.specs.Prelude.{Result}
-use Rattle.peer_core.specs.Calls.{Call, AnswerOf}
-use Rattle.peer_core.specs.Plans.{Plan, Rest, Out, Did}
-use Rattle.peer_core.specs.declared.error.PeerError.{PeerError}
+-- What a call did to a machine, the hasher and the outbox.
+use Rattle.std.specs.Prelude.{ℕ, Result}
+use Rattle.step_plans.specs.Calls.{Call, AnswerOf}
+use Rattle.step_plans.specs.Outboxes.{out_of}
+use Rattle.step_plans.specs.Plans.{Part, Spot, Did}
+use Rattle.step_plans.specs.Steps.{Ended}
+use Rattle.step_plans.specs.declared.error.PeerError.{PeerError}
+use Rattle.step_plans.specs.declared.outbox.Outbox.{Outbox}
+use Rattle.peer_core.specs.Drives.{step_of}
+use Rattle.peer_core.specs.declared.event.Event.{Event}
 use Rattle.peer_core.specs.declared.machine.Machine.{Machine}
-use Rattle.peer_core.specs.declared.outbox.Outbox.{Outbox}
 use Rattle.peer_core.specs.declared.state.State.{State}
 
--- the contents of an outbox, without the notes
-abbrev pub out_of : Outbox → Out
-out_of o = record { sends = o.sends.items; answers = o.answers.items; changes = o.changes.items }
+-- the point that a step has reached
+abbrev pub spot : {S H : Type 0} → Machine S → H → Outbox → Spot State (S × H)
+spot m h o = record { state = m.state; out = out_of o; stores = (m.stores, h); notes = o.notes.items }
 
 -- the call did this part of a step
-abbrev pub Acts : {A S : Type 0} → (S → (call : Call) → AnswerOf call → S → Type 0) → (S → Call → PeerError → S → Type 0)
-    → (State → Out → Rest → Plan) → Machine S → Outbox → Result A PeerError → Machine S → Outbox → Type 0
-Acts does refuses part old before result new after =
-    Did does refuses (λ next. part old.state (out_of before) next) old.stores before.notes.items result new.state (out_of after) new.stores after.notes.items
+abbrev pub Acts : {A S H : Type 0} → (S × H → (call : Call) → AnswerOf call → S × H → Type 0) → (S × H → Call → PeerError → S × H → Type 0)
+    → Part State A → Machine S → H → Outbox → Result A PeerError → Machine S → H → Outbox → Type 0
+Acts does refuses part m h o result n k p = Did does refuses part (spot m h o) result (spot n k p)
+
+-- the call took the step, in an outbox of its own
+abbrev pub Takes : {A S H : Type 0} → (S × H → (call : Call) → AnswerOf call → S × H → Type 0) → (S × H → Call → PeerError → S × H → Type 0)
+    → ℕ → Event → Machine S → H → Outbox → Result A PeerError → Machine S → H → Outbox → Type 0
+Takes does refuses me event m h o result n k p = Ended does refuses (step_of me event m.state) (m.stores, h) o.notes.items result n.state (out_of p) (n.stores, k) p.notes.items

@@ -2,11 +2,11 @@
 use Rattle.std.specs.Prelude.{ℕ, Bool, true, false, List, [], Option, Some, None, Result, Ok, Err}
 use Rattle.peer_fact.specs.Facts.{opening_fact}
 use Rattle.peer_fact.specs.declared.fact.Fact.{Fact}
-use Rattle.peer_core.specs.Calls.{Call, Load, Save, AnswerOf}
-use Rattle.peer_core.specs.Transitions.{follower}
-use Rattle.peer_core.specs.Plans.{Plan, Done, Ask, nothing, Finished, Stopped, Runs}
-use Rattle.peer_core.specs.declared.error.PeerError.{PeerError}
-use Rattle.peer_core.specs.declared.error.PeerError.TheVariants as errors
+use Rattle.step_plans.specs.Calls.{Call, Load, Save, AnswerOf}
+use Rattle.step_plans.specs.Plans.{Plan, Done, Ask, nothing, Finished, Stopped, Runs}
+use Rattle.step_plans.specs.declared.error.PeerError.{PeerError}
+use Rattle.step_plans.specs.declared.error.PeerError.TheVariants as errors
+use Rattle.peer_core.specs.Moves.{follower}
 use Rattle.peer_core.specs.declared.state.State.{State}
 
 -- the state in which a peer starts: it follows
@@ -15,30 +15,23 @@ first_state fact trusted = record { fact = fact; trusted = trusted; phase = foll
 
 -- a start from what was kept: without a kept fact the opening fact is saved and the tree is
 -- trusted; otherwise the peer continues from the kept fact, and its tree is not trusted
-abbrev pub opened : List ℕ → Option Fact → Plan
+abbrev pub opened : List ℕ → Option Fact → Plan State
 opened view None = Ask (Save (opening_fact view)) (λ u. Done (first_state (opening_fact view) true) nothing)
 opened view (Some fact) = Done (first_state fact false) nothing
 
--- rule 1: a start of a peer whose ensemble opens in this view
-abbrev pub start_of : List ℕ → Plan
+-- rule 1: a start of a peer whose ensemble opens in this view; there is no tree yet
+abbrev pub start_of : List ℕ → Plan State
 start_of view = Ask Load (λ kept. opened view kept)
 
--- this error stopped the start, at its load or its save
-abbrev pub IsStopped : {S : Type 0} → (S → (call : Call) → AnswerOf call → S → Type 0) → (S → Call → PeerError → S → Type 0)
-    → Plan → S → PeerError → S → Type 0
-IsStopped does refuses plan s e t = Runs does refuses plan s [] (Stopped e) t []
-
 -- the call was the start of a peer
-abbrev pub Starts : {S : Type 0} → (S → (call : Call) → AnswerOf call → S → Type 0) → (S → Call → PeerError → S → Type 0)
-    → Plan → S → Result State PeerError → S → Type 0
+abbrev pub Starts : {P : Type 0} → (P → (call : Call) → AnswerOf call → P → Type 0) → (P → Call → PeerError → P → Type 0)
+    → Plan State → P → Result State PeerError → P → Type 0
 Starts does refuses plan s (Ok x) t = Runs does refuses plan s [] (Finished x nothing) t []
-Starts does refuses plan s (Err e) t = IsStopped does refuses plan s e t
+Starts does refuses plan s (Err e) t = Runs does refuses plan s [] (Stopped e) t []
 
 -- why a start failed
 abbrev pub IsStartError : PeerError → Type 0
 IsStartError errors.StoreFault = Unit {0}
 IsStartError (errors.BadFact why) = Unit {0}
 IsStartError errors.Memory = Unit {0}
-IsStartError errors.Halted = ⊥
-IsStartError (errors.Clash first second) = ⊥
-IsStartError (errors.BookFull bytes) = ⊥
+IsStartError e = ⊥

@@ -1,17 +1,19 @@
--- What the stores of a peer may answer, taken together.
-use Rattle.std.specs.Prelude.{◌≡◌, ◌⊎◌, ◌≤◌, ℕ, Option, Some, Result, Ok, Err}
+-- What the three stores of a peer and the hasher lent to them may answer, taken together.
+use Rattle.std.specs.Prelude.{◌≡◌, ◌⊎◌, ◌≤◌, ℕ, List, Option, Some, Result, Ok, Err}
 use Rattle.ens_base.specs.Causes.{Rose}
+use Rattle.ens_hashing.specs.Hashing.{IsClash, IsKept, Stays, Takes}
 use Rattle.ens_outside.specs.Stores.{BackendCall, BackendAnswer, Get, Put as PutObject}
 use Rattle.ens_outside.specs.declared.errors.StoreError.{StoreError}
-use Rattle.ens_outside.specs.declared.errors.StoreError.TheVariants.{Failed}
+use Rattle.ens_outside.specs.declared.errors.StoreError.TheVariants as stores
 use Rattle.fact_store.specs.Keeping.{KeeperCall, KeeperAnswer, Load as LoadFact, Save as SaveFact, Loads, IsOldOrNew}
 use Rattle.fact_store.specs.declared.error.KeepError.{KeepError}
 use Rattle.fact_store.specs.declared.error.KeepError.TheVariants as keeps
+use Rattle.md5.specs.Md5.{md5}
 use Rattle.peer_fact.specs.declared.error.FactError.{FactError}
 use Rattle.peer_fact.specs.declared.fact.Fact.{Fact}
-use Rattle.peer_core.specs.Calls.{Call, Load, Save, Find, Enter, ScanTree, ReadNode, Install, Fetch, Put, AnswerOf}
-use Rattle.peer_core.specs.declared.error.PeerError.{PeerError}
-use Rattle.peer_core.specs.declared.error.PeerError.TheVariants as errors
+use Rattle.step_plans.specs.Calls.{Call, Load, Save, FreshTree, OpenTree, Find, Enter, ScanTree, ReadNode, Install, Fetch, Put, Hash, AnswerOf}
+use Rattle.step_plans.specs.declared.error.PeerError.{PeerError}
+use Rattle.step_plans.specs.declared.error.PeerError.TheVariants as errors
 use Rattle.peer_core.specs.declared.stores.Stores.{Stores}
 
 -- a store failed: its count of faults rose
@@ -20,16 +22,16 @@ pub record HasFailed (before now : ℕ) : Type 0 where
   pub rose : Rose before now
 
 -- only the fact keeper was called
-abbrev pub FactsAlone : {B N F : Type 0} → Stores B N F → Stores B N F → Type 0
-FactsAlone s t = (t.backend ≡ s.backend) × (t.nodes ≡ s.nodes)
+abbrev pub FactsAlone : {B N F H : Type 0} → Stores B N F × H → Stores B N F × H → Type 0
+FactsAlone s t = (t.0.backend ≡ s.0.backend) × (t.0.nodes ≡ s.0.nodes) × (t.1 ≡ s.1)
 
--- only the nodes were called
-abbrev pub NodesAlone : {B N F : Type 0} → Stores B N F → Stores B N F → Type 0
-NodesAlone s t = (t.backend ≡ s.backend) × (t.facts ≡ s.facts)
+-- only the nodes and the hasher were called
+abbrev pub NodesAlone : {B N F H : Type 0} → Stores B N F × H → Stores B N F × H → Type 0
+NodesAlone s t = (t.0.backend ≡ s.0.backend) × (t.0.facts ≡ s.0.facts)
 
 -- only the backend was called
-abbrev pub BackendAlone : {B N F : Type 0} → Stores B N F → Stores B N F → Type 0
-BackendAlone s t = (t.nodes ≡ s.nodes) × (t.facts ≡ s.facts)
+abbrev pub BackendAlone : {B N F H : Type 0} → Stores B N F × H → Stores B N F × H → Type 0
+BackendAlone s t = (t.0.nodes ≡ s.0.nodes) × (t.0.facts ≡ s.0.facts) × (t.1 ≡ s.1)
 
 -- why a fact was not loaded: the keeper failed, what is kept is not a fact, or out of memory
 abbrev pub IsLoadError : Option (Result Fact FactError) → ℕ → ℕ → PeerError → Type 0
@@ -44,52 +46,96 @@ keeper_error (errors.BadFact why) = keeps.Bad why
 keeper_error errors.Memory = keeps.Memory
 keeper_error e = keeps.Failed
 
--- What a call may be answered. A load returns what is kept, a saved fact is kept from then on, and
--- the backend answers as its contract says. Nothing is said yet about what a tree over the nodes
--- answers, since no rule asks it. Each call touches one store, whose count of faults does not
--- decrease.
-abbrev pub stores_do : {B N F : Type 0} → (B → (call : BackendCall) → BackendAnswer call → B → Type 0) → (B → ℕ) → (N → ℕ)
-    → (F → (call : KeeperCall) → KeeperAnswer call → F → Type 0) → (F → Option (Result Fact FactError)) → (F → ℕ) → Stores B N F → (call : Call) → AnswerOf call → Stores B N F → Type 0
-stores_do gives b n tells kept f s Load a t = Loads (kept s.facts) (f s.facts) (f t.facts) (Ok a) × (kept t.facts ≡ kept s.facts) × (f s.facts ≤ f t.facts) × FactsAlone s t × tells s.facts LoadFact a t.facts
-stores_do gives b n tells kept f s (Save fact) a t = (kept t.facts ≡ Some (Ok fact)) × (f s.facts ≤ f t.facts) × FactsAlone s t × tells s.facts (SaveFact fact) tt t.facts
-stores_do gives b n tells kept f s (Find key) a t = (n s.nodes ≤ n t.nodes) × NodesAlone s t
-stores_do gives b n tells kept f s (Enter entry) a t = (n s.nodes ≤ n t.nodes) × NodesAlone s t
-stores_do gives b n tells kept f s ScanTree a t = (n s.nodes ≤ n t.nodes) × NodesAlone s t
-stores_do gives b n tells kept f s (ReadNode at) a t = (n s.nodes ≤ n t.nodes) × NodesAlone s t
-stores_do gives b n tells kept f s (Install entries) a t = (n s.nodes ≤ n t.nodes) × NodesAlone s t
-stores_do gives b n tells kept f s (Fetch key) a t = gives s.backend (Get key) a t.backend × (b s.backend ≤ b t.backend) × BackendAlone s t
-stores_do gives b n tells kept f s (Put key bytes) a t = gives s.backend (PutObject key bytes) a t.backend × (b s.backend ≤ b t.backend) × BackendAlone s t
+-- why a hasher refused the bytes: two strings with one digest or a full book, whose count rose, or
+-- out of memory; no count decreased, and what is kept stays
+abbrev pub HashRefuses : {H : Type 0} → (H → Option (List (List ℕ))) → (H → ℕ) → (H → ℕ) → List ℕ → H → PeerError → H → Type 0
+HashRefuses strings c d bytes h (errors.Clash first second) k =
+    Stays (strings h) (strings k) × IsClash first second × IsKept (strings h) first × (second ≡ bytes) × Rose (c h) (c k) × (d h ≤ d k)
+HashRefuses strings c d bytes h (errors.BookFull kept) k = Stays (strings h) (strings k) × Rose (d h) (d k) × (c h ≤ c k)
+HashRefuses strings c d bytes h errors.Memory k = Stays (strings h) (strings k) × (c h ≤ c k) × (d h ≤ d k)
+HashRefuses strings c d bytes h e k = ⊥
 
--- What a refused call may leave. After a refused save the old fact is kept, or the new one. The
--- count of faults of the called store rose.
-abbrev pub stores_refuse : {B N F : Type 0} → (B → BackendCall → StoreError → B → Type 0) → (B → ℕ) → (N → ℕ)
-    → (F → KeeperCall → KeepError → F → Type 0) → (F → Option (Result Fact FactError)) → (F → ℕ) → Stores B N F → Call → PeerError → Stores B N F → Type 0
-stores_refuse loses b n drops kept f s Load e t = IsLoadError (kept s.facts) (f s.facts) (f t.facts) e × (kept t.facts ≡ kept s.facts) × FactsAlone s t × drops s.facts LoadFact (keeper_error e) t.facts
-stores_refuse loses b n drops kept f s (Save fact) e t = (e ≡ errors.StoreFault) × IsOldOrNew (kept s.facts) fact (kept t.facts) × HasFailed (f s.facts) (f t.facts) × FactsAlone s t × drops s.facts (SaveFact fact) keeps.Failed t.facts
-stores_refuse loses b n drops kept f s (Find key) e t = (e ≡ errors.StoreFault) × HasFailed (n s.nodes) (n t.nodes) × NodesAlone s t
-stores_refuse loses b n drops kept f s (Enter entry) e t = (e ≡ errors.StoreFault) × HasFailed (n s.nodes) (n t.nodes) × NodesAlone s t
-stores_refuse loses b n drops kept f s ScanTree e t = (e ≡ errors.StoreFault) × HasFailed (n s.nodes) (n t.nodes) × NodesAlone s t
-stores_refuse loses b n drops kept f s (ReadNode at) e t = (e ≡ errors.StoreFault) × HasFailed (n s.nodes) (n t.nodes) × NodesAlone s t
-stores_refuse loses b n drops kept f s (Install entries) e t = (e ≡ errors.StoreFault) × HasFailed (n s.nodes) (n t.nodes) × NodesAlone s t
-stores_refuse loses b n drops kept f s (Fetch key) e t = (e ≡ errors.StoreFault) × loses s.backend (Get key) Failed t.backend × HasFailed (b s.backend) (b t.backend) × BackendAlone s t
-stores_refuse loses b n drops kept f s (Put key bytes) e t = (e ≡ errors.StoreFault) × loses s.backend (PutObject key bytes) Failed t.backend × HasFailed (b s.backend) (b t.backend) × BackendAlone s t
+-- a call of the tree decreased no count, and called only the nodes and the hasher
+abbrev pub TreeLater : {B N F H : Type 0} → (N → ℕ) → (H → ℕ) → (H → ℕ) → Stores B N F × H → Stores B N F × H → Type 0
+TreeLater n c d s t = (n s.0.nodes ≤ n t.0.nodes) × (c s.1 ≤ c t.1) × (d s.1 ≤ d t.1) × NodesAlone s t
 
--- no count of faults decreased
-pub record AreLater {B N F : Type 0} (b : B → ℕ) (n : N → ℕ) (f : F → ℕ) (s t : Stores B N F) : Type 0 where
-  pub backend : b s.backend ≤ b t.backend
-  pub nodes : n s.nodes ≤ n t.nodes
-  pub facts : f s.facts ≤ f t.facts
+-- why a call of the tree was refused: a store or the hasher refused, and its count rose, or out of
+-- memory
+abbrev pub IsTreeError : {B N F H : Type 0} → (N → ℕ) → (H → ℕ) → (H → ℕ) → Stores B N F × H → PeerError → Stores B N F × H → Type 0
+IsTreeError n c d s errors.StoreFault t = Rose (n s.0.nodes) (n t.0.nodes)
+IsTreeError n c d s (errors.Clash first second) t = Rose (c s.1) (c t.1)
+IsTreeError n c d s (errors.BookFull kept) t = Rose (d s.1) (d t.1)
+IsTreeError n c d s errors.Memory t = Unit {0}
+IsTreeError n c d s e t = ⊥
+
+-- why a call of the backend was refused: it failed and its count rose, or out of memory
+abbrev pub IsBackendRefusal : {B : Type 0} → (B → BackendCall → StoreError → B → Type 0) → (B → ℕ) → B → BackendCall → PeerError → B → Type 0
+IsBackendRefusal loses b s call errors.StoreFault t = loses s call stores.Failed t × HasFailed (b s) (b t)
+IsBackendRefusal loses b s call errors.Memory t = loses s call stores.Memory t × (b t ≡ b s)
+IsBackendRefusal loses b s call e t = ⊥
+
+-- What a call may be answered. A load returns what is kept, a saved fact is kept from then on, the
+-- backend answers as its contract says, and a hash is the MD5. Nothing is said about what the tree
+-- answers over its nodes; the contract of the tree will say it. No count decreases, and each call
+-- leaves the other stores as they were.
+abbrev pub stores_do : {B N F H : Type 0} → (B → (call : BackendCall) → BackendAnswer call → B → Type 0) → (B → ℕ) → (N → ℕ)
+    → (F → (call : KeeperCall) → KeeperAnswer call → F → Type 0) → (F → Option (Result Fact FactError)) → (F → ℕ)
+    → (H → Option (List (List ℕ))) → (H → ℕ) → (H → ℕ) → Stores B N F × H → (call : Call) → AnswerOf call → Stores B N F × H → Type 0
+stores_do gives b n tells kept f strings c d s Load a t =
+    Loads (kept s.0.facts) (f s.0.facts) (f t.0.facts) (Ok a) × (kept t.0.facts ≡ kept s.0.facts) × (f s.0.facts ≤ f t.0.facts) × FactsAlone s t × tells s.0.facts LoadFact a t.0.facts
+stores_do gives b n tells kept f strings c d s (Save fact) a t =
+    (kept t.0.facts ≡ Some (Ok fact)) × (f s.0.facts ≤ f t.0.facts) × FactsAlone s t × tells s.0.facts (SaveFact fact) tt t.0.facts
+stores_do gives b n tells kept f strings c d s FreshTree a t = TreeLater n c d s t
+stores_do gives b n tells kept f strings c d s OpenTree a t = TreeLater n c d s t
+stores_do gives b n tells kept f strings c d s (Find key) a t = TreeLater n c d s t
+stores_do gives b n tells kept f strings c d s (Enter entry) a t = TreeLater n c d s t
+stores_do gives b n tells kept f strings c d s ScanTree a t = TreeLater n c d s t
+stores_do gives b n tells kept f strings c d s (ReadNode at) a t = TreeLater n c d s t
+stores_do gives b n tells kept f strings c d s (Install entries) a t = TreeLater n c d s t
+stores_do gives b n tells kept f strings c d s (Fetch key) a t = gives s.0.backend (Get key) a t.0.backend × (b s.0.backend ≤ b t.0.backend) × BackendAlone s t
+stores_do gives b n tells kept f strings c d s (Put key bytes) a t = gives s.0.backend (PutObject key bytes) a t.0.backend × (b s.0.backend ≤ b t.0.backend) × BackendAlone s t
+stores_do gives b n tells kept f strings c d s (Hash bytes) a t =
+    (a ≡ md5 bytes) × Takes bytes (strings s.1) (strings t.1) × (c s.1 ≤ c t.1) × (d s.1 ≤ d t.1) × (t.0 ≡ s.0)
+
+-- What a refused call may leave. After a refused save the old fact is kept, or the new one; a
+-- refused call of the tree may have written nodes. The count of the store or of the hasher that
+-- refused rose, unless out of memory or what is kept is not a fact.
+abbrev pub stores_refuse : {B N F H : Type 0} → (B → BackendCall → StoreError → B → Type 0) → (B → ℕ) → (N → ℕ)
+    → (F → KeeperCall → KeepError → F → Type 0) → (F → Option (Result Fact FactError)) → (F → ℕ)
+    → (H → Option (List (List ℕ))) → (H → ℕ) → (H → ℕ) → Stores B N F × H → Call → PeerError → Stores B N F × H → Type 0
+stores_refuse loses b n drops kept f strings c d s Load e t =
+    IsLoadError (kept s.0.facts) (f s.0.facts) (f t.0.facts) e × (kept t.0.facts ≡ kept s.0.facts) × FactsAlone s t × drops s.0.facts LoadFact (keeper_error e) t.0.facts
+stores_refuse loses b n drops kept f strings c d s (Save fact) e t =
+    (e ≡ errors.StoreFault) × IsOldOrNew (kept s.0.facts) fact (kept t.0.facts) × HasFailed (f s.0.facts) (f t.0.facts) × FactsAlone s t × drops s.0.facts (SaveFact fact) keeps.Failed t.0.facts
+stores_refuse loses b n drops kept f strings c d s FreshTree e t = IsTreeError n c d s e t × TreeLater n c d s t
+stores_refuse loses b n drops kept f strings c d s OpenTree e t = IsTreeError n c d s e t × TreeLater n c d s t
+stores_refuse loses b n drops kept f strings c d s (Find key) e t = IsTreeError n c d s e t × TreeLater n c d s t
+stores_refuse loses b n drops kept f strings c d s (Enter entry) e t = IsTreeError n c d s e t × TreeLater n c d s t
+stores_refuse loses b n drops kept f strings c d s ScanTree e t = IsTreeError n c d s e t × TreeLater n c d s t
+stores_refuse loses b n drops kept f strings c d s (ReadNode at) e t = IsTreeError n c d s e t × TreeLater n c d s t
+stores_refuse loses b n drops kept f strings c d s (Install entries) e t = IsTreeError n c d s e t × TreeLater n c d s t
+stores_refuse loses b n drops kept f strings c d s (Fetch key) e t = IsBackendRefusal loses b s.0.backend (Get key) e t.0.backend × BackendAlone s t
+stores_refuse loses b n drops kept f strings c d s (Put key bytes) e t = IsBackendRefusal loses b s.0.backend (PutObject key bytes) e t.0.backend × BackendAlone s t
+stores_refuse loses b n drops kept f strings c d s (Hash bytes) e t = HashRefuses strings c d bytes s.1 e t.1 × (t.0 ≡ s.0)
+
+-- no count decreased
+pub record AreLater {B N F H : Type 0} (b : B → ℕ) (n : N → ℕ) (f : F → ℕ) (c d : H → ℕ) (s t : Stores B N F × H) : Type 0 where
+  pub backend : b s.0.backend ≤ b t.0.backend
+  pub nodes : n s.0.nodes ≤ n t.0.nodes
+  pub facts : f s.0.facts ≤ f t.0.facts
+  pub clashes : c s.1 ≤ c t.1
+  pub fulls : d s.1 ≤ d t.1
 
 -- the count of faults of some store rose
 abbrev pub SomeRose : {B N F : Type 0} → (B → ℕ) → (N → ℕ) → (F → ℕ) → Stores B N F → Stores B N F → Type 0
 SomeRose b n f s t = Rose (b s.backend) (b t.backend) ⊎ (Rose (n s.nodes) (n t.nodes) ⊎ Rose (f s.facts) (f t.facts))
 
--- why a plan stopped: the count of faults of some store rose, what is kept is not a fact, or out of
--- memory while loading it
-abbrev pub IsCause : {B N F : Type 0} → (B → ℕ) → (N → ℕ) → (F → ℕ) → Stores B N F → Stores B N F → PeerError → Type 0
-IsCause b n f s t errors.StoreFault = SomeRose b n f s t
-IsCause b n f s t (errors.BadFact why) = Unit {0}
-IsCause b n f s t errors.Memory = Unit {0}
-IsCause b n f s t errors.Halted = ⊥
-IsCause b n f s t (errors.Clash first second) = ⊥
-IsCause b n f s t (errors.BookFull bytes) = ⊥
+-- why a plan stopped: the count of faults of some store or of refusals of the hasher rose, what is
+-- kept is not a fact, or out of memory
+abbrev pub IsCause : {B N F H : Type 0} → (B → ℕ) → (N → ℕ) → (F → ℕ) → (H → ℕ) → (H → ℕ) → Stores B N F × H → Stores B N F × H → PeerError → Type 0
+IsCause b n f c d s t errors.StoreFault = SomeRose b n f s.0 t.0
+IsCause b n f c d s t (errors.Clash first second) = Rose (c s.1) (c t.1)
+IsCause b n f c d s t (errors.BookFull kept) = Rose (d s.1) (d t.1)
+IsCause b n f c d s t (errors.BadFact why) = Unit {0}
+IsCause b n f c d s t errors.Memory = Unit {0}
+IsCause b n f c d s t errors.Halted = ⊥

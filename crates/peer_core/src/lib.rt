@@ -1,52 +1,40 @@
-//! One peer: its state, and its steps over stores that may lie or fail.
+//! One peer: its state, and its steps over stores that may lie or fail, run as a loop over rows.
 //!
-//! A step is a plan: the calls it makes to the stores, what it notes, how it goes on after each
-//! answer, and what it puts out at its end. The plan of an event is a definition, built from the
-//! rows of the rules, and `Peer::step` promises exactly this plan. After `Ok` the step was a run of
-//! the plan over what the stores returned, and its output follows what was in the outbox. After a
-//! store fault it was a run up to the failed call, and it puts out nothing but notes. Two relations
-//! are all that is known of a store: how a call may be answered, and how it may be refused.
+//! Each rule is a row (`specs/Rows`, `specs/Leading`): from the state before, it gives the state
+//! after, what to save and send, and the rule that runs next. A step applies the row of its event.
+//! A rule that a row names runs next, before the tasks that were left; once no task is left, rule
+//! 26 runs, by which a leader may end its epoch. `specs/Drives` defines this plan, and `Peer::step`
+//! promises a run of it over what the stores returned: to its end, or to the point where an error
+//! stopped it. Out of memory may stop a run anywhere, and leaves the stores and the notes as they
+//! are at that point.
 //!
-//! `specs/Calls` lists the calls of a step, and `specs/Plans` defines plans and their runs.
-//! `specs/Guarantees` says what all plans keep to. `specs/Transitions` and `specs/Rules` give the
-//! plan of each rule, and `specs/NoAllocation` the messages that are answered without allocating.
-//! `specs/Stores` says what the stores of a peer may answer. `specs/Steps` and `specs/Starts` say
-//! what the public calls promise.
+//! `specs/Stores` says what the stores of a peer may answer, `specs/Starts` how a peer starts, and
+//! `specs/Kept` and `specs/Ages` what each step keeps to.
 //!
-//! The rules of elections are supported: 2 to 4, 5 (d), 6 to 17 and 19, and rule 1 for the fact.
-//! The rest is not supported yet:
+//! The rules of elections and of view changes are supported: 2 to 20, 24 to 26, rule 1 for the
+//! fact, and rule 5 except for calls. The rest is not supported yet:
 //!
-//! - A call, or a request to change the view, does nothing, and no change is begun or ended. With
-//!   calls, `Leadership` will hold the table of keys, and a leader that steps down will answer
-//!   them.
+//! - A call is answered `unavailable`, and a leader has no calls.
 //! - All other messages are ignored.
-//! - There is no tree, so a start does not touch the nodes. A tree needs a hasher, which is lent to
-//!   each step as one more store of the plan. `start` and `step` take a hasher already, and do not
-//!   use it.
+//! - There is no tree.
 //! - A sync asks nobody, so a peer that must sync before it accepts an epoch waits for another
-//!   epoch. With syncs, `State` will hold the sync, and `moved` and `waiting` will start it.
+//!   epoch.
 #![tactic(auto)]
 
-mod answering;
-mod elections;
-mod ending;
-mod error;
 mod event;
+mod laws;
+mod leadership;
 mod machine;
-mod messages;
-mod outbox;
 mod peer;
-mod probing;
+mod rules;
 mod starting;
 mod state;
 mod stepping;
 mod stores;
-mod ticks;
 
-pub use error::PeerError;
 pub use event::{CallIn, Event};
+pub use laws::nothing_is_left;
 pub use machine::Machine;
-pub use outbox::{AnswerOut, Outbox, Outgoing};
 pub use peer::{Peer, StartError, Suspended};
-pub use state::{Leadership, Phase, State};
+pub use state::{ChangeState, Leadership, Phase, State};
 pub use stores::Stores;

@@ -1,20 +1,15 @@
-ghost use Rattle.std.specs.Prelude.{◌≡◌, ◌≤◌, IfErr};
-ghost use Rattle.peer_core.specs.Plans.{Did, Gave, with_state};
+ghost use Rattle.std.specs.Prelude.{◌≡◌};
 ghost use Rattle.ens_base.specs.View.{IsPeer};
-ghost use Rattle.peer_core.specs.NoAllocation.{IsAllocationFree};
-ghost use Rattle.peer_core.specs.Outboxes.{Empty, room};
+ghost use Rattle.step_plans.specs.Calls.{Save};
+ghost use Rattle.step_plans.specs.Plans.{asked};
+ghost use Rattle.peer_core.specs.Drives.{saved, performed, row_done, task_done, driven};
 ghost use Rattle.peer_core.specs.Outcomes.{Acts};
-ghost use Rattle.peer_core.specs.Rules.{saved, performed, done, plan_of, whole_step};
-ghost use Rattle.peer_core.specs.Steps.{HasSender, Takes, Steps};
 
-use crate::error::PeerError;
-use crate::event::Event;
-use crate::outbox::Outbox;
 use crate::state::State;
-use crate::stores::Store;
 use ens_base::PeerId;
 use peer_fact::{Change, Fact};
 use std::alloc::Global;
+use step_plans::{Outbox, PeerError, Store, Task, Tasks};
 use wire_frames::PhaseOut;
 
 /// The state of a peer and its stores.
@@ -24,29 +19,56 @@ pub struct Machine<S> {
     pub stores: S,
 }
 
-impl<S: Store> Machine<S> {
-    /// Saves the fact, if there is one.
-    pub(crate) fn save(&mut self, save: Option<Fact>) -> Result<(), PeerError>
-        ensures only { IfErr result (λ e. e ≡ PeerError.StoreFault) }
-        ensures gave { Gave S.does S.refuses (λ next. saved save self.old.state next) self.old.stores (with_state result self.new.state) self.new.stores }
+impl<S> Machine<S> {
+    #[tactic(auto, using(crate::proofs::Parts::asked_did))]
+    fn save_fact<H>(
+        &mut self,
+        hasher: &mut H,
+        out: &mut Outbox,
+        fact: &Fact,
+    ) -> Result<(), PeerError>
+    where
+        S: Store<H>,
+        ensures { Acts S.does S.refuses (asked (Save fact.now)) self.old hasher.old out.old result self.new hasher.new out.new }
     {
-        if let Some(fact) = save {
-            match self.stores.save(&fact) {
-                Ok(()) => self.state.fact = fact,
-                Err(_) => return Err(PeerError::StoreFault),
-            }
-        }
-        Ok(())
+        self.stores.save(hasher, fact)
     }
 
-    /// Applies the answer of a rule, except for what follows it.
-    pub(crate) fn perform(
+    /// Saves the fact, if there is one.
+    #[tactic(auto, using(crate::proofs::Parts::cut))]
+    fn save<H>(
         &mut self,
+        hasher: &mut H,
+        out: &mut Outbox,
+        save: Option<Fact>,
+    ) -> Result<(), PeerError>
+    where
+        S: Store<H>,
+        ensures { Acts S.does S.refuses (saved save) self.old hasher.old out.old result self.new hasher.new out.new }
+    {
+        match save {
+            None => Ok(()),
+            Some(fact) => {
+                self.save_fact(hasher, out, &fact)?;
+                self.state.fact = fact;
+                Ok(())
+            }
+        }
+    }
+
+    /// Applies a row, except for what follows it: a leader steps down if asked, the fact is saved,
+    /// and the message is sent.
+    #[tactic(auto, using(crate::proofs::Parts::cut))]
+    fn perform<H>(
+        &mut self,
+        hasher: &mut H,
         alloc: Global,
         out: &mut Outbox,
         row: PhaseOut,
     ) -> Result<(), PeerError>
-        ensures { Acts S.does S.refuses (λ x o next. performed row x o next) self.old out.old result self.new out.new }
+    where
+        S: Store<H>,
+        ensures { Acts S.does S.refuses (performed row) self.old hasher.old out.old result self.new hasher.new out.new }
     {
         let PhaseOut {
             leave,
@@ -56,107 +78,88 @@ impl<S: Store> Machine<S> {
             then: _,
         } = row;
         self.state.leave(leave);
-        self.save(save)?;
+        self.save(hasher, out, save)?;
         out.send_to(alloc, to, message)?;
         Ok(())
     }
 
-    /// Applies the answer of a rule that starts no further rule.
-    pub(crate) fn finish(
+    /// Applies a row, and returns the rule that it names.
+    #[tactic(auto, using(crate::proofs::Parts::cut))]
+    pub(crate) fn row_done<H>(
         &mut self,
+        hasher: &mut H,
         alloc: Global,
         out: &mut Outbox,
         row: PhaseOut,
-    ) -> Result<(), PeerError>
-        ensures { Acts S.does S.refuses (λ x o next. done row x o next) self.old out.old result self.new out.new }
+    ) -> Result<Tasks, PeerError>
+    where
+        S: Store<H>,
+        ensures { Acts S.does S.refuses (row_done row) self.old hasher.old out.old result self.new hasher.new out.new }
     {
         let then = row.then;
-        self.perform(alloc, out, row)?;
+        self.perform(hasher, alloc, out, row)?;
         self.state.turn(then);
-        Ok(())
+        Ok(Tasks::named(alloc, then)?)
     }
-}
 
-impl<S: Store> Machine<S> {
-    /// Handles an event that is not answered directly into the outbox, except for the end of the
-    /// step.
-    fn act(
+    /// Runs the rule of one task, and returns the rules that its row names.
+    #[tactic(auto, using(crate::proofs::Parts::cut))]
+    pub(crate) fn task_done<H>(
         &mut self,
+        hasher: &mut H,
         alloc: Global,
         out: &mut Outbox,
         me: PeerId,
-        event: &Event,
-    ) -> Result<(), PeerError>
-        requires me { IsPeer me }
-        requires sender { HasSender event.now }
-        requires apart { ¬ IsAllocationFree event.now }
-        ensures { Acts S.does S.refuses (λ x o next. plan_of me event.now x o next) self.old out.old result self.new out.new }
+        task: Task,
+    ) -> Result<Tasks, PeerError>
+    where
+        S: Store<H>,
+        requires { IsPeer me }
+        ensures { Acts S.does S.refuses (task_done me task) self.old hasher.old out.old result self.new hasher.new out.new }
     {
-        match event {
-            Event::Deliver(from, message) => self.deliver(alloc, out, me, *from, message),
-            Event::Tick => self.tick(alloc, out, me),
-            Event::Call(_) | Event::Change(_) => Ok(()),
+        match task {
+            Task::Phase(rule) => {
+                let row = self.state.phase_row(rule, me);
+                self.row_done(hasher, alloc, out, row)
+            }
+            Task::Key(_rule, _key) => Ok(Tasks::none(alloc)),
+            Task::Again(_rule, _key, _seen) => Ok(Tasks::none(alloc)),
         }
     }
 
-    /// Handles an event, and then ends the step.
-    fn act_whole(
+    /// Runs `tasks`, at most `turns` of them. The rules that a row names run before the tasks that
+    /// were left. Returns the tasks that are left.
+    #[tactic(auto, using(crate::proofs::Parts::cut))]
+    pub(crate) fn drive<H>(
         &mut self,
+        hasher: &mut H,
         alloc: Global,
         out: &mut Outbox,
         me: PeerId,
-        event: &Event,
-    ) -> Result<(), PeerError>
-        requires me { IsPeer me }
-        requires sender { HasSender event.now }
-        requires apart { ¬ IsAllocationFree event.now }
-        ensures { Acts S.does S.refuses (λ x o next. whole_step me event.now x o next) self.old out.old result self.new out.new }
+        turns: u64,
+        tasks: Tasks,
+    ) -> Result<Tasks, PeerError>
+    where
+        S: Store<H>,
+        requires { IsPeer me }
+        ensures { Acts S.does S.refuses (driven me turns tasks) self.old hasher.old out.old result self.new hasher.new out.new }
     {
-        self.act(alloc, out, me, event)?;
-        self.rule_6(alloc, out, me)
-    }
-
-    /// Takes a step into an empty outbox.
-    fn take(
-        &mut self,
-        alloc: Global,
-        out: &mut Outbox,
-        me: PeerId,
-        event: &Event,
-    ) -> Result<(), PeerError>
-        requires me { IsPeer me }
-        requires sender { HasSender event.now }
-        requires apart { ¬ IsAllocationFree event.now }
-        requires empty { Empty out.old }
-        ensures { Takes S.does S.refuses me event.now self.old result self.new out.new }
-    {
-        self.act_whole(alloc, out, me, event)
-    }
-
-    /// Takes a step into an outbox of its own, and then adds its output to the end of the outbox. A
-    /// failed step adds only its notes.
-    pub(crate) fn step_apart(
-        &mut self,
-        alloc: Global,
-        out: &mut Outbox,
-        me: PeerId,
-        event: &Event,
-    ) -> Result<(), PeerError>
-        requires me { IsPeer me }
-        requires sender { HasSender event.now }
-        requires apart { ¬ IsAllocationFree event.now }
-        ensures steps { Steps S.does S.refuses me event.now self.old out.old result self.new out.new }
-        ensures room { room out.old ≤ room out.new }
-    {
-        let mut work = Outbox::new(alloc);
-        match self.take(alloc, &mut work, me, event) {
-            Ok(()) => out.append(&mut work),
-            Err(error) => {
-                if out.notes.append(&mut work.notes).is_err() {
-                    return Err(PeerError::Memory);
+        let mut tasks = tasks;
+        for turn in 0..turns {
+            match tasks.take() {
+                None => return Ok(tasks),
+                Some(task) => {
+                    let more = match self.task_done(hasher, alloc, out, me, task) {
+                        Ok(more) => more,
+                        Err(error) => return Err(error),
+                    };
+                    match tasks.put_all(more) {
+                        Ok(()) => {}
+                        Err(_) => return Err(PeerError::Memory),
+                    }
                 }
-                Err(error)
             }
         }
+        Ok(tasks)
     }
 }

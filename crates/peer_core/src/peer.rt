@@ -1,8 +1,8 @@
-ghost use Rattle.std.specs.Prelude.{◌≡◌, false};
+ghost use Rattle.std.specs.Prelude.{◌≡◌, ◌↔◌, true, false};
 ghost use Rattle.ens_base.specs.View.{IsPeer};
-ghost use Rattle.peer_core.specs.NoAllocation.{IsSteady};
+ghost use Rattle.peer_core.specs.Ages.{is_young};
 
-use crate::error::PeerError;
+use crate::event::Event;
 use crate::machine::Machine;
 use crate::starting::start;
 use crate::state::State;
@@ -11,7 +11,8 @@ use ens_base::{PeerId, View};
 use ens_hashing::Hasher16;
 use ens_outside::{Backend, NodeStore};
 use fact_store::FactKeeper;
-use peer_fact::{Change, Fact};
+use std::alloc::Global;
+use step_plans::{Outbox, PeerError};
 
 /// A peer over its stores. A halted peer takes no step.
 #[derive(Drop)]
@@ -20,7 +21,7 @@ pub struct Peer<B, N, F> {
     pub(crate) machine: Machine<Stores<B, N, F>>,
     pub(crate) halted: bool,
     ghost is_peer: { IsPeer me },
-    ghost steady: { halted ≡ false → IsSteady machine.state },
+    ghost young: { halted ≡ false → is_young machine.state.phase ≡ true },
 }
 
 /// A peer without its stores. The stores may be changed before the peer resumes.
@@ -30,7 +31,7 @@ pub struct Suspended {
     state: State,
     halted: bool,
     ghost is_peer: { IsPeer me },
-    ghost steady: { halted ≡ false → IsSteady state },
+    ghost young: { halted ≡ false → is_young state.phase ≡ true },
 }
 
 /// Why a peer did not start, and the stores that it was given.
@@ -41,9 +42,13 @@ pub struct StartError<B, N, F> {
 }
 
 impl<B: Backend, N: NodeStore, F: FactKeeper> Peer<B, N, F> {
-    ghost use Rattle.std.specs.Prelude.{[], IfOk, IfErr};
-    ghost use Rattle.peer_core.specs.Plans.{Finished, Runs, nothing};
-    ghost use Rattle.peer_core.specs.Starts.{IsStopped, IsStartError, start_of};
+    ghost use Rattle.std.specs.Prelude.{[], IfOk, IfErr, OnOk, OnErr, IsErrOf};
+    ghost use Rattle.step_plans.specs.Outboxes.{out_of};
+    ghost use Rattle.step_plans.specs.Plans.{Finished, Stopped, Runs, nothing};
+    ghost use Rattle.step_plans.specs.Steps.{Steps};
+    ghost use Rattle.peer_core.specs.Drives.{MayCome, step_of};
+    ghost use Rattle.peer_core.specs.Kept.{AllMayGo, IsStepError};
+    ghost use Rattle.peer_core.specs.Starts.{IsStartError, start_of};
     ghost use Rattle.peer_core.specs.Stores.{FactsAlone, SomeRose, stores_do, stores_refuse};
 
     /// Rule 1: starts the peer `me`, 1 to 31, on its stores. If they keep no fact, the peer saves
@@ -59,19 +64,18 @@ impl<B: Backend, N: NodeStore, F: FactKeeper> Peer<B, N, F> {
         me: PeerId,
         opening: View,
         stores: Stores<B, N, F>,
-        _hasher: &mut H,
+        hasher: &mut H,
     ) -> Result<Peer<B, N, F>, StartError<B, N, F>>
         requires { IsPeer me }
         ensures me { IfOk result (λ p. (p.me ≡ me) × (p.halted ≡ false)) }
-        ensures started { IfOk result (λ p. Runs (stores_do B.may_answer B.fault_count N.fault_count F.may_answer F.kept F.fault_count) (stores_refuse B.may_refuse B.fault_count N.fault_count F.may_refuse F.kept F.fault_count) (start_of opening) stores [] (Finished p.machine.state nothing) p.machine.stores []) }
-        ensures stopped { IfErr result (λ r. IsStopped (stores_do B.may_answer B.fault_count N.fault_count F.may_answer F.kept F.fault_count) (stores_refuse B.may_refuse B.fault_count N.fault_count F.may_refuse F.kept F.fault_count) (start_of opening) stores r.error r.held) }
-        ensures untouched { IfErr result (λ r. FactsAlone stores r.held) }
+        ensures started { IfOk result (λ p. Runs (stores_do B.may_answer B.fault_count N.fault_count F.may_answer F.kept F.fault_count H.kept H.clashes H.fulls) (stores_refuse B.may_refuse B.fault_count N.fault_count F.may_refuse F.kept F.fault_count H.kept H.clashes H.fulls) (start_of opening) (stores, hasher.old) [] (Finished p.machine.state nothing) (p.machine.stores, hasher.new) []) }
+        ensures stopped { IfErr result (λ r. Runs (stores_do B.may_answer B.fault_count N.fault_count F.may_answer F.kept F.fault_count H.kept H.clashes H.fulls) (stores_refuse B.may_refuse B.fault_count N.fault_count F.may_refuse F.kept F.fault_count H.kept H.clashes H.fulls) (start_of opening) (stores, hasher.old) [] (Stopped r.error) (r.held, hasher.new) []) }
+        ensures untouched { IfErr result (λ r. FactsAlone (stores, hasher.old) (r.held, hasher.new)) }
         ensures rose { IfErr result (λ r. r.error ≡ PeerError.StoreFault → SomeRose B.fault_count N.fault_count F.fault_count stores r.held) }
         ensures only { IfErr result (λ r. IsStartError r.error) }
-        ensures hasher { _hasher.new ≡ _hasher.old }
     {
         let mut stores = stores;
-        match start(&mut stores, opening) {
+        match start(&mut stores, hasher, opening) {
             Ok(state) => Ok(Peer {
                 me,
                 machine: Machine { state, stores },
@@ -82,6 +86,42 @@ impl<B: Backend, N: NodeStore, F: FactKeeper> Peer<B, N, F> {
                 held: stores,
             }),
         }
+    }
+
+    /// Takes one step on an event. Its messages, answers, notes and replies to requests to change
+    /// the view are added to the end of the outbox. The sender of a message is another peer, 1 to
+    /// 31, and the message obeys the grammar of frames.
+    ///
+    /// # Errors
+    ///
+    /// `Halted` exactly if the peer was halted; nothing changes. `StoreFault` only if the count of
+    /// faults of a store rose in this call, and `Memory` when out of memory: the peer is then
+    /// halted, the step adds nothing but its notes to the outbox, and the stores are as the step
+    /// left them.
+    pub fn step<H: Hasher16>(
+        &mut self,
+        alloc: Global,
+        event: Event,
+        hasher: &mut H,
+        out: &mut Outbox,
+    ) -> Result<(), PeerError>
+        requires { MayCome self.old.me event }
+        ensures took { (IsErrOf result PeerError.Halted → ⊥) → Steps (stores_do B.may_answer B.fault_count N.fault_count F.may_answer F.kept F.fault_count H.kept H.clashes H.fulls) (stores_refuse B.may_refuse B.fault_count N.fault_count F.may_refuse F.kept F.fault_count H.kept H.clashes H.fulls) (step_of self.old.me event self.old.machine.state) (self.old.machine.stores, hasher.old) out.old result self.new.machine.state (self.new.machine.stores, hasher.new) out.new }
+        ensures goes_on { OnOk result (self.new.halted ≡ false) }
+        ensures halts { OnErr result (self.new.halted ≡ true) }
+        ensures halted { IsErrOf result PeerError.Halted ↔ (self.old.halted ≡ true) }
+        ensures still { IsErrOf result PeerError.Halted → (self.new ≡ self.old) × (out.new ≡ out.old) × (hasher.new ≡ hasher.old) }
+        ensures rose { IsErrOf result PeerError.StoreFault → SomeRose B.fault_count N.fault_count F.fault_count self.old.machine.stores self.new.machine.stores }
+        ensures only { IfErr result IsStepError }
+        ensures may_go { OnOk result (AllMayGo self.old.me (out_of out.old) → AllMayGo self.old.me (out_of out.new)) }
+        ensures me { self.new.me ≡ self.old.me }
+    {
+        if self.halted {
+            return Err(PeerError::Halted);
+        }
+        let result = self.machine.step(hasher, alloc, out, self.me, &event);
+        self.halted = result.is_err();
+        result
     }
 }
 

@@ -1,13 +1,11 @@
-ghost use Rattle.std.specs.Prelude.{◌≡◌, IfOk};
-ghost use Rattle.peer_core.specs.NoAllocation.{IsSteady};
+ghost use Rattle.std.specs.Prelude.{◌≡◌, true, IfOk};
+ghost use Rattle.peer_core.specs.Ages.{is_young};
 ghost use Rattle.peer_core.specs.Starts.{Starts, start_of, first_state as first, opened as opens};
 
-use crate::error::PeerError;
-use crate::state::{Phase, State};
-use crate::stores::Store;
+use crate::state::{State, following};
 use ens_base::View;
-use following::Follower;
 use peer_fact::{Change, Fact};
+use step_plans::{PeerError, Store};
 
 /// The state in which a peer starts: it follows.
 fn first_state(fact: Fact, trusted: bool) -> State
@@ -16,32 +14,41 @@ fn first_state(fact: Fact, trusted: bool) -> State
     State {
         fact,
         trusted,
-        phase: Phase::Following(Follower { quiet: 0 }),
+        phase: following(),
     }
 }
 
 /// Starts from what was kept.
-fn opened<S: Store>(stores: &mut S, opening: View, kept: Option<Fact>) -> Result<State, PeerError>
-    ensures starts { Starts S.does S.refuses (opens opening kept) stores.old result stores.new }
-    ensures steady { IfOk result IsSteady }
+fn opened<H, S: Store<H>>(
+    stores: &mut S,
+    hasher: &mut H,
+    opening: View,
+    kept: Option<Fact>,
+) -> Result<State, PeerError>
+    ensures starts { Starts S.does S.refuses (opens opening kept) (stores.old, hasher.old) result (stores.new, hasher.new) }
+    ensures young { IfOk result (λ x. is_young x.phase ≡ true) }
 {
     match kept {
         Some(fact) => Ok(first_state(fact, false)),
         None => {
             let fact = Fact::opening(opening);
-            match stores.save(&fact) {
+            match stores.save(hasher, &fact) {
                 Ok(()) => Ok(first_state(fact, true)),
-                Err(_) => Err(PeerError::StoreFault),
+                Err(error) => Err(error),
             }
         }
     }
 }
 
 /// Rule 1: returns the state in which a peer starts over these stores.
-pub(crate) fn start<S: Store>(stores: &mut S, opening: View) -> Result<State, PeerError>
-    ensures starts { Starts S.does S.refuses (start_of opening) stores.old result stores.new }
-    ensures steady { IfOk result IsSteady }
+pub(crate) fn start<H, S: Store<H>>(
+    stores: &mut S,
+    hasher: &mut H,
+    opening: View,
+) -> Result<State, PeerError>
+    ensures starts { Starts S.does S.refuses (start_of opening) (stores.old, hasher.old) result (stores.new, hasher.new) }
+    ensures young { IfOk result (λ x. is_young x.phase ≡ true) }
 {
-    let kept = stores.load()?;
-    opened(stores, opening, kept)
+    let kept = stores.load(hasher)?;
+    opened(stores, hasher, opening, kept)
 }

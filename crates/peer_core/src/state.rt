@@ -1,24 +1,32 @@
 ghost use Rattle.std.specs.Prelude.{◌≡◌};
-ghost use Rattle.ens_base.specs.View.{IsPeer};
-ghost use Rattle.peer_core.specs.Rules.{finishing_heard, word_of_end as end_word};
-ghost use Rattle.peer_core.specs.Transitions.{follower, stopped_leading, without_candidacy, accepts_of, accepts_in, left, followed, led, untrusted, moved, sought, stood};
+ghost use Rattle.peer_core.specs.Moves.{follower, stopped_leading, without_candidacy, accepts_of, accepts_in, left, followed, led, untrusted, turned, stood, sought};
 
 use election::Election;
-use ens_base::{Epoch, PeerId, PeerSet};
+use ens_base::PeerSet;
 use following::Follower;
 use peer_fact::{Change, Fact};
-use phase_rows::{is_member, joined};
 use probe::Probing;
 use view_change::Finishing;
-use wire_frames::{Message, Then};
+use wire_frames::Then;
 
-/// A leading peer: the first fact of its epoch, the peers that accepted it, and the end of the
-/// epoch once it has begun.
+/// How far a leader is with a change of the view.
+#[derive(Debug, Drop)]
+pub enum ChangeState {
+    /// No change has begun.
+    Settled,
+    /// Rule 25 begins this change in the same step.
+    Wanted(Change),
+    /// The second fact of the epoch is saved, and the epoch is ending.
+    Finishing(Finishing),
+}
+
+/// A leading peer: the first fact of its epoch, the peers that accepted it, and the change of the
+/// view.
 #[derive(Debug, Drop)]
 pub struct Leadership {
     pub fact: Fact,
     pub accepts: PeerSet,
-    pub finishing: Option<Finishing>,
+    pub change: ChangeState,
 }
 
 /// What a peer is doing.
@@ -40,7 +48,7 @@ pub struct State {
 }
 
 /// The phase of a following peer that has counted no quiet tick.
-fn following() -> Phase
+pub(crate) fn following() -> Phase
     ensures { result ≡ follower }
 {
     Phase::Following(Follower { quiet: 0 })
@@ -86,6 +94,7 @@ impl Phase {
 }
 
 impl State {
+    /// Steps down a leader, if `leave` is true.
     pub(crate) fn leave(&mut self, leave: bool)
         ensures { self.new ≡ left leave self.old }
     {
@@ -94,7 +103,7 @@ impl State {
         }
     }
 
-    pub(crate) fn follow(&mut self)
+    fn follow(&mut self)
         ensures { self.new ≡ followed self.old }
     {
         self.phase = following();
@@ -107,7 +116,7 @@ impl State {
         self.phase = Phase::Leading(Leadership {
             fact,
             accepts,
-            finishing: None,
+            change: ChangeState::Settled,
         });
     }
 
@@ -119,9 +128,9 @@ impl State {
         self.phase.leave_starting();
     }
 
-    /// Applies what follows the message of a rule, if no rule runs next.
+    /// Applies what follows the message of a rule, except that it runs no rule.
     pub(crate) fn turn(&mut self, then: Then)
-        ensures { self.new ≡ moved then self.old }
+        ensures { self.new ≡ turned then self.old }
     {
         match then {
             Then::Follow => self.follow(),
@@ -146,78 +155,6 @@ impl State {
     {
         if let Some(election) = election {
             self.phase = Phase::Electing(election);
-        }
-    }
-}
-
-impl Leadership {
-    ghost use Rattle.peer_core.specs.Rules.{is_told, leader_heard, word_to};
-
-    /// Counts an acceptance of the first or the second fact of the epoch.
-    pub(crate) fn hear(&mut self, fact: &Fact, from: PeerId, ballot: Epoch, seq: u64)
-        requires { IsPeer from }
-        ensures { self.new ≡ leader_heard self.old fact.now from ballot seq }
-    {
-        if ballot == fact.ballot && seq == 1 {
-            self.accepts = joined(self.accepts, from);
-        }
-        self.finishing = heard(self.finishing, fact, from, ballot, seq);
-    }
-
-    /// Whether a leader sends a message to a peer at each tick.
-    #[tactic(auto, unfolding(crate::specs::Rules::is_told))]
-    pub(crate) fn tells(&self, me: PeerId, peer: PeerId) -> bool
-        ensures { result ≡ is_told me self.now peer }
-    {
-        is_member(&self.fact.views, peer) && peer != me
-    }
-
-    /// The message that a leader sends to a peer at each tick.
-    #[tactic(auto, unfolding(crate::specs::Rules::word_to))]
-    pub(crate) fn word_to(&self, fact: &Fact, peer: PeerId) -> Message
-        ensures { result ≡ word_to fact.now self.now peer }
-    {
-        if !self.accepts.has(peer) {
-            return Message::NewEpoch(self.fact);
-        }
-        word_of_end(self.finishing, fact, self.fact.epoch, peer)
-    }
-}
-
-/// The acceptances of the second fact, counted if the epoch is ending.
-fn heard(
-    finishing: Option<Finishing>,
-    fact: &Fact,
-    from: PeerId,
-    ballot: Epoch,
-    seq: u64,
-) -> Option<Finishing>
-    requires { IsPeer from }
-    ensures { result ≡ finishing_heard finishing fact.now from ballot seq }
-{
-    match finishing {
-        None => None,
-        Some(finishing) => {
-            let mut finishing = finishing;
-            finishing.rule_17(*fact, from, ballot, seq);
-            Some(finishing)
-        }
-    }
-}
-
-/// The message of a leader to a peer that accepted the epoch: the second fact if the epoch is
-/// ending and the peer did not accept it, and otherwise a beat.
-fn word_of_end(finishing: Option<Finishing>, fact: &Fact, epoch: Epoch, peer: PeerId) -> Message
-    ensures { result ≡ end_word finishing fact.now epoch peer }
-{
-    match finishing {
-        None => Message::Beat(epoch),
-        Some(finishing) => {
-            if finishing.accepts2.has(peer) {
-                Message::Beat(epoch)
-            } else {
-                Message::Commit(*fact)
-            }
         }
     }
 }

@@ -1,60 +1,284 @@
-use crate::error::PeerError;
+ghost use Rattle.std.specs.Prelude.{◌≡◌, true, OnOk};
+ghost use Rattle.ens_base.specs.View.{IsPeer};
+ghost use Rattle.step_plans.specs.Outboxes.{HasNotesAlone};
+ghost use Rattle.step_plans.specs.Steps.{Steps};
+ghost use Rattle.peer_core.specs.Ages.{IsYoung, is_young};
+ghost use Rattle.peer_core.specs.Drives.{led_in, ticked, first, responded, concluded, whole, step_of, MayCome, most_turns};
+ghost use Rattle.peer_core.specs.Outcomes.{Acts, Takes};
+
 use crate::event::Event;
-use crate::outbox::Outbox;
-use crate::peer::Peer;
-use crate::stores::{Store, Stores};
-use ens_hashing::Hasher16;
-use ens_outside::{Backend, NodeStore};
-use fact_store::FactKeeper;
+use crate::machine::Machine;
+use crate::state::{ChangeState, Phase, State};
+use ens_base::{PeerId, Reply, View};
+use peer_fact::Change;
 use std::alloc::Global;
+use step_plans::{Outbox, PeerError, Store, Task, Tasks};
+use view_change::rule_24;
+use wire_frames::PhaseOut;
 
-impl<B: Backend, N: NodeStore, F: FactKeeper> Peer<B, N, F> {
-    ghost use Rattle.std.specs.Prelude.{◌≡◌, ◌+◌, ◌≤◌, ◌↔◌, length, true, false, OnOk, IfErr, IsErrOf};
-    ghost use Rattle.peer_core.specs.Guarantees.{AllObey};
-    ghost use Rattle.peer_core.specs.NoAllocation.{IsAllocationFree};
-    ghost use Rattle.peer_core.specs.Outboxes.{room, spare};
-    ghost use Rattle.peer_core.specs.Outcomes.{out_of};
-    ghost use Rattle.peer_core.specs.Steps.{HasSender, HasStepped, HasStopped, NothingLeft, IsStepError};
-    ghost use Rattle.peer_core.specs.Stores.{SomeRose, stores_do, stores_refuse};
+/// A number of tasks that no step reaches.
+#[tactic(auto, unfolding(crate::specs::Drives::most_turns))]
+fn most_turns() -> u64
+    ensures { result ≡ most_turns }
+{
+    u64::MAX
+}
 
-    /// Takes one step on an event, and appends its messages, answers, notes and replies to requests
-    /// to change the view to the outbox. The sender of a message must be in 1 to 31. On a Prepare,
-    /// Check or Beat the step sends at most one message, and needs no heap memory if the outbox has
-    /// room for one.
-    ///
-    /// # Errors
-    ///
-    /// `StoreFault` only if the count of faults of a store rose in this call, and `Memory` when out
-    /// of memory. After either error the peer is halted, and the step sent nothing, answered
-    /// nothing and replied to no request; after a store fault its notes are kept. `Halted` exactly
-    /// if the peer was halted before, which changes nothing.
-    pub fn step<H: Hasher16>(
+impl ChangeState {
+    ghost use Rattle.peer_core.specs.Rows.{has_begun};
+
+    fn has_begun(&self) -> bool
+        ensures { result ≡ has_begun self.now }
+    {
+        match self {
+            ChangeState::Settled => false,
+            ChangeState::Wanted(_) | ChangeState::Finishing(_) => true,
+        }
+    }
+}
+
+impl Phase {
+    ghost use Rattle.peer_core.specs.Rows.{leads, changes};
+
+    /// Whether the peer leads.
+    fn leads(&self) -> bool
+        ensures { result ≡ leads self.now }
+    {
+        match self {
+            Phase::Leading(_) => true,
+            _ => false,
+        }
+    }
+
+    /// Whether a change has begun.
+    fn changes(&self) -> bool
+        ensures { result ≡ changes self.now }
+    {
+        match self {
+            Phase::Leading(leadership) => leadership.change.has_begun(),
+            _ => false,
+        }
+    }
+}
+
+impl State {
+    ghost use Rattle.peer_core.specs.Rows.{wanting, asked_change};
+
+    /// Makes this change wanted, if the peer leads.
+    fn want(&mut self, change: Change)
+        ensures { self.new ≡ wanting change self.old.phase self.old }
+    {
+        if let Phase::Leading(leadership) = &mut self.phase {
+            leadership.change = ChangeState::Wanted(change);
+        }
+    }
+
+    /// Rule 24: a request to change to this view. Returns whether the request is taken.
+    fn ask_change(&mut self, view: View) -> (PhaseOut, bool)
+        ensures { (self.new, result) ≡ asked_change view self.old }
+    {
+        let (row, taken) = rule_24(self.fact, self.phase.leads(), self.phase.changes(), view);
+        if taken {
+            self.want(Change::Add(view));
+        }
+        (row, taken)
+    }
+}
+
+impl<S> Machine<S> {
+    /// Rule 5: a tick of a leader.
+    #[tactic(auto, using(crate::proofs::Parts::cut))]
+    fn tick_leading<H>(
         &mut self,
         alloc: Global,
-        event: Event,
-        _hasher: &mut H,
+        hasher: &H,
         out: &mut Outbox,
-    ) -> Result<(), PeerError>
-        requires { HasSender event }
-        ensures ok { OnOk result ((self.old.halted ≡ false) × (self.new.halted ≡ false) × HasStepped (stores_do B.may_answer B.fault_count N.fault_count F.may_answer F.kept F.fault_count) (stores_refuse B.may_refuse B.fault_count N.fault_count F.may_refuse F.kept F.fault_count) self.old.me event self.old.machine out.old self.new.machine out.new) }
-        ensures fault { IsErrOf result PeerError.StoreFault → (self.old.halted ≡ false) × (self.new.halted ≡ true) × HasStopped (stores_do B.may_answer B.fault_count N.fault_count F.may_answer F.kept F.fault_count) (stores_refuse B.may_refuse B.fault_count N.fault_count F.may_refuse F.kept F.fault_count) self.old.me event PeerError.StoreFault self.old.machine out.old self.new.machine out.new }
-        ensures rose { IsErrOf result PeerError.StoreFault → SomeRose B.fault_count N.fault_count F.fault_count self.old.machine.stores self.new.machine.stores }
-        ensures memory { IsErrOf result PeerError.Memory → (self.old.halted ≡ false) × (self.new.halted ≡ true) × NothingLeft out.old out.new }
-        ensures halted { IsErrOf result PeerError.Halted ↔ (self.old.halted ≡ true) }
-        ensures still { IsErrOf result PeerError.Halted → (self.new ≡ self.old) × (out.new ≡ out.old) }
-        ensures obey { OnOk result (AllObey (out_of out.old) → AllObey (out_of out.new)) }
-        ensures one { IsAllocationFree event → length out.new.sends.items ≤ length out.old.sends.items + 1 }
-        ensures no_allocation { IsAllocationFree event → 1 ≤ spare out.old → ¬ IsErrOf result PeerError.Memory }
-        ensures spare { room out.old ≤ room out.new }
-        ensures only { IfErr result IsStepError }
-        ensures me { self.new.me ≡ self.old.me }
-        ensures hasher { _hasher.new ≡ _hasher.old }
+        me: PeerId,
+    ) -> Result<Tasks, PeerError>
+    where
+        S: Store<H>,
+        requires young { IsYoung self.old.state.phase }
+        ensures { Acts S.does S.refuses (λ x o next. led_in me x.phase x o next) self.old hasher.now out.old result self.new hasher.now out.new }
     {
-        if self.halted {
-            return Err(PeerError::Halted);
+        let fact = self.state.fact;
+        match &mut self.state.phase {
+            Phase::Leading(leadership) => {
+                let then = leadership.rule_5(out, me, &fact)?;
+                self.state.turn(then);
+                Ok(Tasks::named(alloc, then)?)
+            }
+            _ => Ok(Tasks::none(alloc)),
         }
-        let result = self.machine.step(alloc, out, self.me, &event);
-        self.halted = result.is_err();
-        result
+    }
+
+    /// Rules 2 to 5: a tick.
+    #[tactic(auto, using(crate::proofs::Parts::cut))]
+    fn tick<H>(
+        &mut self,
+        hasher: &mut H,
+        alloc: Global,
+        out: &mut Outbox,
+        me: PeerId,
+    ) -> Result<Tasks, PeerError>
+    where
+        S: Store<H>,
+        requires young { IsYoung self.old.state.phase }
+        ensures { Acts S.does S.refuses (λ x o next. ticked me x.phase x o next) self.old hasher.old out.old result self.new hasher.new out.new }
+    {
+        if self.state.phase.leads() {
+            self.tick_leading(alloc, hasher, out, me)
+        } else {
+            let row = self.state.age(me);
+            self.row_done(hasher, alloc, out, row)
+        }
+    }
+
+    /// Applies the row of the rule for an event.
+    #[tactic(auto, using(crate::proofs::Parts::cut))]
+    fn first<H>(
+        &mut self,
+        hasher: &mut H,
+        alloc: Global,
+        out: &mut Outbox,
+        me: PeerId,
+        event: &Event,
+    ) -> Result<Tasks, PeerError>
+    where
+        S: Store<H>,
+        requires me { IsPeer me }
+        requires come { MayCome me event.now }
+        requires young { IsYoung self.old.state.phase }
+        ensures { Acts S.does S.refuses (first me event.now) self.old hasher.old out.old result self.new hasher.new out.new }
+    {
+        match event {
+            Event::Deliver(from, message) => {
+                let row = self.state.receive(me, *from, message);
+                self.row_done(hasher, alloc, out, row)
+            }
+            Event::Tick => self.tick(hasher, alloc, out, me),
+            Event::Call(call) => {
+                out.answer(call.from, call.id, Reply::Unavailable)?;
+                Ok(Tasks::none(alloc))
+            }
+            Event::Change(view) => {
+                let (row, taken) = self.state.ask_change(*view);
+                out.tell_change(taken)?;
+                self.row_done(hasher, alloc, out, row)
+            }
+        }
+    }
+
+    /// Applies the row for an event, and runs the rules that follow from it.
+    #[tactic(auto, using(crate::proofs::Parts::cut))]
+    fn respond<H>(
+        &mut self,
+        hasher: &mut H,
+        alloc: Global,
+        out: &mut Outbox,
+        me: PeerId,
+        event: &Event,
+    ) -> Result<(), PeerError>
+    where
+        S: Store<H>,
+        requires me { IsPeer me }
+        requires come { MayCome me event.now }
+        requires young { IsYoung self.old.state.phase }
+        ensures { Acts S.does S.refuses (responded me event.now) self.old hasher.old out.old result self.new hasher.new out.new }
+    {
+        let tasks = self.first(hasher, alloc, out, me, event)?;
+        self.drive(hasher, alloc, out, me, most_turns(), tasks)?;
+        Ok(())
+    }
+
+    /// Rule 6: at the end of each step, a leader may end its epoch.
+    #[tactic(auto, using(crate::proofs::Parts::cut))]
+    fn conclude<H>(
+        &mut self,
+        hasher: &mut H,
+        alloc: Global,
+        out: &mut Outbox,
+        me: PeerId,
+    ) -> Result<(), PeerError>
+    where
+        S: Store<H>,
+        requires me { IsPeer me }
+        ensures { Acts S.does S.refuses (concluded me) self.old hasher.old out.old result self.new hasher.new out.new }
+    {
+        let tasks = self.task_done(hasher, alloc, out, me, Task::Phase(26))?;
+        self.drive(hasher, alloc, out, me, most_turns(), tasks)?;
+        Ok(())
+    }
+
+    /// Takes a whole step.
+    #[tactic(auto, using(crate::proofs::Parts::cut))]
+    fn whole<H>(
+        &mut self,
+        hasher: &mut H,
+        alloc: Global,
+        out: &mut Outbox,
+        me: PeerId,
+        event: &Event,
+    ) -> Result<(), PeerError>
+    where
+        S: Store<H>,
+        requires me { IsPeer me }
+        requires come { MayCome me event.now }
+        requires young { IsYoung self.old.state.phase }
+        ensures { Acts S.does S.refuses (whole me event.now) self.old hasher.old out.old result self.new hasher.new out.new }
+    {
+        self.respond(hasher, alloc, out, me, event)?;
+        self.conclude(hasher, alloc, out, me)?;
+        Ok(())
+    }
+
+    /// Takes a step into an outbox that contains nothing but notes.
+    fn take<H>(
+        &mut self,
+        hasher: &mut H,
+        alloc: Global,
+        out: &mut Outbox,
+        me: PeerId,
+        event: &Event,
+    ) -> Result<(), PeerError>
+    where
+        S: Store<H>,
+        requires me { IsPeer me }
+        requires come { MayCome me event.now }
+        requires young { IsYoung self.old.state.phase }
+        requires alone { HasNotesAlone out.old }
+        ensures { Takes S.does S.refuses me event.now self.old hasher.old out.old result self.new hasher.new out.new }
+    {
+        self.whole(hasher, alloc, out, me, event)
+    }
+
+    /// Takes a step. Its notes go directly into the outbox, and its output is added to it once the
+    /// step ended well.
+    pub(crate) fn step<H>(
+        &mut self,
+        hasher: &mut H,
+        alloc: Global,
+        out: &mut Outbox,
+        me: PeerId,
+        event: &Event,
+    ) -> Result<(), PeerError>
+    where
+        S: Store<H>,
+        requires me { IsPeer me }
+        requires come { MayCome me event.now }
+        requires young { is_young self.old.state.phase ≡ true }
+        ensures steps { Steps S.does S.refuses (step_of me event.now self.old.state) (self.old.stores, hasher.old) out.old result self.new.state (self.new.stores, hasher.new) out.new }
+        ensures young { OnOk result (is_young self.new.state.phase ≡ true) }
+    {
+        let mut work = Outbox::new(alloc);
+        std::mem::swap(&mut work.notes, &mut out.notes);
+        let result = self.take(hasher, alloc, &mut work, me, event);
+        std::mem::swap(&mut work.notes, &mut out.notes);
+        match result {
+            Ok(()) => {
+                out.append(&mut work)?;
+                Ok(())
+            }
+            Err(error) => Err(error),
+        }
     }
 }

@@ -1,15 +1,21 @@
+ghost use Rattle.std.specs.Prelude.{◌≡◌, ◌≢◌, IfOk};
 ghost use Rattle.ens_base.specs.View.{IsPeer};
+ghost use Rattle.peer_core.specs.Drives.{MayCome};
+ghost use Rattle.wire_frames.specs.Messages.{Obeys};
 
-use ens_base::{Epoch, PeerId, View, ViewError};
+use ens_base::{Command, Epoch, Key, PeerId, Reply, View, ViewError};
 use ens_hashing::PlainHasher;
 use ens_outside::{MemBackend, MemNodes};
-use fact_store::{FactKeeper, Kept, MemFacts};
-use peer_core::{Event, Outbox, Peer, PeerError, StartError, Stores};
-use peer_fact::{Change, Fact};
+use fact_store::{Kept, MemFacts};
+use peer_fact::Fact;
+use peer_core::{CallIn, Event, Peer, StartError, Stores};
 use slot_disk::Failing;
 use std::alloc::Global;
 use std::test::Fail;
-use wire_frames::{Message, NackCause};
+use step_plans::{AnswerOut, Outbox, PeerError};
+use wire_frames::Message;
+
+type Held = Stores<MemBackend, MemNodes, MemFacts>;
 
 type Tried = Peer<MemBackend, MemNodes, MemFacts>;
 
@@ -19,23 +25,30 @@ const BALLOT: Epoch = Epoch {
     proposer: 1,
 };
 
+/// An epoch below the ballot 1.1.
+const BELOW: Epoch = Epoch {
+    count: 0,
+    proposer: 3,
+};
+
 /// The view 1 2 3.
 fn view() -> Result<View, ViewError> {
     View::new(&[PeerId(1), PeerId(2), PeerId(3)])
 }
 
-/// Starts peer 1 on these stores.
-fn started(view: View, stores: Stores<MemBackend, MemNodes, MemFacts>) -> Result<Tried, PeerError> {
-    numbered(1, view, stores)
+/// Empty stores of which the listed calls of the facts fail.
+fn stores(alloc: Global, failing: Failing) -> Held {
+    Stores {
+        backend: MemBackend::new(alloc, Vec::new(alloc)),
+        nodes: MemNodes::new(alloc, Vec::new(alloc)),
+        facts: MemFacts::new(Kept::Nothing, failing),
+    }
 }
 
-/// Starts the peer `number` on these stores.
-fn numbered(
-    number: u32,
-    view: View,
-    stores: Stores<MemBackend, MemNodes, MemFacts>,
-) -> Result<Tried, PeerError>
+/// The peer of this number, started on these stores.
+fn started(number: u32, view: View, stores: Held) -> Result<Tried, PeerError>
     requires { IsPeer number }
+    ensures { IfOk result (λ p. p.me ≡ number) }
 {
     match Peer::start(PeerId(number), view, stores, &mut PlainHasher) {
         Ok(peer) => Ok(peer),
@@ -46,44 +59,12 @@ fn numbered(
     }
 }
 
-/// Starts the peer `number` on empty stores. The fact keeper fails at the listed calls.
-fn peer(alloc: Global, number: u32, view: View, failing: Failing) -> Result<Tried, PeerError>
+/// The peer of this number, on empty stores.
+fn peer(alloc: Global, number: u32) -> Result<Tried, Fail>
     requires { IsPeer number }
+    ensures { IfOk result (λ p. p.me ≡ number) }
 {
-    let stores = Stores {
-        backend: MemBackend::new(alloc, Vec::new(alloc)),
-        nodes: MemNodes::new(alloc, Vec::new(alloc)),
-        facts: MemFacts::new(Kept::Nothing, failing),
-    };
-    numbered(number, view, stores)
-}
-
-/// Delivers a message from the peer `from`, and returns what the peer sends.
-fn delivered(
-    alloc: Global,
-    peer: &mut Tried,
-    from: u32,
-    message: Message,
-) -> Result<Outbox, PeerError>
-    requires { IsPeer from }
-{
-    let mut out = Outbox::new(alloc);
-    peer.step(
-        alloc,
-        Event::Deliver(PeerId(from), message),
-        &mut PlainHasher,
-        &mut out,
-    )?;
-    Ok(out)
-}
-
-/// Ticks the peer six times, and returns what it sends.
-fn six_ticks(alloc: Global, peer: &mut Tried) -> Result<Outbox, PeerError> {
-    let mut out = Outbox::new(alloc);
-    for _tick in 0..6 {
-        peer.step(alloc, Event::Tick, &mut PlainHasher, &mut out)?;
-    }
-    Ok(out)
+    Ok(started(number, view()?, stores(alloc, Failing::never(alloc)))?)
 }
 
 /// The name of a message of an election.
@@ -96,12 +77,14 @@ fn name(message: &Message) -> &'static str {
         Message::Nack(..) => "nack",
         Message::NewEpoch(_) => "new epoch",
         Message::Accepted(..) => "accepted",
+        Message::CheckReply(..) => "check reply",
+        Message::Commit(_) => "commit",
         Message::Beat(_) => "beat",
         _ => "other",
     }
 }
 
-/// Whether the message at this place goes to the peer `to` and has this name.
+/// Whether the message at this place goes to this peer and has this name.
 fn is_sent(out: &Outbox, place: usize, to: u32, wanted: &str) -> bool {
     match out.sends.get(place) {
         Some(sent) => sent.to == PeerId(to) && name(&sent.message) == wanted,
@@ -109,17 +92,18 @@ fn is_sent(out: &Outbox, place: usize, to: u32, wanted: &str) -> bool {
     }
 }
 
-/// Whether the outbox holds two messages of this name, to the peers 2 and 3, and no other.
-fn goes_to_both(out: &Outbox, wanted: &str) -> bool {
-    out.sends.len() == 2 && is_sent(out, 0, 2, wanted) && is_sent(out, 1, 3, wanted)
+/// Whether just these messages go out, in this order.
+fn sends(out: &Outbox, wanted: &[(u32, &str)]) -> bool {
+    for place in 0..wanted.len() {
+        let (to, name) = wanted[place];
+        if !is_sent(out, place, to, name) {
+            return false;
+        }
+    }
+    out.sends.len() == wanted.len()
 }
 
-/// Whether the outbox holds one message, to peer 1 and of this name.
-fn goes_to_one(out: &Outbox, wanted: &str) -> bool {
-    out.sends.len() == 1 && is_sent(out, 0, 1, wanted)
-}
-
-/// The opening fact at the ballot 1.1.
+/// The opening fact, at the ballot 1.1.
 fn promised(view: View) -> Fact {
     Fact {
         ballot: BALLOT,
@@ -137,154 +121,285 @@ fn elected(view: View) -> Fact {
     }
 }
 
-/// Peer 1 after six ticks: it probes.
-fn probing(alloc: Global, view: View) -> Result<Tried, PeerError> {
-    let mut one = peer(alloc, 1, view, Failing::never(alloc))?;
-    six_ticks(alloc, &mut one)?;
-    Ok(one)
-}
-
-/// Peer 1 after a quorum of replies: it prepares the ballot 1.1.
-fn preparing(alloc: Global, view: View) -> Result<Tried, PeerError> {
-    let mut one = probing(alloc, view)?;
-    delivered(alloc, &mut one, 3, Message::ProbeReply(Fact::opening(view)))?;
-    Ok(one)
-}
-
-/// Peer 1 after a quorum of promises: it starts the epoch 1.1.
-fn starting(alloc: Global, view: View) -> Result<Tried, PeerError> {
-    let mut one = preparing(alloc, view)?;
-    delivered(alloc, &mut one, 2, Message::Promise(BALLOT, promised(view)))?;
-    Ok(one)
-}
-
-/// Whether the stores of the peer keep this fact.
-fn keeps(peer: Tried, fact: Fact) -> bool {
-    let mut stores = peer.into_stores();
-    stores.facts.load() == Ok(Some(fact))
-}
-
-/// Ticks peer 1, and returns whether it sends a beat to peer 3, as only a leader does.
-fn beats(alloc: Global, peer: &mut Tried) -> Result<bool, PeerError> {
+/// Whether a peer sends just these messages on an event.
+fn answers(
+    alloc: Global,
+    peer: &mut Tried,
+    event: Event,
+    wanted: &[(u32, &str)],
+) -> Result<bool, PeerError>
+    requires { MayCome peer.old.me event }
+    ensures { peer.new.me ≡ peer.old.me }
+{
     let mut out = Outbox::new(alloc);
-    peer.step(alloc, Event::Tick, &mut PlainHasher, &mut out)?;
-    Ok(is_sent(&out, 1, 3, "beat"))
+    match peer.step(alloc, event, &mut PlainHasher, &mut out) {
+        Ok(()) => Ok(sends(&out, wanted)),
+        Err(error) => Err(error),
+    }
+}
+
+/// Whether a peer sends just these messages on a message.
+fn told(
+    alloc: Global,
+    peer: &mut Tried,
+    from: u32,
+    message: Message,
+    wanted: &[(u32, &str)],
+) -> Result<bool, PeerError>
+    requires from { IsPeer from }
+    requires other { from ≢ peer.old.me }
+    requires obeys { Obeys message }
+    ensures { peer.new.me ≡ peer.old.me }
+{
+    answers(alloc, peer, Event::Deliver(PeerId(from), message), wanted)
+}
+
+/// Whether a peer sends just these messages at the last of these ticks, and none before.
+fn ticked(
+    alloc: Global,
+    peer: &mut Tried,
+    ticks: u32,
+    wanted: &[(u32, &str)],
+) -> Result<bool, PeerError>
+    ensures { peer.new.me ≡ peer.old.me }
+{
+    for _tick in 1..ticks {
+        match answers(alloc, peer, Event::Tick, &[]) {
+            Ok(true) => {}
+            Ok(false) => return Ok(false),
+            Err(error) => return Err(error),
+        }
+    }
+    answers(alloc, peer, Event::Tick, wanted)
+}
+
+/// Peer 1 once it starts its epoch.
+fn starting(alloc: Global, view: View) -> Result<Tried, Fail>
+    ensures { IfOk result (λ p. p.me ≡ 1) }
+{
+    let mut one = peer(alloc, 1)?;
+    ticked(alloc, &mut one, 6, &[])?;
+    told(
+        alloc,
+        &mut one,
+        3,
+        Message::ProbeReply(Fact::opening(view)),
+        &[],
+    )?;
+    told(
+        alloc,
+        &mut one,
+        2,
+        Message::Promise(BALLOT, promised(view)),
+        &[],
+    )?;
+    Ok(one)
+}
+
+/// Peer 1 once it leads.
+fn leading(alloc: Global, view: View) -> Result<Tried, Fail>
+    ensures { IfOk result (λ p. p.me ≡ 1) }
+{
+    let mut one = starting(alloc, view)?;
+    told(alloc, &mut one, 3, Message::Accepted(BALLOT, 1), &[])?;
+    Ok(one)
 }
 
 #[test]
-fn six_quiet_ticks_begin_a_probe(rt: HostRuntime) -> Result<(), Fail> {
-    let alloc = rt.alloc();
-    let mut one = peer(alloc, 1, view()?, Failing::never(alloc))?;
-    let out = six_ticks(alloc, &mut one)?;
-    assert!(rt; goes_to_both(&out, "probe"));
-    Ok(())
-}
-
-#[test]
-fn a_quorum_of_replies_prepares_a_ballot(rt: HostRuntime) -> Result<(), Fail> {
+fn a_peer_is_elected(rt: HostRuntime) -> Result<(), Fail> {
     let alloc = rt.alloc();
     let view = view()?;
-    let mut one = probing(alloc, view)?;
-    let out = delivered(alloc, &mut one, 3, Message::ProbeReply(Fact::opening(view)))?;
-    assert!(rt; goes_to_both(&out, "prepare"));
-    assert!(rt; keeps(one, promised(view)));
+    let mut one = peer(alloc, 1)?;
+    assert!(rt; ticked(alloc, &mut one, 6, &[(2, "probe"), (3, "probe")])?);
+    let reply = Message::ProbeReply(Fact::opening(view));
+    assert!(rt; told(alloc, &mut one, 3, reply, &[(2, "prepare"), (3, "prepare")])?);
+    let promise = Message::Promise(BALLOT, promised(view));
+    assert!(rt;
+        told(
+            alloc,
+            &mut one,
+            2,
+            promise,
+            &[(2, "new epoch"), (3, "new epoch")]
+        )?
+    );
+    assert!(rt; told(alloc, &mut one, 3, Message::Accepted(BALLOT, 1), &[])?);
+    assert!(rt; ticked(alloc, &mut one, 1, &[(2, "new epoch"), (3, "beat")])?);
     Ok(())
 }
 
 #[test]
-fn a_quorum_of_promises_starts_the_epoch(rt: HostRuntime) -> Result<(), Fail> {
+fn a_follower_answers(rt: HostRuntime) -> Result<(), Fail> {
     let alloc = rt.alloc();
     let view = view()?;
-    let mut one = preparing(alloc, view)?;
-    let out = delivered(alloc, &mut one, 2, Message::Promise(BALLOT, promised(view)))?;
-    assert!(rt; goes_to_both(&out, "new epoch"));
-    assert!(rt; keeps(one, elected(view)));
+    let mut two = peer(alloc, 2)?;
+    assert!(rt;
+        told(
+            alloc,
+            &mut two,
+            1,
+            Message::Prepare(BALLOT),
+            &[(1, "promise")]
+        )?
+    );
+    assert!(rt;
+        told(
+            alloc,
+            &mut two,
+            1,
+            Message::NewEpoch(elected(view)),
+            &[(1, "accepted")]
+        )?
+    );
+    assert!(rt;
+        told(
+            alloc,
+            &mut two,
+            1,
+            Message::Check(BALLOT, 7),
+            &[(1, "check reply")]
+        )?
+    );
+    assert!(rt; told(alloc, &mut two, 3, Message::Prepare(BELOW), &[(3, "nack")])?);
     Ok(())
 }
 
 #[test]
-fn a_quorum_of_acceptances_leads(rt: HostRuntime) -> Result<(), Fail> {
-    let alloc = rt.alloc();
-    let mut one = starting(alloc, view()?)?;
-    let before = beats(alloc, &mut one)?;
-    delivered(alloc, &mut one, 3, Message::Accepted(BALLOT, 1))?;
-    let after = beats(alloc, &mut one)?;
-    assert!(rt; !before && after);
-    Ok(())
-}
-
-#[test]
-fn a_leader_beats_to_those_that_accepted(rt: HostRuntime) -> Result<(), Fail> {
-    let alloc = rt.alloc();
-    let mut one = starting(alloc, view()?)?;
-    delivered(alloc, &mut one, 3, Message::Accepted(BALLOT, 1))?;
-    let mut out = Outbox::new(alloc);
-    one.step(alloc, Event::Tick, &mut PlainHasher, &mut out)?;
-    assert!(rt; is_sent(&out, 0, 2, "new epoch"));
-    assert!(rt; is_sent(&out, 1, 3, "beat"));
-    Ok(())
-}
-
-#[test]
-fn a_follower_promises_and_accepts(rt: HostRuntime) -> Result<(), Fail> {
-    let alloc = rt.alloc();
-    let view = view()?;
-    let mut two = peer(alloc, 2, view, Failing::never(alloc))?;
-    let promise = delivered(alloc, &mut two, 1, Message::Prepare(BALLOT))?;
-    let acceptance = delivered(alloc, &mut two, 1, Message::NewEpoch(elected(view)))?;
-    assert!(rt; goes_to_one(&promise, "promise"));
-    assert!(rt; goes_to_one(&acceptance, "accepted"));
-    Ok(())
-}
-
-#[test]
-fn a_failed_save_sends_nothing_and_halts(rt: HostRuntime) -> Result<(), Fail> {
+fn a_refused_save_sends_nothing_and_halts(rt: HostRuntime) -> Result<(), Fail> {
     let alloc = rt.alloc();
     let mut failing = Failing::never(alloc);
     failing.undone.push(3)?;
-    let mut two = peer(alloc, 2, view()?, failing)?;
-    let mut out = Outbox::new(alloc);
+    let mut two = started(2, view()?, stores(alloc, failing))?;
     let prepare = Event::Deliver(PeerId(1), Message::Prepare(BALLOT));
-    assert_eq!(rt;
-        two.step(alloc, prepare, &mut PlainHasher, &mut out),
-        Err(PeerError::StoreFault)
-    );
-    assert_eq!(rt;
-        two.step(alloc, Event::Tick, &mut PlainHasher, &mut out),
-        Err(PeerError::Halted)
-    );
-    assert_eq!(rt; out.sends.len(), 0);
+    assert!(rt; answers(alloc, &mut two, prepare, &[]) == Err(PeerError::StoreFault));
+    assert!(rt; answers(alloc, &mut two, Event::Tick, &[]) == Err(PeerError::Halted));
     Ok(())
 }
 
 #[test]
-fn a_resumed_peer_continues_its_election(rt: HostRuntime) -> Result<(), Fail> {
+fn a_suspended_peer_goes_on(rt: HostRuntime) -> Result<(), Fail> {
     let alloc = rt.alloc();
     let one = starting(alloc, view()?)?;
     let (suspended, stores) = one.suspend();
     let mut one = suspended.resume(stores);
-    delivered(alloc, &mut one, 3, Message::Accepted(BALLOT, 1))?;
-    let leads = beats(alloc, &mut one)?;
-    assert!(rt; leads);
+    assert!(rt; told(alloc, &mut one, 3, Message::Accepted(BALLOT, 1), &[])?);
+    assert!(rt; ticked(alloc, &mut one, 1, &[(2, "new epoch"), (3, "beat")])?);
     Ok(())
 }
 
+/// Peer 2, started again after it promised the ballot 1.1.
+fn stopped(alloc: Global, view: View) -> Result<Tried, Fail>
+    ensures { IfOk result (λ p. p.me ≡ 2) }
+{
+    let mut two = peer(alloc, 2)?;
+    told(alloc, &mut two, 1, Message::Prepare(BALLOT), &[])?;
+    Ok(started(2, view, two.into_stores())?)
+}
+
 #[test]
-fn a_restarted_peer_keeps_its_fact(rt: HostRuntime) -> Result<(), Fail> {
+fn a_stopped_peer_trusts_its_tree_no_more(rt: HostRuntime) -> Result<(), Fail> {
     let alloc = rt.alloc();
     let view = view()?;
-    let one = starting(alloc, view)?;
-    let stores = one.into_stores();
-    let again = started(view, stores)?;
-    assert!(rt; keeps(again, elected(view)));
+    let mut two = stopped(alloc, view)?;
+    assert!(rt;
+        told(
+            alloc,
+            &mut two,
+            1,
+            Message::Check(BALLOT, 1),
+            &[(1, "check reply")]
+        )?
+    );
+    assert!(rt; told(alloc, &mut two, 1, Message::NewEpoch(elected(view)), &[])?);
+    Ok(())
+}
+
+/// Whether a peer takes a request to change the view to 2 3, where it sends just these messages.
+fn takes(
+    alloc: Global,
+    peer: &mut Tried,
+    view: View,
+    wanted: &[(u32, &str)],
+) -> Result<Option<bool>, PeerError>
+    ensures { peer.new.me ≡ peer.old.me }
+{
+    let mut out = Outbox::new(alloc);
+    match peer.step(alloc, Event::Change(view), &mut PlainHasher, &mut out) {
+        Ok(()) => {
+            if sends(&out, wanted) && out.changes.len() == 1 {
+                Ok(Some(out.changes[0]))
+            } else {
+                Ok(None)
+            }
+        }
+        Err(error) => Err(error),
+    }
+}
+
+#[test]
+fn a_leader_changes_the_view(rt: HostRuntime) -> Result<(), Fail> {
+    let alloc = rt.alloc();
+    let next = View::new(&[PeerId(2), PeerId(3)])?;
+    let mut one = leading(alloc, view()?)?;
+    assert!(rt; takes(alloc, &mut one, next, &[(3, "commit")])? == Some(true));
+    assert!(rt; takes(alloc, &mut one, next, &[])? == Some(false));
+    assert!(rt; ticked(alloc, &mut one, 1, &[(2, "new epoch"), (3, "commit")])?);
+    let accepted = Message::Accepted(BALLOT, 2);
+    assert!(rt;
+        told(
+            alloc,
+            &mut one,
+            3,
+            accepted,
+            &[(2, "prepare"), (3, "prepare")]
+        )?
+    );
     Ok(())
 }
 
 #[test]
-fn reserve_makes_room_for_sends(rt: HostRuntime) -> Result<(), Fail> {
+fn a_change_that_does_not_end_ends_the_epoch(rt: HostRuntime) -> Result<(), Fail> {
     let alloc = rt.alloc();
+    let next = View::new(&[PeerId(2), PeerId(3)])?;
+    let mut one = leading(alloc, view()?)?;
+    takes(alloc, &mut one, next, &[])?;
+    for _tick in 1..8 {
+        assert!(rt; ticked(alloc, &mut one, 1, &[(2, "new epoch"), (3, "commit")])?);
+    }
+    assert!(rt; ticked(alloc, &mut one, 1, &[])?);
+    assert!(rt; takes(alloc, &mut one, next, &[])? == Some(false));
+    Ok(())
+}
+
+/// What a peer answers to the call 9 of the caller 40, where that is one answer.
+fn called(alloc: Global, peer: &mut Tried, key: Key) -> Result<Option<Reply>, PeerError> {
+    let call = CallIn {
+        from: 40,
+        id: 9,
+        key,
+        command: Command::Get,
+    };
     let mut out = Outbox::new(alloc);
-    out.reserve(8)?;
-    assert!(rt; 8 <= out.sends.capacity());
+    match peer.step(alloc, Event::Call(call), &mut PlainHasher, &mut out) {
+        Ok(()) => Ok(match out.answers.pop() {
+            Some(
+                AnswerOut {
+                    from: 40,
+                    id: 9,
+                    reply,
+                },
+            ) => Some(reply),
+            _ => None,
+        }),
+        Err(error) => Err(error),
+    }
+}
+
+#[test]
+fn a_call_is_answered_unavailable(rt: HostRuntime) -> Result<(), Fail> {
+    let alloc = rt.alloc();
+    let mut one = leading(alloc, view()?)?;
+    let reply = called(alloc, &mut one, Key::new(alloc, b"k")?)?;
+    assert!(rt; reply == Some(Reply::Unavailable));
     Ok(())
 }

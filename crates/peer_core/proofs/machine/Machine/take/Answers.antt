@@ -1,9 +1,8 @@
-use Rattle.peer_core.specs.Outcomes.{out_of}
-use Rattle.peer_core.specs.Rules.{whole_step}
-use Rattle.peer_core.proofs.Parts.{begun, empty_out}
+use Rattle.peer_core.specs.Outcomes.{spot}
+use Rattle.peer_core.specs.Drives.{whole}
+use Rattle.step_plans.proofs.Parts.{whole_ends, empty_out}
 use Rattle.peer_core.proofs.machine.Machine.take.Goals as goal
 
 pub returns : goal.returns
-returns g c = begun g.S.Store.does g.S.Store.refuses (λ o next. whole_step c.args.me c.args.event.now c.args.self.now.state o next)
-    (out_of c.args.out.now) c.args.self.now.stores c.args.out.now.notes.items c.act_whole.result c.act_whole.new.self.state (out_of c.act_whole.new.out) c.act_whole.new.self.stores c.act_whole.new.out.notes.items
-    (empty_out c.args.out.now c.requires.empty) c.requires.empty.notes c.act_whole.ensures
+returns g c = whole_ends g.S.Store.does g.S.Store.refuses (whole c.args.me c.args.event.now) (spot c.args.self.now c.args.hasher.now c.args.out.now) (spot c.whole.new.self c.whole.new.hasher c.whole.new.out) c.whole.result
+    (empty_out c.args.out.now c.requires.alone) c.whole.ensures

@@ -1,8 +1,0 @@
-pub mod Parts
-pub mod Grammar
-pub mod Kept
-pub mod Passing
-pub mod Counts
-pub mod Halts
-pub mod Fuel
-pub mod Young
