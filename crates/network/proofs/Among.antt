@@ -3,9 +3,9 @@ use Rattle.std.proofs.Common.{◌≡◌, ◌+◌, ◌≤◌, ◌&&◌, ◌||◌,
 use Rattle.std.proofs.lemmas.Bool.Decides.{nat_tests}
 use Rattle.ens_base.specs.PeerSet.{holds}
 use Rattle.wire_frames.specs.declared.frame.Frame.{Frame}
-use Rattle.network.specs.Mail.{goes, goes_into, is_among, IsBetweenPeers}
+use Rattle.network.specs.Mail.{goes, goes_into, is_among, MayBeSent}
 
-module _ (peers : List Bool) (f : Frame) (ends : IsBetweenPeers f) where
+module _ (peers : List Bool) (f : Frame) (ends : MayBeSent f) where
   module _ (from : ℕ) where
     pub into_none : (goes_into from peers f && nat_lt f.to 1) ≡ false
     into_none = grind (arith, nat_tests)

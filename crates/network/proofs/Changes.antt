@@ -10,7 +10,7 @@ use Rattle.std.proofs.lemmas.List.Elements.{All-get_or}
 use Rattle.std.proofs.lemmas.Option.{none-some, same_Some, slice_get_within, get_or_from_slice_get}
 use Rattle.ens_base.specs.View.{IsPeer}
 use Rattle.wire_frames.specs.declared.frame.Frame.{Frame}
-use Rattle.network.specs.Mail.{Mail, posted, settled, lost, goes, oldest, is_waiting, IsBetweenPeers}
+use Rattle.network.specs.Mail.{Mail, posted, settled, lost, goes, oldest, is_waiting, MayBeSent}
 use Rattle.network.specs.Lines.{line_place, line_of, stands, Marks, Empties}
 use Rattle.network.specs.Representation.{mail_in, IsKept}
 use Rattle.network.proofs.Flags.{length-flags_by, slice_index_or-flags_by, flags_posted, flags_settled, flags_lost}
@@ -44,7 +44,7 @@ settled_beyond sent lines n beyond =
     ap (λ (ws : List Bool). let m : Mail = record { sent = sent; waits = ws } in m) (sym (set_past _ n false (omega (arith, length-flags_by (in_line lines) sent))))
 
 -- different pairs of peers have different lines
-own_line : (from to : ℕ) → IsPeer from × IsPeer to → (f : Frame) → IsBetweenPeers f → (line_of f == line_place from to) ≡ goes from to f
+own_line : (from to : ℕ) → IsPeer from × IsPeer to → (f : Frame) → MayBeSent f → (line_of f == line_place from to) ≡ goes from to f
 own_line from to ends f peers = grind (arith, nat_tests)
 
 emptied : (here stood : Bool) → (if here then false else stood) ≡ (stood && not here)
@@ -54,9 +54,9 @@ emptied false true = refl
 emptied false false = refl
 
 -- clearing a line loses its messages
-pub lost_in : (sent : List Frame) (old new : List (BTreeSet ℕ)) (from to place : ℕ) → All IsBetweenPeers sent → IsPeer from × IsPeer to → place ≡ line_place from to → Empties old new place → mail_in sent new ≡ lost from to (mail_in sent old)
+pub lost_in : (sent : List Frame) (old new : List (BTreeSet ℕ)) (from to place : ℕ) → All MayBeSent sent → IsPeer from × IsPeer to → place ≡ line_place from to → Empties old new place → mail_in sent new ≡ lost from to (mail_in sent old)
 lost_in sent old new from to place all ends is empties =
-    ap (λ (ws : List Bool). let m : Mail = record { sent = sent; waits = ws } in m) (flags_lost IsBetweenPeers (goes from to) (in_line old) (in_line new) sent all (λ f n peers. empties (line_of f) n ∙ emptied _ _ ∙ ap (λ (b : Bool). in_line old f n && not b) (ap (λ (p : ℕ). line_of f == p) is ∙ own_line from to ends f peers)))
+    ap (λ (ws : List Bool). let m : Mail = record { sent = sent; waits = ws } in m) (flags_lost MayBeSent (goes from to) (in_line old) (in_line new) sent all (λ f n peers. empties (line_of f) n ∙ emptied _ _ ∙ ap (λ (b : Bool). in_line old f n && not b) (ap (λ (p : ℕ). line_of f == p) is ∙ own_line from to ends f peers)))
 
 module _ (sent : List Frame) (lines : List (BTreeSet ℕ)) (kept : IsKept sent lines) (from to : ℕ) (ends : IsPeer from × IsPeer to) (place : ℕ) (here : place ≡ line_place from to) where
   gone : (o : Option Frame) (n : ℕ) → stands lines place n ≡ false → (option_map_or (λ f. in_line lines f n) o false && option_map_or (goes from to) o false) ≡ false
@@ -71,7 +71,7 @@ module _ (sent : List Frame) (lines : List (BTreeSet ℕ)) (kept : IsKept sent l
   there None n at is own = absurd (none-some _ own)
   there (Some f) n at is own =
       let belongs : line_of f ≡ place = same_Some _ _ own in
-      let peers : IsBetweenPeers f = subst IsBetweenPeers (get_or_from_slice_get sent n f f at) (All-get_or IsBetweenPeers sent n f (slice_get_within sent n f at) kept.peers) in
+      let peers : MayBeSent f = subst MayBeSent (get_or_from_slice_get sent n f f at) (All-get_or MayBeSent sent n f (slice_get_within sent n f at) kept.may) in
       and_from _ _ (ap (λ (p : ℕ). stands lines p n) belongs ∙ is) (sym (own_line from to ends f peers) ∙ eq-eqb _ _ (belongs ∙ here))
 
   -- a message in the line waits

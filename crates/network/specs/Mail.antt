@@ -1,8 +1,9 @@
 -- All messages sent so far, and which of them still wait. The first message has number 0.
-use Rattle.std.specs.Prelude.{◌≡◌, ◌<◌, suc, min, ◌==◌, ◌&&◌, ℕ, Bool, true, false, not, List, [], ◌∷◌, ◌++◌, length, Option, None, Some, if◌then◌else◌, slice_get, slice_index_or, slice_set}
+use Rattle.std.specs.Prelude.{◌≡◌, ◌≢◌, ◌<◌, suc, min, ◌==◌, ◌&&◌, ℕ, Bool, true, false, not, List, [], ◌∷◌, ◌++◌, length, Option, None, Some, if◌then◌else◌, slice_get, slice_index_or, slice_set}
 use Rattle.std.specs.Option.{option_map, option_map_or}
 use Rattle.ens_base.specs.PeerSet.{holds}
 use Rattle.ens_base.specs.View.{IsPeer}
+use Rattle.wire_frames.specs.Messages.{Obeys}
 use Rattle.wire_frames.specs.declared.frame.Frame.{Frame}
 
 -- the messages in the order of sending, and for each whether it waits
@@ -10,9 +11,9 @@ pub record Mail : Type 0 where
   pub sent : List Frame
   pub waits : List Bool
 
--- the sender and the receiver are peers, in 1 to 31
-abbrev pub IsBetweenPeers : Frame → Type 0
-IsBetweenPeers f = IsPeer f.from × IsPeer f.to
+-- the message goes from a peer to another, both in 1 to 31, and obeys the grammar of frames
+abbrev pub MayBeSent : Frame → Type 0
+MayBeSent f = IsPeer f.from × IsPeer f.to × (f.from ≢ f.to) × Obeys f.message
 
 -- nothing was sent
 abbrev pub no_mail : Mail

@@ -3,15 +3,15 @@ use Rattle.std.specs.Prelude.{◌≡◌, ℕ, true, List, All, Some, slice_get}
 use Rattle.std.specs.Option.{option_map}
 use Rattle.std.specs.BTreeSet.{BTreeSet}
 use Rattle.wire_frames.specs.declared.frame.Frame.{Frame}
-use Rattle.network.specs.Mail.{Mail, IsBetweenPeers}
+use Rattle.network.specs.Mail.{Mail, MayBeSent}
 use Rattle.network.specs.Lines.{line_of, stands, flags_in}
 
 -- the mail that these messages and lines represent: a message waits if its number is in its line
 abbrev pub mail_in : List Frame → List (BTreeSet ℕ) → Mail
 mail_in sent lines = record { sent = sent; waits = flags_in sent lines }
 
--- the invariant: every message is between peers, and every number in a line is that of a message of
--- this line
+-- the invariant: every message may be sent, and every number in a line is that of a message of this
+-- line
 pub record IsKept (sent : List Frame) (lines : List (BTreeSet ℕ)) : Type 0 where
-  pub peers : All IsBetweenPeers sent
+  pub may : All MayBeSent sent
   pub own : (place n : ℕ) → stands lines place n ≡ true → option_map line_of (slice_get sent n) ≡ Some place

@@ -30,7 +30,7 @@ impl Model for Network {
 }
 
 impl Network {
-    ghost use Rattle.network.specs.Mail.{no_mail, posted, settled, lost, oldest, goes, goes_into, is_among, IsBetweenPeers, IsMail, most_messages};
+    ghost use Rattle.network.specs.Mail.{no_mail, posted, settled, lost, oldest, goes, goes_into, is_among, MayBeSent, IsMail, most_messages};
     ghost use Rattle.network.specs.Lines.{line_place};
 
     /// The greatest number of messages that a network keeps.
@@ -50,7 +50,7 @@ impl Network {
     pub fn sent(&self) -> &[Frame]
         ensures sent { result.now ≡ self.now.sent }
         ensures mail { IsMail self.now }
-        ensures ends { All IsBetweenPeers self.now.sent }
+        ensures may { All MayBeSent self.now.sent }
     {
         self.sent.as_slice()
     }
@@ -63,14 +63,15 @@ impl Network {
         (from * 32 + to) as usize
     }
 
-    /// Sends a message between two peers. It gets the next number, and waits.
+    /// Sends a message from a peer to another. It obeys the grammar of frames, gets the next number,
+    /// and waits.
     ///
     /// # Errors
     ///
     /// `Limit` exactly if 500,000 messages were sent already, and `Memory` when out of memory. Both
     /// leave the network as it was.
     pub fn send(&mut self, frame: Frame) -> Result<(), SendError>
-        requires { IsBetweenPeers frame }
+        requires { MayBeSent frame }
         ensures ok { OnOk result (self.new ≡ posted self.old frame) }
         ensures err { OnErr result (self.new ≡ self.old) }
         ensures limit { IsErrOf result SendError.Limit ↔ (most_messages ≤ length self.old.sent) }

@@ -8,7 +8,7 @@ use wire_frames::{Frame, Message};
 
 /// A probe from one peer to another.
 fn probe(from: u32, to: u32) -> Frame
-    ensures { (result.from ≡ from) × (result.to ≡ to) }
+    ensures { result ≡ record { from = from; to = to; message = Message.Probe } }
 {
     Frame {
         from,
