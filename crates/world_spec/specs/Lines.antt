@@ -1,27 +1,19 @@
 -- The effect of each line of a schedule, and the run of a schedule.
-use Rattle.std.specs.Prelude.{ℕ, zero, suc, ◌+◌, ◌-◌, Bool, true, false, List, [], ◌∷◌, ◌++◌, length, replicate, slice_index_or, slice_set}
+use Rattle.std.specs.Prelude.{ℕ, ◌-◌, Bool, true, List, [], ◌∷◌, ◌++◌}
+use Rattle.joint_views.specs.Quorums.{is_in}
 use Rattle.network.specs.Mail.{lost, goes, oldest, most_messages}
+use Rattle.phase_rows.specs.Peers.{those}
 use Rattle.schedule_text.specs.declared.event.ScheduleEvent.{ScheduleEvent}
 use Rattle.schedule_text.specs.declared.event.ScheduleEvent.TheVariants.{Call, Tick, Deliver, Pass, Lose, Calm, CalmAmong}
 use Rattle.world_spec.specs.Runs.{Run, next_event, opening_run, ticked, delivered, delivered_if, calmed}
 
--- the set of the first n of these peers
-unfoldable pub first_of : ℕ → List ℕ → List Bool
-first_of zero peers = replicate 32 false
-first_of (suc n) peers = slice_set (first_of n peers) (slice_index_or peers n 0) true
-
 -- the set of these peers
 abbrev pub set_of : List ℕ → List Bool
-set_of peers = first_of (length peers) peers
-
--- the set of the peers from 1 to this number
-unfoldable pub up_to : ℕ → List Bool
-up_to zero = replicate 32 false
-up_to (suc n) = slice_set (up_to n) (n + 1) true
+set_of peers = those (is_in peers)
 
 -- the set of all peers
 abbrev pub everyone : List Bool
-everyone = up_to 31
+everyone = those (λ p. true)
 
 -- all messages waiting from the sender to the receiver are lost
 abbrev pub with_loss : ℕ → ℕ → Run → Run

@@ -1,11 +1,12 @@
 -- A peer of a world over its stores in memory, and its steps.
-use Rattle.std.specs.Prelude.{ℕ, Some, None, List, [], ◌∷◌, ◌++◌}
+use Rattle.std.specs.Prelude.{◌≡◌, ℕ, Option, Some, None, List, [], ◌∷◌, ◌++◌}
 use Rattle.ens_outside.specs.MemStores.{Objects, Nodes}
+use Rattle.peer_fact.specs.declared.fact.Fact.{Fact}
 use Rattle.register_model.specs.declared.note.Note.{Note}
-use Rattle.peer_core.specs.Calls.{Call, Load, Save, Find, Enter, ScanTree, ReadNode, Install, Fetch, Put, AnswerOf, Reached}
-use Rattle.peer_core.specs.Plans.{Plan, Done, Say, Ask, Out, nothing, Ending, Finished, Stopped}
+use Rattle.step_plans.specs.Calls.{Load, Save}
+use Rattle.step_plans.specs.Plans.{Plan, Done, Say, Ask, Out, nothing, Ending, Finished, Stopped}
+use Rattle.peer_core.specs.Drives.{step_of}
 use Rattle.peer_core.specs.Starts.{start_of}
-use Rattle.peer_core.specs.Steps.{step_of}
 use Rattle.peer_core.specs.declared.event.Event.{Event}
 use Rattle.peer_core.specs.declared.state.State.{State}
 use Rattle.peer_core.specs.declared.stores.Stores.{Stores}
@@ -23,34 +24,29 @@ empty_stores = record {
   facts = record { kept = None };
 }
 
--- the answer to a call; no rule asks for an object or a node yet, and there are none
-abbrev pub answer : MemStores → (call : Call) → AnswerOf call
-answer s Load = s.facts.kept
-answer s (Save fact) = tt
-answer s (Find key) = Reached None
-answer s (Enter entry) = Reached tt
-answer s ScanTree = record { entries = []; damaged = [] }
-answer s (ReadNode at) = Reached None
-answer s (Install entries) = tt
-answer s (Fetch key) = None
-answer s (Put key bytes) = tt
+-- the stores after a save of this fact
+abbrev pub with_fact : Fact → MemStores → MemStores
+with_fact fact s = record s { facts = record { kept = Some fact } }
 
--- the stores after a call
-abbrev pub stores_after : MemStores → Call → MemStores
-stores_after s (Save fact) = record s { facts = record { kept = Some fact } }
-stores_after s call = s
-
--- how the run of a plan ended, the stores after it, and its notes
+-- how the run of a plan ended, the stores after it, and its notes; there is no ending if the plan
+-- makes a call that a world does not answer yet
 pub record Ended : Type 0 where
-  pub ending : Ending
+  pub ending : Option (Ending State)
   pub stores : MemStores
   pub notes : List Note
 
--- the run of a plan over stores in memory, which fail no call
-abbrev pub run : Plan → MemStores → List Note → Ended
-run (Done x out) s ns = record { ending = Finished x out; stores = s; notes = ns }
+-- The run of a plan over stores in memory, which fail no call. A load returns the kept fact, and a
+-- saved fact is kept from then on. A world answers no other call yet, and no rule makes one.
+abbrev pub run : Plan State → MemStores → List Note → Ended
+run (Done x out) s ns = record { ending = Some (Finished x out); stores = s; notes = ns }
 run (Say n p) s ns = run p s (ns ++ n ∷ [])
-run (Ask call next) s ns = run (next (answer s call)) (stores_after s call) ns
+run (Ask Load next) s ns = run (next s.facts.kept) s ns
+run (Ask (Save fact) next) s ns = run (next tt) (with_fact fact s) ns
+run (Ask call next) s ns = record { ending = None; stores = s; notes = ns }
+
+-- the plan reached its end: it made no call that a world does not answer
+abbrev pub IsFinished : Ended → Type 0
+IsFinished e = (x : State) × (out : Out) × (e.ending ≡ Some (Finished x out))
 
 -- a running peer, with its state and stores, or the stores of a peer that is down
 pub data Node : Type 0 where
@@ -63,10 +59,12 @@ pub record Taken : Type 0 where
   pub out : Out
   pub notes : List Note
 
--- the outcome of a step, from the ending of its plan; a peer whose plan stopped is down
-abbrev pub taken_by : Ending → MemStores → List Note → Taken
-taken_by (Finished x out) s ns = record { node = Up x s; out = out; notes = ns }
-taken_by (Stopped error) s ns = record { node = Down s; out = nothing; notes = ns }
+-- the outcome of a step, from the ending of its plan; a peer whose plan stopped, or made a call that
+-- a world does not answer, is down
+abbrev pub taken_by : Option (Ending State) → MemStores → List Note → Taken
+taken_by (Some (Finished x out)) s ns = record { node = Up x s; out = out; notes = ns }
+taken_by (Some (Stopped error)) s ns = record { node = Down s; out = nothing; notes = ns }
+taken_by None s ns = record { node = Down s; out = nothing; notes = ns }
 
 -- the outcome of a step, from the run of its plan
 abbrev pub taken_of : Ended → Taken
