@@ -19,6 +19,7 @@ use Rattle.step_plans.specs.declared.error.PeerError.TheVariants as errors
 use Rattle.step_plans.specs.declared.outbox.Outbox.{Outbox}
 use Rattle.peer_core.specs.Ages.{IsYoung, is_young}
 use Rattle.peer_core.specs.Drives.{step_of, MayCome}
+use Rattle.peer_core.specs.NoAllocation.{IsSteady}
 use Rattle.peer_core.specs.Kept.{IsSave, IsSaveError, IsStepError, MaySend, AllMayGo}
 use Rattle.peer_core.specs.Stores.{stores_do, stores_refuse, SomeRose, IsCause}
 use Rattle.peer_core.specs.declared.event.Event.{Event}
@@ -26,6 +27,7 @@ use Rattle.peer_core.specs.declared.state.State.{State}
 use Rattle.peer_core.specs.declared.stores.Stores.{Stores}
 use Rattle.peer_core.proofs.Counts.{stopped_cause, stopped_only}
 use Rattle.peer_core.proofs.Passing.{steps_keep}
+use Rattle.peer_core.proofs.Steady.{steps_steady}
 use Rattle.peer_core.proofs.Young.{young, young_test}
 
 -- the end that a finished plan reached
@@ -67,6 +69,12 @@ module _ (me : ℕ) (peer : IsPeer me) (event : Event) (come : MayCome me event)
       → Runs does refuses (step_of me event x) s ns (Finished y out) t ms → is_young y.phase ≡ true
   ended_young does refuses s t y out ns ms ran =
       young_test y.phase (ran_follows does refuses IsSave (λ z o. IsYoung z.phase × AllMayGo me o) (step_of me event x) s ns y out t ms keeps ran).0
+
+  -- a step that ended well leaves no leader that is to end its epoch
+  pub ended_steady : {S : Type 0} (does : S → (call : Call) → AnswerOf call → S → Type 0) (refuses : S → Call → PeerError → S → Type 0) (s t : S) (y : State) (out : Out) (ns ms : List Note)
+      → Runs does refuses (step_of me event x) s ns (Finished y out) t ms → IsSteady y
+  ended_steady does refuses s t y out ns ms ran =
+      ran_follows does refuses IsSave (λ z o. IsSteady z) (step_of me event x) s ns y out t ms (steps_steady me event x peer come (young x.phase test)) ran
 
   -- after a step that ended well all messages in the outbox may be sent, if they might before
   pub all_may_go : {A S : Type 0} (does : S → (call : Call) → AnswerOf call → S → Type 0) (refuses : S → Call → PeerError → S → Type 0) (s t : S) (y : State) (before after : Outbox)

@@ -6,3 +6,6 @@ pub mod Counts
 pub mod Halts
 pub mod Fuel
 pub mod Young
+pub mod Framed
+pub mod Steady
+pub mod FreeRows

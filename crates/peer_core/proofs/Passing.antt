@@ -36,7 +36,7 @@ use Rattle.peer_core.specs.declared.state.State.{State}
 use Rattle.peer_core.proofs.Grammar.{either, MayGo, posted_may, posted_to_may, and_sends_may, row_4_obeys, row_4_elsewhere, word_to_obeys, told_elsewhere}
 use Rattle.peer_core.proofs.Kept.{left_young, turned_young, quiet, begun_good, phase_row_good, received_good, asked_young, asked_may}
 
-most_is_some : most_turns ≡ suc (2 ^ 64 - 2)
+pub most_is_some : most_turns ≡ suc (2 ^ 64 - 2)
 unfolding most_turns
 most_is_some = omega arith
 
@@ -155,7 +155,7 @@ module _ (me : ℕ) (peer : IsPeer me) (P : State → Out → Type 0) where
   ticked_passes (phases.Electing e) young x out next obey go = electing_passes e young x out next obey go
   ticked_passes (phases.Leading l) young x out next obey go = leading_passes l young x out next obey go
 
-  responded_passes : (event : Event) → MayCome me event → Passes (responded me event)
+  pub responded_passes : (event : Event) → MayCome me event → Passes (responded me event)
   responded_passes (events.Deliver from message) come x out next good go =
       let row = received_good me peer from message x come.1 good.0 in
       row_done_passes (received me from message x).1 row.1 (received me from message x).0 out (onward next) (row.0, good.1) (onward_goes next go)

@@ -8,3 +8,4 @@ pub mod Stores
 pub mod Starts
 pub mod Kept
 pub mod Turns
+pub mod NoAllocation

@@ -1,13 +1,10 @@
 -- What a call did to a machine, the hasher and the outbox.
-use Rattle.std.specs.Prelude.{ℕ, Result}
+use Rattle.std.specs.Prelude.{Result}
 use Rattle.step_plans.specs.Calls.{Call, AnswerOf}
 use Rattle.step_plans.specs.Outboxes.{out_of}
 use Rattle.step_plans.specs.Plans.{Part, Spot, Did}
-use Rattle.step_plans.specs.Steps.{Ended}
 use Rattle.step_plans.specs.declared.error.PeerError.{PeerError}
 use Rattle.step_plans.specs.declared.outbox.Outbox.{Outbox}
-use Rattle.peer_core.specs.Drives.{step_of}
-use Rattle.peer_core.specs.declared.event.Event.{Event}
 use Rattle.peer_core.specs.declared.machine.Machine.{Machine}
 use Rattle.peer_core.specs.declared.state.State.{State}
 
@@ -19,8 +16,3 @@ spot m h o = record { state = m.state; out = out_of o; stores = (m.stores, h); n
 abbrev pub Acts : {A S H : Type 0} → (S × H → (call : Call) → AnswerOf call → S × H → Type 0) → (S × H → Call → PeerError → S × H → Type 0)
     → Part State A → Machine S → H → Outbox → Result A PeerError → Machine S → H → Outbox → Type 0
 Acts does refuses part m h o result n k p = Did does refuses part (spot m h o) result (spot n k p)
-
--- the call took the step, in an outbox of its own
-abbrev pub Takes : {A S H : Type 0} → (S × H → (call : Call) → AnswerOf call → S × H → Type 0) → (S × H → Call → PeerError → S × H → Type 0)
-    → ℕ → Event → Machine S → H → Outbox → Result A PeerError → Machine S → H → Outbox → Type 0
-Takes does refuses me event m h o result n k p = Ended does refuses (step_of me event m.state) (m.stores, h) o.notes.items result n.state (out_of p) (n.stores, k) p.notes.items

@@ -1,5 +1,6 @@
 ghost use Rattle.std.specs.Prelude.{◌≡◌, ◌++◌, [], OnOk, IfOk, IfErr};
 ghost use Rattle.ens_base.specs.View.{IsPeer};
+ghost use Rattle.step_plans.specs.Outboxes.{Grows};
 ghost use Rattle.peer_core.specs.Ages.{IsYoungChange};
 ghost use Rattle.peer_core.specs.Leading.{older, is_spent as is_over, word_of_end as end_word, wished, begins as begins_by, words};
 ghost use Rattle.peer_core.specs.Rows.{change_heard, ended};
@@ -136,6 +137,7 @@ impl Leadership {
     fn send_words(&self, out: &mut Outbox, me: PeerId, fact: &Fact) -> Result<(), PeerError>
         ensures sends { OnOk result (out.new.sends.items ≡ out.old.sends.items ++ words me fact.now self.now) }
         ensures rest { (out.new.answers ≡ out.old.answers) × (out.new.notes ≡ out.old.notes) × (out.new.changes ≡ out.old.changes) }
+        ensures grows { Grows out.old out.new }
         ensures memory { IfErr result (λ e. e ≡ PeerError.Memory) }
     {
         for below in 0..31 {
@@ -152,6 +154,7 @@ impl Leadership {
         ensures ok { IfOk result (λ then. (self.new ≡ (reminds me fact.now self.old).0) × (then ≡ (reminds me fact.now self.old).1.turn)) }
         ensures sends { OnOk result (out.new.sends.items ≡ out.old.sends.items ++ (reminds me fact.now self.old).1.sends) }
         ensures rest { (out.new.answers ≡ out.old.answers) × (out.new.notes ≡ out.old.notes) × (out.new.changes ≡ out.old.changes) }
+        ensures grows { Grows out.old out.new }
         ensures memory { IfErr result (λ e. e ≡ PeerError.Memory) }
     {
         if self.change.is_spent() {
@@ -173,6 +176,7 @@ impl Leadership {
         ensures ok { IfOk result (λ then. (self.new ≡ (row_5 me fact.now self.old).0) × (then ≡ (row_5 me fact.now self.old).1.turn)) }
         ensures sends { OnOk result (out.new.sends.items ≡ out.old.sends.items ++ (row_5 me fact.now self.old).1.sends) }
         ensures rest { (out.new.answers ≡ out.old.answers) × (out.new.notes ≡ out.old.notes) × (out.new.changes ≡ out.old.changes) }
+        ensures grows { Grows out.old out.new }
         ensures memory { IfErr result (λ e. e ≡ PeerError.Memory) }
     {
         self.change.grow_older();

@@ -1,8 +1,11 @@
-ghost use Rattle.std.specs.Prelude.{◌≡◌};
+ghost use Rattle.std.specs.Prelude.{◌≡◌, [], IsOk, IfOk, IfErr, IsErrOf};
 ghost use Rattle.ens_base.specs.View.{IsPeer};
+ghost use Rattle.step_plans.specs.Outboxes.{FitsIn, Grows};
 ghost use Rattle.step_plans.specs.Calls.{Save};
 ghost use Rattle.step_plans.specs.Plans.{asked};
+ghost use Rattle.step_plans.specs.Tasks.{named};
 ghost use Rattle.peer_core.specs.Drives.{saved, performed, row_done, task_done, driven};
+ghost use Rattle.peer_core.specs.NoAllocation.{IsFreeRow, IsFreeTask, next_of};
 ghost use Rattle.peer_core.specs.Outcomes.{Acts};
 
 use crate::state::State;
@@ -21,30 +24,22 @@ pub struct Machine<S> {
 
 impl<S> Machine<S> {
     #[tactic(auto, using(crate::proofs::Parts::asked_did))]
-    fn save_fact<H>(
-        &mut self,
-        hasher: &mut H,
-        out: &mut Outbox,
-        fact: &Fact,
-    ) -> Result<(), PeerError>
+    fn save_fact<H>(&mut self, hasher: &mut H, out: &Outbox, fact: &Fact) -> Result<(), PeerError>
     where
         S: Store<H>,
-        ensures { Acts S.does S.refuses (asked (Save fact.now)) self.old hasher.old out.old result self.new hasher.new out.new }
+        ensures acts { Acts S.does S.refuses (asked (Save fact.now)) self.old hasher.old out.now result self.new hasher.new out.now }
+        ensures only { IfErr result (λ e. e ≡ PeerError.StoreFault) }
     {
         self.stores.save(hasher, fact)
     }
 
     /// Saves the fact, if there is one.
     #[tactic(auto, using(crate::proofs::Parts::cut))]
-    fn save<H>(
-        &mut self,
-        hasher: &mut H,
-        out: &mut Outbox,
-        save: Option<Fact>,
-    ) -> Result<(), PeerError>
+    fn save<H>(&mut self, hasher: &mut H, out: &Outbox, save: Option<Fact>) -> Result<(), PeerError>
     where
         S: Store<H>,
-        ensures { Acts S.does S.refuses (saved save) self.old hasher.old out.old result self.new hasher.new out.new }
+        ensures acts { Acts S.does S.refuses (saved save) self.old hasher.old out.now result self.new hasher.new out.now }
+        ensures only { IfErr result (λ e. e ≡ PeerError.StoreFault) }
     {
         match save {
             None => Ok(()),
@@ -68,7 +63,9 @@ impl<S> Machine<S> {
     ) -> Result<(), PeerError>
     where
         S: Store<H>,
-        ensures { Acts S.does S.refuses (performed row) self.old hasher.old out.old result self.new hasher.new out.new }
+        ensures acts { Acts S.does S.refuses (performed row) self.old hasher.old out.old result self.new hasher.new out.new }
+        ensures grows { Grows out.old out.new }
+        ensures fits { FitsIn out.old row.to row.message → ¬ IsErrOf result PeerError.Memory }
     {
         let PhaseOut {
             leave,
@@ -94,7 +91,10 @@ impl<S> Machine<S> {
     ) -> Result<Tasks, PeerError>
     where
         S: Store<H>,
-        ensures { Acts S.does S.refuses (row_done row) self.old hasher.old out.old result self.new hasher.new out.new }
+        ensures acts { Acts S.does S.refuses (row_done row) self.old hasher.old out.old result self.new hasher.new out.new }
+        ensures grows { Grows out.old out.new }
+        ensures names { IfOk result (λ tasks. tasks ≡ named row.then) }
+        ensures fits { IsFreeRow out.old row → ¬ IsErrOf result PeerError.Memory }
     {
         let then = row.then;
         self.perform(hasher, alloc, out, row)?;
@@ -115,7 +115,10 @@ impl<S> Machine<S> {
     where
         S: Store<H>,
         requires { IsPeer me }
-        ensures { Acts S.does S.refuses (task_done me task) self.old hasher.old out.old result self.new hasher.new out.new }
+        ensures acts { Acts S.does S.refuses (task_done me task) self.old hasher.old out.old result self.new hasher.new out.new }
+        ensures grows { Grows out.old out.new }
+        ensures names { IfOk result (λ tasks. tasks ≡ next_of me task self.old.state) }
+        ensures fits { IsFreeTask out.old me task self.old.state → ¬ IsErrOf result PeerError.Memory }
     {
         match task {
             Task::Phase(rule) => {
@@ -142,7 +145,9 @@ impl<S> Machine<S> {
     where
         S: Store<H>,
         requires { IsPeer me }
-        ensures { Acts S.does S.refuses (driven me turns tasks) self.old hasher.old out.old result self.new hasher.new out.new }
+        ensures acts { Acts S.does S.refuses (driven me turns tasks) self.old hasher.old out.old result self.new hasher.new out.new }
+        ensures grows { Grows out.old out.new }
+        ensures none { tasks ≡ [] → IsOk result }
     {
         let mut tasks = tasks;
         for turn in 0..turns {

@@ -1,6 +1,7 @@
 ghost use Rattle.std.specs.Prelude.{◌≡◌, ◌↔◌, true, false};
 ghost use Rattle.ens_base.specs.View.{IsPeer};
 ghost use Rattle.peer_core.specs.Ages.{is_young};
+ghost use Rattle.peer_core.specs.NoAllocation.{IsSteady};
 
 use crate::event::Event;
 use crate::machine::Machine;
@@ -22,6 +23,7 @@ pub struct Peer<B, N, F> {
     pub(crate) halted: bool,
     ghost is_peer: { IsPeer me },
     ghost young: { halted ≡ false → is_young machine.state.phase ≡ true },
+    ghost steady: { halted ≡ false → IsSteady machine.state },
 }
 
 /// A peer without its stores. The stores may be changed before the peer resumes.
@@ -32,6 +34,7 @@ pub struct Suspended {
     halted: bool,
     ghost is_peer: { IsPeer me },
     ghost young: { halted ≡ false → is_young state.phase ≡ true },
+    ghost steady: { halted ≡ false → IsSteady state },
 }
 
 /// Why a peer did not start, and the stores that it was given.
@@ -42,12 +45,13 @@ pub struct StartError<B, N, F> {
 }
 
 impl<B: Backend, N: NodeStore, F: FactKeeper> Peer<B, N, F> {
-    ghost use Rattle.std.specs.Prelude.{[], IfOk, IfErr, OnOk, OnErr, IsErrOf};
-    ghost use Rattle.step_plans.specs.Outboxes.{out_of};
+    ghost use Rattle.std.specs.Prelude.{◌≤◌, ◌+◌, [], length, IfOk, IfErr, OnOk, OnErr, IsErrOf};
+    ghost use Rattle.step_plans.specs.Outboxes.{out_of, room, spare};
     ghost use Rattle.step_plans.specs.Plans.{Finished, Stopped, Runs, nothing};
     ghost use Rattle.step_plans.specs.Steps.{Steps};
     ghost use Rattle.peer_core.specs.Drives.{MayCome, step_of};
     ghost use Rattle.peer_core.specs.Kept.{AllMayGo, IsStepError};
+    ghost use Rattle.peer_core.specs.NoAllocation.{IsAllocationFree};
     ghost use Rattle.peer_core.specs.Starts.{IsStartError, start_of};
     ghost use Rattle.peer_core.specs.Stores.{FactsAlone, SomeRose, stores_do, stores_refuse};
 
@@ -90,7 +94,9 @@ impl<B: Backend, N: NodeStore, F: FactKeeper> Peer<B, N, F> {
 
     /// Takes one step on an event. Its messages, answers, notes and replies to requests to change
     /// the view are added to the end of the outbox. The sender of a message is another peer, 1 to
-    /// 31, and the message obeys the grammar of frames.
+    /// 31, and the message obeys the grammar of frames. On a Prepare, Check or Beat the step sends
+    /// at most one message, and needs no heap memory if the outbox has room for one more. No call
+    /// is unanswered yet.
     ///
     /// # Errors
     ///
@@ -113,6 +119,9 @@ impl<B: Backend, N: NodeStore, F: FactKeeper> Peer<B, N, F> {
         ensures still { IsErrOf result PeerError.Halted → (self.new ≡ self.old) × (out.new ≡ out.old) × (hasher.new ≡ hasher.old) }
         ensures rose { IsErrOf result PeerError.StoreFault → SomeRose B.fault_count N.fault_count F.fault_count self.old.machine.stores self.new.machine.stores }
         ensures only { IfErr result IsStepError }
+        ensures one { IsAllocationFree event → length out.new.sends.items ≤ length out.old.sends.items + 1 }
+        ensures no_allocation { IsAllocationFree event → 1 ≤ spare out.old → ¬ IsErrOf result PeerError.Memory }
+        ensures room { room out.old ≤ room out.new }
         ensures may_go { OnOk result (AllMayGo self.old.me (out_of out.old) → AllMayGo self.old.me (out_of out.new)) }
         ensures me { self.new.me ≡ self.old.me }
     {

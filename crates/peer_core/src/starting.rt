@@ -1,5 +1,6 @@
 ghost use Rattle.std.specs.Prelude.{◌≡◌, true, IfOk};
 ghost use Rattle.peer_core.specs.Ages.{is_young};
+ghost use Rattle.peer_core.specs.NoAllocation.{IsSteady};
 ghost use Rattle.peer_core.specs.Starts.{Starts, start_of, first_state as first, opened as opens};
 
 use crate::state::{State, following};
@@ -27,6 +28,7 @@ fn opened<H, S: Store<H>>(
 ) -> Result<State, PeerError>
     ensures starts { Starts S.does S.refuses (opens opening kept) (stores.old, hasher.old) result (stores.new, hasher.new) }
     ensures young { IfOk result (λ x. is_young x.phase ≡ true) }
+    ensures steady { IfOk result (λ x. IsSteady x) }
 {
     match kept {
         Some(fact) => Ok(first_state(fact, false)),
@@ -48,6 +50,7 @@ pub(crate) fn start<H, S: Store<H>>(
 ) -> Result<State, PeerError>
     ensures starts { Starts S.does S.refuses (start_of opening) (stores.old, hasher.old) result (stores.new, hasher.new) }
     ensures young { IfOk result (λ x. is_young x.phase ≡ true) }
+    ensures steady { IfOk result (λ x. IsSteady x) }
 {
     let kept = stores.load(hasher)?;
     opened(stores, hasher, opening, kept)

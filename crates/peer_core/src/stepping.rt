@@ -1,10 +1,11 @@
-ghost use Rattle.std.specs.Prelude.{◌≡◌, true, OnOk};
+ghost use Rattle.std.specs.Prelude.{◌≡◌, ◌≤◌, ◌+◌, [], true, length, OnOk, IfOk, IsErrOf};
 ghost use Rattle.ens_base.specs.View.{IsPeer};
-ghost use Rattle.step_plans.specs.Outboxes.{HasNotesAlone};
+ghost use Rattle.step_plans.specs.Outboxes.{Grows, room, spare};
 ghost use Rattle.step_plans.specs.Steps.{Steps};
 ghost use Rattle.peer_core.specs.Ages.{IsYoung, is_young};
 ghost use Rattle.peer_core.specs.Drives.{led_in, ticked, first, responded, concluded, whole, step_of, MayCome, most_turns};
-ghost use Rattle.peer_core.specs.Outcomes.{Acts, Takes};
+ghost use Rattle.peer_core.specs.NoAllocation.{IsAllocationFree, IsSteady};
+ghost use Rattle.peer_core.specs.Outcomes.{Acts};
 
 use crate::event::Event;
 use crate::machine::Machine;
@@ -98,7 +99,8 @@ impl<S> Machine<S> {
     where
         S: Store<H>,
         requires young { IsYoung self.old.state.phase }
-        ensures { Acts S.does S.refuses (λ x o next. led_in me x.phase x o next) self.old hasher.now out.old result self.new hasher.now out.new }
+        ensures acts { Acts S.does S.refuses (λ x o next. led_in me x.phase x o next) self.old hasher.now out.old result self.new hasher.now out.new }
+        ensures grows { Grows out.old out.new }
     {
         let fact = self.state.fact;
         match &mut self.state.phase {
@@ -123,7 +125,8 @@ impl<S> Machine<S> {
     where
         S: Store<H>,
         requires young { IsYoung self.old.state.phase }
-        ensures { Acts S.does S.refuses (λ x o next. ticked me x.phase x o next) self.old hasher.old out.old result self.new hasher.new out.new }
+        ensures acts { Acts S.does S.refuses (λ x o next. ticked me x.phase x o next) self.old hasher.old out.old result self.new hasher.new out.new }
+        ensures grows { Grows out.old out.new }
     {
         if self.state.phase.leads() {
             self.tick_leading(alloc, hasher, out, me)
@@ -148,7 +151,10 @@ impl<S> Machine<S> {
         requires me { IsPeer me }
         requires come { MayCome me event.now }
         requires young { IsYoung self.old.state.phase }
-        ensures { Acts S.does S.refuses (first me event.now) self.old hasher.old out.old result self.new hasher.new out.new }
+        ensures acts { Acts S.does S.refuses (first me event.now) self.old hasher.old out.old result self.new hasher.new out.new }
+        ensures grows { Grows out.old out.new }
+        ensures names { IsAllocationFree event.now → IfOk result (λ tasks. tasks ≡ []) }
+        ensures fits { IsAllocationFree event.now → 1 ≤ spare out.old → ¬ IsErrOf result PeerError.Memory }
     {
         match event {
             Event::Deliver(from, message) => {
@@ -183,7 +189,9 @@ impl<S> Machine<S> {
         requires me { IsPeer me }
         requires come { MayCome me event.now }
         requires young { IsYoung self.old.state.phase }
-        ensures { Acts S.does S.refuses (responded me event.now) self.old hasher.old out.old result self.new hasher.new out.new }
+        ensures acts { Acts S.does S.refuses (responded me event.now) self.old hasher.old out.old result self.new hasher.new out.new }
+        ensures grows { Grows out.old out.new }
+        ensures fits { IsAllocationFree event.now → 1 ≤ spare out.old → ¬ IsErrOf result PeerError.Memory }
     {
         let tasks = self.first(hasher, alloc, out, me, event)?;
         self.drive(hasher, alloc, out, me, most_turns(), tasks)?;
@@ -202,7 +210,9 @@ impl<S> Machine<S> {
     where
         S: Store<H>,
         requires me { IsPeer me }
-        ensures { Acts S.does S.refuses (concluded me) self.old hasher.old out.old result self.new hasher.new out.new }
+        ensures acts { Acts S.does S.refuses (concluded me) self.old hasher.old out.old result self.new hasher.new out.new }
+        ensures grows { Grows out.old out.new }
+        ensures fits { IsSteady self.old.state → ¬ IsErrOf result PeerError.Memory }
     {
         let tasks = self.task_done(hasher, alloc, out, me, Task::Phase(26))?;
         self.drive(hasher, alloc, out, me, most_turns(), tasks)?;
@@ -224,35 +234,17 @@ impl<S> Machine<S> {
         requires me { IsPeer me }
         requires come { MayCome me event.now }
         requires young { IsYoung self.old.state.phase }
-        ensures { Acts S.does S.refuses (whole me event.now) self.old hasher.old out.old result self.new hasher.new out.new }
+        ensures acts { Acts S.does S.refuses (whole me event.now) self.old hasher.old out.old result self.new hasher.new out.new }
+        ensures grows { Grows out.old out.new }
+        ensures fits { IsAllocationFree event.now → IsSteady self.old.state → 1 ≤ spare out.old → ¬ IsErrOf result PeerError.Memory }
     {
         self.respond(hasher, alloc, out, me, event)?;
         self.conclude(hasher, alloc, out, me)?;
         Ok(())
     }
 
-    /// Takes a step into an outbox that contains nothing but notes.
-    fn take<H>(
-        &mut self,
-        hasher: &mut H,
-        alloc: Global,
-        out: &mut Outbox,
-        me: PeerId,
-        event: &Event,
-    ) -> Result<(), PeerError>
-    where
-        S: Store<H>,
-        requires me { IsPeer me }
-        requires come { MayCome me event.now }
-        requires young { IsYoung self.old.state.phase }
-        requires alone { HasNotesAlone out.old }
-        ensures { Takes S.does S.refuses me event.now self.old hasher.old out.old result self.new hasher.new out.new }
-    {
-        self.whole(hasher, alloc, out, me, event)
-    }
-
-    /// Takes a step. Its notes go directly into the outbox, and its output is added to it once the
-    /// step ended well.
+    /// Takes a step. If it fails, everything that it added to the outbox is removed, except its
+    /// notes.
     pub(crate) fn step<H>(
         &mut self,
         hasher: &mut H,
@@ -266,19 +258,21 @@ impl<S> Machine<S> {
         requires me { IsPeer me }
         requires come { MayCome me event.now }
         requires young { is_young self.old.state.phase ≡ true }
+        requires steady { IsSteady self.old.state }
         ensures steps { Steps S.does S.refuses (step_of me event.now self.old.state) (self.old.stores, hasher.old) out.old result self.new.state (self.new.stores, hasher.new) out.new }
         ensures young { OnOk result (is_young self.new.state.phase ≡ true) }
+        ensures steady { OnOk result (IsSteady self.new.state) }
+        ensures one { IsAllocationFree event.now → length out.new.sends.items ≤ length out.old.sends.items + 1 }
+        ensures no_allocation { IsAllocationFree event.now → 1 ≤ spare out.old → ¬ IsErrOf result PeerError.Memory }
+        ensures room { room out.old ≤ room out.new }
     {
-        let mut work = Outbox::new(alloc);
-        std::mem::swap(&mut work.notes, &mut out.notes);
-        let result = self.take(hasher, alloc, &mut work, me, event);
-        std::mem::swap(&mut work.notes, &mut out.notes);
-        match result {
-            Ok(()) => {
-                out.append(&mut work)?;
-                Ok(())
+        let mark = out.mark();
+        match self.whole(hasher, alloc, out, me, event) {
+            Ok(()) => Ok(()),
+            Err(error) => {
+                out.cut_back(mark);
+                Err(error)
             }
-            Err(error) => Err(error),
         }
     }
 }

@@ -14,6 +14,6 @@ mod store;
 mod tasks;
 
 pub use error::PeerError;
-pub use outbox::{AnswerOut, Outbox, Outgoing};
+pub use outbox::{AnswerOut, Mark, Outbox, Outgoing};
 pub use store::Store;
 pub use tasks::{Task, Tasks};

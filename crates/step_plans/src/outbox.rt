@@ -1,10 +1,14 @@
-ghost use Rattle.std.specs.Prelude.{◌≡◌, ◌+◌, ◌≤◌, ◌++◌, ◌∷◌, [], IsOk, OnOk, OnErr, IfErr, length};
+ghost use Rattle.std.specs.Prelude.{◌≡◌, ◌≢◌, ◌+◌, ◌≤◌, ℕ, ◌++◌, ◌∷◌, [], IsOk, OnOk, OnErr, IfErr, IfSome, IfNone, length};
 ghost use Rattle.ens_base.specs.PeerSet.{holds};
-ghost use Rattle.step_plans.specs.Outboxes.{HasNotesAlone, spare};
+ghost use Rattle.ens_base.specs.View.{IsPeer};
+ghost use Rattle.phase_rows.specs.Peers.{alone as alone_set};
+ghost use Rattle.step_plans.specs.Outboxes.{HasNotesAlone, out_of, room, spare, Grows, IsMark, FitsIn};
 ghost use Rattle.step_plans.specs.Sends.{posted, posted_to};
+ghost use Rattle.step_plans.specs.declared.outbox.Outbox.{Outbox};
 
 use crate::error::PeerError;
 use ens_base::{PeerId, PeerSet, Reply};
+use phase_rows::alone;
 use register_model::Note;
 use std::alloc::Global;
 use wire_frames::Message;
@@ -22,6 +26,28 @@ pub struct AnswerOut {
     pub from: u32,
     pub id: u64,
     pub reply: Reply,
+}
+
+/// How long the lists of an outbox are, without the notes.
+#[derive(Clone, Copy, Debug)]
+pub struct Mark {
+    sends: usize,
+    answers: usize,
+    changes: usize,
+}
+
+/// Returns the peer of a set of one peer, 1 to 31, and `None` for any other set.
+fn only_member(set: &PeerSet) -> Option<PeerId>
+    ensures some { IfSome result (λ p. IsPeer p × (set.now ≡ alone_set p)) }
+    ensures none { IfNone result ((p : ℕ) → IsPeer p → set.now ≢ alone_set p) }
+{
+    for number in 1..32 {
+        let peer = PeerId(number);
+        if *set == alone(peer) {
+            return Some(peer);
+        }
+    }
+    None
 }
 
 /// The output of steps: messages, answers to calls, notes, and replies to requests to change the
@@ -63,27 +89,26 @@ impl Outbox {
         Ok(())
     }
 
-    /// Moves everything in `more`, except its notes, to the end of this outbox. Moves nothing when
-    /// out of memory.
-    ///
-    /// # Errors
-    ///
-    /// `Memory` when out of memory, and no other error.
-    pub fn append(&mut self, more: &mut Outbox) -> Result<(), PeerError>
-        ensures sends { OnOk result (self.new.sends.items ≡ self.old.sends.items ++ more.old.sends.items) }
-        ensures answers { OnOk result (self.new.answers.items ≡ self.old.answers.items ++ more.old.answers.items) }
-        ensures changes { OnOk result (self.new.changes.items ≡ self.old.changes.items ++ more.old.changes.items) }
-        ensures notes { self.new.notes ≡ self.old.notes }
-        ensures err { OnErr result ((self.new.sends.items ≡ self.old.sends.items) × (self.new.answers.items ≡ self.old.answers.items) × (self.new.changes.items ≡ self.old.changes.items)) }
-        ensures memory { IfErr result (λ e. e ≡ PeerError.Memory) }
+    /// Returns how long the lists are, without the notes.
+    pub fn mark(&self) -> Mark
+        ensures { IsMark result self.now }
     {
-        self.sends.reserve(more.sends.len())?;
-        self.answers.reserve(more.answers.len())?;
-        self.changes.reserve(more.changes.len())?;
-        self.sends.append(&mut more.sends).unwrap();
-        self.answers.append(&mut more.answers).unwrap();
-        self.changes.append(&mut more.changes).unwrap();
-        Ok(())
+        Mark {
+            sends: self.sends.len(),
+            answers: self.answers.len(),
+            changes: self.changes.len(),
+        }
+    }
+
+    /// Shortens the lists to their lengths at the mark, except the notes. Needs no heap memory.
+    pub fn cut_back(&mut self, mark: Mark)
+        ensures back { (before : Outbox) → IsMark mark before → Grows before self.old → out_of self.new ≡ out_of before }
+        ensures notes { self.new.notes ≡ self.old.notes }
+        ensures room { room self.new ≡ room self.old }
+    {
+        self.sends.truncate(mark.sends);
+        self.answers.truncate(mark.answers);
+        self.changes.truncate(mark.changes);
     }
 
     /// Sends `message` to the peer `to`.
@@ -94,6 +119,8 @@ impl Outbox {
     pub fn send(&mut self, to: PeerId, message: Message) -> Result<(), PeerError>
         ensures sends { OnOk result (self.new.sends.items ≡ self.old.sends.items ++ record { to = to; message = message } ∷ []) }
         ensures rest { (self.new.answers ≡ self.old.answers) × (self.new.notes ≡ self.old.notes) × (self.new.changes ≡ self.old.changes) }
+        ensures grows { Grows self.old self.new }
+        ensures fits { 1 ≤ spare self.old → IsOk result }
         ensures memory { IfErr result (λ e. e ≡ PeerError.Memory) }
     {
         if self.sends.push(Outgoing { to, message }).is_err() {
@@ -112,6 +139,7 @@ impl Outbox {
     ) -> Result<(), PeerError>
         ensures sends { OnOk result (self.new.sends.items ≡ self.old.sends.items ++ posted (holds to.now) (λ p. message.now) 31) }
         ensures rest { (self.new.answers ≡ self.old.answers) × (self.new.notes ≡ self.old.notes) × (self.new.changes ≡ self.old.changes) }
+        ensures grows { Grows self.old self.new }
         ensures memory { IfErr result (λ e. e ≡ PeerError.Memory) }
     {
         for below in 0..31 {
@@ -124,7 +152,8 @@ impl Outbox {
         Ok(())
     }
 
-    /// Sends the message, if there is one, to each peer of the set, in ascending order.
+    /// Sends the message, if there is one, to each peer of the set, in ascending order. Needs no
+    /// heap memory for one receiver, if there is room for one more message.
     ///
     /// # Errors
     ///
@@ -137,11 +166,16 @@ impl Outbox {
     ) -> Result<(), PeerError>
         ensures sends { OnOk result (self.new.sends.items ≡ self.old.sends.items ++ posted_to to message) }
         ensures rest { (self.new.answers ≡ self.old.answers) × (self.new.notes ≡ self.old.notes) × (self.new.changes ≡ self.old.changes) }
+        ensures grows { Grows self.old self.new }
+        ensures fits { FitsIn self.old to message → IsOk result }
         ensures memory { IfErr result (λ e. e ≡ PeerError.Memory) }
     {
         match message {
             None => Ok(()),
-            Some(message) => self.send_copies(alloc, &to, &message),
+            Some(message) => match only_member(&to) {
+                Some(peer) => self.send(peer, message),
+                None => self.send_copies(alloc, &to, &message),
+            },
         }
     }
 
@@ -153,6 +187,7 @@ impl Outbox {
     pub fn answer(&mut self, from: u32, id: u64, reply: Reply) -> Result<(), PeerError>
         ensures answers { OnOk result (self.new.answers.items ≡ self.old.answers.items ++ record { from = from; id = id; reply = reply } ∷ []) }
         ensures rest { (self.new.sends ≡ self.old.sends) × (self.new.notes ≡ self.old.notes) × (self.new.changes ≡ self.old.changes) }
+        ensures grows { Grows self.old self.new }
         ensures memory { IfErr result (λ e. e ≡ PeerError.Memory) }
     {
         if self.answers.push(AnswerOut { from, id, reply }).is_err() {
@@ -169,6 +204,7 @@ impl Outbox {
     pub fn tell_change(&mut self, taken: bool) -> Result<(), PeerError>
         ensures changes { OnOk result (self.new.changes.items ≡ self.old.changes.items ++ taken ∷ []) }
         ensures rest { (self.new.sends ≡ self.old.sends) × (self.new.answers ≡ self.old.answers) × (self.new.notes ≡ self.old.notes) }
+        ensures grows { Grows self.old self.new }
         ensures memory { IfErr result (λ e. e ≡ PeerError.Memory) }
     {
         if self.changes.push(taken).is_err() {

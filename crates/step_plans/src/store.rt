@@ -1,5 +1,7 @@
+ghost use Rattle.std.specs.Prelude.{◌≡◌, IfErr};
 ghost use Rattle.step_plans.specs.Calls.{Call, Load, Save, AnswerOf, Answers};
 ghost use Rattle.step_plans.specs.declared.error.PeerError.{PeerError};
+ghost use Rattle.step_plans.specs.declared.error.PeerError.TheVariants.{StoreFault};
 
 use crate::error::PeerError;
 use peer_fact::{Change, Fact};
@@ -17,7 +19,8 @@ pub trait Store<H> {
     fn load(&mut self, hasher: &mut H) -> Result<Option<Fact>, PeerError>
         ensures { Answers does refuses (self.old, hasher.old) Load result (self.new, hasher.new) };
 
-    /// Replaces the kept fact by `fact`.
+    /// Replaces the kept fact by `fact`. Needs no heap memory.
     fn save(&mut self, hasher: &mut H, fact: &Fact) -> Result<(), PeerError>
-        ensures { Answers does refuses (self.old, hasher.old) (Save fact.now) result (self.new, hasher.new) };
+        ensures answers { Answers does refuses (self.old, hasher.old) (Save fact.now) result (self.new, hasher.new) }
+        ensures only { IfErr result (λ e. e ≡ StoreFault) };
 }

@@ -1,4 +1,4 @@
-ghost use Rattle.std.specs.Prelude.{◌≡◌, ◌++◌, ◌∷◌, [], OnOk, IfOk, IfErr, map, option_to_list, IfNone};
+ghost use Rattle.std.specs.Prelude.{◌≡◌, ◌++◌, ◌∷◌, [], IsOk, OnOk, IfOk, IfErr, map, option_to_list, IfNone};
 ghost use Rattle.step_plans.specs.Tasks.{named, keyed};
 ghost use Rattle.step_plans.specs.declared.tasks.Task.TheVariants.{Key as OnKey, Again};
 
@@ -84,6 +84,7 @@ impl Tasks {
     /// `Memory` when out of memory, and no other error.
     pub fn named(alloc: Global, then: Then) -> Result<Tasks, PeerError>
         ensures ok { IfOk result (λ t. t ≡ named then) }
+        ensures none { named then ≡ [] → IsOk result }
         ensures memory { IfErr result (λ e. e ≡ PeerError.Memory) }
     {
         let mut tasks = Tasks::none(alloc);

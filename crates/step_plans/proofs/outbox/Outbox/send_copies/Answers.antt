@@ -1,4 +1,5 @@
 use Rattle.ens_base.specs.PeerSet.{holds}
+use Rattle.step_plans.proofs.Growing.{grows_after}
 use Rattle.step_plans.proofs.Sending.{posted_to_it, not_posted_to_it}
 use Rattle.step_plans.proofs.outbox.Outbox.send_copies.Goals as goal
 use Rattle.step_plans.proofs.outbox.Outbox.send_copies.Goals.{then-has+in_ok-copy+in_ok-send, else-has}
@@ -11,6 +12,7 @@ loop-below-preserved c = elim c.if-has.branch [
     rw w.send.ensures.rest.0 c.loop-below.invariant.1,
     rw w.send.ensures.rest.1 c.loop-below.invariant.2,
     rw w.send.ensures.rest.2 c.loop-below.invariant.3,
+    grows_after c.args.self.now c.loop-below.self w.send.new.self c.loop-below.invariant.4 w.send.ensures.grows,
   )
   | else-has w ↦ rw w.self-is (
     not_posted_to_it (holds c.args.to.now) (λ p. c.args.message.now) c.loop-below.below c.args.self.now.sends.items c.loop-below.self.sends.items c.has.result
@@ -18,5 +20,6 @@ loop-below-preserved c = elim c.if-has.branch [
     c.loop-below.invariant.1,
     c.loop-below.invariant.2,
     c.loop-below.invariant.3,
+    c.loop-below.invariant.4,
   )
 ]
