@@ -6,9 +6,9 @@ ghost use Rattle.wire_frames.specs.Messages.{Obeys};
 use ens_base::{Command, Epoch, Key, PeerId, Reply, View, ViewError};
 use ens_hashing::PlainHasher;
 use ens_outside::{MemBackend, MemNodes};
-use fact_store::{Kept, MemFacts};
-use peer_fact::Fact;
+use fact_store::{FactKeeper, Kept, MemFacts};
 use peer_core::{CallIn, Event, Peer, StartError, Stores};
+use peer_fact::{Change, Fact};
 use slot_disk::Failing;
 use std::alloc::Global;
 use std::test::Fail;
@@ -284,6 +284,22 @@ fn a_suspended_peer_goes_on(rt: HostRuntime) -> Result<(), Fail> {
     let mut one = suspended.resume(stores);
     assert!(rt; told(alloc, &mut one, 3, Message::Accepted(BALLOT, 1), &[])?);
     assert!(rt; ticked(alloc, &mut one, 1, &[(2, "new epoch"), (3, "beat")])?);
+    Ok(())
+}
+
+/// Whether the stores of the peer keep this fact.
+fn keeps(peer: Tried, fact: Fact) -> bool {
+    let mut stores = peer.into_stores();
+    stores.facts.load() == Ok(Some(fact))
+}
+
+#[test]
+fn a_peer_started_again_keeps_its_fact(rt: HostRuntime) -> Result<(), Fail> {
+    let alloc = rt.alloc();
+    let view = view()?;
+    let one = starting(alloc, view)?;
+    let again = started(1, view, one.into_stores())?;
+    assert!(rt; keeps(again, elected(view)));
     Ok(())
 }
 
