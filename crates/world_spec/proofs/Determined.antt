@@ -17,7 +17,7 @@ use Rattle.peer_core.specs.declared.event.Event.{Event}
 use Rattle.peer_core.specs.declared.state.State.{State}
 use Rattle.peer_core.proofs.Passing.{steps_keep}
 use Rattle.world_spec.specs.Facts.{HeldDoes, HeldRefuses, kept_of}
-use Rattle.world_spec.specs.Nodes.{MemStores, Up, Down, Ended, IsFinished, with_fact, empty_stores, run, taken, taken_of, opening_node}
+use Rattle.world_spec.specs.Nodes.{MemStores, Up, IsFinished, with_fact, empty_stores, run, taken, taken_of, opening_node}
 
 -- the call loads or saves the fact
 abbrev pub IsFactCall : Call → Type 0

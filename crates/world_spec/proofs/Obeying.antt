@@ -1,5 +1,5 @@
 -- Every message of a run goes from a peer to another and obeys the grammar of frames.
-use Rattle.std.proofs.Common.{◌≡◌, ◌≤◌, ◌-◌, lit<, arith, sym, ℕ, zero, suc, Bool, List, [], ◌∷◌, ◌++◌, map, Option, None, Some}
+use Rattle.std.proofs.Common.{◌≤◌, ◌-◌, lit<, arith, sym, ℕ, zero, suc, Bool, List, [], ◌∷◌, ◌++◌, map, Option, None, Some}
 use Rattle.std.specs.Prelude.{All, IfSome, slice_get}
 use Rattle.std.proofs.lemmas.List.Elements.{All-nil, All-cons, All-head, All-tail, All-push, All-set, All-replicate}
 use Rattle.ens_base.specs.View.{IsPeer}
@@ -8,8 +8,8 @@ use Rattle.register_model.specs.declared.note.Note.{Note}
 use Rattle.schedule_text.specs.Spelling.{MayStand, AllMayStand}
 use Rattle.schedule_text.specs.declared.event.ScheduleEvent.{ScheduleEvent}
 use Rattle.schedule_text.specs.declared.event.ScheduleEvent.TheVariants.{Tick, Deliver, Pass, Lose, Calm, CalmAmong}
-use Rattle.step_plans.specs.Calls.{Load, Save}
-use Rattle.step_plans.specs.Plans.{Plan, Done, Say, Ask, Out, Follows}
+use Rattle.step_plans.specs.Calls.{Save}
+use Rattle.step_plans.specs.Plans.{Plan, Done, Say, Ask, Follows}
 use Rattle.step_plans.specs.declared.outbox.Outgoing.{Outgoing}
 use Rattle.wire_frames.specs.declared.frame.Frame.{Frame}
 use Rattle.peer_core.specs.Ages.{IsYoung}
