@@ -4,6 +4,5 @@ pub mod OneByOne
 pub mod Begins
 pub mod Placed
 pub mod Loops
-pub mod Members
 pub mod Starting
 pub mod Events

@@ -6,8 +6,8 @@ use Rattle.std.proofs.Common.{◌≡◌, ◌≤◌, ◌<◌, ◌+◌, ℕ, List,
 use Rattle.std.proofs.lemmas.List.{append-nil, append_assoc, length-append}
 use Rattle.std.proofs.lemmas.List.Elements.{All-tail}
 use Rattle.network.specs.Mail.{Mail, posted, most_messages}
-use Rattle.peer_core.specs.Guarantees.{MaySend}
-use Rattle.peer_core.specs.declared.outbox.Outgoing.{Outgoing}
+use Rattle.peer_core.specs.Kept.{MaySend}
+use Rattle.step_plans.specs.declared.outbox.Outgoing.{Outgoing}
 use Rattle.wire_frames.specs.declared.frame.Frame.{Frame}
 use Rattle.world_spec.specs.Runs.{frame_from, posted_all}
 use Rattle.world_model.specs.Messages.{StartsWith}
@@ -15,12 +15,12 @@ use Rattle.world_model.specs.Messages.{StartsWith}
 -- some of the messages have been sent, and the rest lead from here to the same mail
 pub record Posting (me : ℕ) (first : Mail) (all : List Outgoing) (now : Mail) (left : List Outgoing) : Type 0 where
   pub posted : posted_all (map (frame_from me) left) now ≡ posted_all (map (frame_from me) all) first
-  pub may : All MaySend left
+  pub may : All (MaySend me) left
   pub begins : StartsWith first.sent now.sent
   pub count : length now.sent + length left ≡ length first.sent + length all
   pub within : length first.sent ≤ most_messages → length now.sent ≤ most_messages
 
-pub at_first : (me : ℕ) (first : Mail) (all : List Outgoing) → All MaySend all → Posting me first all first all
+pub at_first : (me : ℕ) (first : Mail) (all : List Outgoing) → All (MaySend me) all → Posting me first all first all
 at_first me first all may = record { posted = refl; may = may; begins = ([], sym (append-nil first.sent)); count = refl; within = λ le. le }
 
 length_more : (sent : List Frame) (f : Frame) (left : List Outgoing) (o : Outgoing) (whole : ℕ) → length sent + length (o ∷ left) ≡ whole → length (sent ++ f ∷ []) + length left ≡ whole
@@ -33,7 +33,7 @@ pub next : (me : ℕ) (first : Mail) (all : List Outgoing) (now : Mail) (o : Out
     → Posting me first all now (o ∷ left) → Posting me first all (posted now (frame_from me o)) left
 next me first all now o left below old = record {
   posted = old.posted;
-  may = All-tail MaySend o left old.may;
+  may = All-tail (MaySend me) o left old.may;
   begins = (old.begins.0 ++ frame_from me o ∷ [], rw old.begins.1 (append_assoc first.sent old.begins.0 (frame_from me o ∷ [])));
   count = length_more now.sent (frame_from me o) left o (length first.sent + length all) old.count;
   within = λ le. room now.sent (frame_from me o) below;

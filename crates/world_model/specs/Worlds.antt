@@ -1,9 +1,9 @@
 -- A world as the run of the lines applied so far.
 use Rattle.std.specs.Prelude.{◌≡◌, ◌≤◌, ◌++◌, ℕ, List, length, map}
 use Rattle.network.specs.Mail.{most_messages}
-use Rattle.peer_core.specs.Plans.{Out}
 use Rattle.register_model.specs.declared.note.Note.{Note}
 use Rattle.register_model.specs.declared.printed.Printed.{Printed}
+use Rattle.step_plans.specs.Plans.{Out}
 use Rattle.wire_frames.specs.declared.frame.Frame.{Frame}
 use Rattle.world_spec.specs.Runs.{Run, next_event, posted_all, frame_from, printed_by}
 use Rattle.world_model.specs.Peers.{node_of}

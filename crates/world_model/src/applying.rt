@@ -1,8 +1,8 @@
 ghost use Rattle.std.specs.Prelude.{◌≡◌, ◌<◌, ◌≤◌, length, OnOk, IfErr, IsErrOf};
+ghost use Rattle.joint_views.specs.Quorums.{is_in};
 ghost use Rattle.network.specs.Mail.{most_messages};
 ghost use Rattle.schedule_text.specs.Spelling.{MayStand};
-ghost use Rattle.schedule_words.specs.Spelling.{AreMembers};
-ghost use Rattle.world_spec.specs.Lines.{applied, effect, everyone, first_of, set_of, up_to};
+ghost use Rattle.world_spec.specs.Lines.{applied, effect, everyone, set_of};
 ghost use Rattle.world_spec.proofs.Growth.{sent_in};
 ghost use Rattle.world_model.specs.Refusals.{IsApplyError};
 ghost use Rattle.world_model.specs.Worlds.{run_of, Begins, IsWithin};
@@ -14,25 +14,33 @@ use ens_hashing::Hasher16;
 use schedule_text::ScheduleEvent;
 use std::alloc::Global;
 
+/// Whether the peer is one of these.
+fn is_one_of(members: &[PeerId], peer: PeerId) -> bool
+    ensures { result ≡ is_in members.now peer }
+{
+    members.contains(&peer)
+}
+
 /// Returns the set of all peers, 1 to 31.
 pub(crate) fn all_peers() -> PeerSet
     ensures { result ≡ everyone }
 {
     let mut set = PeerSet::empty();
-    for below in 0..31 {
-        set.insert(PeerId(below + 1));
+    for number in 1..32 {
+        set.insert(PeerId(number));
     }
     set
 }
 
 /// Returns the set of these peers.
 fn set_of_members(members: &[PeerId]) -> PeerSet
-    requires { AreMembers 31 members.now }
     ensures { result ≡ set_of members.now }
 {
     let mut set = PeerSet::empty();
-    for place in 0..members.len() {
-        set.insert(members[place]);
+    for number in 1..32 {
+        if is_one_of(members, PeerId(number)) {
+            set.insert(PeerId(number));
+        }
     }
     set
 }

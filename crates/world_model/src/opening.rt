@@ -12,9 +12,10 @@ use ens_hashing::Hasher16;
 use ens_outside::{MemBackend, MemNodes};
 use history_scribe::Scribe;
 use network::Network;
-use peer_core::{Peer, PeerError, Stores};
+use peer_core::{Peer, Stores};
 use schedule_text::Schedule;
 use std::alloc::Global;
+use step_plans::PeerError;
 use world_spec::HeldFact;
 
 /// Starts the peer `me` on empty stores.

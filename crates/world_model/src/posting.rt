@@ -1,7 +1,7 @@
 ghost use Rattle.std.specs.Prelude.{◌≡◌, ◌<◌, ◌≤◌, ◌+◌, map, length, All, OnOk, IfErr, IsErrOf};
 ghost use Rattle.ens_base.specs.View.{IsPeer};
 ghost use Rattle.network.specs.Mail.{most_messages};
-ghost use Rattle.peer_core.specs.Guarantees.{MaySend};
+ghost use Rattle.peer_core.specs.Kept.{MaySend};
 ghost use Rattle.world_spec.specs.Runs.{frame_from, posted_all};
 ghost use Rattle.world_model.specs.Messages.{StartsWith};
 ghost use Rattle.world_model.specs.Refusals.{IsApplyError};
@@ -9,7 +9,7 @@ ghost use Rattle.world_model.specs.Refusals.{IsApplyError};
 use crate::error::WorldError;
 use ens_base::PeerId;
 use network::Network;
-use peer_core::Outgoing;
+use step_plans::Outgoing;
 use wire_frames::Frame;
 
 /// Sends the messages of the peer `from` in order, and stops at the first that cannot be sent.
@@ -19,7 +19,7 @@ pub(crate) fn post_all(
     sends: Vec<Outgoing>,
 ) -> Result<(), WorldError>
     requires from { IsPeer from }
-    requires sends { All MaySend sends.items }
+    requires sends { All (MaySend from) sends.items }
     ensures ok { OnOk result (network.new ≡ posted_all (map (frame_from from) sends.items) network.old) }
     ensures limit { IsErrOf result WorldError.MessageLimit → most_messages < length network.old.sent + length sends.items }
     ensures within { OnOk result (length network.old.sent ≤ most_messages → length network.new.sent ≤ most_messages) }

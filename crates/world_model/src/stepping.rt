@@ -1,9 +1,9 @@
 ghost use Rattle.std.specs.Prelude.{◌≡◌, ◌<◌, ◌≤◌, ◌+◌, length, All, OnOk, IfErr, IsErrOf};
 ghost use Rattle.ens_base.specs.View.{IsPeer};
 ghost use Rattle.network.specs.Mail.{most_messages};
-ghost use Rattle.peer_core.specs.Outcomes.{out_of};
-ghost use Rattle.peer_core.specs.Guarantees.{AllObey};
-ghost use Rattle.peer_core.specs.Steps.{HasSender};
+ghost use Rattle.step_plans.specs.Outboxes.{out_of};
+ghost use Rattle.peer_core.specs.Drives.{MayCome};
+ghost use Rattle.peer_core.specs.Kept.{AllMayGo};
 ghost use Rattle.world_spec.specs.Runs.{stepped};
 ghost use Rattle.world_spec.proofs.Growth.{sent_in};
 ghost use Rattle.world_model.specs.Refusals.{IsApplyError};
@@ -16,8 +16,9 @@ use crate::taking::take;
 use crate::world::World;
 use ens_base::PeerId;
 use ens_hashing::Hasher16;
-use peer_core::{Event, Outbox};
+use peer_core::Event;
 use std::alloc::Global;
+use step_plans::Outbox;
 
 /// Drops an event for which there is no peer.
 fn ignore(_event: Event) {}
@@ -26,7 +27,7 @@ impl World {
     /// Sends the messages of a step, and adds its lines and notes to those of the world.
     fn report(&mut self, alloc: Global, peer: PeerId, out: Outbox) -> Result<(), WorldError>
         requires peer { IsPeer peer }
-        requires out { AllObey (out_of out) }
+        requires out { AllMayGo peer (out_of out) }
         ensures ok { OnOk result (run_of self.new ≡ reported peer (out_of out) out.notes.items (run_of self.old)) }
         ensures limit { IsErrOf result WorldError.MessageLimit → most_messages < length self.old.network.sent + length out.sends.items }
         ensures within { OnOk result (IsWithin self.old self.new) }
@@ -55,7 +56,7 @@ impl World {
         event: Event,
     ) -> Result<(), WorldError>
         requires peer { IsPeer peer }
-        requires sender { HasSender event }
+        requires event { MayCome peer event }
         ensures ok { OnOk result (run_of self.new ≡ stepped peer event (run_of self.old)) }
         ensures limit { IsErrOf result WorldError.MessageLimit → most_messages < sent_in (stepped peer event (run_of self.old)) }
         ensures within { OnOk result (IsWithin self.old self.new) }

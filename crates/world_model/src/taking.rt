@@ -1,7 +1,7 @@
 ghost use Rattle.std.specs.Prelude.{◌≡◌, IfOk, IfErr};
-ghost use Rattle.peer_core.specs.Outcomes.{out_of};
-ghost use Rattle.peer_core.specs.Steps.{HasSender};
-ghost use Rattle.peer_core.specs.Guarantees.{AllObey};
+ghost use Rattle.step_plans.specs.Outboxes.{out_of};
+ghost use Rattle.peer_core.specs.Drives.{MayCome};
+ghost use Rattle.peer_core.specs.Kept.{AllMayGo};
 ghost use Rattle.world_spec.specs.Nodes.{Taken, taken};
 ghost use Rattle.world_model.specs.Peers.{node_of};
 ghost use Rattle.world_model.specs.Refusals.{world_error as error_of};
@@ -9,8 +9,9 @@ ghost use Rattle.world_model.specs.Refusals.{world_error as error_of};
 use crate::error::WorldError;
 use crate::world::MemPeer;
 use ens_hashing::Hasher16;
-use peer_core::{Event, Outbox, PeerError};
+use peer_core::Event;
 use std::alloc::Global;
+use step_plans::{Outbox, PeerError};
 
 /// Returns the error with which a failed step ends the run, or `None` if the run goes on: after a
 /// store fault the peer is down.
@@ -32,9 +33,9 @@ pub(crate) fn take<H: Hasher16>(
     peer: &mut MemPeer,
     event: Event,
 ) -> Result<Outbox, WorldError>
-    requires { HasSender event }
+    requires { MayCome peer.old.me event }
     ensures taken { IfOk result (λ out. record { node = node_of peer.new; out = out_of out; notes = out.notes.items } ≡ taken peer.old.me event (node_of peer.old)) }
-    ensures obey { IfOk result (λ out. AllObey (out_of out)) }
+    ensures may_go { IfOk result (λ out. AllMayGo peer.old.me (out_of out)) }
     ensures me { peer.new.me ≡ peer.old.me }
     ensures error { IfErr result (λ e. e ≡ WorldError.Memory) }
 {

@@ -1,23 +1,22 @@
 -- A plan over stores in memory has exactly one run, unless it is out of memory.
-use Rattle.std.proofs.Common.{◌≡◌, ◌⊎◌, ℕ, Option, Some, None, List, [], ◌∷◌, ◌++◌, inl, inr, refl, ap, arith}
+use Rattle.std.proofs.Common.{◌≡◌, ◌⊎◌, ℕ, Option, Some, List, [], ◌∷◌, ◌++◌, inl, inr, refl, ap, arith}
 use Rattle.ens_base.specs.View.{IsPeer}
 use Rattle.ens_outside.specs.MemStores.{BackendDoes, BackendRefuses}
 use Rattle.peer_fact.specs.declared.fact.Fact.{Fact}
 use Rattle.register_model.specs.declared.note.Note.{Note}
 use Rattle.step_plans.specs.Calls.{Call, Load, Save, FreshTree, OpenTree, Find, Enter, ScanTree, ReadNode, Install, Fetch, Put, Hash, AnswerOf}
-use Rattle.step_plans.specs.Plans.{Plan, Done, Say, Ask, Out, nothing, Ending, Finished, Stopped, Runs, Follows}
+use Rattle.step_plans.specs.Plans.{Plan, Done, Say, Ask, Out, Ending, Finished, Stopped, Runs, Follows}
 use Rattle.step_plans.specs.declared.error.PeerError.{PeerError}
 use Rattle.step_plans.specs.declared.error.PeerError.TheVariants.{Memory}
 use Rattle.peer_core.specs.Ages.{IsYoung}
 use Rattle.peer_core.specs.Drives.{step_of, MayCome}
 use Rattle.peer_core.specs.Kept.{IsSave, AllMayGo}
-use Rattle.peer_core.specs.Starts.{start_of, opened}
 use Rattle.peer_core.specs.Stores.{stores_do, stores_refuse}
 use Rattle.peer_core.specs.declared.event.Event.{Event}
 use Rattle.peer_core.specs.declared.state.State.{State}
 use Rattle.peer_core.proofs.Passing.{steps_keep}
 use Rattle.world_spec.specs.Facts.{HeldDoes, HeldRefuses, kept_of}
-use Rattle.world_spec.specs.Nodes.{MemStores, Up, IsFinished, with_fact, empty_stores, run, taken, taken_of, opening_node}
+use Rattle.world_spec.specs.Nodes.{MemStores, Up, IsFinished, with_fact, run, taken, taken_of}
 
 -- the call loads or saves the fact
 abbrev pub IsFactCall : Call → Type 0
@@ -35,13 +34,6 @@ saves_follow P (Ask call next) follows = absurd follows.0
 -- a step calls only the fact keeper
 pub steps_follow : (me : ℕ) (event : Event) (x : State) → IsPeer me → MayCome me event → IsYoung x.phase → Follows IsFactCall (λ y out. IsYoung y.phase × AllMayGo me out) (step_of me event x)
 steps_follow me event x peer come young = saves_follow (λ y out. IsYoung y.phase × AllMayGo me out) (step_of me event x) (steps_keep me event x peer come young)
-
-opened_follows : (view : List ℕ) (kept : Option Fact) → Follows IsFactCall (λ y out. Unit {0}) (opened view kept)
-opened_follows view None = (tt, λ u. tt)
-opened_follows view (Some fact) = tt
-
-starts_follow : (view : List ℕ) → Follows IsFactCall (λ y out. Unit {0}) (start_of view)
-starts_follow view = (tt, λ kept. opened_follows view kept)
 
 -- the run of a plan that calls only the fact keeper ends well
 pub run_finishes : (P : State → Out → Type 0) (p : Plan State) (s : MemStores) (ns : List Note) → Follows IsFactCall P p → IsFinished (run p s ns)
@@ -156,16 +148,3 @@ module _ {H : Type 0} (strings : H → Option (List (List ℕ))) (c d : H → �
     step_stopped e s t ms ran =
         let follows = steps_follow me event x peer come young in
         stopped (step_of me event x) s e t ms (run_finishes Good (step_of me event x) s.0 [] follows) (determined Good (step_of me event x) s [] (Stopped e) t ms follows ran)
-
-  abbrev Any : State → Out → Type 0
-  Any y out = Unit {0}
-
-  -- a start on empty stores gives the node with which a world opens
-  pub start_taken : (view : List ℕ) (x : State) (h : H) (t : MemStores × H) → Runs MayAnswer MayRefuse (start_of view) (empty_stores, h) [] (Finished x nothing) t [] → opening_node view ≡ Up x t.0
-  start_taken view x h t ran =
-      ap (λ e. (taken_of e).node) (finished (start_of view) (empty_stores, h) x nothing t [] (determined Any (start_of view) (empty_stores, h) [] (Finished x nothing) t [] (starts_follow view) ran)).0
-
-  -- a start on empty stores stops only when out of memory
-  pub start_stopped : (view : List ℕ) (e : PeerError) (h : H) (t : MemStores × H) → Runs MayAnswer MayRefuse (start_of view) (empty_stores, h) [] (Stopped e) t [] → e ≡ Memory
-  start_stopped view e h t ran =
-      stopped (start_of view) (empty_stores, h) e t [] (run_finishes Any (start_of view) empty_stores [] (starts_follow view)) (determined Any (start_of view) (empty_stores, h) [] (Stopped e) t [] (starts_follow view) ran)

@@ -29,9 +29,9 @@ IsYoungNode (Up x s) = IsYoung x.phase
 IsYoungNode (Down s) = Unit {0}
 
 -- the peer is young after the step, and its messages may be sent
-record IsFineTaken (me : ℕ) (t : Taken) : Type 0 where
-  node : IsYoungNode t.node
-  out : AllMayGo me t.out
+pub record IsFineTaken (me : ℕ) (t : Taken) : Type 0 where
+  pub node : IsYoungNode t.node
+  pub out : AllMayGo me t.out
 
 -- all messages so far may be sent, and all peers are young
 record IsFine (w : Run) : Type 0 where
@@ -45,7 +45,7 @@ run_fine me (Ask (Save fact) next) s ns follows = run_fine me (next tt) (with_fa
 run_fine me (Ask call next) s ns follows = absurd follows.0
 
 -- all messages that a node sends in a step may be sent, and it stays young
-taken_fine : (me : ℕ) (event : Event) (node : Node) → IsPeer me → MayCome me event → IsYoungNode node → IsFineTaken me (taken me event node)
+pub taken_fine : (me : ℕ) (event : Event) (node : Node) → IsPeer me → MayCome me event → IsYoungNode node → IsFineTaken me (taken me event node)
 taken_fine me event (Up x s) peer come young = run_fine me (step_of me event x) s [] (steps_keep me event x peer come young)
 taken_fine me event (Down s) peer come young = record { node = tt; out = All-nil (MaySend me) }
 

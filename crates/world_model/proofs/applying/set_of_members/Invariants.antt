@@ -1,6 +1,6 @@
-use Rattle.std.proofs.Common.{◌≡◌}
-use Rattle.world_spec.specs.Lines.{first_of}
+use Rattle.joint_views.specs.Quorums.{is_in}
+use Rattle.phase_rows.proofs.Filled.{IsFilled}
 use Rattle.world_model.proofs.applying.set_of_members.Given as goal
 
-abbrev pub invariant-loop-place : goal.invariant-loop-place
-invariant-loop-place l = l.set ≡ first_of l.place l.members
+abbrev pub invariant-loop-number : goal.invariant-loop-number
+invariant-loop-number l = IsFilled (is_in l.members) l.number l.set

@@ -1,6 +1,6 @@
 use Rattle.std.proofs.Common.{rules, ◌≡◌, ◌-◌, ◌∙◌, Some, refl, slice_get}
 use Rattle.std.proofs.lemmas.Option.{slice_get_read}
-use Rattle.peer_core.specs.Outcomes.{out_of}
+use Rattle.step_plans.specs.Outboxes.{out_of}
 use Rattle.world_model.specs.Worlds.{run_of}
 use Rattle.world_model.proofs.Begins.{begins_by, on_ok}
 use Rattle.world_model.proofs.Placed.{took, took_too_many, still_numbered, still_few, has_number}
