@@ -1,18 +1,18 @@
 -- Rules 12 and 13: promises are counted, and an epoch starts.
-use Rattle.std.proofs.Common.{◌≡◌, ℕ, ◌<◌, ◌≤◌, Bool, true, false, ◌==◌, List, [], ◌∷◌, inl, inr, arith, refl, ap, le_trans, ◌∙◌, sym, subst}
+use Rattle.std.proofs.Common.{◌≡◌, ℕ, ◌<◌, ◌≤◌, Bool, true, false, ◌==◌, List, [], ◌∷◌, inl, inr, Option, arith, refl, ap, le_trans, ◌∙◌, sym, subst}
 use Rattle.std.proofs.lemmas.Bool.Decides.{nat_tests}
 use Rattle.joint_views.specs.Quorums.{is_quorum, is_member}
 use Rattle.abstract_protocol.specs.Ledger.{Ledger, Place, elect, accept, next_views, IsFact, MayElect}
 use Rattle.abstract_protocol.specs.Numbers.{epoch_number}
-use Rattle.election_laws.specs.Preparing.{proposer_of}
 use Rattle.election.specs.Preparing.{promised_by, starts, elected, first_fact, ignored}
 use Rattle.election.specs.declared.election.Election.{Election}
 use Rattle.election.specs.declared.election.Election.TheVariants.{Preparing, Starting}
 use Rattle.election_laws.proofs.Epochs.{not_both}
+use Rattle.election_laws.specs.Preparing.{proposer_of}
 use Rattle.ens_base.specs.PeerSet.{holds}
 use Rattle.ens_base.specs.declared.epoch.Epoch.{Epoch}
-use Rattle.peer_core.specs.Plans.{Out, Rest}
-use Rattle.peer_core.specs.Rules.{done_then, electing, plan_13, plan_14, while_12, while_13}
+use Rattle.peer_core.specs.Moves.{electing}
+use Rattle.peer_core.specs.Rows.{while_12, while_13}
 use Rattle.peer_core.specs.declared.state.Phase.{Phase}
 use Rattle.peer_core.specs.declared.state.Phase.TheVariants as phases
 use Rattle.peer_core.specs.declared.state.State.{State}
@@ -21,19 +21,18 @@ use Rattle.peer_fact.specs.declared.fact.Fact.{Fact}
 use Rattle.phase_rows.specs.Orders.{is_same, is_newer, may_accept}
 use Rattle.phase_rows.specs.Peers.{alone, joined, members, others_of, others_outside, with_members}
 use Rattle.phase_rows.specs.Rows.{silent, sends, saves_and_sends}
+use Rattle.version_laws.proofs.Maps.{put_here}
 use Rattle.wire_frames.specs.declared.message.Message.TheVariants as messages
 use Rattle.wire_frames.specs.declared.phase.PhaseOut.{PhaseOut}
 use Rattle.wire_frames.specs.declared.phase.Then.TheVariants as thens
-use Rattle.world_spec.specs.Nodes.{MemStores}
-use Rattle.version_laws.proofs.Maps.{put_here}
-use Rattle.election_refinement.proofs.Keeps.{elect_keeps, accept_keeps, first_keeps}
+use Rattle.election_refinement.proofs.Keeps.{keeps_both, elect_keeps, accept_keeps, first_keeps}
 use Rattle.election_refinement.proofs.Numbers.{proposer_of-number, same_epochs, newer_number, not_newer_number}
-use Rattle.election_refinement.proofs.Plans.{Passes, PassesWhere, InPhase, by_test, Here, Good, Fits, here_stores, here_phase, here_follows, here_sends, here_silent}
-use Rattle.election_refinement.proofs.Quiet.{ignored_passes, rule_14_passes}
 use Rattle.election_refinement.proofs.Reaching.{Course, Reaches, elect_reaches}
-use Rattle.election_refinement.proofs.Saving.{mark_here, accepted_here}
-use Rattle.election_refinement.proofs.Sets.{alone_then, joined_then, posted_to_hold}
-use Rattle.election_refinement.specs.Refinement.{first_seq, fact_place, IsKnown, IsFirst, HasPromised, IsPreparing, IsStarting, IsPrepare, IsPromise}
+use Rattle.election_refinement.proofs.Rows.{Fits, Goes, unmoved, enters, quiet, follows, rests_in, names}
+use Rattle.election_refinement.proofs.Saving.{mark_here, accepted_fits}
+use Rattle.election_refinement.proofs.Sets.{alone_then, joined_then}
+use Rattle.election_refinement.proofs.Tests.{by_test}
+use Rattle.election_refinement.specs.Refinement.{first_seq, fact_place, IsKnown, IsFirst, HasPromised, IsPreparing, IsStarting, PhaseHolds, IsPrepare, IsPromise}
 
 -- a known fact is a fact of the ledger
 fact_of_known : (l : Ledger) (f : Fact) → IsKnown l f → IsFact l (fact_place f)
@@ -69,27 +68,43 @@ starts_at_once : (trusted : Bool) (me : ℕ) (new : Fact) → may_accept trusted
 unfolding starts
 starts_at_once trusted me new may = rw may refl
 
-module _ (c : Course) where
+-- a promise is counted; the base is then no older than it was, and no older than the promised fact
+promised_more : (l : Ledger) (q d b now : ℕ) → b ≤ now → HasPromised l q d b → HasPromised l q d now
+promised_more l q d b now low has = record { stands = has.stands; told = λ a accepted below. le_trans (has.told a accepted below) low }
+
+counted : (l : Ledger) (p from : ℕ) (fact base now promised : Fact) (promises : List Bool) → IsPreparing l p fact base promises → IsPromise l from fact.ballot promised
+    → IsKnown l now → epoch_number now.epoch < epoch_number fact.ballot → epoch_number base.epoch ≤ epoch_number now.epoch → epoch_number promised.epoch ≤ epoch_number now.epoch
+    → IsPreparing l p fact now (joined from promises)
+counted l p from fact base now promised promises old told known above rises covers = record {
+  own = old.own;
+  fresh = old.fresh;
+  known = known;
+  above = above;
+  promised = joined_then (λ q. HasPromised l q (epoch_number fact.ballot) (epoch_number now.epoch)) from promises
+      (promised_more l from (epoch_number fact.ballot) (epoch_number promised.epoch) (epoch_number now.epoch) covers told.promised)
+      (λ q h. promised_more l q (epoch_number fact.ballot) (epoch_number base.epoch) (epoch_number now.epoch) rises (old.promised q h));
+}
+
+module _ (c : Course) (l : Ledger) (x : State) (stored : Option Fact) (h : Fits c l x stored) where
   open c use {peer as p}
 
   -- rule 13, for a member, with a quorum of promises
-  module _ (x : State) (st : MemStores) (out : Out) (h : Here c x st out) (base : Fact) (promises : List Bool)
-      (preparing : IsPreparing h.ledger p x.fact base promises) (quorum : is_quorum (holds promises) base.views ≡ true) where
+  module _ (base : Fact) (promises : List Bool) (preparing : IsPreparing l p x.fact base promises) (quorum : is_quorum (holds promises) base.views ≡ true) where
     abbrev d : ℕ
     d = epoch_number x.fact.ballot
 
     abbrev chosen : Ledger
-    chosen = elect h.ledger d (fact_place base)
+    chosen = elect l d (fact_place base)
 
     abbrev new : Fact
     new = first_fact x.fact p (views_after base)
 
-    may_elect : MayElect h.ledger d (fact_place base)
+    may_elect : MayElect l d (fact_place base)
     may_elect = record {
       fresh = preparing.fresh;
       above = preparing.above;
       listed = preparing.known.elected;
-      is_fact = fact_of_known h.ledger base preparing.known;
+      is_fact = fact_of_known l base preparing.known;
       voters = holds promises;
       quorum = subst (λ views. is_quorum (holds promises) views ≡ true) preparing.known.views quorum;
       reached = λ q voted. (preparing.promised q voted).stands;
@@ -100,7 +115,7 @@ module _ (c : Course) where
     proposes = sym (proposer_of-number x.fact.ballot h.peer.saved.known.ballot ∙ preparing.own)
 
     chosen_reaches : Reaches c chosen
-    chosen_reaches = elect_reaches c h.ledger h.reaches d (fact_place base) proposes (rw h.peer.saved.ballot (omega arith)) (not_second h.ledger base preparing.known) may_elect
+    chosen_reaches = elect_reaches c l h.reaches d (fact_place base) proposes (rw h.peer.saved.ballot (omega arith)) (not_second l base preparing.known) may_elect
 
     later : 0 < d
     later = let above = preparing.above in omega (arith, above)
@@ -109,10 +124,10 @@ module _ (c : Course) where
     new_seq n is_later = grind (arith, nat_tests)
 
     new_views : views_after base ≡ chosen.views d
-    new_views = same_views h.ledger base preparing.known ∙ sym (put_here h.ledger.views d (next_views h.ledger (fact_place base)) ∙ stays)
+    new_views = same_views l base preparing.known ∙ sym (put_here l.views d (next_views l (fact_place base)) ∙ stays)
       where
-        stays : next_views h.ledger (fact_place base) ≡ h.ledger.views (epoch_number base.epoch)
-        stays = rw (not_second h.ledger base preparing.known) refl
+        stays : next_views l (fact_place base) ≡ l.views (epoch_number base.epoch)
+        stays = rw (not_second l base preparing.known) refl
 
     is_first : IsFirst chosen new
     is_first = record {
@@ -120,7 +135,7 @@ module _ (c : Course) where
         ballot = h.peer.saved.known.ballot;
         epoch = h.peer.saved.known.ballot;
         below = omega arith;
-        elected = put_here h.ledger.elected d true;
+        elected = put_here l.elected d true;
         seq = new_seq d later;
         leader = sym preparing.own;
         views = new_views;
@@ -130,10 +145,10 @@ module _ (c : Course) where
       own_ballot = refl;
     }
 
-    newer : (h.ledger.fact p).epoch < d
-    newer = below (h.peer.saved.known.below) (λ same. not_both (subst (λ n. h.ledger.elected n ≡ true) same h.peer.saved.known.elected) preparing.fresh) (ap (λ (place : Place). place.epoch) h.peer.saved.place)
+    newer : (l.fact p).epoch < d
+    newer = below (h.peer.saved.known.below) (λ same. not_both (subst (λ n. l.elected n ≡ true) same h.peer.saved.known.elected) preparing.fresh) (ap (λ (place : Place). place.epoch) h.peer.saved.place)
       where
-        below : epoch_number x.fact.epoch ≤ d → (epoch_number x.fact.epoch ≡ d → ⊥) → (h.ledger.fact p).epoch ≡ epoch_number x.fact.epoch → (h.ledger.fact p).epoch < d
+        below : epoch_number x.fact.epoch ≤ d → (epoch_number x.fact.epoch ≡ d → ⊥) → (l.fact p).epoch ≡ epoch_number x.fact.epoch → (l.fact p).epoch < d
         below low other place = grind (arith, nat_tests)
 
     starting : IsStarting (accept chosen p d) p new new (alone p)
@@ -141,97 +156,62 @@ module _ (c : Course) where
       own = preparing.own;
       first = first_keeps chosen (accept chosen p d) p (accept_keeps chosen p d h.peer.saved.ballot) new is_first;
       at_ballot = refl;
-      accepted = alone_then (λ q. (accept chosen p d).accepted d q ≡ true) p (mark_here h.ledger.accepted d p);
+      accepted = alone_then (λ q. (accept chosen p d).accepted d q ≡ true) p (mark_here l.accepted d p);
     }
 
     one_view : views_after base ≡ c.view ∷ []
-    one_view = same_views h.ledger base preparing.known ∙ h.reaches.orderly.one_view (epoch_number base.epoch) preparing.known.elected
+    one_view = same_views l base preparing.known ∙ h.reaches.orderly.one_view (epoch_number base.epoch) preparing.known.elected
 
-    begun_good : (next : Rest) → Fits c next
-        → Good c (done_then (plan_14 p) (saves_and_sends new (others_of p (members new.views)) (messages.NewEpoch new) (thens.Rule 14)) (electing (Starting new (alone p) 0) x) out next) st
-    begun_good next go =
-        let keeps = elect_keeps h.ledger p d (fact_place base) proposes preparing.fresh in
-        let now = accepted_here c x st out h chosen chosen_reaches keeps new is_first h.peer.saved.ballot newer (phases.Electing (Starting new (alone p) 0)) starting in
-        (here_stores c _ _ out now, rule_14_passes c _ _ _ next (here_sends c _ _ out now _ (posted_to_hold now.ledger p (others_of p (members new.views)) (messages.NewEpoch new) starting.first)) go)
+    begun_goes : Goes c l stored (electing (Starting new (alone p) 0) x, saves_and_sends new (others_of p (members new.views)) (messages.NewEpoch new) (thens.Rule 14))
+    begun_goes = record {
+      ledger = accept chosen p d;
+      keeps = keeps_both l chosen (accept chosen p d) p (elect_keeps l p d (fact_place base) proposes preparing.fresh) (accept_keeps chosen p d h.peer.saved.ballot);
+      fits = accepted_fits c l x stored h chosen chosen_reaches new is_first h.peer.saved.ballot newer (phases.Electing (Starting new (alone p) 0)) starting;
+      says = starting.first;
+    }
 
-    starts_good : (next : Rest) → Fits c next → Good c (done_then (plan_14 p) (starts x.trusted p new).1 (electing (starts x.trusted p new).0 x) out next) st
-    starts_good next go = subst (λ (r : Election × PhaseOut). Good c (done_then (plan_14 p) r.1 (electing r.0 x) out next) st)
-        (sym (starts_at_once x.trusted p new (may_accept_one c.view x.trusted p new h.peer.trusted one_view))) (begun_good next go)
+    starts_goes : Goes c l stored (electing (starts x.trusted p new).0 x, (starts x.trusted p new).1)
+    starts_goes = subst (λ (r : Election × PhaseOut). Goes c l stored (electing r.0 x, r.1)) (sym (starts_at_once x.trusted p new (may_accept_one c.view x.trusted p new h.peer.trusted one_view))) begun_goes
 
-  -- rule 13 of a preparing peer
-  preparing_13_passes : (base : Fact) (promises asked : List Bool) (age : ℕ)
-      → PassesWhere c (λ l x. IsPreparing l p x.fact base promises) (while_13 (phases.Electing (Preparing base promises asked age)) p)
-  preparing_13_passes base promises asked age x st out next h preparing go =
+  pub rule_13 : (phase : Phase) → PhaseHolds l p x.fact phase → Goes c l stored (while_13 phase p x)
+  rule_13 (phases.Electing (Preparing base promises asked age)) old =
       by_test does (is_quorum (holds promises) base.views) (elected (Preparing base promises asked age) x.fact p x.trusted (views_after base)) (ignored (Preparing base promises asked age))
       (λ quorum. by_test does (is_member (views_after base) p) (starts x.trusted p (first_fact x.fact p (views_after base))) (Preparing base promises asked age, silent thens.Follow)
-      (λ member. starts_good x st out h base promises preparing quorum next go)
-      (λ stranger. go _ st _ (here_silent c _ st out (here_follows c x st out h))))
-      (λ few. ignored_passes c (Preparing base promises asked age) x st out next h preparing go)
+      (λ member. starts_goes base promises old quorum)
+      (λ stranger. follows c l x stored h (phases.Electing (Preparing base promises asked age))))
+      (λ few. rests_in c l x stored h (phases.Electing (Preparing base promises asked age)) old)
     where
       does : Election × PhaseOut → Type 0
-      does r = Good c (done_then (plan_14 p) r.1 (electing r.0 x) out next) st
+      does r = Goes c l stored (electing r.0 x, r.1)
+  rule_13 (phases.Electing (Starting new accepts age)) old = rests_in c l x stored h (phases.Electing (Starting new accepts age)) old
+  rule_13 other old = quiet c l x stored h
 
-  while_13_passes : (phase : Phase) → PassesWhere c (InPhase c phase) (while_13 phase p)
-  while_13_passes (phases.Electing (Preparing base promises asked age)) x st out next h old go = preparing_13_passes base promises asked age x st out next h old go
-  while_13_passes (phases.Electing (Starting new accepts age)) x st out next h old go = ignored_passes c (Starting new accepts age) x st out next h old go
-  while_13_passes (phases.Following f) x st out next h old go = go x st out h
-  while_13_passes (phases.Probing b) x st out next h old go = go x st out h
-  while_13_passes (phases.Leading l) x st out next h old go = go x st out h
+  -- rule 12, for a promise of the peer's own ballot
+  promised_goes : (from : ℕ) (base promised : Fact) (promises asked : List Bool) (age : ℕ) → IsPreparing l p x.fact base promises → IsPromise l from x.fact.ballot promised
+      → Goes c l stored (electing (promised_by base promises asked age p from x.fact.ballot promised).0 x, (promised_by base promises asked age p from x.fact.ballot promised).1)
+  promised_goes from base promised promises asked age old told =
+      by_test (λ (r : Election × PhaseOut). Goes c l stored (electing r.0 x, r.1)) (is_newer promised base)
+      (now, sends (others_outside p asked promised.views) (messages.Prepare x.fact.ballot) (thens.Rule 13)) (Preparing base (joined from promises) asked age, silent (thens.Rule 13))
+      (λ newer. unmoved c l stored (electing now x, sends (others_outside p asked promised.views) (messages.Prepare x.fact.ballot) (thens.Rule 13)) (enters c l x stored h (phases.Electing now)
+      (counted l p from x.fact base promised promised promises old told told.known told.lower (newer_number promised base told.known.epoch old.known.epoch newer) (omega arith))) asks)
+      (λ older. names c l x stored h 13 (phases.Electing (Preparing base (joined from promises) asked age))
+      (counted l p from x.fact base base promised promises old told old.known old.above (omega arith) (not_newer_number promised base told.known.epoch old.known.epoch older)))
+    where
+      now : Election
+      now = Preparing promised (joined from promises) (with_members asked promised.views) age
 
-  pub rule_13_passes : Passes c (plan_13 p)
-  rule_13_passes x st out next h go = while_13_passes x.phase x st out next h h.peer.phase go
+      asks : IsPrepare l p x.fact.ballot
+      asks = record { epoch = h.peer.saved.known.ballot; own = old.own; stands = rw h.peer.saved.ballot (omega arith) }
 
-  -- rule 12 counts a promise; the base is then no older than it was, and no older than the promised
-  -- fact
-  promised_more : (l : Ledger) (q d b now : ℕ) → b ≤ now → HasPromised l q d b → HasPromised l q d now
-  promised_more l q d b now low has = record { stands = has.stands; told = λ a accepted below. le_trans (has.told a accepted below) low }
-
-  counted : (l : Ledger) (from : ℕ) (fact base now promised : Fact) (promises : List Bool) → IsPreparing l p fact base promises → IsPromise l from fact.ballot promised
-      → IsKnown l now → epoch_number now.epoch < epoch_number fact.ballot → epoch_number base.epoch ≤ epoch_number now.epoch → epoch_number promised.epoch ≤ epoch_number now.epoch
-      → IsPreparing l p fact now (joined from promises)
-  counted l from fact base now promised promises old told known above rises covers = record {
-    own = old.own;
-    fresh = old.fresh;
-    known = known;
-    above = above;
-    promised = joined_then (λ q. HasPromised l q (epoch_number fact.ballot) (epoch_number now.epoch)) from promises
-        (promised_more l from (epoch_number fact.ballot) (epoch_number promised.epoch) (epoch_number now.epoch) covers told.promised)
-        (λ q h. promised_more l q (epoch_number fact.ballot) (epoch_number base.epoch) (epoch_number now.epoch) rises (old.promised q h));
-  }
-
-  module _ (from : ℕ) (base promised : Fact) (promises asked : List Bool) (age : ℕ) where
-    -- a promise of the peer's own ballot
-    own_12_passes : PassesWhere c (λ l x. IsPreparing l p x.fact base promises × IsPromise l from x.fact.ballot promised)
-        (λ x out next. done_then (plan_13 p) (promised_by base promises asked age p from x.fact.ballot promised).1 (electing (promised_by base promises asked age p from x.fact.ballot promised).0 x) out next)
-    own_12_passes x st out next h so go =
-        by_test (λ (r : Election × PhaseOut). Good c (done_then (plan_13 p) r.1 (electing r.0 x) out next) st) (is_newer promised base)
-        (Preparing promised (joined from promises) (with_members asked promised.views) age, sends (others_outside p asked promised.views) (messages.Prepare x.fact.ballot) (thens.Rule 13))
-        (Preparing base (joined from promises) asked age, silent (thens.Rule 13))
-        (λ newer. let now = here_phase c x st out h (phases.Electing (Preparing promised (joined from promises) (with_members asked promised.views) age))
-        (counted h.ledger from x.fact base promised promised promises so.0 so.1 so.1.known so.1.lower (newer_number promised base so.1.known.epoch so.0.known.epoch newer) (omega arith)) in
-        rule_13_passes _ st _ next (here_sends c _ st out now _ (posted_to_hold h.ledger p (others_outside p asked promised.views) (messages.Prepare x.fact.ballot) asks)) go)
-        (λ older. rule_13_passes _ st _ next (here_silent c _ st out (here_phase c x st out h (phases.Electing (Preparing base (joined from promises) asked age))
-        (counted h.ledger from x.fact base base promised promises so.0 so.1 so.0.known so.0.above (omega arith) (not_newer_number promised base so.1.known.epoch so.0.known.epoch older)))) go)
-      where
-        asks : IsPrepare h.ledger p x.fact.ballot
-        asks = record { epoch = h.peer.saved.known.ballot; own = so.0.own; stands = rw h.peer.saved.ballot (omega arith) }
-
-    preparing_12_passes : (ballot : Epoch) → PassesWhere c (λ l x. IsPreparing l p x.fact base promises × IsPromise l from ballot promised) (while_12 (phases.Electing (Preparing base promises asked age)) p from ballot promised)
-    preparing_12_passes ballot x st out next h so go =
-        by_test (λ (r : Election × PhaseOut). Good c (done_then (plan_13 p) r.1 (electing r.0 x) out next) st) (is_same ballot x.fact.ballot)
-        (promised_by base promises asked age p from ballot promised) (ignored (Preparing base promises asked age))
-        (λ same. at_own (sym (same_epochs ballot x.fact.ballot same)))
-        (λ other. ignored_passes c (Preparing base promises asked age) x st out next h so.0 go)
-      where
-        at_own : x.fact.ballot ≡ ballot
-            → Good c (done_then (plan_13 p) (promised_by base promises asked age p from ballot promised).1 (electing (promised_by base promises asked age p from ballot promised).0 x) out next) st
-        at_own same =
-            subst (λ (b : Epoch). Good c (done_then (plan_13 p) (promised_by base promises asked age p from b promised).1 (electing (promised_by base promises asked age p from b promised).0 x) out next) st) same
-            (own_12_passes x st out next h (so.0, subst (λ (b : Epoch). IsPromise h.ledger from b promised) (sym same) so.1) go)
-
-  pub rule_12_passes : (phase : Phase) (from : ℕ) (ballot : Epoch) (promised : Fact) → PassesWhere c (λ l x. InPhase c phase l x × IsPromise l from ballot promised) (while_12 phase p from ballot promised)
-  rule_12_passes (phases.Electing (Preparing base promises asked age)) from ballot promised x st out next h so go = preparing_12_passes from base promised promises asked age ballot x st out next h so go
-  rule_12_passes (phases.Electing (Starting new accepts age)) from ballot promised x st out next h so go = ignored_passes c (Starting new accepts age) x st out next h so.0 go
-  rule_12_passes (phases.Following f) from ballot promised x st out next h so go = go x st out h
-  rule_12_passes (phases.Probing b) from ballot promised x st out next h so go = go x st out h
-  rule_12_passes (phases.Leading l) from ballot promised x st out next h so go = go x st out h
+  pub rule_12 : (phase : Phase) (from : ℕ) (ballot : Epoch) (promised : Fact) → PhaseHolds l p x.fact phase → IsPromise l from ballot promised → Goes c l stored (while_12 phase p from ballot promised x)
+  rule_12 (phases.Electing (Preparing base promises asked age)) from ballot promised old told =
+      by_test (λ (r : Election × PhaseOut). Goes c l stored (electing r.0 x, r.1)) (is_same ballot x.fact.ballot) (promised_by base promises asked age p from ballot promised) (ignored (Preparing base promises asked age))
+      (λ same. at_own (sym (same_epochs ballot x.fact.ballot same)))
+      (λ other. rests_in c l x stored h (phases.Electing (Preparing base promises asked age)) old)
+    where
+      at_own : x.fact.ballot ≡ ballot → Goes c l stored (electing (promised_by base promises asked age p from ballot promised).0 x, (promised_by base promises asked age p from ballot promised).1)
+      at_own same =
+          subst (λ (b : Epoch). Goes c l stored (electing (promised_by base promises asked age p from b promised).0 x, (promised_by base promises asked age p from b promised).1)) same
+          (promised_goes from base promised promises asked age old (subst (λ (b : Epoch). IsPromise l from b promised) (sym same) told))
+  rule_12 (phases.Electing (Starting new accepts age)) from ballot promised old told = rests_in c l x stored h (phases.Electing (Starting new accepts age)) old
+  rule_12 other from ballot promised old told = quiet c l x stored h

@@ -9,12 +9,12 @@ use Rattle.abstract_protocol.specs.Ledger.{Ledger, Place, is_established, raise,
 use Rattle.abstract_protocol.specs.Numbers.{epoch_number, IsEpoch}
 use Rattle.election_laws.specs.Preparing.{proposer_of}
 use Rattle.election.specs.declared.election.Election.TheVariants.{Preparing, Starting}
-use Rattle.peer_core.specs.declared.outbox.Outgoing.{Outgoing}
 use Rattle.peer_core.specs.declared.state.Leadership.{Leadership}
 use Rattle.peer_core.specs.declared.state.Phase.{Phase}
 use Rattle.peer_core.specs.declared.state.Phase.TheVariants as phases
 use Rattle.peer_fact.specs.declared.fact.Fact.{Fact}
 use Rattle.probe.specs.declared.probing.Probing.{Probing}
+use Rattle.step_plans.specs.declared.outbox.Outgoing.{Outgoing}
 use Rattle.wire_frames.specs.declared.frame.Frame.{Frame}
 use Rattle.wire_frames.specs.declared.message.Message.{Message}
 use Rattle.wire_frames.specs.declared.message.Message.TheVariants as messages
@@ -140,7 +140,7 @@ module _ (l m : Ledger) (p : ℕ) (k : Keeps l m p) where
   leading_keeps q fact leadership old = record {
     started = starting_keeps q fact leadership.fact leadership.accepts old.started;
     established = established_keeps (epoch_number leadership.fact.epoch) old.started.first.known.elected old.established;
-    goes_on = old.goes_on;
+    settled = old.settled;
   }
 
   preparing_keeps : (q : ℕ) (fact base : Fact) (promises : List Bool) → (p ≡ q → ⊥) → IsEpoch fact.ballot → IsPreparing l q fact base promises → IsPreparing m q fact base promises

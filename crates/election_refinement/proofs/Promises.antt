@@ -1,5 +1,6 @@
 -- Rules 10 and 11: a ballot is prepared or promised.
 use Rattle.std.proofs.Common.{◌≡◌, ℕ, ◌<◌, ◌≤◌, ◌-◌, ◌^◌, Bool, true, false, not, ◌||◌, ◌==◌, if◌then◌else◌, Option, None, arith, refl, le_trans, sym, subst}
+use Rattle.joint_views.specs.Quorums.{is_member}
 use Rattle.abstract_protocol.specs.Ledger.{Ledger, raise}
 use Rattle.abstract_protocol.specs.Numbers.{epoch_number, IsEpoch}
 use Rattle.election.specs.Ballots.{row_11, promises_to}
@@ -7,65 +8,67 @@ use Rattle.election.specs.Preparing.{next_ballot, prepares}
 use Rattle.election.specs.declared.election.Election.{Election}
 use Rattle.election.specs.declared.election.Election.TheVariants.{Preparing}
 use Rattle.ens_base.specs.declared.epoch.Epoch.{Epoch}
-use Rattle.peer_core.specs.Transitions.{follower, followed, stood}
-use Rattle.peer_core.specs.Plans.{Out, Rest}
-use Rattle.peer_core.specs.Rules.{done, done_then, plan_10, plan_13}
+use Rattle.peer_core.specs.Moves.{follower, stood}
+use Rattle.peer_core.specs.Rows.{prepared, while_10}
+use Rattle.peer_core.specs.declared.state.Phase.{Phase}
 use Rattle.peer_core.specs.declared.state.Phase.TheVariants as phases
 use Rattle.peer_core.specs.declared.state.State.{State}
 use Rattle.peer_fact.specs.Facts.{views_after}
+use Rattle.peer_fact.specs.declared.fact.Fact.{Fact}
 use Rattle.phase_rows.specs.Orders.{is_below, is_same}
-use Rattle.joint_views.specs.Quorums.{is_member}
-use Rattle.phase_rows.specs.Peers.{alone, members, others_of}
+use Rattle.phase_rows.specs.Peers.{alone, members}
 use Rattle.phase_rows.specs.Rows.{silent, refuses_below, at_ballot}
-use Rattle.wire_frames.specs.declared.message.Message.TheVariants as messages
-use Rattle.wire_frames.specs.declared.phase.PhaseOut.{PhaseOut}
-use Rattle.wire_frames.specs.declared.phase.Then.TheVariants as thens
-use Rattle.world_spec.specs.Nodes.{MemStores}
+use Rattle.probe.specs.Probing.{first_probing}
 use Rattle.probe.specs.declared.probing.Probing.{Probing}
 use Rattle.version_laws.proofs.Maps.{put_here}
-use Rattle.election_refinement.proofs.Keeps.{known_keeps, raise_keeps}
+use Rattle.wire_frames.specs.declared.phase.PhaseOut.{PhaseOut}
+use Rattle.wire_frames.specs.declared.phase.Then.TheVariants as thens
+use Rattle.election_refinement.proofs.Keeps.{Keeps, known_keeps, raise_keeps}
 use Rattle.election_refinement.proofs.Numbers.{proposer_of-number, below_number, count_number}
-use Rattle.election_refinement.proofs.Elections.{rule_13_passes}
-use Rattle.election_refinement.proofs.Plans.{Passes, PassesWhere, by_test, Here, Good, Fits, here_stores, here_follows, here_sends, here_silent}
-use Rattle.election_refinement.proofs.Quiet.{refusal_passes}
+use Rattle.election_refinement.proofs.Probes.{first_holds}
+use Rattle.election_refinement.proofs.Quiet.{refuses}
 use Rattle.election_refinement.proofs.Reaching.{Course}
-use Rattle.election_refinement.proofs.Saving.{raised_here, own_promise}
-use Rattle.election_refinement.proofs.Sets.{alone_then, posted_to_hold}
-use Rattle.election_refinement.specs.Refinement.{IsKnown, HasPromised, IsProbing, IsPreparing, IsPrepare, IsPromise}
+use Rattle.election_refinement.proofs.Rows.{Fits, Goes, quiet, follows}
+use Rattle.election_refinement.proofs.Saving.{may_raise, raised_fits, own_promise}
+use Rattle.election_refinement.proofs.Sets.{alone_then}
+use Rattle.election_refinement.proofs.Tests.{by_test}
+use Rattle.election_refinement.specs.Refinement.{HasPromised, IsProbing, IsPreparing, PhaseHolds, IsPrepare}
 
-module _ (c : Course) where
+module _ (c : Course) (l : Ledger) (x : State) (stored : Option Fact) (h : Fits c l x stored) where
   open c use {peer as p}
 
   -- rule 11, for a ballot above the peer's
-  promises_passes : (from : ℕ) (ballot : Epoch) → IsEpoch ballot → PassesWhere c (λ l x. epoch_number x.fact.ballot < epoch_number ballot) (λ x out next. done (promises_to from (at_ballot x.fact ballot)) x out next)
-  promises_passes from ballot epoch x st out next h above go =
-      let now = raised_here c x st out h ballot epoch (omega (arith, above)) follower tt in
-      (here_stores c _ _ out now, go _ _ _ (here_sends c _ _ out now _ (posted_to_hold now.ledger p (alone from) (messages.Promise ballot (at_ballot x.fact ballot)) (promise now.peer.saved.known))))
-    where
-      promise : IsKnown (raise h.ledger p (epoch_number ballot)) (at_ballot x.fact ballot) → IsPromise (raise h.ledger p (epoch_number ballot)) p ballot (at_ballot x.fact ballot)
-      promise known = record {
-        known = known;
-        at_ballot = refl;
-        lower = le_trans (omega (arith, h.peer.saved.known.below)) above;
-        promised = own_promise c x st out h (epoch_number ballot) (epoch_number x.fact.epoch) (omega arith);
+  promises : (from : ℕ) (ballot : Epoch) → IsEpoch ballot → epoch_number x.fact.ballot < epoch_number ballot → Goes c l stored (x, promises_to from (at_ballot x.fact ballot))
+  promises from ballot epoch above =
+      let fits = raised_fits c l x stored h ballot epoch (omega (arith, above)) follower tt in
+      record {
+        ledger = raise l p (epoch_number ballot);
+        keeps = raise_keeps l p (epoch_number ballot) (may_raise c l x stored h (epoch_number ballot) (omega (arith, above)));
+        fits = fits;
+        says = record {
+          known = fits.peer.saved.known;
+          at_ballot = refl;
+          lower = le_trans (omega (arith, h.peer.saved.known.below)) above;
+          promised = own_promise c l x stored h (epoch_number ballot) (epoch_number x.fact.epoch) (omega arith);
+        };
       }
 
-  pub rule_11_passes : (from : ℕ) (ballot : Epoch) → IsEpoch ballot → Passes c (λ x out next. done (row_11 x.fact from ballot) x out next)
-  rule_11_passes from ballot epoch x st out next h go =
-      by_test (λ (row : PhaseOut). Good c (done row x out next) st) (is_below x.fact.ballot ballot)
+  pub rule_11 : (from : ℕ) (ballot : Epoch) → IsEpoch ballot → Goes c l stored (x, row_11 x.fact from ballot)
+  rule_11 from ballot epoch =
+      by_test (λ (row : PhaseOut). Goes c l stored (x, row)) (is_below x.fact.ballot ballot)
       (promises_to from (at_ballot x.fact ballot)) (if is_same ballot x.fact.ballot then silent thens.Stay else refuses_below from ballot x.fact)
-      (λ below. promises_passes from ballot epoch x st out next h (below_number x.fact.ballot ballot h.peer.saved.known.ballot epoch below) go)
-      (λ not_below. by_test (λ (row : PhaseOut). Good c (done row x out next) st) (is_same ballot x.fact.ballot) (silent thens.Stay) (refuses_below from ballot x.fact)
-      (λ same. go x st _ (here_silent c x st out h))
-      (λ other. refusal_passes c from ballot x st out next h go))
+      (λ below. promises from ballot epoch (below_number x.fact.ballot ballot h.peer.saved.known.ballot epoch below))
+      (λ not_below. by_test (λ (row : PhaseOut). Goes c l stored (x, row)) (is_same ballot x.fact.ballot) (silent thens.Stay) (refuses_below from ballot x.fact)
+      (λ same. quiet c l x stored h)
+      (λ other. refuses c l x stored h from ballot))
 
   -- rule 10, with the best fact and the count of a probing peer
-  module _ (probing : Probing) (x : State) (st : MemStores) (out : Out) (h : Here c x st out) (old : IsProbing h.ledger x.fact probing) where
+  module _ (b : Probing) (old : IsProbing l x.fact b) where
     abbrev ballot : Epoch
-    ballot = next_ballot probing.count p
+    ballot = next_ballot b.count p
 
     abbrev raised : Ledger
-    raised = raise h.ledger p (epoch_number ballot)
+    raised = raise l p (epoch_number ballot)
 
     ballot_ok : IsEpoch ballot
     ballot_ok = omega (arith, c.is_peer.1)
@@ -73,39 +76,49 @@ module _ (c : Course) where
     above_own : epoch_number x.fact.ballot < epoch_number ballot
     above_own = count_number x.fact.ballot ballot h.peer.saved.known.ballot (omega (arith, old.counts_own))
 
-    above_best : epoch_number probing.best.epoch < epoch_number ballot
-    above_best = le_trans (omega (arith, old.best.below)) (count_number probing.best.ballot ballot old.best.ballot (omega (arith, old.counts_best)))
+    above_best : epoch_number b.best.epoch < epoch_number ballot
+    above_best = le_trans (omega (arith, old.best.below)) (count_number b.best.ballot ballot old.best.ballot (omega (arith, old.counts_best)))
 
     -- the ballot is not elected yet, since the proposer of an elected epoch is at its ballot or
     -- above
-    fresh : (b : Bool) → h.ledger.elected (epoch_number ballot) ≡ b → h.ledger.elected (epoch_number ballot) ≡ false
+    fresh : (t : Bool) → l.elected (epoch_number ballot) ≡ t → l.elected (epoch_number ballot) ≡ false
     fresh false e = e
     fresh true e =
-        let stands : epoch_number ballot ≤ h.ledger.ballot p = subst (λ q. epoch_number ballot ≤ h.ledger.ballot q) (proposer_of-number ballot ballot_ok) (h.reaches.orderly.reached (epoch_number ballot) e) in
+        let stands : epoch_number ballot ≤ l.ballot p = subst (λ q. epoch_number ballot ≤ l.ballot q) (proposer_of-number ballot ballot_ok) (h.reaches.orderly.reached (epoch_number ballot) e) in
         let own = h.peer.saved.ballot in
         absurd (omega (arith, stands, own, above_own))
 
-    preparing : IsPreparing raised p (at_ballot x.fact ballot) probing.best (alone p)
+    keeps : Keeps l raised p
+    keeps = raise_keeps l p (epoch_number ballot) (may_raise c l x stored h (epoch_number ballot) (omega (arith, above_own)))
+
+    preparing : IsPreparing raised p (at_ballot x.fact ballot) b.best (alone p)
     preparing = record {
       own = refl;
-      fresh = fresh (h.ledger.elected (epoch_number ballot)) refl;
-      known = known_keeps h.ledger raised p (raise_keeps h.ledger p (epoch_number ballot) (rw h.peer.saved.ballot (omega (arith, above_own)))) probing.best old.best;
+      fresh = fresh (l.elected (epoch_number ballot)) refl;
+      known = known_keeps l raised p keeps b.best old.best;
       above = above_best;
-      promised = alone_then (λ q. HasPromised raised q (epoch_number ballot) (epoch_number probing.best.epoch)) p
-          (own_promise c x st out h (epoch_number ballot) (epoch_number probing.best.epoch) old.newer);
+      promised = alone_then (λ q. HasPromised raised q (epoch_number ballot) (epoch_number b.best.epoch)) p (own_promise c l x stored h (epoch_number ballot) (epoch_number b.best.epoch) old.newer);
     }
 
     asks : IsPrepare raised p ballot
-    asks = record { epoch = ballot_ok; own = refl; stands = subst (λ n. epoch_number ballot ≤ n) (sym (put_here h.ledger.ballot p (epoch_number ballot))) (omega arith) }
+    asks = record { epoch = ballot_ok; own = refl; stands = subst (λ n. epoch_number ballot ≤ n) (sym (put_here l.ballot p (epoch_number ballot))) (omega arith) }
 
-    prepares_good : (next : Rest) → Fits c next → Good c (done_then (plan_13 p) (prepares x.fact p probing.best ballot).0 (stood (prepares x.fact p probing.best ballot).1 x) out next) st
-    prepares_good next go =
-        let now = raised_here c x st out h ballot ballot_ok (omega (arith, above_own)) (phases.Electing (Preparing probing.best (alone p) (members probing.best.views) 0)) preparing in
-        (here_stores c _ _ out now, rule_13_passes c _ _ _ next (here_sends c _ _ out now _ (posted_to_hold now.ledger p (others_of p (members probing.best.views)) (messages.Prepare ballot) asks)) go)
+    prepares_goes : Goes c l stored (stood (prepares x.fact p b.best ballot).1 x, (prepares x.fact p b.best ballot).0)
+    prepares_goes = record {
+      ledger = raised;
+      keeps = keeps;
+      fits = raised_fits c l x stored h ballot ballot_ok (omega (arith, above_own)) (phases.Electing (Preparing b.best (alone p) (members b.best.views) 0)) preparing;
+      says = asks;
+    }
 
-  pub rule_10_passes : (probing : Probing) → PassesWhere c (λ l x. IsProbing l x.fact probing) (plan_10 p probing.best probing.count)
-  rule_10_passes probing x st out next h old go =
-      by_test (λ (r : PhaseOut × Option Election). Good c (done_then (plan_13 p) r.0 (stood r.1 x) out next) st) (not (is_member (views_after probing.best) p) || probing.count == 2 ^ 64 - 1)
-      (silent thens.Follow, None) (prepares x.fact p probing.best (next_ballot probing.count p))
-      (λ stranger. go (followed x) st _ (here_silent c _ st out (here_follows c x st out h)))
-      (λ member. prepares_good probing x st out h old next go)
+    prepared_goes : Goes c l stored (prepared p b.best b.count x)
+    prepared_goes =
+        by_test (λ (r : PhaseOut × Option Election). Goes c l stored (stood r.1 x, r.0)) (not (is_member (views_after b.best) p) || b.count == 2 ^ 64 - 1)
+        (silent thens.Follow, None) (prepares x.fact p b.best ballot)
+        (λ stranger. follows c l x stored h x.phase)
+        (λ member. prepares_goes)
+
+  pub rule_10 : (phase : Phase) → PhaseHolds l p x.fact phase → Goes c l stored (while_10 phase p x)
+  rule_10 (phases.Probing b) old = prepared_goes b old
+  rule_10 (phases.Leading y) old = prepared_goes (first_probing x.fact p) (first_holds l p x.fact h.peer.saved.known)
+  rule_10 other old = quiet c l x stored h

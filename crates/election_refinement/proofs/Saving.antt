@@ -1,21 +1,18 @@
 -- The state of a peer after it saved a fact: at a greater ballot, or as the first fact of an epoch
 -- that it accepts.
-use Rattle.std.proofs.Common.{◌≡◌, ℕ, ◌<◌, ◌≤◌, Bool, true, arith, refl, ap, le_trans, ◌∙◌, sym, subst}
+use Rattle.std.proofs.Common.{◌≡◌, ℕ, ◌<◌, ◌≤◌, Bool, true, Option, Some, arith, refl, ap, le_trans, ◌∙◌, sym, subst}
 use Rattle.std.proofs.lemmas.Bool.Decides.{nat_tests}
 use Rattle.abstract_protocol.specs.Ledger.{Ledger, Place, mark, raise, accept}
 use Rattle.abstract_protocol.specs.Numbers.{epoch_number, IsEpoch}
 use Rattle.ens_base.specs.declared.epoch.Epoch.{Epoch}
-use Rattle.peer_core.specs.Calls.{Save}
-use Rattle.peer_core.specs.Plans.{Out}
 use Rattle.peer_core.specs.declared.state.Phase.{Phase}
 use Rattle.peer_core.specs.declared.state.State.{State}
 use Rattle.peer_fact.specs.declared.fact.Fact.{Fact}
 use Rattle.phase_rows.specs.Rows.{at_ballot}
-use Rattle.world_spec.specs.Nodes.{MemStores, stores_after}
 use Rattle.version_laws.proofs.Maps.{put_here}
-use Rattle.election_refinement.proofs.Keeps.{Keeps, keeps_both, raise_keeps, accept_keeps, first_keeps, sends_keep}
-use Rattle.election_refinement.proofs.Plans.{Here}
+use Rattle.election_refinement.proofs.Keeps.{accept_keeps, first_keeps}
 use Rattle.election_refinement.proofs.Reaching.{Course, Reaches, reaches_safe, raise_reaches, accept_reaches}
+use Rattle.election_refinement.proofs.Rows.{Fits}
 use Rattle.election_refinement.specs.Refinement.{first_seq, IsKnown, IsFirst, HasPromised, IsSaved, PhaseHolds}
 
 pub mark_here : (r : ℕ → ℕ → Bool) (d p : ℕ) → mark r d p d p ≡ true
@@ -53,44 +50,38 @@ accepted_saved l p new is_first stands now = record {
     same_place : (d s t : ℕ) → s ≡ t → ◌≡◌ {A = Place} (record { epoch = d; seq = s }) (record { epoch = d; seq = t })
     same_place d s t e = rw e refl
 
-module _ (c : Course) (x : State) (st : MemStores) (out : Out) (h : Here c x st out) where
+module _ (c : Course) (l : Ledger) (x : State) (stored : Option Fact) (h : Fits c l x stored) where
   open c use {peer as p}
 
+  pub may_raise : (d : ℕ) → epoch_number x.fact.ballot ≤ d → l.ballot p ≤ d
+  may_raise d above = subst (λ n. n ≤ d) (sym h.peer.saved.ballot) above
+
   -- the fact is saved at a ballot that is not lower
-  abbrev pub raised_here : (ballot : Epoch) → IsEpoch ballot → epoch_number x.fact.ballot ≤ epoch_number ballot
-      → (phase : Phase) → PhaseHolds (raise h.ledger p (epoch_number ballot)) p (at_ballot x.fact ballot) phase
-      → Here c (record x { fact = at_ballot x.fact ballot; phase = phase }) (stores_after st (Save (at_ballot x.fact ballot))) out
-  raised_here ballot epoch above phase holds =
-      let may : h.ledger.ballot p ≤ epoch_number ballot = subst (λ n. n ≤ epoch_number ballot) (sym h.peer.saved.ballot) above in
-      record {
-        ledger = raise h.ledger p (epoch_number ballot);
-        reaches = raise_reaches c h.ledger h.reaches (epoch_number ballot) may;
-        peer = record { saved = raised_saved h.ledger p x.fact ballot h.peer.saved epoch above; kept = refl; trusted = h.peer.trusted; phase = holds };
-        sends = sends_keep h.ledger (raise h.ledger p (epoch_number ballot)) p (raise_keeps h.ledger p (epoch_number ballot) may) p out.sends h.sends;
-      }
+  abbrev pub raised_fits : (ballot : Epoch) → IsEpoch ballot → epoch_number x.fact.ballot ≤ epoch_number ballot → (phase : Phase) → PhaseHolds (raise l p (epoch_number ballot)) p (at_ballot x.fact ballot) phase
+      → Fits c (raise l p (epoch_number ballot)) (record x { fact = at_ballot x.fact ballot; phase = phase }) (Some (at_ballot x.fact ballot))
+  raised_fits ballot epoch above phase holds = record {
+    reaches = raise_reaches c l h.reaches (epoch_number ballot) (may_raise (epoch_number ballot) above);
+    peer = record { saved = raised_saved l p x.fact ballot h.peer.saved epoch above; kept = refl; trusted = h.peer.trusted; phase = holds };
+  }
 
   -- the peer accepted nothing later than its fact, so it may promise with it
-  pub own_promise : (d b : ℕ) → epoch_number x.fact.epoch ≤ b → HasPromised (raise h.ledger p d) p d b
+  pub own_promise : (d b : ℕ) → epoch_number x.fact.epoch ≤ b → HasPromised (raise l p d) p d b
   own_promise d b low = record {
-    stands = subst (λ n. d ≤ n) (sym (put_here h.ledger.ballot p d)) (omega arith);
-    told = λ a accepted below. le_trans (subst (λ (place : Place). a ≤ place.epoch) h.peer.saved.place ((reaches_safe c h.ledger h.reaches).ballots.accepted p a accepted)) low;
+    stands = subst (λ n. d ≤ n) (sym (put_here l.ballot p d)) (omega arith);
+    told = λ a accepted below. le_trans (subst (λ (place : Place). a ≤ place.epoch) h.peer.saved.place ((reaches_safe c l h.reaches).ballots.accepted p a accepted)) low;
   }
 
   -- the first fact of an epoch is accepted and saved, after steps that led to a ledger where the
   -- peer is at the ballot of this epoch
-  abbrev pub accepted_here : (l : Ledger) → Reaches c l → Keeps h.ledger l p → (new : Fact) → IsFirst l new → l.ballot p ≡ epoch_number new.epoch → (l.fact p).epoch < epoch_number new.epoch
-      → (phase : Phase) → PhaseHolds (accept l p (epoch_number new.epoch)) p new phase
-      → Here c (record x { fact = new; phase = phase }) (stores_after st (Save new)) out
-  accepted_here l reaches keeps new is_first stands newer phase holds =
-      let keeps_on = accept_keeps l p (epoch_number new.epoch) stands in
-      record {
-        ledger = accept l p (epoch_number new.epoch);
-        reaches = accept_reaches c l reaches (epoch_number new.epoch) is_first.known.elected stands newer;
-        peer = record {
-          saved = accepted_saved l p new is_first stands (first_keeps l (accept l p (epoch_number new.epoch)) p keeps_on new is_first);
-          kept = refl;
-          trusted = h.peer.trusted;
-          phase = holds;
-        };
-        sends = sends_keep h.ledger (accept l p (epoch_number new.epoch)) p (keeps_both h.ledger l (accept l p (epoch_number new.epoch)) p keeps keeps_on) p out.sends h.sends;
-      }
+  abbrev pub accepted_fits : (m : Ledger) → Reaches c m → (new : Fact) → IsFirst m new → m.ballot p ≡ epoch_number new.epoch → (m.fact p).epoch < epoch_number new.epoch
+      → (phase : Phase) → PhaseHolds (accept m p (epoch_number new.epoch)) p new phase
+      → Fits c (accept m p (epoch_number new.epoch)) (record x { fact = new; phase = phase }) (Some new)
+  accepted_fits m reaches new is_first stands newer phase holds = record {
+    reaches = accept_reaches c m reaches (epoch_number new.epoch) is_first.known.elected stands newer;
+    peer = record {
+      saved = accepted_saved m p new is_first stands (first_keeps m (accept m p (epoch_number new.epoch)) p (accept_keeps m p (epoch_number new.epoch) stands) new is_first);
+      kept = refl;
+      trusted = h.peer.trusted;
+      phase = holds;
+    };
+  }

@@ -1,16 +1,16 @@
 -- Sets of peers, and messages to them.
-use Rattle.std.proofs.Common.{◌≡◌, ℕ, zero, suc, ◌≤◌, ◌+◌, Bool, true, false, ◌==◌, if◌then◌else◌, eqb-true, List, [], ◌∷◌, Some, arith, refl, sym, ◌∙◌, subst}
+use Rattle.std.proofs.Common.{◌≡◌, ℕ, zero, suc, ◌≤◌, ◌+◌, Bool, true, false, ◌==◌, if◌then◌else◌, eqb-true, List, [], ◌∷◌, Option, Some, None, arith, refl, sym, ◌∙◌, subst}
 use Rattle.std.specs.Prelude.{All, replicate, slice_index_or}
 use Rattle.std.proofs.lemmas.Bool.{eqb-false, false≢true}
 use Rattle.std.proofs.lemmas.List.{get_or-set_other}
 use Rattle.std.proofs.lemmas.List.Elements.{All-nil, All-cons, All-append}
 use Rattle.abstract_protocol.specs.Ledger.{Ledger}
 use Rattle.ens_base.specs.PeerSet.{holds}
-use Rattle.peer_core.specs.Sends.{posted, posted_to}
-use Rattle.peer_core.specs.declared.outbox.Outgoing.{Outgoing}
+use Rattle.step_plans.specs.Sends.{posted, posted_to}
+use Rattle.step_plans.specs.declared.outbox.Outgoing.{Outgoing}
 use Rattle.phase_rows.specs.Peers.{nobody, joined, alone}
 use Rattle.wire_frames.specs.declared.message.Message.{Message}
-use Rattle.election_refinement.proofs.Plans.{by_test}
+use Rattle.election_refinement.proofs.Tests.{by_test}
 use Rattle.election_refinement.specs.Refinement.{MessageHolds, SendHolds}
 
 none_held : (n q : ℕ) → slice_index_or (replicate n false) q false ≡ false
@@ -29,6 +29,11 @@ joined_then P peer set here old q h = by_same (peer == q) refl
 pub alone_then : (P : ℕ → Type 0) (peer : ℕ) → P peer → (q : ℕ) → holds (alone peer) q ≡ true → P q
 alone_then P peer here = joined_then P peer nobody here (λ q h. absurd (false≢true (sym (none_held 32 q) ∙ h)))
 
+-- what the message of a row asserts, if it has one
+abbrev pub RowSays : Ledger → ℕ → Option Message → Type 0
+RowSays l p None = Unit {0}
+RowSays l p (Some message) = MessageHolds l p message
+
 module _ (l : Ledger) (p : ℕ) where
   -- messages to peers, each of which asserts what holds
   pub posted_hold : (test : ℕ → Bool) (word : ℕ → Message) → ((q : ℕ) → MessageHolds l p (word q)) → (n : ℕ) → n ≤ 31 → All (SendHolds l p) (posted test word n)
@@ -42,5 +47,6 @@ module _ (l : Ledger) (p : ℕ) where
       sent : Outgoing
       sent = record { to = n + 1; message = word (n + 1) }
 
-  pub posted_to_hold : (set : List Bool) (message : Message) → MessageHolds l p message → All (SendHolds l p) (posted_to set (Some message))
-  posted_to_hold set message says = posted_hold (holds set) (λ q. message) (λ q. says) 31 (omega arith)
+  pub posted_to_hold : (set : List Bool) (message : Option Message) → RowSays l p message → All (SendHolds l p) (posted_to set message)
+  posted_to_hold set None says = All-nil (SendHolds l p)
+  posted_to_hold set (Some message) says = posted_hold (holds set) (λ q. message) (λ q. says) 31 (omega arith)

@@ -9,24 +9,24 @@ use Rattle.abstract_protocol.specs.Ledger.{Ledger}
 use Rattle.abstract_protocol.specs.Protocol.{Step}
 use Rattle.ens_base.specs.View.{IsPeer}
 use Rattle.network.specs.Mail.{Mail, posted, settled, goes, oldest, is_among, most_messages}
-use Rattle.peer_core.specs.Plans.{Out, nothing, Ending, Finished, Stopped}
-use Rattle.peer_core.specs.Steps.{step_of}
+use Rattle.peer_core.specs.Drives.{step_of}
 use Rattle.peer_core.specs.declared.event.Event.{Event}
 use Rattle.peer_core.specs.declared.event.Event.TheVariants as events
-use Rattle.peer_core.specs.declared.outbox.Outgoing.{Outgoing}
 use Rattle.peer_core.specs.declared.state.State.{State}
 use Rattle.register_model.specs.declared.note.Note.{Note}
 use Rattle.schedule_text.specs.Spelling.{MayStand}
 use Rattle.schedule_text.specs.declared.event.ScheduleEvent.{ScheduleEvent}
 use Rattle.schedule_text.specs.declared.event.ScheduleEvent.TheVariants.{Tick, Deliver, Pass, Lose, Calm, CalmAmong}
+use Rattle.step_plans.specs.Calls.{Save}
+use Rattle.step_plans.specs.Plans.{Plan, Done, Say, Ask, Out, nothing, Ending, Finished, Stopped}
+use Rattle.step_plans.specs.declared.outbox.Outgoing.{Outgoing}
 use Rattle.wire_frames.specs.declared.frame.Frame.{Frame}
 use Rattle.world_spec.specs.Lines.{set_of, everyone, with_loss, effect, counted, applied}
-use Rattle.world_spec.specs.Nodes.{MemStores, Node, Up, Down, Ended, run, taken, taken_by}
+use Rattle.world_spec.specs.Nodes.{MemStores, Node, Up, Down, Ended, run, taken, taken_by, with_fact}
 use Rattle.world_spec.specs.Runs.{Run, place_of, frame_from, posted_all, with_taken, stepped, stepped_at, ticked, received_if, delivered, delivered_if, going_on, calmed}
 use Rattle.election_refinement.proofs.Keeps.{keeps_none, node_keeps, frames_keep}
-use Rattle.election_refinement.proofs.Peers.{EventHolds, step_good}
+use Rattle.election_refinement.proofs.Loops.{EventHolds, Here, Good, step_good}
 use Rattle.election_refinement.proofs.Reaching.{Course}
-use Rattle.election_refinement.proofs.Plans.{Here, EndsIn, every_end}
 use Rattle.election_refinement.specs.Refinement.{PeerHolds, NodeHolds, SendHolds, FrameHolds}
 use Rattle.election_refinement.specs.Worlds.{Refines, ledger_after, GoesOn}
 
@@ -57,6 +57,19 @@ frames_hold l p peer sends hold = All-map (FrameHolds l) (frame_from p) sends (A
 frame_at : (l : Ledger) (frames : List Frame) (n : ℕ) (f : Frame) → slice_get frames n ≡ Some f → All (FrameHolds l) frames → FrameHolds l f
 frame_at l frames n f is hold = subst (FrameHolds l) (get_or_from_slice_get frames n f f is) (hold n f (slice_get_within frames n f is))
 
+-- the peer agrees with the run at the end of a plan; no plan stops early, or asks what a world does
+-- not answer
+abbrev EndsIn : Course → Option (Ending State) → MemStores → Type 0
+EndsIn c (Some (Finished x out)) st = Here c x st out
+EndsIn c (Some (Stopped error)) st = ⊥
+EndsIn c None st = ⊥
+
+every_end : (c : Course) (plan : Plan State) (st : MemStores) (ns : List Note) → Good c plan st → EndsIn c (run plan st ns).ending (run plan st ns).stores
+every_end c (Done x out) st ns good = good
+every_end c (Say n plan) st ns good = every_end c plan st (ns ++ n ∷ []) good
+every_end c (Ask (Save fact) next) st ns good = every_end c (next tt) (with_fact fact st) ns good
+every_end c (Ask call next) st ns good = absurd good
+
 module _ (view : List ℕ) (steps : List Step) where
   -- the ledger that the world refines
   abbrev ledger_of : (w : Run) → GoesOn view steps w → Ledger
@@ -74,14 +87,14 @@ module _ (view : List ℕ) (steps : List Step) where
 
     here_refines : (x : State) (st : MemStores) (out : Out) (ns : List Note) → Here (course p peer w g) x st out → GoesOn view steps (with_taken p (record { node = Up x st; out = out; notes = ns }) w)
     here_refines x st out ns h = record {
-      more = h.reaches.more;
-      refinement = record { run = h.reaches.run; refines = subst (λ l. Refines view l (with_taken p (record { node = Up x st; out = out; notes = ns }) w)) (sym h.reaches.same) refines };
+      more = h.fits.reaches.more;
+      refinement = record { run = h.fits.reaches.run; refines = subst (λ l. Refines view l (with_taken p (record { node = Up x st; out = out; notes = ns }) w)) (sym h.fits.reaches.same) refines };
     }
       where
         nodes : (place : ℕ) (node : Node) → slice_get (slice_set w.nodes (place_of p) (Up x st)) place ≡ Some node → NodeHolds h.ledger (suc place) node
         nodes place node is = elim (get_put w.nodes (place_of p) place (Up x st) node is) [
-          | inl here ↦ subst (λ n. NodeHolds h.ledger (suc place) n) (sym here.1) (subst (λ q. PeerHolds h.ledger q x st) (number here.0) h.peer)
-          | inr there ↦ node_keeps (ledger_of w g) h.ledger p h.reaches.keeps (suc place) node (apart place there.0) (g.refinement.refines.nodes place node there.1)
+          | inl here ↦ subst (λ n. NodeHolds h.ledger (suc place) n) (sym here.1) (subst (λ q. PeerHolds h.ledger q x st.facts.kept) (number here.0) h.fits.peer)
+          | inr there ↦ node_keeps (ledger_of w g) h.ledger p h.fits.reaches.keeps (suc place) node (apart place there.0) (g.refinement.refines.nodes place node there.1)
         ]
           where
             number : place_of p ≡ place → p ≡ suc place
@@ -89,16 +102,17 @@ module _ (view : List ℕ) (steps : List Step) where
 
         refines : Refines view h.ledger (with_taken p (record { node = Up x st; out = out; notes = ns }) w)
         refines = record {
-          orderly = h.reaches.orderly;
+          orderly = h.fits.reaches.orderly;
           nodes = nodes;
-          sent = posted_all_hold (FrameHolds h.ledger) (map (frame_from p) out.sends) w.mail (frames_keep (ledger_of w g) h.ledger p h.reaches.keeps w.mail.sent g.refinement.refines.sent) (frames_hold h.ledger p peer out.sends h.sends);
+          sent = posted_all_hold (FrameHolds h.ledger) (map (frame_from p) out.sends) w.mail (frames_keep (ledger_of w g) h.ledger p h.fits.reaches.keeps w.mail.sent g.refinement.refines.sent) (frames_hold h.ledger p peer out.sends h.sends);
         }
 
-    ended_refines : (ending : Ending) (st : MemStores) (ns : List Note) → EndsIn (course p peer w g) ending st → GoesOn view steps (with_taken p (taken_by ending st ns) w)
-    ended_refines (Finished x out) st ns h = here_refines x st out ns h
-    ended_refines (Stopped error) st ns h = absurd h
+    ended_refines : (ending : Option (Ending State)) (st : MemStores) (ns : List Note) → EndsIn (course p peer w g) ending st → GoesOn view steps (with_taken p (taken_by ending st ns) w)
+    ended_refines (Some (Finished x out)) st ns h = here_refines x st out ns h
+    ended_refines (Some (Stopped error)) st ns h = absurd h
+    ended_refines None st ns h = absurd h
 
-    taken_refines : (event : Event) (x : State) (st : MemStores) → PeerHolds (ledger_of w g) p x st → EventHolds (ledger_of w g) event → GoesOn view steps (with_taken p (taken p event (Up x st)) w)
+    taken_refines : (event : Event) (x : State) (st : MemStores) → PeerHolds (ledger_of w g) p x st.facts.kept → EventHolds (ledger_of w g) event → GoesOn view steps (with_taken p (taken p event (Up x st)) w)
     taken_refines event x st holds event_holds =
         let ended : Ended = run (step_of p event x) st [] in
         ended_refines ended.ending ended.stores ended.notes (every_end (course p peer w g) (step_of p event x) st [] (step_good (course p peer w g) event x st here event_holds))
@@ -106,8 +120,10 @@ module _ (view : List ℕ) (steps : List Step) where
         here : Here (course p peer w g) x st nothing
         here = record {
           ledger = ledger_of w g;
-          reaches = record { more = g.more; run = g.refinement.run; same = refl; keeps = keeps_none (ledger_of w g) p; orderly = g.refinement.refines.orderly };
-          peer = holds;
+          fits = record {
+            reaches = record { more = g.more; run = g.refinement.run; same = refl; keeps = keeps_none (ledger_of w g) p; orderly = g.refinement.refines.orderly };
+            peer = holds;
+          };
           sends = All-nil (SendHolds (ledger_of w g) p);
         }
 
@@ -120,7 +136,7 @@ module _ (view : List ℕ) (steps : List Step) where
 
         by_node : (o : Option Node) → slice_get w.nodes (place_of p) ≡ o → GoesOn view steps (stepped_at o p event w)
         by_node None at = g
-        by_node (Some (Up x st)) at = taken_refines event x st (subst (λ q. PeerHolds (ledger_of w g) q x st) number (g.refinement.refines.nodes (place_of p) (Up x st) at)) event_holds
+        by_node (Some (Up x st)) at = taken_refines event x st (subst (λ q. PeerHolds (ledger_of w g) q x st.facts.kept) number (g.refinement.refines.nodes (place_of p) (Up x st) at)) event_holds
         by_node (Some (Down st)) at = absurd (g.refinement.refines.nodes (place_of p) (Down st) at)
 
   -- ## Lines of a schedule

@@ -1,6 +1,6 @@
 -- The refinement relation, part by part: what a fact, a phase, a peer and a message assert about
 -- the ledger of the abstract protocol.
-use Rattle.std.specs.Prelude.{◌≡◌, ℕ, ◌<◌, ◌≤◌, Bool, true, false, List, [], ◌∷◌, Some, None, ◌==◌, if◌then◌else◌}
+use Rattle.std.specs.Prelude.{◌≡◌, ℕ, ◌<◌, ◌≤◌, Bool, true, false, List, [], ◌∷◌, Option, Some, ◌==◌, if◌then◌else◌}
 use Rattle.abstract_protocol.specs.Ledger.{Ledger, Place, is_established}
 use Rattle.abstract_protocol.specs.Numbers.{epoch_number, IsEpoch}
 use Rattle.election_laws.specs.Preparing.{proposer_of}
@@ -9,7 +9,7 @@ use Rattle.election.specs.declared.election.Election.TheVariants.{Preparing, Sta
 use Rattle.ens_base.specs.PeerSet.{holds}
 use Rattle.ens_base.specs.View.{IsPeer}
 use Rattle.ens_base.specs.declared.epoch.Epoch.{Epoch}
-use Rattle.peer_core.specs.declared.outbox.Outgoing.{Outgoing}
+use Rattle.peer_core.specs.declared.state.ChangeState.TheVariants.{Settled}
 use Rattle.peer_core.specs.declared.state.Leadership.{Leadership}
 use Rattle.peer_core.specs.declared.state.Phase.{Phase}
 use Rattle.peer_core.specs.declared.state.Phase.TheVariants as phases
@@ -17,10 +17,11 @@ use Rattle.peer_core.specs.declared.state.State.{State}
 use Rattle.peer_fact.specs.declared.fact.Change.TheVariants as changes
 use Rattle.peer_fact.specs.declared.fact.Fact.{Fact}
 use Rattle.probe.specs.declared.probing.Probing.{Probing}
+use Rattle.step_plans.specs.declared.outbox.Outgoing.{Outgoing}
 use Rattle.wire_frames.specs.declared.frame.Frame.{Frame}
 use Rattle.wire_frames.specs.declared.message.Message.{Message}
 use Rattle.wire_frames.specs.declared.message.Message.TheVariants as messages
-use Rattle.world_spec.specs.Nodes.{MemStores, Node, Up, Down}
+use Rattle.world_spec.specs.Nodes.{Node, Up, Down}
 
 -- ## Facts
 
@@ -89,11 +90,11 @@ pub record IsStarting (l : Ledger) (me : ℕ) (fact new : Fact) (accepts : List 
   pub at_ballot : new.epoch ≡ fact.ballot
   pub accepted : HaveAccepted l (epoch_number new.epoch) accepts
 
--- a leading peer: it started the epoch, a quorum accepted it, and the peer is not ending it
+-- a leading peer: it started the epoch, a quorum accepted it, and no change of the view has begun
 pub record IsLeading (l : Ledger) (me : ℕ) (fact : Fact) (leadership : Leadership) : Type 0 where
   pub started : IsStarting l me fact leadership.fact leadership.accepts
   pub established : is_established l (epoch_number leadership.fact.epoch) ≡ true
-  pub goes_on : leadership.finishing ≡ None
+  pub settled : leadership.change ≡ Settled
 
 -- a preparing or starting peer
 abbrev pub IsElecting : Ledger → ℕ → Fact → Election → Type 0
@@ -116,16 +117,17 @@ pub record IsSaved (l : Ledger) (me : ℕ) (f : Fact) : Type 0 where
   pub ballot : l.ballot me ≡ epoch_number f.ballot
   pub place : l.fact me ≡ fact_place f
 
--- a running peer: its stores keep its fact, its tree is trusted, and what its phase asserts holds
-pub record PeerHolds (l : Ledger) (me : ℕ) (x : State) (stores : MemStores) : Type 0 where
+-- a running peer, whose stores keep `stored`: they keep its fact, its tree is trusted, and what its
+-- phase asserts holds
+pub record PeerHolds (l : Ledger) (me : ℕ) (x : State) (stored : Option Fact) : Type 0 where
   pub saved : IsSaved l me x.fact
-  pub kept : stores.facts.kept ≡ Some x.fact
+  pub kept : stored ≡ Some x.fact
   pub trusted : x.trusted ≡ true
   pub phase : PhaseHolds l me x.fact x.phase
 
 -- a node is a running peer; no peer is down
 abbrev pub NodeHolds : Ledger → ℕ → Node → Type 0
-NodeHolds l me (Up x stores) = PeerHolds l me x stores
+NodeHolds l me (Up x stores) = PeerHolds l me x stores.facts.kept
 NodeHolds l me (Down stores) = ⊥
 
 -- ## Messages, from peer `sender`

@@ -6,6 +6,9 @@
 //! a schedule extends that run by some steps. It also states what the laws of elections mean for
 //! the facts that peers keep and for peers that lead. So far no peer begins a change of the view,
 //! no peer stops and no store fails.
+//!
+//! The proof looks at each rule by its row alone: `proofs/Rows` says what a row has to show,
+//! `proofs/Rules` lists the rows, and `proofs/Loops` takes them through a step.
 #![tactic(auto)]
 
 mod laws;

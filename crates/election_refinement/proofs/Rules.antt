@@ -1,0 +1,44 @@
+-- The rows of the rules: of those that a row names, and of those for a message.
+use Rattle.std.proofs.Common.{ℕ, ◌==◌, Option}
+use Rattle.abstract_protocol.specs.Ledger.{Ledger}
+use Rattle.peer_core.specs.Rows.{phase_row, received}
+use Rattle.peer_core.specs.declared.state.State.{State}
+use Rattle.peer_fact.specs.declared.fact.Fact.{Fact}
+use Rattle.wire_frames.specs.declared.message.Message.{Message}
+use Rattle.wire_frames.specs.declared.message.Message.TheVariants as messages
+use Rattle.wire_frames.specs.declared.phase.PhaseOut.{PhaseOut}
+use Rattle.election_refinement.proofs.Announcements.{rule_16}
+use Rattle.election_refinement.proofs.Elections.{rule_12, rule_13}
+use Rattle.election_refinement.proofs.Probes.{rule_7, rule_8, rule_9}
+use Rattle.election_refinement.proofs.Promises.{rule_10, rule_11}
+use Rattle.election_refinement.proofs.Quiet.{rule_8_probe, rule_14, rule_15, rule_17, rule_19, rule_25, rule_26}
+use Rattle.election_refinement.proofs.Reaching.{Course}
+use Rattle.election_refinement.proofs.Rows.{Fits, Goes, quiet}
+use Rattle.election_refinement.proofs.Tests.{by_test}
+use Rattle.election_refinement.specs.Refinement.{MessageHolds}
+
+module _ (c : Course) (l : Ledger) (x : State) (stored : Option Fact) (h : Fits c l x stored) where
+  open c use {peer as p}
+
+  -- a rule that a row names
+  pub phase_goes : (n : ℕ) → Goes c l stored (phase_row n p x)
+  phase_goes n = let G : State × PhaseOut → Type 0 = Goes c l stored in
+      by_test G (n == 7) _ _ (λ is. rule_7 c l x stored h) (λ not.
+      by_test G (n == 9) _ _ (λ is. rule_9 c l x stored h x.phase h.peer.phase) (λ not.
+      by_test G (n == 10) _ _ (λ is. rule_10 c l x stored h x.phase h.peer.phase) (λ not.
+      by_test G (n == 13) _ _ (λ is. rule_13 c l x stored h x.phase h.peer.phase) (λ not.
+      by_test G (n == 14) _ _ (λ is. rule_14 c l x stored h x.phase h.peer.phase) (λ not.
+      by_test G (n == 25) _ _ (λ is. rule_25 c l x stored h x.phase h.peer.phase) (λ not.
+      by_test G (n == 26) _ _ (λ is. rule_26 c l x stored h x.phase h.peer.phase) (λ not. quiet c l x stored h)))))))
+
+  -- the rule for a message
+  pub received_goes : (from : ℕ) (message : Message) → MessageHolds l from message → Goes c l stored (received p from message x)
+  received_goes from messages.Probe says = rule_8_probe c l x stored h from
+  received_goes from (messages.ProbeReply fact) says = rule_8 c l x stored h x.phase from fact h.peer.phase says
+  received_goes from (messages.Prepare ballot) says = rule_11 c l x stored h from ballot says.epoch
+  received_goes from (messages.Promise ballot fact) says = rule_12 c l x stored h x.phase from ballot fact h.peer.phase says
+  received_goes from (messages.Nack ballot cause) says = rule_15 c l x stored h x.phase ballot cause
+  received_goes from (messages.NewEpoch fact) says = rule_16 c l x stored h from fact says
+  received_goes from (messages.Accepted ballot seq) says = rule_17 c l x stored h x.phase from ballot seq h.peer.phase says
+  received_goes from (messages.Beat ballot) says = rule_19 c l x stored h from ballot
+  received_goes from other says = absurd says
