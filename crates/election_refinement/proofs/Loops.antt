@@ -25,7 +25,7 @@ use Rattle.step_plans.specs.declared.tasks.Task.{Task}
 use Rattle.step_plans.specs.declared.tasks.Task.TheVariants as tasks
 use Rattle.wire_frames.specs.declared.phase.PhaseOut.{PhaseOut}
 use Rattle.world_spec.specs.Nodes.{MemStores, with_fact}
-use Rattle.election_refinement.proofs.Keeps.{sends_keep}
+use Rattle.election_refinement.proofs.Keeps.{Keeps, keeps_both, sends_keep}
 use Rattle.election_refinement.proofs.Reaching.{Course}
 use Rattle.election_refinement.proofs.Rows.{saved_in, stored_in, settled, Fits, Goes, enters}
 use Rattle.election_refinement.proofs.Rules.{phase_goes, received_goes}
@@ -40,12 +40,14 @@ EventHolds l events.Tick = Unit {0}
 EventHolds l (events.Call call) = Unit {0}
 EventHolds l (events.Change view) = ⊥
 
-module _ (c : Course) where
+-- `before` is the ledger at the beginning of the step
+module _ (c : Course) (before : Ledger) where
   open c use {peer as p}
 
   -- the peer, its stores and what it sends agree with a ledger that the run reaches
   pub record Here (x : State) (st : MemStores) (out : Out) : Type 0 where
     pub ledger : Ledger
+    pub keeps : Keeps before ledger p
     pub fits : Fits c ledger x st.facts.kept
     pub sends : All (SendHolds ledger p) out.sends
 
@@ -75,6 +77,7 @@ module _ (c : Course) where
       saved_good r.1.save (left r.1.leave r.0) st out (λ u y o. next (named r.1.then) (turned r.1.then y) (and_sends o (posted_to r.1.to r.1.message)))
       (λ t kept. go (named r.1.then) (settled r.1 r.0) t (and_sends out (posted_to r.1.to r.1.message)) (record {
         ledger = goes.ledger;
+        keeps = keeps_both before h.ledger goes.ledger p h.keeps goes.keeps;
         fits = subst (Fits c goes.ledger (settled r.1 r.0)) (sym kept) goes.fits;
         sends = All-append (SendHolds goes.ledger p) out.sends (posted_to r.1.to r.1.message) (sends_keep h.ledger goes.ledger p goes.keeps p out.sends h.sends) (posted_to_hold goes.ledger p r.1.to r.1.message goes.says);
       }))
@@ -99,6 +102,7 @@ module _ (c : Course) where
       subst (λ (change : ChangeState). Good (led_done (reminds p x.fact (record l { change = older change })) x out next) st) (sym old.settled)
       (subst (λ (change : ChangeState). Good (next (named (begins change)) (turned (begins change) (leading (record l { change = change }) x)) (and_sends out (words p x.fact still))) st) (sym none) (go [] (leading still x) st _ (record {
         ledger = h.ledger;
+        keeps = h.keeps;
         fits = enters c h.ledger x st.facts.kept h.fits (phases.Leading still) holds;
         sends = All-append (SendHolds h.ledger p) out.sends (words p x.fact still) h.sends (posted_hold h.ledger p (is_told p still) (word_to x.fact still) (word_holds h.ledger p x.fact still holds) 31 (omega arith));
       })))
@@ -119,7 +123,7 @@ module _ (c : Course) where
   event_good : (event : Event) (x : State) (st : MemStores) (out : Out) (next : Rest State (List Task)) → (h : Here x st out) → EventHolds h.ledger event → Onward next → Good (first p event x out next) st
   event_good (events.Deliver from message) x st out next h says go = row_good (received p from message x) x st out next h (received_goes c h.ledger x st.facts.kept h.fits from message says) go
   event_good events.Tick x st out next h says go = tick_good x.phase x st out next h h.fits.peer.phase go
-  event_good (events.Call call) x st out next h says go = go [] x st _ (record { ledger = h.ledger; fits = h.fits; sends = h.sends })
+  event_good (events.Call call) x st out next h says go = go [] x st _ (record { ledger = h.ledger; keeps = h.keeps; fits = h.fits; sends = h.sends })
   event_good (events.Change view) x st out next h says go = absurd says
 
   -- the tasks that a row names, and what follows once no task is left

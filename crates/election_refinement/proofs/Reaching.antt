@@ -8,33 +8,28 @@ use Rattle.election_laws.specs.Elections.{ElectionsAreSafe}
 use Rattle.election_laws.proofs.Epochs.{run_elections}
 use Rattle.election_laws.proofs.Rising.{put_rises}
 use Rattle.ens_base.specs.View.{IsPeer}
-use Rattle.election_refinement.proofs.Keeps.{Keeps, keeps_both, raise_keeps, elect_keeps, accept_keeps}
 use Rattle.election_refinement.specs.Refinement.{IsOrderly}
 use Rattle.election_refinement.specs.Worlds.{ledger_after}
 
--- the beginning of a peer's step: the steps of the run so far, and the ledger before the peer's
--- steps
+-- the beginning of a peer's step: the steps of the run so far, and the peer
 pub record Course : Type 0 where
   pub view : List ℕ
   pub steps : List Step
   pub peer : ℕ
   pub is_peer : IsPeer peer
-  pub first : Ledger
 
--- an extension of the run leads to this ledger, and only the peer takes steps after the first
--- ledger
+-- an extension of the run leads to this ledger
 pub record Reaches (c : Course) (l : Ledger) : Type 0 where
   pub more : List Step
   pub run : IsRun c.view (more ++ c.steps)
   pub same : ledger_after c.view (more ++ c.steps) ≡ l
-  pub keeps : Keeps c.first l c.peer
   pub orderly : IsOrderly c.view l
 
 pub reaches_safe : (c : Course) (l : Ledger) → Reaches c l → ElectionsAreSafe l
 reaches_safe c l r = subst ElectionsAreSafe r.same (run_elections c.view (r.more ++ c.steps) r.run)
 
 module _ (c : Course) (l : Ledger) (r : Reaches c l) where
-  open c use {view, peer as p, first}
+  open c use {view, peer as p}
 
   raise_orderly : (d : ℕ) → l.ballot p ≤ d → IsOrderly view (raise l p d)
   raise_orderly d may = record { one_view = r.orderly.one_view; reached = λ e h. le_trans (r.orderly.reached e h) (put_rises l.ballot p d may (proposer_of e)) }
@@ -45,7 +40,6 @@ module _ (c : Course) (l : Ledger) (r : Reaches c l) where
     more = Raise p d ∷ r.more;
     run = (r.run, (subst (λ m. m.ballot p ≤ d) (sym r.same) may, tt));
     same = ap (λ m. raise m p d) r.same;
-    keeps = keeps_both first l (raise l p d) p r.keeps (raise_keeps l p d may);
     orderly = raise_orderly d may;
   }
 
@@ -72,7 +66,6 @@ module _ (c : Course) (l : Ledger) (r : Reaches c l) where
     more = Elect d b ∷ r.more;
     run = (r.run, (subst (λ m. MayElect m d b) (sym r.same) may, tt));
     same = ap (λ m. elect m d b) r.same;
-    keeps = keeps_both first l (elect l d b) p r.keeps (elect_keeps l p d b own may.fresh);
     orderly = elect_orderly d b own stands first_fact may.listed;
   }
 
@@ -82,7 +75,6 @@ module _ (c : Course) (l : Ledger) (r : Reaches c l) where
     more = Accept p d ∷ r.more;
     run = (r.run, (subst (λ m. MayAccept m p d) (sym r.same) may, tt));
     same = ap (λ m. accept m p d) r.same;
-    keeps = keeps_both first l (accept l p d) p r.keeps (accept_keeps l p d stands);
     orderly = record { one_view = r.orderly.one_view; reached = r.orderly.reached };
   }
     where

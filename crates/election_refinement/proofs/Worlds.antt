@@ -59,16 +59,16 @@ frame_at l frames n f is hold = subst (FrameHolds l) (get_or_from_slice_get fram
 
 -- the peer agrees with the run at the end of a plan; no plan stops early, or asks what a world does
 -- not answer
-abbrev EndsIn : Course → Option (Ending State) → MemStores → Type 0
-EndsIn c (Some (Finished x out)) st = Here c x st out
-EndsIn c (Some (Stopped error)) st = ⊥
-EndsIn c None st = ⊥
+abbrev EndsIn : Course → Ledger → Option (Ending State) → MemStores → Type 0
+EndsIn c before (Some (Finished x out)) st = Here c before x st out
+EndsIn c before (Some (Stopped error)) st = ⊥
+EndsIn c before None st = ⊥
 
-every_end : (c : Course) (plan : Plan State) (st : MemStores) (ns : List Note) → Good c plan st → EndsIn c (run plan st ns).ending (run plan st ns).stores
-every_end c (Done x out) st ns good = good
-every_end c (Say n plan) st ns good = every_end c plan st (ns ++ n ∷ []) good
-every_end c (Ask (Save fact) next) st ns good = every_end c (next tt) (with_fact fact st) ns good
-every_end c (Ask call next) st ns good = absurd good
+every_end : (c : Course) (before : Ledger) (plan : Plan State) (st : MemStores) (ns : List Note) → Good c before plan st → EndsIn c before (run plan st ns).ending (run plan st ns).stores
+every_end c before (Done x out) st ns good = good
+every_end c before (Say n plan) st ns good = every_end c before plan st (ns ++ n ∷ []) good
+every_end c before (Ask (Save fact) next) st ns good = every_end c before (next tt) (with_fact fact st) ns good
+every_end c before (Ask call next) st ns good = absurd good
 
 module _ (view : List ℕ) (steps : List Step) where
   -- the ledger that the world refines
@@ -76,8 +76,8 @@ module _ (view : List ℕ) (steps : List Step) where
   ledger_of w g = ledger_after view (g.more ++ steps)
 
   -- the beginning of a step of a peer
-  abbrev course : (p : ℕ) → IsPeer p → (w : Run) → GoesOn view steps w → Course
-  course p peer w g = record { view = view; steps = steps; peer = p; is_peer = peer; first = ledger_of w g }
+  abbrev course : (p : ℕ) → IsPeer p → Course
+  course p peer = record { view = view; steps = steps; peer = p; is_peer = peer }
 
   -- ## A step of a peer
 
@@ -85,7 +85,7 @@ module _ (view : List ℕ) (steps : List Step) where
     apart : (place : ℕ) → (place_of p ≡ place → ⊥) → p ≡ suc place → ⊥
     apart place other same = other (omega (arith, same))
 
-    here_refines : (x : State) (st : MemStores) (out : Out) (ns : List Note) → Here (course p peer w g) x st out → GoesOn view steps (with_taken p (record { node = Up x st; out = out; notes = ns }) w)
+    here_refines : (x : State) (st : MemStores) (out : Out) (ns : List Note) → Here (course p peer) (ledger_of w g) x st out → GoesOn view steps (with_taken p (record { node = Up x st; out = out; notes = ns }) w)
     here_refines x st out ns h = record {
       more = h.fits.reaches.more;
       refinement = record { run = h.fits.reaches.run; refines = subst (λ l. Refines view l (with_taken p (record { node = Up x st; out = out; notes = ns }) w)) (sym h.fits.reaches.same) refines };
@@ -94,7 +94,7 @@ module _ (view : List ℕ) (steps : List Step) where
         nodes : (place : ℕ) (node : Node) → slice_get (slice_set w.nodes (place_of p) (Up x st)) place ≡ Some node → NodeHolds h.ledger (suc place) node
         nodes place node is = elim (get_put w.nodes (place_of p) place (Up x st) node is) [
           | inl here ↦ subst (λ n. NodeHolds h.ledger (suc place) n) (sym here.1) (subst (λ q. PeerHolds h.ledger q x st.facts.kept) (number here.0) h.fits.peer)
-          | inr there ↦ node_keeps (ledger_of w g) h.ledger p h.fits.reaches.keeps (suc place) node (apart place there.0) (g.refinement.refines.nodes place node there.1)
+          | inr there ↦ node_keeps (ledger_of w g) h.ledger p h.keeps (suc place) node (apart place there.0) (g.refinement.refines.nodes place node there.1)
         ]
           where
             number : place_of p ≡ place → p ≡ suc place
@@ -104,10 +104,10 @@ module _ (view : List ℕ) (steps : List Step) where
         refines = record {
           orderly = h.fits.reaches.orderly;
           nodes = nodes;
-          sent = posted_all_hold (FrameHolds h.ledger) (map (frame_from p) out.sends) w.mail (frames_keep (ledger_of w g) h.ledger p h.fits.reaches.keeps w.mail.sent g.refinement.refines.sent) (frames_hold h.ledger p peer out.sends h.sends);
+          sent = posted_all_hold (FrameHolds h.ledger) (map (frame_from p) out.sends) w.mail (frames_keep (ledger_of w g) h.ledger p h.keeps w.mail.sent g.refinement.refines.sent) (frames_hold h.ledger p peer out.sends h.sends);
         }
 
-    ended_refines : (ending : Option (Ending State)) (st : MemStores) (ns : List Note) → EndsIn (course p peer w g) ending st → GoesOn view steps (with_taken p (taken_by ending st ns) w)
+    ended_refines : (ending : Option (Ending State)) (st : MemStores) (ns : List Note) → EndsIn (course p peer) (ledger_of w g) ending st → GoesOn view steps (with_taken p (taken_by ending st ns) w)
     ended_refines (Some (Finished x out)) st ns h = here_refines x st out ns h
     ended_refines (Some (Stopped error)) st ns h = absurd h
     ended_refines None st ns h = absurd h
@@ -115,13 +115,14 @@ module _ (view : List ℕ) (steps : List Step) where
     taken_refines : (event : Event) (x : State) (st : MemStores) → PeerHolds (ledger_of w g) p x st.facts.kept → EventHolds (ledger_of w g) event → GoesOn view steps (with_taken p (taken p event (Up x st)) w)
     taken_refines event x st holds event_holds =
         let ended : Ended = run (step_of p event x) st [] in
-        ended_refines ended.ending ended.stores ended.notes (every_end (course p peer w g) (step_of p event x) st [] (step_good (course p peer w g) event x st here event_holds))
+        ended_refines ended.ending ended.stores ended.notes (every_end (course p peer) (ledger_of w g) (step_of p event x) st [] (step_good (course p peer) (ledger_of w g) event x st here event_holds))
       where
-        here : Here (course p peer w g) x st nothing
+        here : Here (course p peer) (ledger_of w g) x st nothing
         here = record {
           ledger = ledger_of w g;
+          keeps = keeps_none (ledger_of w g) p;
           fits = record {
-            reaches = record { more = g.more; run = g.refinement.run; same = refl; keeps = keeps_none (ledger_of w g) p; orderly = g.refinement.refines.orderly };
+            reaches = record { more = g.more; run = g.refinement.run; same = refl; orderly = g.refinement.refines.orderly };
             peer = holds;
           };
           sends = All-nil (SendHolds (ledger_of w g) p);
