@@ -25,7 +25,7 @@ use Rattle.election_refinement.proofs.Saving.{mark_here, may_raise, accepted_fit
 use Rattle.election_refinement.proofs.Tests.{by_test}
 use Rattle.election_refinement.specs.Refinement.{IsFirst}
 
-module _ (c : Course) (l : Ledger) (x : State) (stored : Option Fact) (h : Fits c l x stored) (from : ℕ) (new : Fact) (told : IsFirst l new) where
+module _ {c : Course} {l : Ledger} {x : State} {stored : Option Fact} (h : Fits c l x stored) (from : ℕ) (new : Fact) (told : IsFirst l new) where
   open c use {peer as p}
 
   -- the row, where a peer that would wait for a sync follows
@@ -34,7 +34,7 @@ module _ (c : Course) (l : Ledger) (x : State) (stored : Option Fact) (h : Fits 
 
   -- the epoch was accepted already
   again : new.epoch ≡ x.fact.epoch → Does (sends (alone from) (messages.Accepted new.epoch 1) thens.Follow)
-  again same = unmoved c l stored (x, sends (alone from) (messages.Accepted new.epoch 1) thens.Follow) (enters c l x stored h follower tt) (record { first = refl; accepted = accepted })
+  again same = unmoved c l stored (x, sends (alone from) (messages.Accepted new.epoch 1) thens.Follow) (enters h follower tt) (record { first = refl; accepted = accepted })
     where
       accepted : l.accepted (epoch_number new.epoch) p ≡ true
       accepted = subst (λ e. l.accepted (epoch_number e) p ≡ true) (sym same) (subst (λ (place : Place). l.accepted place.epoch p ≡ true) h.peer.saved.place ((reaches_safe c l h.reaches).ballots.last p))
@@ -47,7 +47,7 @@ module _ (c : Course) (l : Ledger) (x : State) (stored : Option Fact) (h : Fits 
     raised = raise l p d
 
     may : l.ballot p ≤ d
-    may = may_raise c l x stored h d above
+    may = may_raise h d above
 
     newer : (l.fact p).epoch < d
     newer = rw (ap (λ (place : Place). place.epoch) h.peer.saved.place) (less h.peer.saved.known.below)
@@ -59,7 +59,7 @@ module _ (c : Course) (l : Ledger) (x : State) (stored : Option Fact) (h : Fits 
     accepts_goes = record {
       ledger = accept raised p d;
       keeps = keeps_both l raised (accept raised p d) p (raise_keeps l p d may) (accept_keeps raised p d (put_here l.ballot p d));
-      fits = accepted_fits c l x stored h raised (raise_reaches c l h.reaches d may) new (first_keeps l raised p (raise_keeps l p d may) new told) (put_here l.ballot p d) newer follower tt;
+      fits = accepted_fits h raised (raise_reaches c l h.reaches d may) new (first_keeps l raised p (raise_keeps l p d may) new told) (put_here l.ballot p d) newer follower tt;
       says = record { first = refl; accepted = mark_here l.accepted d p };
     }
 
@@ -73,7 +73,7 @@ module _ (c : Course) (l : Ledger) (x : State) (stored : Option Fact) (h : Fits 
   rule_16 =
       by_test Does (is_below new.epoch x.fact.ballot) (refuses_below from new.epoch x.fact)
       (if is_same new.epoch x.fact.epoch then sends (alone from) (messages.Accepted new.epoch 1) thens.Follow else leaves_leading (takes x.fact p x.trusted false from new))
-      (λ below. refuses c l x stored h from new.epoch)
+      (λ below. refuses h from new.epoch)
       (λ not_below. by_test Does (is_same new.epoch x.fact.epoch) (sends (alone from) (messages.Accepted new.epoch 1) thens.Follow) (leaves_leading (takes x.fact p x.trusted false from new))
       (λ same. again (same_epochs new.epoch x.fact.epoch same))
       (λ other. takes_goes (not_below_number new.epoch x.fact.ballot told.known.epoch h.peer.saved.known.ballot not_below)

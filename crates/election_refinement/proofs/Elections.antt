@@ -85,7 +85,7 @@ counted l p from fact base now promised promises old told known above rises cove
       (λ q h. promised_more l q (epoch_number fact.ballot) (epoch_number base.epoch) (epoch_number now.epoch) rises (old.promised q h));
 }
 
-module _ (c : Course) (l : Ledger) (x : State) (stored : Option Fact) (h : Fits c l x stored) where
+module _ {c : Course} {l : Ledger} {x : State} {stored : Option Fact} (h : Fits c l x stored) where
   open c use {peer as p}
 
   -- rule 13, for a member, with a quorum of promises
@@ -166,7 +166,7 @@ module _ (c : Course) (l : Ledger) (x : State) (stored : Option Fact) (h : Fits 
     begun_goes = record {
       ledger = accept chosen p d;
       keeps = keeps_both l chosen (accept chosen p d) p (elect_keeps l p d (fact_place base) proposes preparing.fresh) (accept_keeps chosen p d h.peer.saved.ballot);
-      fits = accepted_fits c l x stored h chosen chosen_reaches new is_first h.peer.saved.ballot newer (phases.Electing (Starting new (alone p) 0)) starting;
+      fits = accepted_fits h chosen chosen_reaches new is_first h.peer.saved.ballot newer (phases.Electing (Starting new (alone p) 0)) starting;
       says = starting.first;
     }
 
@@ -178,13 +178,13 @@ module _ (c : Course) (l : Ledger) (x : State) (stored : Option Fact) (h : Fits 
       by_test does (is_quorum (holds promises) base.views) (elected (Preparing base promises asked age) x.fact p x.trusted (views_after base)) (ignored (Preparing base promises asked age))
       (λ quorum. by_test does (is_member (views_after base) p) (starts x.trusted p (first_fact x.fact p (views_after base))) (Preparing base promises asked age, silent thens.Follow)
       (λ member. starts_goes base promises old quorum)
-      (λ stranger. follows c l x stored h (phases.Electing (Preparing base promises asked age))))
-      (λ few. rests_in c l x stored h (phases.Electing (Preparing base promises asked age)) old)
+      (λ stranger. follows h (phases.Electing (Preparing base promises asked age))))
+      (λ few. rests_in h (phases.Electing (Preparing base promises asked age)) old)
     where
       does : Election × PhaseOut → Type 0
       does r = Goes c l stored (electing r.0 x, r.1)
-  rule_13 (phases.Electing (Starting new accepts age)) old = rests_in c l x stored h (phases.Electing (Starting new accepts age)) old
-  rule_13 other old = quiet c l x stored h
+  rule_13 (phases.Electing (Starting new accepts age)) old = rests_in h (phases.Electing (Starting new accepts age)) old
+  rule_13 other old = quiet h
 
   -- rule 12, for a promise of the peer's own ballot
   promised_goes : (from : ℕ) (base promised : Fact) (promises asked : List Bool) (age : ℕ) → IsPreparing l p x.fact base promises → IsPromise l from x.fact.ballot promised
@@ -192,9 +192,9 @@ module _ (c : Course) (l : Ledger) (x : State) (stored : Option Fact) (h : Fits 
   promised_goes from base promised promises asked age old told =
       by_test (λ (r : Election × PhaseOut). Goes c l stored (electing r.0 x, r.1)) (is_newer promised base)
       (now, sends (others_outside p asked promised.views) (messages.Prepare x.fact.ballot) (thens.Rule 13)) (Preparing base (joined from promises) asked age, silent (thens.Rule 13))
-      (λ newer. unmoved c l stored (electing now x, sends (others_outside p asked promised.views) (messages.Prepare x.fact.ballot) (thens.Rule 13)) (enters c l x stored h (phases.Electing now)
+      (λ newer. unmoved c l stored (electing now x, sends (others_outside p asked promised.views) (messages.Prepare x.fact.ballot) (thens.Rule 13)) (enters h (phases.Electing now)
       (counted l p from x.fact base promised promised promises old told told.known told.lower (newer_number promised base told.known.epoch old.known.epoch newer) (omega arith))) asks)
-      (λ older. names c l x stored h 13 (phases.Electing (Preparing base (joined from promises) asked age))
+      (λ older. names h 13 (phases.Electing (Preparing base (joined from promises) asked age))
       (counted l p from x.fact base base promised promises old told old.known old.above (omega arith) (not_newer_number promised base told.known.epoch old.known.epoch older)))
     where
       now : Election
@@ -207,11 +207,11 @@ module _ (c : Course) (l : Ledger) (x : State) (stored : Option Fact) (h : Fits 
   rule_12 (phases.Electing (Preparing base promises asked age)) from ballot promised old told =
       by_test (λ (r : Election × PhaseOut). Goes c l stored (electing r.0 x, r.1)) (is_same ballot x.fact.ballot) (promised_by base promises asked age p from ballot promised) (ignored (Preparing base promises asked age))
       (λ same. at_own (sym (same_epochs ballot x.fact.ballot same)))
-      (λ other. rests_in c l x stored h (phases.Electing (Preparing base promises asked age)) old)
+      (λ other. rests_in h (phases.Electing (Preparing base promises asked age)) old)
     where
       at_own : x.fact.ballot ≡ ballot → Goes c l stored (electing (promised_by base promises asked age p from ballot promised).0 x, (promised_by base promises asked age p from ballot promised).1)
       at_own same =
           subst (λ (b : Epoch). Goes c l stored (electing (promised_by base promises asked age p from b promised).0 x, (promised_by base promises asked age p from b promised).1)) same
           (promised_goes from base promised promises asked age old (subst (λ (b : Epoch). IsPromise l from b promised) (sym same) told))
-  rule_12 (phases.Electing (Starting new accepts age)) from ballot promised old told = rests_in c l x stored h (phases.Electing (Starting new accepts age)) old
-  rule_12 other from ballot promised old told = quiet c l x stored h
+  rule_12 (phases.Electing (Starting new accepts age)) from ballot promised old told = rests_in h (phases.Electing (Starting new accepts age)) old
+  rule_12 other from ballot promised old told = quiet h

@@ -83,7 +83,7 @@ module _ (c : Course) (before : Ledger) where
       }))
 
   task_good : (task : Task) → Passes (task_done p task)
-  task_good (tasks.Phase n) x st out next h go = row_good (phase_row n p x) x st out next h (phase_goes c h.ledger x st.facts.kept h.fits n) go
+  task_good (tasks.Phase n) x st out next h go = row_good (phase_row n p x) x st out next h (phase_goes h.fits n) go
   task_good (tasks.Key n key) x st out next h go = go [] x st out h
   task_good (tasks.Again n key seen) x st out next h go = go [] x st out h
 
@@ -103,7 +103,7 @@ module _ (c : Course) (before : Ledger) where
       (subst (λ (change : ChangeState). Good (next (named (begins change)) (turned (begins change) (leading (record l { change = change }) x)) (and_sends out (words p x.fact still))) st) (sym none) (go [] (leading still x) st _ (record {
         ledger = h.ledger;
         keeps = h.keeps;
-        fits = enters c h.ledger x st.facts.kept h.fits (phases.Leading still) holds;
+        fits = enters h.fits (phases.Leading still) holds;
         sends = All-append (SendHolds h.ledger p) out.sends (words p x.fact still) h.sends (posted_hold h.ledger p (is_told p still) (word_to x.fact still) (word_holds h.ledger p x.fact still holds) 31 (omega arith));
       })))
     where
@@ -114,14 +114,14 @@ module _ (c : Course) (before : Ledger) where
       holds = record { started = old.started; established = old.established; settled = refl }
 
       none : wished l.fact Settled ≡ Settled
-      none = rw (not_joint c h.ledger x st.facts.kept h.fits l old) refl
+      none = rw (not_joint h.fits l old) refl
 
   tick_good : (phase : Phase) (x : State) (st : MemStores) (out : Out) (next : Rest State (List Task)) → (h : Here x st out) → PhaseHolds h.ledger p x.fact phase → Onward next → Good (ticked p phase x out next) st
   tick_good (phases.Leading l) x st out next h old go = led_good l x st out next h old go
-  tick_good phase x st out next h old go = row_good (aged phase p x) x st out next h (aged_goes c h.ledger x st.facts.kept h.fits phase old) go
+  tick_good phase x st out next h old go = row_good (aged phase p x) x st out next h (aged_goes h.fits phase old) go
 
   event_good : (event : Event) (x : State) (st : MemStores) (out : Out) (next : Rest State (List Task)) → (h : Here x st out) → EventHolds h.ledger event → Onward next → Good (first p event x out next) st
-  event_good (events.Deliver from message) x st out next h says go = row_good (received p from message x) x st out next h (received_goes c h.ledger x st.facts.kept h.fits from message says) go
+  event_good (events.Deliver from message) x st out next h says go = row_good (received p from message x) x st out next h (received_goes h.fits from message says) go
   event_good events.Tick x st out next h says go = tick_good x.phase x st out next h h.fits.peer.phase go
   event_good (events.Call call) x st out next h says go = go [] x st _ (record { ledger = h.ledger; keeps = h.keeps; fits = h.fits; sends = h.sends })
   event_good (events.Change view) x st out next h says go = absurd says

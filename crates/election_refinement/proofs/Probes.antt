@@ -45,12 +45,12 @@ heard_holds l fact reply b from old = record {
   counts_own = le_trans old.counts_own (omega arith);
 }
 
-module _ (c : Course) (l : Ledger) (x : State) (stored : Option Fact) (h : Fits c l x stored) where
+module _ {c : Course} {l : Ledger} {x : State} {stored : Option Fact} (h : Fits c l x stored) where
   open c use {peer as p}
 
   -- rule 7
   pub rule_7 : Goes c l stored (begun p x)
-  rule_7 = unmoved c l stored (begun p x) (enters c l x stored h (phases.Probing (first_probing x.fact p)) (first_holds l p x.fact h.peer.saved.known)) tt
+  rule_7 = unmoved c l stored (begun p x) (enters h (phases.Probing (first_probing x.fact p)) (first_holds l p x.fact h.peer.saved.known)) tt
 
   -- rule 8, on a reply
   pub rule_8 : (phase : Phase) (from : ℕ) (reply : Fact) → PhaseHolds l p x.fact phase → IsKnown l reply → Goes c l stored (while_8 phase p from reply x)
@@ -58,14 +58,14 @@ module _ (c : Course) (l : Ledger) (x : State) (stored : Option Fact) (h : Fits 
       by_test (λ (r : Probing × PhaseOut). Goes c l stored (probing r.0 x, r.1)) (is_newer reply b.best)
       (bettered (heard_from b from reply) reply, sends (others_outside p b.asked reply.views) messages.Probe (thens.Rule 9)) (heard_from b from reply, silent (thens.Rule 9))
       (λ newer. unmoved c l stored (probing (bettered (heard_from b from reply) reply) x, sends (others_outside p b.asked reply.views) messages.Probe (thens.Rule 9))
-      (enters c l x stored h (phases.Probing (bettered (heard_from b from reply) reply)) (bettered_holds l x.fact reply b from old told newer)) tt)
-      (λ older. names c l x stored h 9 (phases.Probing (heard_from b from reply)) (heard_holds l x.fact reply b from old))
-  rule_8 other from reply old told = quiet c l x stored h
+      (enters h (phases.Probing (bettered (heard_from b from reply) reply)) (bettered_holds l x.fact reply b from old told newer)) tt)
+      (λ older. names h 9 (phases.Probing (heard_from b from reply)) (heard_holds l x.fact reply b from old))
+  rule_8 other from reply old told = quiet h
 
   -- rule 9
   pub rule_9 : (phase : Phase) → PhaseHolds l p x.fact phase → Goes c l stored (while_9 phase x)
   rule_9 (phases.Probing b) old =
       by_test (λ (turn : Then). Goes c l stored (probing b x, silent turn)) (is_quorum (holds b.heard) b.best.views) (thens.Rule 10) thens.Stay
-      (λ enough. names c l x stored h 10 (phases.Probing b) old)
-      (λ few. rests_in c l x stored h (phases.Probing b) old)
-  rule_9 other old = quiet c l x stored h
+      (λ enough. names h 10 (phases.Probing b) old)
+      (λ few. rests_in h (phases.Probing b) old)
+  rule_9 other old = quiet h

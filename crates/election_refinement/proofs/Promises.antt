@@ -34,22 +34,22 @@ use Rattle.election_refinement.proofs.Sets.{alone_then}
 use Rattle.election_refinement.proofs.Tests.{by_test}
 use Rattle.election_refinement.specs.Refinement.{HasPromised, IsProbing, IsPreparing, PhaseHolds, IsPrepare}
 
-module _ (c : Course) (l : Ledger) (x : State) (stored : Option Fact) (h : Fits c l x stored) where
+module _ {c : Course} {l : Ledger} {x : State} {stored : Option Fact} (h : Fits c l x stored) where
   open c use {peer as p}
 
   -- rule 11, for a ballot above the peer's
   promises : (from : ℕ) (ballot : Epoch) → IsEpoch ballot → epoch_number x.fact.ballot < epoch_number ballot → Goes c l stored (x, promises_to from (at_ballot x.fact ballot))
   promises from ballot epoch above =
-      let fits = raised_fits c l x stored h ballot epoch (omega (arith, above)) follower tt in
+      let fits = raised_fits h ballot epoch (omega (arith, above)) follower tt in
       record {
         ledger = raise l p (epoch_number ballot);
-        keeps = raise_keeps l p (epoch_number ballot) (may_raise c l x stored h (epoch_number ballot) (omega (arith, above)));
+        keeps = raise_keeps l p (epoch_number ballot) (may_raise h (epoch_number ballot) (omega (arith, above)));
         fits = fits;
         says = record {
           known = fits.peer.saved.known;
           at_ballot = refl;
           lower = le_trans (omega (arith, h.peer.saved.known.below)) above;
-          promised = own_promise c l x stored h (epoch_number ballot) (epoch_number x.fact.epoch) (omega arith);
+          promised = own_promise h (epoch_number ballot) (epoch_number x.fact.epoch) (omega arith);
         };
       }
 
@@ -59,8 +59,8 @@ module _ (c : Course) (l : Ledger) (x : State) (stored : Option Fact) (h : Fits 
       (promises_to from (at_ballot x.fact ballot)) (if is_same ballot x.fact.ballot then silent thens.Stay else refuses_below from ballot x.fact)
       (λ below. promises from ballot epoch (below_number x.fact.ballot ballot h.peer.saved.known.ballot epoch below))
       (λ not_below. by_test (λ (row : PhaseOut). Goes c l stored (x, row)) (is_same ballot x.fact.ballot) (silent thens.Stay) (refuses_below from ballot x.fact)
-      (λ same. quiet c l x stored h)
-      (λ other. refuses c l x stored h from ballot))
+      (λ same. quiet h)
+      (λ other. refuses h from ballot))
 
   -- rule 10, with the best fact and the count of a probing peer
   module _ (b : Probing) (old : IsProbing l x.fact b) where
@@ -89,7 +89,7 @@ module _ (c : Course) (l : Ledger) (x : State) (stored : Option Fact) (h : Fits 
         absurd (omega (arith, stands, own, above_own))
 
     keeps : Keeps l raised p
-    keeps = raise_keeps l p (epoch_number ballot) (may_raise c l x stored h (epoch_number ballot) (omega (arith, above_own)))
+    keeps = raise_keeps l p (epoch_number ballot) (may_raise h (epoch_number ballot) (omega (arith, above_own)))
 
     preparing : IsPreparing raised p (at_ballot x.fact ballot) b.best (alone p)
     preparing = record {
@@ -97,7 +97,7 @@ module _ (c : Course) (l : Ledger) (x : State) (stored : Option Fact) (h : Fits 
       fresh = fresh (l.elected (epoch_number ballot)) refl;
       known = known_keeps l raised p keeps b.best old.best;
       above = above_best;
-      promised = alone_then (λ q. HasPromised raised q (epoch_number ballot) (epoch_number b.best.epoch)) p (own_promise c l x stored h (epoch_number ballot) (epoch_number b.best.epoch) old.newer);
+      promised = alone_then (λ q. HasPromised raised q (epoch_number ballot) (epoch_number b.best.epoch)) p (own_promise h (epoch_number ballot) (epoch_number b.best.epoch) old.newer);
     }
 
     asks : IsPrepare raised p ballot
@@ -107,7 +107,7 @@ module _ (c : Course) (l : Ledger) (x : State) (stored : Option Fact) (h : Fits 
     prepares_goes = record {
       ledger = raised;
       keeps = keeps;
-      fits = raised_fits c l x stored h ballot ballot_ok (omega (arith, above_own)) (phases.Electing (Preparing b.best (alone p) (members b.best.views) 0)) preparing;
+      fits = raised_fits h ballot ballot_ok (omega (arith, above_own)) (phases.Electing (Preparing b.best (alone p) (members b.best.views) 0)) preparing;
       says = asks;
     }
 
@@ -115,10 +115,10 @@ module _ (c : Course) (l : Ledger) (x : State) (stored : Option Fact) (h : Fits 
     prepared_goes =
         by_test (λ (r : PhaseOut × Option Election). Goes c l stored (stood r.1 x, r.0)) (not (is_member (views_after b.best) p) || b.count == 2 ^ 64 - 1)
         (silent thens.Follow, None) (prepares x.fact p b.best ballot)
-        (λ stranger. follows c l x stored h x.phase)
+        (λ stranger. follows h x.phase)
         (λ member. prepares_goes)
 
   pub rule_10 : (phase : Phase) → PhaseHolds l p x.fact phase → Goes c l stored (while_10 phase p x)
   rule_10 (phases.Probing b) old = prepared_goes b old
   rule_10 (phases.Leading y) old = prepared_goes (first_probing x.fact p) (first_holds l p x.fact h.peer.saved.known)
-  rule_10 other old = quiet c l x stored h
+  rule_10 other old = quiet h

@@ -70,7 +70,7 @@ heard l p from seq ballot fact leadership told old = record {
   settled = ap (λ (change : ChangeState). change_heard change fact from ballot seq) old.settled;
 }
 
-module _ (c : Course) (l : Ledger) (x : State) (stored : Option Fact) (h : Fits c l x stored) where
+module _ {c : Course} {l : Ledger} {x : State} {stored : Option Fact} (h : Fits c l x stored) where
   open c use {peer as p}
 
   -- rule 8, on a probe
@@ -85,35 +85,35 @@ module _ (c : Course) (l : Ledger) (x : State) (stored : Option Fact) (h : Fits 
   pub rule_14 : (phase : Phase) → PhaseHolds l p x.fact phase → Goes c l stored (while_14 phase p x)
   rule_14 (phases.Electing (Starting new accepts age)) old =
       by_test (λ (turn : Then). Goes c l stored (electing (Starting new accepts age) x, silent turn)) (holds accepts p && is_quorum (holds accepts) new.views) (thens.Lead new) thens.Stay
-      (λ enough. unmoved c l stored (electing (Starting new accepts age) x, silent (thens.Lead new)) (enters c l x stored h (phases.Leading (record { fact = new; accepts = accepts; change = Settled }))
+      (λ enough. unmoved c l stored (electing (Starting new accepts age) x, silent (thens.Lead new)) (enters h (phases.Leading (record { fact = new; accepts = accepts; change = Settled }))
       (leads l p x.fact new accepts old (and_parts (holds accepts p) (is_quorum (holds accepts) new.views) enough).1)) tt)
-      (λ few. rests_in c l x stored h (phases.Electing (Starting new accepts age)) old)
-  rule_14 (phases.Electing (Preparing base promises asked age)) old = rests_in c l x stored h (phases.Electing (Preparing base promises asked age)) old
-  rule_14 other old = quiet c l x stored h
+      (λ few. rests_in h (phases.Electing (Starting new accepts age)) old)
+  rule_14 (phases.Electing (Preparing base promises asked age)) old = rests_in h (phases.Electing (Preparing base promises asked age)) old
+  rule_14 other old = quiet h
 
   -- rule 15
   heeded : (ballot : Epoch) (cause : NackCause) → Goes c l stored (x, row_15 x.fact ballot cause)
   heeded ballot (causes.Greater other) =
       by_test (λ (row : PhaseOut). Goes c l stored (x, row)) (is_same ballot x.fact.ballot && is_below ballot other) (leaves_leading (silent thens.Follow)) (silent thens.Stay)
-      (λ own. unmoved c l stored (x, leaves_leading (silent thens.Follow)) (enters c l x stored h follower tt) tt)
-      (λ old. quiet c l x stored h)
-  heeded ballot causes.Untrusted = quiet c l x stored h
-  heeded ballot (causes.Damaged position) = quiet c l x stored h
+      (λ own. unmoved c l stored (x, leaves_leading (silent thens.Follow)) (enters h follower tt) tt)
+      (λ old. quiet h)
+  heeded ballot causes.Untrusted = quiet h
+  heeded ballot (causes.Damaged position) = quiet h
 
   pub rule_15 : (phase : Phase) (ballot : Epoch) (cause : NackCause) → Goes c l stored (while_15 phase ballot cause x)
   rule_15 (phases.Electing e) ballot cause = heeded ballot cause
   rule_15 (phases.Leading y) ballot cause = heeded ballot cause
-  rule_15 other ballot cause = quiet c l x stored h
+  rule_15 other ballot cause = quiet h
 
   -- rule 17
   pub rule_17 : (phase : Phase) (from : ℕ) (ballot : Epoch) (seq : ℕ) → PhaseHolds l p x.fact phase → IsAcceptance l from ballot seq → Goes c l stored (while_17 phase from ballot seq x)
   rule_17 (phases.Electing (Starting new accepts age)) from ballot seq old told =
       by_test (λ (r : Election × PhaseOut). Goes c l stored (electing r.0 x, r.1)) (is_same ballot x.fact.ballot && seq == 1) (Starting new (joined from accepts) age, silent (thens.Rule 14)) (ignored (Starting new accepts age))
-      (λ own. names c l x stored h 14 (phases.Electing (Starting new (joined from accepts) age)) (counted l p from seq ballot x.fact new accepts told own old))
-      (λ other. rests_in c l x stored h (phases.Electing (Starting new accepts age)) old)
-  rule_17 (phases.Electing (Preparing base promises asked age)) from ballot seq old told = rests_in c l x stored h (phases.Electing (Preparing base promises asked age)) old
-  rule_17 (phases.Leading y) from ballot seq old told = rests_in c l x stored h (phases.Leading (leader_heard y x.fact from ballot seq)) (heard l p from seq ballot x.fact y told old)
-  rule_17 other from ballot seq old told = quiet c l x stored h
+      (λ own. names h 14 (phases.Electing (Starting new (joined from accepts) age)) (counted l p from seq ballot x.fact new accepts told own old))
+      (λ other. rests_in h (phases.Electing (Starting new accepts age)) old)
+  rule_17 (phases.Electing (Preparing base promises asked age)) from ballot seq old told = rests_in h (phases.Electing (Preparing base promises asked age)) old
+  rule_17 (phases.Leading y) from ballot seq old told = rests_in h (phases.Leading (leader_heard y x.fact from ballot seq)) (heard l p from seq ballot x.fact y told old)
+  rule_17 other from ballot seq old told = quiet h
 
   -- rule 19
   pub rule_19 : (from : ℕ) (ballot : Epoch) → Goes c l stored (x, row_19 x.fact x.trusted from ballot)
@@ -121,15 +121,15 @@ module _ (c : Course) (l : Ledger) (x : State) (stored : Option Fact) (h : Fits 
       by_test (λ (row : PhaseOut). Goes c l stored (x, row)) (is_below ballot x.fact.ballot) (refuses_below from ballot x.fact) (silent (if is_same x.fact.epoch ballot && x.trusted then thens.Follow else thens.Stay))
       (λ below. refuses from ballot)
       (λ above. by_test (λ (turn : Then). Goes c l stored (x, silent turn)) (is_same x.fact.epoch ballot && x.trusted) thens.Follow thens.Stay
-      (λ accepted. follows c l x stored h x.phase)
-      (λ other. quiet c l x stored h))
+      (λ accepted. follows h x.phase)
+      (λ other. quiet h))
 
   -- rule 25: no change is wanted
   pub rule_25 : (phase : Phase) → PhaseHolds l p x.fact phase → Goes c l stored (while_25 phase p x)
-  rule_25 (phases.Leading y) old = subst (λ (change : ChangeState). Goes c l stored (leading (begun_change change y x.fact p).0 x, (begun_change change y x.fact p).1)) (sym old.settled) (rests_in c l x stored h (phases.Leading y) old)
-  rule_25 other old = quiet c l x stored h
+  rule_25 (phases.Leading y) old = subst (λ (change : ChangeState). Goes c l stored (leading (begun_change change y x.fact p).0 x, (begun_change change y x.fact p).1)) (sym old.settled) (rests_in h (phases.Leading y) old)
+  rule_25 other old = quiet h
 
   -- rule 26: no epoch ends
   pub rule_26 : (phase : Phase) → PhaseHolds l p x.fact phase → Goes c l stored (while_26 phase p x)
-  rule_26 (phases.Leading y) old = subst (λ (change : ChangeState). Goes c l stored (x, ended change x.fact p)) (sym old.settled) (quiet c l x stored h)
-  rule_26 other old = quiet c l x stored h
+  rule_26 (phases.Leading y) old = subst (λ (change : ChangeState). Goes c l stored (x, ended change x.fact p)) (sym old.settled) (quiet h)
+  rule_26 other old = quiet h

@@ -50,23 +50,25 @@ module _ (c : Course) where
   pub unmoved : (l : Ledger) (stored : Option Fact) (r : State × PhaseOut) → Fits l (settled r.1 r.0) (stored_in r.1.save stored) → RowSays l p r.1.message → Goes l stored r
   unmoved l stored r fits says = record { ledger = l; keeps = keeps_none l p; fits = fits; says = says }
 
-  module _ (l : Ledger) (x : State) (stored : Option Fact) (h : Fits l x stored) where
-    -- the peer enters a phase
-    abbrev pub enters : (phase : Phase) → PhaseHolds l p x.fact phase → Fits l (record x { phase = phase }) stored
-    enters phase holds = record { reaches = h.reaches; peer = record { saved = h.peer.saved; kept = h.peer.kept; trusted = h.peer.trusted; phase = holds } }
+module _ {c : Course} {l : Ledger} {x : State} {stored : Option Fact} (h : Fits c l x stored) where
+  open c use {peer as p}
 
-    -- nothing happens
-    pub quiet : Goes l stored (calm x)
-    quiet = unmoved l stored (calm x) h tt
+  -- the peer enters a phase
+  abbrev pub enters : (phase : Phase) → PhaseHolds l p x.fact phase → Fits c l (record x { phase = phase }) stored
+  enters phase holds = record { reaches = h.reaches; peer = record { saved = h.peer.saved; kept = h.peer.kept; trusted = h.peer.trusted; phase = holds } }
 
-    -- the peer follows, whatever its phase became
-    pub follows : (phase : Phase) → Goes l stored (record x { phase = phase }, silent thens.Follow)
-    follows phase = unmoved l stored (record x { phase = phase }, silent thens.Follow) (enters follower tt) tt
+  -- nothing happens
+  pub quiet : Goes c l stored (calm x)
+  quiet = unmoved c l stored (calm x) h tt
 
-    -- the peer only enters a phase
-    pub rests_in : (phase : Phase) → PhaseHolds l p x.fact phase → Goes l stored (record x { phase = phase }, silent thens.Stay)
-    rests_in phase holds = unmoved l stored (record x { phase = phase }, silent thens.Stay) (enters phase holds) tt
+  -- the peer follows, whatever its phase became
+  pub follows : (phase : Phase) → Goes c l stored (record x { phase = phase }, silent thens.Follow)
+  follows phase = unmoved c l stored (record x { phase = phase }, silent thens.Follow) (enters follower tt) tt
 
-    -- the peer enters a phase, and then a rule runs
-    pub names : (n : ℕ) (phase : Phase) → PhaseHolds l p x.fact phase → Goes l stored (record x { phase = phase }, silent (thens.Rule n))
-    names n phase holds = unmoved l stored (record x { phase = phase }, silent (thens.Rule n)) (enters phase holds) tt
+  -- the peer only enters a phase
+  pub rests_in : (phase : Phase) → PhaseHolds l p x.fact phase → Goes c l stored (record x { phase = phase }, silent thens.Stay)
+  rests_in phase holds = unmoved c l stored (record x { phase = phase }, silent thens.Stay) (enters phase holds) tt
+
+  -- the peer enters a phase, and then a rule runs
+  pub names : (n : ℕ) (phase : Phase) → PhaseHolds l p x.fact phase → Goes c l stored (record x { phase = phase }, silent (thens.Rule n))
+  names n phase holds = unmoved c l stored (record x { phase = phase }, silent (thens.Rule n)) (enters phase holds) tt

@@ -50,7 +50,7 @@ accepted_saved l p new is_first stands now = record {
     same_place : (d s t : ℕ) → s ≡ t → ◌≡◌ {A = Place} (record { epoch = d; seq = s }) (record { epoch = d; seq = t })
     same_place d s t e = rw e refl
 
-module _ (c : Course) (l : Ledger) (x : State) (stored : Option Fact) (h : Fits c l x stored) where
+module _ {c : Course} {l : Ledger} {x : State} {stored : Option Fact} (h : Fits c l x stored) where
   open c use {peer as p}
 
   pub may_raise : (d : ℕ) → epoch_number x.fact.ballot ≤ d → l.ballot p ≤ d

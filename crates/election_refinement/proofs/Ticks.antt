@@ -37,7 +37,7 @@ word_holds l p fact leadership leading q =
     (record { elected = leading.started.first.known.elected; established = leading.established }))
     (λ lacks. leading.started.first)
 
-module _ (c : Course) (l : Ledger) (x : State) (stored : Option Fact) (h : Fits c l x stored) where
+module _ {c : Course} {l : Ledger} {x : State} {stored : Option Fact} (h : Fits c l x stored) where
   open c use {peer as p}
 
   -- the views of a leader's epoch are the opening view alone
@@ -48,8 +48,8 @@ module _ (c : Course) (l : Ledger) (x : State) (stored : Option Fact) (h : Fits 
   anew : (phase : Phase) (test : Bool) → PhaseHolds l p x.fact phase → Goes c l stored (record x { phase = phase }, silent (if test then thens.Rule 7 else thens.Stay))
   anew phase test holds =
       by_test (λ (turn : Then). Goes c l stored (record x { phase = phase }, silent turn)) test (thens.Rule 7) thens.Stay
-      (λ is. names c l x stored h 7 phase holds)
-      (λ not. rests_in c l x stored h phase holds)
+      (λ is. names h 7 phase holds)
+      (λ not. rests_in h phase holds)
 
   -- rules 2 to 4
   pub aged_goes : (phase : Phase) → PhaseHolds l p x.fact phase → Goes c l stored (aged phase p x)
@@ -57,13 +57,13 @@ module _ (c : Course) (l : Ledger) (x : State) (stored : Option Fact) (h : Fits 
       by_test (λ (r : Follower × PhaseOut). Goes c l stored (following r.0 x, r.1)) (is_member x.fact.views p)
       (record f { quiet = f.quiet + 1 }, silent (if f.quiet + 1 == 6 then thens.Rule 7 else thens.Stay)) (f, silent thens.Stay)
       (λ member. anew (phases.Following (record f { quiet = f.quiet + 1 })) (f.quiet + 1 == 6) tt)
-      (λ stranger. rests_in c l x stored h (phases.Following f) tt)
+      (λ stranger. rests_in h (phases.Following f) tt)
   aged_goes (phases.Probing b) old =
       anew (phases.Probing (record b { age = b.age + 1 })) (b.age + 1 == 6) (record { best = old.best; newer = old.newer; counts_best = old.counts_best; counts_own = old.counts_own })
   aged_goes (phases.Electing (Preparing base promises asked age)) old = anew (phases.Electing (Preparing base promises asked (age + 1))) (age + 1 == 6) old
   aged_goes (phases.Electing (Starting new accepts age)) old =
       by_test (λ (row : PhaseOut). Goes c l stored (electing (Starting new accepts (age + 1)) x, row)) (age + 1 == 8) (silent thens.Follow) (sends (others_outside p accepts new.views) (messages.NewEpoch new) (resumes false))
-      (λ spent. follows c l x stored h (phases.Electing (Starting new accepts (age + 1))))
+      (λ spent. follows h (phases.Electing (Starting new accepts (age + 1))))
       (λ young. unmoved c l stored (electing (Starting new accepts (age + 1)) x, sends (others_outside p accepts new.views) (messages.NewEpoch new) (resumes false))
-      (enters c l x stored h (phases.Electing (Starting new accepts (age + 1))) old) old.first)
-  aged_goes (phases.Leading y) old = quiet c l x stored h
+      (enters h (phases.Electing (Starting new accepts (age + 1))) old) old.first)
+  aged_goes (phases.Leading y) old = quiet h
