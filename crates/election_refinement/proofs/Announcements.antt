@@ -10,7 +10,7 @@ use Rattle.peer_core.specs.declared.state.State.{State}
 use Rattle.peer_fact.specs.declared.fact.Fact.{Fact}
 use Rattle.phase_rows.specs.Orders.{is_below, is_same, may_accept}
 use Rattle.phase_rows.specs.Peers.{alone}
-use Rattle.phase_rows.specs.Rows.{sends, leaves_leading, refuses_below}
+use Rattle.phase_rows.specs.Rows.{sends, leaves_leading}
 use Rattle.version_laws.proofs.Maps.{put_here}
 use Rattle.wire_frames.specs.declared.message.Message.TheVariants as messages
 use Rattle.wire_frames.specs.declared.phase.PhaseOut.{PhaseOut}
@@ -34,7 +34,7 @@ module _ {c : Course} {l : Ledger} {x : State} {stored : Option Fact} (h : Fits 
 
   -- the epoch was accepted already
   again : new.epoch ≡ x.fact.epoch → Does (sends (alone from) (messages.Accepted new.epoch 1) thens.Follow)
-  again same = unmoved c l stored (x, sends (alone from) (messages.Accepted new.epoch 1) thens.Follow) (enters h follower tt) (record { first = refl; accepted = accepted })
+  again same = unmoved (enters h follower tt) (record { first = refl; accepted = accepted })
     where
       accepted : l.accepted (epoch_number new.epoch) p ≡ true
       accepted = subst (λ e. l.accepted (epoch_number e) p ≡ true) (sym same) (subst (λ (place : Place). l.accepted place.epoch p ≡ true) h.peer.saved.place ((reaches_safe c l h.reaches).ballots.last p))
@@ -71,10 +71,9 @@ module _ {c : Course} {l : Ledger} {x : State} {stored : Option Fact} (h : Fits 
 
   pub rule_16 : Goes c l stored (x, announced p from new x)
   rule_16 =
-      by_test Does (is_below new.epoch x.fact.ballot) (refuses_below from new.epoch x.fact)
-      (if is_same new.epoch x.fact.epoch then sends (alone from) (messages.Accepted new.epoch 1) thens.Follow else leaves_leading (takes x.fact p x.trusted false from new))
+      by_test Does (is_below new.epoch x.fact.ballot) _ _
       (λ below. refuses h from new.epoch)
-      (λ not_below. by_test Does (is_same new.epoch x.fact.epoch) (sends (alone from) (messages.Accepted new.epoch 1) thens.Follow) (leaves_leading (takes x.fact p x.trusted false from new))
+      (λ not_below. by_test Does (is_same new.epoch x.fact.epoch) _ _
       (λ same. again (same_epochs new.epoch x.fact.epoch same))
       (λ other. takes_goes (not_below_number new.epoch x.fact.ballot told.known.epoch h.peer.saved.known.ballot not_below)
       (λ e. other_number new.epoch x.fact.epoch told.known.epoch h.peer.saved.known.epoch other (sym e))))

@@ -4,7 +4,7 @@ use Rattle.std.proofs.lemmas.Bool.Decides.{nat_tests}
 use Rattle.joint_views.specs.Quorums.{is_quorum, is_member}
 use Rattle.abstract_protocol.specs.Ledger.{Ledger, Place, elect, accept, next_views, IsFact, MayElect}
 use Rattle.abstract_protocol.specs.Numbers.{epoch_number}
-use Rattle.election.specs.Preparing.{promised_by, starts, elected, first_fact, ignored}
+use Rattle.election.specs.Preparing.{promised_by, starts, first_fact}
 use Rattle.election.specs.declared.election.Election.{Election}
 use Rattle.election.specs.declared.election.Election.TheVariants.{Preparing, Starting}
 use Rattle.election_laws.proofs.Epochs.{not_both}
@@ -19,8 +19,8 @@ use Rattle.peer_core.specs.declared.state.State.{State}
 use Rattle.peer_fact.specs.Facts.{changed_views, views_after}
 use Rattle.peer_fact.specs.declared.fact.Fact.{Fact}
 use Rattle.phase_rows.specs.Orders.{is_same, is_newer, may_accept}
-use Rattle.phase_rows.specs.Peers.{alone, joined, members, others_of, others_outside, with_members}
-use Rattle.phase_rows.specs.Rows.{silent, sends, saves_and_sends}
+use Rattle.phase_rows.specs.Peers.{alone, joined, members, others_of, with_members}
+use Rattle.phase_rows.specs.Rows.{saves_and_sends}
 use Rattle.version_laws.proofs.Maps.{put_here}
 use Rattle.wire_frames.specs.declared.message.Message.TheVariants as messages
 use Rattle.wire_frames.specs.declared.phase.PhaseOut.{PhaseOut}
@@ -175,8 +175,8 @@ module _ {c : Course} {l : Ledger} {x : State} {stored : Option Fact} (h : Fits 
 
   pub rule_13 : (phase : Phase) → PhaseHolds l p x.fact phase → Goes c l stored (while_13 phase p x)
   rule_13 (phases.Electing (Preparing base promises asked age)) old =
-      by_test does (is_quorum (holds promises) base.views) (elected (Preparing base promises asked age) x.fact p x.trusted (views_after base)) (ignored (Preparing base promises asked age))
-      (λ quorum. by_test does (is_member (views_after base) p) (starts x.trusted p (first_fact x.fact p (views_after base))) (Preparing base promises asked age, silent thens.Follow)
+      by_test does (is_quorum (holds promises) base.views) _ _
+      (λ quorum. by_test does (is_member (views_after base) p) _ _
       (λ member. starts_goes base promises old quorum)
       (λ stranger. follows h (phases.Electing (Preparing base promises asked age))))
       (λ few. rests_in h (phases.Electing (Preparing base promises asked age)) old)
@@ -190,9 +190,8 @@ module _ {c : Course} {l : Ledger} {x : State} {stored : Option Fact} (h : Fits 
   promised_goes : (from : ℕ) (base promised : Fact) (promises asked : List Bool) (age : ℕ) → IsPreparing l p x.fact base promises → IsPromise l from x.fact.ballot promised
       → Goes c l stored (electing (promised_by base promises asked age p from x.fact.ballot promised).0 x, (promised_by base promises asked age p from x.fact.ballot promised).1)
   promised_goes from base promised promises asked age old told =
-      by_test (λ (r : Election × PhaseOut). Goes c l stored (electing r.0 x, r.1)) (is_newer promised base)
-      (now, sends (others_outside p asked promised.views) (messages.Prepare x.fact.ballot) (thens.Rule 13)) (Preparing base (joined from promises) asked age, silent (thens.Rule 13))
-      (λ newer. unmoved c l stored (electing now x, sends (others_outside p asked promised.views) (messages.Prepare x.fact.ballot) (thens.Rule 13)) (enters h (phases.Electing now)
+      by_test (λ (r : Election × PhaseOut). Goes c l stored (electing r.0 x, r.1)) (is_newer promised base) _ _
+      (λ newer. unmoved (enters h (phases.Electing now)
       (counted l p from x.fact base promised promised promises old told told.known told.lower (newer_number promised base told.known.epoch old.known.epoch newer) (omega arith))) asks)
       (λ older. names h 13 (phases.Electing (Preparing base (joined from promises) asked age))
       (counted l p from x.fact base base promised promises old told old.known old.above (omega arith) (not_newer_number promised base told.known.epoch old.known.epoch older)))
@@ -205,7 +204,7 @@ module _ {c : Course} {l : Ledger} {x : State} {stored : Option Fact} (h : Fits 
 
   pub rule_12 : (phase : Phase) (from : ℕ) (ballot : Epoch) (promised : Fact) → PhaseHolds l p x.fact phase → IsPromise l from ballot promised → Goes c l stored (while_12 phase p from ballot promised x)
   rule_12 (phases.Electing (Preparing base promises asked age)) from ballot promised old told =
-      by_test (λ (r : Election × PhaseOut). Goes c l stored (electing r.0 x, r.1)) (is_same ballot x.fact.ballot) (promised_by base promises asked age p from ballot promised) (ignored (Preparing base promises asked age))
+      by_test (λ (r : Election × PhaseOut). Goes c l stored (electing r.0 x, r.1)) (is_same ballot x.fact.ballot) _ _
       (λ same. at_own (sym (same_epochs ballot x.fact.ballot same)))
       (λ other. rests_in h (phases.Electing (Preparing base promises asked age)) old)
     where

@@ -10,14 +10,11 @@ use Rattle.peer_core.specs.declared.state.Phase.TheVariants as phases
 use Rattle.peer_core.specs.declared.state.State.{State}
 use Rattle.peer_fact.specs.declared.fact.Fact.{Fact}
 use Rattle.phase_rows.specs.Orders.{is_newer}
-use Rattle.phase_rows.specs.Peers.{others_outside}
-use Rattle.phase_rows.specs.Rows.{silent, sends}
+use Rattle.phase_rows.specs.Rows.{silent}
 use Rattle.probe.specs.Probing.{first_probing, heard_from, bettered}
 use Rattle.probe.specs.declared.probing.Probing.{Probing}
-use Rattle.wire_frames.specs.declared.message.Message.TheVariants as messages
 use Rattle.wire_frames.specs.declared.phase.PhaseOut.{PhaseOut}
 use Rattle.wire_frames.specs.declared.phase.Then.{Then}
-use Rattle.wire_frames.specs.declared.phase.Then.TheVariants as thens
 use Rattle.election_refinement.proofs.Numbers.{newer_number}
 use Rattle.election_refinement.proofs.Reaching.{Course}
 use Rattle.election_refinement.proofs.Rows.{Fits, Goes, unmoved, enters, quiet, rests_in, names}
@@ -50,22 +47,20 @@ module _ {c : Course} {l : Ledger} {x : State} {stored : Option Fact} (h : Fits 
 
   -- rule 7
   pub rule_7 : Goes c l stored (begun p x)
-  rule_7 = unmoved c l stored (begun p x) (enters h (phases.Probing (first_probing x.fact p)) (first_holds l p x.fact h.peer.saved.known)) tt
+  rule_7 = unmoved (enters h (phases.Probing (first_probing x.fact p)) (first_holds l p x.fact h.peer.saved.known)) tt
 
   -- rule 8, on a reply
   pub rule_8 : (phase : Phase) (from : ℕ) (reply : Fact) → PhaseHolds l p x.fact phase → IsKnown l reply → Goes c l stored (while_8 phase p from reply x)
   rule_8 (phases.Probing b) from reply old told =
-      by_test (λ (r : Probing × PhaseOut). Goes c l stored (probing r.0 x, r.1)) (is_newer reply b.best)
-      (bettered (heard_from b from reply) reply, sends (others_outside p b.asked reply.views) messages.Probe (thens.Rule 9)) (heard_from b from reply, silent (thens.Rule 9))
-      (λ newer. unmoved c l stored (probing (bettered (heard_from b from reply) reply) x, sends (others_outside p b.asked reply.views) messages.Probe (thens.Rule 9))
-      (enters h (phases.Probing (bettered (heard_from b from reply) reply)) (bettered_holds l x.fact reply b from old told newer)) tt)
+      by_test (λ (r : Probing × PhaseOut). Goes c l stored (probing r.0 x, r.1)) (is_newer reply b.best) _ _
+      (λ newer. unmoved (enters h (phases.Probing (bettered (heard_from b from reply) reply)) (bettered_holds l x.fact reply b from old told newer)) tt)
       (λ older. names h 9 (phases.Probing (heard_from b from reply)) (heard_holds l x.fact reply b from old))
   rule_8 other from reply old told = quiet h
 
   -- rule 9
   pub rule_9 : (phase : Phase) → PhaseHolds l p x.fact phase → Goes c l stored (while_9 phase x)
   rule_9 (phases.Probing b) old =
-      by_test (λ (turn : Then). Goes c l stored (probing b x, silent turn)) (is_quorum (holds b.heard) b.best.views) (thens.Rule 10) thens.Stay
+      by_test (λ (turn : Then). Goes c l stored (probing b x, silent turn)) (is_quorum (holds b.heard) b.best.views) _ _
       (λ enough. names h 10 (phases.Probing b) old)
       (λ few. rests_in h (phases.Probing b) old)
   rule_9 other old = quiet h

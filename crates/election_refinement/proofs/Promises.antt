@@ -1,5 +1,5 @@
 -- Rules 10 and 11: a ballot is prepared or promised.
-use Rattle.std.proofs.Common.{◌≡◌, ℕ, ◌<◌, ◌≤◌, ◌-◌, ◌^◌, Bool, true, false, not, ◌||◌, ◌==◌, if◌then◌else◌, Option, None, arith, refl, le_trans, sym, subst}
+use Rattle.std.proofs.Common.{◌≡◌, ℕ, ◌<◌, ◌≤◌, ◌-◌, ◌^◌, Bool, true, false, not, ◌||◌, ◌==◌, Option, arith, refl, le_trans, sym, subst}
 use Rattle.joint_views.specs.Quorums.{is_member}
 use Rattle.abstract_protocol.specs.Ledger.{Ledger, raise}
 use Rattle.abstract_protocol.specs.Numbers.{epoch_number, IsEpoch}
@@ -17,12 +17,11 @@ use Rattle.peer_fact.specs.Facts.{views_after}
 use Rattle.peer_fact.specs.declared.fact.Fact.{Fact}
 use Rattle.phase_rows.specs.Orders.{is_below, is_same}
 use Rattle.phase_rows.specs.Peers.{alone, members}
-use Rattle.phase_rows.specs.Rows.{silent, refuses_below, at_ballot}
+use Rattle.phase_rows.specs.Rows.{at_ballot}
 use Rattle.probe.specs.Probing.{first_probing}
 use Rattle.probe.specs.declared.probing.Probing.{Probing}
 use Rattle.version_laws.proofs.Maps.{put_here}
 use Rattle.wire_frames.specs.declared.phase.PhaseOut.{PhaseOut}
-use Rattle.wire_frames.specs.declared.phase.Then.TheVariants as thens
 use Rattle.election_refinement.proofs.Keeps.{Keeps, known_keeps, raise_keeps}
 use Rattle.election_refinement.proofs.Numbers.{proposer_of-number, below_number, count_number}
 use Rattle.election_refinement.proofs.Probes.{first_holds}
@@ -55,10 +54,9 @@ module _ {c : Course} {l : Ledger} {x : State} {stored : Option Fact} (h : Fits 
 
   pub rule_11 : (from : ℕ) (ballot : Epoch) → IsEpoch ballot → Goes c l stored (x, row_11 x.fact from ballot)
   rule_11 from ballot epoch =
-      by_test (λ (row : PhaseOut). Goes c l stored (x, row)) (is_below x.fact.ballot ballot)
-      (promises_to from (at_ballot x.fact ballot)) (if is_same ballot x.fact.ballot then silent thens.Stay else refuses_below from ballot x.fact)
+      by_test (λ (row : PhaseOut). Goes c l stored (x, row)) (is_below x.fact.ballot ballot) _ _
       (λ below. promises from ballot epoch (below_number x.fact.ballot ballot h.peer.saved.known.ballot epoch below))
-      (λ not_below. by_test (λ (row : PhaseOut). Goes c l stored (x, row)) (is_same ballot x.fact.ballot) (silent thens.Stay) (refuses_below from ballot x.fact)
+      (λ not_below. by_test (λ (row : PhaseOut). Goes c l stored (x, row)) (is_same ballot x.fact.ballot) _ _
       (λ same. quiet h)
       (λ other. refuses h from ballot))
 
@@ -113,8 +111,7 @@ module _ {c : Course} {l : Ledger} {x : State} {stored : Option Fact} (h : Fits 
 
     prepared_goes : Goes c l stored (prepared p b.best b.count x)
     prepared_goes =
-        by_test (λ (r : PhaseOut × Option Election). Goes c l stored (stood r.1 x, r.0)) (not (is_member (views_after b.best) p) || b.count == 2 ^ 64 - 1)
-        (silent thens.Follow, None) (prepares x.fact p b.best ballot)
+        by_test (λ (r : PhaseOut × Option Election). Goes c l stored (stood r.1 x, r.0)) (not (is_member (views_after b.best) p) || b.count == 2 ^ 64 - 1) _ _
         (λ stranger. follows h x.phase)
         (λ member. prepares_goes)
 

@@ -1,12 +1,11 @@
 -- Rules that save nothing and count nothing new before a quorum: they answer a probe or a beat, heed
 -- a refusal, count an acceptance, or would change the view.
-use Rattle.std.proofs.Common.{◌≡◌, ℕ, Bool, true, ◌&&◌, ◌==◌, if◌then◌else◌, List, Option, refl, ap, ◌∙◌, sym, subst}
+use Rattle.std.proofs.Common.{◌≡◌, ℕ, Bool, true, ◌&&◌, ◌==◌, List, Option, refl, ap, ◌∙◌, sym, subst}
 use Rattle.std.proofs.lemmas.Bool.{and_parts}
 use Rattle.joint_views.proofs.Majorities.{quorum_more}
 use Rattle.joint_views.specs.Quorums.{is_quorum}
 use Rattle.abstract_protocol.specs.Ledger.{Ledger}
 use Rattle.abstract_protocol.specs.Numbers.{epoch_number}
-use Rattle.election.specs.Preparing.{ignored}
 use Rattle.election.specs.Ballots.{row_15}
 use Rattle.election.specs.declared.election.Election.{Election}
 use Rattle.election.specs.declared.election.Election.TheVariants.{Preparing, Starting}
@@ -24,13 +23,12 @@ use Rattle.peer_core.specs.declared.state.State.{State}
 use Rattle.peer_fact.specs.declared.fact.Fact.{Fact}
 use Rattle.phase_rows.specs.Orders.{is_below, is_same}
 use Rattle.phase_rows.specs.Peers.{joined}
-use Rattle.phase_rows.specs.Rows.{silent, leaves_leading, refuses_below}
+use Rattle.phase_rows.specs.Rows.{silent, refuses_below}
 use Rattle.probe.specs.Probing.{row_8_probe}
 use Rattle.wire_frames.specs.declared.message.NackCause.{NackCause}
 use Rattle.wire_frames.specs.declared.message.NackCause.TheVariants as causes
 use Rattle.wire_frames.specs.declared.phase.PhaseOut.{PhaseOut}
 use Rattle.wire_frames.specs.declared.phase.Then.{Then}
-use Rattle.wire_frames.specs.declared.phase.Then.TheVariants as thens
 use Rattle.election_refinement.proofs.Numbers.{same_epochs}
 use Rattle.election_refinement.proofs.Reaching.{Course}
 use Rattle.election_refinement.proofs.Rows.{Fits, Goes, unmoved, enters, quiet, follows, rests_in, names}
@@ -63,7 +61,7 @@ counted l p from seq ballot fact new accepts told test old = record {
 -- a leader counts an acceptance
 heard : (l : Ledger) (p from seq : ℕ) (ballot : Epoch) (fact : Fact) (leadership : Leadership) → IsAcceptance l from ballot seq → IsLeading l p fact leadership → IsLeading l p fact (leader_heard leadership fact from ballot seq)
 heard l p from seq ballot fact leadership told old = record {
-  started = by_test (λ (accepts : List Bool). IsStarting l p fact leadership.fact accepts) (is_same ballot fact.ballot && seq == 1) (joined from leadership.accepts) leadership.accepts
+  started = by_test (λ (accepts : List Bool). IsStarting l p fact leadership.fact accepts) (is_same ballot fact.ballot && seq == 1) _ _
       (λ own. counted l p from seq ballot fact leadership.fact leadership.accepts told own old.started)
       (λ other. old.started);
   established = old.established;
@@ -75,17 +73,17 @@ module _ {c : Course} {l : Ledger} {x : State} {stored : Option Fact} (h : Fits 
 
   -- rule 8, on a probe
   pub rule_8_probe : (from : ℕ) → Goes c l stored (x, row_8_probe x.fact from)
-  rule_8_probe from = unmoved c l stored (x, row_8_probe x.fact from) h h.peer.saved.known
+  rule_8_probe from = unmoved h h.peer.saved.known
 
   -- a refusal
   pub refuses : (from : ℕ) (ballot : Epoch) → Goes c l stored (x, refuses_below from ballot x.fact)
-  refuses from ballot = unmoved c l stored (x, refuses_below from ballot x.fact) h tt
+  refuses from ballot = unmoved h tt
 
   -- rule 14
   pub rule_14 : (phase : Phase) → PhaseHolds l p x.fact phase → Goes c l stored (while_14 phase p x)
   rule_14 (phases.Electing (Starting new accepts age)) old =
-      by_test (λ (turn : Then). Goes c l stored (electing (Starting new accepts age) x, silent turn)) (holds accepts p && is_quorum (holds accepts) new.views) (thens.Lead new) thens.Stay
-      (λ enough. unmoved c l stored (electing (Starting new accepts age) x, silent (thens.Lead new)) (enters h (phases.Leading (record { fact = new; accepts = accepts; change = Settled }))
+      by_test (λ (turn : Then). Goes c l stored (electing (Starting new accepts age) x, silent turn)) (holds accepts p && is_quorum (holds accepts) new.views) _ _
+      (λ enough. unmoved (enters h (phases.Leading (record { fact = new; accepts = accepts; change = Settled }))
       (leads l p x.fact new accepts old (and_parts (holds accepts p) (is_quorum (holds accepts) new.views) enough).1)) tt)
       (λ few. rests_in h (phases.Electing (Starting new accepts age)) old)
   rule_14 (phases.Electing (Preparing base promises asked age)) old = rests_in h (phases.Electing (Preparing base promises asked age)) old
@@ -94,8 +92,8 @@ module _ {c : Course} {l : Ledger} {x : State} {stored : Option Fact} (h : Fits 
   -- rule 15
   heeded : (ballot : Epoch) (cause : NackCause) → Goes c l stored (x, row_15 x.fact ballot cause)
   heeded ballot (causes.Greater other) =
-      by_test (λ (row : PhaseOut). Goes c l stored (x, row)) (is_same ballot x.fact.ballot && is_below ballot other) (leaves_leading (silent thens.Follow)) (silent thens.Stay)
-      (λ own. unmoved c l stored (x, leaves_leading (silent thens.Follow)) (enters h follower tt) tt)
+      by_test (λ (row : PhaseOut). Goes c l stored (x, row)) (is_same ballot x.fact.ballot && is_below ballot other) _ _
+      (λ own. unmoved (enters h follower tt) tt)
       (λ old. quiet h)
   heeded ballot causes.Untrusted = quiet h
   heeded ballot (causes.Damaged position) = quiet h
@@ -108,7 +106,7 @@ module _ {c : Course} {l : Ledger} {x : State} {stored : Option Fact} (h : Fits 
   -- rule 17
   pub rule_17 : (phase : Phase) (from : ℕ) (ballot : Epoch) (seq : ℕ) → PhaseHolds l p x.fact phase → IsAcceptance l from ballot seq → Goes c l stored (while_17 phase from ballot seq x)
   rule_17 (phases.Electing (Starting new accepts age)) from ballot seq old told =
-      by_test (λ (r : Election × PhaseOut). Goes c l stored (electing r.0 x, r.1)) (is_same ballot x.fact.ballot && seq == 1) (Starting new (joined from accepts) age, silent (thens.Rule 14)) (ignored (Starting new accepts age))
+      by_test (λ (r : Election × PhaseOut). Goes c l stored (electing r.0 x, r.1)) (is_same ballot x.fact.ballot && seq == 1) _ _
       (λ own. names h 14 (phases.Electing (Starting new (joined from accepts) age)) (counted l p from seq ballot x.fact new accepts told own old))
       (λ other. rests_in h (phases.Electing (Starting new accepts age)) old)
   rule_17 (phases.Electing (Preparing base promises asked age)) from ballot seq old told = rests_in h (phases.Electing (Preparing base promises asked age)) old
@@ -118,9 +116,9 @@ module _ {c : Course} {l : Ledger} {x : State} {stored : Option Fact} (h : Fits 
   -- rule 19
   pub rule_19 : (from : ℕ) (ballot : Epoch) → Goes c l stored (x, row_19 x.fact x.trusted from ballot)
   rule_19 from ballot =
-      by_test (λ (row : PhaseOut). Goes c l stored (x, row)) (is_below ballot x.fact.ballot) (refuses_below from ballot x.fact) (silent (if is_same x.fact.epoch ballot && x.trusted then thens.Follow else thens.Stay))
+      by_test (λ (row : PhaseOut). Goes c l stored (x, row)) (is_below ballot x.fact.ballot) _ _
       (λ below. refuses from ballot)
-      (λ above. by_test (λ (turn : Then). Goes c l stored (x, silent turn)) (is_same x.fact.epoch ballot && x.trusted) thens.Follow thens.Stay
+      (λ above. by_test (λ (turn : Then). Goes c l stored (x, silent turn)) (is_same x.fact.epoch ballot && x.trusted) _ _
       (λ accepted. follows h x.phase)
       (λ other. quiet h))
 

@@ -46,9 +46,9 @@ module _ (c : Course) where
     pub fits : Fits ledger (settled r.1 r.0) (stored_in r.1.save stored)
     pub says : RowSays ledger p r.1.message
 
-  -- the peer takes no step of the protocol
-  pub unmoved : (l : Ledger) (stored : Option Fact) (r : State × PhaseOut) → Fits l (settled r.1 r.0) (stored_in r.1.save stored) → RowSays l p r.1.message → Goes l stored r
-  unmoved l stored r fits says = record { ledger = l; keeps = keeps_none l p; fits = fits; says = says }
+-- the peer takes no step of the protocol
+pub unmoved : {c : Course} {l : Ledger} {stored : Option Fact} {r : State × PhaseOut} → Fits c l (settled r.1 r.0) (stored_in r.1.save stored) → RowSays l c.peer r.1.message → Goes c l stored r
+unmoved {c} {l} {stored} {r} fits says = record { ledger = l; keeps = keeps_none l c.peer; fits = fits; says = says }
 
 module _ {c : Course} {l : Ledger} {x : State} {stored : Option Fact} (h : Fits c l x stored) where
   open c use {peer as p}
@@ -59,16 +59,16 @@ module _ {c : Course} {l : Ledger} {x : State} {stored : Option Fact} (h : Fits 
 
   -- nothing happens
   pub quiet : Goes c l stored (calm x)
-  quiet = unmoved c l stored (calm x) h tt
+  quiet = unmoved h tt
 
   -- the peer follows, whatever its phase became
   pub follows : (phase : Phase) → Goes c l stored (record x { phase = phase }, silent thens.Follow)
-  follows phase = unmoved c l stored (record x { phase = phase }, silent thens.Follow) (enters follower tt) tt
+  follows phase = unmoved (enters follower tt) tt
 
   -- the peer only enters a phase
   pub rests_in : (phase : Phase) → PhaseHolds l p x.fact phase → Goes c l stored (record x { phase = phase }, silent thens.Stay)
-  rests_in phase holds = unmoved c l stored (record x { phase = phase }, silent thens.Stay) (enters phase holds) tt
+  rests_in phase holds = unmoved (enters phase holds) tt
 
   -- the peer enters a phase, and then a rule runs
   pub names : (n : ℕ) (phase : Phase) → PhaseHolds l p x.fact phase → Goes c l stored (record x { phase = phase }, silent (thens.Rule n))
-  names n phase holds = unmoved c l stored (record x { phase = phase }, silent (thens.Rule n)) (enters phase holds) tt
+  names n phase holds = unmoved (enters phase holds) tt

@@ -3,7 +3,6 @@ use Rattle.std.proofs.Common.{◌≡◌, ℕ, ◌+◌, Bool, false, ◌==◌, if
 use Rattle.joint_views.specs.Quorums.{is_member}
 use Rattle.abstract_protocol.specs.Ledger.{Ledger}
 use Rattle.abstract_protocol.specs.Numbers.{epoch_number}
-use Rattle.election.specs.Starting.{resumes}
 use Rattle.election.specs.declared.election.Election.TheVariants.{Preparing, Starting}
 use Rattle.ens_base.specs.PeerSet.{holds}
 use Rattle.following.specs.declared.follower.Follower.{Follower}
@@ -17,9 +16,7 @@ use Rattle.peer_core.specs.declared.state.Phase.TheVariants as phases
 use Rattle.peer_core.specs.declared.state.State.{State}
 use Rattle.peer_fact.specs.declared.fact.Fact.{Fact}
 use Rattle.phase_rows.specs.Orders.{is_joint}
-use Rattle.phase_rows.specs.Peers.{others_outside}
-use Rattle.phase_rows.specs.Rows.{silent, sends}
-use Rattle.wire_frames.specs.declared.message.Message.TheVariants as messages
+use Rattle.phase_rows.specs.Rows.{silent}
 use Rattle.wire_frames.specs.declared.phase.PhaseOut.{PhaseOut}
 use Rattle.wire_frames.specs.declared.phase.Then.{Then}
 use Rattle.wire_frames.specs.declared.phase.Then.TheVariants as thens
@@ -32,7 +29,7 @@ use Rattle.election_refinement.specs.Refinement.{IsLeading, PhaseHolds, MessageH
 pub word_holds : (l : Ledger) (p : ℕ) (fact : Fact) (leadership : Leadership) → IsLeading l p fact leadership → (q : ℕ) → MessageHolds l p (word_to fact leadership q)
 unfolding word_to
 word_holds l p fact leadership leading q =
-    by_test (MessageHolds l p) (holds leadership.accepts q) (word_of_end leadership.change fact leadership.fact.epoch q) (messages.NewEpoch leadership.fact)
+    by_test (MessageHolds l p) (holds leadership.accepts q) _ _
     (λ has. subst (λ (change : ChangeState). MessageHolds l p (word_of_end change fact leadership.fact.epoch q)) (sym leading.settled)
     (record { elected = leading.started.first.known.elected; established = leading.established }))
     (λ lacks. leading.started.first)
@@ -47,23 +44,21 @@ module _ {c : Course} {l : Ledger} {x : State} {stored : Option Fact} (h : Fits 
   -- a tick that changes only the phase, and may run rule 7
   anew : (phase : Phase) (test : Bool) → PhaseHolds l p x.fact phase → Goes c l stored (record x { phase = phase }, silent (if test then thens.Rule 7 else thens.Stay))
   anew phase test holds =
-      by_test (λ (turn : Then). Goes c l stored (record x { phase = phase }, silent turn)) test (thens.Rule 7) thens.Stay
+      by_test (λ (turn : Then). Goes c l stored (record x { phase = phase }, silent turn)) test _ _
       (λ is. names h 7 phase holds)
       (λ not. rests_in h phase holds)
 
   -- rules 2 to 4
   pub aged_goes : (phase : Phase) → PhaseHolds l p x.fact phase → Goes c l stored (aged phase p x)
   aged_goes (phases.Following f) old =
-      by_test (λ (r : Follower × PhaseOut). Goes c l stored (following r.0 x, r.1)) (is_member x.fact.views p)
-      (record f { quiet = f.quiet + 1 }, silent (if f.quiet + 1 == 6 then thens.Rule 7 else thens.Stay)) (f, silent thens.Stay)
+      by_test (λ (r : Follower × PhaseOut). Goes c l stored (following r.0 x, r.1)) (is_member x.fact.views p) _ _
       (λ member. anew (phases.Following (record f { quiet = f.quiet + 1 })) (f.quiet + 1 == 6) tt)
       (λ stranger. rests_in h (phases.Following f) tt)
   aged_goes (phases.Probing b) old =
       anew (phases.Probing (record b { age = b.age + 1 })) (b.age + 1 == 6) (record { best = old.best; newer = old.newer; counts_best = old.counts_best; counts_own = old.counts_own })
   aged_goes (phases.Electing (Preparing base promises asked age)) old = anew (phases.Electing (Preparing base promises asked (age + 1))) (age + 1 == 6) old
   aged_goes (phases.Electing (Starting new accepts age)) old =
-      by_test (λ (row : PhaseOut). Goes c l stored (electing (Starting new accepts (age + 1)) x, row)) (age + 1 == 8) (silent thens.Follow) (sends (others_outside p accepts new.views) (messages.NewEpoch new) (resumes false))
+      by_test (λ (row : PhaseOut). Goes c l stored (electing (Starting new accepts (age + 1)) x, row)) (age + 1 == 8) _ _
       (λ spent. follows h (phases.Electing (Starting new accepts (age + 1))))
-      (λ young. unmoved c l stored (electing (Starting new accepts (age + 1)) x, sends (others_outside p accepts new.views) (messages.NewEpoch new) (resumes false))
-      (enters h (phases.Electing (Starting new accepts (age + 1))) old) old.first)
+      (λ young. unmoved (enters h (phases.Electing (Starting new accepts (age + 1))) old) old.first)
   aged_goes (phases.Leading y) old = quiet h
