@@ -1,0 +1,5 @@
+pub mod Maps
+pub mod Faults
+pub mod Objects
+pub mod Nodes
+pub mod Facts
