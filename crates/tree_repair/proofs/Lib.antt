@@ -3,3 +3,4 @@ pub mod Levels
 pub mod Buckets
 pub mod Admissions
 pub mod Climbing
+pub mod Keys

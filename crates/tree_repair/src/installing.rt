@@ -1,4 +1,4 @@
-ghost use Rattle.std.specs.Prelude.{◌≡◌, List, OnOk};
+ghost use Rattle.std.specs.Prelude.{◌≡◌, List, Some, OnOk};
 ghost use Rattle.std.specs.Option.{IsSomeAnd};
 ghost use Rattle.ens_base.specs.declared.entry.Entry.{Entry};
 ghost use Rattle.tree_maps.specs.Entries.{IsMap};
@@ -25,6 +25,7 @@ pub fn install<N: NodeStore>(
 ) -> Result<(), TreeError>
     ensures did { Enters (λ r. Did (store_does N.may_answer N.top_record N.fault_count) (store_refuses N.may_refuse N.top_record N.fault_count)
         (install_plan built.now.nodes built.now.top) tree.old.store r tree.new.store) tree.old.top result tree.new.top }
+    ensures top { OnOk result (tree.new.top ≡ Some built.now.top) }
     ensures stands { OnOk result ((m : List Entry) → IsMap m → built.now ≡ build_of sixteen m → IsSomeAnd tree.new.top (λ top. Stands sixteen top m)) }
 {
     tree.install(alloc, built.nodes.as_slice(), &built.top)

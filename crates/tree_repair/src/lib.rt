@@ -6,6 +6,7 @@
 //! which knows of no store and of no hasher, and `specs/Admitting.antt` what the hasher did.
 #![tactic(auto)]
 
+mod ascending;
 mod building;
 mod built;
 mod gate;
@@ -14,6 +15,7 @@ mod inner;
 mod installing;
 mod segments;
 
+pub use ascending::ascends;
 pub use building::build;
 pub use built::Built;
 pub use gate::{Gate, NoGate};
