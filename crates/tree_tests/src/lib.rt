@@ -2,6 +2,8 @@
 #![tactic(auto)]
 
 #[cfg(test)]
+mod exchange_tests;
+#[cfg(test)]
 mod synctree_tests;
 #[cfg(test)]
 mod tree_repair_tests;

@@ -5,7 +5,7 @@ use std::alloc::Global;
 use std::sync::atomic::{AtomicU64, Ordering};
 use std::test::Fail;
 use synctree::{Tree, TreeError};
-use tree_repair::{Gate, NoGate, build, install};
+use tree_repair::{Gate, NoGate, ascends, build, install};
 
 /// The MD5 of the eight bytes of a root without children, `01 00 00000000 0000`, taken with another
 /// program.
@@ -52,6 +52,7 @@ fn the_empty_map_has_a_root(rt: HostRuntime) -> Result<(), Fail> {
 fn one_entry_has_a_node_a_level(rt: HostRuntime) -> Result<(), Fail> {
     let alloc = rt.alloc();
     let entries = [entry(alloc, b"abc")?];
+    assert!(rt; ascends(&entries));
     let built = build(&rt, alloc, &mut PlainHasher, &NoGate, &entries)?;
     assert_eq!(rt; built.top, ABC);
     let heads: [&[u8]; 4] = [
@@ -78,6 +79,7 @@ fn a_build_has_the_top_of_the_inserts(rt: HostRuntime) -> Result<(), Fail> {
         tree.insert(alloc, &mut PlainHasher, &entry)?;
         entries.push(entry)?;
     }
+    assert!(rt; ascends(entries.as_slice()));
     let built = build(&rt, alloc, &mut PlainHasher, &NoGate, entries.as_slice())?;
     assert_eq!(rt; Some(built.top), tree.top());
     let mut other = fresh(alloc)?;
@@ -131,6 +133,7 @@ fn gate_two_halves(rt: HostRuntime) -> Result<(), Fail> {
     for key in 0..20_000u32 {
         entries.push(entry(alloc, &[(key / 256) as u8, (key % 256) as u8])?)?;
     }
+    assert!(rt; ascends(entries.as_slice()));
     let plain = build(&rt, alloc, &mut PlainHasher, &NoGate, entries.as_slice())?;
     let built = build(&rt, alloc, &mut PlainHasher, &gate, entries.as_slice())?;
     assert_eq!(rt; built.top, plain.top);
