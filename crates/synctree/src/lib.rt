@@ -25,5 +25,6 @@ mod walk;
 
 pub use encoding::{encode_inner, encode_segment};
 pub use error::TreeError;
+pub use shape::{DEPTH, ROOT, child, children};
 pub use stored_node::StoredNode;
 pub use tree::{Tree, TreeMark};

@@ -15,10 +15,10 @@ use tree_node::{InnerNode, Position};
 pub(crate) const WIDTH: usize = 16;
 
 /// The number of levels of inner nodes.
-pub(crate) const DEPTH: u8 = 3;
+pub const DEPTH: u8 = 3;
 
 /// The position of the root.
-pub(crate) const ROOT: Position = Position { level: 0, index: 0 };
+pub const ROOT: Position = Position { level: 0, index: 0 };
 
 /// Returns nibble `level` of the digest, the high nibble of a byte first: at this level, a key with
 /// this digest belongs to the child of this number.
@@ -57,7 +57,7 @@ pub(crate) fn name_of(children: &[Option<Digest>], digit: u8) -> Option<Digest>
 
 /// Returns the children of an inner node, `None` for each that is missing. Fails only when out of
 /// memory.
-pub(crate) fn children(alloc: Global, node: &InnerNode) -> Result<Seq<Option<Digest>>, TreeError>
+pub fn children(alloc: Global, node: &InnerNode) -> Result<Seq<Option<Digest>>, TreeError>
     ensures ok { IfOk result (λ cs. cs ≡ children_of node.now.mask node.now.digests) }
     ensures memory { IfErr result (λ e. e ≡ Memory) }
 {
@@ -117,7 +117,7 @@ pub(crate) fn with_child(
 }
 
 /// Returns the position of child `digit`.
-pub(crate) fn child(at: Position, digit: u8) -> Position
+pub fn child(at: Position, digit: u8) -> Position
     requires position { IsPosition at }
     requires above { at.level < 3 }
     requires digit { digit < 16 }

@@ -2,7 +2,7 @@ ghost use Rattle.std.specs.Prelude.{◌≡◌, ℕ, List, [], Option, None, Some
 ghost use Rattle.std.specs.Option.{IsSomeAnd};
 ghost use Rattle.tree_maps.specs.Maps.{Stands};
 ghost use Rattle.tree_maps.specs.Sixteen.{sixteen};
-ghost use Rattle.ens_outside.specs.Stores.{Top};
+ghost use Rattle.ens_outside.specs.Stores.{Read, Top};
 ghost use Rattle.ens_outside.specs.Told.{IsTold};
 ghost use Rattle.synctree.specs.Halves.{NodesDid};
 ghost use Rattle.synctree.specs.Installs.{store_does, store_refuses, install_plan};
@@ -92,6 +92,14 @@ impl<N: NodeStore> Tree<N> {
         ensures { result ≡ self.now.top }
     {
         self.top
+    }
+
+    /// Returns what the store has under a digest, unverified, or `None` if it has nothing there.
+    pub fn read(&mut self, alloc: Global, digest: &Digest) -> Result<Option<Bytes>, TreeError>
+        ensures did { NodesDid N.may_answer N.may_refuse N.top_record N.fault_count (Read digest.now) self.old.store result self.new.store }
+        ensures top { self.new.top ≡ self.old.top }
+    {
+        calls::read(alloc, &mut self.store, digest)
     }
 
     /// Takes the store out of the tree. `join` makes the tree again.
