@@ -45,7 +45,7 @@ length_children : (mask : ℕ) (ds : List (List ℕ)) → length (children_of ma
 unfolding children_of
 length_children mask ds = length_spread 16 mask ds
 
-read_width : (r : Result InnerNode NodeError) (names : List (Option (List ℕ))) → children_in r ≡ Some names → length names ≡ 16
+pub read_width : (r : Result InnerNode NodeError) (names : List (Option (List ℕ))) → children_in r ≡ Some names → length names ≡ 16
 read_width (Ok n) names e = let is : children_of n.mask n.digests ≡ names = cc in ap length (sym is) ∙ length_children n.mask n.digests
 read_width (Err d) names e = absurd cc
 

@@ -1,0 +1,4 @@
+pub mod Loops
+pub mod Stepping
+pub mod Rising
+pub mod Telling

@@ -1,0 +1,10 @@
+use Rattle.std.proofs.Common.{◌∙◌, ◌≡◌, ◌++◌, ◌∷◌, ◌+◌, ◌<◌, [], ap, sym, take, length, arith, append_assoc, ℕ, List, Option}
+use Rattle.tree_maps.specs.Sixteen.{sixteen}
+use Rattle.tree_verify.specs.declared.slot.Slot.{Slot}
+use Rattle.tree_verify.specs.Levels.{child_slots}
+use Rattle.tree_verify.proofs.Loops.{take_at}
+use Rattle.tree_verify.proofs.Stepping.{children_next}
+use Rattle.tree_verify.proofs.step.push_children.Goals as goal
+
+pub loop-i-preserved : goal.loop-i-preserved
+loop-i-preserved c = (c.in_ok-push_child.ensures).ok ∙ children_next sixteen c.args.at c.loop-i.i c.args.names.now c.index-names-i.result c.args.slots.now.items c.loop-i.slots.items c.loop-i-test.true c.index-names-i.is c.loop-i.invariant

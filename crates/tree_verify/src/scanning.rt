@@ -1,0 +1,60 @@
+ghost use Rattle.std.specs.Prelude.{◌≡◌, IfOk};
+ghost use Rattle.tree_maps.specs.Sixteen.{sixteen};
+ghost use Rattle.synctree.specs.Outsides.{outside_does, outside_refuses};
+ghost use Rattle.synctree.specs.Plans.{Did};
+ghost use Rattle.tree_verify.specs.Levels.{scan_from as scan_from_plan, scan_plan};
+ghost use Rattle.tree_verify.specs.Scans.{Scans};
+ghost use Rattle.tree_verify.specs.Slots.{AreSlots};
+
+use crate::last::last_level;
+use crate::level::read_level;
+use crate::slot::Slot;
+use crate::step::next_level;
+use ens_base::Seq;
+use ens_hashing::Hasher16;
+use ens_outside::NodeStore;
+use std::alloc::Global;
+use synctree::{DEPTH, ROOT, Tree, TreeError};
+use tree_node::Scan;
+
+/// Scans the nodes of a level with `height` levels below it, and all below them.
+fn scan_from<N: NodeStore, H: Hasher16>(
+    alloc: Global,
+    tree: &mut Tree<N>,
+    hasher: &mut H,
+    height: u8,
+    slots: &[Slot],
+) -> Result<Scan, TreeError>
+    requires { AreSlots height slots.now }
+    ensures did { Did (outside_does N.may_answer N.top_record N.fault_count H.kept H.clashes H.fulls) (outside_refuses N.may_refuse N.top_record N.fault_count H.kept H.clashes H.fulls)
+        (scan_from_plan sixteen height slots.now) (tree.old.store, hasher.old) result (tree.new.store, hasher.new) }
+    ensures top { tree.new.top ≡ tree.old.top }
+{
+    let level = read_level(alloc, tree, hasher, slots)?;
+    if height == 0 {
+        return last_level(alloc, slots, &level);
+    }
+    let next = next_level(alloc, slots, &level, height - 1)?;
+    scan_from(alloc, tree, hasher, height - 1, next.as_slice())
+}
+
+/// Returns the entries of all segments that verify, in the order of their keys, and the positions
+/// nearest the root that do not, in the order of the tree. A damaged tree is no error. If a map
+/// stands under the top record, the entries are those of the map whose paths go through no damaged
+/// position, unless a string that was hashed has the digest of a different node of the map.
+pub fn scan<N: NodeStore, H: Hasher16>(
+    alloc: Global,
+    tree: &mut Tree<N>,
+    hasher: &mut H,
+) -> Result<Scan, TreeError>
+    ensures did { Did (outside_does N.may_answer N.top_record N.fault_count H.kept H.clashes H.fulls) (outside_refuses N.may_refuse N.top_record N.fault_count H.kept H.clashes H.fulls)
+        (scan_plan sixteen tree.old.top) (tree.old.store, hasher.old) result (tree.new.store, hasher.new) }
+    ensures finds { IfOk result (λ found. Scans (outside_does N.may_answer N.top_record N.fault_count H.kept H.clashes H.fulls) sixteen tree.old.top (tree.old.store, hasher.old) found (tree.new.store, hasher.new)) }
+    ensures top { tree.new.top ≡ tree.old.top }
+{
+    let first = [Slot {
+        at: ROOT,
+        digest: tree.top(),
+    }];
+    scan_from(alloc, tree, hasher, DEPTH, first.as_slice())
+}
