@@ -1,5 +1,5 @@
 ghost use Rattle.std.specs.Prelude.{◌≡◌, ◌++◌, All, IfOk, OnOk, string_bytes};
-ghost use Rattle.world_spec.specs.Messages.{MayBeSent};
+ghost use Rattle.network.specs.Mail.{MayBeSent};
 ghost use Rattle.trace.specs.Text.{message_line, trace_text};
 
 use ens_base::push_bytes;

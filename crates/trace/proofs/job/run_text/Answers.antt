@@ -1,8 +1,8 @@
 use Rattle.std.proofs.Common.{List, sym, ap, subst, ◌∙◌}
 use Rattle.std.specs.Prelude.{All}
+use Rattle.network.specs.Mail.{MayBeSent}
 use Rattle.wire_frames.specs.declared.frame.Frame.{Frame}
 use Rattle.world_spec.specs.Runs.{Run}
-use Rattle.world_spec.specs.Messages.{MayBeSent}
 use Rattle.world_spec.proofs.Obeying.{run_may}
 use Rattle.trace.proofs.job.run_text.Goals as goal
 
