@@ -1,11 +1,10 @@
 -- Whether keys ascend, entry by entry.
-use Rattle.std.proofs.Common.{◌≡◌, ℕ, ◌+◌, ◌<◌, ◌≤◌, Bool, true, false, List, [], ◌∷◌, length, get_or, drop, refl, ap, sym, ◌∙◌, subst, arith}
-use Rattle.std.specs.declared.cmp.Ordering.{Ordering}
-use Rattle.std.specs.declared.cmp.Ordering.TheVariants.{Less, Equal, Greater}
+use Rattle.std.proofs.Common.{◌≡◌, ℕ, ◌+◌, ◌<◌, List, [], length, get_or, drop, ap, sym, ◌∙◌, subst}
+use Rattle.std.specs.declared.cmp.Ordering.TheVariants.{Less}
 use Rattle.ens_base.specs.declared.entry.Entry.{Entry}
 use Rattle.ens_base.specs.Lists.{bytes_cmp}
-use Rattle.tree_node.specs.Entries.{is_less, is_above, AreAbove}
-use Rattle.tree_repair.proofs.Lists.{drop_at, drop_all}
+use Rattle.tree_node.specs.Entries.{is_less, AreAbove}
+use Rattle.tree_repair.proofs.Lists.{drop_at}
 
 pub step_all : (low key : List ℕ) (es : List Entry) (i : ℕ) (e : Entry) → i < length es → e ≡ get_or es i e → key ≡ e.key → bytes_cmp low key ≡ Less → (AreAbove low (drop i es) → AreAbove [] es) → AreAbove key (drop (i + 1) es) → AreAbove [] es
 step_all low key es i e l at is less k a = k (subst (λ (xs : List Entry). AreAbove low xs) (sym (drop_at es i e e l at)) (ap is_less (ap (bytes_cmp low) (sym is) ∙ less), subst (λ (x : List ℕ). AreAbove x (drop (i + 1) es)) is a))
