@@ -1,19 +1,18 @@
 -- Loops that follow a plan for each item of a list, and calls that use the store or the hasher alone.
-use Rattle.std.proofs.Common.{◌≡◌, ℕ, zero, suc, ◌+◌, ◌<◌, ◌≤◌, List, [], ◌∷◌, ◌++◌, Option, None, Some, Result, Ok, Err, length, get_or, drop, take, map, refl, ap, sym, ◌∙◌, subst, arith, append_assoc, append-nil, inl, inr}
-use Rattle.md5.specs.Md5.{md5}
-use Rattle.ens_outside.specs.Stores.{NodeCall, NodeAnswer, Read}
+use Rattle.std.proofs.Common.{◌≡◌, ℕ, zero, suc, ◌+◌, ◌<◌, ◌≤◌, List, [], ◌∷◌, ◌++◌, Option, Some, Result, Ok, Err, length, get_or, drop, take, map, refl, ap, sym, ◌∙◌, subst, arith, append_assoc, append-nil, inl, inr}
+use Rattle.ens_outside.specs.Stores.{NodeCall, NodeAnswer}
 use Rattle.ens_outside.specs.declared.errors.StoreError.{StoreError}
 use Rattle.tree_node.specs.declared.position.Position.{Position}
 use Rattle.synctree.specs.declared.error.TreeError.{TreeError}
 use Rattle.synctree.specs.declared.error.TreeError.TheVariants.{Damaged, Failed, Clash, BookFull, Memory}
-use Rattle.synctree.specs.Halves.{NodesDid, HasherDid}
+use Rattle.synctree.specs.Halves.{HasherDid}
 use Rattle.synctree.specs.Installs.{store_does, store_refuses}
 use Rattle.synctree.specs.Plans.{Call, Node, Hash, AnswerOf, Plan, Done, Broken, Ask, ◌>>=◌, Ends, Stops, Did}
 use Rattle.synctree.specs.Outsides.{outside_does, outside_refuses}
 use Rattle.synctree.proofs.Composing.{stops_memory, did_then, did_err}
 use Rattle.synctree.proofs.Exits.{DidOutside}
 use Rattle.tree_verify.specs.Hashers.{hasher_does, hasher_refuses}
-use Rattle.tree_verify.specs.Levels.{for_each, hash_read, hash_all, read_named}
+use Rattle.tree_verify.specs.Levels.{for_each, hash_read, hash_all}
 
 pub drop_at : {A : Type 0} (xs : List A) (i : ℕ) (x d : A) → i < length xs → x ≡ get_or xs i d → drop i xs ≡ x ∷ drop (i + 1) xs
 drop_at {A = A} xs i x d l e = let next : i + 1 ≡ suc i = omega arith in rw next (by xs i l e)

@@ -1,6 +1,5 @@
 -- The levels of a scan, one slot after another.
-use Rattle.std.proofs.Common.{◌≡◌, ℕ, zero, suc, ◌+◌, ◌-◌, ◌<◌, ◌≤◌, true, false, Bool, cond, List, [], ◌∷◌, ◌++◌, Option, None, Some, Result, Ok, Err, length, get_or, take, refl, ap, sym, ◌∙◌, subst, arith, append_assoc, append-nil}
-use Rattle.std.specs.Prelude.{All}
+use Rattle.std.proofs.Common.{◌≡◌, ℕ, zero, suc, ◌+◌, ◌<◌, ◌≤◌, true, false, Bool, cond, List, [], ◌∷◌, ◌++◌, Option, None, Some, Result, Ok, Err, length, get_or, take, refl, ap, sym, ◌∙◌, subst, arith, append_assoc, append-nil}
 use Rattle.std.specs.Prelude.{IsErr}
 use Rattle.std.specs.Result.{IsErrAnd}
 use Rattle.std.proofs.lemmas.List.Elements.{All-nil, All-cons, All-head, All-tail, All-append}
@@ -11,7 +10,6 @@ use Rattle.ens_outside.specs.Stores.{NodeCall, NodeAnswer}
 use Rattle.ens_outside.specs.declared.errors.StoreError.{StoreError}
 use Rattle.tree_node.specs.declared.body.Scan.{Scan}
 use Rattle.tree_node.specs.declared.position.Position.{Position}
-use Rattle.tree_node.specs.Positions.{IsPosition}
 use Rattle.tree_node.specs.Nodes.{inner_of, segment_of}
 use Rattle.tree_maps.specs.Forms.{Form, IsPlace, child}
 use Rattle.tree_maps.specs.Sixteen.{sixteen, children_in, entries_in as segment_entries}
@@ -20,7 +18,7 @@ use Rattle.synctree.specs.Answers.{Makes}
 use Rattle.synctree.specs.declared.error.TreeError.{TreeError}
 use Rattle.synctree.specs.declared.error.TreeError.TheVariants.{Memory}
 use Rattle.synctree.proofs.Exits.{DidOutside, after, cut_off, made_did, memory_did, passed_on}
-use Rattle.synctree.proofs.Places.{width_is, depth_is, inner_is, segment_is, position_of, place_of}
+use Rattle.synctree.proofs.Places.{width_is, inner_is, segment_is, position_of, place_of}
 use Rattle.synctree.proofs.Puts.{read_width}
 use Rattle.tree_verify.specs.declared.slot.Slot.{Slot}
 use Rattle.tree_verify.proofs.Loops.{take_at}

@@ -1,5 +1,5 @@
 -- What a scan says of every map that stands under the top record.
-use Rattle.std.proofs.Common.{◌≡◌, ◌⊎◌, ℕ, zero, suc, ◌+◌, ◌*◌, ◌/◌, ◌%◌, ◌<◌, ◌≤◌, Bool, true, false, cond, List, [], ◌∷◌, ◌++◌, Option, None, Some, Result, Ok, Err, IfOk, length, refl, ap, sym, ◌∙◌, subst, arith, inl, inr}
+use Rattle.std.proofs.Common.{◌≡◌, ℕ, zero, suc, ◌+◌, ◌*◌, ◌/◌, ◌%◌, ◌<◌, ◌≤◌, Bool, true, false, cond, List, [], ◌∷◌, ◌++◌, Option, None, Some, Result, Ok, Err, IfOk, length, refl, ap, sym, ◌∙◌, subst, arith, inl, inr}
 use Rattle.std.specs.Prelude.{filter, not, ◌==◌, ◌&&◌, ◌||◌, nat_le, nat_lt}
 use Rattle.std.specs.Option.{is_some}
 use Rattle.std.proofs.lemmas.Bool.Decides.{nat_tests}
@@ -7,18 +7,18 @@ use Rattle.std.proofs.Math.Nat.{mod-eq_of_lt, div-eq_of_lt, mul-add-div, mul-add
 use Rattle.md5.specs.Md5.{md5}
 use Rattle.ens_base.specs.declared.entry.Entry.{Entry}
 use Rattle.ens_base.specs.Lists.{◌∈◌, same_bytes, bytes_cmp}
-use Rattle.std.specs.declared.cmp.Ordering.TheVariants.{Less, Greater}
+use Rattle.std.specs.declared.cmp.Ordering.TheVariants.{Less}
 use Rattle.tree_node.specs.declared.body.Scan.{Scan}
 use Rattle.tree_node.specs.declared.position.Position.{Position}
 use Rattle.tree_maps.specs.Entries.{IsBelowAll, Ascends, IsMap}
 use Rattle.tree_maps.specs.Forms.{Form, Laws, IsPlace, child, root}
-use Rattle.tree_maps.specs.Maps.{each_of, within, named, text, children, IsNode, AreApart, Stands}
+use Rattle.tree_maps.specs.Maps.{each_of, within, named, text, children, AreApart}
 use Rattle.tree_maps.specs.Paths.{passes, under}
 use Rattle.tree_maps.proofs.Below.{place as position, every, under_child, under_map, node_below, some_width}
-use Rattle.tree_maps.proofs.Orders.{same_is, less_back, cmp_back}
+use Rattle.tree_maps.proofs.Orders.{same_is, cmp_back}
 use Rattle.tree_maps.proofs.Unique.{some_once, root_is_node, root_place, child_place, children_again}
 use Rattle.synctree.specs.declared.error.TreeError.{TreeError}
-use Rattle.synctree.specs.Plans.{Call, AnswerOf, Plan, Done, Ask, ◌>>=◌, Ends, Did}
+use Rattle.synctree.specs.Plans.{Call, AnswerOf, Plan, Done, ◌>>=◌, Ends, Did}
 use Rattle.synctree.proofs.Meaning.{ok_once, apart_left, apart_right, parted}
 use Rattle.tree_verify.specs.declared.slot.Slot.{Slot}
 use Rattle.tree_verify.specs.Levels.{for_each, read_named, read_all, hash_all, read_level, verified, slot, child_slots, slots_below, next_level, entries_of, damage_of, entries_in, damage_in, found, scan_from, scan_plan}

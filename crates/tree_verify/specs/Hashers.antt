@@ -1,5 +1,5 @@
 -- What the hasher alone may answer, and what one call to it did.
-use Rattle.std.specs.Prelude.{◌≤◌, ℕ, List, Option, None, Some, Result, Ok, Err}
+use Rattle.std.specs.Prelude.{◌≤◌, ℕ, List, Option, None, Some}
 use Rattle.std.specs.Prelude.{Bool, false}
 use Rattle.ens_base.specs.Lists.{same_bytes}
 use Rattle.md5.specs.Md5.{md5}

@@ -1,5 +1,5 @@
 -- Which slots a level may have, and what the calls on one slot and one level return.
-use Rattle.std.specs.Prelude.{◌≡◌, ◌+◌, ℕ, List, [], ◌∷◌, Option, None, Some, Result, Ok, Err, All, map}
+use Rattle.std.specs.Prelude.{◌≡◌, ◌+◌, ℕ, List, Option, None, Some, Result, Ok, Err, All, map}
 use Rattle.tree_node.specs.declared.position.Position.{Position}
 use Rattle.tree_node.specs.Positions.{IsPosition}
 use Rattle.synctree.specs.declared.error.TreeError.{TreeError}

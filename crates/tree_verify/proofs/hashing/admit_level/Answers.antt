@@ -1,4 +1,4 @@
-use Rattle.std.proofs.Common.{◌+◌, ◌≡◌, drop, subst, List, Option, ℕ}
+use Rattle.std.proofs.Common.{◌+◌, drop, subst, List, Option, ℕ}
 use Rattle.synctree.specs.Plans.{Did}
 use Rattle.synctree.proofs.Exits.{passed_on}
 use Rattle.tree_verify.specs.Hashers.{hasher_does, hasher_refuses}

@@ -1,4 +1,4 @@
-use Rattle.std.proofs.Common.{◌∙◌, ◌≡◌, ap, length}
+use Rattle.std.proofs.Common.{◌∙◌, ap, length}
 use Rattle.tree_maps.specs.Sixteen.{sixteen}
 use Rattle.tree_verify.proofs.Stepping.{entries_next, damage_next}
 use Rattle.tree_verify.proofs.last.last_level.Goals as goal

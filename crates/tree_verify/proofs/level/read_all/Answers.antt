@@ -1,4 +1,4 @@
-use Rattle.std.proofs.Common.{◌+◌, ◌≡◌, ◌∙◌, ◌++◌, ◌∷◌, [], drop, length, subst, sym, ap, arith, List, Option, ℕ, Ok, Err}
+use Rattle.std.proofs.Common.{◌+◌, ◌∙◌, ◌++◌, ◌∷◌, [], drop, length, subst, sym, ap, List, Option, ℕ, Ok}
 use Rattle.synctree.specs.Installs.{store_does, store_refuses}
 use Rattle.synctree.specs.Plans.{Did}
 use Rattle.synctree.specs.declared.error.TreeError.TheVariants.{Memory}

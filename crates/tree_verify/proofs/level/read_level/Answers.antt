@@ -1,7 +1,6 @@
-use Rattle.std.proofs.Common.{◌∙◌, ◌≡◌, [], refl, ap, sym, subst, List, Option, ℕ, Ok, Err, map}
+use Rattle.std.proofs.Common.{◌∙◌, [], refl, ap, subst, List, Option, ℕ, Ok, Err, map}
 use Rattle.synctree.specs.Plans.{Done, ◌>>=◌}
-use Rattle.synctree.specs.declared.error.TreeError.TheVariants.{Memory}
-use Rattle.synctree.proofs.Exits.{DidOutside, after, cut_off, passed_on, memory_did}
+use Rattle.synctree.proofs.Exits.{DidOutside, after, passed_on, memory_did}
 use Rattle.synctree.proofs.Composing.{did_err}
 use Rattle.synctree.specs.Outsides.{outside_does, outside_refuses}
 use Rattle.tree_verify.specs.Hashers.{digest_if, hasher_does, hasher_refuses}

@@ -1,4 +1,4 @@
-use Rattle.std.proofs.Common.{◌∙◌, ◌≡◌, ◌-◌, ◌+◌, length, arith, ap, sym, ℕ}
+use Rattle.std.proofs.Common.{◌∙◌, ◌-◌, arith}
 use Rattle.tree_maps.specs.Sixteen.{sixteen}
 use Rattle.tree_verify.proofs.Stepping.{scan_err, scan_last, scan_memory, scan_next}
 use Rattle.tree_verify.proofs.scanning.+scan_from.Goals as goal

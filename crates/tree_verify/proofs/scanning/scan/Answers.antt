@@ -1,4 +1,4 @@
-use Rattle.std.proofs.Common.{◌≡◌, ◌∷◌, ◌∙◌, [], ap, sym, subst, ℕ, List, Option}
+use Rattle.std.proofs.Common.{◌∷◌, ◌∙◌, [], ap, sym, subst, ℕ, List, Option}
 use Rattle.tree_maps.specs.Forms.{root}
 use Rattle.tree_maps.specs.Sixteen.{sixteen}
 use Rattle.tree_maps.proofs.Formats.{sixteen_laws}
@@ -6,7 +6,7 @@ use Rattle.synctree.specs.Outsides.{outside_does, outside_refuses}
 use Rattle.synctree.proofs.Exits.{DidOutside}
 use Rattle.synctree.proofs.Places.{depth_is}
 use Rattle.tree_verify.specs.declared.slot.Slot.{Slot}
-use Rattle.tree_verify.specs.Levels.{slot, scan_from, scan_plan}
+use Rattle.tree_verify.specs.Levels.{slot, scan_from}
 use Rattle.tree_verify.proofs.Telling.{scans_of}
 use Rattle.tree_verify.proofs.scanning.scan.Goals as goal
 

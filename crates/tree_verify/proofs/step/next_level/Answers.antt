@@ -1,7 +1,6 @@
-use Rattle.std.proofs.Common.{◌∙◌, ◌≡◌, ◌≤◌, ◌+◌, ap, sym, subst, take, length, arith, List, Option, ℕ}
+use Rattle.std.proofs.Common.{◌∙◌, ◌+◌, ap, sym, subst, take, length, List}
 use Rattle.tree_maps.specs.Sixteen.{sixteen}
 use Rattle.tree_verify.specs.declared.slot.Slot.{Slot}
-use Rattle.tree_verify.specs.Levels.{next_level}
 use Rattle.tree_verify.specs.Slots.{AreSlots}
 use Rattle.tree_verify.proofs.Loops.{take_whole}
 use Rattle.tree_verify.proofs.Stepping.{level_next, level_are, next_height}

@@ -1,4 +1,4 @@
-use Rattle.std.proofs.Common.{◌≡◌, ◌≤◌, ◌∙◌, ap, arith, length}
+use Rattle.std.proofs.Common.{◌∙◌, ap, arith, length}
 use Rattle.tree_verify.proofs.Stepping.{inner_width}
 use Rattle.tree_verify.proofs.step.push_below.Goals as goal
 

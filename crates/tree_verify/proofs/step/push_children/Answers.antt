@@ -1,8 +1,5 @@
-use Rattle.std.proofs.Common.{◌∙◌, ◌≡◌, ◌++◌, ◌∷◌, ◌+◌, ◌<◌, [], ap, sym, take, length, arith, append_assoc, ℕ, List, Option}
+use Rattle.std.proofs.Common.{◌∙◌}
 use Rattle.tree_maps.specs.Sixteen.{sixteen}
-use Rattle.tree_verify.specs.declared.slot.Slot.{Slot}
-use Rattle.tree_verify.specs.Levels.{child_slots}
-use Rattle.tree_verify.proofs.Loops.{take_at}
 use Rattle.tree_verify.proofs.Stepping.{children_next}
 use Rattle.tree_verify.proofs.step.push_children.Goals as goal
 
