@@ -7,3 +7,5 @@ mod exchange_tests;
 mod synctree_tests;
 #[cfg(test)]
 mod tree_repair_tests;
+#[cfg(test)]
+mod tree_verify_tests;

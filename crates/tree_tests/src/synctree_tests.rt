@@ -15,11 +15,11 @@ const EMPTY: Digest = Digest([
 /// The top of the tree of one entry with the key `abc`, whose MD5 begins with 900: the digest of its
 /// segment stands in child 0 of a node that is child 0 of child 9 of the root. Taken with another
 /// program.
-const ABC: Digest = Digest([
+pub(crate) const ABC: Digest = Digest([
     0x7b, 0xc2, 0x80, 0x35, 0x57, 0x99, 0x3e, 0x60, 0xe0, 0x94, 0x34, 0xca, 0x77, 0xa1, 0x9c, 0x9a,
 ]);
 
-fn entry(alloc: Global, key: &[u8], seq: u64) -> Result<Entry, Fail> {
+pub(crate) fn entry(alloc: Global, key: &[u8], seq: u64) -> Result<Entry, Fail> {
     let epoch = Epoch {
         count: 1,
         proposer: 1,
@@ -31,7 +31,7 @@ fn entry(alloc: Global, key: &[u8], seq: u64) -> Result<Entry, Fail> {
     })
 }
 
-fn fresh(alloc: Global) -> Result<Tree<MemNodes>, TreeError> {
+pub(crate) fn fresh(alloc: Global) -> Result<Tree<MemNodes>, TreeError> {
     let nodes = MemNodes::new(alloc, Vec::new(alloc));
     match Tree::fresh(alloc, nodes, &mut PlainHasher) {
         Ok(tree) => Ok(tree),
@@ -88,5 +88,32 @@ fn a_store_without_a_top_record_is_damaged(rt: HostRuntime) -> Result<(), Fail> 
         tree.get(alloc, &mut PlainHasher, &key).err(),
         Some(TreeError::Damaged(root))
     );
+    Ok(())
+}
+
+#[test]
+fn a_node_is_read_by_its_position(rt: HostRuntime) -> Result<(), Fail> {
+    let alloc = rt.alloc();
+    let mut tree = fresh(alloc)?;
+    let root = Position { level: 0, index: 0 };
+    let bytes = tree.node(alloc, &mut PlainHasher, root)?;
+    assert_eq!(rt; bytes.is_some(), true);
+    if let Some(bytes) = bytes {
+        assert_eq!(rt; bytes.as_slice(), [1, 0, 0, 0, 0, 0, 0, 0].as_slice());
+    }
+    tree.insert(alloc, &mut PlainHasher, &entry(alloc, b"abc", 1)?)?;
+    let segment = Position {
+        level: 3,
+        index: 0x900,
+    };
+    assert_eq!(rt;
+        tree.node(alloc, &mut PlainHasher, segment)?.is_some(),
+        true
+    );
+    let other = Position {
+        level: 3,
+        index: 0x901,
+    };
+    assert_eq!(rt; tree.node(alloc, &mut PlainHasher, other)?.is_some(), false);
     Ok(())
 }
