@@ -19,13 +19,6 @@ fn entry(alloc: Global, key: &[u8]) -> Result<Entry, Fail> {
     })
 }
 
-fn whole(level: u8, index: u32) -> Question {
-    Question {
-        position: Position { level, index },
-        after: None,
-    }
-}
-
 fn fresh(alloc: Global) -> Result<Tree<MemNodes>, TreeError> {
     let nodes = MemNodes::new(alloc, Vec::new(alloc));
     match Tree::fresh(alloc, nodes, &mut PlainHasher) {
@@ -50,19 +43,30 @@ fn the_nodes_on_the_path_are_given(rt: HostRuntime) -> Result<(), Fail> {
     let alloc = rt.alloc();
     let mut tree = fresh(alloc)?;
     tree.insert(alloc, &mut PlainHasher, &entry(alloc, b"abc")?)?;
-    let rows = [
-        (0, 0, 1 << 9),
-        (1, 9, 1),
-        (2, 0x90, 1),
-        (3, 0x900, 1),
-        (1, 8, 0),
-        (3, 0x901, 0),
-    ];
-    for (level, index, wanted) in rows {
-        let question = whole(level, index);
-        let body = give(alloc, &mut tree, &mut PlainHasher, &question)?;
-        assert_eq!(rt; size(&body), wanted, "level {level}, index {index}");
-    }
+    let root = Question {
+        position: Position { level: 0, index: 0 },
+        after: None,
+    };
+    let body = give(alloc, &mut tree, &mut PlainHasher, &root)?;
+    assert_eq!(rt; size(&body), 1 << 9);
+    let segment = Question {
+        position: Position {
+            level: 3,
+            index: 0x900,
+        },
+        after: None,
+    };
+    let body = give(alloc, &mut tree, &mut PlainHasher, &segment)?;
+    assert_eq!(rt; size(&body), 1);
+    let other = Question {
+        position: Position {
+            level: 3,
+            index: 0x901,
+        },
+        after: None,
+    };
+    let body = give(alloc, &mut tree, &mut PlainHasher, &other)?;
+    assert_eq!(rt; size(&body), 0);
     Ok(())
 }
 
@@ -74,7 +78,14 @@ fn a_tree_without_a_top_record_gives_damage(rt: HostRuntime) -> Result<(), Fail>
         Ok(tree) => tree,
         Err(refused) => return Err(refused.error.into()),
     };
-    let body = give(alloc, &mut tree, &mut PlainHasher, &whole(3, 0x900))?;
+    let segment = Question {
+        position: Position {
+            level: 3,
+            index: 0x900,
+        },
+        after: None,
+    };
+    let body = give(alloc, &mut tree, &mut PlainHasher, &segment)?;
     assert_eq!(rt; size(&body), 99);
     Ok(())
 }

@@ -64,7 +64,7 @@ fn one_entry_has_a_node_a_level(rt: HostRuntime) -> Result<(), Fail> {
     let nodes = built.nodes.as_slice();
     assert_eq!(rt; nodes.len(), 4);
     for i in 0..4 {
-        assert_eq!(rt; &nodes[i].bytes.as_slice()[..6], heads[i], "node {i}");
+        assert!(rt; nodes[i].bytes.as_slice().starts_with(heads[i]), "node {i}");
     }
     Ok(())
 }
