@@ -1,11 +1,9 @@
-//! Tests of the formats and of the types below them: vectors, faults with their places, and the bytes of a
-//! hostile sender. One file tests one crate.
+//! Tests of the formats and of the types below them: what is written, and the calls that no format
+//! needs. The program `format_table` shows what is read. One file tests one crate.
 #![tactic(auto)]
 
 #[cfg(test)]
 mod ens_base_tests;
-#[cfg(test)]
-mod ens_fields_tests;
 #[cfg(test)]
 mod ens_object_tests;
 #[cfg(test)]
