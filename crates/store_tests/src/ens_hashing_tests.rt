@@ -26,18 +26,10 @@ const OTHER_BLOCK: [u8; 64] = [
 fn a_book_of_four_bytes(rt: HostRuntime) -> Result<(), Fail> {
     let alloc = rt.alloc();
     let mut book = HashBook::new(alloc, 4);
-    assert_eq!(rt; book.digest(alloc, b"abc").ok(), Some(Digest(ABC)));
-    assert_eq!(rt; book.digest(alloc, b"abc").ok(), Some(Digest(ABC)));
-    assert_eq!(rt;
-        book.digest(alloc, b"de").err(),
-        Some(HashError::BookFull(3))
-    );
-    assert_eq!(rt; book.digest(alloc, b"d").is_ok(), true);
-    assert_eq!(rt;
-        book.digest(alloc, b"e").err(),
-        Some(HashError::BookFull(4))
-    );
-    assert_eq!(rt; book.admit(alloc, b"abc", &Digest(ABC)).err(), None);
+    assert!(rt; book.digest(alloc, b"abc").ok() == Some(Digest(ABC)));
+    assert!(rt; book.digest(alloc, b"abc").ok() == Some(Digest(ABC)));
+    assert!(rt; book.digest(alloc, b"de").err() == Some(HashError::BookFull(3)));
+    assert!(rt; book.admit(alloc, b"abc", &digest_of(b"abc")).is_ok());
     Ok(())
 }
 
@@ -45,25 +37,12 @@ fn a_book_of_four_bytes(rt: HostRuntime) -> Result<(), Fail> {
 fn two_blocks_clash_in_a_full_book_too(rt: HostRuntime) -> Result<(), Fail> {
     let alloc = rt.alloc();
     let mut book = HashBook::new(alloc, 64);
+    let first = book.digest(alloc, &BLOCK).ok();
+    assert!(rt; first.is_some() && PlainHasher.digest(alloc, &OTHER_BLOCK).ok() == first);
     let clash = HashError::Clash {
         first: BLOCK.to_vec(alloc)?,
         second: OTHER_BLOCK.to_vec(alloc)?,
     };
-    assert_eq!(rt; book.digest(alloc, &BLOCK).is_ok(), true);
-    assert_eq!(rt; book.digest(alloc, &OTHER_BLOCK).err(), Some(clash));
-    assert_eq!(rt; book.digest(alloc, &BLOCK).is_ok(), true);
-    Ok(())
-}
-
-#[test]
-fn a_plain_hasher_admits_both_blocks(rt: HostRuntime) -> Result<(), Fail> {
-    let alloc = rt.alloc();
-    assert_eq!(rt; PlainHasher.digest(alloc, b"abc").ok(), Some(Digest(ABC)));
-    assert_eq!(rt;
-        PlainHasher.admit(alloc, b"abc", &digest_of(b"abc")).err(),
-        None
-    );
-    let first = PlainHasher.digest(alloc, &BLOCK).ok();
-    assert_eq!(rt; PlainHasher.digest(alloc, &OTHER_BLOCK).ok(), first);
+    assert!(rt; book.digest(alloc, &OTHER_BLOCK).err() == Some(clash));
     Ok(())
 }

@@ -1,17 +1,12 @@
 use ens_base::{Digest, Key};
 use ens_outside::{Backend, FailingCall, Leaves, MemBackend, MemNodes, NodeStore, StoreError};
-use std::alloc::{AllocError, Global};
+use std::alloc::Global;
 use std::test::Fail;
 
-const FIRST: Digest = Digest([1; 16]);
+const TOP: Digest = Digest([1; 16]);
 
-const SECOND: Digest = Digest([2; 16]);
-
-fn fails_at(alloc: Global, call: u64, leaves: Leaves) -> Result<Vec<FailingCall>, AllocError> {
-    let mut calls = Vec::new(alloc);
-    calls.push(FailingCall { call, leaves })?;
-    Ok(calls)
-}
+/// What the failed second call leaves, and the bytes that are found then.
+const PUTS: [(Leaves, &[u8]); 2] = [(Leaves::Old, b"old"), (Leaves::New, b"new")];
 
 /// Whether a call found these bytes.
 fn found(answer: Result<Option<Vec<u8>>, StoreError>, bytes: &[u8]) -> bool {
@@ -22,75 +17,28 @@ fn found(answer: Result<Option<Vec<u8>>, StoreError>, bytes: &[u8]) -> bool {
     }
 }
 
-/// Whether a call found nothing.
-fn found_nothing(answer: Result<Option<Vec<u8>>, StoreError>) -> bool {
-    match answer {
-        Ok(held) => held.is_none(),
-        Err(_) => false,
-    }
-}
-
-/// Whether a get returns these bytes after a put of `old` and a failed put of `new`.
-fn found_after_puts(alloc: Global, leaves: Leaves, bytes: &[u8]) -> Result<bool, Fail> {
-    let key = Key::new(alloc, b"k")?;
-    let mut backend = MemBackend::new(alloc, fails_at(alloc, 2, leaves)?);
-    let first = backend.put(alloc, &key, b"old");
-    let second = backend.put(alloc, &key, b"new");
-    let counts = (backend.faults(), first, second) == (1, Ok(()), Err(StoreError::Failed));
-    Ok(counts && found(backend.get(alloc, &key), bytes))
-}
-
-#[test]
-fn a_get_returns_the_last_put(rt: HostRuntime) -> Result<(), Fail> {
-    let alloc = rt.alloc();
-    let key = Key::new(alloc, b"k")?;
-    let mut backend = MemBackend::new(alloc, Vec::new(alloc));
-    assert!(rt; found_nothing(backend.get(alloc, &key)));
-    assert_eq!(rt; backend.put(alloc, &key, b"v"), Ok(()));
-    assert!(rt; found(backend.get(alloc, &key), b"v"));
-    assert_eq!(rt; backend.faults(), 0);
-    Ok(())
-}
-
 #[test]
 fn a_failed_put_leaves_the_old_or_the_new_bytes(rt: HostRuntime) -> Result<(), Fail> {
     let alloc = rt.alloc();
-    assert!(rt; found_after_puts(alloc, Leaves::Old, b"old")?);
-    assert!(rt; found_after_puts(alloc, Leaves::New, b"new")?);
-    Ok(())
-}
-
-#[test]
-fn nodes_are_kept(rt: HostRuntime) -> Result<(), Fail> {
-    let alloc = rt.alloc();
-    let mut nodes = MemNodes::new(alloc, Vec::new(alloc));
-    assert_eq!(rt; nodes.write(alloc, &FIRST, b"node"), Ok(()));
-    assert!(rt; found(nodes.read(alloc, &FIRST), b"node"));
-    assert!(rt; found_nothing(nodes.read(alloc, &SECOND)));
-    assert_eq!(rt; nodes.faults(), 0);
-    Ok(())
-}
-
-#[test]
-fn the_top_record_is_kept(rt: HostRuntime) -> Result<(), Fail> {
-    let alloc = rt.alloc();
-    let mut nodes = MemNodes::new(alloc, Vec::new(alloc));
-    assert_eq!(rt; nodes.top(), Ok(None));
-    assert_eq!(rt; nodes.set_top(&FIRST), Ok(()));
-    assert_eq!(rt; nodes.top(), Ok(Some(FIRST)));
-    Ok(())
-}
-
-#[test]
-fn a_failed_write_of_the_top_record_leaves_the_old_or_the_new_one(
-    rt: HostRuntime,
-) -> Result<(), Fail> {
-    let alloc = rt.alloc();
-    for (leaves, top) in [(Leaves::Old, None), (Leaves::New, Some(FIRST))] {
-        let mut nodes = MemNodes::new(alloc, fails_at(alloc, 1, leaves)?);
-        assert_eq!(rt; nodes.set_top(&FIRST), Err(StoreError::Failed));
-        assert_eq!(rt; nodes.top(), Ok(top), "{leaves:?}");
+    let key = Key::new(alloc, b"k")?;
+    for (leaves, bytes) in PUTS {
+        let failing = vec![in alloc; FailingCall { call: 2, leaves }]?;
+        let mut backend = MemBackend::new(alloc, failing);
+        assert!(rt; backend.put(alloc, &key, b"old").is_ok());
+        assert!(rt; backend.put(alloc, &key, b"new").is_err() && backend.faults() == 1);
+        assert!(rt; found(backend.get(alloc, &key), bytes));
     }
+    Ok(())
+}
+
+#[test]
+fn nodes_and_the_top_record_are_kept(rt: HostRuntime) -> Result<(), Fail> {
+    let alloc = rt.alloc();
+    let mut nodes = MemNodes::new(alloc, Vec::new(alloc));
+    assert!(rt; nodes.write(alloc, &TOP, b"node").is_ok());
+    assert!(rt; found(nodes.read(alloc, &TOP), b"node"));
+    assert!(rt; nodes.top() == Ok(None) && nodes.set_top(&TOP).is_ok());
+    assert!(rt; nodes.top() == Ok(Some(TOP)) && nodes.faults() == 0);
     Ok(())
 }
 

@@ -1,7 +1,7 @@
 use ens_base::{Epoch, PeerId, View};
 use fact_store::{FactFile, FactKeeper, KeepError, Kept, MemFacts};
-use peer_fact::{Change, Fact, FactError};
-use slot_disk::{Disk, Failing, Image, MemDisk, Room};
+use peer_fact::{Fact, FactError};
+use slot_disk::{Failing, Image, MemDisk, Room};
 use std::alloc::Global;
 use std::test::Fail;
 
@@ -37,56 +37,24 @@ fn file(alloc: Global, bytes: &[u8]) -> Result<FactFile<MemDisk>, Fail> {
 }
 
 #[test]
-fn the_opening_fact_has_63_bytes_on_a_disk(rt: HostRuntime) -> Result<(), Fail> {
-    let alloc = rt.alloc();
-    let mut file = file(alloc, &[])?;
-    assert_eq!(rt; file.load(), Ok(None));
-    assert_eq!(rt; file.save(&opening()?), Ok(()));
-    let disk = file.into_disk();
-    assert!(rt; disk.bytes().len() == 63);
-    assert_eq!(rt;
-        &disk.bytes()[..11],
-        b"\x01\0\0\0\0\0\0\0\x01\0\x34".as_slice()
-    );
-    Ok(())
-}
-
-#[test]
 fn the_second_fact_is_at_offset_512(rt: HostRuntime) -> Result<(), Fail> {
-    let alloc = rt.alloc();
-    let mut file = file(alloc, &[])?;
-    assert_eq!(rt; file.save(&opening()?), Ok(()));
-    assert_eq!(rt; file.save(&promised()?), Ok(()));
-    assert_eq!(rt; file.load(), Ok(Some(promised()?)));
+    let mut file = file(rt.alloc(), &[])?;
+    assert!(rt; file.load() == Ok(None));
+    assert!(rt; file.save(&opening()?).is_ok() && file.save(&promised()?).is_ok());
+    assert!(rt; file.load() == Ok(Some(promised()?)));
     let disk = file.into_disk();
-    assert!(rt; disk.bytes().len() == 575);
-    assert_eq!(rt;
-        &disk.bytes()[512..523],
-        b"\x01\0\0\0\0\0\0\0\x02\0\x34".as_slice()
-    );
+    let bytes = disk.bytes();
+    assert!(rt; bytes.len() == 575 && bytes.starts_with(b"\x01\0\0\0\0\0\0\0\x01\0\x34"));
+    assert!(rt; bytes[512..].starts_with(b"\x01\0\0\0\0\0\0\0\x02\0\x34"));
     Ok(())
 }
 
 #[test]
-fn a_record_that_is_no_fact_is_a_bad_fact(rt: HostRuntime) -> Result<(), Fail> {
-    let alloc = rt.alloc();
-    let mut file = file(alloc, b"\x01\0\0\0\0\0\0\0\x01\0\x01x")?;
-    assert_eq!(rt; file.load(), Err(KeepError::Bad(FactError::BadTag)));
-    assert_eq!(rt; file.save(&opening()?), Ok(()));
-    assert_eq!(rt; file.load(), Ok(Some(opening()?)));
-    assert_eq!(rt; file.faults(), 0);
-    Ok(())
-}
-
-#[test]
-fn a_spent_file_counts_a_fault_of_its_own(rt: HostRuntime) -> Result<(), Fail> {
-    let alloc = rt.alloc();
-    let mut file = file(alloc, b"\x01\xff\xff\xff\xff\xff\xff\xff\xff\0\x01x")?;
-    let fact = opening()?;
-    assert_eq!(rt; fact.change, Change::None);
-    assert_eq!(rt; file.save(&fact), Err(KeepError::Failed));
-    assert_eq!(rt; file.faults(), 1);
-    assert_eq!(rt; file.into_disk().faults(), 0);
+fn a_spent_file_with_a_record_that_is_no_fact(rt: HostRuntime) -> Result<(), Fail> {
+    let slot = b"\x01\xff\xff\xff\xff\xff\xff\xff\xff\0\x01x";
+    let mut file = file(rt.alloc(), slot)?;
+    assert!(rt; file.load() == Err(KeepError::Bad(FactError::BadTag)) && file.faults() == 0);
+    assert!(rt; file.save(&opening()?) == Err(KeepError::Failed) && file.faults() == 1);
     Ok(())
 }
 
@@ -98,11 +66,8 @@ fn a_memory_keeper_fails_at_the_listed_calls(rt: HostRuntime) -> Result<(), Fail
         done: vec![in alloc; 2]?,
     };
     let mut facts = MemFacts::new(Kept::Nothing, failing);
-    assert_eq!(rt; facts.save(&opening()?), Err(KeepError::Failed));
-    assert_eq!(rt; facts.save(&promised()?), Err(KeepError::Failed));
-    assert_eq!(rt; facts.load(), Ok(Some(promised()?)));
-    assert_eq!(rt; facts.save(&opening()?), Ok(()));
-    assert_eq!(rt; facts.faults(), 2);
+    assert!(rt; facts.save(&opening()?).is_err() && facts.save(&promised()?).is_err());
+    assert!(rt; facts.load() == Ok(Some(promised()?)) && facts.faults() == 2);
     Ok(())
 }
 
@@ -110,7 +75,7 @@ fn a_memory_keeper_fails_at_the_listed_calls(rt: HostRuntime) -> Result<(), Fail
 fn a_crash_in_a_save_leaves_one_of_two_facts(rt: HostRuntime) -> Result<(), Fail> {
     let alloc = rt.alloc();
     let mut first = file(alloc, &[])?;
-    assert_eq!(rt; first.save(&opening()?), Ok(()));
+    assert!(rt; first.save(&opening()?).is_ok());
     let bytes = first.into_disk().crash(alloc, Image::Old)?;
     let mut failing = Failing::never(alloc);
     // The opening takes three calls; the last sync of the save is the ninth.
@@ -119,12 +84,12 @@ fn a_crash_in_a_save_leaves_one_of_two_facts(rt: HostRuntime) -> Result<(), Fail
     let Ok(mut second) = FactFile::open(alloc, disk) else {
         return Err("not opened".into());
     };
-    assert_eq!(rt; second.save(&promised()?), Err(KeepError::Failed));
+    assert!(rt; second.save(&promised()?) == Err(KeepError::Failed));
     let disk = second.into_disk();
     let cases = [(Image::Old, opening()?), (Image::New, promised()?)];
     for (image, want) in cases {
         let left = disk.crash(alloc, image)?;
-        assert_eq!(rt; file(alloc, &left)?.load(), Ok(Some(want)));
+        assert!(rt; file(alloc, &left)?.load() == Ok(Some(want)));
     }
     Ok(())
 }
