@@ -90,64 +90,32 @@ fn timed_out(alloc: Global) -> Result<Script, Fail> {
     Ok(script)
 }
 
+/// Orders of the calls, and whether each is a run.
+const ORDERS: [(&[u64], bool); 6] = [
+    (&[], true),
+    (&[1, 2], true),
+    (&[1, 3], true),
+    (&[1, 3, 2], false),
+    (&[2], false),
+    (&[4], false),
+];
+
 #[test]
 fn an_update_reveals_a_stamp(rt: HostRuntime) -> Result<(), Fail> {
     let script = timed_out(rt.alloc())?;
-    assert!(rt; script.is_run(&[1, 2])?);
-    assert!(rt; script.is_run(&[1, 3])?);
-    assert!(rt; !script.is_run(&[1, 3, 2])?);
+    for (order, runs) in ORDERS {
+        assert!(rt; script.is_run(order)? == runs, "{order:?}");
+    }
     Ok(())
 }
 
-#[test]
-fn empty_and_unknown_orders(rt: HostRuntime) -> Result<(), Fail> {
-    let script = timed_out(rt.alloc())?;
-    assert!(rt; script.is_run(&[])?);
-    assert!(rt; !script.is_run(&[4])?);
-    assert!(rt; !script.is_run(&[2])?);
-    Ok(())
-}
-
-/// Adds the first six calls of a run with each command once.
-fn writes(script: &mut Script) -> Result<(), Fail> {
-    let alloc = script.alloc;
-    let once = Command::PutOnce(value(alloc, b"a")?);
-    script.replied(1, once, Reply::Ok(stamp(1)))?;
-    let again = Command::PutOnce(value(alloc, b"b")?);
-    script.replied(2, again, Reply::Failed)?;
-    let append = Command::Append(value(alloc, b"b")?);
-    script.replied(3, append, Reply::Ok(stamp(2)))?;
-    let number = value(alloc, &[0, 0, 0, 0, 0, 0, 0, 5])?;
-    let swap = Command::Swap(value(alloc, b"ab")?, number);
-    script.replied(4, swap, Reply::Ok(stamp(3)))?;
-    script.replied(5, Command::Add(7), Reply::Ok(stamp(4)))?;
-    let sum = value(alloc, &[0, 0, 0, 0, 0, 0, 0, 12])?;
-    script.replied(6, Command::Get, Reply::Value(stamp(4), sum))
-}
-
-/// Adds the other five calls.
-fn after_them(script: &mut Script) -> Result<(), Fail> {
-    let alloc = script.alloc;
-    script.replied(7, Command::Delete, Reply::Ok(stamp(5)))?;
-    script.replied(8, Command::Get, Reply::NotFound)?;
-    let update = Command::Update(stamp(4), value(alloc, b"c")?);
-    script.replied(9, update, Reply::Failed)?;
-    let once = Command::PutOnce(value(alloc, b"")?);
-    script.replied(10, once, Reply::Ok(stamp(6)))?;
-    let empty = value(alloc, b"")?;
-    script.replied(11, Command::Get, Reply::Value(stamp(6), empty))
-}
-
-#[test]
-fn each_command_once(rt: HostRuntime) -> Result<(), Fail> {
-    let mut script = Script::new(rt.alloc());
-    writes(&mut script)?;
-    after_them(&mut script)?;
-    assert!(rt; script.is_run(&[1, 2, 3, 4, 5, 6, 7, 8, 9, 10, 11])?);
-    assert!(rt; !script.is_run(&[1, 2, 3, 4, 5, 6, 7, 8, 9, 11, 10])?);
-    assert!(rt; !script.is_run(&[1, 1])?);
-    Ok(())
-}
+/// Two deletes that tell which of two updates was done.
+const UPDATES: [(&[u64], bool); 4] = [
+    (&[1, 2, 3, 4, 5], true),
+    (&[1, 2, 3, 4, 6], true),
+    (&[1, 2, 3, 4, 5, 6], false),
+    (&[1, 2, 4, 5], false),
+];
 
 #[test]
 fn one_of_two_updates_was_done(rt: HostRuntime) -> Result<(), Fail> {
@@ -159,9 +127,8 @@ fn one_of_two_updates_was_done(rt: HostRuntime) -> Result<(), Fail> {
     script.replied(4, Command::Get, Reply::Value(stamp(5), value(alloc, b"b")?))?;
     script.replied(5, Command::Delete, Reply::Ok(stamp(1)))?;
     script.replied(6, Command::Delete, Reply::Ok(stamp(2)))?;
-    assert!(rt; script.is_run(&[1, 2, 3, 4, 5])?);
-    assert!(rt; script.is_run(&[1, 2, 3, 4, 6])?);
-    assert!(rt; !script.is_run(&[1, 2, 3, 4, 5, 6])?);
-    assert!(rt; !script.is_run(&[1, 2, 4, 5])?);
+    for (order, runs) in UPDATES {
+        assert!(rt; script.is_run(order)? == runs, "{order:?}");
+    }
     Ok(())
 }

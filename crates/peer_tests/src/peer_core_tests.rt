@@ -3,16 +3,16 @@ ghost use Rattle.ens_base.specs.View.{IsPeer};
 ghost use Rattle.peer_core.specs.Drives.{MayCome};
 ghost use Rattle.wire_frames.specs.Messages.{Obeys};
 
-use ens_base::{Command, Epoch, Key, PeerId, Reply, View, ViewError};
+use ens_base::{Epoch, PeerId, View, ViewError};
 use ens_hashing::PlainHasher;
 use ens_outside::{MemBackend, MemNodes};
 use fact_store::{FactKeeper, Kept, MemFacts};
-use peer_core::{CallIn, Event, Peer, StartError, Stores};
+use peer_core::{Event, Peer, StartError, Stores};
 use peer_fact::{Change, Fact};
 use slot_disk::Failing;
 use std::alloc::Global;
 use std::test::Fail;
-use step_plans::{AnswerOut, Outbox, PeerError};
+use step_plans::{Outbox, PeerError};
 use wire_frames::Message;
 
 type Held = Stores<MemBackend, MemNodes, MemFacts>;
@@ -303,33 +303,6 @@ fn a_peer_started_again_keeps_its_fact(rt: HostRuntime) -> Result<(), Fail> {
     Ok(())
 }
 
-/// Peer 2, started again after it promised the ballot 1.1.
-fn stopped(alloc: Global, view: View) -> Result<Tried, Fail>
-    ensures { IfOk result (λ p. p.me ≡ 2) }
-{
-    let mut two = peer(alloc, 2)?;
-    told(alloc, &mut two, 1, Message::Prepare(BALLOT), &[])?;
-    Ok(started(2, view, two.into_stores())?)
-}
-
-#[test]
-fn a_stopped_peer_trusts_its_tree_no_more(rt: HostRuntime) -> Result<(), Fail> {
-    let alloc = rt.alloc();
-    let view = view()?;
-    let mut two = stopped(alloc, view)?;
-    assert!(rt;
-        told(
-            alloc,
-            &mut two,
-            1,
-            Message::Check(BALLOT, 1),
-            &[(1, "check reply")]
-        )?
-    );
-    assert!(rt; told(alloc, &mut two, 1, Message::NewEpoch(elected(view)), &[])?);
-    Ok(())
-}
-
 /// Whether a peer takes a request to change the view to 2 3, where it sends just these messages.
 fn takes(
     alloc: Global,
@@ -370,52 +343,5 @@ fn a_leader_changes_the_view(rt: HostRuntime) -> Result<(), Fail> {
             &[(2, "prepare"), (3, "prepare")]
         )?
     );
-    Ok(())
-}
-
-#[test]
-fn a_change_that_does_not_end_ends_the_epoch(rt: HostRuntime) -> Result<(), Fail> {
-    let alloc = rt.alloc();
-    let next = View::new(&[PeerId(2), PeerId(3)])?;
-    let mut one = leading(alloc, view()?)?;
-    takes(alloc, &mut one, next, &[])?;
-    for _tick in 1..8 {
-        assert!(rt; ticked(alloc, &mut one, 1, &[(2, "new epoch"), (3, "commit")])?);
-    }
-    assert!(rt; ticked(alloc, &mut one, 1, &[])?);
-    assert!(rt; takes(alloc, &mut one, next, &[])? == Some(false));
-    Ok(())
-}
-
-/// What a peer answers to the call 9 of the caller 40, where that is one answer.
-fn called(alloc: Global, peer: &mut Tried, key: Key) -> Result<Option<Reply>, PeerError> {
-    let call = CallIn {
-        from: 40,
-        id: 9,
-        key,
-        command: Command::Get,
-    };
-    let mut out = Outbox::new(alloc);
-    match peer.step(alloc, Event::Call(call), &mut PlainHasher, &mut out) {
-        Ok(()) => Ok(match out.answers.pop() {
-            Some(
-                AnswerOut {
-                    from: 40,
-                    id: 9,
-                    reply,
-                },
-            ) => Some(reply),
-            _ => None,
-        }),
-        Err(error) => Err(error),
-    }
-}
-
-#[test]
-fn a_call_is_answered_unavailable(rt: HostRuntime) -> Result<(), Fail> {
-    let alloc = rt.alloc();
-    let mut one = leading(alloc, view()?)?;
-    let reply = called(alloc, &mut one, Key::new(alloc, b"k")?)?;
-    assert!(rt; reply == Some(Reply::Unavailable));
     Ok(())
 }

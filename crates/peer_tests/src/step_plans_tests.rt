@@ -1,14 +1,5 @@
 use std::test::Fail;
-use step_plans::{Outbox, Task, Tasks};
-
-#[test]
-fn room_for_sends_is_made(rt: HostRuntime) -> Result<(), Fail> {
-    let alloc = rt.alloc();
-    let mut out = Outbox::new(alloc);
-    out.reserve(8)?;
-    assert!(rt; 8 <= out.sends.capacity());
-    Ok(())
-}
+use step_plans::{Task, Tasks};
 
 /// The number of a rule of a phase.
 fn rule(task: Option<Task>) -> Option<u8> {
