@@ -1,8 +1,17 @@
 use ens_object::Object;
 use peer_fact::Fact;
 use std::alloc::Global;
-use tree_node::{Position, decode_inner, decode_segment, take_position};
+use tree_node::{Position, decode_inner, decode_segment};
 use wire_frames::decode_frame;
+
+/// The position of the root.
+const ROOT: Position = Position { level: 0, index: 0 };
+
+/// The position of the segment of the key `abc`, whose MD5 begins with 900.
+const SEGMENT: Position = Position {
+    level: 3,
+    index: 0x900,
+};
 
 /// A format of bytes.
 #[derive(Clone, Copy)]
@@ -10,7 +19,7 @@ pub enum Format {
     Frame,
     Fact,
     Object,
-    Inner,
+    Root,
     Segment,
 }
 
@@ -35,17 +44,15 @@ fn object(alloc: Global, bytes: &[u8]) -> Option<String> {
     }
 }
 
-fn inner(alloc: Global, bytes: &[u8]) -> Option<String> {
-    let (position, behind) = take_position(bytes, 0).ok()?;
-    match decode_inner(alloc, &bytes[behind..], position) {
+fn root(alloc: Global, bytes: &[u8]) -> Option<String> {
+    match decode_inner(alloc, bytes, ROOT) {
         Ok(node) => format!(in alloc; "{node:?}").ok(),
         Err(fault) => format!(in alloc; "{fault:?}").ok(),
     }
 }
 
 fn segment(alloc: Global, bytes: &[u8]) -> Option<String> {
-    let (position, behind) = take_position(bytes, 0).ok()?;
-    match decode_segment(alloc, &bytes[behind..], position) {
+    match decode_segment(alloc, bytes, SEGMENT) {
         Ok(segment) => format!(in alloc; "{segment:?}").ok(),
         Err(fault) => format!(in alloc; "{fault:?}").ok(),
     }
@@ -53,13 +60,13 @@ fn segment(alloc: Global, bytes: &[u8]) -> Option<String> {
 
 impl Format {
     /// Returns the value that the bytes spell in this format, or the fault of the bytes, as text.
-    /// `None` out of memory, and where the position of a node cannot be read.
+    /// `None` when out of memory.
     pub fn read(self, alloc: Global, bytes: &[u8]) -> Option<String> {
         match self {
             Format::Frame => frame(alloc, bytes),
             Format::Fact => fact(alloc, bytes),
             Format::Object => object(alloc, bytes),
-            Format::Inner => inner(alloc, bytes),
+            Format::Root => root(alloc, bytes),
             Format::Segment => segment(alloc, bytes),
         }
     }

@@ -21,7 +21,7 @@ fn format_of(word: &str) -> Option<Format> {
         "frame" => Some(Format::Frame),
         "fact" => Some(Format::Fact),
         "object" => Some(Format::Object),
-        "inner" => Some(Format::Inner),
+        "root" => Some(Format::Root),
         "segment" => Some(Format::Segment),
         _ => None,
     }

@@ -142,6 +142,7 @@ fn an_election_has_its_time(rt: HostRuntime) -> Result<(), Fail> {
     assert!(rt; election.rule_3().then == Then::Rule(7));
     let (fact, accepts) = (joint()?, set(&[3, 5]));
     for (age, then) in [(6, Then::Resume), (7, Then::Follow)] {
+        assert!(rt; age < 8);
         let mut election = Election::Starting { fact, accepts, age };
         let out = election.rule_4(PeerId(2), true);
         assert!(rt; out.then == then && (said(&out) == "new epoch") == (age == 6));
