@@ -9,113 +9,100 @@ calm\ncalm 4\ncalm 1 2 12\nchange 1 4 5 6\nstop 1\nstart 1\nspoil 1 6b -\ndamage
 inner 1 0 0 -\ninner 1 2 255 ab\nrevert 3 1000000\nfail 2 tree new\nfail 1 backend old\nfail 1 fact new\n";
 
 #[test]
-fn every_line_is_written_back(rt: HostRuntime) -> Result<(), Fail> {
-    let schedule = read_schedule(rt.alloc(), EVERY_LINE)?;
-    assert_eq!(rt; schedule.events.as_slice().len(), 26);
-    let text = write_schedule(rt.alloc(), &schedule)?;
-    assert_eq!(rt; text.as_slice(), EVERY_LINE);
+fn every_line_is_copied_and_written_back(rt: HostRuntime) -> Result<(), Fail> {
+    let alloc = rt.alloc();
+    let mut schedule = read_schedule(alloc, EVERY_LINE)?;
+    let mut events = Vec::new(alloc);
+    for event in schedule.events.as_slice() {
+        events.push(event.copy(alloc)?)?;
+    }
+    assert!(rt; events.len() == 26);
+    schedule.events = ens_base::Seq::new(events);
+    assert!(rt; write_schedule(alloc, &schedule)?.as_slice() == EVERY_LINE);
     Ok(())
 }
 
-#[test]
-fn a_copy_is_spelled_alike(rt: HostRuntime) -> Result<(), Fail> {
-    let mut schedule = read_schedule(rt.alloc(), EVERY_LINE)?;
-    let mut events = Vec::new(rt.alloc());
-    for event in schedule.events.as_slice() {
-        events.push(event.copy(rt.alloc())?)?;
-    }
-    schedule.events = ens_base::Seq::new(events);
-    let text = write_schedule(rt.alloc(), &schedule)?;
-    assert_eq!(rt; text.as_slice(), EVERY_LINE);
-    Ok(())
-}
+/// Lines of a schedule of three peers, and the cause of each.
+const BAD_LINES: [(&[u8], u8); 31] = [
+    (b"", 4),
+    (b" calm", 4),
+    (b"jump 1", 4),
+    (b"call 1 1 take 6b", 4),
+    (b"call x  foo ", 4),
+    (b"call 1 1 ", 4),
+    (b"call 1 1", 5),
+    (b"call 1 1 get", 5),
+    (b"call 0 x get 6B ", 5),
+    (b"calm ", 5),
+    (b"change 1", 5),
+    (b"pass 1", 5),
+    (b"tick 1 0", 6),
+    (b"tick 1 101", 6),
+    (b"tick 1 01", 6),
+    (b"tick 1 +1", 6),
+    (b"deliver 18446744073709551616", 6),
+    (b"call 1 x get 6B", 6),
+    (b"call 1 1 update 6b 1.4294967296.1 00", 6),
+    (b"call 1 1 update 6b 1.1 00", 6),
+    (b"inner 1 1 16 -", 6),
+    (b"inner 1 3 0 -", 6),
+    (b"fail 1 disk old", 6),
+    (b"call 1 1 get -", 7),
+    (b"call 1 1 get 6B", 7),
+    (b"damage 1 6b 0", 7),
+    (b"stop 4", 8),
+    (b"call 0 x get 6B", 8),
+    (b"calm 2 1", 8),
+    (b"calm 1 1", 8),
+    (b"change 1 2 4", 8),
+];
 
 #[test]
 fn the_first_cause_of_a_bad_line_is_answered(rt: HostRuntime) -> Result<(), Fail> {
-    let lines: [(&[u8], u8); 31] = [
-        (b"", 4),
-        (b" calm", 4),
-        (b"jump 1", 4),
-        (b"call 1 1 take 6b", 4),
-        (b"call x  foo ", 4),
-        (b"call 1 1 ", 4),
-        (b"call 1 1", 5),
-        (b"call 1 1 get", 5),
-        (b"call 0 x get 6B ", 5),
-        (b"calm ", 5),
-        (b"change 1", 5),
-        (b"pass 1", 5),
-        (b"tick 1 0", 6),
-        (b"tick 1 101", 6),
-        (b"tick 1 01", 6),
-        (b"tick 1 +1", 6),
-        (b"deliver 18446744073709551616", 6),
-        (b"call 1 x get 6B", 6),
-        (b"call 1 1 update 6b 1.4294967296.1 00", 6),
-        (b"call 1 1 update 6b 1.1 00", 6),
-        (b"inner 1 1 16 -", 6),
-        (b"inner 1 3 0 -", 6),
-        (b"fail 1 disk old", 6),
-        (b"call 1 1 get -", 7),
-        (b"call 1 1 get 6B", 7),
-        (b"damage 1 6b 0", 7),
-        (b"stop 4", 8),
-        (b"call 0 x get 6B", 8),
-        (b"calm 2 1", 8),
-        (b"calm 1 1", 8),
-        (b"change 1 2 4", 8),
-    ];
-    for (line, cause) in lines {
-        let read = read_event(rt.alloc(), line, 7, 3);
-        assert_eq!(rt;
-            read.err(),
-            Some(ScheduleError::Bad { line: 7, cause }),
-            "{line:?}"
-        );
+    for (line, cause) in BAD_LINES {
+        let fault = read_event(rt.alloc(), line, 7, 3).err();
+        assert!(rt; fault == Some(ScheduleError::Bad { line: 7, cause }), "{line:?}");
     }
     Ok(())
 }
 
+/// Texts, and the line and the cause of the first fault in each.
+const BAD_TEXTS: [(&[u8], u32, u8); 9] = [
+    (b"", 1, 3),
+    (b"ensemble 1", 1, 2),
+    (b"ensemble 1\n", 2, 3),
+    (b"ensemble 2\n", 1, 3),
+    (b"ensemble 1\npeers 32\n", 2, 3),
+    (b"ensemble 1\npeers 3\nview 1 2 3", 3, 2),
+    (b"ensemble 1\npeers 3\nview 3 2\n", 3, 3),
+    (b"ensemble 1\npeers 3\nview 1 2 3\njump 1\n", 4, 4),
+    (
+        b"ensemble 1\npeers 3\nview 1 2 3\ncall 1 1 get 6b\ncall 1 1 get 6b\n",
+        5,
+        9,
+    ),
+];
+
 #[test]
 fn the_first_bad_line_is_answered(rt: HostRuntime) -> Result<(), Fail> {
-    let texts: [(&[u8], u32, u8); 9] = [
-        (b"", 1, 3),
-        (b"ensemble 1", 1, 2),
-        (b"ensemble 1\n", 2, 3),
-        (b"ensemble 2\n", 1, 3),
-        (b"ensemble 1\npeers 32\n", 2, 3),
-        (b"ensemble 1\npeers 3\nview 1 2 3", 3, 2),
-        (b"ensemble 1\npeers 3\nview 3 2\n", 3, 3),
-        (b"ensemble 1\npeers 3\nview 1 2 3\njump 1\n", 4, 4),
-        (
-            b"ensemble 1\npeers 3\nview 1 2 3\ncall 1 1 get 6b\ncall 1 1 get 6b\n",
-            5,
-            9,
-        ),
-    ];
-    for (text, line, cause) in texts {
-        let read = read_schedule(rt.alloc(), text);
-        assert_eq!(rt;
-            read.err(),
-            Some(ScheduleError::Bad { line, cause }),
-            "{text:?}"
-        );
+    for (text, line, cause) in BAD_TEXTS {
+        let fault = read_schedule(rt.alloc(), text).err();
+        assert!(rt; fault == Some(ScheduleError::Bad { line, cause }), "{text:?}");
     }
     Ok(())
 }
+
+const FOUR_LINES: [&[u8]; 4] = [b"ensemble 1", b"peers 1", b"view 1", b"call 1 1 get 6b"];
 
 #[test]
 fn a_reading_goes_on_behind_a_refused_line(rt: HostRuntime) -> Result<(), Fail> {
     let mut reading = Reading::new(rt.alloc());
-    reading.line(b"ensemble 1")?;
-    reading.line(b"peers 1")?;
-    reading.line(b"view 1")?;
-    reading.line(b"call 1 1 get 6b")?;
-    assert_eq!(rt;
-        reading.line(b"call 1 1 get 6b").err(),
-        Some(ScheduleError::Bad { line: 5, cause: 9 })
-    );
+    for line in FOUR_LINES {
+        reading.line(line)?;
+    }
+    let fault = reading.line(b"call 1 1 get 6b").err();
+    assert!(rt; fault == Some(ScheduleError::Bad { line: 5, cause: 9 }));
     reading.line(b"call 1 2 get 6b")?;
-    assert_eq!(rt; reading.end(b"")?.events.as_slice().len(), 2);
+    assert!(rt; reading.end(b"")?.events.as_slice().len() == 2);
     Ok(())
 }
