@@ -57,7 +57,9 @@ fn positions_and_bodies(rt: HostRuntime) -> Result<(), Fail> {
     };
     let mut out = Vec::new(alloc);
     put_position(&at, &mut out)?;
-    assert!(rt; out.as_slice() == b"\x03\0\0\x0f\xff".as_slice() && take_position(&out, 0)? == (at, 5));
+    assert!(rt;
+        out.as_slice() == b"\x03\0\0\x0f\xff".as_slice() && take_position(&out, 0)? == (at, 5)
+    );
     let body = TreeBody::Damaged(at).copy(alloc)?;
     assert!(rt; matches!(body, TreeBody::Damaged(_)));
     Ok(())

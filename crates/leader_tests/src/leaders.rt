@@ -115,7 +115,12 @@ fn own_object(alloc: Global, leader: &mut Leader) -> Result<LeadOut, Fail> {
         key: key(alloc)?,
         value: Some(Value::new(alloc, b"v")?),
     };
-    rule(alloc, leader, 28, &Seen::Kept(Some((object, Digest([5; 16])))))
+    rule(
+        alloc,
+        leader,
+        28,
+        &Seen::Kept(Some((object, Digest([5; 16])))),
+    )
 }
 
 fn perform(alloc: Global, leader: &mut Leader, step: Step) -> Result<LeadOut, Fail> {

@@ -30,15 +30,14 @@ fn four(alloc: Global) -> Result<Network, Fail> {
 #[test]
 fn messages_are_kept_in_the_order_of_sending(rt: HostRuntime) -> Result<(), Fail> {
     let mut network = four(rt.alloc())?;
-    let (one, two) = (PeerId(1), PeerId(2));
-    for waiting in [Some(0), Some(2), None] {
-        assert!(rt; network.oldest_between(one, two) == waiting);
-        network.lose(one, PeerId(3));
-        if let Some(place) = waiting {
-            network.settle(place);
-        }
+    for place in [0, 2] {
+        assert!(rt; network.oldest_between(PeerId(1), PeerId(2)) == Some(place));
+        network.settle(place);
     }
-    assert!(rt; network.oldest_between(two, one) == Some(1) && network.sent().len() == 4);
+    assert!(rt; network.oldest_between(PeerId(2), PeerId(1)) == Some(1));
+    network.lose(PeerId(2), PeerId(1));
+    assert!(rt; network.oldest_between(PeerId(2), PeerId(1)).is_none());
+    assert!(rt; network.sent().len() == 4);
     Ok(())
 }
 

@@ -27,10 +27,7 @@ pub fn old_view() -> Result<View, ViewError> {
 
 /// The new view 3 4 5 and the old view 1 2 3.
 pub fn two_views() -> Result<Views, ViewError> {
-    Ok(Views::two(
-        View::new(&[PeerId(3), PeerId(4), PeerId(5)])?,
-        old_view()?,
-    ))
+    Ok(Views::two(View::new(&[PeerId(3), PeerId(4), PeerId(5)])?, old_view()?))
 }
 
 /// The first fact of the epoch 3.2 on the old view, at this ballot.

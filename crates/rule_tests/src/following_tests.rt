@@ -50,8 +50,18 @@ fn a_trusting_peer_accepts_an_epoch_at_or_above_its_ballot(rt: HostRuntime) -> R
     let views = Views::one(old_view()?);
     for (count, proposer, trusted, sync_runs, wanted, saves) in ANNOUNCED {
         let new = first(epoch(count, proposer), views);
-        let out = rule_16(saved(BALLOT)?, PeerId(1), trusted, sync_runs, PeerId(4), new);
-        assert!(rt; said(&out) == wanted && out.save.is_some() == saves, "{count}");
+        let out = rule_16(
+            saved(BALLOT)?,
+            PeerId(1),
+            trusted,
+            sync_runs,
+            PeerId(4),
+            new,
+        );
+        assert!(rt;
+            said(&out) == wanted && out.save.is_some() == saves,
+            "{count}"
+        );
     }
     Ok(())
 }

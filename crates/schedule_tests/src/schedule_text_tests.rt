@@ -61,7 +61,10 @@ const BAD_LINES: [(&[u8], u8); 31] = [
 fn the_first_cause_of_a_bad_line_is_answered(rt: HostRuntime) -> Result<(), Fail> {
     for (line, cause) in BAD_LINES {
         let fault = read_event(rt.alloc(), line, 7, 3).err();
-        assert!(rt; fault == Some(ScheduleError::Bad { line: 7, cause }), "{line:?}");
+        assert!(rt;
+            fault == Some(ScheduleError::Bad { line: 7, cause }),
+            "{line:?}"
+        );
     }
     Ok(())
 }
@@ -87,7 +90,10 @@ const BAD_TEXTS: [(&[u8], u32, u8); 9] = [
 fn the_first_bad_line_is_answered(rt: HostRuntime) -> Result<(), Fail> {
     for (text, line, cause) in BAD_TEXTS {
         let fault = read_schedule(rt.alloc(), text).err();
-        assert!(rt; fault == Some(ScheduleError::Bad { line, cause }), "{text:?}");
+        assert!(rt;
+            fault == Some(ScheduleError::Bad { line, cause }),
+            "{text:?}"
+        );
     }
     Ok(())
 }

@@ -39,7 +39,9 @@ fn keys_values_and_contents_have_their_lengths(rt: HostRuntime) -> Result<(), Fa
     let long = [b'6'; 4_002];
     assert!(rt; key(alloc, b"6b00ff")?.bytes() == [0x6bu8, 0, 255].as_slice());
     assert!(rt; key(alloc, &long[..128]).is_ok() && key(alloc, &long[..130]).err() == bad);
-    assert!(rt; value(alloc, b"-")?.bytes().is_empty() && value(alloc, &long[..2_050]).err() == bad);
+    assert!(rt;
+        value(alloc, b"-")?.bytes().is_empty() && value(alloc, &long[..2_050]).err() == bad
+    );
     assert!(rt; content(alloc, b"-")?.is_none() && content(alloc, &long).err() == bad);
     Ok(())
 }
