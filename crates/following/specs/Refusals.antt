@@ -1,5 +1,5 @@
 -- Why a peer does not do what the leader of an epoch asks, and what it does on damage.
-use Rattle.std.specs.Prelude.{ℕ, Bool, not, Option, Some, None, if◌then◌else◌}
+use Rattle.std.specs.Prelude.{ℕ, Bool, not, ◌&&◌, Option, Some, None, if◌then◌else◌}
 use Rattle.ens_base.specs.declared.epoch.Epoch.{Epoch}
 use Rattle.peer_fact.specs.declared.fact.Fact.{Fact}
 use Rattle.wire_frames.specs.declared.message.Message.{Message}
@@ -18,6 +18,11 @@ refusal fact trusted from ballot =
     else (if not (is_same fact.epoch ballot) then Some (silent Stay)
     else (if not trusted then Some (refuses from ballot causes.Untrusted)
     else None))
+
+-- whether the peer does what the leader of this ballot asks: it accepted the epoch, promised no
+-- greater ballot, and trusts its tree
+abbrev pub is_served : Fact → Bool → Epoch → Bool
+is_served fact trusted ballot = not (is_below ballot fact.ballot) && is_same fact.epoch ballot && trusted
 
 -- the refusal, if there is one, and otherwise the answer
 abbrev pub unless_refused : Option PhaseOut → PhaseOut → PhaseOut

@@ -21,4 +21,5 @@ pub use error::PhaseError;
 pub use follower::Follower;
 pub use laws::{ballots_never_fall, damage_ends_trust, distrust_waits, epochs_are_accepted};
 pub use puts::rule_22;
+pub use refusals::{is_served, tell_damage};
 pub use requests::{rule_20, rule_21, rule_23};

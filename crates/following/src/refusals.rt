@@ -1,6 +1,6 @@
-ghost use Rattle.std.specs.Prelude.{◌≡◌};
+ghost use Rattle.std.specs.Prelude.{◌≡◌, not, ◌&&◌};
 ghost use Rattle.ens_base.specs.View.{IsPeer};
-ghost use Rattle.following.specs.Refusals.{refusal as refusal_of, tells_damage as told_damage};
+ghost use Rattle.following.specs.Refusals.{refusal as refusal_of, is_served as serves, tells_damage as told_damage};
 
 use ens_base::{Epoch, PeerId};
 use peer_fact::Fact;
@@ -24,8 +24,16 @@ pub(crate) fn refusal(fact: &Fact, trusted: bool, from: PeerId, ballot: Epoch) -
     }
 }
 
-/// Reports damage to the peer, and then untrusts the tree.
-pub(crate) fn tell_damage(peer: PeerId, message: Message) -> PhaseOut
+/// Whether rules 21 and 22 do what the leader of this ballot asks, and so read the path of the key.
+pub fn is_served(fact: &Fact, trusted: bool, ballot: Epoch) -> bool
+    ensures { result ≡ serves fact.now trusted ballot }
+{
+    !is_below(ballot, fact.ballot) && fact.epoch == ballot && trusted
+}
+
+/// Returns the answer of a peer that found damage: it sends `message` to `peer`, 1 to 31, and stops
+/// trusting its tree.
+pub fn tell_damage(peer: PeerId, message: Message) -> PhaseOut
     requires { IsPeer peer }
     ensures { result ≡ told_damage peer message }
 {

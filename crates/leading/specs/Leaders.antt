@@ -16,8 +16,8 @@ use Rattle.call_table.specs.declared.waiting.Waiting.{Waiting}
 use Rattle.leader_words.specs.Outs.{rests, leads_on, and_answer, and_note, and_then}
 use Rattle.leader_words.specs.declared.out.LeadOut.{LeadOut}
 use Rattle.leading.specs.declared.leader.Leader.{Leader}
-use Rattle.leading.specs.declared.task.Task.{Task}
-use Rattle.leading.specs.declared.task.Task.TheVariants as tasks
+use Rattle.leading.specs.declared.pending.Pending.{Pending}
+use Rattle.leading.specs.declared.pending.Pending.TheVariants as tasks
 
 -- a leader of the epoch of this fact, with an empty table
 abbrev pub new_leader : Fact → ℕ → List Bool → Leader
@@ -28,7 +28,7 @@ abbrev pub idle : Leader → Leader × LeadOut
 idle l = (l, rests)
 
 -- the leader with this task for the next rule
-abbrev pub with_task : Task → Leader → Leader
+abbrev pub with_task : Pending → Leader → Leader
 with_task task l = record l { task = task }
 
 -- the leader after this call joined

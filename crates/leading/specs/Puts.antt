@@ -26,14 +26,14 @@ use Rattle.leader_words.specs.declared.out.LeadOut.{LeadOut}
 use Rattle.leader_words.specs.declared.out.Own.TheVariants as owns
 use Rattle.leading.specs.Leaders.{idle, with_task, knows, stands, settled_as, answered, is_spent, next_version}
 use Rattle.leading.specs.declared.leader.Leader.{Leader}
-use Rattle.leading.specs.declared.task.Task.{Task}
-use Rattle.leading.specs.declared.task.Task.TheVariants as tasks
+use Rattle.leading.specs.declared.pending.Pending.{Pending}
+use Rattle.leading.specs.declared.pending.Pending.TheVariants as tasks
 
 -- rule 35 is to put this object upon the parent; the number of the epoch rises by 1
 abbrev pub proposed : Object → Option Version → Option ℕ → List ℕ → Leader → Leader × LeadOut
 proposed o parent call key l = (record l { seq = l.seq + 1; task = tasks.Propose o parent call }, leads_on 35 key)
 
-abbrev pub written_for : Option Waiting → Task → List ℕ → Leader → Leader × LeadOut
+abbrev pub written_for : Option Waiting → Pending → List ℕ → Leader → Leader × LeadOut
 written_for (Some w) (tasks.Write content parent) key l =
     if is_spent l.seq then (l, leaves)
     else proposed (record { version = next_version l; stamp = next_version l; key = key; value = content }) parent (Some w.id) key l
@@ -43,7 +43,7 @@ written_for call task key l = idle l
 abbrev pub row_31 : List ℕ → Leader → Leader × LeadOut
 row_31 key l = written_for (running key l.table.calls) l.task key (with_task tasks.Nothing l)
 
-abbrev pub rewritten : Task → List ℕ → Leader → Leader × LeadOut
+abbrev pub rewritten : Pending → List ℕ → Leader → Leader × LeadOut
 rewritten (tasks.Rewrite o) key l =
     if is_spent l.seq then (l, leaves)
     else proposed (record { version = next_version l; stamp = o.stamp; key = key; value = o.value }) (Some o.version) None key l
@@ -79,7 +79,7 @@ put_seen (seens.Damaged at) o parent call key l = (l, comes Untrust)
 put_seen (seens.Stored digest) o parent call key l = put_stored o digest (is_none call) key l
 put_seen seen o parent call key l = idle l
 
-abbrev pub put_for : Task → Seen → List ℕ → Leader → Leader × LeadOut
+abbrev pub put_for : Pending → Seen → List ℕ → Leader → Leader × LeadOut
 put_for (tasks.Propose o parent call) seen key l = put_seen seen o parent call key l
 put_for task seen key l = idle l
 

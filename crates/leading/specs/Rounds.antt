@@ -33,8 +33,8 @@ use Rattle.leader_words.specs.declared.out.LeadOut.{LeadOut}
 use Rattle.leader_words.specs.declared.out.Own.TheVariants.{Look}
 use Rattle.leading.specs.Leaders.{idle, with_task, knows, stands, settled_as, answered, read_answered, decided, concluded, is_spent}
 use Rattle.leading.specs.declared.leader.Leader.{Leader}
-use Rattle.leading.specs.declared.task.Task.{Task}
-use Rattle.leading.specs.declared.task.Task.TheVariants as tasks
+use Rattle.leading.specs.declared.pending.Pending.{Pending}
+use Rattle.leading.specs.declared.pending.Pending.TheVariants as tasks
 
 -- whether a reply with this ballot and round is of the leader's epoch and answers the question of round `asked`
 abbrev pub counts : Epoch → ℕ → ℕ → Leader → Bool
@@ -114,7 +114,7 @@ abbrev pub check_now : Reply → Waiting → List ℕ → Leader → Leader × L
 check_now reply w key l =
     let votes = begun l.fact.views l.me in begins_check (state_of votes) votes reply w key (tells_all l.me l.fact.views (Check l.fact.epoch l.round) rests) l
 
-abbrev pub checked_for : Option Waiting → Task → List ℕ → Leader → Leader × LeadOut
+abbrev pub checked_for : Option Waiting → Pending → List ℕ → Leader → Leader × LeadOut
 checked_for (Some w) (tasks.Check reply) key l = if is_spent l.round then (l, leaves) else check_now reply w key (record l { round = l.round + 1 })
 checked_for call task key l = idle l
 
@@ -144,7 +144,7 @@ abbrev pub register_at : Option Object → Register
 register_at None = registers.Absent
 register_at (Some o) = register_of o
 
-abbrev pub applied_for : Option Waiting → Task → List ℕ → Leader → Leader × LeadOut
+abbrev pub applied_for : Option Waiting → Pending → List ℕ → Leader → Leader × LeadOut
 applied_for (Some w) (tasks.Apply current) key l = concluded (verdict_of (outcome w.command (register_at current))) w key l
 applied_for call task key l = idle l
 

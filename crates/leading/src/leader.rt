@@ -1,6 +1,6 @@
-ghost use Rattle.std.specs.Prelude.{◌≡◌, ◌++◌, ◌∷◌, [], OnOk, IfOk, map, false};
+ghost use Rattle.std.specs.Prelude.{◌≡◌, ◌++◌, ◌∷◌, [], IsOk, OnOk, IfOk, map, false};
 ghost use Rattle.ens_base.specs.View.{IsPeer};
-ghost use Rattle.leading.specs.declared.task.Task.TheVariants as tasks;
+ghost use Rattle.leading.specs.declared.pending.Pending.TheVariants as tasks;
 ghost use Rattle.leading.specs.Leaders.{new_leader, with_task, joined, knows, stands, base, settled_as, answered, read_answered, decided, concluded, is_spent, next_version};
 ghost use Rattle.leading.specs.Ticks.{left_answer};
 ghost use Rattle.call_table.specs.Calls.{has_calls, running};
@@ -8,7 +8,7 @@ ghost use Rattle.call_table.specs.Rows.{row_at};
 ghost use Rattle.leader_words.specs.Sends.{tells_all};
 ghost use Rattle.phase_rows.specs.Peers.{joined as with_peer};
 
-use crate::task::Task;
+use crate::pending::Pending;
 use call_table::{CallTable, Known, Stage, Waiting};
 use ens_base::{Digest, Key, PeerId, PeerSet, Reply, Version};
 use ens_object::Object;
@@ -33,7 +33,7 @@ pub struct Leader {
     /// The number of the last round.
     pub(crate) round: u64,
     pub(crate) table: CallTable,
-    pub(crate) task: Task,
+    pub(crate) task: Pending,
 }
 
 /// Returns what is known of a key once this object is settled.
@@ -68,7 +68,7 @@ impl Leader {
             seq: 0,
             round: 0,
             table: CallTable::new(alloc),
-            task: Task::Nothing,
+            task: Pending::Nothing,
         }
     }
 
@@ -102,10 +102,14 @@ impl Leader {
     }
 
     /// Steps down: answers every unanswered call `timeout`, in order of arrival. Fails only when out
-    /// of memory.
+    /// of memory, and never if no call is unanswered.
     pub fn leave(self, alloc: Global) -> Result<Vec<AnswerOut>, LeadError>
-        ensures { IfOk result (λ v. v.items ≡ map left_answer self.table.calls) }
+        ensures answers { IfOk result (λ v. v.items ≡ map left_answer self.table.calls) }
+        ensures none { has_calls self.table.calls ≡ false → IsOk result }
     {
+        if !self.table.unanswered() {
+            return Ok(Vec::new(alloc));
+        }
         let Leader {
             fact: _,
             me: _,
@@ -119,17 +123,17 @@ impl Leader {
         left_answers(alloc, &calls)
     }
 
-    pub(crate) fn set_task(&mut self, task: Task)
+    pub(crate) fn set_task(&mut self, task: Pending)
         ensures { self.new ≡ with_task task self.old }
     {
         self.task = task;
     }
 
-    pub(crate) fn take_task(&mut self) -> Task
+    pub(crate) fn take_task(&mut self) -> Pending
         ensures leader { self.new ≡ with_task tasks.Nothing self.old }
         ensures task { result ≡ self.old.task }
     {
-        replace(&mut self.task, Task::Nothing)
+        replace(&mut self.task, Pending::Nothing)
     }
 
     pub(crate) fn running(&self, alloc: Global, key: &Key) -> Result<Option<Waiting>, LeadError>
@@ -227,11 +231,11 @@ impl Leader {
     {
         match verdict {
             Verdict::Write(content) => {
-                self.set_task(Task::Write { content, parent });
+                self.set_task(Pending::Write { content, parent });
                 LeadOut::leads_on(alloc, 31, key)
             }
             Verdict::Answer(reply) => {
-                self.set_task(Task::Check(reply));
+                self.set_task(Pending::Check(reply));
                 LeadOut::leads_on(alloc, 33, key)
             }
         }
@@ -251,7 +255,7 @@ impl Leader {
         match verdict {
             Verdict::Write(content) => {
                 let parent = self.base(key);
-                self.set_task(Task::Write { content, parent });
+                self.set_task(Pending::Write { content, parent });
                 LeadOut::leads_on(alloc, 31, key)
             }
             Verdict::Answer(reply) => {

@@ -5,7 +5,7 @@ ghost use Rattle.wire_frames.specs.declared.phase.Seen.TheVariants as seens;
 ghost use Rattle.leading.specs.Puts.{proposed, written_for, row_31, rewritten, row_32, write_settled, settled_for, acknowledged, put_stored, put_seen, put_for, row_35, acknowledged_by, row_35_reply};
 
 use crate::leader::{Leader, is_last, settled_known};
-use crate::task::Task;
+use crate::pending::Pending;
 use call_table::{Stage, Waiting};
 use ens_base::{Digest, Epoch, Key, PeerId, Reply, Version};
 use ens_object::Object;
@@ -29,7 +29,7 @@ impl Leader {
         ensures { IfOk result (λ o. (self.new, o) ≡ proposed object parent call key.now self.old) }
     {
         self.seq = object.version.seq;
-        self.set_task(Task::Propose {
+        self.set_task(Pending::Propose {
             object,
             parent,
             call,
@@ -41,13 +41,13 @@ impl Leader {
         &mut self,
         alloc: Global,
         call: &Waiting,
-        task: Task,
+        task: Pending,
         key: &Key,
     ) -> Result<LeadOut, LeadError>
         ensures { IfOk result (λ o. (self.new, o) ≡ written_for (Some call.now) task key.now self.old) }
     {
         match task {
-            Task::Write { content, parent } => {
+            Pending::Write { content, parent } => {
                 if is_last(self.seq) {
                     return Ok(LeadOut::leaves(alloc));
                 }
@@ -77,11 +77,11 @@ impl Leader {
         }
     }
 
-    fn rewrite(&mut self, alloc: Global, task: Task, key: &Key) -> Result<LeadOut, LeadError>
+    fn rewrite(&mut self, alloc: Global, task: Pending, key: &Key) -> Result<LeadOut, LeadError>
         ensures { IfOk result (λ o. (self.new, o) ≡ rewritten task key.now self.old) }
     {
         match task {
-            Task::Rewrite(old) => {
+            Pending::Rewrite(old) => {
                 if is_last(self.seq) {
                     return Ok(LeadOut::leaves(alloc));
                 }
@@ -126,7 +126,7 @@ impl Leader {
             let mut out = out;
             out.then(34, key.copy(alloc)?)?;
             self.stand(alloc, key, Stage::Idle)?;
-            self.set_task(Task::Apply(Some(object)));
+            self.set_task(Pending::Apply(Some(object)));
             return Ok(out);
         }
         match self.running(alloc, key)? {
@@ -208,7 +208,7 @@ impl Leader {
             call,
         })?;
         out.ask(Own::Put(object.copy(alloc)?));
-        self.set_task(Task::Propose {
+        self.set_task(Pending::Propose {
             object,
             parent,
             call,
@@ -238,14 +238,14 @@ impl Leader {
     fn put_for(
         &mut self,
         alloc: Global,
-        task: Task,
+        task: Pending,
         seen: &Seen,
         key: &Key,
     ) -> Result<LeadOut, LeadError>
         ensures { IfOk result (λ o. (self.new, o) ≡ put_for task seen.now key.now self.old) }
     {
         match task {
-            Task::Propose {
+            Pending::Propose {
                 object,
                 parent,
                 call,

@@ -11,7 +11,7 @@ ghost use Rattle.register_model.specs.Registers.{outcome};
 ghost use Rattle.leading.specs.Rounds.{counts, asked, asked_for, row_29, heard, row_29_reply, without_object, on_found, on_greatest, on_best, by_state, gathered, gathered_for, row_30, begins_check, check_now, checked_for, row_33, goes_on_checking, stood, stood_at, row_33_reply, register_at, applied_for, row_34};
 
 use crate::leader::{Leader, is_last, settled_known};
-use crate::task::Task;
+use crate::pending::Pending;
 use call_table::{Found, Known, Stage, Waiting, better};
 use ens_base::{Command, Entry, Epoch, Key, PeerId, Reply};
 use ens_object::Object;
@@ -202,10 +202,10 @@ impl Leader {
                 if entry.version.epoch == self.fact.epoch {
                     let known = settled_known(entry.version, &object, entry.digest);
                     self.know(alloc, key, known)?;
-                    self.set_task(Task::Apply(Some(object)));
+                    self.set_task(Pending::Apply(Some(object)));
                     LeadOut::leads_on(alloc, 34, key)
                 } else {
-                    self.set_task(Task::Rewrite(object));
+                    self.set_task(Pending::Rewrite(object));
                     LeadOut::leads_on(alloc, 32, key)
                 }
             }
@@ -245,7 +245,7 @@ impl Leader {
         match best {
             None => {
                 self.know(alloc, key, Known::Absent)?;
-                self.set_task(Task::Apply(None));
+                self.set_task(Pending::Apply(None));
                 LeadOut::leads_on(alloc, 34, key)
             }
             Some(found) => {
@@ -351,13 +351,13 @@ impl Leader {
         &mut self,
         alloc: Global,
         call: &Waiting,
-        task: Task,
+        task: Pending,
         key: &Key,
     ) -> Result<LeadOut, LeadError>
         ensures { IfOk result (λ o. (self.new, o) ≡ checked_for (Some call.now) task key.now self.old) }
     {
         match task {
-            Task::Check(reply) => {
+            Pending::Check(reply) => {
                 if is_last(self.round) {
                     return Ok(LeadOut::leaves(alloc));
                 }
@@ -487,13 +487,13 @@ impl Leader {
         &mut self,
         alloc: Global,
         call: &Waiting,
-        task: Task,
+        task: Pending,
         key: &Key,
     ) -> Result<LeadOut, LeadError>
         ensures { IfOk result (λ o. (self.new, o) ≡ applied_for (Some call.now) task key.now self.old) }
     {
         match task {
-            Task::Apply(current) => {
+            Pending::Apply(current) => {
                 let verdict = verdict_at(alloc, &call.command, &current)?;
                 self.conclude(alloc, verdict, call, key)
             }

@@ -3,7 +3,7 @@ use ens_object::Object;
 
 /// What a rule leaves for the rule that runs next on the same key. Between steps it is `Nothing`.
 #[derive(Debug, Drop)]
-pub enum Task {
+pub enum Pending {
     Nothing,
     /// Rule 31 writes this value, or a tombstone for `None`, upon the parent.
     Write {
