@@ -1,4 +1,4 @@
-ghost use Rattle.std.specs.Prelude.{◌≡◌, ◌++◌, ◌∷◌, [], OnOk, IfOk, map, false};
+ghost use Rattle.std.specs.Prelude.{◌≡◌, ◌++◌, ◌∷◌, [], OnOk, IfOk, IsOk, map, false};
 ghost use Rattle.ens_base.specs.View.{IsPeer};
 ghost use Rattle.leading.specs.declared.task.Task.TheVariants as tasks;
 ghost use Rattle.leading.specs.Leaders.{new_leader, with_task, joined, knows, stands, base, settled_as, answered, read_answered, decided, concluded, is_spent, next_version};
@@ -102,10 +102,14 @@ impl Leader {
     }
 
     /// Steps down: answers every unanswered call `timeout`, in order of arrival. Fails only when out
-    /// of memory.
+    /// of memory, and without calls never.
     pub fn leave(self, alloc: Global) -> Result<Vec<AnswerOut>, LeadError>
-        ensures { IfOk result (λ v. v.items ≡ map left_answer self.table.calls) }
+        ensures answers { IfOk result (λ v. v.items ≡ map left_answer self.table.calls) }
+        ensures none { has_calls self.table.calls ≡ false → IsOk result }
     {
+        if !self.unanswered() {
+            return Ok(Vec::new(alloc));
+        }
         let Leader {
             fact: _,
             me: _,
