@@ -1,0 +1,96 @@
+ghost use Rattle.std.specs.Prelude.{◌≡◌, ◌≤◌, ◌<◌, ◌+◌, ◌||◌, ℕ, Bool, false, All, Option, List, if◌then◌else◌};
+ghost use Rattle.ens_base.specs.declared.command.Command.{Command as Words};
+ghost use Rattle.ens_base.specs.declared.entry.Entry.{Entry};
+ghost use Rattle.ens_base.specs.declared.epoch.Epoch.{Epoch};
+ghost use Rattle.ens_base.specs.declared.epoch.Version.{Version};
+ghost use Rattle.ens_object.specs.declared.object.Object.{Object};
+ghost use Rattle.peer_fact.specs.declared.fact.Fact.{Fact};
+ghost use Rattle.wire_frames.specs.declared.phase.Seen.{Seen};
+ghost use Rattle.wire_frames.specs.declared.phase.Seen.TheVariants as seens;
+ghost use Rattle.wire_frames.specs.declared.phase.Then.TheVariants.{Rule};
+ghost use Rattle.call_table.specs.Calls.{has_calls};
+ghost use Rattle.call_table.specs.Tables.{late_put};
+ghost use Rattle.leader_words.specs.Outs.{leaves, comes};
+ghost use Rattle.leading.specs.Leaders.{idle};
+ghost use Rattle.leading.specs.Measure.{turns_seen, turns_after, weight};
+ghost use Rattle.leading.specs.Puts.{row_35, row_35_reply};
+ghost use Rattle.leading.specs.Rounds.{row_29_reply, row_33_reply};
+ghost use Rattle.leading.specs.Rules.{lead_row};
+ghost use Rattle.leading.specs.Starts.{row_27};
+ghost use Rattle.leading.specs.Steps.{MayGo, NamesOn, AsksOn, Serves, KeepsOthers, Numbers, ProposesAt, IsReady, IsReadyFor, IsCalm, IsAtRest, IsTimely};
+ghost use Rattle.leading.specs.Ticks.{Finishing, is_late, aged, row_5_calls, row_5_rest};
+ghost use Rattle.leading.specs.declared.leader.Leader.{Leader};
+
+/// The messages of a leader go to other peers, and obey the grammar of frames.
+pub fn messages_may_go()
+    ensures key { (n : ℕ) (key : List ℕ) (seen : Seen) (l : Leader) → All (MayGo l.me) (lead_row n key seen l).1.sends }
+    ensures got { (from : ℕ) (ballot : Epoch) (round : ℕ) (key : List ℕ) (entry : Option Entry) (object : Option Object) (l : Leader) → All (MayGo l.me) (row_29_reply from ballot round key entry object l).1.sends }
+    ensures checked { (from : ℕ) (ballot : Epoch) (round : ℕ) (l : Leader) → All (MayGo l.me) (row_33_reply from ballot round l).1.sends }
+    ensures put { (from : ℕ) (ballot : Epoch) (key : List ℕ) (version : Version) (l : Leader) → All (MayGo l.me) (row_35_reply from ballot key version l).1.sends }
+    ensures tick { (finishing : Finishing) (fact : Fact) (l : Leader) → All (MayGo l.me) (row_5_rest finishing fact l).sends }
+{}
+
+/// A rule on a key goes on to a rule on the same key. Only rules 28, 29 and 35 ask the stores.
+pub fn rules_stay_on_their_key()
+    ensures names { (n : ℕ) (key : List ℕ) (seen : Seen) (l : Leader) → NamesOn key (lead_row n key seen l).1.then (lead_row n key seen l).1.keys }
+    ensures asks { (n : ℕ) (key : List ℕ) (seen : Seen) (l : Leader) → AsksOn n key (lead_row n key seen l).1.own }
+    ensures got { (from : ℕ) (ballot : Epoch) (round : ℕ) (key : List ℕ) (entry : Option Entry) (object : Option Object) (l : Leader) → NamesOn key (row_29_reply from ballot round key entry object l).1.then (row_29_reply from ballot round key entry object l).1.keys }
+    ensures put { (from : ℕ) (ballot : Epoch) (key : List ℕ) (version : Version) (l : Leader) → NamesOn key (row_35_reply from ballot key version l).1.then (row_35_reply from ballot key version l).1.keys }
+{}
+
+/// A step of a leader ends: each rule lowers the number of rules that can still run. For each
+/// unanswered call at most 13 more run. A joined call adds at most 25, a reply at most 8, and a tick
+/// none.
+pub fn steps_end()
+    ensures key { (n : ℕ) (key : List ℕ) (seen : Seen) (l : Leader) → turns_after n (lead_row n key seen l).1 + weight (lead_row n key seen l).0 < turns_seen n seen + weight l }
+    ensures joined { (from id : ℕ) (key : List ℕ) (command : Words) (finishing : Bool) (l : Leader) → turns_after 27 (row_27 from id key command finishing l).1 + weight (row_27 from id key command finishing l).0 ≤ 25 + weight l }
+    ensures got { (from : ℕ) (ballot : Epoch) (round : ℕ) (key : List ℕ) (entry : Option Entry) (object : Option Object) (l : Leader) → turns_after 29 (row_29_reply from ballot round key entry object l).1 + weight (row_29_reply from ballot round key entry object l).0 < 9 + weight l }
+    ensures checked { (from : ℕ) (ballot : Epoch) (round : ℕ) (l : Leader) → turns_after 33 (row_33_reply from ballot round l).1 + weight (row_33_reply from ballot round l).0 < 1 + weight l }
+    ensures put { (from : ℕ) (ballot : Epoch) (key : List ℕ) (version : Version) (l : Leader) → turns_after 35 (row_35_reply from ballot key version l).1 + weight (row_35_reply from ballot key version l).0 < 5 + weight l }
+    ensures tick { (finishing : Finishing) (l : Leader) → turns_after 5 (row_5_calls finishing l).1 + weight (row_5_calls finishing l).0 ≤ weight l }
+{}
+
+/// A leader without calls that is at rest does nothing, except for the messages of a tick.
+pub fn without_calls_nothing_happens()
+    ensures key { (n : ℕ) (key : List ℕ) (seen : Seen) (l : Leader) → has_calls l.table.calls ≡ false → IsAtRest l → lead_row n key seen l ≡ idle l }
+    ensures got { (from : ℕ) (ballot : Epoch) (round : ℕ) (key : List ℕ) (entry : Option Entry) (object : Option Object) (l : Leader) → has_calls l.table.calls ≡ false → IsAtRest l → row_29_reply from ballot round key entry object l ≡ idle l }
+    ensures checked { (from : ℕ) (ballot : Epoch) (round : ℕ) (l : Leader) → has_calls l.table.calls ≡ false → IsAtRest l → row_33_reply from ballot round l ≡ idle l }
+    ensures put { (from : ℕ) (ballot : Epoch) (key : List ℕ) (version : Version) (l : Leader) → has_calls l.table.calls ≡ false → IsAtRest l → row_35_reply from ballot key version l ≡ idle l }
+    ensures tick { (finishing : Finishing) (l : Leader) → has_calls l.table.calls ≡ false → row_5_calls finishing l ≡ (l, if is_late finishing then leaves else comes (Rule 36)) }
+{}
+
+/// A rule on a key answers at most one call: the running call of the key, which is then gone. No
+/// other call goes. The answer is `lost`, or it follows a noted read, or it is `ok` and the version
+/// is settled.
+pub fn answered_calls_were_waiting()
+    ensures key { (n : ℕ) (key : List ℕ) (seen : Seen) (l : Leader) → Serves key l.table (lead_row n key seen l).0.table (lead_row n key seen l).1.answers (lead_row n key seen l).1.notes }
+    ensures got { (from : ℕ) (ballot : Epoch) (round : ℕ) (key : List ℕ) (entry : Option Entry) (object : Option Object) (l : Leader) → Serves key l.table (row_29_reply from ballot round key entry object l).0.table (row_29_reply from ballot round key entry object l).1.answers (row_29_reply from ballot round key entry object l).1.notes }
+    ensures checked { (from : ℕ) (ballot : Epoch) (round : ℕ) (l : Leader) → (key : List ℕ) × Serves key l.table (row_33_reply from ballot round l).0.table (row_33_reply from ballot round l).1.answers (row_33_reply from ballot round l).1.notes }
+    ensures put { (from : ℕ) (ballot : Epoch) (key : List ℕ) (version : Version) (l : Leader) → Serves key l.table (row_35_reply from ballot key version l).0.table (row_35_reply from ballot key version l).1.answers (row_35_reply from ballot key version l).1.notes }
+    // Of a tick, exactly the calls that have waited for 8 ticks are answered.
+    ensures tick { (finishing : Finishing) (l : Leader) → IsTimely (late_put (aged l.table) || is_late finishing) l (row_5_calls finishing l) }
+{}
+
+/// The versions that a leader proposes ascend: the number of the last write rises by 1 with each
+/// object that is to be put, and rule 35 proposes the version of that number.
+pub fn proposed_versions_ascend()
+    ensures numbers { (n : ℕ) (key : List ℕ) (seen : Seen) (l : Leader) → Numbers l (lead_row n key seen l).0 }
+    ensures proposed { (key : List ℕ) (l : Leader) → IsReady 35 key l → ProposesAt l (row_35 key seens.Nothing l).1.notes }
+{}
+
+/// A rule on a key leaves what is known and asked of every other key.
+pub fn keys_are_apart()
+    ensures key { (n : ℕ) (key : List ℕ) (seen : Seen) (l : Leader) → KeepsOthers key l.table (lead_row n key seen l).0.table }
+    ensures joined { (from id : ℕ) (key : List ℕ) (command : Words) (finishing : Bool) (l : Leader) → KeepsOthers key l.table (row_27 from id key command finishing l).0.table }
+    ensures got { (from : ℕ) (ballot : Epoch) (round : ℕ) (key : List ℕ) (entry : Option Entry) (object : Option Object) (l : Leader) → KeepsOthers key l.table (row_29_reply from ballot round key entry object l).0.table }
+    ensures put { (from : ℕ) (ballot : Epoch) (key : List ℕ) (version : Version) (l : Leader) → KeepsOthers key l.table (row_35_reply from ballot key version l).0.table }
+{}
+
+/// Each rule finds the task that it takes, if the rules run in the order in which they are named:
+/// after a rule, the leader is ready for what comes next. A key without a call stays idle.
+pub fn rules_find_their_tasks()
+    ensures key { (n : ℕ) (key : List ℕ) (seen : Seen) (l : Leader) → IsReady n key l → IsReadyFor n key (lead_row n key seen l).1.own (lead_row n key seen l).1.then (lead_row n key seen l).0 }
+    ensures calm { (n : ℕ) (key : List ℕ) (seen : Seen) (l : Leader) → IsReady n key l → IsCalm l.table → IsCalm (lead_row n key seen l).0.table }
+    ensures got { (from : ℕ) (ballot : Epoch) (round : ℕ) (key : List ℕ) (entry : Option Entry) (object : Option Object) (l : Leader) → IsAtRest l → IsReadyFor 29 key (row_29_reply from ballot round key entry object l).1.own (row_29_reply from ballot round key entry object l).1.then (row_29_reply from ballot round key entry object l).0 }
+    ensures put { (from : ℕ) (ballot : Epoch) (key : List ℕ) (version : Version) (l : Leader) → IsAtRest l → IsReadyFor 35 key (row_35_reply from ballot key version l).1.own (row_35_reply from ballot key version l).1.then (row_35_reply from ballot key version l).0 }
+{}
