@@ -30,7 +30,13 @@ abbrev pub Freshens : {N : Type 0} → (Result (List ℕ) TreeError → N → Ty
 Freshens did (Ok tree) = IsSomeAnd tree.top (λ digest. did (Ok digest) tree.store)
 Freshens did (Err refused) = did (Err refused.error) refused.held
 
--- the tree after an insert: its root has the digest that the plan returned, or after an error the
+-- the tree after it was opened again: its root has the digest that was in the top record, if there
+-- was one, or after an error the tree has its old root
+abbrev pub Reopens : (Result (Option (List ℕ)) TreeError → Type 0) → Option (List ℕ) → Result (Unit {0}) TreeError → Option (List ℕ) → Type 0
+Reopens did old (Ok x) new = did (Ok new)
+Reopens did old (Err e) new = did (Err e) × (new ≡ old)
+
+-- the tree after a change: its root has the digest that the plan returned, or after an error the
 -- tree has its old root
 abbrev pub Enters : (Result (List ℕ) TreeError → Type 0) → Option (List ℕ) → Result (Unit {0}) TreeError → Option (List ℕ) → Type 0
 Enters did old (Ok x) new = IsSomeAnd new (λ digest. did (Ok digest))

@@ -1,10 +1,15 @@
 -- The calls of a tree, as plans. A key is hashed before its path is walked.
 use Rattle.std.specs.Prelude.{ℕ, List, [], Option, Some}
 use Rattle.ens_base.specs.declared.entry.Entry.{Entry}
+use Rattle.ens_outside.specs.Stores.{Top}
 use Rattle.tree_maps.specs.Forms.{Form, root}
 use Rattle.tree_maps.specs.Maps.{text}
-use Rattle.synctree.specs.Plans.{Hash, Plan, Ask, ◌>>=◌}
+use Rattle.synctree.specs.Plans.{Node, Hash, Plan, Done, Ask, ◌>>=◌}
 use Rattle.synctree.specs.Walks.{find, enter, store, set_top, from_top}
+
+-- reads the top record
+abbrev pub open_plan : Plan (Option (List ℕ))
+open_plan = Ask (Node Top) Done
 
 -- returns the entry of a key
 abbrev pub get_plan : Form → Option (List ℕ) → List ℕ → Plan (Option Entry)

@@ -9,7 +9,7 @@ ghost use Rattle.synctree.specs.Installs.{store_does, store_refuses, install_pla
 ghost use Rattle.synctree.specs.Outsides.{outside_does, outside_refuses};
 ghost use Rattle.synctree.specs.Plans.{Did};
 ghost use Rattle.synctree.specs.Trees.{get_plan, insert_plan, fresh_plan};
-ghost use Rattle.synctree.specs.Meanings.{Finds, Opens, Freshens, Enters, Inserts};
+ghost use Rattle.synctree.specs.Meanings.{Finds, Opens, Freshens, Reopens, Enters, Inserts};
 ghost use Rattle.synctree.specs.Nodes.{node_plan, Reads};
 ghost use Rattle.tree_node.specs.Positions.{IsPosition};
 
@@ -85,6 +85,37 @@ impl<N: NodeStore> Tree<N> {
             }),
             Err(error) => Err(Refused { error, held: store }),
         }
+    }
+
+    /// Makes a tree over the store without reading the top record. Until `reopen` or `empty`
+    /// succeeds, the tree has no top record, so its root is damaged.
+    pub fn unopened(store: N) -> Tree<N>
+        ensures { (result.top ≡ None) × (result.store ≡ store) }
+    {
+        Tree { store, top: None }
+    }
+
+    /// Reads the top record, and takes its digest as the root of the tree. Without a top record,
+    /// the root is damaged. Fails if the store does, or when out of memory; then the tree still has
+    /// its old root.
+    pub fn reopen(&mut self) -> Result<(), TreeError>
+        ensures { Reopens (λ r. NodesDid N.may_answer N.may_refuse N.top_record N.fault_count Top self.old.store r self.new.store) self.old.top result self.new.top }
+    {
+        self.top = calls::top(&mut self.store)?;
+        Ok(())
+    }
+
+    /// Writes the empty map, and makes it the map of the tree. Fails if the store or the hasher
+    /// does, or when out of memory; then the tree still has its old root. If the store failed while
+    /// it wrote the top record, the stored record is the old one or the new one.
+    pub fn empty<H: Hasher16>(&mut self, alloc: Global, hasher: &mut H) -> Result<(), TreeError>
+        ensures did { Enters (λ r. Did (outside_does N.may_answer N.top_record N.fault_count H.kept H.clashes H.fulls) (outside_refuses N.may_refuse N.top_record N.fault_count H.kept H.clashes H.fulls)
+            (fresh_plan sixteen) (self.old.store, hasher.old) r (self.new.store, hasher.new)) self.old.top result self.new.top }
+        ensures map { OnOk result ((digest : List ℕ) → self.new.top ≡ Some digest → Stands sixteen digest []) }
+    {
+        let root = store_empty(alloc, &mut self.store, hasher)?;
+        self.top = Some(root);
+        Ok(())
     }
 
     /// Returns the digest in the top record, if there is one.

@@ -92,6 +92,23 @@ fn a_store_without_a_top_record_is_damaged(rt: HostRuntime) -> Result<(), Fail> 
 }
 
 #[test]
+fn an_unopened_tree_is_emptied_and_opened_again(rt: HostRuntime) -> Result<(), Fail> {
+    let alloc = rt.alloc();
+    let mut tree = Tree::unopened(MemNodes::new(alloc, Vec::new(alloc)));
+    tree.reopen()?;
+    assert_eq!(rt; tree.top(), None);
+    tree.empty(alloc, &mut PlainHasher)?;
+    tree.insert(alloc, &mut PlainHasher, &entry(alloc, b"abc", 1)?)?;
+    let (_mark, nodes) = tree.split();
+    let mut again = Tree::unopened(nodes);
+    again.reopen()?;
+    assert_eq!(rt; again.top(), Some(ABC));
+    again.empty(alloc, &mut PlainHasher)?;
+    assert_eq!(rt; again.top(), Some(EMPTY));
+    Ok(())
+}
+
+#[test]
 fn a_node_is_read_by_its_position(rt: HostRuntime) -> Result<(), Fail> {
     let alloc = rt.alloc();
     let mut tree = fresh(alloc)?;
