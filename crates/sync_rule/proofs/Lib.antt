@@ -1,0 +1,5 @@
+pub mod Contents
+pub mod Keeping
+pub mod Same
+pub mod Sources
+pub mod Telling

@@ -1,0 +1,4 @@
+pub mod Merges
+pub mod Ranks
+pub mod Sources
+pub mod Syncs
