@@ -111,13 +111,14 @@ impl Outbox {
         self.changes.truncate(mark.changes);
     }
 
-    /// Sends `message` to the peer `to`.
+    /// Sends `message` to the peer `to`. Sends nothing when out of memory.
     ///
     /// # Errors
     ///
     /// `Memory` when out of memory, and no other error.
     pub fn send(&mut self, to: PeerId, message: Message) -> Result<(), PeerError>
         ensures sends { OnOk result (self.new.sends.items ≡ self.old.sends.items ++ record { to = to; message = message } ∷ []) }
+        ensures kept { OnErr result (self.new.sends.items ≡ self.old.sends.items) }
         ensures rest { (self.new.answers ≡ self.old.answers) × (self.new.notes ≡ self.old.notes) × (self.new.changes ≡ self.old.changes) }
         ensures grows { Grows self.old self.new }
         ensures fits { 1 ≤ spare self.old → IsOk result }
@@ -179,13 +180,14 @@ impl Outbox {
         }
     }
 
-    /// Answers the call `id` of the client `from`.
+    /// Answers the call `id` of the client `from`. Answers nothing when out of memory.
     ///
     /// # Errors
     ///
     /// `Memory` when out of memory, and no other error.
     pub fn answer(&mut self, from: u32, id: u64, reply: Reply) -> Result<(), PeerError>
         ensures answers { OnOk result (self.new.answers.items ≡ self.old.answers.items ++ record { from = from; id = id; reply = reply } ∷ []) }
+        ensures kept { OnErr result (self.new.answers.items ≡ self.old.answers.items) }
         ensures rest { (self.new.sends ≡ self.old.sends) × (self.new.notes ≡ self.old.notes) × (self.new.changes ≡ self.old.changes) }
         ensures grows { Grows self.old self.new }
         ensures memory { IfErr result (λ e. e ≡ PeerError.Memory) }
@@ -196,13 +198,15 @@ impl Outbox {
         Ok(())
     }
 
-    /// Replies to a request to change the view: `true` if the request is taken.
+    /// Replies to a request to change the view: `true` if the request is taken. Replies nothing when
+    /// out of memory.
     ///
     /// # Errors
     ///
     /// `Memory` when out of memory, and no other error.
     pub fn tell_change(&mut self, taken: bool) -> Result<(), PeerError>
         ensures changes { OnOk result (self.new.changes.items ≡ self.old.changes.items ++ taken ∷ []) }
+        ensures kept { OnErr result (self.new.changes.items ≡ self.old.changes.items) }
         ensures rest { (self.new.sends ≡ self.old.sends) × (self.new.answers ≡ self.old.answers) × (self.new.notes ≡ self.old.notes) }
         ensures grows { Grows self.old self.new }
         ensures memory { IfErr result (λ e. e ≡ PeerError.Memory) }

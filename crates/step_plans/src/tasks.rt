@@ -1,4 +1,4 @@
-ghost use Rattle.std.specs.Prelude.{◌≡◌, ◌++◌, ◌∷◌, [], IsOk, OnOk, IfOk, IfErr, map, option_to_list, IfNone};
+ghost use Rattle.std.specs.Prelude.{◌≡◌, ◌++◌, ◌∷◌, [], IsOk, OnOk, OnErr, IfOk, IfErr, map, option_to_list, IfNone};
 ghost use Rattle.step_plans.specs.Tasks.{named, keyed};
 ghost use Rattle.step_plans.specs.declared.tasks.Task.TheVariants.{Key as OnKey, Again};
 
@@ -45,13 +45,14 @@ impl Tasks {
         }
     }
 
-    /// Puts `task` in front of all others.
+    /// Puts `task` in front of all others. Leaves the tasks as they were when out of memory.
     ///
     /// # Errors
     ///
     /// `Memory` when out of memory, and no other error.
     pub fn put_first(&mut self, task: Task) -> Result<(), PeerError>
         ensures ok { OnOk result (self.new ≡ task ∷ self.old) }
+        ensures kept { OnErr result (self.new ≡ self.old) }
         ensures memory { IfErr result (λ e. e ≡ PeerError.Memory) }
     {
         if self.stack.push(task).is_err() {
@@ -60,9 +61,15 @@ impl Tasks {
         Ok(())
     }
 
-    /// Puts the tasks of `more` in front of all others, in their order. Fails when out of memory.
+    /// Puts the tasks of `more` in front of all others, in their order. Leaves the tasks as they were
+    /// when out of memory.
+    ///
+    /// # Errors
+    ///
+    /// `AllocError` when out of memory.
     pub fn put_all(&mut self, more: Tasks) -> Result<(), AllocError>
         ensures ok { OnOk result (self.new ≡ more ++ self.old) }
+        ensures kept { OnErr result (self.new ≡ self.old) }
     {
         let mut more = more;
         self.stack.append(&mut more.stack)?;
