@@ -1,27 +1,26 @@
 -- Rule 16: a leader announces the first fact of its epoch.
-use Rattle.std.proofs.Common.{◌≡◌, ℕ, ◌<◌, ◌≤◌, Bool, true, false, if◌then◌else◌, Option, arith, refl, ap, ◌∙◌, sym, subst}
+use Rattle.std.proofs.Common.{◌≡◌, ℕ, ◌<◌, ◌≤◌, true, false, Option, arith, refl, ap, sym, subst}
 use Rattle.std.proofs.lemmas.Bool.Decides.{nat_tests}
 use Rattle.abstract_protocol.specs.Ledger.{Ledger, Place, raise, accept}
 use Rattle.abstract_protocol.specs.Numbers.{epoch_number}
-use Rattle.following.specs.Announcements.{takes, accepts, awaits_sync}
+use Rattle.following.specs.Announcements.{takes, accepts}
 use Rattle.peer_core.specs.Moves.{follower}
 use Rattle.peer_core.specs.Rows.{announced, awaiting}
 use Rattle.peer_core.specs.declared.state.State.{State}
 use Rattle.peer_fact.specs.declared.fact.Fact.{Fact}
 use Rattle.phase_rows.specs.Orders.{is_below, is_same, may_accept}
 use Rattle.phase_rows.specs.Peers.{alone}
-use Rattle.phase_rows.specs.Rows.{sends, leaves_leading}
+use Rattle.phase_rows.specs.Rows.{sends, saves, leaves_leading, at_ballot}
 use Rattle.version_laws.proofs.Maps.{put_here}
 use Rattle.wire_frames.specs.declared.message.Message.TheVariants as messages
 use Rattle.wire_frames.specs.declared.phase.PhaseOut.{PhaseOut}
 use Rattle.wire_frames.specs.declared.phase.Then.TheVariants as thens
-use Rattle.election_refinement.proofs.Elections.{may_accept_one}
 use Rattle.election_refinement.proofs.Keeps.{keeps_both, raise_keeps, accept_keeps, first_keeps}
 use Rattle.election_refinement.proofs.Numbers.{same_epochs, other_number, not_below_number}
 use Rattle.election_refinement.proofs.Quiet.{refuses}
 use Rattle.election_refinement.proofs.Reaching.{Course, reaches_safe, raise_reaches}
 use Rattle.election_refinement.proofs.Rows.{Fits, Goes, unmoved, enters}
-use Rattle.election_refinement.proofs.Saving.{mark_here, may_raise, accepted_fits}
+use Rattle.election_refinement.proofs.Saving.{mark_here, may_raise, raised_fits, accepted_fits}
 use Rattle.election_refinement.proofs.Tests.{by_test}
 use Rattle.election_refinement.specs.Refinement.{IsFirst}
 
@@ -63,11 +62,22 @@ module _ {c : Course} {l : Ledger} {x : State} {stored : Option Fact} (h : Fits 
       says = record { first = refl; accepted = mark_here l.accepted d p };
     }
 
+    -- a peer that does not trust its tree only promises the epoch, if its ballot is lower
+    promises_goes : Does (leaves_leading (saves (at_ballot x.fact new.epoch) (thens.SyncOn new)))
+    promises_goes = record {
+      ledger = raised;
+      keeps = raise_keeps l p d may;
+      fits = raised_fits h new.epoch told.known.epoch above follower tt;
+      says = tt;
+    }
+
     takes_goes : Does (leaves_leading (takes x.fact p x.trusted false from new))
-    takes_goes = subst (λ (b : Bool). Does (leaves_leading (if b then accepts from new else awaits_sync x.fact false new))) (sym accepts_now) accepts_goes
-      where
-        accepts_now : may_accept x.trusted p new ≡ true
-        accepts_now = may_accept_one c.view x.trusted p new h.peer.trusted (told.known.views ∙ h.reaches.orderly.one_view d told.known.elected)
+    takes_goes =
+        by_test (λ (row : PhaseOut). Does (leaves_leading row)) (may_accept x.trusted p new) _ _
+        (λ accepts_now. accepts_goes)
+        (λ waits. by_test (λ (row : PhaseOut). Does (leaves_leading row)) (is_below x.fact.ballot new.epoch) _ _
+        (λ below. promises_goes)
+        (λ at_own. unmoved (enters h follower tt) tt))
 
   pub rule_16 : Goes c l stored (x, announced p from new x)
   rule_16 =

@@ -22,7 +22,7 @@ use Rattle.election_refinement.specs.Worlds.{Refines, ledger_after, IsRefinement
 -- the fact that a peer's stores keep is the one that it saved
 saved_of : (l : Ledger) (p : ℕ) (node : Node) (f : Fact) → NodeHolds l p node → kept_by node ≡ Some f → IsSaved l p f
 saved_of l p (Up x st) f holds kept = let same : x.fact ≡ f = same_Some x.fact f (sym holds.kept ∙ kept) in subst (IsSaved l p) same holds.saved
-saved_of l p (Down st) f holds kept = absurd holds
+saved_of l p (Down st) f holds kept = let same : holds.fact ≡ f = same_Some holds.fact f (sym holds.kept ∙ kept) in subst (IsSaved l p) same holds.saved
 
 saved_in : (view : List ℕ) (l : Ledger) (w : Run) → Refines view l w → (place : ℕ) (f : Fact) → HasFact w place f → IsSaved l (suc place) f
 saved_in view l w refines place f has = saved_of l (suc place) has.node f (refines.nodes place has.node has.at) has.kept

@@ -1,5 +1,5 @@
 -- Rules 12 and 13: promises are counted, and an epoch starts.
-use Rattle.std.proofs.Common.{◌≡◌, ℕ, ◌<◌, ◌≤◌, Bool, true, false, ◌==◌, List, [], ◌∷◌, inl, inr, Option, arith, refl, ap, le_trans, ◌∙◌, sym, subst}
+use Rattle.std.proofs.Common.{◌≡◌, ℕ, ◌<◌, ◌≤◌, Bool, true, false, ◌==◌, List, inl, inr, Option, arith, refl, ap, le_trans, ◌∙◌, sym, subst}
 use Rattle.std.proofs.lemmas.Bool.Decides.{nat_tests}
 use Rattle.joint_views.specs.Quorums.{is_quorum, is_member}
 use Rattle.abstract_protocol.specs.Ledger.{Ledger, Place, elect, accept, next_views, IsFact, MayElect}
@@ -19,18 +19,18 @@ use Rattle.peer_core.specs.declared.state.State.{State}
 use Rattle.peer_fact.specs.Facts.{changed_views, views_after}
 use Rattle.peer_fact.specs.declared.fact.Fact.{Fact}
 use Rattle.phase_rows.specs.Orders.{is_same, is_newer, may_accept}
-use Rattle.phase_rows.specs.Peers.{alone, joined, members, others_of, with_members}
-use Rattle.phase_rows.specs.Rows.{saves_and_sends}
+use Rattle.phase_rows.specs.Peers.{alone, nobody, joined, members, others_of, with_members}
+use Rattle.phase_rows.specs.Rows.{sends, saves_and_sends}
 use Rattle.version_laws.proofs.Maps.{put_here}
 use Rattle.wire_frames.specs.declared.message.Message.TheVariants as messages
 use Rattle.wire_frames.specs.declared.phase.PhaseOut.{PhaseOut}
 use Rattle.wire_frames.specs.declared.phase.Then.TheVariants as thens
-use Rattle.election_refinement.proofs.Keeps.{keeps_both, elect_keeps, accept_keeps, first_keeps}
+use Rattle.election_refinement.proofs.Keeps.{Keeps, keeps_both, elect_keeps, accept_keeps, known_keeps, first_keeps}
 use Rattle.election_refinement.proofs.Numbers.{proposer_of-number, same_epochs, newer_number, not_newer_number}
 use Rattle.election_refinement.proofs.Reaching.{Course, Reaches, elect_reaches}
 use Rattle.election_refinement.proofs.Rows.{Fits, Goes, unmoved, enters, quiet, follows, rests_in, names}
 use Rattle.election_refinement.proofs.Saving.{mark_here, accepted_fits}
-use Rattle.election_refinement.proofs.Sets.{alone_then, joined_then}
+use Rattle.election_refinement.proofs.Sets.{nobody_then, alone_then, joined_then}
 use Rattle.election_refinement.proofs.Tests.{by_test}
 use Rattle.election_refinement.specs.Refinement.{first_seq, fact_place, IsKnown, IsFirst, HasPromised, IsPreparing, IsStarting, PhaseHolds, IsPrepare, IsPromise}
 
@@ -59,14 +59,12 @@ not_second l f known = plain (epoch_number f.epoch) f.seq known.seq
 pub same_views : (l : Ledger) (f : Fact) → IsKnown l f → views_after f ≡ l.views (epoch_number f.epoch)
 same_views l f known = ap (λ c. changed_views c f.views) known.change ∙ known.views
 
--- a peer that trusts its tree may accept a fact with one view
-pub may_accept_one : (view : List ℕ) (trusted : Bool) (me : ℕ) (new : Fact) → trusted ≡ true → new.views ≡ view ∷ [] → may_accept trusted me new ≡ true
-may_accept_one view trusted me new trusts one = rw trusts (rw one refl)
-
-starts_at_once : (trusted : Bool) (me : ℕ) (new : Fact) → may_accept trusted me new ≡ true
-    → starts trusted me new ≡ (Starting new (alone me) 0, saves_and_sends new (others_of me (members new.views)) (messages.NewEpoch new) (thens.Rule 14))
+-- a peer that starts an epoch accepts it at once, or waits for a sync
+starts_either : (P : Election × PhaseOut → Type 0) (trusted : Bool) (me : ℕ) (new : Fact)
+    → P (Starting new (alone me) 0, saves_and_sends new (others_of me (members new.views)) (messages.NewEpoch new) (thens.Rule 14))
+    → P (Starting new nobody 0, sends (others_of me (members new.views)) (messages.NewEpoch new) (thens.SyncOn new)) → P (starts trusted me new)
 unfolding starts
-starts_at_once trusted me new may = rw may refl
+starts_either P trusted me new accepts waits = by_test P (may_accept trusted me new) _ _ (λ may. accepts) (λ may_not. waits)
 
 -- a promise is counted; the base is then no older than it was, and no older than the promised fact
 promised_more : (l : Ledger) (q d b now : ℕ) → b ≤ now → HasPromised l q d b → HasPromised l q d now
@@ -159,9 +157,6 @@ module _ {c : Course} {l : Ledger} {x : State} {stored : Option Fact} (h : Fits 
       accepted = alone_then (λ q. (accept chosen p d).accepted d q ≡ true) p (mark_here l.accepted d p);
     }
 
-    one_view : views_after base ≡ c.view ∷ []
-    one_view = same_views l base preparing.known ∙ h.reaches.orderly.one_view (epoch_number base.epoch) preparing.known.elected
-
     begun_goes : Goes c l stored (electing (Starting new (alone p) 0) x, saves_and_sends new (others_of p (members new.views)) (messages.NewEpoch new) (thens.Rule 14))
     begun_goes = record {
       ledger = accept chosen p d;
@@ -170,8 +165,27 @@ module _ {c : Course} {l : Ledger} {x : State} {stored : Option Fact} (h : Fits 
       says = starting.first;
     }
 
+    -- a peer that does not trust its tree is elected, and does not accept the epoch yet
+    elected_keeps : Keeps l chosen p
+    elected_keeps = elect_keeps l p d (fact_place base) proposes preparing.fresh
+
+    waits_goes : Goes c l stored (electing (Starting new nobody 0) x, sends (others_of p (members new.views)) (messages.NewEpoch new) (thens.SyncOn new))
+    waits_goes = record {
+      ledger = chosen;
+      keeps = elected_keeps;
+      fits = record {
+        reaches = chosen_reaches;
+        peer = record {
+          saved = record { known = known_keeps l chosen p elected_keeps x.fact h.peer.saved.known; ballot = h.peer.saved.ballot; place = h.peer.saved.place };
+          kept = h.peer.kept;
+          phase = record { own = preparing.own; first = is_first; at_ballot = refl; accepted = nobody_then (λ q. chosen.accepted d q ≡ true) };
+        };
+      };
+      says = is_first;
+    }
+
     starts_goes : Goes c l stored (electing (starts x.trusted p new).0 x, (starts x.trusted p new).1)
-    starts_goes = subst (λ (r : Election × PhaseOut). Goes c l stored (electing r.0 x, r.1)) (sym (starts_at_once x.trusted p new (may_accept_one c.view x.trusted p new h.peer.trusted one_view))) begun_goes
+    starts_goes = starts_either (λ (r : Election × PhaseOut). Goes c l stored (electing r.0 x, r.1)) x.trusted p new begun_goes waits_goes
 
   pub rule_13 : (phase : Phase) → PhaseHolds l p x.fact phase → Goes c l stored (while_13 phase p x)
   rule_13 (phases.Electing (Preparing base promises asked age)) old =

@@ -20,7 +20,7 @@ use Rattle.wire_frames.specs.declared.message.Message.{Message}
 use Rattle.wire_frames.specs.declared.message.Message.TheVariants as messages
 use Rattle.world_spec.specs.Nodes.{Node, Up, Down}
 use Rattle.election_refinement.proofs.Numbers.{proposer_of-number}
-use Rattle.election_refinement.specs.Refinement.{IsKnown, IsFirst, HasPromised, IsProbing, IsPreparing, IsStarting, IsLeading, PhaseHolds, NodeHolds, MessageHolds, SendHolds, FrameHolds}
+use Rattle.election_refinement.specs.Refinement.{IsKnown, IsFirst, HasPromised, IsProbing, IsPreparing, IsStarting, IsLeading, PhaseHolds, IsSaved, NodeHolds, MessageHolds, SendHolds, FrameHolds}
 
 -- the steps of peer p led from ledger l to ledger m
 pub record Keeps (l m : Ledger) (p : ℕ) : Type 0 where
@@ -159,11 +159,9 @@ module _ (l m : Ledger) (p : ℕ) (k : Keeps l m p) where
   phase_keeps q fact (phases.Electing (Starting new accepts age)) other epoch old = starting_keeps q fact new accepts old
   phase_keeps q fact (phases.Leading leadership) other epoch old = leading_keeps q fact leadership old
 
+  saved_keeps : (q : ℕ) (fact : Fact) → (p ≡ q → ⊥) → IsSaved l q fact → IsSaved m q fact
+  saved_keeps q fact other old = record { known = known_keeps fact old.known; ballot = k.ballot q other ∙ old.ballot; place = k.fact q other ∙ old.place }
+
   pub node_keeps : (q : ℕ) (node : Node) → (p ≡ q → ⊥) → NodeHolds l q node → NodeHolds m q node
-  node_keeps q (Up x stores) other old = record {
-    saved = record { known = known_keeps x.fact old.saved.known; ballot = k.ballot q other ∙ old.saved.ballot; place = k.fact q other ∙ old.saved.place };
-    kept = old.kept;
-    trusted = old.trusted;
-    phase = phase_keeps q x.fact x.phase other old.saved.known.ballot old.phase;
-  }
-  node_keeps q (Down stores) other old = old
+  node_keeps q (Up x stores) other old = record { saved = saved_keeps q x.fact other old.saved; kept = old.kept; phase = phase_keeps q x.fact x.phase other old.saved.known.ballot old.phase }
+  node_keeps q (Down stores) other old = record { fact = old.fact; kept = old.kept; saved = saved_keeps q old.fact other old.saved }

@@ -12,9 +12,15 @@ use Rattle.world_spec.specs.Lines.{applied, run_from, run_of_schedule}
 use Rattle.world_spec.specs.Nodes.{Node, opening_node}
 use Rattle.world_spec.specs.Runs.{Run, opening_run}
 use Rattle.election_refinement.proofs.Numbers.{number_zero}
-use Rattle.election_refinement.proofs.Worlds.{applied_refines}
+use Rattle.election_refinement.proofs.Worlds.{IsSpared, AreSpared, applied_refines}
 use Rattle.election_refinement.specs.Refinement.{IsKnown, IsSaved, NodeHolds, FrameHolds, IsOrderly}
 use Rattle.election_refinement.specs.Worlds.{IsRefinement, HasRun, GoesOn}
+
+-- each element of a list of equal ones
+replicated : {A : Type 0} (n place : ℕ) (x y : A) → slice_get (replicate n x) place ≡ Some y → x ≡ y
+replicated zero place x y at = absurd (cc)
+replicated (suc n) zero x y at = cc
+replicated (suc n) (suc place) x y at = replicated n place x y at
 
 module _ (view : List ℕ) where
   known_first : IsKnown (opening_ledger view) (opening_fact view)
@@ -33,12 +39,7 @@ module _ (view : List ℕ) where
   saved_first p = record { known = known_first; ballot = sym number_zero; place = rw number_zero refl }
 
   started : (p : ℕ) → NodeHolds (opening_ledger view) p (opening_node view)
-  started p = record { saved = saved_first p; kept = refl; trusted = refl; phase = tt }
-
-  all_started : (n place : ℕ) (node : Node) → slice_get (replicate n (opening_node view)) place ≡ Some node → (p : ℕ) → NodeHolds (opening_ledger view) p node
-  all_started zero place node at p = absurd (cc)
-  all_started (suc n) zero node at p = let same : opening_node view ≡ node = cc in subst (λ n. NodeHolds (opening_ledger view) p n) same (started p)
-  all_started (suc n) (suc place) node at p = all_started n place node at p
+  started p = record { saved = saved_first p; kept = refl; phase = tt }
 
   orderly_first : IsOrderly view (opening_ledger view)
   orderly_first = record { one_view = λ d h. refl; reached = λ d h. zero_only d h }
@@ -49,18 +50,38 @@ module _ (view : List ℕ) where
   opening_refines : (peers : ℕ) → IsView view → IsRefinement view [] (opening_run peers view)
   opening_refines peers is_view = record {
     run = is_view.size.0;
-    refines = record { orderly = orderly_first; nodes = λ place node at. all_started peers place node at (suc place); sent = All-nil (FrameHolds (opening_ledger view)) };
+    refines = record { orderly = orderly_first; nodes = λ place node at. subst (NodeHolds (opening_ledger view) (suc place)) (replicated peers place (opening_node view) node at) (started (suc place)); sent = All-nil (FrameHolds (opening_ledger view)) };
   }
 
   -- the world after an event refines an extension of the run
   pub event_refines : (steps : List Step) (peers : ℕ) (event : ScheduleEvent) (w : Run) → peers ≤ 31 → MayStand peers event → IsRefinement view steps w → GoesOn view steps (applied event w)
-  event_refines steps peers event w few may refinement = applied_refines view steps peers few event w may (record { more = []; refinement = refinement })
+  event_refines steps peers event w few may refinement =
+      (applied_refines view steps (λ place. ⊥) peers few event w may (record { on = record { more = []; refinement = refinement }; up = λ place node none at. absurd none })).on
 
-  from_refines : (peers : ℕ) → peers ≤ 31 → (events : List ScheduleEvent) (w : Run) → AllMayStand peers events → HasRun view w → HasRun view (run_from events w)
-  from_refines peers few [] w may h = h
-  from_refines peers few (event ∷ more) w may h =
-      let now = event_refines h.steps peers event w few may.0 h.refinement in
-      from_refines peers few more (applied event w) may.1 (record { steps = _; refinement = now.refinement })
+  -- the world refines a run, and the spared peers run
+  record Runs (spared : ℕ → Type 0) (w : Run) : Type 0 where
+    has : HasRun view w
+    up : AreSpared spared w
+
+  module _ (spared : ℕ → Type 0) (peers : ℕ) (few : peers ≤ 31) where
+    next_runs : (event : ScheduleEvent) (w : Run) → MayStand peers event → Runs spared w → Runs spared (applied event w)
+    next_runs event w may h =
+        let now = applied_refines view h.has.steps spared peers few event w may (record { on = record { more = []; refinement = h.has.refinement }; up = h.up }) in
+        record { has = record { steps = _; refinement = now.on.refinement }; up = now.up }
+
+    from_runs : (events : List ScheduleEvent) (w : Run) → AllMayStand peers events → Runs spared w → Runs spared (run_from events w)
+    from_runs [] w may h = h
+    from_runs (event ∷ more) w may h = from_runs more (applied event w) may.1 (next_runs event w may.0 h)
+
+    opening_runs : IsView view → Runs spared (opening_run peers view)
+    opening_runs is_view = record {
+      has = record { steps = []; refinement = opening_refines peers is_view };
+      up = λ place node is_spared at. subst IsSpared (replicated peers place (opening_node view) node at) tt;
+    }
 
   pub schedule_refines : (peers : ℕ) (events : List ScheduleEvent) → peers ≤ 31 → IsView view → AllMayStand peers events → HasRun view (run_of_schedule peers view events)
-  schedule_refines peers events few is_view may = from_refines peers few events (opening_run peers view) may (record { steps = []; refinement = opening_refines peers is_view })
+  schedule_refines peers events few is_view may = (from_runs (λ place. ⊥) peers few events (opening_run peers view) may (opening_runs (λ place. ⊥) peers few is_view)).has
+
+  pub schedule_runs : (peers : ℕ) (events : List ScheduleEvent) → peers ≤ 31 → IsView view → AllMayStand peers events
+      → (place : ℕ) (node : Node) → slice_get (run_of_schedule peers view events).nodes place ≡ Some node → IsSpared node
+  schedule_runs peers events few is_view may place node at = (from_runs (λ place. Unit {0}) peers few events (opening_run peers view) may (opening_runs (λ place. Unit {0}) peers few is_view)).up place node tt at

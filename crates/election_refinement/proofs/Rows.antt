@@ -55,7 +55,7 @@ module _ {c : Course} {l : Ledger} {x : State} {stored : Option Fact} (h : Fits 
 
   -- the peer enters a phase
   abbrev pub enters : (phase : Phase) → PhaseHolds l p x.fact phase → Fits c l (record x { phase = phase }) stored
-  enters phase holds = record { reaches = h.reaches; peer = record { saved = h.peer.saved; kept = h.peer.kept; trusted = h.peer.trusted; phase = holds } }
+  enters phase holds = record { reaches = h.reaches; peer = record { saved = h.peer.saved; kept = h.peer.kept; phase = holds } }
 
   -- nothing happens
   pub quiet : Goes c l stored (calm x)

@@ -61,7 +61,7 @@ module _ {c : Course} {l : Ledger} {x : State} {stored : Option Fact} (h : Fits 
       → Fits c (raise l p (epoch_number ballot)) (record x { fact = at_ballot x.fact ballot; phase = phase }) (Some (at_ballot x.fact ballot))
   raised_fits ballot epoch above phase holds = record {
     reaches = raise_reaches c l h.reaches (epoch_number ballot) (may_raise (epoch_number ballot) above);
-    peer = record { saved = raised_saved l p x.fact ballot h.peer.saved epoch above; kept = refl; trusted = h.peer.trusted; phase = holds };
+    peer = record { saved = raised_saved l p x.fact ballot h.peer.saved epoch above; kept = refl; phase = holds };
   }
 
   -- the peer accepted nothing later than its fact, so it may promise with it
@@ -81,7 +81,6 @@ module _ {c : Course} {l : Ledger} {x : State} {stored : Option Fact} (h : Fits 
     peer = record {
       saved = accepted_saved m p new is_first stands (first_keeps m (accept m p (epoch_number new.epoch)) p (accept_keeps m p (epoch_number new.epoch) stands) new is_first);
       kept = refl;
-      trusted = h.peer.trusted;
       phase = holds;
     };
   }

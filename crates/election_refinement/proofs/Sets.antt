@@ -26,8 +26,11 @@ joined_then P peer set here old q h = by_same (peer == q) refl
     by_same true e = subst P (eqb-true peer q e) here
     by_same false e = old q (sym (get_or-set_other set peer q true false (λ s. eqb-false peer q e (sym s))) ∙ h)
 
+pub nobody_then : (P : ℕ → Type 0) (q : ℕ) → holds nobody q ≡ true → P q
+nobody_then P q h = absurd (false≢true (sym (none_held 32 q) ∙ h))
+
 pub alone_then : (P : ℕ → Type 0) (peer : ℕ) → P peer → (q : ℕ) → holds (alone peer) q ≡ true → P q
-alone_then P peer here = joined_then P peer nobody here (λ q h. absurd (false≢true (sym (none_held 32 q) ∙ h)))
+alone_then P peer here = joined_then P peer nobody here (nobody_then P)
 
 -- what the message of a row asserts, if it has one
 abbrev pub RowSays : Ledger → ℕ → Option Message → Type 0

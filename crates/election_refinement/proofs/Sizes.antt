@@ -12,6 +12,7 @@ use Rattle.wire_frames.specs.declared.frame.Frame.{Frame}
 use Rattle.world_spec.specs.Lines.{set_of, everyone, effect, applied, run_from, run_of_schedule}
 use Rattle.world_spec.specs.Nodes.{Node, Up, Down, taken, opening_node}
 use Rattle.world_spec.specs.Runs.{Run, opening_run, place_of, stepped, stepped_at, ticked, received_if, delivered, delivered_if, going_on, calmed}
+use Rattle.election_refinement.proofs.Worlds.{IsSpared}
 use Rattle.election_refinement.specs.Refinement.{NodeHolds}
 use Rattle.election_refinement.specs.Worlds.{Refines, IsRunning, PeersRun}
 
@@ -67,12 +68,13 @@ run_from_size (event ∷ more) w = run_from_size more (applied event w) ∙ effe
 pub schedule_size : (peers : ℕ) (view : List ℕ) (events : List ScheduleEvent) → size (run_of_schedule peers view events) ≡ peers
 schedule_size peers view events = run_from_size events (opening_run peers view) ∙ length-replicate peers (opening_node view)
 
-running : (l : Ledger) (w : Run) (place : ℕ) (node : Node) → slice_get w.nodes place ≡ Some node → NodeHolds l (suc place) node → IsRunning w place
-running l w place (Up x st) at holds = record { state = x; stores = st; at = at; kept = holds.kept }
-running l w place (Down st) at holds = absurd holds
+running : (l : Ledger) (w : Run) (place : ℕ) (node : Node) → slice_get w.nodes place ≡ Some node → NodeHolds l (suc place) node → IsSpared node → IsRunning w place
+running l w place (Up x st) at holds up = record { state = x; stores = st; at = at; kept = holds.kept }
+running l w place (Down st) at holds up = absurd up
 
-pub all_run : (peers : ℕ) (view : List ℕ) (l : Ledger) (w : Run) → size w ≡ peers → Refines view l w → PeersRun peers w
-all_run peers view l w many refines place below = running l w place (get_or w.nodes place (opening_node view)) at (refines.nodes place (get_or w.nodes place (opening_node view)) at)
+pub all_run : (peers : ℕ) (view : List ℕ) (l : Ledger) (w : Run) → size w ≡ peers → Refines view l w → ((place : ℕ) (node : Node) → slice_get w.nodes place ≡ Some node → IsSpared node) → PeersRun peers w
+all_run peers view l w many refines up place below =
+    running l w place (get_or w.nodes place (opening_node view)) at (refines.nodes place (get_or w.nodes place (opening_node view)) at) (up place (get_or w.nodes place (opening_node view)) at)
   where
     at : slice_get w.nodes place ≡ Some (get_or w.nodes place (opening_node view))
     at = slice_get-get_or w.nodes place (opening_node view) (rw many below)

@@ -17,16 +17,17 @@ use Rattle.register_model.specs.declared.note.Note.{Note}
 use Rattle.schedule_text.specs.Spelling.{MayStand}
 use Rattle.schedule_text.specs.declared.event.ScheduleEvent.{ScheduleEvent}
 use Rattle.schedule_text.specs.declared.event.ScheduleEvent.TheVariants.{Tick, Deliver, Pass, Lose, Calm, CalmAmong}
-use Rattle.step_plans.specs.Calls.{Save}
-use Rattle.step_plans.specs.Plans.{Plan, Done, Say, Ask, Out, nothing, Ending, Finished, Stopped}
+use Rattle.peer_fact.specs.declared.fact.Fact.{Fact}
+use Rattle.step_plans.specs.Calls.{Load, Save}
+use Rattle.step_plans.specs.Plans.{Plan, Done, Say, Ask, nothing}
 use Rattle.step_plans.specs.declared.outbox.Outgoing.{Outgoing}
 use Rattle.wire_frames.specs.declared.frame.Frame.{Frame}
 use Rattle.world_spec.specs.Lines.{set_of, everyone, with_loss, effect, counted, applied}
-use Rattle.world_spec.specs.Nodes.{MemStores, Node, Up, Down, Ended, run, taken, taken_by, with_fact}
+use Rattle.world_spec.specs.Nodes.{MemStores, Node, Up, Down, Taken, run, taken, taken_of, with_fact}
 use Rattle.world_spec.specs.Runs.{Run, place_of, frame_from, posted_all, with_taken, stepped, stepped_at, ticked, received_if, delivered, delivered_if, going_on, calmed}
-use Rattle.election_refinement.proofs.Keeps.{keeps_none, node_keeps, frames_keep}
+use Rattle.election_refinement.proofs.Keeps.{Keeps, keeps_none, node_keeps, frames_keep}
 use Rattle.election_refinement.proofs.Loops.{EventHolds, Here, Good, step_good}
-use Rattle.election_refinement.proofs.Reaching.{Course}
+use Rattle.election_refinement.proofs.Reaching.{Course, Reaches}
 use Rattle.election_refinement.specs.Refinement.{PeerHolds, NodeHolds, SendHolds, FrameHolds}
 use Rattle.election_refinement.specs.Worlds.{Refines, ledger_after, GoesOn}
 
@@ -57,20 +58,46 @@ frames_hold l p peer sends hold = All-map (FrameHolds l) (frame_from p) sends (A
 frame_at : (l : Ledger) (frames : List Frame) (n : ℕ) (f : Frame) → slice_get frames n ≡ Some f → All (FrameHolds l) frames → FrameHolds l f
 frame_at l frames n f is hold = subst (FrameHolds l) (get_or_from_slice_get frames n f f is) (hold n f (slice_get_within frames n f is))
 
--- the peer agrees with the run at the end of a plan; no plan stops early, or asks what a world does
--- not answer
-abbrev EndsIn : Course → Ledger → Option (Ending State) → MemStores → Type 0
-EndsIn c before (Some (Finished x out)) st = Here c before x st out
-EndsIn c before (Some (Stopped error)) st = ⊥
-EndsIn c before None st = ⊥
+-- a running peer
+abbrev pub IsSpared : Node → Type 0
+IsSpared (Up x st) = Unit {0}
+IsSpared (Down st) = ⊥
 
-every_end : (c : Course) (before : Ledger) (plan : Plan State) (st : MemStores) (ns : List Note) → Good c before plan st → EndsIn c before (run plan st ns).ending (run plan st ns).stores
-every_end c before (Done x out) st ns good = good
-every_end c before (Say n plan) st ns good = every_end c before plan st (ns ++ n ∷ []) good
-every_end c before (Ask (Save fact) next) st ns good = every_end c before (next tt) (with_fact fact st) ns good
-every_end c before (Ask call next) st ns good = absurd good
+-- the peers at these places run
+abbrev pub AreSpared : (ℕ → Type 0) → Run → Type 0
+AreSpared spared w = (place : ℕ) (node : Node) → spared place → slice_get w.nodes place ≡ Some node → IsSpared node
 
-module _ (view : List ℕ) (steps : List Step) where
+-- the peer after a step, and what it sends, agree with a ledger that the run reaches
+record Leaves (c : Course) (before : Ledger) (t : Taken) : Type 0 where
+  ledger : Ledger
+  keeps : Keeps before ledger c.peer
+  reaches : Reaches c ledger
+  node : NodeHolds ledger c.peer t.node
+  sends : All (SendHolds ledger c.peer) t.out.sends
+
+module _ (c : Course) (before : Ledger) where
+  -- a plan leaves the peer in agreement with the run, however it ends
+  every_end : (plan : Plan State) (st : MemStores) (ns : List Note) → Good c before plan st.facts.kept → Leaves c before (taken_of (run plan st ns))
+  every_end (Done x out) st ns h = record { ledger = h.ledger; keeps = h.keeps; reaches = h.fits.reaches; node = h.fits.peer; sends = h.sends }
+  every_end (Say n plan) st ns good = every_end plan st (ns ++ n ∷ []) good
+  every_end (Ask Load next) st ns good = every_end (next st.facts.kept) st ns good.1
+  every_end (Ask (Save fact) next) st ns good = every_end (next tt) (with_fact fact st) ns good.1.1
+  every_end (Ask call next) st ns good = absurd good
+
+  -- a plan of a peer whose stores fail no call reaches its end
+  stays_up : (plan : Plan State) (st : MemStores) (ns : List Note) → Good c before plan st.facts.kept → IsSpared (taken_of (run plan st ns)).node
+  stays_up (Done x out) st ns good = tt
+  stays_up (Say n plan) st ns good = stays_up plan st (ns ++ n ∷ []) good
+  stays_up (Ask Load next) st ns good = stays_up (next st.facts.kept) st ns good.1
+  stays_up (Ask (Save fact) next) st ns good = stays_up (next tt) (with_fact fact st) ns good.1.1
+  stays_up (Ask call next) st ns good = absurd good
+
+module _ (view : List ℕ) (steps : List Step) (spared : ℕ → Type 0) where
+  -- the world refines an extension of the run, and the spared peers run
+  pub record Advances (w : Run) : Type 0 where
+    pub on : GoesOn view steps w
+    pub up : AreSpared spared w
+
   -- the ledger that the world refines
   abbrev ledger_of : (w : Run) → GoesOn view steps w → Ledger
   ledger_of w g = ledger_after view (g.more ++ steps)
@@ -85,39 +112,30 @@ module _ (view : List ℕ) (steps : List Step) where
     apart : (place : ℕ) → (place_of p ≡ place → ⊥) → p ≡ suc place → ⊥
     apart place other same = other (omega (arith, same))
 
-    here_refines : (x : State) (st : MemStores) (out : Out) (ns : List Note) → Here (course p peer) (ledger_of w g) x st out → GoesOn view steps (with_taken p (record { node = Up x st; out = out; notes = ns }) w)
-    here_refines x st out ns h = record {
-      more = h.fits.reaches.more;
-      refinement = record { run = h.fits.reaches.run; refines = subst (λ l. Refines view l (with_taken p (record { node = Up x st; out = out; notes = ns }) w)) (sym h.fits.reaches.same) refines };
-    }
+    number : (place : ℕ) → place_of p ≡ place → p ≡ suc place
+    number place same = omega (arith, same, peer.0)
+
+    taken_goes_on : (t : Taken) → Leaves (course p peer) (ledger_of w g) t → GoesOn view steps (with_taken p t w)
+    taken_goes_on t h = record { more = h.reaches.more; refinement = record { run = h.reaches.run; refines = subst (λ l. Refines view l (with_taken p t w)) (sym h.reaches.same) refines } }
       where
-        nodes : (place : ℕ) (node : Node) → slice_get (slice_set w.nodes (place_of p) (Up x st)) place ≡ Some node → NodeHolds h.ledger (suc place) node
-        nodes place node is = elim (get_put w.nodes (place_of p) place (Up x st) node is) [
-          | inl here ↦ subst (λ n. NodeHolds h.ledger (suc place) n) (sym here.1) (subst (λ q. PeerHolds h.ledger q x st.facts.kept) (number here.0) h.fits.peer)
+        nodes : (place : ℕ) (node : Node) → slice_get (slice_set w.nodes (place_of p) t.node) place ≡ Some node → NodeHolds h.ledger (suc place) node
+        nodes place node is = elim (get_put w.nodes (place_of p) place t.node node is) [
+          | inl here ↦ subst (λ n. NodeHolds h.ledger (suc place) n) (sym here.1) (subst (λ q. NodeHolds h.ledger q t.node) (number place here.0) h.node)
           | inr there ↦ node_keeps (ledger_of w g) h.ledger p h.keeps (suc place) node (apart place there.0) (g.refinement.refines.nodes place node there.1)
         ]
-          where
-            number : place_of p ≡ place → p ≡ suc place
-            number same = omega (arith, same, peer.0)
 
-        refines : Refines view h.ledger (with_taken p (record { node = Up x st; out = out; notes = ns }) w)
+        refines : Refines view h.ledger (with_taken p t w)
         refines = record {
-          orderly = h.fits.reaches.orderly;
+          orderly = h.reaches.orderly;
           nodes = nodes;
-          sent = posted_all_hold (FrameHolds h.ledger) (map (frame_from p) out.sends) w.mail (frames_keep (ledger_of w g) h.ledger p h.keeps w.mail.sent g.refinement.refines.sent) (frames_hold h.ledger p peer out.sends h.sends);
+          sent = posted_all_hold (FrameHolds h.ledger) (map (frame_from p) t.out.sends) w.mail (frames_keep (ledger_of w g) h.ledger p h.keeps w.mail.sent g.refinement.refines.sent) (frames_hold h.ledger p peer t.out.sends h.sends);
         }
 
-    ended_refines : (ending : Option (Ending State)) (st : MemStores) (ns : List Note) → EndsIn (course p peer) (ledger_of w g) ending st → GoesOn view steps (with_taken p (taken_by ending st ns) w)
-    ended_refines (Some (Finished x out)) st ns h = here_refines x st out ns h
-    ended_refines (Some (Stopped error)) st ns h = absurd h
-    ended_refines None st ns h = absurd h
-
-    taken_refines : (event : Event) (x : State) (st : MemStores) → PeerHolds (ledger_of w g) p x st.facts.kept → EventHolds (ledger_of w g) event → GoesOn view steps (with_taken p (taken p event (Up x st)) w)
-    taken_refines event x st holds event_holds =
-        let ended : Ended = run (step_of p event x) st [] in
-        ended_refines ended.ending ended.stores ended.notes (every_end (course p peer) (ledger_of w g) (step_of p event x) st [] (step_good (course p peer) (ledger_of w g) event x st here event_holds))
+    -- the plan of a step from this state
+    step_is_good : (event : Event) (x : State) (stored : Option Fact) → PeerHolds (ledger_of w g) p x stored → EventHolds (ledger_of w g) event → Good (course p peer) (ledger_of w g) (step_of p event x) stored
+    step_is_good event x stored holds event_holds = step_good (course p peer) (ledger_of w g) event x stored here event_holds
       where
-        here : Here (course p peer) (ledger_of w g) x st nothing
+        here : Here (course p peer) (ledger_of w g) x stored nothing
         here = record {
           ledger = ledger_of w g;
           keeps = keeps_none (ledger_of w g) p;
@@ -128,71 +146,101 @@ module _ (view : List ℕ) (steps : List Step) where
           sends = All-nil (SendHolds (ledger_of w g) p);
         }
 
-    -- a step of a peer on a tick, or on a message that asserts what holds
-    stepped_refines : (event : Event) → EventHolds (ledger_of w g) event → GoesOn view steps (stepped p event w)
-    stepped_refines event event_holds = by_node (slice_get w.nodes (place_of p)) refl
-      where
-        number : suc (place_of p) ≡ p
-        number = omega (arith, peer.0)
+    -- a peer that is down takes no step
+    stays_down : (st : MemStores) → NodeHolds (ledger_of w g) p (Down st) → Leaves (course p peer) (ledger_of w g) (record { node = Down st; out = nothing; notes = [] })
+    stays_down st holds = record {
+      ledger = ledger_of w g;
+      keeps = keeps_none (ledger_of w g) p;
+      reaches = record { more = g.more; run = g.refinement.run; same = refl; orderly = g.refinement.refines.orderly };
+      node = holds;
+      sends = All-nil (SendHolds (ledger_of w g) p);
+    }
 
-        by_node : (o : Option Node) → slice_get w.nodes (place_of p) ≡ o → GoesOn view steps (stepped_at o p event w)
-        by_node None at = g
-        by_node (Some (Up x st)) at = taken_refines event x st (subst (λ q. PeerHolds (ledger_of w g) q x st.facts.kept) number (g.refinement.refines.nodes (place_of p) (Up x st) at)) event_holds
-        by_node (Some (Down st)) at = absurd (g.refinement.refines.nodes (place_of p) (Down st) at)
+    taken_leaves : (event : Event) (node : Node) → NodeHolds (ledger_of w g) p node → EventHolds (ledger_of w g) event → Leaves (course p peer) (ledger_of w g) (taken p event node)
+    taken_leaves event (Up x st) holds event_holds = every_end (course p peer) (ledger_of w g) (step_of p event x) st [] (step_is_good event x st.facts.kept holds event_holds)
+    taken_leaves event (Down st) holds event_holds = stays_down st holds
+
+    taken_spared : (event : Event) (node : Node) → NodeHolds (ledger_of w g) p node → EventHolds (ledger_of w g) event → IsSpared node → IsSpared (taken p event node).node
+    taken_spared event (Up x st) holds event_holds up = stays_up (course p peer) (ledger_of w g) (step_of p event x) st [] (step_is_good event x st.facts.kept holds event_holds)
+    taken_spared event (Down st) holds event_holds up = absurd up
+
+  -- the spared peers are not the one that changed, or its new node is spared too
+  put_spared : (p : ℕ) (w : Run) (t : Taken) → AreSpared spared w → (spared (place_of p) → IsSpared t.node) → AreSpared spared (with_taken p t w)
+  put_spared p w t up here place node is_spared at = elim (get_put w.nodes (place_of p) place t.node node at) [
+    | inl same ↦ subst IsSpared (sym same.1) (here (subst spared (sym same.0) is_spared))
+    | inr other ↦ up place node is_spared other.1
+  ]
+
+  -- a step of a peer on a tick, or on a message that asserts what holds
+  stepped_refines : (p : ℕ) → IsPeer p → (event : Event) (w : Run) → (a : Advances w) → EventHolds (ledger_of w a.on) event → Advances (stepped p event w)
+  stepped_refines p peer event w a event_holds = by_node (slice_get w.nodes (place_of p)) refl
+    where
+      holds : (node : Node) → slice_get w.nodes (place_of p) ≡ Some node → NodeHolds (ledger_of w a.on) p node
+      holds node at = subst (λ q. NodeHolds (ledger_of w a.on) q node) (sym (number p peer w a.on (place_of p) refl)) (a.on.refinement.refines.nodes (place_of p) node at)
+
+      by_node : (o : Option Node) → slice_get w.nodes (place_of p) ≡ o → Advances (stepped_at o p event w)
+      by_node None at = a
+      by_node (Some node) at = record {
+        on = taken_goes_on p peer w a.on (taken p event node) (taken_leaves p peer w a.on event node (holds node at) event_holds);
+        up = put_spared p w (taken p event node) a.up (λ is_spared. taken_spared p peer w a.on event node (holds node at) event_holds (a.up (place_of p) node is_spared at));
+      }
 
   -- ## Lines of a schedule
 
-  ticked_refines : (p : ℕ) → IsPeer p → (n : ℕ) (w : Run) → GoesOn view steps w → GoesOn view steps (ticked p n w)
+  ticked_refines : (p : ℕ) → IsPeer p → (n : ℕ) (w : Run) → Advances w → Advances (ticked p n w)
   unfolding ticked
-  ticked_refines p peer zero w g = g
-  ticked_refines p peer (suc n) w g = ticked_refines p peer n (stepped p events.Tick w) (stepped_refines p peer w g events.Tick tt)
+  ticked_refines p peer zero w a = a
+  ticked_refines p peer (suc n) w a = ticked_refines p peer n (stepped p events.Tick w) (stepped_refines p peer events.Tick w a tt)
 
   -- only the peers and the messages ever sent matter
-  resent : (w v : Run) → v.nodes ≡ w.nodes → v.mail.sent ≡ w.mail.sent → GoesOn view steps w → GoesOn view steps v
-  resent w v nodes sent g = record {
-    more = g.more;
-    refinement = record {
-      run = g.refinement.run;
-      refines = record {
-        orderly = g.refinement.refines.orderly;
-        nodes = λ place node at. g.refinement.refines.nodes place node (ap (λ ns. slice_get ns place) (sym nodes) ∙ at);
-        sent = subst (All (FrameHolds (ledger_of w g))) (sym sent) g.refinement.refines.sent;
+  resent : (w v : Run) → v.nodes ≡ w.nodes → v.mail.sent ≡ w.mail.sent → Advances w → Advances v
+  resent w v nodes sent a = record {
+    on = record {
+      more = a.on.more;
+      refinement = record {
+        run = a.on.refinement.run;
+        refines = record {
+          orderly = a.on.refinement.refines.orderly;
+          nodes = λ place node at. a.on.refinement.refines.nodes place node (ap (λ ns. slice_get ns place) (sym nodes) ∙ at);
+          sent = subst (All (FrameHolds (ledger_of w a.on))) (sym sent) a.on.refinement.refines.sent;
+        };
       };
     };
+    up = λ place node is_spared at. a.up place node is_spared (ap (λ ns. slice_get ns place) (sym nodes) ∙ at);
   }
 
-  delivered_refines : (n : ℕ) (w : Run) → GoesOn view steps w → GoesOn view steps (delivered n w)
-  delivered_refines n w g = by_frame (slice_get w.mail.sent n) refl
+  delivered_refines : (n : ℕ) (w : Run) → Advances w → Advances (delivered n w)
+  delivered_refines n w a = by_frame (slice_get w.mail.sent n) refl
     where
-      by_frame : (o : Option Frame) → slice_get w.mail.sent n ≡ o → GoesOn view steps (received_if o n w)
-      by_frame None at = g
+      by_frame : (o : Option Frame) → slice_get w.mail.sent n ≡ o → Advances (received_if o n w)
+      by_frame None at = a
       by_frame (Some f) at =
           let waits_no_more : Run = record w { mail = settled w.mail n } in
-          let now = resent w waits_no_more refl refl g in
-          let says = frame_at (ledger_of waits_no_more now) w.mail.sent n f at now.refinement.refines.sent in
-          stepped_refines f.to says.1.0 waits_no_more now (events.Deliver f.from f.message) says.1.1
+          let now = resent w waits_no_more refl refl a in
+          let says = frame_at (ledger_of waits_no_more now.on) w.mail.sent n f at now.on.refinement.refines.sent in
+          stepped_refines f.to says.1.0 (events.Deliver f.from f.message) waits_no_more now says.1.1
 
-  delivered_if_refines : (o : Option ℕ) (w : Run) → GoesOn view steps w → GoesOn view steps (delivered_if o w)
-  delivered_if_refines None w g = g
-  delivered_if_refines (Some n) w g = delivered_refines n w g
+  delivered_if_refines : (o : Option ℕ) (w : Run) → Advances w → Advances (delivered_if o w)
+  delivered_if_refines None w a = a
+  delivered_if_refines (Some n) w a = delivered_refines n w a
 
-  calmed_refines : (peers : List Bool) (n : ℕ) (w : Run) → GoesOn view steps w → GoesOn view steps (calmed peers n w)
+  calmed_refines : (peers : List Bool) (n : ℕ) (w : Run) → Advances w → Advances (calmed peers n w)
   unfolding calmed
-  calmed_refines peers zero w g = g
-  calmed_refines peers (suc n) w g = by_oldest (oldest (is_among peers) w.mail) (λ v. calmed_refines peers n v)
+  calmed_refines peers zero w a = a
+  calmed_refines peers (suc n) w a = by_oldest (oldest (is_among peers) w.mail) (λ v. calmed_refines peers n v)
     where
-      by_oldest : (o : Option ℕ) → ((v : Run) → GoesOn view steps v → GoesOn view steps (calmed peers n v)) → GoesOn view steps (going_on o (λ v. calmed peers n v) w)
-      by_oldest None rest = g
-      by_oldest (Some m) rest = rest (delivered m w) (delivered_refines m w g)
+      by_oldest : (o : Option ℕ) → ((v : Run) → Advances v → Advances (calmed peers n v)) → Advances (going_on o (λ v. calmed peers n v) w)
+      by_oldest None rest = a
+      by_oldest (Some m) rest = rest (delivered m w) (delivered_refines m w a)
 
-  effect_refines : (peers : ℕ) → peers ≤ 31 → (event : ScheduleEvent) (w : Run) → MayStand peers event → GoesOn view steps w → GoesOn view steps (effect event w)
-  effect_refines peers few (Tick peer ticks) w may g = ticked_refines peer (may.0.first, le_trans may.0.last few) ticks w g
-  effect_refines peers few (Deliver message) w may g = delivered_refines (message - 1) w g
-  effect_refines peers few (Pass sender receiver) w may g = delivered_if_refines (oldest (goes sender receiver) w.mail) w g
-  effect_refines peers few (Lose sender receiver) w may g = resent w (with_loss sender receiver w) refl refl g
-  effect_refines peers few Calm w may g = calmed_refines everyone most_messages w g
-  effect_refines peers few (CalmAmong members) w may g = calmed_refines (set_of members) most_messages w g
-  effect_refines peers few event w may g = g
+  effect_refines : (peers : ℕ) → peers ≤ 31 → (event : ScheduleEvent) (w : Run) → MayStand peers event → Advances w → Advances (effect event w)
+  effect_refines peers few (Tick peer ticks) w may a = ticked_refines peer (may.0.first, le_trans may.0.last few) ticks w a
+  effect_refines peers few (Deliver message) w may a = delivered_refines (message - 1) w a
+  effect_refines peers few (Pass sender receiver) w may a = delivered_if_refines (oldest (goes sender receiver) w.mail) w a
+  effect_refines peers few (Lose sender receiver) w may a = resent w (with_loss sender receiver w) refl refl a
+  effect_refines peers few Calm w may a = calmed_refines everyone most_messages w a
+  effect_refines peers few (CalmAmong members) w may a = calmed_refines (set_of members) most_messages w a
+  effect_refines peers few event w may a = a
 
-  pub applied_refines : (peers : ℕ) → peers ≤ 31 → (event : ScheduleEvent) (w : Run) → MayStand peers event → GoesOn view steps w → GoesOn view steps (applied event w)
-  applied_refines peers few event w may g = resent (effect event w) (counted event (effect event w)) refl refl (effect_refines peers few event w may g)
+  pub applied_refines : (peers : ℕ) → peers ≤ 31 → (event : ScheduleEvent) (w : Run) → MayStand peers event → Advances w → Advances (applied event w)
+  applied_refines peers few event w may a = resent (effect event w) (counted event (effect event w)) refl refl (effect_refines peers few event w may a)

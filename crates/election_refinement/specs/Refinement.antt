@@ -117,18 +117,22 @@ pub record IsSaved (l : Ledger) (me : ℕ) (f : Fact) : Type 0 where
   pub ballot : l.ballot me ≡ epoch_number f.ballot
   pub place : l.fact me ≡ fact_place f
 
--- a running peer, whose stores keep `stored`: they keep its fact, its tree is trusted, and what its
--- phase asserts holds
+-- a running peer, whose stores keep `stored`: they keep its fact, and what its phase asserts holds
 pub record PeerHolds (l : Ledger) (me : ℕ) (x : State) (stored : Option Fact) : Type 0 where
   pub saved : IsSaved l me x.fact
   pub kept : stored ≡ Some x.fact
-  pub trusted : x.trusted ≡ true
   pub phase : PhaseHolds l me x.fact x.phase
 
--- a node is a running peer; no peer is down
+-- a peer that is down, whose stores keep `stored`: they keep the last fact that it saved
+pub record IsKept (l : Ledger) (me : ℕ) (stored : Option Fact) : Type 0 where
+  pub fact : Fact
+  pub kept : stored ≡ Some fact
+  pub saved : IsSaved l me fact
+
+-- a running peer, or one that is down
 abbrev pub NodeHolds : Ledger → ℕ → Node → Type 0
 NodeHolds l me (Up x stores) = PeerHolds l me x stores.facts.kept
-NodeHolds l me (Down stores) = ⊥
+NodeHolds l me (Down stores) = IsKept l me stores.facts.kept
 
 -- ## Messages, from peer `sender`
 
