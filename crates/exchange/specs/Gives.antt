@@ -47,10 +47,10 @@ abbrev pub given : Option (List ℕ) → Question → TreeBody
 given None q = nothing q.position
 given (Some bytes) q = if q.position.level == 3 then segment_body q.position q.after (segment_of q.position bytes) else inner_body q.position (inner_of q.position bytes)
 
--- this body, or out of memory
-abbrev pub Makes : Result TreeBody AskError → TreeBody → Type 0
-Makes (Ok b) body = b ≡ body
-Makes (Err e) body = e ≡ Memory
+-- this value, or out of memory
+abbrev pub Makes : {A : Type 0} → Result A AskError → A → Type 0
+Makes (Ok y) x = y ≡ x
+Makes (Err e) x = e ≡ Memory
 
 -- what is sent after a node was read: damage is a body, and any other error is passed on
 abbrev pub answered : Question → Result (Option (List ℕ)) TreeError → Result TreeBody AskError

@@ -1,1 +1,4 @@
+pub mod Asked
 pub mod Gives
+pub mod Asks
+pub mod Covers

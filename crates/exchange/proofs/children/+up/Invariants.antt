@@ -1,0 +1,4 @@
+use Rattle.exchange.proofs.children.+up.Given as goal
+
+abbrev pub decreases-up : goal.decreases-up
+decreases-up l = l.levels

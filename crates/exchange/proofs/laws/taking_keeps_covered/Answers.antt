@@ -1,0 +1,7 @@
+use Rattle.std.proofs.Common.{refl}
+use Rattle.exchange.specs.Covers.{give_of}
+use Rattle.exchange.proofs.Keeping.{take_keeps}
+use Rattle.exchange.proofs.laws.taking_keeps_covered.Goals as goal
+
+pub returns : goal.returns
+returns c = λ scan own q ask m n key v p ok has is apart covers. take_keeps scan own q (give_of m q) ask m n key v p ok has refl is apart covers

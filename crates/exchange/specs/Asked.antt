@@ -1,0 +1,18 @@
+-- Where an ask stands.
+use Rattle.std.specs.Prelude.{List, Option, None, Some}
+use Rattle.std.specs.List.{AllByRecursion}
+use Rattle.ens_base.specs.declared.entry.Entry.{Entry}
+use Rattle.tree_node.specs.declared.position.Position.{Position}
+use Rattle.tree_node.specs.Positions.{IsPosition}
+use Rattle.exchange.specs.declared.question.Question.{Question}
+
+-- the open question, the positions left to ask after it, the next one first, and the entries received
+pub record Asked : Type 0 where
+  pub current : Option Question
+  pub left : List Position
+  pub received : List Entry
+
+-- positions of the tree
+abbrev pub ArePlaces : Option Question → List Position → Type 0
+ArePlaces None left = AllByRecursion IsPosition left
+ArePlaces (Some q) left = IsPosition q.position × AllByRecursion IsPosition left
