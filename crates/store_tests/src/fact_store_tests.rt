@@ -1,6 +1,6 @@
 use ens_base::{Epoch, PeerId, View};
 use fact_store::{FactFile, FactKeeper, KeepError, Kept, MemFacts};
-use peer_fact::{Fact, FactError};
+use peer_fact::{Change, Fact, FactError};
 use slot_disk::{Failing, Image, MemDisk, Room};
 use std::alloc::Global;
 use std::test::Fail;
