@@ -1,8 +1,9 @@
-//! Builders of epochs, facts and sets of peers, and the name of the message in an answer.
+//! Builders of epochs, views and sets of peers, and summaries of the answers of rules.
 
-use ens_base::{Epoch, PeerId, PeerSet, View, ViewError, Views};
-use peer_fact::{Change, Fact};
-use wire_frames::{Message, NackCause, PhaseOut};
+use ens_base::{Epoch, PeerId, PeerSet, Version, View, ViewError};
+use peer_fact::Fact;
+use tree_node::TreeBody;
+use wire_frames::{Message, NackCause, PhaseOut, Then};
 
 /// The set of these peers. Numbers outside 1 to 31 are left out.
 pub fn set(numbers: &[u32]) -> PeerSet {
@@ -15,69 +16,102 @@ pub fn set(numbers: &[u32]) -> PeerSet {
     set
 }
 
+/// The view of three members.
+pub fn view(members: &[u32; 3]) -> Result<View, ViewError> {
+    let [a, b, c] = *members;
+    View::new(&[PeerId(a), PeerId(b), PeerId(c)])
+}
+
 /// The epoch `count.proposer`.
 pub fn epoch(count: u64, proposer: u32) -> Epoch {
     Epoch { count, proposer }
 }
 
-/// The old view 1 2 3.
-pub fn old_view() -> Result<View, ViewError> {
-    View::new(&[PeerId(1), PeerId(2), PeerId(3)])
+/// The parts of a message that the tests compare.
+#[derive(Clone, Copy, Debug, PartialEq, Eq)]
+pub enum Said {
+    Nothing,
+    Probe,
+    ProbeReply(Fact),
+    Prepare(Epoch),
+    Promise(Epoch, Fact),
+    Nack(Epoch, NackCause),
+    NewEpoch(Fact),
+    Accepted(Epoch, u64),
+    Commit(Fact),
+    CheckReply(Epoch, u64),
+    /// The epoch, the round, and whether there is an entry.
+    GetReply(Epoch, u64, bool),
+    PutReply(Epoch, Version),
+    /// The ballot, whether the sender trusts its tree, and whether the node is damaged.
+    TreeGive(Epoch, bool, bool),
+    Other,
 }
 
-/// The new view 3 4 5 and the old view 1 2 3.
-pub fn two_views() -> Result<Views, ViewError> {
-    Ok(Views::two(View::new(&[PeerId(3), PeerId(4), PeerId(5)])?, old_view()?))
+/// The answer of a rule, as a `Copy` value.
+#[derive(Clone, Copy, Debug, PartialEq, Eq)]
+pub struct Answer {
+    pub leave: bool,
+    pub save: Option<Fact>,
+    pub to: PeerSet,
+    pub said: Said,
+    pub then: Then,
 }
 
-/// The first fact of the epoch 3.2 on the old view, at this ballot.
-pub fn saved(ballot: Epoch) -> Result<Fact, ViewError> {
-    Ok(Fact {
-        ballot,
-        epoch: epoch(3, 2),
-        seq: 1,
-        leader: PeerId(2),
-        views: Views::one(old_view()?),
-        change: Change::None,
-    })
-}
-
-/// The first fact of an epoch on these views.
-pub fn first(epoch: Epoch, views: Views) -> Fact {
-    Fact {
-        ballot: epoch,
-        epoch,
-        seq: 1,
-        leader: PeerId(2),
-        views,
-        change: Change::None,
+fn is_damage(body: &TreeBody) -> bool {
+    match body {
+        TreeBody::Damaged(_place) => true,
+        _ => false,
     }
 }
 
-/// The name of the message that an answer sends.
-pub fn said(out: &PhaseOut) -> &'static str {
-    match &out.message {
-        None => "nothing",
-        Some(Message::Probe) => "probe",
-        Some(Message::ProbeReply(_)) => "probe reply",
-        Some(Message::Prepare(_)) => "prepare",
-        Some(Message::Promise(..)) => "promise",
-        Some(Message::Nack(_, NackCause::Greater(_))) => "greater",
-        Some(Message::Nack(_, NackCause::Untrusted)) => "untrusted",
-        Some(Message::Nack(_, NackCause::Damaged(_))) => "damaged",
-        Some(Message::NewEpoch(_)) => "new epoch",
-        Some(Message::Accepted(..)) => "accepted",
-        Some(Message::Commit(_)) => "commit",
-        Some(message) => said_of_objects(message),
-    }
-}
-
-fn said_of_objects(message: &Message) -> &'static str {
+fn said_to_follow(message: &Message) -> Said {
     match message {
-        Message::CheckReply(..) => "check reply",
-        Message::GetReply(..) => "get reply",
-        Message::PutReply(..) => "put reply",
-        Message::TreeGive(..) => "tree give",
-        _ => "other",
+        Message::Accepted(epoch, seq) => Said::Accepted(*epoch, *seq),
+        Message::Commit(fact) => Said::Commit(*fact),
+        Message::CheckReply(epoch, round) => Said::CheckReply(*epoch, *round),
+        Message::GetReply(epoch, round, _key, entry, _object) => {
+            Said::GetReply(*epoch, *round, entry.is_some())
+        }
+        Message::PutReply(epoch, _key, version) => Said::PutReply(*epoch, *version),
+        Message::TreeGive(ballot, _at, _after, trusted, body) => {
+            Said::TreeGive(*ballot, *trusted, is_damage(body))
+        }
+        _ => Said::Other,
+    }
+}
+
+fn said_of(message: &Option<Message>) -> Said {
+    match message {
+        None => Said::Nothing,
+        Some(Message::Probe) => Said::Probe,
+        Some(Message::ProbeReply(fact)) => Said::ProbeReply(*fact),
+        Some(Message::Prepare(ballot)) => Said::Prepare(*ballot),
+        Some(Message::Promise(ballot, fact)) => Said::Promise(*ballot, *fact),
+        Some(Message::Nack(ballot, cause)) => Said::Nack(*ballot, *cause),
+        Some(Message::NewEpoch(fact)) => Said::NewEpoch(*fact),
+        Some(message) => said_to_follow(message),
+    }
+}
+
+/// Summarizes the answer of a rule as a `Copy` value.
+pub fn summary(out: PhaseOut) -> Answer {
+    Answer {
+        leave: out.leave,
+        save: out.save,
+        to: out.to,
+        said: said_of(&out.message),
+        then: out.then,
+    }
+}
+
+/// The answer that saves and sends nothing, and goes on with `then`.
+pub fn silent(then: Then) -> Answer {
+    Answer {
+        leave: false,
+        save: None,
+        to: PeerSet::empty(),
+        said: Said::Nothing,
+        then,
     }
 }

@@ -1,8 +1,7 @@
-//! Tests of the rules of the phases, a file for each crate of rules. The expected values are written
-//! down from the text of each rule.
+//! Tests of the rules of the phases, a file for each crate of rules.
 //!
-//! A rule returns its row, and laws say what rows mean. So a rule is tried once where its row does
-//! most, and in a table where its row has a bound or counts a quorum. The tests use public calls alone.
+//! The expected values are written down from the text of each rule, case by case, as tables. The
+//! tests use public calls alone.
 #![tactic(auto)]
 
 #[cfg(test)]
