@@ -1,7 +1,7 @@
 use ens_base::{Epoch, PeerId, View};
 use fact_store::{FactFile, FactKeeper, KeepError, Kept, MemFacts};
 use peer_fact::{Change, Fact, FactError};
-use slot_disk::{Failing, Image, MemDisk, Room};
+use slot_disk::{Disk, Failing, Image, MemDisk, Room};
 use std::alloc::Global;
 use std::test::Fail;
 
@@ -50,11 +50,25 @@ fn the_second_fact_is_at_offset_512(rt: HostRuntime) -> Result<(), Fail> {
 }
 
 #[test]
-fn a_spent_file_with_a_record_that_is_no_fact(rt: HostRuntime) -> Result<(), Fail> {
-    let slot = b"\x01\xff\xff\xff\xff\xff\xff\xff\xff\0\x01x";
-    let mut file = file(rt.alloc(), slot)?;
-    assert!(rt; file.load() == Err(KeepError::Bad(FactError::BadTag)) && file.faults() == 0);
-    assert!(rt; file.save(&opening()?) == Err(KeepError::Failed) && file.faults() == 1);
+fn a_record_that_is_no_fact_is_a_bad_fact(rt: HostRuntime) -> Result<(), Fail> {
+    let alloc = rt.alloc();
+    let mut file = file(alloc, b"\x01\0\0\0\0\0\0\0\x01\0\x01x")?;
+    assert_eq!(rt; file.load(), Err(KeepError::Bad(FactError::BadTag)));
+    assert_eq!(rt; file.save(&opening()?), Ok(()));
+    assert_eq!(rt; file.load(), Ok(Some(opening()?)));
+    assert_eq!(rt; file.faults(), 0);
+    Ok(())
+}
+
+#[test]
+fn a_spent_file_counts_a_fault_of_its_own(rt: HostRuntime) -> Result<(), Fail> {
+    let alloc = rt.alloc();
+    let mut file = file(alloc, b"\x01\xff\xff\xff\xff\xff\xff\xff\xff\0\x01x")?;
+    let fact = opening()?;
+    assert_eq!(rt; fact.change, Change::None);
+    assert_eq!(rt; file.save(&fact), Err(KeepError::Failed));
+    assert_eq!(rt; file.faults(), 1);
+    assert_eq!(rt; file.into_disk().faults(), 0);
     Ok(())
 }
 
