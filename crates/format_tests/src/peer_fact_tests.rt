@@ -15,6 +15,7 @@ fn opening() -> Result<Fact, Fail> {
 #[test]
 fn the_opening_fact_of_52_bytes(rt: HostRuntime) -> Result<(), Fail> {
     let fact = opening()?;
+    assert_eq!(rt; fact.change, Change::None);
     let bytes = fact.encode(rt.alloc())?;
     assert!(rt; bytes.as_slice() == OPENING.as_slice());
     let mut out = [9u8; 480];
