@@ -2,6 +2,8 @@
 #![tactic(auto)]
 
 #[cfg(test)]
+mod ask_tests;
+#[cfg(test)]
 mod exchange_tests;
 #[cfg(test)]
 mod synctree_tests;
