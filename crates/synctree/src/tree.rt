@@ -3,7 +3,6 @@ ghost use Rattle.std.specs.Option.{IsSomeAnd};
 ghost use Rattle.tree_maps.specs.Maps.{Stands};
 ghost use Rattle.tree_maps.specs.Sixteen.{sixteen};
 ghost use Rattle.ens_outside.specs.Stores.{Read, Top};
-ghost use Rattle.ens_outside.specs.Told.{IsTold};
 ghost use Rattle.synctree.specs.Halves.{NodesDid};
 ghost use Rattle.synctree.specs.Installs.{store_does, store_refuses, install_plan};
 ghost use Rattle.synctree.specs.Outsides.{outside_does, outside_refuses};
@@ -141,10 +140,9 @@ impl<N: NodeStore> Tree<N> {
         (TreeMark { top }, store)
     }
 
-    /// Makes the tree of `mark` over `store`. If the top record of the store is known, it is the
-    /// one of the mark.
+    /// Makes the tree of `mark` over `store`. The root of the tree is that of the mark, whatever the
+    /// top record of the store says.
     pub fn join(mark: TreeMark, store: N) -> Tree<N>
-        requires { IsTold (N.top_record store) mark }
         ensures { (result.top ≡ mark) × (result.store ≡ store) }
     {
         Tree {
