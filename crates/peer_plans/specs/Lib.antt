@@ -1,0 +1,6 @@
+pub mod Calls
+pub mod Plans
+pub mod Outboxes
+pub mod Sends
+pub mod Tasks
+pub mod Steps
