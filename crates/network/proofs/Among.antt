@@ -4,6 +4,7 @@ use Rattle.std.proofs.lemmas.Bool.Decides.{nat_tests}
 use Rattle.ens_base.specs.PeerSet.{holds}
 use Rattle.wire_frames.specs.declared.frame.Frame.{Frame}
 use Rattle.network.specs.Mail.{goes, goes_into, is_among, MayBeSent}
+use Rattle.network.specs.Representation.{IsBelow}
 
 module _ (peers : List Bool) (f : Frame) (ends : MayBeSent f) where
   module _ (from : ℕ) where
@@ -16,9 +17,6 @@ module _ (peers : List Bool) (f : Frame) (ends : MayBeSent f) where
     pub into_other : (n : ℕ) → holds peers n ≡ false → (goes_into from peers f && nat_lt f.to n) ≡ (goes_into from peers f && nat_lt f.to (n + 1))
     into_other n has = grind (arith, nat_tests)
 
-    pub into_all : (n : ℕ) → 32 ≤ n → (goes_into from peers f && nat_lt f.to n) ≡ goes_into from peers f
-    into_all n all = grind (arith, nat_tests)
-
   pub among_none : (is_among peers f && nat_lt f.from 1) ≡ false
   among_none = grind (arith, nat_tests)
 
@@ -28,5 +26,9 @@ module _ (peers : List Bool) (f : Frame) (ends : MayBeSent f) where
   pub among_other : (n : ℕ) → holds peers n ≡ false → (is_among peers f && nat_lt f.from n) ≡ (is_among peers f && nat_lt f.from (n + 1))
   among_other n has = grind (arith, nat_tests)
 
-  pub among_all : (n : ℕ) → 32 ≤ n → (is_among peers f && nat_lt f.from n) ≡ is_among peers f
-  among_all n all = grind (arith, nat_tests)
+-- beyond the bound of all numbers the tests are the whole ones
+pub into_all : (peers : List Bool) (f : Frame) (from bound n : ℕ) → IsBelow bound f → bound ≤ n → (goes_into from peers f && nat_lt f.to n) ≡ goes_into from peers f
+into_all peers f from bound n below all = grind (arith, nat_tests)
+
+pub among_all : (peers : List Bool) (f : Frame) (bound n : ℕ) → IsBelow bound f → bound ≤ n → (is_among peers f && nat_lt f.from n) ≡ is_among peers f
+among_all peers f bound n below all = grind (arith, nat_tests)

@@ -58,7 +58,7 @@ pub lost_in : (sent : List Frame) (old new : List (BTreeSet ℕ)) (from to place
 lost_in sent old new from to place all ends is empties =
     ap (λ (ws : List Bool). let m : Mail = record { sent = sent; waits = ws } in m) (flags_lost MayBeSent (goes from to) (in_line old) (in_line new) sent all (λ f n peers. empties (line_of f) n ∙ emptied _ _ ∙ ap (λ (b : Bool). in_line old f n && not b) (ap (λ (p : ℕ). line_of f == p) is ∙ own_line from to ends f peers)))
 
-module _ (sent : List Frame) (lines : List (BTreeSet ℕ)) (kept : IsKept sent lines) (from to : ℕ) (ends : IsPeer from × IsPeer to) (place : ℕ) (here : place ≡ line_place from to) where
+module _ (sent : List Frame) (lines : List (BTreeSet ℕ)) (bound : ℕ) (kept : IsKept sent lines bound) (from to : ℕ) (ends : IsPeer from × IsPeer to) (place : ℕ) (here : place ≡ line_place from to) where
   gone : (o : Option Frame) (n : ℕ) → stands lines place n ≡ false → (option_map_or (λ f. in_line lines f n) o false && option_map_or (goes from to) o false) ≡ false
   gone None n is = refl
   gone (Some f) n is = grind (arith, nat_tests)

@@ -6,3 +6,4 @@ pub mod MailLaws
 pub mod Losses
 pub mod Changes
 pub mod Among
+pub mod Bounds

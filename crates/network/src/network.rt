@@ -15,6 +15,8 @@ use wire_frames::Frame;
 pub struct Network {
     sent: Vec<Frame>,
     waiting: Lines,
+    /// Above the number of every sender and receiver so far, and at most 32.
+    bound: u32,
 }
 
 impl Model for Network {
@@ -26,12 +28,13 @@ impl Model for Network {
 
     ghost view = { λ n. mail_in n.sent.items n.waiting };
 
-    ghost invariant = { λ n. IsKept n.sent.items n.waiting };
+    ghost invariant = { λ n. IsKept n.sent.items n.waiting n.bound };
 }
 
 impl Network {
     ghost use Rattle.network.specs.Mail.{no_mail, posted, settled, lost, oldest, goes, goes_into, is_among, MayBeSent, IsMail, most_messages};
     ghost use Rattle.network.specs.Lines.{line_place};
+    ghost use Rattle.network.specs.Representation.{IsBelow};
 
     /// The greatest number of messages that a network keeps.
     pub const MOST: usize = 500_000;
@@ -43,6 +46,7 @@ impl Network {
         Ok(Network {
             sent: Vec::new(alloc),
             waiting: Lines::new(alloc)?,
+            bound: 1,
         })
     }
 
@@ -63,6 +67,17 @@ impl Network {
         (from * 32 + to) as usize
     }
 
+    /// Returns the bound after one more message.
+    fn bound_with(bound: u32, frame: &Frame) -> u32
+        requires { (bound ≤ 32) × MayBeSent frame.now }
+        ensures higher { bound ≤ result }
+        ensures below { IsBelow result frame.now }
+        ensures few { result ≤ 32 }
+    {
+        let ends = frame.from.max(frame.to);
+        bound.max(ends + 1)
+    }
+
     /// Sends a message from a peer to another. It obeys the grammar of frames, gets the next number,
     /// and waits.
     ///
@@ -81,8 +96,10 @@ impl Network {
             return Err(SendError::Limit);
         }
         let place = Network::place(frame.from, frame.to);
+        let bound = Network::bound_with(self.bound, &frame);
         self.sent.reserve(1)?;
         self.waiting.insert(place, number)?;
+        self.bound = bound;
         self.sent.push(frame).unwrap();
         Ok(())
     }
@@ -120,10 +137,10 @@ impl Network {
         requires { IsPeer from }
         ensures { result ≡ oldest (goes_into from peers.now) self.now }
     {
-        // The sender and the receiver of every message are in 1 to 31.
+        // The sender and the receiver of every message are in 1 to 31, and below the bound.
         let _ = &self.sent;
         let mut best = None;
-        for number in 1..32 {
+        for number in 1..self.bound {
             let to = PeerId(number);
             if peers.has(to) {
                 best = older(best, self.oldest_between(from, to));
@@ -138,10 +155,10 @@ impl Network {
         ensures oldest { result ≡ oldest (is_among peers.now) self.now }
         ensures sent { IfSome result (λ n. n < length self.now.sent) }
     {
-        // The sender and the receiver of every message are in 1 to 31.
+        // The sender and the receiver of every message are in 1 to 31, and below the bound.
         let _ = &self.sent;
         let mut best = None;
-        for number in 1..32 {
+        for number in 1..self.bound {
             let from = PeerId(number);
             if peers.has(from) {
                 best = older(best, self.oldest_from(from, peers));

@@ -1,6 +1,7 @@
 use Rattle.std.proofs.Common.{sym, subst, ◌∙◌, ◌&&◌, nat_lt}
 use Rattle.std.specs.Prelude.{All}
 use Rattle.network.specs.Mail.{Mail, goes_into, is_among, MayBeSent}
+use Rattle.network.specs.Representation.{IsBelow}
 use Rattle.network.proofs.Among.{among_none, among_member, among_other, among_all}
 use Rattle.network.proofs.Either.{oldest_agree, oldest_either, oldest_never}
 use Rattle.network.proofs.MailLaws.{answer_is_sent}
@@ -24,8 +25,8 @@ loop-number-preserved c =
 
 pub returns-clause-oldest : goal.returns-clause-oldest
 returns-clause-oldest c =
-    let peers = subst (λ (m : Mail). All MayBeSent m.sent) c.self.view_is c.self.invariant.may in
-    oldest_agree MayBeSent c.args.self.now peers _ _ c.loop-number.best (λ f ends. among_all c.args.peers.now f ends c.loop-number.number c.loop-number-test.false) c.loop-number.invariant
+    let below = subst (λ (m : Mail). All (IsBelow c.self.inside.bound) m.sent) c.self.view_is c.self.invariant.below in
+    oldest_agree (IsBelow c.self.inside.bound) c.args.self.now below _ _ c.loop-number.best (λ f ends. among_all c.args.peers.now f c.self.inside.bound c.loop-number.number ends c.loop-number-test.false) c.loop-number.invariant
 
 pub returns-clause-sent : goal.returns-clause-sent
 returns-clause-sent c = answer_is_sent (is_among c.args.peers.now) c.args.self.now c.loop-number.best (returns-clause-oldest c)

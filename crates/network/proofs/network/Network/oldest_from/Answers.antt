@@ -1,6 +1,7 @@
 use Rattle.std.proofs.Common.{sym, subst, ◌∙◌, ◌&&◌, nat_lt}
 use Rattle.std.specs.Prelude.{All}
 use Rattle.network.specs.Mail.{Mail, goes, goes_into, MayBeSent}
+use Rattle.network.specs.Representation.{IsBelow}
 use Rattle.network.proofs.Among.{into_none, into_member, into_other, into_all}
 use Rattle.network.proofs.Either.{oldest_agree, oldest_either, oldest_never}
 use Rattle.network.proofs.network.Network.oldest_from.Goals as goal
@@ -23,5 +24,5 @@ loop-number-preserved c =
 
 pub returns : goal.returns
 returns c =
-    let peers = subst (λ (m : Mail). All MayBeSent m.sent) c.self.view_is c.self.invariant.may in
-    oldest_agree MayBeSent c.args.self.now peers _ _ c.loop-number.best (λ f ends. into_all c.args.peers.now f ends c.args.from c.loop-number.number c.loop-number-test.false) c.loop-number.invariant
+    let below = subst (λ (m : Mail). All (IsBelow c.self.inside.bound) m.sent) c.self.view_is c.self.invariant.below in
+    oldest_agree (IsBelow c.self.inside.bound) c.args.self.now below _ _ c.loop-number.best (λ f ends. into_all c.args.peers.now f c.args.from c.self.inside.bound c.loop-number.number ends c.loop-number-test.false) c.loop-number.invariant
