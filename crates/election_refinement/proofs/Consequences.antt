@@ -10,12 +10,13 @@ use Rattle.election_laws.specs.Elections.{IsClosed}
 use Rattle.election_laws.proofs.Epochs.{run_elections}
 use Rattle.election_laws.proofs.Rising.{run_stays}
 use Rattle.ens_base.specs.declared.epoch.Epoch.{Epoch}
-use Rattle.peer_core.specs.declared.state.Leadership.{Leadership}
-use Rattle.peer_core.specs.declared.state.State.{State}
+use Rattle.peer_machine.specs.declared.state.Leadership.{Leadership}
+use Rattle.peer_machine.specs.declared.state.State.{State}
 use Rattle.peer_fact.specs.declared.fact.Fact.{Fact}
-use Rattle.peer_core.specs.declared.state.Phase.TheVariants as phases
-use Rattle.world_spec.specs.Nodes.{MemStores, Node, Up, Down}
+use Rattle.peer_machine.specs.declared.state.Phase.TheVariants as phases
+use Rattle.world_spec.specs.Nodes.{Node, Up, Down}
 use Rattle.world_spec.specs.Runs.{Run}
+use Rattle.held_stores.specs.Held.{HeldStores}
 use Rattle.election_refinement.specs.Refinement.{first_seq, fact_place, IsKnown, IsSaved, IsLeading, PhaseHolds, NodeHolds}
 use Rattle.election_refinement.specs.Worlds.{Refines, ledger_after, IsRefinement, GoesOn, kept_by, HasFact, Leads, BallotsRise, Agree, FactsAgree, EpochsHaveOneLeader, FactsAreComplete, LedEpochsAreKept}
 
@@ -55,14 +56,14 @@ agrees view steps w refinement p q f g has too same seq =
     known_agree (ledger_after view steps) f g (saved_in view (ledger_after view steps) w refinement.refines p f has).known (saved_in view (ledger_after view steps) w refinement.refines q g too).known same
 
 -- what a leading peer asserts
-leading_of : (l : Ledger) (p : ℕ) (x : State) (st : MemStores) (a : Leadership) → NodeHolds l p (Up x st) → x.phase ≡ phases.Leading a → IsLeading l p x.fact a
+leading_of : (l : Ledger) (p : ℕ) (x : State) (st : HeldStores) (a : Leadership) → NodeHolds l p (Up x st) → x.phase ≡ phases.Leading a → IsLeading l p x.fact a
 leading_of l p x st a holds leads = subst (PhaseHolds l p x.fact) leads holds.phase
 
 leading_in : (view : List ℕ) (l : Ledger) (w : Run) → Refines view l w → (place : ℕ) (a : Leadership) → (leads : Leads w place a) → IsLeading l (suc place) leads.state.fact a
 leading_in view l w refines place a leads = leading_of l (suc place) leads.state leads.stores a (refines.nodes place (Up leads.state leads.stores) leads.at) leads.leads
 
 -- a peer is the proposer of the epoch that it leads
-leader_of : (view : List ℕ) (l : Ledger) (w : Run) → Refines view l w → (place : ℕ) (a : Leadership) → Leads w place a → a.fact.epoch.proposer ≡ suc place
+leader_of : (view : List ℕ) (l : Ledger) (w : Run) → Refines view l w → (place : ℕ) (a : Leadership) → Leads w place a → a.leader.fact.epoch.proposer ≡ suc place
 leader_of view l w refines place a leads = let leading = leading_in view l w refines place a leads in ap (λ (e : Epoch). e.proposer) leading.started.at_ballot ∙ leading.started.own
 
 pub one_leads : (view : List ℕ) (steps : List Step) (w : Run) → IsRefinement view steps w → EpochsHaveOneLeader w
@@ -90,4 +91,4 @@ complete view steps w refinement p q f g has too later below =
 pub led_kept : (view : List ℕ) (steps : List Step) (w : Run) → IsRefinement view steps w → LedEpochsAreKept (ledger_after view steps) w
 led_kept view steps w refinement p q a f leads has below =
     let leading = leading_in view (ledger_after view steps) w refinement.refines p a leads in
-    (run_elections view steps refinement.run).kept (epoch_number f.epoch) (epoch_number a.fact.epoch) (saved_in view (ledger_after view steps) w refinement.refines q f has).known.elected leading.started.first.known.elected below leading.established
+    (run_elections view steps refinement.run).kept (epoch_number f.epoch) (epoch_number a.leader.fact.epoch) (saved_in view (ledger_after view steps) w refinement.refines q f has).known.elected leading.started.first.known.elected below leading.established

@@ -9,12 +9,12 @@ use Rattle.abstract_protocol.specs.Ledger.{Ledger, Place, is_established, raise,
 use Rattle.abstract_protocol.specs.Numbers.{epoch_number, IsEpoch}
 use Rattle.election_laws.specs.Preparing.{proposer_of}
 use Rattle.election.specs.declared.election.Election.TheVariants.{Preparing, Starting}
-use Rattle.peer_core.specs.declared.state.Leadership.{Leadership}
-use Rattle.peer_core.specs.declared.state.Phase.{Phase}
-use Rattle.peer_core.specs.declared.state.Phase.TheVariants as phases
+use Rattle.peer_machine.specs.declared.state.Leadership.{Leadership}
+use Rattle.peer_machine.specs.declared.state.Phase.{Phase}
+use Rattle.peer_machine.specs.declared.state.Phase.TheVariants as phases
 use Rattle.peer_fact.specs.declared.fact.Fact.{Fact}
 use Rattle.probe.specs.declared.probing.Probing.{Probing}
-use Rattle.step_plans.specs.declared.outbox.Outgoing.{Outgoing}
+use Rattle.leader_words.specs.declared.out.Outgoing.{Outgoing}
 use Rattle.wire_frames.specs.declared.frame.Frame.{Frame}
 use Rattle.wire_frames.specs.declared.message.Message.{Message}
 use Rattle.wire_frames.specs.declared.message.Message.TheVariants as messages
@@ -120,6 +120,12 @@ module _ (l m : Ledger) (p : ℕ) (k : Keeps l m p) where
   message_keeps q (messages.NewEpoch f) old = first_keeps f old
   message_keeps q (messages.Accepted d s) old = record { first = old.first; accepted = k.accepted (epoch_number d) q old.accepted }
   message_keeps q (messages.Beat d) old = record { elected = k.elected (epoch_number d) old.elected; established = established_keeps (epoch_number d) old.elected old.established }
+  message_keeps q (messages.Check ballot round) old = tt
+  message_keeps q (messages.CheckReply ballot round) old = tt
+  message_keeps q (messages.Get ballot round key) old = tt
+  message_keeps q (messages.GetReply ballot round key entry object) old = tt
+  message_keeps q (messages.Put ballot object) old = tt
+  message_keeps q (messages.PutReply ballot key version) old = tt
   message_keeps q other old = absurd old
 
   pub sends_keep : (q : ℕ) (sends : List Outgoing) → All (SendHolds l q) sends → All (SendHolds m q) sends
@@ -138,8 +144,8 @@ module _ (l m : Ledger) (p : ℕ) (k : Keeps l m p) where
 
   leading_keeps : (q : ℕ) (fact : Fact) (leadership : Leadership) → IsLeading l q fact leadership → IsLeading m q fact leadership
   leading_keeps q fact leadership old = record {
-    started = starting_keeps q fact leadership.fact leadership.accepts old.started;
-    established = established_keeps (epoch_number leadership.fact.epoch) old.started.first.known.elected old.established;
+    started = starting_keeps q fact leadership.leader.fact leadership.leader.accepts old.started;
+    established = established_keeps (epoch_number leadership.leader.fact.epoch) old.started.first.known.elected old.established;
     settled = old.settled;
   }
 

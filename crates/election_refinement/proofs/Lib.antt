@@ -1,9 +1,11 @@
 pub mod Tests
 pub mod Numbers
+pub mod Calls
 pub mod Keeps
 pub mod Reaching
 pub mod Sets
 pub mod Rows
+pub mod Requests
 pub mod Quiet
 pub mod Probes
 pub mod Saving

@@ -1,37 +1,69 @@
 -- A whole step of a peer: each row is performed alike, and the tasks of a step run one after
 -- another.
-use Rattle.std.proofs.Common.{◌≡◌, ℕ, zero, suc, false, List, [], ◌∷◌, ◌++◌, Option, Some, None, arith, refl, sym, subst}
+use Rattle.std.proofs.Common.{◌≡◌, ℕ, zero, suc, ◌==◌, Bool, true, false, List, [], ◌∷◌, ◌++◌, Option, Some, None, arith, refl, ap, ◌∙◌, sym, subst}
 use Rattle.std.specs.Prelude.{All}
-use Rattle.std.proofs.lemmas.List.Elements.{All-nil, All-append}
-use Rattle.abstract_protocol.specs.Ledger.{Ledger}
-use Rattle.peer_core.specs.Drives.{saved, and_sends, row_done, task_done, driven, most_turns, led_done, ticked, first, concluded, step_of}
-use Rattle.peer_core.specs.Leading.{begins, is_told, older, reminds, row_5, wished, word_to, words}
-use Rattle.peer_core.specs.Moves.{left, leading, turned}
-use Rattle.peer_core.specs.Rows.{aged, phase_row, received}
-use Rattle.peer_core.specs.Starts.{first_state, opened, start_of}
-use Rattle.peer_core.specs.declared.event.Event.{Event}
-use Rattle.peer_core.specs.declared.event.Event.TheVariants as events
-use Rattle.peer_core.specs.declared.state.ChangeState.{ChangeState}
-use Rattle.peer_core.specs.declared.state.ChangeState.TheVariants.{Settled}
-use Rattle.peer_core.specs.declared.state.Leadership.{Leadership}
-use Rattle.peer_core.specs.declared.state.Phase.{Phase}
-use Rattle.peer_core.specs.declared.state.Phase.TheVariants as phases
-use Rattle.peer_core.specs.declared.state.State.{State}
+use Rattle.std.proofs.lemmas.List.Elements.{All-nil, All-append, All-weaker}
+use Rattle.abstract_protocol.specs.Ledger.{Ledger, is_established}
+use Rattle.abstract_protocol.specs.Numbers.{epoch_number}
+use Rattle.ens_base.specs.declared.entry.Entry.{Entry}
+use Rattle.ens_base.specs.declared.epoch.Epoch.{Epoch}
+use Rattle.ens_object.specs.Objects.{object_spelling}
+use Rattle.ens_object.specs.declared.object.Object.{Object}
+use Rattle.following.specs.Refusals.{is_served}
+use Rattle.following.specs.Requests.{row_21, row_22}
+use Rattle.kept_objects.specs.Kept.{entry_of, matching, object_in}
+use Rattle.leader_words.specs.declared.out.LeadOut.{LeadOut}
+use Rattle.leader_words.specs.declared.out.Outgoing.{Outgoing}
+use Rattle.leader_words.specs.declared.out.Own.{Own}
+use Rattle.leader_words.specs.declared.out.Own.TheVariants as owns
+use Rattle.leading.specs.Puts.{row_35_reply}
+use Rattle.leading.specs.Rounds.{row_29_reply, row_33_reply}
+use Rattle.leading.specs.Rules.{lead_row}
+use Rattle.leading.specs.Starts.{row_27}
+use Rattle.leading.specs.Ticks.{row_5_calls as calls_of_tick}
+use Rattle.leading.specs.declared.leader.Leader.{Leader}
+use Rattle.peer_machine.specs.Drives.{saved, and_sends, row_done, owned, followed_up, and_row, lead_done, lead, reminded, task_done, driven, most_turns, led_in, ticked, shown, after_put, put_done, delivered, unavailable, called, first, concluded, step_of}
+use Rattle.peer_machine.specs.Leading.{begins, end_of, older, row_5_calls, ticks, wished}
+use Rattle.peer_machine.specs.Moves.{left, left_answers, and_answers, leading, with_leader, turned, ends_leading, turned_answers}
+use Rattle.peer_machine.specs.Owns.{digested, read, kept, fetched, held, looked_at, looked, found_at, found, entered, written, confirmed}
+use Rattle.peer_machine.specs.Rows.{aged, changes, leads, phase_row, received}
+use Rattle.peer_machine.specs.Starts.{first_state, opened, start_of}
+use Rattle.peer_machine.specs.declared.event.CallIn.{CallIn}
+use Rattle.peer_machine.specs.declared.event.Event.{Event}
+use Rattle.peer_machine.specs.declared.event.Event.TheVariants as events
+use Rattle.peer_machine.specs.declared.state.ChangeState.{ChangeState}
+use Rattle.peer_machine.specs.declared.state.ChangeState.TheVariants.{Settled}
+use Rattle.peer_machine.specs.declared.state.Leadership.{Leadership}
+use Rattle.peer_machine.specs.declared.state.Phase.{Phase}
+use Rattle.peer_machine.specs.declared.state.Phase.TheVariants as phases
+use Rattle.peer_machine.specs.declared.state.State.{State}
 use Rattle.peer_fact.specs.declared.fact.Fact.{Fact}
-use Rattle.step_plans.specs.Calls.{Load, Save}
-use Rattle.step_plans.specs.Plans.{Plan, Done, Say, Ask, Out, nothing, Part, Rest, asked}
-use Rattle.step_plans.specs.Sends.{posted_to}
-use Rattle.step_plans.specs.Tasks.{named}
-use Rattle.step_plans.specs.declared.tasks.Task.{Task}
-use Rattle.step_plans.specs.declared.tasks.Task.TheVariants as tasks
+use Rattle.register_model.specs.declared.note.Note.{Note}
+use Rattle.peer_plans.specs.Calls.{Call, Load, Save, Find, Enter, Fetch, Put, Hash, AnswerOf}
+use Rattle.peer_plans.specs.Plans.{Plan, Done, Say, Ask, Out, nothing, Part, Rest, asked, noted}
+use Rattle.peer_plans.specs.Sends.{posted_to}
+use Rattle.peer_plans.specs.Tasks.{named, keyed}
+use Rattle.peer_plans.specs.declared.tasks.Task.{Task}
+use Rattle.peer_plans.specs.declared.tasks.Task.TheVariants as tasks
+use Rattle.peer_plans.specs.declared.walked.Walked.{Walked}
+use Rattle.peer_plans.specs.declared.walked.Walked.TheVariants.{Reached, Broken}
+use Rattle.wire_frames.specs.declared.message.Message.{Message}
+use Rattle.wire_frames.specs.declared.message.Message.TheVariants as messages
 use Rattle.wire_frames.specs.declared.phase.PhaseOut.{PhaseOut}
+use Rattle.wire_frames.specs.declared.phase.Seen.{Seen}
+use Rattle.wire_frames.specs.declared.phase.Seen.TheVariants as seens
+use Rattle.wire_frames.specs.declared.phase.Then.{Then}
+use Rattle.wire_frames.specs.declared.phase.Then.TheVariants as thens
+use Rattle.election_refinement.proofs.Calls.{IsOfCalls, AsksPeer, LeadsNothing, StillLeads, joined_stays, got_stays, stands_stays, put_heard_stays, lead_stays, tick_stays}
 use Rattle.election_refinement.proofs.Keeps.{Keeps, keeps_both, sends_keep}
 use Rattle.election_refinement.proofs.Reaching.{Course, Reaches}
+use Rattle.election_refinement.proofs.Requests.{left_fits, turned_fits, IsHarmless, harmless_goes, row_21_harmless, row_22_harmless, after_put_harmless}
 use Rattle.election_refinement.proofs.Rows.{saved_in, stored_in, settled, Fits, Goes, enters}
 use Rattle.election_refinement.proofs.Rules.{phase_goes, received_goes}
-use Rattle.election_refinement.proofs.Sets.{posted_hold, posted_to_hold}
-use Rattle.election_refinement.proofs.Ticks.{aged_goes, not_joint, word_holds}
-use Rattle.election_refinement.specs.Refinement.{IsKept, IsLeading, MessageHolds, PhaseHolds, SendHolds}
+use Rattle.election_refinement.proofs.Sets.{posted_to_hold}
+use Rattle.election_refinement.proofs.Tests.{by_test}
+use Rattle.election_refinement.proofs.Ticks.{aged_goes, not_joint, ticks_hold}
+use Rattle.election_refinement.specs.Refinement.{IsKept, IsLeading, IsStarting, MessageHolds, PhaseHolds, SendHolds}
 
 -- what an event asserts; no peer is asked to change its view yet
 abbrev pub EventHolds : Ledger → Event → Type 0
@@ -39,6 +71,17 @@ EventHolds l (events.Deliver from message) = MessageHolds l from message
 EventHolds l events.Tick = Unit {0}
 EventHolds l (events.Call call) = Unit {0}
 EventHolds l (events.Change view) = ⊥
+
+-- the answers to calls add no message
+answers_send_nothing : (b : Bool) (x : State) (out : Out) → (left_answers b x out).sends ≡ out.sends
+answers_send_nothing true x out = refl
+answers_send_nothing false x out = refl
+
+-- a call that leaves the fact
+abbrev pub LeavesFact : Call → Type 0
+LeavesFact Load = ⊥
+LeavesFact (Save fact) = ⊥
+LeavesFact call = Unit {0}
 
 -- `before` is the ledger at the beginning of the step
 module _ (c : Course) (before : Ledger) where
@@ -59,14 +102,15 @@ module _ (c : Course) (before : Ledger) where
     pub reaches : Reaches c ledger
     pub kept : IsKept ledger p stored
 
-  -- The plan only loads and saves the fact, and at its end the peer agrees with the run. A plan may
-  -- end at a call that is refused: the stores then keep the old fact, or the new one of a save.
+  -- At its end the plan leaves the peer in agreement with the run, whatever the tree and the backend
+  -- return. A plan may end at a call that is refused: the stores then keep the old fact, or the new
+  -- one of a save.
   abbrev pub Good : Plan State → Option Fact → Type 0
   Good (Done x out) stored = Here x stored out
   Good (Say n plan) stored = Good plan stored
   Good (Ask Load next) stored = Rests stored × Good (next stored) stored
   Good (Ask (Save fact) next) stored = Rests stored × (Rests (Some fact) × Good (next tt) (Some fact))
-  Good (Ask call next) stored = ⊥
+  Good (Ask call next) stored = Rests stored × ((answer : AnswerOf call) → Good (next answer) stored)
 
   rests : (x : State) (stored : Option Fact) (out : Out) → Here x stored out → Rests stored
   rests x stored out h = record { ledger = h.ledger; keeps = h.keeps; reaches = h.fits.reaches; kept = record { fact = x.fact; kept = h.fits.peer.kept; saved = h.fits.peer.saved } }
@@ -79,31 +123,188 @@ module _ (c : Course) (before : Ledger) where
   abbrev Passes : {A : Type 0} → Part State A → Type 0
   Passes {A} part = (x : State) (stored : Option Fact) (out : Out) (next : Rest State A) → Here x stored out → Onward next → Good (part x out next) stored
 
+  noted_good : (notes : List Note) (plan : Plan State) (stored : Option Fact) → Good plan stored → Good (noted notes plan) stored
+  noted_good [] plan stored good = good
+  noted_good (n ∷ notes) plan stored good = noted_good notes plan stored good
+
+  -- a state that fits the same ledger, with no message less or more
+  moved : (x y : State) (stored : Option Fact) (out more : Out) → (h : Here x stored out) → Fits c h.ledger y stored → more.sends ≡ out.sends → Here y stored more
+  moved x y stored out more h fits same = record { ledger = h.ledger; keeps = h.keeps; fits = fits; sends = subst (All (SendHolds h.ledger p)) (sym same) h.sends }
+
+  -- ## Rows of phases
+
   saved_good : (save : Option Fact) (x : State) (stored : Option Fact) (out : Out) (next : Rest State (Unit {0}))
       → Rests stored → Rests (stored_in save stored) → Good (next tt (saved_in save x) out) (stored_in save stored) → Good (saved save x out next) stored
   unfolding asked
   saved_good None x stored out next old new good = good
   saved_good (Some fact) x stored out next old new good = (old, (new, good))
 
-  row_good : (r : State × PhaseOut) (x : State) (stored : Option Fact) (out : Out) (next : Rest State (List Task)) → (h : Here x stored out) → Goes c h.ledger stored r → Onward next → Good (row_done r.1 r.0 out next) stored
+  -- the output after a row
+  abbrev put_out : PhaseOut → State → Out → Out
+  put_out row x out = turned_answers row.then (saved_in row.save (left row.leave x)) (and_sends (left_answers row.leave x out) (posted_to row.to row.message))
+
+  put_out_sends : (row : PhaseOut) (x : State) (out : Out) → (put_out row x out).sends ≡ out.sends ++ posted_to row.to row.message
+  put_out_sends row x out =
+      answers_send_nothing (ends_leading row.then) (saved_in row.save (left row.leave x)) (and_sends (left_answers row.leave x out) (posted_to row.to row.message))
+      ∙ ap (λ sends. sends ++ posted_to row.to row.message) (answers_send_nothing row.leave x out)
+
+  row_good : (r : State × PhaseOut) (x : State) (stored : Option Fact) (out : Out) (next : Rest State (List Task)) → (h : Here x stored out) → Goes c h.ledger stored r → Onward next → Good (row_done p r.1 r.0 out next) stored
   row_good r x stored out next h goes go =
-      saved_good r.1.save (left r.1.leave r.0) stored out (λ u y o. next (named r.1.then) (turned r.1.then y) (and_sends o (posted_to r.1.to r.1.message)))
+      saved_good r.1.save (left r.1.leave r.0) stored (left_answers r.1.leave r.0 out)
+      (λ u y o. next (named r.1.then) (turned p r.1.then y) (turned_answers r.1.then y (and_sends o (posted_to r.1.to r.1.message))))
       (rests x stored out h)
-      (rests (settled r.1 r.0) (stored_in r.1.save stored) (and_sends out (posted_to r.1.to r.1.message)) there)
-      (go (named r.1.then) (settled r.1 r.0) (stored_in r.1.save stored) (and_sends out (posted_to r.1.to r.1.message)) there)
+      (rests (settled p r.1 r.0) (stored_in r.1.save stored) (put_out r.1 r.0 out) there)
+      (go (named r.1.then) (settled p r.1 r.0) (stored_in r.1.save stored) (put_out r.1 r.0 out) there)
     where
-      there : Here (settled r.1 r.0) (stored_in r.1.save stored) (and_sends out (posted_to r.1.to r.1.message))
+      there : Here (settled p r.1 r.0) (stored_in r.1.save stored) (put_out r.1 r.0 out)
       there = record {
         ledger = goes.ledger;
         keeps = keeps_both before h.ledger goes.ledger p h.keeps goes.keeps;
         fits = goes.fits;
-        sends = All-append (SendHolds goes.ledger p) out.sends (posted_to r.1.to r.1.message) (sends_keep h.ledger goes.ledger p goes.keeps p out.sends h.sends) (posted_to_hold goes.ledger p r.1.to r.1.message goes.says);
+        sends = subst (All (SendHolds goes.ledger p)) (sym (put_out_sends r.1 r.0 out))
+            (All-append (SendHolds goes.ledger p) out.sends (posted_to r.1.to r.1.message) (sends_keep h.ledger goes.ledger p goes.keeps p out.sends h.sends) (posted_to_hold goes.ledger p r.1.to r.1.message goes.says));
       }
 
+  harmless_good : (row : PhaseOut) → IsHarmless row → Passes (row_done p row)
+  harmless_good row harmless x stored out next h go = row_good (x, row) x stored out next h (harmless_goes h.fits row harmless) go
+
+  -- ## What a rule asks of the tree and the backend
+
+  asked_good : (call : Call) → LeavesFact call → Passes (asked call)
+  unfolding asked
+  asked_good Load leaves x stored out next h go = absurd leaves
+  asked_good (Save fact) leaves x stored out next h go = absurd leaves
+  asked_good call leaves x stored out next h go = (rests x stored out h, λ answer. go answer x stored out h)
+
+  digested_good : (o : Option Object) (bytes : List ℕ) → Passes (digested o bytes)
+  digested_good None bytes x stored out next h go = go None x stored out h
+  digested_good (Some o) bytes x stored out next h go = asked_good (Hash bytes) tt x stored out _ h (λ digest y s q there. go (Some (o, digest)) y s q there)
+
+  read_good : (bytes : Option (List ℕ)) → Passes (read bytes)
+  read_good None x stored out next h go = go None x stored out h
+  read_good (Some bytes) x stored out next h go = digested_good (object_in bytes) bytes x stored out next h go
+
+  kept_good : (key : List ℕ) → Passes (kept key)
+  kept_good key x stored out next h go = asked_good (Fetch key) tt x stored out _ h (λ bytes y s q there. read_good bytes y s q next there go)
+
+  fetched_good : (key : List ℕ) → Passes (fetched key)
+  fetched_good key x stored out next h go = kept_good key x stored out _ h (λ o y s q there. go (seens.Kept o) y s q there)
+
+  held_good : (key : List ℕ) (entry : Option Entry) → Passes (held key entry)
+  held_good key None x stored out next h go = go (seens.Held None None) x stored out h
+  held_good key (Some entry) x stored out next h go = kept_good key x stored out _ h (λ o y s q there. go (seens.Held (Some entry) (matching entry o)) y s q there)
+
+  looked_at_good : (key : List ℕ) (walked : Walked (Option Entry)) → Passes (looked_at key walked)
+  looked_at_good key (Broken at) x stored out next h go = go (seens.Damaged at) x stored out h
+  looked_at_good key (Reached entry) x stored out next h go = held_good key entry x stored out next h go
+
+  looked_good : (key : List ℕ) → Passes (looked key)
+  looked_good key x stored out next h go = asked_good (Find key) tt x stored out _ h (λ walked y s q there. looked_at_good key walked y s q next there go)
+
+  found_good : (key : List ℕ) → Passes (found key)
+  found_good key x stored out next h go = asked_good (Find key) tt x stored out _ h (λ walked y s q there. go (found_at walked) y s q there)
+
+  entered_good : (o : Object) (bytes digest : List ℕ) (walked : Walked (Unit {0})) → Passes (entered o bytes digest walked)
+  entered_good o bytes digest (Broken at) x stored out next h go = go (seens.Damaged at) x stored out h
+  entered_good o bytes digest (Reached u) x stored out next h go = asked_good (Put o.key bytes) tt x stored out _ h (λ v y s q there. go (seens.Stored digest) y s q there)
+
+  written_good : (o : Object) → Passes (written o)
+  written_good o x stored out next h go =
+      asked_good (Hash (object_spelling o)) tt x stored out _ h
+      (λ digest y s q there. asked_good (Enter (entry_of o digest)) tt y s q _ there (λ walked z t r end. entered_good o (object_spelling o) digest walked z t r next end go))
+
+  confirmed_good : (entry : Option Entry) (object : Option Object) → Passes (confirmed entry object)
+  confirmed_good None object x stored out next h go = go None x stored out h
+  confirmed_good (Some entry) None x stored out next h go = go None x stored out h
+  confirmed_good (Some entry) (Some o) x stored out next h go =
+      asked_good (Hash (object_spelling o)) tt x stored out _ h (λ digest y s q there. go (matching entry (Some (o, digest))) y s q there)
+
+  owned_good : (n : ℕ) (own : Own) → Passes (owned n own)
+  owned_good n (owns.Look key) x stored out next h go =
+      by_test (λ (plan : Plan State). Good plan stored) (n == 28) _ _ (λ is. fetched_good key x stored out next h go) (λ not. looked_good key x stored out next h go)
+  owned_good n (owns.Put o) x stored out next h go = written_good o x stored out next h go
+
+  -- ## Rows of leaders
+
+  followed_good : (n : ℕ) (own : Option Own) (then : Then) (keys : List (List ℕ)) → LeadsNothing then → Passes (followed_up p n own then keys)
+  followed_good n None then keys leads x stored out next h go =
+      go (keyed then keys) (turned p then x) stored (turned_answers then x out) (moved x (turned p then x) stored out (turned_answers then x out) h (turned_fits then x leads h.fits) (answers_send_nothing (ends_leading then) x out))
+  followed_good n (Some own) then keys leads x stored out next h go = owned_good n own x stored out _ h (λ seen y s q there. go _ y s q there)
+
+  asks_hold : (l : Ledger) (sends : List Outgoing) → All AsksPeer sends → All (SendHolds l p) sends
+  asks_hold l sends ask = All-weaker AsksPeer (SendHolds l p) (λ o h. (h.0, of_calls o.message h.1)) sends ask
+    where
+      of_calls : (message : Message) → IsOfCalls message → MessageHolds l p message
+      of_calls (messages.Check ballot round) is = tt
+      of_calls (messages.Get ballot round key) is = tt
+      of_calls (messages.Put ballot object) is = tt
+      of_calls other is = absurd is
+
+  lead_done_good : (n : ℕ) (row : LeadOut) → All AsksPeer row.sends → LeadsNothing row.then → Passes (lead_done p n row)
+  lead_done_good n row sends leads x stored out next h go =
+      noted_good row.notes (followed_up p n row.own row.then row.keys (left row.leave x) (and_row row x out) next) stored
+      (followed_good n row.own row.then row.keys leads (left row.leave x) stored (and_row row x out) next (record {
+        ledger = h.ledger;
+        keeps = h.keeps;
+        fits = left_fits row.leave x h.fits;
+        sends = All-append (SendHolds h.ledger p) (left_answers row.leave x out).sends row.sends
+            (subst (All (SendHolds h.ledger p)) (sym (answers_send_nothing row.leave x out)) h.sends) (asks_hold h.ledger row.sends sends);
+      }) go)
+
+  still_leads : (l : Ledger) (fact : Fact) (leadership : Leadership) (leader : Leader) → leader.fact ≡ leadership.leader.fact → leader.accepts ≡ leadership.leader.accepts → IsLeading l p fact leadership → IsLeading l p fact (with_leader leader leadership)
+  still_leads l fact leadership leader same accepts old = record {
+    started = subst (λ f. IsStarting l p fact f leader.accepts) (sym same) (subst (λ set. IsStarting l p fact leadership.leader.fact set) (sym accepts) old.started);
+    established = subst (λ (f : Fact). is_established l (epoch_number f.epoch) ≡ true) (sym same) old.established;
+    settled = old.settled;
+  }
+
+  -- a rule of a leader, whatever the phase
+  lead_good : (row : Leader → Leader × LeadOut) → ((leader : Leader) → StillLeads leader.fact leader.accepts (row leader)) → (n : ℕ) (phase : Phase) (x : State) (stored : Option Fact) (out : Out) (next : Rest State (List Task))
+      → (h : Here x stored out) → PhaseHolds h.ledger p x.fact phase → Onward next → Good (lead row p n phase x out next) stored
+  lead_good row stays n (phases.Leading l) x stored out next h old go =
+      let led = stays l.leader in
+      lead_done_good n (row l.leader).1 led.sends led.next (leading (with_leader (row l.leader).0 l) x) stored out next (record {
+        ledger = h.ledger;
+        keeps = h.keeps;
+        fits = enters h.fits (phases.Leading (with_leader (row l.leader).0 l)) (still_leads h.ledger x.fact l (row l.leader).0 led.fact led.accepts old);
+        sends = h.sends;
+      }) go
+  lead_good row stays n (phases.Following f) x stored out next h old go = go [] x stored out h
+  lead_good row stays n (phases.Probing b) x stored out next h old go = go [] x stored out h
+  lead_good row stays n (phases.Electing e) x stored out next h old go = go [] x stored out h
+
+  -- rule 5 (d) and (e): the other members of the view are sent one message each
+  reminded_good : (phase : Phase) (x : State) (stored : Option Fact) (out : Out) (next : Rest State (List Task)) → (h : Here x stored out) → PhaseHolds h.ledger p x.fact phase → Onward next → Good (reminded phase x out next) stored
+  reminded_good (phases.Leading l) x stored out next h old go =
+      subst (λ (change : ChangeState). Good (reminded (phases.Leading (record l { change = change })) x out next) stored) (sym old.settled)
+      (subst (λ (change : ChangeState). Good (next (named (begins change)) (leading (record l { change = change }) x) (and_sends out (ticks x.fact still))) stored) (sym none) (go [] (leading still x) stored _ (record {
+        ledger = h.ledger;
+        keeps = h.keeps;
+        fits = enters h.fits (phases.Leading still) holds;
+        sends = All-append (SendHolds h.ledger p) out.sends (ticks x.fact still) h.sends (ticks_hold h.ledger p x.fact still holds 31 (omega arith));
+      })))
+    where
+      still : Leadership
+      still = record l { change = Settled }
+
+      holds : IsLeading h.ledger p x.fact still
+      holds = record { started = old.started; established = old.established; settled = refl }
+
+      none : wished l.leader.fact Settled ≡ Settled
+      none = rw (not_joint h.fits l old) refl
+  reminded_good (phases.Following f) x stored out next h old go = go [] x stored out h
+  reminded_good (phases.Probing b) x stored out next h old go = go [] x stored out h
+  reminded_good (phases.Electing e) x stored out next h old go = go [] x stored out h
+
+  -- ## Tasks
+
   task_good : (task : Task) → Passes (task_done p task)
-  task_good (tasks.Phase n) x stored out next h go = row_good (phase_row n p x) x stored out next h (phase_goes h.fits n) go
-  task_good (tasks.Key n key) x stored out next h go = go [] x stored out h
-  task_good (tasks.Again n key seen) x stored out next h go = go [] x stored out h
+  task_good (tasks.Phase n) x stored out next h go =
+      by_test (λ (plan : Plan State). Good plan stored) (n == 5) _ _
+      (λ is. reminded_good x.phase x stored out next h h.fits.peer.phase go)
+      (λ not. row_good (phase_row n p x) x stored out next h (phase_goes h.fits n) go)
+  task_good (tasks.Key n key) x stored out next h go = lead_good (lead_row n key seens.Nothing) (lead_stays n key seens.Nothing) n x.phase x stored out next h h.fits.peer.phase go
+  task_good (tasks.Again n key seen) x stored out next h go = lead_good (lead_row n key seen) (lead_stays n key seen) n x.phase x stored out next h h.fits.peer.phase go
 
   drive_good : (n : ℕ) (ts : List Task) → Passes (driven p n ts)
   unfolding driven
@@ -114,34 +315,63 @@ module _ (c : Course) (before : Ledger) where
 
   -- ## Events
 
-  -- rule 5: the other members of the view are sent one message each
-  led_good : (l : Leadership) (x : State) (stored : Option Fact) (out : Out) (next : Rest State (List Task)) → (h : Here x stored out) → IsLeading h.ledger p x.fact l → Onward next → Good (led_done (row_5 p x.fact l) x out next) stored
+  -- rule 5 (a) to (c), of a leader
+  led_good : (l : Leadership) (x : State) (stored : Option Fact) (out : Out) (next : Rest State (List Task)) → (h : Here x stored out) → IsLeading h.ledger p x.fact l → Onward next → Good (led_in p (phases.Leading l) x out next) stored
   led_good l x stored out next h old go =
-      subst (λ (change : ChangeState). Good (led_done (reminds p x.fact (record l { change = older change })) x out next) stored) (sym old.settled)
-      (subst (λ (change : ChangeState). Good (next (named (begins change)) (turned (begins change) (leading (record l { change = change }) x)) (and_sends out (words p x.fact still))) stored) (sym none) (go [] (leading still x) stored _ (record {
+      lead_done_good 5 (row_5_calls x.fact l).1 led.sends led.next (leading (row_5_calls x.fact l).0 x) stored out (λ ts y o. next (ts ++ tasks.Phase 5 ∷ []) y o) (record {
         ledger = h.ledger;
         keeps = h.keeps;
-        fits = enters h.fits (phases.Leading still) holds;
-        sends = All-append (SendHolds h.ledger p) out.sends (words p x.fact still) h.sends (posted_hold h.ledger p (is_told p still) (word_to x.fact still) (word_holds h.ledger p x.fact still holds) 31 (omega arith));
-      })))
+        fits = enters h.fits (phases.Leading (row_5_calls x.fact l).0) (still_leads h.ledger x.fact (record l { change = older l.change }) (row_5_calls x.fact l).0.leader led.fact led.accepts one_older);
+        sends = h.sends;
+      }) (λ ts y s o there. go (ts ++ tasks.Phase 5 ∷ []) y s o there)
     where
-      still : Leadership
-      still = record l { change = Settled }
+      led : StillLeads l.leader.fact l.leader.accepts (calls_of_tick (end_of (older l.change)) l.leader)
+      led = tick_stays (end_of (older l.change)) l.leader
 
-      holds : IsLeading h.ledger p x.fact still
-      holds = record { started = old.started; established = old.established; settled = refl }
-
-      none : wished l.fact Settled ≡ Settled
-      none = rw (not_joint h.fits l old) refl
+      one_older : IsLeading h.ledger p x.fact (record l { change = older l.change })
+      one_older = record { started = old.started; established = old.established; settled = ap older old.settled }
 
   tick_good : (phase : Phase) (x : State) (stored : Option Fact) (out : Out) (next : Rest State (List Task)) → (h : Here x stored out) → PhaseHolds h.ledger p x.fact phase → Onward next → Good (ticked p phase x out next) stored
   tick_good (phases.Leading l) x stored out next h old go = led_good l x stored out next h old go
   tick_good phase x stored out next h old go = row_good (aged phase p x) x stored out next h (aged_goes h.fits phase old) go
 
+  shown_good : (b : Bool) (part : Part State Seen) → Passes part → Passes (shown b part)
+  shown_good true part good x stored out next h go = good x stored out next h go
+  shown_good false part good x stored out next h go = go seens.Nothing x stored out h
+
+  put_done_good : (then : Then) (from : ℕ) (ballot : Epoch) (o : Object) (row : PhaseOut) → IsHarmless row → Passes (put_done then p from ballot o row)
+  put_done_good thens.Put from ballot o row harmless x stored out next h go =
+      written_good o x stored out _ h (λ seen y s q there. harmless_good (after_put from ballot row seen) (after_put_harmless from ballot row seen harmless) y s q next there go)
+  put_done_good other from ballot o row harmless x stored out next h go = harmless_good row harmless x stored out next h go
+
+  delivered_good : (from : ℕ) (message : Message) (x : State) (stored : Option Fact) (out : Out) (next : Rest State (List Task)) → (h : Here x stored out) → MessageHolds h.ledger from message → Onward next → Good (delivered p from message x out next) stored
+  delivered_good from (messages.Get ballot round key) x stored out next h says go =
+      shown_good (is_served x.fact x.trusted ballot) (looked key) (looked_good key) x stored out _ h
+      (λ seen y s q there. harmless_good (row_21 y.fact y.trusted from ballot round key seen) (row_21_harmless y.fact y.trusted from ballot round key seen) y s q next there go)
+  delivered_good from (messages.Put ballot o) x stored out next h says go =
+      shown_good (is_served x.fact x.trusted ballot) (found o.key) (found_good o.key) x stored out _ h
+      (λ seen y s q there. put_done_good (row_22 y.fact y.trusted from ballot o seen).then from ballot o (row_22 y.fact y.trusted from ballot o seen) (row_22_harmless y.fact y.trusted from ballot o seen) y s q next there go)
+  delivered_good from (messages.GetReply ballot round key entry object) x stored out next h says go =
+      by_test (λ (plan : Plan State). Good plan stored) (leads x.phase) _ _
+      (λ is. confirmed_good entry object x stored out _ h
+      (λ sent y s q there. lead_good (row_29_reply from ballot round key entry sent) (got_stays from ballot round key entry sent) 29 y.phase y s q next there there.fits.peer.phase go))
+      (λ not. go [] x stored out h)
+  delivered_good from (messages.PutReply ballot key version) x stored out next h says go =
+      lead_good (row_35_reply from ballot key version) (put_heard_stays from ballot key version) 35 x.phase x stored out next h h.fits.peer.phase go
+  delivered_good from (messages.CheckReply ballot round) x stored out next h says go = lead_good (row_33_reply from ballot round) (stands_stays from ballot round) 33 x.phase x stored out next h h.fits.peer.phase go
+  delivered_good from message x stored out next h says go = row_good (received p from message x) x stored out next h (received_goes h.fits from message says) go
+
+  -- rule 27
+  called_good : (call : CallIn) → Passes (called p call)
+  called_good call x stored out next h go =
+      by_test (λ (plan : Plan State). Good plan stored) (leads x.phase) _ _
+      (λ is. lead_good (row_27 call.from call.id call.key call.command (changes x.phase)) (joined_stays call.from call.id call.key call.command (changes x.phase)) 27 x.phase x stored out next h h.fits.peer.phase go)
+      (λ not. go [] x stored (and_answers out (unavailable call ∷ [])) (moved x x stored out (and_answers out (unavailable call ∷ [])) h h.fits refl))
+
   event_good : (event : Event) (x : State) (stored : Option Fact) (out : Out) (next : Rest State (List Task)) → (h : Here x stored out) → EventHolds h.ledger event → Onward next → Good (first p event x out next) stored
-  event_good (events.Deliver from message) x stored out next h says go = row_good (received p from message x) x stored out next h (received_goes h.fits from message says) go
+  event_good (events.Deliver from message) x stored out next h says go = delivered_good from message x stored out next h says go
   event_good events.Tick x stored out next h says go = tick_good x.phase x stored out next h h.fits.peer.phase go
-  event_good (events.Call call) x stored out next h says go = go [] x stored _ (record { ledger = h.ledger; keeps = h.keeps; fits = h.fits; sends = h.sends })
+  event_good (events.Call call) x stored out next h says go = called_good call x stored out next h go
   event_good (events.Change view) x stored out next h says go = absurd says
 
   -- the tasks that a row names, and what follows once no task is left
@@ -160,8 +390,11 @@ module _ (c : Course) (before : Ledger) where
 
   -- rule 1, a start from a kept fact: the peer follows, and does not trust its tree
   pub start_good : (view : List ℕ) (stored : Option Fact) → Rests stored → Good (start_of view) stored
-  start_good view stored r = (r, subst (λ s. Good (opened view s) s) (sym r.kept.kept) follows_on)
+  start_good view stored r = (r, subst (λ s. Good (opened view s) s) (sym r.kept.kept) (opens, λ u. follows_on))
     where
+      opens : Rests (Some r.kept.fact)
+      opens = record { ledger = r.ledger; keeps = r.keeps; reaches = r.reaches; kept = record { fact = r.kept.fact; kept = refl; saved = r.kept.saved } }
+
       follows_on : Here (first_state r.kept.fact false) (Some r.kept.fact) nothing
       follows_on = record {
         ledger = r.ledger;

@@ -4,7 +4,7 @@ use Rattle.std.proofs.Common.{◌≡◌, ℕ, Bool, true, ◌&&◌, ◌==◌, Li
 use Rattle.std.proofs.lemmas.Bool.{and_parts}
 use Rattle.joint_views.proofs.Majorities.{quorum_more}
 use Rattle.joint_views.specs.Quorums.{is_quorum}
-use Rattle.abstract_protocol.specs.Ledger.{Ledger}
+use Rattle.abstract_protocol.specs.Ledger.{Ledger, is_established}
 use Rattle.abstract_protocol.specs.Numbers.{epoch_number}
 use Rattle.election.specs.Ballots.{row_15}
 use Rattle.election.specs.declared.election.Election.{Election}
@@ -12,14 +12,17 @@ use Rattle.election.specs.declared.election.Election.TheVariants.{Preparing, Sta
 use Rattle.ens_base.specs.PeerSet.{holds}
 use Rattle.ens_base.specs.declared.epoch.Epoch.{Epoch}
 use Rattle.following.specs.Announcements.{row_19}
-use Rattle.peer_core.specs.Moves.{electing, follower, leading}
-use Rattle.peer_core.specs.Rows.{begun_change, change_heard, ended, leader_heard, while_14, while_15, while_17, while_25, while_26}
-use Rattle.peer_core.specs.declared.state.ChangeState.{ChangeState}
-use Rattle.peer_core.specs.declared.state.ChangeState.TheVariants.{Settled}
-use Rattle.peer_core.specs.declared.state.Leadership.{Leadership}
-use Rattle.peer_core.specs.declared.state.Phase.{Phase}
-use Rattle.peer_core.specs.declared.state.Phase.TheVariants as phases
-use Rattle.peer_core.specs.declared.state.State.{State}
+use Rattle.call_table.specs.Calls.{has_calls}
+use Rattle.leading.specs.Leaders.{new_leader}
+use Rattle.leading.specs.declared.leader.Leader.{Leader}
+use Rattle.peer_machine.specs.Moves.{electing, follower, leading}
+use Rattle.peer_machine.specs.Rows.{begun_change, change_heard, ended, leader_heard, while_14, while_15, while_17, while_25, while_26}
+use Rattle.peer_machine.specs.declared.state.ChangeState.{ChangeState}
+use Rattle.peer_machine.specs.declared.state.ChangeState.TheVariants.{Settled}
+use Rattle.peer_machine.specs.declared.state.Leadership.{Leadership}
+use Rattle.peer_machine.specs.declared.state.Phase.{Phase}
+use Rattle.peer_machine.specs.declared.state.Phase.TheVariants as phases
+use Rattle.peer_machine.specs.declared.state.State.{State}
 use Rattle.peer_fact.specs.declared.fact.Fact.{Fact}
 use Rattle.phase_rows.specs.Orders.{is_below, is_same}
 use Rattle.phase_rows.specs.Peers.{joined}
@@ -38,7 +41,7 @@ use Rattle.election_refinement.specs.Refinement.{IsStarting, IsLeading, PhaseHol
 
 -- a starting peer that a quorum accepted leads
 leads : (l : Ledger) (p : ℕ) (fact new : Fact) (accepts : List Bool) → IsStarting l p fact new accepts → is_quorum (holds accepts) new.views ≡ true
-    → IsLeading l p fact (record { fact = new; accepts = accepts; change = Settled })
+    → IsLeading l p fact (record { leader = new_leader new p accepts; change = Settled })
 leads l p fact new accepts starting quorum = record {
   started = starting;
   established = quorum_more (holds accepts) (l.accepted (epoch_number new.epoch)) starting.accepted (l.views (epoch_number new.epoch))
@@ -61,10 +64,10 @@ counted l p from seq ballot fact new accepts told test old = record {
 -- a leader counts an acceptance
 heard : (l : Ledger) (p from seq : ℕ) (ballot : Epoch) (fact : Fact) (leadership : Leadership) → IsAcceptance l from ballot seq → IsLeading l p fact leadership → IsLeading l p fact (leader_heard leadership fact from ballot seq)
 heard l p from seq ballot fact leadership told old = record {
-  started = by_test (λ (accepts : List Bool). IsStarting l p fact leadership.fact accepts) (is_same ballot fact.ballot && seq == 1) _ _
-      (λ own. counted l p from seq ballot fact leadership.fact leadership.accepts told own old.started)
+  started = by_test (λ (leader : Leader). IsStarting l p fact leader.fact leader.accepts) (is_same ballot fact.ballot && seq == 1) _ _
+      (λ own. counted l p from seq ballot fact leadership.leader.fact leadership.leader.accepts told own old.started)
       (λ other. old.started);
-  established = old.established;
+  established = by_test (λ (leader : Leader). is_established l (epoch_number leader.fact.epoch) ≡ true) (is_same ballot fact.ballot && seq == 1) _ _ (λ own. old.established) (λ other. old.established);
   settled = ap (λ (change : ChangeState). change_heard change fact from ballot seq) old.settled;
 }
 
@@ -83,7 +86,7 @@ module _ {c : Course} {l : Ledger} {x : State} {stored : Option Fact} (h : Fits 
   pub rule_14 : (phase : Phase) → PhaseHolds l p x.fact phase → Goes c l stored (while_14 phase p x)
   rule_14 (phases.Electing (Starting new accepts age)) old =
       by_test (λ (turn : Then). Goes c l stored (electing (Starting new accepts age) x, silent turn)) (holds accepts p && is_quorum (holds accepts) new.views) _ _
-      (λ enough. unmoved (enters h (phases.Leading (record { fact = new; accepts = accepts; change = Settled }))
+      (λ enough. unmoved (enters h (phases.Leading (record { leader = new_leader new p accepts; change = Settled }))
       (leads l p x.fact new accepts old (and_parts (holds accepts p) (is_quorum (holds accepts) new.views) enough).1)) tt)
       (λ few. rests_in h (phases.Electing (Starting new accepts age)) old)
   rule_14 (phases.Electing (Preparing base promises asked age)) old = rests_in h (phases.Electing (Preparing base promises asked age)) old
@@ -129,5 +132,5 @@ module _ {c : Course} {l : Ledger} {x : State} {stored : Option Fact} (h : Fits 
 
   -- rule 26: no epoch ends
   pub rule_26 : (phase : Phase) → PhaseHolds l p x.fact phase → Goes c l stored (while_26 phase p x)
-  rule_26 (phases.Leading y) old = subst (λ (change : ChangeState). Goes c l stored (x, ended change x.fact p)) (sym old.settled) (quiet h)
+  rule_26 (phases.Leading y) old = subst (λ (change : ChangeState). Goes c l stored (x, ended change x.fact p (has_calls y.leader.table.calls))) (sym old.settled) (quiet h)
   rule_26 other old = quiet h

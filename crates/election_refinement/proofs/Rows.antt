@@ -3,10 +3,10 @@
 -- and which rule follows, is in `Loops`.
 use Rattle.std.proofs.Common.{ℕ, Option, Some, None}
 use Rattle.abstract_protocol.specs.Ledger.{Ledger}
-use Rattle.peer_core.specs.Moves.{follower, left, turned}
-use Rattle.peer_core.specs.Rows.{calm}
-use Rattle.peer_core.specs.declared.state.Phase.{Phase}
-use Rattle.peer_core.specs.declared.state.State.{State}
+use Rattle.peer_machine.specs.Moves.{follower, left, turned}
+use Rattle.peer_machine.specs.Rows.{calm}
+use Rattle.peer_machine.specs.declared.state.Phase.{Phase}
+use Rattle.peer_machine.specs.declared.state.State.{State}
 use Rattle.peer_fact.specs.declared.fact.Fact.{Fact}
 use Rattle.phase_rows.specs.Rows.{silent}
 use Rattle.wire_frames.specs.declared.phase.PhaseOut.{PhaseOut}
@@ -26,9 +26,9 @@ abbrev pub stored_in : Option Fact → Option Fact → Option Fact
 stored_in None stored = stored
 stored_in (Some fact) stored = Some fact
 
--- the state after a whole row
-abbrev pub settled : PhaseOut → State → State
-settled row x = turned row.then (saved_in row.save (left row.leave x))
+-- the state of peer `me` after a whole row
+abbrev pub settled : ℕ → PhaseOut → State → State
+settled me row x = turned me row.then (saved_in row.save (left row.leave x))
 
 module _ (c : Course) where
   open c use {peer as p}
@@ -43,11 +43,11 @@ module _ (c : Course) where
   pub record Goes (l : Ledger) (stored : Option Fact) (r : State × PhaseOut) : Type 0 where
     pub ledger : Ledger
     pub keeps : Keeps l ledger p
-    pub fits : Fits ledger (settled r.1 r.0) (stored_in r.1.save stored)
+    pub fits : Fits ledger (settled p r.1 r.0) (stored_in r.1.save stored)
     pub says : RowSays ledger p r.1.message
 
 -- the peer takes no step of the protocol
-pub unmoved : {c : Course} {l : Ledger} {stored : Option Fact} {r : State × PhaseOut} → Fits c l (settled r.1 r.0) (stored_in r.1.save stored) → RowSays l c.peer r.1.message → Goes c l stored r
+pub unmoved : {c : Course} {l : Ledger} {stored : Option Fact} {r : State × PhaseOut} → Fits c l (settled c.peer r.1 r.0) (stored_in r.1.save stored) → RowSays l c.peer r.1.message → Goes c l stored r
 unmoved {c} {l} {stored} {r} fits says = record { ledger = l; keeps = keeps_none l c.peer; fits = fits; says = says }
 
 module _ {c : Course} {l : Ledger} {x : State} {stored : Option Fact} (h : Fits c l x stored) where

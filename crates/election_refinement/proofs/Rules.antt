@@ -1,8 +1,9 @@
 -- The rows of the rules: of those that a row names, and of those for a message.
 use Rattle.std.proofs.Common.{ℕ, ◌==◌, Option}
 use Rattle.abstract_protocol.specs.Ledger.{Ledger}
-use Rattle.peer_core.specs.Rows.{phase_row, received}
-use Rattle.peer_core.specs.declared.state.State.{State}
+use Rattle.following.specs.Requests.{row_20}
+use Rattle.peer_machine.specs.Rows.{phase_row, received}
+use Rattle.peer_machine.specs.declared.state.State.{State}
 use Rattle.peer_fact.specs.declared.fact.Fact.{Fact}
 use Rattle.wire_frames.specs.declared.message.Message.{Message}
 use Rattle.wire_frames.specs.declared.message.Message.TheVariants as messages
@@ -13,6 +14,7 @@ use Rattle.election_refinement.proofs.Probes.{rule_7, rule_8, rule_9}
 use Rattle.election_refinement.proofs.Promises.{rule_10, rule_11}
 use Rattle.election_refinement.proofs.Quiet.{rule_8_probe, rule_14, rule_15, rule_17, rule_19, rule_25, rule_26}
 use Rattle.election_refinement.proofs.Reaching.{Course}
+use Rattle.election_refinement.proofs.Requests.{row_20_harmless, harmless_goes}
 use Rattle.election_refinement.proofs.Rows.{Fits, Goes, quiet}
 use Rattle.election_refinement.proofs.Tests.{by_test}
 use Rattle.election_refinement.specs.Refinement.{MessageHolds}
@@ -41,4 +43,10 @@ module _ {c : Course} {l : Ledger} {x : State} {stored : Option Fact} (h : Fits 
   received_goes from (messages.NewEpoch fact) says = rule_16 h from fact says
   received_goes from (messages.Accepted ballot seq) says = rule_17 h x.phase from ballot seq h.peer.phase says
   received_goes from (messages.Beat ballot) says = rule_19 h from ballot
+  received_goes from (messages.Check ballot round) says = harmless_goes h (row_20 x.fact from ballot round) (row_20_harmless x.fact from ballot round)
+  received_goes from (messages.CheckReply ballot round) says = quiet h
+  received_goes from (messages.Get ballot round key) says = quiet h
+  received_goes from (messages.GetReply ballot round key entry object) says = quiet h
+  received_goes from (messages.Put ballot object) says = quiet h
+  received_goes from (messages.PutReply ballot key version) says = quiet h
   received_goes from other says = absurd says

@@ -1,20 +1,21 @@
--- A world keeps the number of peers with which it opened, and all of them run.
-use Rattle.std.proofs.Common.{◌≡◌, ℕ, zero, suc, ◌-◌, Bool, List, [], ◌∷◌, length, Option, Some, None, slice_get, refl, ◌∙◌, get_or}
+-- A world keeps the number of peers with which it opened, and each of them keeps a fact.
+use Rattle.std.proofs.Common.{◌≡◌, ℕ, zero, suc, ◌<◌, ◌-◌, Bool, List, [], ◌∷◌, length, Option, Some, None, slice_get, refl, ◌∙◌, get_or}
 use Rattle.std.proofs.lemmas.List.{length-set, length-replicate}
 use Rattle.std.proofs.lemmas.Option.{slice_get-get_or}
 use Rattle.abstract_protocol.specs.Ledger.{Ledger}
 use Rattle.network.specs.Mail.{settled, goes, oldest, is_among, most_messages}
-use Rattle.peer_core.specs.declared.event.Event.{Event}
-use Rattle.peer_core.specs.declared.event.Event.TheVariants as events
+use Rattle.peer_machine.specs.declared.event.Event.{Event}
+use Rattle.peer_machine.specs.declared.event.Event.TheVariants as events
 use Rattle.schedule_text.specs.declared.event.ScheduleEvent.{ScheduleEvent}
-use Rattle.schedule_text.specs.declared.event.ScheduleEvent.TheVariants.{Tick, Deliver, Pass, Lose, Calm, CalmAmong}
+use Rattle.schedule_text.specs.declared.event.ScheduleEvent.TheVariants.{Call, Tick, Deliver, Pass, Lose, Calm, CalmAmong, Change, Stop, Start, Spoil, Revert, Fail}
 use Rattle.wire_frames.specs.declared.frame.Frame.{Frame}
-use Rattle.world_spec.specs.Lines.{set_of, everyone, effect, applied, run_from, run_of_schedule}
-use Rattle.world_spec.specs.Nodes.{Node, Up, Down, taken, opening_node}
-use Rattle.world_spec.specs.Runs.{Run, opening_run, place_of, stepped, stepped_at, ticked, received_if, delivered, delivered_if, going_on, calmed}
+use Rattle.world_spec.specs.Lines.{call_of, set_of, everyone, effect, applied, run_from, run_of_schedule}
+use Rattle.world_spec.specs.Nodes.{Node, Up, Down, taken, started, stopped, over_stores, while_down, opening_node}
+use Rattle.world_spec.specs.Stores.{failing, leaves_of, spoiled, taken_back}
+use Rattle.world_spec.specs.Runs.{Run, opening_run, place_of, stepped, stepped_at, changed, changed_at, ticked, received_if, delivered, delivered_if, going_on, calmed}
 use Rattle.election_refinement.proofs.Worlds.{IsSpared}
 use Rattle.election_refinement.specs.Refinement.{NodeHolds}
-use Rattle.election_refinement.specs.Worlds.{Refines, IsRunning, PeersRun}
+use Rattle.election_refinement.specs.Worlds.{Refines, KeepsFact, IsKeeping, IsRunning}
 
 -- the number of peers
 abbrev pub size : Run → ℕ
@@ -26,6 +27,13 @@ stepped_size p event w = by_node (slice_get w.nodes (place_of p))
     by_node : (o : Option Node) → size (stepped_at o p event w) ≡ size w
     by_node None = refl
     by_node (Some node) = length-set w.nodes (place_of p) (taken p event node).node
+
+changed_size : (p : ℕ) (change : Node → Node) (w : Run) → size (changed p change w) ≡ size w
+changed_size p change w = by_node (slice_get w.nodes (place_of p))
+  where
+    by_node : (o : Option Node) → size (changed_at o p change w) ≡ size w
+    by_node None = refl
+    by_node (Some node) = length-set w.nodes (place_of p) (change node)
 
 ticked_size : (p n : ℕ) (w : Run) → size (ticked p n w) ≡ size w
 unfolding ticked
@@ -53,12 +61,19 @@ calmed_size peers (suc n) w = by_oldest (oldest (is_among peers) w.mail) (λ v. 
     by_oldest (Some m) rest = rest (delivered m w) ∙ delivered_size m w
 
 effect_size : (event : ScheduleEvent) (w : Run) → size (effect event w) ≡ size w
+effect_size (Call peer id key command) w = stepped_size peer (events.Call (call_of id key command)) w
 effect_size (Tick peer ticks) w = ticked_size peer ticks w
 effect_size (Deliver message) w = delivered_size (message - 1) w
 effect_size (Pass sender receiver) w = delivered_if_size (oldest (goes sender receiver) w.mail) w
 effect_size (Lose sender receiver) w = refl
 effect_size Calm w = calmed_size everyone most_messages w
 effect_size (CalmAmong members) w = calmed_size (set_of members) most_messages w
+effect_size (Change peer view) w = stepped_size peer (events.Change view) w
+effect_size (Stop peer) w = changed_size peer stopped w
+effect_size (Start peer) w = changed_size peer (started w.view) w
+effect_size (Spoil peer key bytes) w = changed_size peer (over_stores (spoiled key bytes)) w
+effect_size (Revert peer changes) w = changed_size peer (while_down (taken_back changes)) w
+effect_size (Fail peer store survivor) w = changed_size peer (over_stores (failing store (leaves_of survivor))) w
 effect_size event w = refl
 
 run_from_size : (events : List ScheduleEvent) (w : Run) → size (run_from events w) ≡ size w
@@ -68,13 +83,27 @@ run_from_size (event ∷ more) w = run_from_size more (applied event w) ∙ effe
 pub schedule_size : (peers : ℕ) (view : List ℕ) (events : List ScheduleEvent) → size (run_of_schedule peers view events) ≡ peers
 schedule_size peers view events = run_from_size events (opening_run peers view) ∙ length-replicate peers (opening_node view)
 
-running : (l : Ledger) (w : Run) (place : ℕ) (node : Node) → slice_get w.nodes place ≡ Some node → NodeHolds l (suc place) node → IsSpared node → IsRunning w place
-running l w place (Up x st) at holds up = record { state = x; stores = st; at = at; kept = holds.kept }
-running l w place (Down st) at holds up = absurd up
+module _ (view : List ℕ) (l : Ledger) (w : Run) (refines : Refines view l w) where
+  -- the node at a place
+  at_place : (place : ℕ) → place < size w → slice_get w.nodes place ≡ Some (get_or w.nodes place (opening_node view))
+  at_place place below = slice_get-get_or w.nodes place (opening_node view) below
 
-pub all_run : (peers : ℕ) (view : List ℕ) (l : Ledger) (w : Run) → size w ≡ peers → Refines view l w → ((place : ℕ) (node : Node) → slice_get w.nodes place ≡ Some node → IsSpared node) → PeersRun peers w
-all_run peers view l w many refines up place below =
-    running l w place (get_or w.nodes place (opening_node view)) at (refines.nodes place (get_or w.nodes place (opening_node view)) at) (up place (get_or w.nodes place (opening_node view)) at)
-  where
-    at : slice_get w.nodes place ≡ Some (get_or w.nodes place (opening_node view))
-    at = slice_get-get_or w.nodes place (opening_node view) (rw many below)
+  keeps_fact : (place : ℕ) (node : Node) → NodeHolds l (suc place) node → KeepsFact node
+  keeps_fact place (Up x st) holds = holds.kept
+  keeps_fact place (Down st) holds = (holds.fact, holds.kept)
+
+  pub is_keeping : (place : ℕ) → place < size w → IsKeeping w place
+  is_keeping place below = record {
+    node = get_or w.nodes place (opening_node view);
+    at = at_place place below;
+    keeps = keeps_fact place (get_or w.nodes place (opening_node view)) (refines.nodes place (get_or w.nodes place (opening_node view)) (at_place place below));
+  }
+
+  running : (place : ℕ) (node : Node) → slice_get w.nodes place ≡ Some node → NodeHolds l (suc place) node → IsSpared node → IsRunning w place
+  running place (Up x st) at holds up = record { state = x; stores = st; at = at; kept = holds.kept }
+  running place (Down st) at holds down = absurd down
+
+  pub is_running : (place : ℕ) → place < size w → ((node : Node) → slice_get w.nodes place ≡ Some node → IsSpared node) → IsRunning w place
+  is_running place below up =
+      let node = get_or w.nodes place (opening_node view) in
+      running place node (at_place place below) (refines.nodes place node (at_place place below)) (up node (at_place place below))

@@ -1,19 +1,22 @@
 -- Rules 2 to 5: a tick.
-use Rattle.std.proofs.Common.{◌≡◌, ℕ, ◌+◌, Bool, false, ◌==◌, if◌then◌else◌, Option, refl, ◌∙◌, sym, subst}
+use Rattle.std.specs.Prelude.{All}
+use Rattle.std.proofs.Common.{◌≡◌, ℕ, zero, suc, ◌≤◌, ◌+◌, Bool, false, ◌==◌, if◌then◌else◌, [], ◌∷◌, Option, None, arith, refl, ◌∙◌}
+use Rattle.std.proofs.lemmas.List.Elements.{All-nil, All-cons, All-append}
 use Rattle.joint_views.specs.Quorums.{is_member}
 use Rattle.abstract_protocol.specs.Ledger.{Ledger}
 use Rattle.abstract_protocol.specs.Numbers.{epoch_number}
 use Rattle.election.specs.declared.election.Election.TheVariants.{Preparing, Starting}
 use Rattle.ens_base.specs.PeerSet.{holds}
 use Rattle.following.specs.declared.follower.Follower.{Follower}
-use Rattle.peer_core.specs.Leading.{word_of_end, word_to}
-use Rattle.peer_core.specs.Moves.{electing, following}
-use Rattle.peer_core.specs.Rows.{aged}
-use Rattle.peer_core.specs.declared.state.ChangeState.{ChangeState}
-use Rattle.peer_core.specs.declared.state.Leadership.{Leadership}
-use Rattle.peer_core.specs.declared.state.Phase.{Phase}
-use Rattle.peer_core.specs.declared.state.Phase.TheVariants as phases
-use Rattle.peer_core.specs.declared.state.State.{State}
+use Rattle.leader_words.specs.Sends.{is_other}
+use Rattle.leader_words.specs.declared.out.Outgoing.{Outgoing}
+use Rattle.leading.specs.Ticks.{tick_message, ticks_up_to}
+use Rattle.peer_machine.specs.Moves.{electing, following}
+use Rattle.peer_machine.specs.Rows.{aged}
+use Rattle.peer_machine.specs.declared.state.Leadership.{Leadership}
+use Rattle.peer_machine.specs.declared.state.Phase.{Phase}
+use Rattle.peer_machine.specs.declared.state.Phase.TheVariants as phases
+use Rattle.peer_machine.specs.declared.state.State.{State}
 use Rattle.peer_fact.specs.declared.fact.Fact.{Fact}
 use Rattle.phase_rows.specs.Orders.{is_joint}
 use Rattle.phase_rows.specs.Rows.{silent}
@@ -23,23 +26,34 @@ use Rattle.wire_frames.specs.declared.phase.Then.TheVariants as thens
 use Rattle.election_refinement.proofs.Reaching.{Course}
 use Rattle.election_refinement.proofs.Rows.{Fits, Goes, unmoved, enters, quiet, follows, rests_in, names}
 use Rattle.election_refinement.proofs.Tests.{by_test}
-use Rattle.election_refinement.specs.Refinement.{IsLeading, PhaseHolds, MessageHolds}
+use Rattle.election_refinement.specs.Refinement.{IsLeading, PhaseHolds, MessageHolds, SendHolds}
 
 -- what a leader's message to a peer asserts holds
-pub word_holds : (l : Ledger) (p : ℕ) (fact : Fact) (leadership : Leadership) → IsLeading l p fact leadership → (q : ℕ) → MessageHolds l p (word_to fact leadership q)
-unfolding word_to
+pub word_holds : (l : Ledger) (p : ℕ) (fact : Fact) (leadership : Leadership) → IsLeading l p fact leadership → (q : ℕ) → MessageHolds l p (tick_message None fact leadership.leader q)
 word_holds l p fact leadership leading q =
-    by_test (MessageHolds l p) (holds leadership.accepts q) _ _
-    (λ has. subst (λ (change : ChangeState). MessageHolds l p (word_of_end change fact leadership.fact.epoch q)) (sym leading.settled)
-    (record { elected = leading.started.first.known.elected; established = leading.established }))
+    by_test (MessageHolds l p) (holds leadership.leader.accepts q) _ _
+    (λ has. record { elected = leading.started.first.known.elected; established = leading.established })
     (λ lacks. leading.started.first)
+
+-- what a leader sends at a tick
+pub ticks_hold : (l : Ledger) (p : ℕ) (fact : Fact) (leadership : Leadership) → IsLeading l p fact leadership → (n : ℕ) → n ≤ 31 → All (SendHolds l p) (ticks_up_to None fact leadership.leader n)
+unfolding ticks_up_to
+ticks_hold l p fact leadership leading zero within = All-nil (SendHolds l p)
+ticks_hold l p fact leadership leading (suc n) within =
+    All-append (SendHolds l p) (ticks_up_to None fact leadership.leader n) (if is_other leadership.leader.me leadership.leader.fact.views (n + 1) then sent ∷ [] else []) (ticks_hold l p fact leadership leading n (omega arith))
+    (by_test (All (SendHolds l p)) (is_other leadership.leader.me leadership.leader.fact.views (n + 1)) (sent ∷ []) []
+    (λ is. All-cons (SendHolds l p) sent [] ((omega arith, omega arith), word_holds l p fact leadership leading (n + 1)) (All-nil (SendHolds l p)))
+    (λ not. All-nil (SendHolds l p)))
+  where
+    sent : Outgoing
+    sent = record { to = n + 1; message = tick_message None fact leadership.leader (n + 1) }
 
 module _ {c : Course} {l : Ledger} {x : State} {stored : Option Fact} (h : Fits c l x stored) where
   open c use {peer as p}
 
   -- the views of a leader's epoch are the opening view alone
-  pub not_joint : (leadership : Leadership) → IsLeading l p x.fact leadership → is_joint leadership.fact.views ≡ false
-  not_joint leadership leading = rw (leading.started.first.known.views ∙ h.reaches.orderly.one_view (epoch_number leadership.fact.epoch) leading.started.first.known.elected) refl
+  pub not_joint : (leadership : Leadership) → IsLeading l p x.fact leadership → is_joint leadership.leader.fact.views ≡ false
+  not_joint leadership leading = rw (leading.started.first.known.views ∙ h.reaches.orderly.one_view (epoch_number leadership.leader.fact.epoch) leading.started.first.known.elected) refl
 
   -- a tick that changes only the phase, and may run rule 7
   anew : (phase : Phase) (test : Bool) → PhaseHolds l p x.fact phase → Goes c l stored (record x { phase = phase }, silent (if test then thens.Rule 7 else thens.Stay))

@@ -9,15 +9,15 @@ use Rattle.election.specs.declared.election.Election.TheVariants.{Preparing, Sta
 use Rattle.ens_base.specs.PeerSet.{holds}
 use Rattle.ens_base.specs.View.{IsPeer}
 use Rattle.ens_base.specs.declared.epoch.Epoch.{Epoch}
-use Rattle.peer_core.specs.declared.state.ChangeState.TheVariants.{Settled}
-use Rattle.peer_core.specs.declared.state.Leadership.{Leadership}
-use Rattle.peer_core.specs.declared.state.Phase.{Phase}
-use Rattle.peer_core.specs.declared.state.Phase.TheVariants as phases
-use Rattle.peer_core.specs.declared.state.State.{State}
+use Rattle.peer_machine.specs.declared.state.ChangeState.TheVariants.{Settled}
+use Rattle.peer_machine.specs.declared.state.Leadership.{Leadership}
+use Rattle.peer_machine.specs.declared.state.Phase.{Phase}
+use Rattle.peer_machine.specs.declared.state.Phase.TheVariants as phases
+use Rattle.peer_machine.specs.declared.state.State.{State}
 use Rattle.peer_fact.specs.declared.fact.Change.TheVariants as changes
 use Rattle.peer_fact.specs.declared.fact.Fact.{Fact}
 use Rattle.probe.specs.declared.probing.Probing.{Probing}
-use Rattle.step_plans.specs.declared.outbox.Outgoing.{Outgoing}
+use Rattle.leader_words.specs.declared.out.Outgoing.{Outgoing}
 use Rattle.wire_frames.specs.declared.frame.Frame.{Frame}
 use Rattle.wire_frames.specs.declared.message.Message.{Message}
 use Rattle.wire_frames.specs.declared.message.Message.TheVariants as messages
@@ -92,8 +92,8 @@ pub record IsStarting (l : Ledger) (me : ℕ) (fact new : Fact) (accepts : List 
 
 -- a leading peer: it started the epoch, a quorum accepted it, and no change of the view has begun
 pub record IsLeading (l : Ledger) (me : ℕ) (fact : Fact) (leadership : Leadership) : Type 0 where
-  pub started : IsStarting l me fact leadership.fact leadership.accepts
-  pub established : is_established l (epoch_number leadership.fact.epoch) ≡ true
+  pub started : IsStarting l me fact leadership.leader.fact leadership.leader.accepts
+  pub established : is_established l (epoch_number leadership.leader.fact.epoch) ≡ true
   pub settled : leadership.change ≡ Settled
 
 -- a preparing or starting peer
@@ -160,7 +160,8 @@ pub record IsThere (l : Ledger) (epoch : Epoch) : Type 0 where
   pub elected : l.elected (epoch_number epoch) ≡ true
   pub established : is_established l (epoch_number epoch) ≡ true
 
--- what a message asserts; the messages of rules that are not supported yet are never sent
+-- what a message asserts about elections; the messages of calls assert nothing, and no message of
+-- the remaining kinds is ever sent
 abbrev pub MessageHolds : Ledger → ℕ → Message → Type 0
 MessageHolds l sender messages.Probe = Unit {0}
 MessageHolds l sender (messages.ProbeReply fact) = IsKnown l fact
@@ -170,6 +171,12 @@ MessageHolds l sender (messages.Nack ballot cause) = Unit {0}
 MessageHolds l sender (messages.NewEpoch fact) = IsFirst l fact
 MessageHolds l sender (messages.Accepted epoch seq) = IsAcceptance l sender epoch seq
 MessageHolds l sender (messages.Beat epoch) = IsThere l epoch
+MessageHolds l sender (messages.Check ballot round) = Unit {0}
+MessageHolds l sender (messages.CheckReply ballot round) = Unit {0}
+MessageHolds l sender (messages.Get ballot round key) = Unit {0}
+MessageHolds l sender (messages.GetReply ballot round key entry object) = Unit {0}
+MessageHolds l sender (messages.Put ballot object) = Unit {0}
+MessageHolds l sender (messages.PutReply ballot key version) = Unit {0}
 MessageHolds l sender other = ⊥
 
 -- an outgoing message goes to a peer, and what it asserts holds

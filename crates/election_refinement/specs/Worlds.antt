@@ -1,17 +1,42 @@
 -- When a world refines a run of the abstract protocol, and what follows for the world.
-use Rattle.std.specs.Prelude.{◌≡◌, ℕ, suc, ◌<◌, ◌≤◌, ◌⊎◌, List, ◌++◌, All, Option, Some, slice_get}
+use Rattle.std.specs.Prelude.{◌≡◌, ◌≢◌, ℕ, suc, ◌<◌, ◌≤◌, ◌⊎◌, List, [], ◌∷◌, ◌++◌, All, Option, Some, slice_get}
 use Rattle.abstract_protocol.specs.Ledger.{Ledger, IsAtMost}
 use Rattle.abstract_protocol.specs.Numbers.{epoch_number}
 use Rattle.abstract_protocol.specs.Protocol.{Step, IsRun, state_after}
 use Rattle.election_laws.specs.Elections.{IsClosed}
 use Rattle.ens_base.specs.Epochs.{IsEpochBelow}
-use Rattle.peer_core.specs.declared.state.Leadership.{Leadership}
-use Rattle.peer_core.specs.declared.state.Phase.TheVariants as phases
-use Rattle.peer_core.specs.declared.state.State.{State}
+use Rattle.peer_machine.specs.declared.state.Leadership.{Leadership}
+use Rattle.peer_machine.specs.declared.state.Phase.TheVariants as phases
+use Rattle.peer_machine.specs.declared.state.State.{State}
 use Rattle.peer_fact.specs.declared.fact.Fact.{Fact}
-use Rattle.world_spec.specs.Nodes.{MemStores, Node, Up, Down}
+use Rattle.schedule_text.specs.declared.event.ScheduleEvent.{ScheduleEvent}
+use Rattle.schedule_text.specs.declared.event.ScheduleEvent.TheVariants.{Change, Stop, Fail}
+use Rattle.world_spec.specs.Nodes.{Node, Up, Down}
 use Rattle.world_spec.specs.Runs.{Run}
+use Rattle.held_stores.specs.Held.{HeldStores}
 use Rattle.election_refinement.specs.Refinement.{fact_place, NodeHolds, FrameHolds, IsOrderly}
+
+-- ## Schedules
+
+-- the rules that this line runs are linked to the abstract protocol: all but those that change the
+-- view
+abbrev pub IsLinked : ScheduleEvent → Type 0
+IsLinked (Change peer view) = ⊥
+IsLinked event = Unit {0}
+
+abbrev pub AllLinked : List ScheduleEvent → Type 0
+AllLinked [] = Unit {0}
+AllLinked (event ∷ more) = IsLinked event × AllLinked more
+
+-- the line neither stops the peer nor makes one of its writes fail
+abbrev pub Spares : ℕ → ScheduleEvent → Type 0
+Spares peer (Stop stopped) = peer ≢ stopped
+Spares peer (Fail failing store survivor) = peer ≢ failing
+Spares peer event = Unit {0}
+
+abbrev pub AllSpare : ℕ → List ScheduleEvent → Type 0
+AllSpare peer [] = Unit {0}
+AllSpare peer (event ∷ more) = Spares peer event × AllSpare peer more
 
 -- ## The refinement
 
@@ -46,13 +71,21 @@ pub record GoesOn (view : List ℕ) (steps : List Step) (w : Run) : Type 0 where
 -- the peer at this place runs, and its stores keep its fact; peer 1 has place 0
 pub record IsRunning (w : Run) (place : ℕ) : Type 0 where
   pub state : State
-  pub stores : MemStores
+  pub stores : HeldStores
   pub at : slice_get w.nodes place ≡ Some (Up state stores)
   pub kept : stores.facts.kept ≡ Some state.fact
 
--- the peers at the first places run
-abbrev pub PeersRun : ℕ → Run → Type 0
-PeersRun peers w = (place : ℕ) → place < peers → IsRunning w place
+-- the stores of a running peer keep the fact of its state, and those of a peer that is down keep a
+-- fact
+abbrev pub KeepsFact : Node → Type 0
+KeepsFact (Up x stores) = stores.facts.kept ≡ Some x.fact
+KeepsFact (Down stores) = (fact : Fact) × (stores.facts.kept ≡ Some fact)
+
+-- the peer at this place keeps a fact, whether it runs or is down
+pub record IsKeeping (w : Run) (place : ℕ) : Type 0 where
+  pub node : Node
+  pub at : slice_get w.nodes place ≡ Some node
+  pub keeps : KeepsFact node
 
 -- the fact that the stores of a peer keep
 abbrev pub kept_by : Node → Option Fact
@@ -68,7 +101,7 @@ pub record HasFact (w : Run) (place : ℕ) (f : Fact) : Type 0 where
 -- the peer at this place leads
 pub record Leads (w : Run) (place : ℕ) (leadership : Leadership) : Type 0 where
   pub state : State
-  pub stores : MemStores
+  pub stores : HeldStores
   pub at : slice_get w.nodes place ≡ Some (Up state stores)
   pub leads : state.phase ≡ phases.Leading leadership
 
@@ -88,7 +121,7 @@ FactsAgree w = (p q : ℕ) (f g : Fact) → HasFact w p f → HasFact w q g → 
 
 -- peers that lead the same epoch are the same peer
 abbrev pub EpochsHaveOneLeader : Run → Type 0
-EpochsHaveOneLeader w = (p q : ℕ) (a b : Leadership) → Leads w p a → Leads w q b → a.fact.epoch ≡ b.fact.epoch → p ≡ q
+EpochsHaveOneLeader w = (p q : ℕ) (a b : Leadership) → Leads w p a → Leads w q b → a.leader.fact.epoch ≡ b.leader.fact.epoch → p ≡ q
 
 -- if peers keep facts of two epochs, the greater epoch is based on a fact no older than the one of
 -- the lower epoch, or no quorum can accept the lower epoch any more
@@ -99,5 +132,5 @@ FactsAreComplete l w = (p q : ℕ) (f g : Fact) → HasFact w p f → HasFact w 
 -- if a peer leads an epoch, each greater epoch of which a peer keeps a fact is based on it or on a
 -- later one
 abbrev pub LedEpochsAreKept : Ledger → Run → Type 0
-LedEpochsAreKept l w = (p q : ℕ) (a : Leadership) (f : Fact) → Leads w p a → HasFact w q f → epoch_number a.fact.epoch < epoch_number f.epoch
-    → epoch_number a.fact.epoch ≤ (l.base (epoch_number f.epoch)).epoch
+LedEpochsAreKept l w = (p q : ℕ) (a : Leadership) (f : Fact) → Leads w p a → HasFact w q f → epoch_number a.leader.fact.epoch < epoch_number f.epoch
+    → epoch_number a.leader.fact.epoch ≤ (l.base (epoch_number f.epoch)).epoch

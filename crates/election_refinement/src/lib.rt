@@ -1,14 +1,20 @@
-//! Worlds of elections refine the abstract protocol: the run of every schedule is simulated by a
-//! run of the abstract protocol, so the laws of that protocol hold of the world.
+//! Worlds refine the abstract protocol: the run of every schedule without a line `change` is
+//! simulated by a run of the abstract protocol, so the laws of elections hold of the world.
 //!
 //! `specs/Refinement` relates a fact, a phase, a peer and a message to the ledger of the abstract
 //! protocol. `specs/Worlds` says when a world refines a run of the abstract protocol; each event of
 //! a schedule extends that run by some steps. It also states what the laws of elections mean for
-//! the facts that peers keep and for peers that lead. So far no peer begins a change of the view,
-//! no peer stops and no store fails.
+//! the facts that peers keep and for peers that lead.
 //!
-//! The proof looks at each rule by its row alone: `proofs/Rows` says what a row has to show,
-//! `proofs/Rules` lists the rows, and `proofs/Loops` takes them through a step.
+//! Peers stop and start, a write may fail with its effect or without it, trees and backends may lie,
+//! and leaders take calls. Of calls only this is shown: a leader that serves them leads the same
+//! epoch until it steps down, and their messages assert nothing about elections. The run of the
+//! abstract protocol has no steps of calls. A line that changes the view is not linked yet.
+//!
+//! The proof looks at each rule by its row alone. `proofs/Rows` says what a row of a phase has to
+//! show, and `proofs/Rules` lists these rows; `proofs/Calls` has the rows of a leader's calls, and
+//! `proofs/Requests` those of a peer that is asked. `proofs/Loops` takes them through a step, and
+//! `proofs/Worlds` takes steps through the lines of a schedule.
 #![tactic(auto)]
 
 mod laws;

@@ -68,8 +68,14 @@ fn schedules_print_their_text(rt: HostRuntime) -> Result<(), Fail> {
         bad("jump 1\n", "schedule 4 4\n"),
         bad("tick 1 1", "schedule 4 2\n"),
         bad("call 1 1 get 6b\ncall 1 1 get 6b\n", "schedule 5 9\n"),
-        unbuilt("call 1 1 delete 6b\n"),
-        unbuilt("stop 1\n"),
+        // A command that the machine does not know runs in a world.
+        done(
+            "tick 1 6\ncall 1 1 append 6b 76\ncall 1 2 append 6b 77\ncall 1 3 get 6b\n",
+            "answer 1 2 ok 1.1.1\nanswer 2 3 ok 1.1.2\nanswer 3 4 value 1.1.2 7677\nhistory 6b 1 2 3\n",
+        ),
+        done("call 1 1 delete 6b\n", "answer 1 1 unavailable\nhistory 6b\n"),
+        done("stop 1\n", ""),
+        unbuilt("start 1\n"),
     ];
     for case in cases {
         let schedule = format!(in alloc; "ensemble 1\npeers 1\nview 1\n{}", case.lines)?;

@@ -7,10 +7,10 @@
 #[cfg(test)]
 mod network_tests;
 #[cfg(test)]
-mod peer_core_tests;
+mod peer_machine_tests;
 #[cfg(test)]
-mod step_plans_tests;
+mod peer_plans_tests;
 #[cfg(test)]
 mod world_model_tests;
 #[cfg(test)]
-mod world_spec_tests;
+mod world_stores_tests;

@@ -1,6 +1,8 @@
 -- The events that are run have the same calls as their schedule.
 use Rattle.std.proofs.Common.{◌≡◌, ℕ, ◌==◌, Bool, true, false, List, [], ◌∷◌, Option, None, Some, refl, sym, ap, subst, ◌∙◌}
-use Rattle.std.specs.Prelude.{if◌then◌else◌}
+use Rattle.std.specs.Prelude.{if◌then◌else◌, ◌&&◌}
+use Rattle.std.specs.List.{list_all}
+use Rattle.std.proofs.lemmas.Bool.{false≢true}
 use Rattle.ens_base.specs.Lists.{AreDistinct}
 use Rattle.ens_base.specs.declared.command.Command.TheVariants as does
 use Rattle.schedule_text.specs.Spelling as schedule
@@ -11,9 +13,9 @@ use Rattle.ens_base.specs.declared.status.Status.TheVariants as Status
 use Rattle.replay.specs.declared.event.Event.{Event}
 use Rattle.replay.specs.declared.event.Event.TheVariants.{Tick, Read, Write}
 use Rattle.replay.specs.Events.{call_ids}
-use Rattle.replay.specs.Form.{form_events, form_of, before}
-use Rattle.replay.specs.Elections.{is_election}
-use Rattle.replay.specs.Jobs.{EndsSo, IsMachineText, IsRunText}
+use Rattle.replay.specs.Form.{form_event, form_events, form_of, before, is_machine, is_machine_line}
+use Rattle.replay.specs.Jobs.{EndsSo, IsMachineText, IsRunText, IsWorldText}
+use Rattle.replay.specs.Worlds.{runs_in_world}
 
 behind : (e : Event) (o : Option (List Event)) (es : List Event) → before (Some e) o ≡ Some es → (rest : List Event) × (o ≡ Some rest) × (es ≡ e ∷ rest)
 behind e None es h = absurd cc
@@ -37,7 +39,42 @@ of_events false o es h = absurd cc
 pub form_distinct : (s : Schedule) (events : List Event) → form_of s ≡ Some events → schedule.IsSchedule s → AreDistinct (call_ids events)
 form_distinct s events is of = let P : List ℕ → Type 0 = AreDistinct in subst P (sym (ids_form s.events events (of_events (s.peers == 1) (form_events s.events) events is))) of.distinct
 
+-- each line that the machine has an event for has one
+line_stands : (l : ScheduleEvent) → is_machine_line l ≡ true → (e : Event) × (form_event l ≡ Some e)
+line_stands (line.Tick peer ticks) h = (Tick ticks, refl)
+line_stands (line.Call peer id key does.Get) h = (Read id key, refl)
+line_stands (line.Call peer id key (does.Over value)) h = (Write id key value, refl)
+line_stands (_) h = absurd cc
+
+both : (a b : Bool) → (a && b) ≡ true → (a ≡ true) × (b ≡ true)
+both true b h = (refl, h)
+both false b h = absurd (false≢true h)
+
+events_stand : (ls : List ScheduleEvent) → list_all is_machine_line ls ≡ true → form_events ls ≡ None → ⊥
+events_stand [] h none = cc
+events_stand (l ∷ ls) h none =
+    let tests = both (is_machine_line l) (list_all is_machine_line ls) h in
+    let e = line_stands l tests.0 in
+    one (form_event l) (form_events ls) e.0 e.1 (events_stand ls tests.1) none
+  where
+    one : (a : Option Event) (o : Option (List Event)) (e : Event) → a ≡ Some e → (o ≡ None → ⊥) → before a o ≡ None → ⊥
+    one (Some x) None e h later none = later refl
+    one (Some x) (Some es) e h later none = cc
+    one None o e h later none = cc
+
+-- a schedule in the form that the machine runs has its events
+pub form_stands : (s : Schedule) → is_machine s ≡ true → form_of s ≡ None → ⊥
+form_stands s h none = stands (s.peers == 1) h none where
+  stands : (b : Bool) → (b && list_all is_machine_line s.events) ≡ true → (if b then form_events s.events else None) ≡ None → ⊥
+  stands true h none = events_stand s.events h none
+  stands false h none = cc
+
 -- what the machine's run of a schedule prints
-pub machine_done : (s : Schedule) (text : List ℕ) → schedule.IsSchedule s → is_election s ≡ false → IsMachineText s text → EndsSo s Status.Done text
-machine_done s text of other ran None read = tt
-machine_done s text of other ran (Some bytes) read = let P : Bool → Type 0 = λ b. IsRunText b s text in (s, read, of, subst P (sym other) ran)
+pub machine_done : (s : Schedule) (text : List ℕ) → schedule.IsSchedule s → is_machine s ≡ true → IsMachineText s text → EndsSo s Status.Done text
+machine_done s text of form ran None read = tt
+machine_done s text of form ran (Some bytes) read = let P : Bool → Type 0 = λ b. IsRunText b s text in (s, read, of, subst P (sym form) ran)
+
+-- what the run of a schedule in a world prints
+pub world_done : (s : Schedule) (text : List ℕ) → schedule.IsSchedule s → is_machine s ≡ false → runs_in_world s ≡ true → IsWorldText s text → EndsSo s Status.Done text
+world_done s text of form runs ran None read = tt
+world_done s text of form runs ran (Some bytes) read = let P : Bool → Type 0 = λ b. IsRunText b s text in (s, read, of, subst P (sym form) (runs, ran))

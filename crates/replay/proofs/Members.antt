@@ -1,5 +1,5 @@
 -- Membership in a list, by recursion and by position.
-use Rattle.std.proofs.Common.{◌≡◌, ℕ, zero, suc, ◌<◌, List, [], ◌∷◌, length, map, get_or, refl, sym, ap, inl, inr, arith}
+use Rattle.std.proofs.Common.{◌≡◌, ℕ, zero, suc, ◌<◌, List, [], ◌∷◌, length, map, get_or, refl, sym, inl, inr, arith}
 use Rattle.std.specs.Prelude.{Contains}
 use Rattle.ens_base.specs.Lists.{◌∈◌}
 

@@ -1,5 +1,5 @@
 -- What a job prints, and why it ends as it does.
-use Rattle.std.specs.Prelude.{◌≡◌, ◌⊎◌, ℕ, Bool, true, false, List, [], ◌∷◌, ◌++◌, codes, Option, None, Some, Ok, IfSome}
+use Rattle.std.specs.Prelude.{◌≡◌, ◌⊎◌, ℕ, Bool, true, false, List, [], ◌∷◌, ◌++◌, codes, Option, Some, Ok, IfSome}
 use Rattle.schedule_text.specs.Reading.{schedule_of}
 use Rattle.schedule_text.specs.Spelling.{IsSchedule}
 use Rattle.schedule_text.specs.declared.schedule.Schedule.{Schedule}
@@ -9,12 +9,13 @@ use Rattle.register_model.specs.Histories.{IsLegal}
 use Rattle.register_model.specs.declared.history.History.{History}
 use Rattle.schedule_input.specs.Endings.{IsBadLine, IsLineLimit}
 use Rattle.replay.specs.declared.event.Event.{Event}
-use Rattle.replay.specs.Elections.{IsPastMessages, IsWithinMessages, is_election, schedule_run}
 use Rattle.replay.specs.Events.{calls_from}
-use Rattle.replay.specs.Form.{form_of}
+use Rattle.replay.specs.Form.{form_of, is_machine}
 use Rattle.replay.specs.Machine.{start, answers_from}
 use Rattle.replay.specs.Histories.{AreHistories}
-use Rattle.replay.specs.Text.{text_of, text_of_run}
+use Rattle.replay.specs.Text.{text_of, IsTextOfRun}
+use Rattle.replay.specs.Worlds.{runs_in_world, schedule_run}
+use Rattle.world_spec.specs.Messages.{IsPastMessages, IsWithinMessages}
 
 -- every history is legal for its key, for these calls and answers
 abbrev pub AreLegal : List Event → List History → Type 0
@@ -26,27 +27,27 @@ abbrev pub IsMachineText : Schedule → List ℕ → Type 0
 IsMachineText s text = (events : List Event) × (histories : List History) × (form_of s ≡ Some events) × AreHistories events histories × AreLegal events histories × (text ≡ text_of (answers_from start 1 events) histories)
 
 -- the run of the schedule in a world stays within the limit on messages, and the text is what it
--- prints
-abbrev pub IsElectionText : Schedule → List ℕ → Type 0
-IsElectionText s text = IsWithinMessages (schedule_run s) × (text ≡ text_of_run (schedule_run s))
+-- prints, with the histories
+abbrev pub IsWorldText : Schedule → List ℕ → Type 0
+IsWorldText s text = IsWithinMessages (schedule_run s) × IsTextOfRun (schedule_run s) text
 
--- the text of a run: what a world prints if the schedule is one of elections, and otherwise what
--- the machine prints
+-- the text of a run: what the machine prints if the schedule has its form, and otherwise what a
+-- world prints
 abbrev pub IsRunText : Bool → Schedule → List ℕ → Type 0
-IsRunText true s text = IsElectionText s text
-IsRunText false s text = IsMachineText s text
+IsRunText true s text = IsMachineText s text
+IsRunText false s text = (runs_in_world s ≡ true) × IsWorldText s text
 
 -- the bytes are a schedule, and the text is that of its run
 abbrev pub IsReplay : List ℕ → List ℕ → Type 0
-IsReplay bytes text = (s : Schedule) × (schedule_of bytes ≡ Ok s) × IsSchedule s × IsRunText (is_election s) s text
+IsReplay bytes text = (s : Schedule) × (schedule_of bytes ≡ Ok s) × IsSchedule s × IsRunText (is_machine s) s text
 
--- the bytes are a schedule of elections whose run exceeds the limit on messages
+-- the bytes are a schedule that runs in a world, and its run exceeds the limit on messages
 abbrev pub IsPastLimit : List ℕ → Type 0
-IsPastLimit bytes = (s : Schedule) × (schedule_of bytes ≡ Ok s) × (is_election s ≡ true) × IsPastMessages (schedule_run s)
+IsPastLimit bytes = (s : Schedule) × (schedule_of bytes ≡ Ok s) × (is_machine s ≡ false) × (runs_in_world s ≡ true) × IsPastMessages (schedule_run s)
 
--- the bytes are a schedule, neither of elections nor of the form that the machine runs
+-- the bytes are a schedule that runs neither on the machine nor in a world
 abbrev pub IsUnbuilt : List ℕ → Type 0
-IsUnbuilt bytes = (s : Schedule) × (schedule_of bytes ≡ Ok s) × (is_election s ≡ false) × (form_of s ≡ None)
+IsUnbuilt bytes = (s : Schedule) × (schedule_of bytes ≡ Ok s) × (is_machine s ≡ false) × (runs_in_world s ≡ false)
 
 -- message 500,001 would be sent, and the text reports it
 abbrev pub IsMessageLimit : Option (List ℕ) → List ℕ → Type 0

@@ -5,5 +5,5 @@ pub mod Runner
 pub mod Histories
 pub mod Text
 pub mod Form
-pub mod Elections
+pub mod Worlds
 pub mod Jobs

@@ -1,9 +1,10 @@
 -- The text that a run prints.
-use Rattle.std.specs.Prelude.{ℕ, Bool, true, false, List, [], ◌∷◌, ◌++◌, codes}
+use Rattle.std.specs.Prelude.{◌≡◌, ℕ, Bool, true, false, List, [], ◌∷◌, ◌++◌, codes}
 use Rattle.std.specs.List.{flat_map}
 use Rattle.std.specs.Fmt.{decimal}
 use Rattle.ens_base.specs.Words.{version_word, bytes_word, value_word}
 use Rattle.ens_base.specs.declared.reply.Reply.{Reply}
+use Rattle.history_scribe.specs.Histories.{AreHistories}
 use Rattle.register_model.specs.declared.answer.Answer.{Answer}
 use Rattle.register_model.specs.declared.history.History.{History}
 use Rattle.register_model.specs.declared.printed.Printed.{Printed}
@@ -51,6 +52,6 @@ abbrev pub printed_line : Printed → List ℕ
 printed_line (lines.Answer a) = answer_line a
 printed_line (lines.Change event peer taken) = change_line event peer taken
 
--- what the run of a world printed, in order
-abbrev pub text_of_run : Run → List ℕ
-text_of_run run = flat_map printed_line run.printed
+-- what the run of a world printed, in order, followed by one history for each key that a call named
+abbrev pub IsTextOfRun : Run → List ℕ → Type 0
+IsTextOfRun run text = (histories : List History) × AreHistories run.notes run.called histories × (text ≡ flat_map printed_line run.printed ++ flat_map history_line histories)

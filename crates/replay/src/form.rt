@@ -1,5 +1,6 @@
 ghost use Rattle.std.specs.Prelude.{◌≡◌, None, Some, IfOk, MatchOption};
-ghost use Rattle.replay.specs.Form.{form_event, form_events, form_of};
+ghost use Rattle.std.specs.List.{list_all};
+ghost use Rattle.replay.specs.Form.{form_event, form_events, form_of, is_machine as has_machine_form, is_machine_command as has_command, is_machine_line as has_event};
 
 use crate::event::Event;
 use ens_base::{Command, Key};
@@ -58,4 +59,36 @@ pub fn form_of(alloc: Global, schedule: Schedule) -> Result<Option<Vec<Event>>, 
         return Ok(None);
     }
     events_of(alloc, events.into_vec())
+}
+
+fn is_machine_command(command: &Command) -> bool
+    ensures { result ≡ has_command command.now }
+{
+    match command {
+        Command::Get | Command::Over(_) => true,
+        _ => false,
+    }
+}
+
+fn is_machine_line(event: &ScheduleEvent) -> bool
+    ensures { result ≡ has_event event.now }
+{
+    match event {
+        ScheduleEvent::Tick { .. } => true,
+        ScheduleEvent::Call { command, .. } => is_machine_command(command),
+        _ => false,
+    }
+}
+
+fn has_machine_lines(schedule: &Schedule) -> bool
+    ensures { result ≡ list_all has_event schedule.now.events }
+{
+    schedule.events.as_slice().iter().all(is_machine_line)
+}
+
+/// Returns whether a schedule has the form that the machine runs.
+pub fn is_machine(schedule: &Schedule) -> bool
+    ensures { result ≡ has_machine_form schedule.now }
+{
+    schedule.peers == 1 && has_machine_lines(schedule)
 }

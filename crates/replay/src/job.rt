@@ -4,14 +4,14 @@ ghost use Rattle.ens_base.specs.Causes.{Rose};
 ghost use Rattle.ens_base.specs.declared.status.Status.{Status};
 ghost use Rattle.ens_outside.specs.Written.{AppendsFront};
 ghost use Rattle.schedule_text.specs.Spelling.{IsSchedule};
-ghost use Rattle.replay.specs.Elections.{is_election as is_one_of_elections};
-ghost use Rattle.replay.specs.Form.{form_of};
+ghost use Rattle.replay.specs.Form.{form_of, is_machine as has_machine_form};
 ghost use Rattle.replay.specs.Jobs.{EndsSo, IsMachineText, Prints};
+ghost use Rattle.replay.specs.Worlds.{runs_in_world as runs_all_in_world};
 
-use crate::elections::{election_text, is_election};
-use crate::form::form_of;
+use crate::form::{form_of, is_machine};
 use crate::run::run;
 use crate::text::write_text;
+use crate::worlds::{runs_in_world, world_text};
 use ens_base::Status;
 use ens_outside::{Sink, Source, finish};
 use schedule_input::{Ending, read_schedule};
@@ -29,14 +29,15 @@ fn machine_text(alloc: Global, schedule: Schedule) -> Result<Option<String>, All
     Ok(Some(write_text(alloc, &record.answers, &record.histories)?))
 }
 
-/// Runs a schedule of elections in a world. Ends with `limit` if it would send too many messages.
-fn election_ending(alloc: Global, schedule: &Schedule) -> Result<Ending, AllocError>
+/// Runs a schedule in a world. Ends with `limit` if it would send too many messages.
+fn world_ending(alloc: Global, schedule: &Schedule) -> Result<Ending, AllocError>
     requires valid { IsSchedule schedule.now }
-    requires form { is_one_of_elections schedule.now ≡ true }
+    requires machine { has_machine_form schedule.now ≡ false }
+    requires world { runs_all_in_world schedule.now ≡ true }
     ensures ends { IfOk result (λ e. EndsSo schedule.now e.status (string_bytes e.text)) }
     ensures status { IfOk result (λ e. e.status ≢ Status.ReadFault) }
 {
-    match election_text(alloc, schedule)? {
+    match world_text(alloc, schedule)? {
         Some(text) => Ok(Ending {
             status: Status::Done,
             text,
@@ -45,11 +46,10 @@ fn election_ending(alloc: Global, schedule: &Schedule) -> Result<Ending, AllocEr
     }
 }
 
-/// Runs any other schedule on the machine. Ends with `unbuilt` if it has a form that cannot be run
-/// yet.
+/// Runs a schedule on the machine.
 fn machine_ending(alloc: Global, schedule: Schedule) -> Result<Ending, AllocError>
     requires valid { IsSchedule schedule }
-    requires form { is_one_of_elections schedule ≡ false }
+    requires form { has_machine_form schedule ≡ true }
     ensures ends { IfOk result (λ e. EndsSo schedule e.status (string_bytes e.text)) }
     ensures status { IfOk result (λ e. e.status ≢ Status.ReadFault) }
 {
@@ -58,20 +58,24 @@ fn machine_ending(alloc: Global, schedule: Schedule) -> Result<Ending, AllocErro
             status: Status::Done,
             text,
         }),
-        None => Ending::new(alloc, Status::Unbuilt, "unbuilt\n"),
+        None => unreachable!(),
     }
 }
 
-/// Runs a schedule, and returns how the job ends.
+/// Runs a schedule, and returns how the job ends: with `unbuilt` if it has a form that cannot be run
+/// yet.
 fn run_ending(alloc: Global, schedule: Schedule) -> Result<Ending, AllocError>
     requires { IsSchedule schedule }
     ensures ends { IfOk result (λ e. EndsSo schedule e.status (string_bytes e.text)) }
     ensures status { IfOk result (λ e. e.status ≢ Status.ReadFault) }
 {
-    if is_election(&schedule) {
-        return election_ending(alloc, &schedule);
+    if is_machine(&schedule) {
+        machine_ending(alloc, schedule)
+    } else if runs_in_world(&schedule) {
+        world_ending(alloc, &schedule)
+    } else {
+        Ending::new(alloc, Status::Unbuilt, "unbuilt\n")
     }
-    machine_ending(alloc, schedule)
 }
 
 /// Returns the ending of a replay of the input. Fails when out of memory.

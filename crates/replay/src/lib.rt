@@ -1,15 +1,14 @@
 //! The job `replay`: reads a schedule, runs it, and prints the answers and a history for each key.
 //!
-//! Two forms of schedules can be run so far; every other schedule ends as `unbuilt`. A schedule of
-//! elections, in which peers tick and their messages are delivered or lost, runs in a world with
-//! all its peers (world_model). A schedule of one peer, with ticks, gets and overwrites, runs on a
-//! machine of its own. The contract of `replay` says what is printed for each status
-//! (`specs/Jobs`): for elections, what the run of the world prints (`specs/Elections`); for the
-//! machine, its answers (`specs/Machine`), and histories that are legal for their keys by the
-//! definition of register_model.
+//! A schedule runs in a world with all its peers (world_model) if its lines are calls, ticks, stops,
+//! deliveries and losses of messages, and stores that fail or objects that change in them. A schedule of one peer whose calls are gets and
+//! overwrites, and which has no other lines than calls and ticks, runs on a machine of its own. Every
+//! other schedule ends as `unbuilt`. The contract of `replay` says what is printed for each status
+//! (`specs/Jobs`): for a world, what its run prints, and the histories that follow from the notes of
+//! its leaders (`specs/Text`); for the machine, its answers (`specs/Machine`), and histories that are
+//! legal for their keys by the definition of register_model.
 #![tactic(auto)]
 
-mod elections;
 mod event;
 mod form;
 mod job;
@@ -17,7 +16,8 @@ mod keys;
 mod run;
 mod runner;
 mod text;
+mod worlds;
 
-pub use elections::is_election;
 pub use event::Event;
 pub use job::replay;
+pub use worlds::runs_in_world;

@@ -52,6 +52,15 @@ fn push_history(alloc: Global, text: &mut String, history: &History) -> Result<(
     text.push_str("\n")
 }
 
+fn push_histories(alloc: Global, text: &mut String, histories: &[History]) -> Result<(), AllocError>
+    ensures { OnOk result (string_bytes text.new ≡ string_bytes text.old ++ flat_map history_line histories.now) }
+{
+    for history in histories {
+        push_history(alloc, text, history)?;
+    }
+    Ok(())
+}
+
 /// Returns the text of the answers, in order, followed by that of the histories.
 pub fn write_text(
     alloc: Global,
@@ -64,9 +73,7 @@ pub fn write_text(
     for answer in answers {
         push_answer(alloc, &mut text, answer)?;
     }
-    for history in histories {
-        push_history(alloc, &mut text, history)?;
-    }
+    push_histories(alloc, &mut text, histories)?;
     Ok(text)
 }
 
@@ -93,13 +100,18 @@ fn push_printed(alloc: Global, text: &mut String, line: &Printed) -> Result<(), 
     }
 }
 
-/// Returns the text of what a world printed, in order.
-pub fn write_printed(alloc: Global, printed: &[Printed]) -> Result<String, AllocError>
-    ensures { IfOk result (λ text. string_bytes text ≡ flat_map printed_line printed.now) }
+/// Returns the text of what a world printed, in order, followed by that of the histories.
+pub fn write_run(
+    alloc: Global,
+    printed: &[Printed],
+    histories: &[History],
+) -> Result<String, AllocError>
+    ensures { IfOk result (λ text. string_bytes text ≡ flat_map printed_line printed.now ++ flat_map history_line histories.now) }
 {
     let mut text = String::new(alloc);
     for line in printed {
         push_printed(alloc, &mut text, line)?;
     }
+    push_histories(alloc, &mut text, histories)?;
     Ok(text)
 }

@@ -1,21 +1,29 @@
 -- What a trace prints, and why it ends as it does.
 use Rattle.std.specs.Prelude.{◌≡◌, ◌⊎◌, ℕ, true, false, List, [], ◌∷◌, ◌++◌, codes, Option, Ok, IfSome}
 use Rattle.ens_base.specs.declared.status.Status.{Status}
-use Rattle.replay.specs.Elections.{IsWithinMessages, is_election, schedule_run}
-use Rattle.replay.specs.Jobs.{IsMessageLimit}
+use Rattle.replay.specs.Worlds.{runs_in_world, schedule_run}
 use Rattle.schedule_input.specs.Endings.{IsBadLine, IsLineLimit}
 use Rattle.schedule_text.specs.Reading.{schedule_of}
 use Rattle.schedule_text.specs.declared.schedule.Schedule.{Schedule}
+use Rattle.world_spec.specs.Messages.{IsPastMessages, IsWithinMessages}
 use Rattle.trace.specs.Text.{trace_text}
 
--- the bytes are a schedule of elections whose run stays within the limit on messages, and the text
--- is the list of these messages
+-- the bytes are a schedule that runs in a world, its run stays within the limit on messages, and
+-- the text is the list of these messages
 abbrev pub IsTrace : List ℕ → List ℕ → Type 0
-IsTrace bytes text = (s : Schedule) × (schedule_of bytes ≡ Ok s) × (is_election s ≡ true) × IsWithinMessages (schedule_run s) × (text ≡ trace_text (schedule_run s).mail.sent)
+IsTrace bytes text = (s : Schedule) × (schedule_of bytes ≡ Ok s) × (runs_in_world s ≡ true) × IsWithinMessages (schedule_run s) × (text ≡ trace_text (schedule_run s).mail.sent)
+
+-- the bytes are a schedule that runs in a world, and its run exceeds the limit on messages
+abbrev pub IsPastLimit : List ℕ → Type 0
+IsPastLimit bytes = (s : Schedule) × (schedule_of bytes ≡ Ok s) × (runs_in_world s ≡ true) × IsPastMessages (schedule_run s)
 
 -- the bytes are a schedule with another line
 abbrev pub IsUnbuilt : List ℕ → Type 0
-IsUnbuilt bytes = (s : Schedule) × (schedule_of bytes ≡ Ok s) × (is_election s ≡ false)
+IsUnbuilt bytes = (s : Schedule) × (schedule_of bytes ≡ Ok s) × (runs_in_world s ≡ false)
+
+-- message 500,001 would be sent, and the text reports it
+abbrev pub IsMessageLimit : Option (List ℕ) → List ℕ → Type 0
+IsMessageLimit source text = IfSome source IsPastLimit × (text ≡ codes "limit messages 500000" ++ 10 ∷ [])
 
 -- the text that a trace of these bytes prints, for each status; it ends with no other status,
 -- unless the output fails

@@ -3,7 +3,8 @@ ghost use Rattle.std.specs.Io.KnownBytes.{Appends, IsAtEnd};
 ghost use Rattle.ens_base.specs.Causes.{Rose};
 ghost use Rattle.ens_base.specs.declared.status.Status.{Status};
 ghost use Rattle.ens_outside.specs.Written.{AppendsFront};
-ghost use Rattle.replay.specs.Elections.{IsPastMessages, IsWithinMessages, schedule_run};
+ghost use Rattle.replay.specs.Worlds.{schedule_run};
+ghost use Rattle.world_spec.specs.Messages.{IsPastMessages, IsWithinMessages};
 ghost use Rattle.schedule_text.specs.Reading.{schedule_of};
 ghost use Rattle.schedule_text.specs.Spelling.{IsSchedule};
 ghost use Rattle.trace.specs.Jobs.{Traces};
@@ -13,7 +14,7 @@ use crate::text::write_trace;
 use ens_base::Status;
 use ens_hashing::PlainHasher;
 use ens_outside::{Sink, Source, finish};
-use replay::is_election;
+use replay::runs_in_world;
 use schedule_input::{Ending, read_schedule};
 use schedule_text::Schedule;
 use std::alloc::{AllocError, Global};
@@ -29,7 +30,8 @@ fn run_text(alloc: Global, schedule: &Schedule) -> Result<Option<String>, AllocE
     match World::run(alloc, schedule, &mut hasher) {
         Ok(world) => Ok(Some(write_trace(alloc, world.sent())?)),
         Err(WorldError::MessageLimit) => Ok(None),
-        Err(_) => Err(AllocError),
+        Err(WorldError::Memory) => Err(AllocError),
+        Err(WorldError::Clash { .. } | WorldError::BookFull(_)) => unreachable!(),
     }
 }
 
@@ -39,7 +41,7 @@ fn run_ending(alloc: Global, schedule: &Schedule) -> Result<Ending, AllocError>
     ensures printed { IfOk result (λ e. (source : Option (List ℕ)) → IfSome source (λ bytes. schedule_of bytes ≡ Ok schedule.now) → Traces source e.status (string_bytes e.text)) }
     ensures status { IfOk result (λ e. e.status ≢ Status.ReadFault) }
 {
-    if !is_election(schedule) {
+    if !runs_in_world(schedule) {
         return Ending::new(alloc, Status::Unbuilt, "unbuilt\n");
     }
     match run_text(alloc, schedule)? {

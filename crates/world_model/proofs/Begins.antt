@@ -1,8 +1,11 @@
 -- What was sent and printed stays.
-use Rattle.std.specs.Prelude.{OnOk}
-use Rattle.std.proofs.Common.{◌≡◌, [], ◌++◌, sym, Result, Ok, Err}
+use Rattle.std.proofs.Common.{◌≡◌, ℕ, [], ◌++◌, refl, sym, ap, ◌∙◌, Option, None, Some}
+use Rattle.std.specs.Prelude.{slice_get}
 use Rattle.std.proofs.lemmas.List.{append-nil, append_assoc}
-use Rattle.world_model.specs.Worlds.{Begins}
+use Rattle.world_spec.proofs.Growth.{changed_mail}
+use Rattle.world_spec.specs.Nodes.{Node}
+use Rattle.world_spec.specs.Runs.{Run, place_of, changed_at, changed}
+use Rattle.world_model.specs.Worlds.{run_of, Begins}
 use Rattle.world_model.specs.declared.world.World.{World}
 
 pub begins_same : (w : World) → Begins w w
@@ -16,15 +19,23 @@ begins_later a b c first last = record {
   printed = rw last.printed (rw first.printed (append_assoc a.printed.items first.more_printed last.more_printed));
 }
 
--- no message was sent and no line printed
-pub begins_by : (w v : World) → v.network ≡ w.network → v.printed ≡ w.printed → Begins w v
-begins_by w v network printed = record { more_sent = []; sent = rw network (sym (append-nil w.network.sent)); more_printed = []; printed = rw printed (sym (append-nil w.printed.items)) }
-
 -- the messages and the lines are the same
 pub begins_sent : (w v : World) → v.network.sent ≡ w.network.sent → v.printed ≡ w.printed → Begins w v
 begins_sent w v sent printed = record { more_sent = []; sent = rw sent (sym (append-nil w.network.sent)); more_printed = []; printed = rw printed (sym (append-nil w.printed.items)) }
 
--- carries a fact about an Ok result to what follows from it
-pub on_ok : {T E P Q : Type 0} (r : Result T E) → OnOk r P → (P → Q) → OnOk r Q
-on_ok (Ok x) p f = f p
-on_ok (Err e) p f = tt
+-- no message was sent and no line printed
+pub begins_by : (w v : World) → v.network ≡ w.network → v.printed ≡ w.printed → Begins w v
+begins_by w v network printed = begins_sent w v (ap (λ n. n.sent) network) printed
+
+changed_at_printed : (node : Option Node) (peer : ℕ) (change : Node → Node) (w : Run) → (changed_at node peer change w).printed ≡ w.printed
+changed_at_printed None peer change w = refl
+changed_at_printed (Some node) peer change w = refl
+
+-- a change of a node sends and prints nothing
+pub begins_changed : (w v : World) (peer : ℕ) (change : Node → Node) → run_of v ≡ changed peer change (run_of w) → Begins w v
+begins_changed w v peer change is = record {
+  more_sent = [];
+  sent = ap (λ (r : Run). r.mail.sent) is ∙ (ap (λ m. m.sent) (changed_mail peer change (run_of w)) ∙ sym (append-nil w.network.sent));
+  more_printed = [];
+  printed = ap (λ (r : Run). r.printed) is ∙ (changed_at_printed (slice_get (run_of w).nodes (place_of peer)) peer change (run_of w) ∙ sym (append-nil w.printed.items));
+}

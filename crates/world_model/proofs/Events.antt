@@ -1,13 +1,14 @@
 -- The events of a schedule, applied one after another.
-use Rattle.std.proofs.Common.{◌≡◌, ◌<◌, ◌≤◌, ◌+◌, ℕ, zero, suc, Some, List, [], ◌∷◌, slice_get, refl, ap, ◌∙◌, sym, arith}
+use Rattle.std.proofs.Common.{◌≡◌, ◌≤◌, ◌+◌, ℕ, zero, suc, Some, List, [], ◌∷◌, slice_get, refl, ap, ◌∙◌, sym, arith}
 use Rattle.std.specs.Prelude.{drop}
 use Rattle.std.proofs.lemmas.List.{length-replicate}
 use Rattle.std.proofs.lemmas.Option.{same_Some, none-some}
 use Rattle.network.specs.Mail.{most_messages}
 use Rattle.schedule_text.specs.Spelling.{MayStand, AllMayStand}
 use Rattle.schedule_text.specs.declared.event.ScheduleEvent.{ScheduleEvent}
-use Rattle.world_spec.proofs.Growth.{sent_in, peers_in, applied_same, run_grows}
+use Rattle.world_spec.proofs.Growth.{peers_in, applied_same, run_grows}
 use Rattle.world_spec.specs.Lines.{applied, run_from, run_of_schedule}
+use Rattle.world_spec.specs.Messages.{sent_in}
 use Rattle.world_spec.specs.Runs.{Run, opening_run}
 use Rattle.world_model.proofs.Numbers.{succ}
 
@@ -35,8 +36,9 @@ module _ (peers : ℕ) (view : List ℕ) (all : List ScheduleEvent) (place : ℕ
     within = within;
   }
 
-  pub running_over : most_messages < sent_in (applied event now) → most_messages < sent_in (run_of_schedule peers view all)
-  running_over over = rw (← old.rest) (rw (drop_one all place event here) (omega (arith, over, run_grows (drop (place + 1) all) (applied event now))))
+  -- the whole run sends no less than the next event
+  pub running_longer : sent_in (applied event now) ≤ sent_in (run_of_schedule peers view all)
+  running_longer = rw (← old.rest) (rw (drop_one all place event here) (run_grows (drop (place + 1) all) (applied event now)))
 
 -- each event of a schedule may stand
 pub stands_at : (peers : ℕ) (all : List ScheduleEvent) (place : ℕ) (event : ScheduleEvent) → AllMayStand peers all → slice_get all place ≡ Some event → MayStand peers event

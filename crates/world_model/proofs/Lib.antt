@@ -2,6 +2,7 @@ pub mod Numbers
 pub mod Takes
 pub mod OneByOne
 pub mod Begins
+pub mod Reached
 pub mod Placed
 pub mod Loops
 pub mod Starting

@@ -4,10 +4,11 @@ use Rattle.std.proofs.lemmas.List.{map-append, length-append}
 use Rattle.std.proofs.lemmas.Option.{same_Some, none-some}
 use Rattle.world_spec.specs.Nodes.{opening_node}
 use Rattle.world_model.proofs.Numbers.{succ, shifted, shifted_back}
-use Rattle.world_model.specs.Peers.{MemPeer, node_of, AreNumbered}
+use Rattle.world_model.specs.Peers.{node_of, AreNumbered}
+use Rattle.world_model.specs.declared.peer.WorldPeer.{WorldPeer}
 
 -- the first n peers have started
-pub record Started (view : List ℕ) (n : ℕ) (peers : List MemPeer) : Type 0 where
+pub record Started (view : List ℕ) (n : ℕ) (peers : List WorldPeer) : Type 0 where
   pub nodes : map node_of peers ≡ replicate n (opening_node view)
   pub numbered : AreNumbered peers
   pub count : length peers ≡ n
@@ -19,18 +20,18 @@ replicate_more : {A : Type 0} (n : ℕ) (x : A) → replicate n x ++ x ∷ [] �
 replicate_more zero x = refl
 replicate_more (suc n) x = ap (λ xs. x ∷ xs) (replicate_more n x)
 
-last_number : (p x : MemPeer) (n : ℕ) → Some p ≡ Some x → p.me ≡ n → x.me ≡ n
+last_number : (p x : WorldPeer) (n : ℕ) → Some p ≡ Some x → p.me ≡ n → x.me ≡ n
 last_number p x n is me = rw (← same_Some p x is) me
 
-numbered_from : (base : ℕ) (peers : List MemPeer) (p : MemPeer) → p.me ≡ length peers + base → ((q : ℕ) (x : MemPeer) → slice_get peers q ≡ Some x → x.me ≡ q + base)
-    → (q : ℕ) (x : MemPeer) → slice_get (peers ++ p ∷ []) q ≡ Some x → x.me ≡ q + base
+numbered_from : (base : ℕ) (peers : List WorldPeer) (p : WorldPeer) → p.me ≡ length peers + base → ((q : ℕ) (x : WorldPeer) → slice_get peers q ≡ Some x → x.me ≡ q + base)
+    → (q : ℕ) (x : WorldPeer) → slice_get (peers ++ p ∷ []) q ≡ Some x → x.me ≡ q + base
 numbered_from base [] p me numbered zero x here = last_number p x (zero + base) here me
 numbered_from base [] p me numbered (suc q) x here = absurd (none-some x here)
 numbered_from base (y ∷ ys) p me numbered zero x here = numbered zero x here
 numbered_from base (y ∷ ys) p me numbered (suc q) x here =
     shifted_back x.me q base (numbered_from (base + 1) ys p (shifted p.me (length ys) base me) (λ r o found. shifted o.me r base (numbered (suc r) o found)) q x here)
 
-pub one_started : (view : List ℕ) (n : ℕ) (peers : List MemPeer) (p : MemPeer) → Started view n peers → p.me ≡ n + 1 → node_of p ≡ opening_node view → Started view (n + 1) (peers ++ p ∷ [])
+pub one_started : (view : List ℕ) (n : ℕ) (peers : List WorldPeer) (p : WorldPeer) → Started view n peers → p.me ≡ n + 1 → node_of p ≡ opening_node view → Started view (n + 1) (peers ++ p ∷ [])
 one_started view n peers p old me node = record {
   nodes = map-append node_of peers (p ∷ []) ∙ (rw old.nodes (rw node (replicate_more n (opening_node view) ∙ ap (λ k. replicate k (opening_node view)) (sym (succ n)))));
   numbered = numbered_from 1 peers p (rw old.count me) old.numbered;

@@ -1,14 +1,15 @@
 -- How the error of a peer's step ends the run of a world.
-use Rattle.std.specs.Prelude.{◌≡◌, ◌⊎◌, Option, Some, None}
+use Rattle.std.specs.Prelude.{ℕ, Option, Some, None}
+use Rattle.ens_base.specs.Causes.{Rose}
 use Rattle.network.specs.declared.error.SendError.{SendError}
 use Rattle.network.specs.declared.error.SendError.TheVariants as sends
-use Rattle.step_plans.specs.declared.error.PeerError.{PeerError}
-use Rattle.step_plans.specs.declared.error.PeerError.TheVariants as errors
+use Rattle.peer_plans.specs.declared.error.PeerError.{PeerError}
+use Rattle.peer_plans.specs.declared.error.PeerError.TheVariants as errors
 use Rattle.world_model.specs.declared.error.WorldError.{WorldError}
 use Rattle.world_model.specs.declared.error.WorldError.TheVariants as worlds
 
--- after a store fault the peer is down and the run goes on; out of memory and a fault of the hasher
--- end the run
+-- after a store fault, or with a fact that cannot be read, the peer is down and the run goes on; out
+-- of memory and a fault of the hasher end the run
 abbrev pub world_error : PeerError → Option WorldError
 world_error errors.StoreFault = None
 world_error errors.Halted = None
@@ -17,9 +18,17 @@ world_error errors.Memory = Some worlds.Memory
 world_error (errors.Clash first second) = Some (worlds.Clash first second)
 world_error (errors.BookFull bytes) = Some (worlds.BookFull bytes)
 
--- why a line was not applied
-abbrev pub IsApplyError : WorldError → Type 0
-IsApplyError e = (e ≡ worlds.MessageLimit) ⊎ (e ≡ worlds.Memory)
+-- a count that may rise: it did between some two states
+abbrev pub MayRise : {H : Type 0} → (H → ℕ) → Type 0
+MayRise {H} count = (before : H) × (now : H) × Rose (count before) (count now)
+
+-- why a peer ended the run of a world: out of memory, or a hasher refused a string, which only a
+-- hasher does that counts such refusals
+abbrev pub IsCutOff : {H : Type 0} → (H → ℕ) → (H → ℕ) → WorldError → Type 0
+IsCutOff clashes fulls worlds.Memory = Unit {0}
+IsCutOff clashes fulls (worlds.Clash first second) = MayRise clashes
+IsCutOff clashes fulls (worlds.BookFull bytes) = MayRise fulls
+IsCutOff clashes fulls worlds.MessageLimit = ⊥
 
 -- the world's error for a message that was not sent
 abbrev pub of_send : SendError → WorldError

@@ -1,18 +1,22 @@
-ghost use Rattle.std.specs.Prelude.{◌≡◌, ◌<◌, ◌≤◌, length, OnOk, IfErr, IsErrOf};
+ghost use Rattle.std.specs.Prelude.{◌≡◌, length};
+ghost use Rattle.ens_base.specs.View.{IsPeer};
 ghost use Rattle.joint_views.specs.Quorums.{is_in};
-ghost use Rattle.network.specs.Mail.{most_messages};
+ghost use Rattle.peer_machine.specs.declared.event.Event.TheVariants.{Call};
 ghost use Rattle.schedule_text.specs.Spelling.{MayStand};
-ghost use Rattle.world_spec.specs.Lines.{applied, effect, everyone, set_of};
-ghost use Rattle.world_spec.proofs.Growth.{sent_in};
-ghost use Rattle.world_model.specs.Refusals.{IsApplyError};
-ghost use Rattle.world_model.specs.Worlds.{run_of, Begins, IsWithin};
+ghost use Rattle.world_spec.specs.Lines.{applied, call_of, effect, everyone, set_of};
+ghost use Rattle.world_spec.specs.Runs.{stepped};
+ghost use Rattle.world_model.specs.Worlds.{run_of, Begins, Reaches};
 
 use crate::error::WorldError;
 use crate::world::World;
-use ens_base::{PeerId, PeerSet};
+use ens_base::{Command, Key, PeerId, PeerSet};
 use ens_hashing::Hasher16;
+use peer_machine::{CallIn, Event};
 use schedule_text::ScheduleEvent;
 use std::alloc::Global;
+
+/// The client that makes every call of a schedule.
+const CLIENT: u32 = 32;
 
 /// Whether the peer is one of these.
 fn is_one_of(members: &[PeerId], peer: PeerId) -> bool
@@ -46,6 +50,29 @@ fn set_of_members(members: &[PeerId]) -> PeerSet
 }
 
 impl World {
+    /// Calls `peer`.
+    fn call<H: Hasher16>(
+        &mut self,
+        alloc: Global,
+        hasher: &mut H,
+        peer: PeerId,
+        id: u64,
+        key: &Key,
+        command: &Command,
+    ) -> Result<(), WorldError>
+        requires { IsPeer peer }
+        ensures reaches { Reaches H.clashes H.fulls (stepped peer (Call (call_of id key.now command.now)) (run_of self.old)) result (run_of self.new) }
+        ensures begins { Begins self.old self.new }
+    {
+        let call = CallIn {
+            from: CLIENT,
+            id,
+            key: key.copy(alloc)?,
+            command: command.copy(alloc)?,
+        };
+        self.step_peer(alloc, hasher, peer, Event::Call(call))
+    }
+
     /// Applies the effect of a line, without counting it.
     fn effect<H: Hasher16>(
         &mut self,
@@ -54,13 +81,16 @@ impl World {
         event: &ScheduleEvent,
     ) -> Result<(), WorldError>
         requires { MayStand (length self.old.peers.items) event.now }
-        ensures ok { OnOk result (run_of self.new ≡ effect event.now (run_of self.old)) }
-        ensures limit { IsErrOf result WorldError.MessageLimit → most_messages < sent_in (effect event.now (run_of self.old)) }
-        ensures within { OnOk result (IsWithin self.old self.new) }
+        ensures reaches { Reaches H.clashes H.fulls (effect event.now (run_of self.old)) result (run_of self.new) }
         ensures begins { Begins self.old self.new }
-        ensures error { IfErr result IsApplyError }
     {
         match event {
+            ScheduleEvent::Call {
+                peer,
+                id,
+                key,
+                command,
+            } => self.call(alloc, hasher, *peer, *id, key, command),
             ScheduleEvent::Tick { peer, ticks } => self.tick(alloc, hasher, *peer, *ticks),
             ScheduleEvent::Deliver { message } => {
                 self.deliver(alloc, hasher, (*message - 1) as usize)
@@ -76,15 +106,28 @@ impl World {
             ScheduleEvent::CalmAmong { members } => {
                 self.calm(alloc, hasher, &set_of_members(members.as_slice()))
             }
-            ScheduleEvent::Call { .. }
-            | ScheduleEvent::Change { .. }
-            | ScheduleEvent::Stop { .. }
-            | ScheduleEvent::Start { .. }
-            | ScheduleEvent::Spoil { .. }
-            | ScheduleEvent::Damage { .. }
-            | ScheduleEvent::Inner { .. }
-            | ScheduleEvent::Revert { .. }
-            | ScheduleEvent::Fail { .. } => Ok(()),
+            ScheduleEvent::Change { peer, view } => {
+                self.step_peer(alloc, hasher, *peer, Event::Change(*view))
+            }
+            ScheduleEvent::Stop { peer } => {
+                self.stop(*peer);
+                Ok(())
+            }
+            ScheduleEvent::Start { peer } => self.start(alloc, hasher, *peer),
+            ScheduleEvent::Spoil { peer, key, bytes } => self.spoil(alloc, *peer, key, bytes),
+            ScheduleEvent::Revert { peer, changes } => {
+                self.revert(alloc, *peer, *changes);
+                Ok(())
+            }
+            ScheduleEvent::Fail {
+                peer,
+                store,
+                survivor,
+            } => {
+                self.fail_next(alloc, *peer, *store, *survivor);
+                Ok(())
+            }
+            ScheduleEvent::Damage { .. } | ScheduleEvent::Inner { .. } => Ok(()),
         }
     }
 
@@ -92,9 +135,10 @@ impl World {
     ///
     /// # Errors
     ///
-    /// `MessageLimit` if the line would send message 500,001, and `Memory` when out of memory.
-    /// Whatever was sent and printed before the call stays, and may be followed by a part of what
-    /// the line sends and prints.
+    /// `MessageLimit` exactly if the line would send message 500,001, unless the call is cut off
+    /// first: `Memory` when out of memory, `Clash` or `BookFull` only if the hasher refused a string.
+    /// Whatever was sent and printed before the call stays, and may be
+    /// followed by a part of what the line sends and prints.
     pub fn apply<H: Hasher16>(
         &mut self,
         alloc: Global,
@@ -102,11 +146,8 @@ impl World {
         hasher: &mut H,
     ) -> Result<(), WorldError>
         requires line { MayStand (length self.old.peers.items) event.now }
-        ensures ok { OnOk result (run_of self.new ≡ applied event.now (run_of self.old)) }
-        ensures limit { IsErrOf result WorldError.MessageLimit → most_messages < sent_in (applied event.now (run_of self.old)) }
-        ensures within { OnOk result (IsWithin self.old self.new) }
+        ensures reaches { Reaches H.clashes H.fulls (applied event.now (run_of self.old)) result (run_of self.new) }
         ensures begins { Begins self.old self.new }
-        ensures error { IfErr result IsApplyError }
     {
         self.effect(alloc, hasher, event)?;
         if let ScheduleEvent::Call { key, .. } = event {

@@ -1,17 +1,14 @@
-ghost use Rattle.std.specs.Prelude.{◌≡◌, ◌<◌, ◌≤◌, OnOk, IfErr, IsErrOf};
 ghost use Rattle.ens_base.specs.View.{IsPeer};
 ghost use Rattle.network.specs.Mail.{goes, oldest, most_messages};
 ghost use Rattle.world_spec.specs.Runs.{delivered, delivered_if, ticked, calmed};
-ghost use Rattle.world_spec.proofs.Growth.{sent_in};
-ghost use Rattle.world_model.specs.Refusals.{IsApplyError};
-ghost use Rattle.world_model.specs.Worlds.{run_of, Begins, IsWithin};
+ghost use Rattle.world_model.specs.Worlds.{run_of, Begins, Reaches};
 
 use crate::error::WorldError;
 use crate::world::World;
 use ens_base::{PeerId, PeerSet};
 use ens_hashing::Hasher16;
 use network::Network;
-use peer_core::Event;
+use peer_machine::Event;
 use std::alloc::Global;
 
 impl World {
@@ -24,11 +21,8 @@ impl World {
         ticks: u32,
     ) -> Result<(), WorldError>
         requires { IsPeer peer }
-        ensures ok { OnOk result (run_of self.new ≡ ticked peer ticks (run_of self.old)) }
-        ensures limit { IsErrOf result WorldError.MessageLimit → most_messages < sent_in (ticked peer ticks (run_of self.old)) }
-        ensures within { OnOk result (IsWithin self.old self.new) }
+        ensures reaches { Reaches H.clashes H.fulls (ticked peer ticks (run_of self.old)) result (run_of self.new) }
         ensures begins { Begins self.old self.new }
-        ensures error { IfErr result IsApplyError }
     {
         for _tick in 0..ticks {
             self.step_peer(alloc, hasher, peer, Event::Tick)?;
@@ -44,11 +38,8 @@ impl World {
         hasher: &mut H,
         number: usize,
     ) -> Result<(), WorldError>
-        ensures ok { OnOk result (run_of self.new ≡ delivered number (run_of self.old)) }
-        ensures limit { IsErrOf result WorldError.MessageLimit → most_messages < sent_in (delivered number (run_of self.old)) }
-        ensures within { OnOk result (IsWithin self.old self.new) }
+        ensures reaches { Reaches H.clashes H.fulls (delivered number (run_of self.old)) result (run_of self.new) }
         ensures begins { Begins self.old self.new }
-        ensures error { IfErr result IsApplyError }
     {
         let Some(frame) = self.network.sent().get(number) else {
             return Ok(());
@@ -68,11 +59,8 @@ impl World {
         receiver: PeerId,
     ) -> Result<(), WorldError>
         requires { IsPeer sender × IsPeer receiver }
-        ensures ok { OnOk result (run_of self.new ≡ delivered_if (oldest (goes sender receiver) (run_of self.old).mail) (run_of self.old)) }
-        ensures limit { IsErrOf result WorldError.MessageLimit → most_messages < sent_in (delivered_if (oldest (goes sender receiver) (run_of self.old).mail) (run_of self.old)) }
-        ensures within { OnOk result (IsWithin self.old self.new) }
+        ensures reaches { Reaches H.clashes H.fulls (delivered_if (oldest (goes sender receiver) (run_of self.old).mail) (run_of self.old)) result (run_of self.new) }
         ensures begins { Begins self.old self.new }
-        ensures error { IfErr result IsApplyError }
     {
         match self.network.oldest_between(sender, receiver) {
             None => Ok(()),
@@ -88,11 +76,8 @@ impl World {
         hasher: &mut H,
         peers: &PeerSet,
     ) -> Result<(), WorldError>
-        ensures ok { OnOk result (run_of self.new ≡ calmed peers.now most_messages (run_of self.old)) }
-        ensures limit { IsErrOf result WorldError.MessageLimit → most_messages < sent_in (calmed peers.now most_messages (run_of self.old)) }
-        ensures within { OnOk result (IsWithin self.old self.new) }
+        ensures reaches { Reaches H.clashes H.fulls (calmed peers.now most_messages (run_of self.old)) result (run_of self.new) }
         ensures begins { Begins self.old self.new }
-        ensures error { IfErr result IsApplyError }
     {
         for _turn in 0..Network::MOST {
             match self.network.oldest_among(peers) {

@@ -4,17 +4,23 @@
 //! schedule. Its state is the run of the lines applied so far, which world_spec defines as a pure
 //! function; `specs/Worlds` maps a `World` to this state. Messages are numbered in the order of
 //! sending and never removed. The notes of leaders go to a scribe, which derives the histories. The
-//! lines `tick`, `deliver`, `pass`, `lose` and `calm` have an effect. The other lines are not
-//! supported yet and have none, except that the key of a call line gets a history.
+//! lines `call`, `damage` and `inner` are not supported yet and have no effect, except that the key
+//! of a call line gets a history.
+//!
+//! A peer lies between its steps: its stores, and the rest of it while it runs. So a line can stop
+//! it, and change its stores whether it runs or not.
 #![tactic(auto)]
 
 mod applying;
+mod changing;
 mod delivering;
 mod error;
 mod opening;
+mod peer;
 mod posting;
 mod reporting;
 mod running;
+mod spoiling;
 mod stepping;
 mod taking;
 mod world;

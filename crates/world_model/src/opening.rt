@@ -3,45 +3,34 @@ ghost use Rattle.ens_base.specs.View.{IsPeer};
 ghost use Rattle.world_spec.specs.Nodes.{opening_node};
 ghost use Rattle.world_spec.specs.Runs.{opening_run};
 ghost use Rattle.world_model.specs.Peers.{AreNumbered, node_of};
+ghost use Rattle.world_model.specs.Refusals.{IsCutOff};
 ghost use Rattle.world_model.specs.Worlds.{run_of};
 
 use crate::error::WorldError;
-use crate::world::{MemPeer, World};
+use crate::peer::WorldPeer;
+use crate::world::World;
 use ens_base::{PeerId, View};
 use ens_hashing::Hasher16;
-use ens_outside::{MemBackend, MemNodes};
 use history_scribe::Scribe;
 use network::Network;
-use peer_core::{Peer, Stores};
 use schedule_text::Schedule;
 use std::alloc::Global;
-use step_plans::PeerError;
-use world_spec::HeldFact;
 
 /// Starts the peer `me` on empty stores.
-fn started<H: Hasher16>(
+fn started_peer<H: Hasher16>(
     alloc: Global,
     me: PeerId,
     view: View,
     hasher: &mut H,
-) -> Result<MemPeer, WorldError>
+) -> Result<WorldPeer, WorldError>
     requires { IsPeer me }
     ensures me { IfOk result (λ p. p.me ≡ me) }
     ensures node { IfOk result (λ p. node_of p ≡ opening_node view) }
-    ensures error { IfErr result (λ e. e ≡ WorldError.Memory) }
+    ensures error { IfErr result (IsCutOff H.clashes H.fulls) }
 {
-    let stores = Stores {
-        backend: MemBackend::new(alloc, Vec::new(alloc)),
-        nodes: MemNodes::new(alloc, Vec::new(alloc)),
-        facts: HeldFact::empty(),
-    };
-    match Peer::start(me, view, stores, hasher) {
-        Ok(peer) => Ok(peer),
-        Err(refused) => match refused.error {
-            PeerError::Memory => Err(WorldError::Memory),
-            _ => unreachable!(),
-        },
-    }
+    let mut peer = WorldPeer::empty(alloc, me);
+    peer.start(alloc, view, hasher)?;
+    Ok(peer)
 }
 
 /// Starts the peers 1 to `count` on empty stores.
@@ -50,16 +39,16 @@ fn started_peers<H: Hasher16>(
     count: u32,
     view: View,
     hasher: &mut H,
-) -> Result<Vec<MemPeer>, WorldError>
+) -> Result<Vec<WorldPeer>, WorldError>
     requires { count ≤ 31 }
     ensures nodes { IfOk result (λ v. map node_of v.items ≡ replicate count (opening_node view)) }
     ensures numbered { IfOk result (λ v. AreNumbered v.items) }
     ensures count { IfOk result (λ v. length v.items ≡ count) }
-    ensures error { IfErr result (λ e. e ≡ WorldError.Memory) }
+    ensures error { IfErr result (IsCutOff H.clashes H.fulls) }
 {
     let mut peers = Vec::new(alloc);
     for below in 0..count {
-        let peer = started(alloc, PeerId(below + 1), view, hasher)?;
+        let peer = started_peer(alloc, PeerId(below + 1), view, hasher)?;
         peers.push(peer)?;
     }
     Ok(peers)
@@ -71,7 +60,8 @@ impl World {
     ///
     /// # Errors
     ///
-    /// `Memory` when out of memory, and no other error.
+    /// `Memory` when out of memory, `Clash` or `BookFull` only if the hasher refused a string, and no
+    /// other error.
     pub fn open<H: Hasher16>(
         alloc: Global,
         schedule: &Schedule,
@@ -79,9 +69,10 @@ impl World {
     ) -> Result<World, WorldError>
         requires { schedule.now.peers ≤ 31 }
         ensures ok { IfOk result (λ w. run_of w ≡ opening_run schedule.now.peers schedule.now.view) }
-        ensures memory { IfErr result (λ e. e ≡ WorldError.Memory) }
+        ensures error { IfErr result (IsCutOff H.clashes H.fulls) }
     {
         Ok(World {
+            opening: schedule.view,
             peers: started_peers(alloc, schedule.peers, schedule.view, hasher)?,
             network: Network::new(alloc)?,
             printed: Vec::new(alloc),

@@ -1,10 +1,6 @@
-ghost use Rattle.std.specs.Prelude.{◌≡◌, ◌<◌, ◌≤◌, IfOk, IfErr, IsErrOf};
-ghost use Rattle.network.specs.Mail.{most_messages};
 ghost use Rattle.schedule_text.specs.Spelling.{IsSchedule};
 ghost use Rattle.world_spec.specs.Lines.{run_of_schedule};
-ghost use Rattle.world_spec.proofs.Growth.{sent_in};
-ghost use Rattle.world_model.specs.Refusals.{IsApplyError};
-ghost use Rattle.world_model.specs.Worlds.{run_of};
+ghost use Rattle.world_model.specs.Worlds.{RunReaches};
 
 use crate::error::WorldError;
 use crate::world::World;
@@ -19,18 +15,15 @@ impl World {
     ///
     /// # Errors
     ///
-    /// `MessageLimit` if the run would send more than 500,000 messages, and `Memory` when out of
-    /// memory.
+    /// `MessageLimit` exactly if the run would send more than 500,000 messages, unless it is cut off
+    /// first: `Memory` when out of memory, `Clash` or `BookFull` only if the hasher refused a string.
     pub fn run<H: Hasher16>(
         alloc: Global,
         schedule: &Schedule,
         hasher: &mut H,
     ) -> Result<World, WorldError>
         requires { IsSchedule schedule.now }
-        ensures ok { IfOk result (λ w. run_of w ≡ run_of_schedule schedule.now.peers schedule.now.view schedule.now.events) }
-        ensures within { IfOk result (λ w. sent_in (run_of w) ≤ most_messages) }
-        ensures limit { IsErrOf result WorldError.MessageLimit → most_messages < sent_in (run_of_schedule schedule.now.peers schedule.now.view schedule.now.events) }
-        ensures error { IfErr result IsApplyError }
+        ensures { RunReaches H.clashes H.fulls (run_of_schedule schedule.now.peers schedule.now.view schedule.now.events) result }
     {
         let mut world = World::open(alloc, schedule, hasher)?;
         let events = schedule.events.as_slice();
@@ -44,6 +37,7 @@ impl World {
 impl World {
     ghost use Rattle.std.specs.Prelude.{◌≡◌, IfOk};
     ghost use Rattle.history_scribe.specs.Histories.{AreHistories};
+    ghost use Rattle.world_model.specs.Worlds.{run_of};
 
     /// Returns the answers to calls and the replies to requests to change the view, in the order
     /// given.

@@ -1,24 +1,19 @@
-ghost use Rattle.std.specs.Prelude.{◌≡◌, ◌<◌, ◌≤◌, ◌+◌, length, All, OnOk, IfErr, IsErrOf};
 ghost use Rattle.ens_base.specs.View.{IsPeer};
-ghost use Rattle.network.specs.Mail.{most_messages};
-ghost use Rattle.step_plans.specs.Outboxes.{out_of};
-ghost use Rattle.peer_core.specs.Drives.{MayCome};
-ghost use Rattle.peer_core.specs.Kept.{AllMayGo};
+ghost use Rattle.peer_plans.specs.Outboxes.{out_of};
+ghost use Rattle.peer_machine.specs.Drives.{MayCome};
+ghost use Rattle.peer_machine.specs.Kept.{AllMayGo};
 ghost use Rattle.world_spec.specs.Runs.{stepped};
-ghost use Rattle.world_spec.proofs.Growth.{sent_in};
-ghost use Rattle.world_model.specs.Refusals.{IsApplyError};
-ghost use Rattle.world_model.specs.Worlds.{run_of, Begins, IsWithin, reported};
+ghost use Rattle.world_model.specs.Worlds.{run_of, Adds, Begins, Reaches, reported};
 
 use crate::error::WorldError;
 use crate::posting::post_all;
 use crate::reporting::lines_of;
-use crate::taking::take;
 use crate::world::World;
 use ens_base::PeerId;
 use ens_hashing::Hasher16;
-use peer_core::Event;
+use peer_machine::Event;
+use peer_plans::Outbox;
 use std::alloc::Global;
-use step_plans::Outbox;
 
 /// Drops an event for which there is no peer.
 fn ignore(_event: Event) {}
@@ -28,11 +23,8 @@ impl World {
     fn report(&mut self, alloc: Global, peer: PeerId, out: Outbox) -> Result<(), WorldError>
         requires peer { IsPeer peer }
         requires out { AllMayGo peer (out_of out) }
-        ensures ok { OnOk result (run_of self.new ≡ reported peer (out_of out) out.notes.items (run_of self.old)) }
-        ensures limit { IsErrOf result WorldError.MessageLimit → most_messages < length self.old.network.sent + length out.sends.items }
-        ensures within { OnOk result (IsWithin self.old self.new) }
+        ensures reaches { Adds (reported peer (out_of out) out.notes.items (run_of self.old)) result (run_of self.new) }
         ensures begins { Begins self.old self.new }
-        ensures error { IfErr result IsApplyError }
     {
         let Outbox {
             sends,
@@ -57,18 +49,15 @@ impl World {
     ) -> Result<(), WorldError>
         requires peer { IsPeer peer }
         requires event { MayCome peer event }
-        ensures ok { OnOk result (run_of self.new ≡ stepped peer event (run_of self.old)) }
-        ensures limit { IsErrOf result WorldError.MessageLimit → most_messages < sent_in (stepped peer event (run_of self.old)) }
-        ensures within { OnOk result (IsWithin self.old self.new) }
+        ensures reaches { Reaches H.clashes H.fulls (stepped peer event (run_of self.old)) result (run_of self.new) }
         ensures begins { Begins self.old self.new }
-        ensures error { IfErr result IsApplyError }
     {
         let place = (peer.0 - 1) as usize;
         if place >= self.peers.len() {
             ignore(event);
             return Ok(());
         }
-        let out = take(alloc, hasher, &mut self.peers[place], event)?;
+        let out = self.peers[place].step(alloc, hasher, event)?;
         self.report(alloc, peer, out)
     }
 }

@@ -1,17 +1,22 @@
-ghost use Rattle.std.specs.Prelude.{◌≡◌, IfOk, IfErr};
-ghost use Rattle.step_plans.specs.Outboxes.{out_of};
-ghost use Rattle.peer_core.specs.Drives.{MayCome};
-ghost use Rattle.peer_core.specs.Kept.{AllMayGo};
-ghost use Rattle.world_spec.specs.Nodes.{Taken, taken};
+ghost use Rattle.std.specs.Prelude.{◌≡◌, false, IfOk, IfErr, OnOk};
+ghost use Rattle.ens_base.specs.View.{IsPeer};
+ghost use Rattle.held_stores.specs.Held.{empty_stores as no_stores};
+ghost use Rattle.peer_plans.specs.Outboxes.{out_of};
+ghost use Rattle.peer_machine.specs.Drives.{MayCome};
+ghost use Rattle.peer_machine.specs.Kept.{AllMayGo};
+ghost use Rattle.world_spec.specs.Nodes.{Taken, taken, started, Up, Down};
 ghost use Rattle.world_model.specs.Peers.{node_of};
-ghost use Rattle.world_model.specs.Refusals.{world_error as error_of};
+ghost use Rattle.world_model.specs.Refusals.{world_error as error_of, IsCutOff};
 
 use crate::error::WorldError;
-use crate::world::MemPeer;
+use crate::peer::{MemPeer, MemStores, WorldPeer};
+use ens_base::{PeerId, View};
 use ens_hashing::Hasher16;
-use peer_core::Event;
+use peer_machine::{Event, Peer, StartError, Stores};
+use peer_plans::{Outbox, PeerError};
 use std::alloc::Global;
-use step_plans::{Outbox, PeerError};
+use synctree::Tree;
+use world_stores::{HeldFact, HeldNodes, HeldObjects};
 
 /// Returns the error with which a failed step ends the run, or `None` if the run goes on: after a
 /// store fault the peer is down.
@@ -26,25 +31,105 @@ fn world_error(error: PeerError) -> Option<WorldError>
     }
 }
 
-/// Steps one peer, and returns its output.
-pub(crate) fn take<H: Hasher16>(
-    alloc: Global,
-    hasher: &mut H,
-    peer: &mut MemPeer,
-    event: Event,
-) -> Result<Outbox, WorldError>
-    requires { MayCome peer.old.me event }
-    ensures taken { IfOk result (λ out. record { node = node_of peer.new; out = out_of out; notes = out.notes.items } ≡ taken peer.old.me event (node_of peer.old)) }
-    ensures may_go { IfOk result (λ out. AllMayGo peer.old.me (out_of out)) }
-    ensures me { peer.new.me ≡ peer.old.me }
-    ensures error { IfErr result (λ e. e ≡ WorldError.Memory) }
+/// Returns stores that are empty.
+fn empty_stores(alloc: Global) -> MemStores
+    ensures { result ≡ no_stores }
 {
-    let mut out = Outbox::new(alloc);
-    match peer.step(alloc, event, hasher, &mut out) {
-        Ok(()) => Ok(out),
-        Err(error) => match world_error(error) {
-            None => Ok(out),
-            Some(error) => Err(error),
-        },
+    Stores {
+        backend: HeldObjects::empty(alloc),
+        tree: Tree::unopened(HeldNodes::empty(alloc)),
+        facts: HeldFact::empty(),
+    }
+}
+
+impl WorldPeer {
+    /// Makes a peer that is down, over empty stores.
+    pub(crate) fn empty(alloc: Global, me: PeerId) -> WorldPeer
+        requires { IsPeer me }
+        ensures me { result.me ≡ me }
+        ensures node { node_of result ≡ Down no_stores }
+    {
+        WorldPeer {
+            me,
+            running: None,
+            stores: empty_stores(alloc),
+        }
+    }
+
+    /// Keeps a running peer until its next step.
+    fn wait(&mut self, peer: MemPeer)
+        requires me { peer.me ≡ self.old.me }
+        requires awake { peer.halted ≡ false }
+        ensures node { node_of self.new ≡ Up peer.machine.state peer.machine.stores }
+        ensures me { self.new.me ≡ self.old.me }
+    {
+        let (running, stores) = peer.suspend();
+        self.running = Some(running);
+        self.stores = stores;
+    }
+
+    /// Starts the peer if it is down. If the start is refused, the peer stays down.
+    pub(crate) fn start<H: Hasher16>(
+        &mut self,
+        alloc: Global,
+        opening: View,
+        hasher: &mut H,
+    ) -> Result<(), WorldError>
+        ensures ok { OnOk result (node_of self.new ≡ started opening (node_of self.old)) }
+        ensures me { self.new.me ≡ self.old.me }
+        ensures error { IfErr result (IsCutOff H.clashes H.fulls) }
+    {
+        if self.running.is_some() {
+            return Ok(());
+        }
+        let stores = std::mem::replace(&mut self.stores, empty_stores(alloc));
+        match Peer::start(alloc, self.me, opening, stores, hasher) {
+            Ok(peer) => {
+                self.wait(peer);
+                Ok(())
+            }
+            Err(refused) => {
+                let StartError { error, held } = refused;
+                self.stores = held;
+                match world_error(error) {
+                    None => Ok(()),
+                    Some(error) => Err(error),
+                }
+            }
+        }
+    }
+
+    /// Steps the peer, and returns its output. A peer that is down does nothing.
+    pub(crate) fn step<H: Hasher16>(
+        &mut self,
+        alloc: Global,
+        hasher: &mut H,
+        event: Event,
+    ) -> Result<Outbox, WorldError>
+        requires { MayCome self.old.me event }
+        ensures taken { IfOk result (λ out. record { node = node_of self.new; out = out_of out; notes = out.notes.items } ≡ taken self.old.me event (node_of self.old)) }
+        ensures may_go { IfOk result (λ out. AllMayGo self.old.me (out_of out)) }
+        ensures me { self.new.me ≡ self.old.me }
+        ensures error { IfErr result (IsCutOff H.clashes H.fulls) }
+    {
+        let mut out = Outbox::new(alloc);
+        let Some(running) = self.running.take() else {
+            return Ok(out);
+        };
+        let stores = std::mem::replace(&mut self.stores, empty_stores(alloc));
+        let mut peer = running.resume(stores);
+        match peer.step(alloc, event, hasher, &mut out) {
+            Ok(()) => {
+                self.wait(peer);
+                Ok(out)
+            }
+            Err(error) => {
+                self.stores = peer.into_stores();
+                match world_error(error) {
+                    None => Ok(out),
+                    Some(error) => Err(error),
+                }
+            }
+        }
     }
 }

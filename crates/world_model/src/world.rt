@@ -1,22 +1,20 @@
 ghost use Rattle.std.specs.Prelude.{◌≤◌, length};
+ghost use Rattle.network.specs.Mail.{most_messages};
 ghost use Rattle.world_model.specs.Peers.{AreNumbered};
 
-use ens_base::Key;
-use ens_outside::{MemBackend, MemNodes};
+use crate::peer::WorldPeer;
+use ens_base::{Key, View};
 use history_scribe::Scribe;
 use network::Network;
-use peer_core::Peer;
 use register_model::Printed;
-use world_spec::HeldFact;
-
-/// A peer over stores in memory.
-pub(crate) type MemPeer = Peer<MemBackend, MemNodes, HeldFact>;
 
 /// Several peers over stores in memory, all messages sent between them, and their answers and
-/// notes.
+/// notes. At most 500,000 messages are sent.
 #[derive(Drop)]
 pub struct World {
-    pub(crate) peers: Vec<MemPeer>,
+    /// The view in which the ensemble of the peers opens.
+    pub(crate) opening: View,
+    pub(crate) peers: Vec<WorldPeer>,
     pub(crate) network: Network,
     pub(crate) printed: Vec<Printed>,
     pub(crate) scribe: Scribe,
@@ -26,4 +24,5 @@ pub struct World {
     pub(crate) called: Vec<Key>,
     ghost numbered: { AreNumbered peers.items },
     ghost few: { length peers.items ≤ 31 },
+    ghost within: { length network.sent ≤ most_messages },
 }

@@ -4,16 +4,17 @@ use Rattle.std.specs.Prelude.{slice_get}
 use Rattle.std.proofs.lemmas.List.{length_push}
 use Rattle.network.specs.Mail.{Mail, no_mail, posted, settled, goes, is_among, oldest, most_messages, IsClear, IsMail}
 use Rattle.network.proofs.MailLaws.{oldest_is_sent, oldest_is_beyond, clear_at_first, clear_past_oldest, clear_posted, clear_settled, clear_lost, is_mail_at_first, is_mail_posted, is_mail_settled, is_mail_lost}
-use Rattle.peer_core.specs.declared.event.Event.{Event}
-use Rattle.peer_core.specs.declared.event.Event.TheVariants as events
+use Rattle.peer_machine.specs.declared.event.Event.{Event}
+use Rattle.peer_machine.specs.declared.event.Event.TheVariants as events
 use Rattle.schedule_text.specs.declared.event.ScheduleEvent.{ScheduleEvent}
-use Rattle.schedule_text.specs.declared.event.ScheduleEvent.TheVariants.{Tick, Deliver, Pass, Lose, Calm, CalmAmong}
+use Rattle.schedule_text.specs.declared.event.ScheduleEvent.TheVariants.{Call, Tick, Deliver, Pass, Lose, Calm, CalmAmong, Change, Stop, Start, Spoil, Revert, Fail}
 use Rattle.wire_frames.specs.declared.frame.Frame.{Frame}
-use Rattle.world_spec.specs.Lines.{everyone, set_of, effect, applied, run_from, run_of_schedule}
-use Rattle.world_spec.specs.Nodes.{Node, taken}
-use Rattle.world_spec.specs.Runs.{Run, opening_run, place_of, frame_from, posted_all, stepped_at, stepped, ticked, received_if, delivered, delivered_if, going_on, calmed}
-use Rattle.world_spec.specs.Messages.{IsCalm}
-use Rattle.world_spec.proofs.Growth.{sent_in}
+use Rattle.world_spec.specs.Lines.{call_of, everyone, set_of, effect, applied, run_from, run_of_schedule}
+use Rattle.world_spec.specs.Nodes.{Node, taken, started, stopped, over_stores, while_down}
+use Rattle.world_spec.specs.Runs.{Run, opening_run, place_of, frame_from, posted_all, stepped_at, stepped, changed, ticked, received_if, delivered, delivered_if, going_on, calmed}
+use Rattle.world_spec.specs.Messages.{sent_in, IsCalm}
+use Rattle.world_spec.specs.Stores.{failing, leaves_of, spoiled, taken_back}
+use Rattle.world_spec.proofs.Growth.{changed_mail}
 
 -- there is one flag for each message, and no message below this number waits and passes the test
 record Quiet (test : Frame → Bool) (k : ℕ) (m : Mail) : Type 0 where
@@ -36,6 +37,9 @@ module _ (test : Frame → Bool) (k : ℕ) where
 
   stepped_quiet : (peer : ℕ) (event : Event) (w : Run) → Quiet test k w.mail → Quiet test k (stepped peer event w).mail
   stepped_quiet peer event w quiet = stepped_at_quiet (slice_get w.nodes (place_of peer)) peer event w quiet
+
+  changed_quiet : (peer : ℕ) (change : Node → Node) (w : Run) → Quiet test k w.mail → Quiet test k (changed peer change w).mail
+  changed_quiet peer change w quiet = rw (changed_mail peer change w) quiet
 
   ticked_quiet : (peer n : ℕ) (w : Run) → Quiet test k w.mail → Quiet test k (ticked peer n w).mail
   unfolding ticked
@@ -103,12 +107,19 @@ module _ (test : Frame → Bool) (k : ℕ) where
   delivered_if_quiet (Some n) w quiet = delivered_quiet test k n w quiet
 
   effect_quiet : (event : ScheduleEvent) (w : Run) → Quiet test k w.mail → Quiet test k (effect event w).mail
+  effect_quiet (Call peer id key command) w quiet = stepped_quiet test k peer (events.Call (call_of id key command)) w quiet
   effect_quiet (Tick peer ticks) w quiet = ticked_quiet test k peer ticks w quiet
   effect_quiet (Deliver message) w quiet = delivered_quiet test k (message - 1) w quiet
   effect_quiet (Pass sender receiver) w quiet = delivered_if_quiet (oldest (goes sender receiver) w.mail) w quiet
   effect_quiet (Lose sender receiver) w quiet = record { mail = is_mail_lost sender receiver w.mail quiet.mail; within = quiet.within; clear = clear_lost test w.mail k sender receiver quiet.clear }
   effect_quiet Calm w quiet = calmed_quiet everyone most_messages w quiet
   effect_quiet (CalmAmong members) w quiet = calmed_quiet (set_of members) most_messages w quiet
+  effect_quiet (Change peer view) w quiet = stepped_quiet test k peer (events.Change view) w quiet
+  effect_quiet (Stop peer) w quiet = changed_quiet test k peer stopped w quiet
+  effect_quiet (Start peer) w quiet = changed_quiet test k peer (started w.view) w quiet
+  effect_quiet (Spoil peer key bytes) w quiet = changed_quiet test k peer (over_stores (spoiled key bytes)) w quiet
+  effect_quiet (Revert peer changes) w quiet = changed_quiet test k peer (while_down (taken_back changes)) w quiet
+  effect_quiet (Fail peer store survivor) w quiet = changed_quiet test k peer (over_stores (failing store (leaves_of survivor))) w quiet
   effect_quiet other w quiet = quiet
 
   run_quiet : (events : List ScheduleEvent) (w : Run) → Quiet test k w.mail → Quiet test k (run_from events w).mail

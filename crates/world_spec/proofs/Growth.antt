@@ -3,18 +3,16 @@ use Rattle.std.proofs.Common.{◌≡◌, ◌≤◌, ◌+◌, ◌-◌, ◌∙◌,
 use Rattle.std.proofs.lemmas.List.{length-append, length-set}
 use Rattle.std.specs.Prelude.{Bool, slice_get}
 use Rattle.network.specs.Mail.{Mail, posted, settled, goes, is_among, oldest, most_messages}
-use Rattle.peer_core.specs.declared.event.Event.{Event}
-use Rattle.peer_core.specs.declared.event.Event.TheVariants as events
+use Rattle.peer_machine.specs.declared.event.Event.{Event}
+use Rattle.peer_machine.specs.declared.event.Event.TheVariants as events
 use Rattle.schedule_text.specs.declared.event.ScheduleEvent.{ScheduleEvent}
-use Rattle.schedule_text.specs.declared.event.ScheduleEvent.TheVariants.{Tick, Deliver, Pass, Lose, Calm, CalmAmong}
+use Rattle.schedule_text.specs.declared.event.ScheduleEvent.TheVariants.{Call, Tick, Deliver, Pass, Lose, Calm, CalmAmong, Change, Stop, Start, Spoil, Revert, Fail}
 use Rattle.wire_frames.specs.declared.frame.Frame.{Frame}
-use Rattle.world_spec.specs.Lines.{everyone, set_of, applied, run_from}
-use Rattle.world_spec.specs.Nodes.{Node, Taken, taken}
-use Rattle.world_spec.specs.Runs.{Run, place_of, frame_from, posted_all, with_taken, stepped_at, stepped, ticked, received_if, delivered, delivered_if, going_on, calmed}
-
--- the number of messages sent
-abbrev pub sent_in : Run → ℕ
-sent_in w = length w.mail.sent
+use Rattle.world_spec.specs.Lines.{call_of, everyone, set_of, applied, run_from}
+use Rattle.world_spec.specs.Messages.{sent_in}
+use Rattle.world_spec.specs.Nodes.{Node, Taken, taken, started, stopped, over_stores, while_down}
+use Rattle.world_spec.specs.Runs.{Run, place_of, frame_from, posted_all, with_taken, stepped_at, stepped, changed_at, changed, ticked, received_if, delivered, delivered_if, going_on, calmed}
+use Rattle.world_spec.specs.Stores.{failing, leaves_of, spoiled, taken_back}
 
 length_posted : (m : Mail) (f : Frame) → length (posted m f).sent ≡ length m.sent + 1
 length_posted m f = length-append m.sent (f ∷ [])
@@ -53,6 +51,17 @@ calmed_grows peers (suc n) w = going (oldest (is_among peers) w.mail) (λ v. cal
   going None later = omega arith
   going (Some k) later = omega (arith, delivered_grows k w, later (delivered k w))
 
+-- a change of a node sends no message
+changed_at_mail : (node : Option Node) (peer : ℕ) (change : Node → Node) (w : Run) → (changed_at node peer change w).mail ≡ w.mail
+changed_at_mail None peer change w = refl
+changed_at_mail (Some node) peer change w = refl
+
+pub changed_mail : (peer : ℕ) (change : Node → Node) (w : Run) → (changed peer change w).mail ≡ w.mail
+changed_mail peer change w = changed_at_mail (slice_get w.nodes (place_of peer)) peer change w
+
+changed_grows : (peer : ℕ) (change : Node → Node) (w : Run) → sent_in w ≤ sent_in (changed peer change w)
+changed_grows peer change w = rw (changed_mail peer change w) (omega arith)
+
 -- the number of peers
 abbrev pub peers_in : Run → ℕ
 peers_in w = length w.nodes
@@ -63,6 +72,13 @@ same_at (Some node) peer event w = length-set w.nodes (place_of peer) (taken pee
 
 pub stepped_same : (peer : ℕ) (event : Event) (w : Run) → peers_in (stepped peer event w) ≡ peers_in w
 stepped_same peer event w = same_at (slice_get w.nodes (place_of peer)) peer event w
+
+changed_at_same : (node : Option Node) (peer : ℕ) (change : Node → Node) (w : Run) → peers_in (changed_at node peer change w) ≡ peers_in w
+changed_at_same None peer change w = refl
+changed_at_same (Some node) peer change w = length-set w.nodes (place_of peer) (change node)
+
+changed_same : (peer : ℕ) (change : Node → Node) (w : Run) → peers_in (changed peer change w) ≡ peers_in w
+changed_same peer change w = changed_at_same (slice_get w.nodes (place_of peer)) peer change w
 
 ticked_same : (peer n : ℕ) (w : Run) → peers_in (ticked peer n w) ≡ peers_in w
 unfolding ticked
@@ -90,12 +106,19 @@ calmed_same peers (suc n) w = going (oldest (is_among peers) w.mail) (λ v. calm
 
 -- no line changes the number of peers
 pub applied_same : (event : ScheduleEvent) (w : Run) → peers_in (applied event w) ≡ peers_in w
+applied_same (Call peer id key command) w = stepped_same peer (events.Call (call_of id key command)) w
 applied_same (Tick peer ticks) w = ticked_same peer ticks w
 applied_same (Deliver message) w = delivered_same (message - 1) w
 applied_same (Pass sender receiver) w = passed_same (oldest (goes sender receiver) w.mail) w
 applied_same (Lose sender receiver) w = refl
 applied_same Calm w = calmed_same everyone most_messages w
 applied_same (CalmAmong members) w = calmed_same (set_of members) most_messages w
+applied_same (Change peer view) w = stepped_same peer (events.Change view) w
+applied_same (Stop peer) w = changed_same peer stopped w
+applied_same (Start peer) w = changed_same peer (started w.view) w
+applied_same (Spoil peer key bytes) w = changed_same peer (over_stores (spoiled key bytes)) w
+applied_same (Revert peer changes) w = changed_same peer (while_down (taken_back changes)) w
+applied_same (Fail peer store survivor) w = changed_same peer (over_stores (failing store (leaves_of survivor))) w
 applied_same event w = refl
 
 -- no line removes a message
@@ -104,12 +127,19 @@ passed_grows None w = omega arith
 passed_grows (Some n) w = delivered_grows n w
 
 pub applied_grows : (event : ScheduleEvent) (w : Run) → sent_in w ≤ sent_in (applied event w)
+applied_grows (Call peer id key command) w = stepped_grows peer (events.Call (call_of id key command)) w
 applied_grows (Tick peer ticks) w = ticked_grows peer ticks w
 applied_grows (Deliver message) w = delivered_grows (message - 1) w
 applied_grows (Pass sender receiver) w = passed_grows (oldest (goes sender receiver) w.mail) w
 applied_grows (Lose sender receiver) w = omega arith
 applied_grows Calm w = calmed_grows everyone most_messages w
 applied_grows (CalmAmong members) w = calmed_grows (set_of members) most_messages w
+applied_grows (Change peer view) w = stepped_grows peer (events.Change view) w
+applied_grows (Stop peer) w = changed_grows peer stopped w
+applied_grows (Start peer) w = changed_grows peer (started w.view) w
+applied_grows (Spoil peer key bytes) w = changed_grows peer (over_stores (spoiled key bytes)) w
+applied_grows (Revert peer changes) w = changed_grows peer (while_down (taken_back changes)) w
+applied_grows (Fail peer store survivor) w = changed_grows peer (over_stores (failing store (leaves_of survivor))) w
 applied_grows event w = omega arith
 
 pub run_grows : (events : List ScheduleEvent) (w : Run) → sent_in w ≤ sent_in (run_from events w)

@@ -1,5 +1,6 @@
 pub mod Calming
 pub mod Determined
+pub mod Ending
 pub mod Growth
 pub mod Obeying
 pub mod Turns

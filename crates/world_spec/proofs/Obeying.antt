@@ -1,53 +1,83 @@
 -- Every message of a run goes from a peer to another and obeys the grammar of frames.
-use Rattle.std.proofs.Common.{◌≤◌, ◌-◌, lit<, arith, sym, ℕ, zero, suc, Bool, List, [], ◌∷◌, ◌++◌, map, Option, None, Some}
-use Rattle.std.specs.Prelude.{All, IfSome, slice_get}
-use Rattle.std.proofs.lemmas.List.Elements.{All-nil, All-cons, All-head, All-tail, All-push, All-set, All-replicate}
+use Rattle.std.proofs.Common.{◌≡◌, ◌≤◌, ◌-◌, arith, refl, sym, subst, ap, inl, inr, ◌⊎◌, ℕ, zero, suc, Bool, List, [], ◌∷◌, map, replicate, Option, None, Some}
+use Rattle.std.specs.Prelude.{All, IfSome, slice_get, slice_set}
+use Rattle.std.proofs.lemmas.List.Elements.{All-nil, All-cons, All-head, All-tail, All-push}
+use Rattle.std.proofs.lemmas.Option.{none-some, same_Some}
 use Rattle.ens_base.specs.View.{IsPeer}
+use Rattle.held_stores.specs.Held.{HeldStores, empty_stores}
+use Rattle.held_stores.specs.Laws.{held_with}
+use Rattle.held_stores.specs.Runs.{Ended}
+use Rattle.leader_words.specs.declared.out.Outgoing.{Outgoing}
 use Rattle.network.specs.Mail.{Mail, MayBeSent, posted, settled, goes, is_among, oldest, most_messages}
+use Rattle.peer_fact.specs.declared.fact.Fact.{Fact}
+use Rattle.peer_machine.proofs.Passing.{steps_keep}
+use Rattle.peer_machine.specs.Drives.{step_of, MayCome}
+use Rattle.peer_machine.specs.Kept.{LeadsAs, MaySend, AllMayGo, Reaches}
+use Rattle.peer_machine.specs.Starts.{start_of, opened}
+use Rattle.peer_machine.specs.declared.event.Event.{Event}
+use Rattle.peer_machine.specs.declared.event.Event.TheVariants as events
+use Rattle.peer_machine.specs.declared.state.State.{State}
+use Rattle.peer_plans.specs.Plans.{Plan, Ending, Finished, Stopped}
 use Rattle.register_model.specs.declared.note.Note.{Note}
 use Rattle.schedule_text.specs.Spelling.{MayStand, AllMayStand}
 use Rattle.schedule_text.specs.declared.event.ScheduleEvent.{ScheduleEvent}
-use Rattle.schedule_text.specs.declared.event.ScheduleEvent.TheVariants.{Tick, Deliver, Pass, Lose, Calm, CalmAmong}
-use Rattle.step_plans.specs.Calls.{Save}
-use Rattle.step_plans.specs.Plans.{Plan, Done, Say, Ask, Follows}
-use Rattle.step_plans.specs.declared.outbox.Outgoing.{Outgoing}
+use Rattle.schedule_text.specs.declared.event.ScheduleEvent.TheVariants.{Call, Tick, Deliver, Pass, Lose, Calm, CalmAmong, Change, Stop, Start, Spoil, Revert, Fail}
 use Rattle.wire_frames.specs.declared.frame.Frame.{Frame}
-use Rattle.peer_core.specs.Ages.{IsYoung}
-use Rattle.peer_core.specs.Drives.{step_of, MayCome}
-use Rattle.peer_core.specs.Kept.{IsSave, MaySend, AllMayGo}
-use Rattle.peer_core.specs.declared.event.Event.{Event}
-use Rattle.peer_core.specs.declared.event.Event.TheVariants as events
-use Rattle.peer_core.specs.declared.state.State.{State}
-use Rattle.peer_core.proofs.Passing.{steps_keep}
-use Rattle.world_spec.specs.Lines.{everyone, set_of, effect, applied, run_from, run_of_schedule}
-use Rattle.world_spec.specs.Nodes.{MemStores, Node, Up, Down, Taken, with_fact, run, taken, taken_of, opening_node}
-use Rattle.world_spec.specs.Runs.{Run, opening_run, place_of, frame_from, posted_all, with_taken, stepped_at, stepped, ticked, received, received_if, delivered, delivered_if, going_on, calmed}
+use Rattle.world_spec.proofs.Ending.{EndsIn, run_reaches}
+use Rattle.world_spec.specs.Lines.{call_of, everyone, set_of, effect, applied, run_from, run_of_schedule}
+use Rattle.world_spec.specs.Nodes.{Node, Up, Down, Taken, taken, taken_by, taken_of, run_over, started, stopped, over_stores, while_down, opening_node}
+use Rattle.world_spec.specs.Runs.{Run, opening_run, place_of, frame_from, posted_all, with_taken, stepped_at, stepped, changed_at, changed, ticked, received, received_if, delivered, delivered_if, going_on, calmed}
+use Rattle.world_spec.specs.Stores.{failing, leaves_of, spoiled, taken_back}
 
--- the ages of a running peer are below their limits
-abbrev pub IsYoungNode : Node → Type 0
-IsYoungNode (Up x s) = IsYoung x.phase
-IsYoungNode (Down s) = Unit {0}
+-- a running peer that leads sends as itself
+abbrev pub IsOwnNode : ℕ → Node → Type 0
+IsOwnNode me (Up x s) = LeadsAs me x.phase
+IsOwnNode me (Down s) = Unit {0}
 
--- the peer is young after the step, and its messages may be sent
+-- the peer sends as itself after the step, and its messages may be sent
 pub record IsFineTaken (me : ℕ) (t : Taken) : Type 0 where
-  pub node : IsYoungNode t.node
+  pub node : IsOwnNode me t.node
   pub out : AllMayGo me t.out
 
--- all messages so far may be sent, and all peers are young
-record IsFine (w : Run) : Type 0 where
-  mail : All MayBeSent w.mail.sent
-  nodes : All IsYoungNode w.nodes
+-- all messages so far may be sent, and all peers send as themselves
+pub record IsFine (w : Run) : Type 0 where
+  pub mail : All MayBeSent w.mail.sent
+  pub nodes : (place : ℕ) (node : Node) → slice_get w.nodes place ≡ Some node → IsOwnNode (suc place) node
 
-run_fine : (me : ℕ) (p : Plan State) (s : MemStores) (ns : List Note) → Follows IsSave (λ y out. IsYoung y.phase × AllMayGo me out) p → IsFineTaken me (taken_of (run p s ns))
-run_fine me (Done x out) s ns follows = record { node = follows.0; out = follows.1 }
-run_fine me (Say note p) s ns follows = run_fine me p s (ns ++ note ∷ []) follows
-run_fine me (Ask (Save fact) next) s ns follows = run_fine me (next tt) (with_fact fact s) ns (follows.1 tt)
-run_fine me (Ask call next) s ns follows = absurd follows.0
+ended_fine : (me : ℕ) (e : Ending State) (s : HeldStores) (ns : List Note) → EndsIn (λ y out. LeadsAs me y.phase × AllMayGo me out) e → IsFineTaken me (taken_by e s ns)
+ended_fine me (Finished x out) s ns ends = record { node = ends.0; out = ends.1 }
+ended_fine me (Stopped error) s ns ends = record { node = tt; out = All-nil (MaySend me) }
 
--- all messages that a node sends in a step may be sent, and it stays young
-pub taken_fine : (me : ℕ) (event : Event) (node : Node) → IsPeer me → MayCome me event → IsYoungNode node → IsFineTaken me (taken me event node)
-taken_fine me event (Up x s) peer come young = run_fine me (step_of me event x) s [] (steps_keep me event x peer come young)
-taken_fine me event (Down s) peer come young = record { node = tt; out = All-nil (MaySend me) }
+run_fine : (me : ℕ) (p : Plan State) (s : HeldStores) → Reaches (λ y out. LeadsAs me y.phase × AllMayGo me out) p → IsFineTaken me (taken_of (run_over p s))
+run_fine me p s reaches =
+    let e : Ended State = run_over p s in
+    ended_fine me e.ending e.held.stores e.notes (run_reaches (λ y out. LeadsAs me y.phase × AllMayGo me out) p (held_with s []) [] reaches)
+
+-- all messages that a node sends in a step may be sent, and it sends as itself
+pub taken_fine : (me : ℕ) (event : Event) (node : Node) → IsPeer me → MayCome me event → IsOwnNode me node → IsFineTaken me (taken me event node)
+taken_fine me event (Up x s) peer come own = run_fine me (step_of me event x) s (steps_keep me event x peer come own)
+taken_fine me event (Down s) peer come own = record { node = tt; out = All-nil (MaySend me) }
+
+-- a peer that starts leads nobody
+opened_reaches : (me : ℕ) (view : List ℕ) (kept : Option Fact) → Reaches (λ y out. LeadsAs me y.phase × AllMayGo me out) (opened view kept)
+opened_reaches me view None = λ a sound b kept. (tt, All-nil (MaySend me))
+opened_reaches me view (Some fact) = λ a sound. (tt, All-nil (MaySend me))
+
+pub started_own : (me : ℕ) (view : List ℕ) (node : Node) → IsOwnNode me node → IsOwnNode me (started view node)
+started_own me view (Up x s) own = own
+started_own me view (Down s) own = (run_fine me (start_of view) s (λ kept sound. opened_reaches me view kept)).node
+
+pub stopped_own : (me : ℕ) (node : Node) → IsOwnNode me node → IsOwnNode me (stopped node)
+stopped_own me (Up x s) own = tt
+stopped_own me (Down s) own = tt
+
+pub over_stores_own : (f : HeldStores → HeldStores) (me : ℕ) (node : Node) → IsOwnNode me node → IsOwnNode me (over_stores f node)
+over_stores_own f me (Up x s) own = own
+over_stores_own f me (Down s) own = tt
+
+pub while_down_own : (f : HeldStores → HeldStores) (me : ℕ) (node : Node) → IsOwnNode me node → IsOwnNode me (while_down f node)
+while_down_own f me (Up x s) own = own
+while_down_own f me (Down s) own = tt
 
 framed : (me : ℕ) (sends : List Outgoing) → IsPeer me → All (MaySend me) sends → All MayBeSent (map (frame_from me) sends)
 framed me [] peer may = All-nil MayBeSent
@@ -64,18 +94,51 @@ there P [] n all = tt
 there P (x ∷ xs) zero all = All-head P x xs all
 there P (x ∷ xs) (suc n) all = there P xs n (All-tail P x xs all)
 
+-- the element at a place after an element was set
+get_put : {A : Type 0} (xs : List A) (p q : ℕ) (y m : A) → slice_get (slice_set xs p y) q ≡ Some m → ((p ≡ q) × (m ≡ y)) ⊎ (slice_get xs q ≡ Some m)
+get_put [] p q y m is = absurd (none-some m is)
+get_put (x ∷ xs) zero zero y m is = inl (refl, sym (same_Some y m is))
+get_put (x ∷ xs) zero (suc q) y m is = inr is
+get_put (x ∷ xs) (suc p) zero y m is = inr is
+get_put (x ∷ xs) (suc p) (suc q) y m is = later (get_put xs p q y m is) where
+  later : ((p ≡ q) × (m ≡ y)) ⊎ (slice_get xs q ≡ Some m) → ((suc p ≡ suc q) × (m ≡ y)) ⊎ (slice_get xs q ≡ Some m)
+  later (inl here) = inl (ap suc here.0, here.1)
+  later (inr other) = inr other
+
+-- the nodes after the node of a peer changed
+put_own : (peer : ℕ) (nodes : List Node) (new : Node) → IsPeer peer → IsOwnNode peer new → ((place : ℕ) (node : Node) → slice_get nodes place ≡ Some node → IsOwnNode (suc place) node)
+    → (place : ℕ) (node : Node) → slice_get (slice_set nodes (place_of peer) new) place ≡ Some node → IsOwnNode (suc place) node
+put_own peer nodes new is own old place node at = by_place (get_put nodes (place_of peer) place new node at) where
+  number : place_of peer ≡ place → peer ≡ suc place
+  number same = omega (arith, same, is.0)
+
+  by_place : ((place_of peer ≡ place) × (node ≡ new)) ⊎ (slice_get nodes place ≡ Some node) → IsOwnNode (suc place) node
+  by_place (inl here) = subst (λ n. IsOwnNode (suc place) n) (sym here.1) (subst (λ q. IsOwnNode q new) (number here.0) own)
+  by_place (inr other) = old place node other
+
 with_taken_fine : (peer : ℕ) (t : Taken) (w : Run) → IsPeer peer → IsFineTaken peer t → IsFine w → IsFine (with_taken peer t w)
 with_taken_fine peer t w is fine old = record {
   mail = posted_may (map (frame_from peer) t.out.sends) w.mail (framed peer t.out.sends is fine.out) old.mail;
-  nodes = All-set IsYoungNode w.nodes (place_of peer) t.node fine.node old.nodes;
+  nodes = put_own peer w.nodes t.node is fine.node old.nodes;
 }
 
-stepped_at_fine : (node : Option Node) (peer : ℕ) (event : Event) (w : Run) → IsPeer peer → MayCome peer event → IfSome node IsYoungNode → IsFine w → IsFine (stepped_at node peer event w)
-stepped_at_fine None peer event w is come young old = old
-stepped_at_fine (Some node) peer event w is come young old = with_taken_fine peer (taken peer event node) w is (taken_fine peer event node is come young) old
+-- the node of a peer
+own_node : (peer : ℕ) (w : Run) (node : Node) → IsPeer peer → IsFine w → slice_get w.nodes (place_of peer) ≡ Some node → IsOwnNode peer node
+own_node peer w node is old at = subst (λ q. IsOwnNode q node) number (old.nodes (place_of peer) node at) where
+  number : suc (place_of peer) ≡ peer
+  number = omega (arith, is.0)
 
-stepped_fine : (peer : ℕ) (event : Event) (w : Run) → IsPeer peer → MayCome peer event → IsFine w → IsFine (stepped peer event w)
-stepped_fine peer event w is come old = stepped_at_fine (slice_get w.nodes (place_of peer)) peer event w is come (there IsYoungNode w.nodes (place_of peer) old.nodes) old
+pub stepped_fine : (peer : ℕ) (event : Event) (w : Run) → IsPeer peer → MayCome peer event → IsFine w → IsFine (stepped peer event w)
+stepped_fine peer event w is come old = by_node (slice_get w.nodes (place_of peer)) (λ node at. own_node peer w node is old at) where
+  by_node : (o : Option Node) → ((node : Node) → o ≡ Some node → IsOwnNode peer node) → IsFine (stepped_at o peer event w)
+  by_node None own = old
+  by_node (Some node) own = with_taken_fine peer (taken peer event node) w is (taken_fine peer event node is come (own node refl)) old
+
+pub changed_fine : (peer : ℕ) (change : Node → Node) (w : Run) → IsPeer peer → ((n : Node) → IsOwnNode peer n → IsOwnNode peer (change n)) → IsFine w → IsFine (changed peer change w)
+changed_fine peer change w is keeps old = by_node (slice_get w.nodes (place_of peer)) (λ node at. own_node peer w node is old at) where
+  by_node : (o : Option Node) → ((node : Node) → o ≡ Some node → IsOwnNode peer node) → IsFine (changed_at o peer change w)
+  by_node None own = old
+  by_node (Some node) own = record { mail = old.mail; nodes = put_own peer w.nodes (change node) is (keeps node (own node refl)) old.nodes }
 
 ticked_fine : (peer n : ℕ) (w : Run) → IsPeer peer → IsFine w → IsFine (ticked peer n w)
 unfolding ticked
@@ -90,7 +153,7 @@ received_if_fine : (f : Option Frame) (n : ℕ) (w : Run) → IfSome f MayBeSent
 received_if_fine None n w may old = old
 received_if_fine (Some f) n w may old = received_fine f n w may old
 
-delivered_fine : (n : ℕ) (w : Run) → IsFine w → IsFine (delivered n w)
+pub delivered_fine : (n : ℕ) (w : Run) → IsFine w → IsFine (delivered n w)
 delivered_fine n w old = received_if_fine (slice_get w.mail.sent n) n w (there MayBeSent w.mail.sent n old.mail) old
 
 delivered_if_fine : (n : Option ℕ) (w : Run) → IsFine w → IsFine (delivered_if n w)
@@ -105,13 +168,20 @@ calmed_fine peers (suc n) w old = going (oldest (is_among peers) w.mail) (λ v n
   going None later = old
   going (Some k) later = later (delivered k w) (delivered_fine k w old)
 
-effect_fine : (peers : ℕ) (event : ScheduleEvent) (w : Run) → peers ≤ 31 → MayStand peers event → IsFine w → IsFine (effect event w)
+pub effect_fine : (peers : ℕ) (event : ScheduleEvent) (w : Run) → peers ≤ 31 → MayStand peers event → IsFine w → IsFine (effect event w)
+effect_fine peers (Call peer id key command) w few stand old = stepped_fine peer (events.Call (call_of id key command)) w (stand.0.first, omega (arith, few, stand.0.last)) tt old
 effect_fine peers (Tick peer ticks) w few stand old = ticked_fine peer ticks w (stand.0.first, omega (arith, few, stand.0.last)) old
 effect_fine peers (Deliver message) w few stand old = delivered_fine (message - 1) w old
 effect_fine peers (Pass sender receiver) w few stand old = delivered_if_fine (oldest (goes sender receiver) w.mail) w old
 effect_fine peers (Lose sender receiver) w few stand old = record { mail = old.mail; nodes = old.nodes }
 effect_fine peers Calm w few stand old = calmed_fine everyone most_messages w old
 effect_fine peers (CalmAmong members) w few stand old = calmed_fine (set_of members) most_messages w old
+effect_fine peers (Change peer view) w few stand old = stepped_fine peer (events.Change view) w (stand.0.first, omega (arith, few, stand.0.last)) tt old
+effect_fine peers (Stop peer) w few stand old = changed_fine peer stopped w (stand.first, omega (arith, few, stand.last)) (stopped_own peer) old
+effect_fine peers (Start peer) w few stand old = changed_fine peer (started w.view) w (stand.first, omega (arith, few, stand.last)) (started_own peer w.view) old
+effect_fine peers (Spoil peer key bytes) w few stand old = changed_fine peer (over_stores (spoiled key bytes)) w (stand.0.first, omega (arith, few, stand.0.last)) (over_stores_own (spoiled key bytes) peer) old
+effect_fine peers (Revert peer changes) w few stand old = changed_fine peer (while_down (taken_back changes)) w (stand.0.first, omega (arith, few, stand.0.last)) (while_down_own (taken_back changes) peer) old
+effect_fine peers (Fail peer store survivor) w few stand old = changed_fine peer (over_stores (failing store (leaves_of survivor))) w (stand.first, omega (arith, few, stand.last)) (over_stores_own (failing store (leaves_of survivor)) peer) old
 effect_fine peers other w few stand old = old
 
 run_from_fine : (peers : ℕ) (events : List ScheduleEvent) (w : Run) → peers ≤ 31 → AllMayStand peers events → IsFine w → IsFine (run_from events w)
@@ -120,8 +190,16 @@ run_from_fine peers (event ∷ more) w few stand old =
     let now = effect_fine peers event w few stand.0 old in
     run_from_fine peers more (applied event w) few stand.1 (record { mail = now.mail; nodes = now.nodes })
 
-opening_fine : (peers : ℕ) (view : List ℕ) → IsFine (opening_run peers view)
-opening_fine peers view = record { mail = All-nil MayBeSent; nodes = All-replicate IsYoungNode peers (opening_node view) (lit< tt) }
+replicated : (n place : ℕ) (x y : Node) → slice_get (replicate n x) place ≡ Some y → x ≡ y
+replicated zero place x y at = absurd (none-some y at)
+replicated (suc n) zero x y at = same_Some x y at
+replicated (suc n) (suc place) x y at = replicated n place x y at
+
+pub opening_fine : (peers : ℕ) (view : List ℕ) → IsFine (opening_run peers view)
+opening_fine peers view = record {
+  mail = All-nil MayBeSent;
+  nodes = λ place node at. subst (λ n. IsOwnNode (suc place) n) (replicated peers place (opening_node view) node at) (started_own (suc place) view (Down empty_stores) tt);
+}
 
 -- every message in the run of a schedule may be sent
 pub run_may : (peers : ℕ) (view : List ℕ) (events : List ScheduleEvent) → peers ≤ 31 → AllMayStand peers events → All MayBeSent (run_of_schedule peers view events).mail.sent

@@ -1,5 +1,6 @@
-pub mod Facts
+pub mod Stores
 pub mod Nodes
+pub mod Laws
 pub mod Runs
 pub mod Messages
 pub mod Lines

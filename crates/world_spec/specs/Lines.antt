@@ -1,11 +1,16 @@
 -- The effect of each line of a schedule, and the run of a schedule.
 use Rattle.std.specs.Prelude.{ℕ, ◌-◌, Bool, true, List, [], ◌∷◌, ◌++◌}
+use Rattle.ens_base.specs.declared.command.Command.{Command}
 use Rattle.joint_views.specs.Quorums.{is_in}
 use Rattle.network.specs.Mail.{lost, goes, oldest, most_messages}
+use Rattle.peer_machine.specs.declared.event.CallIn.{CallIn}
+use Rattle.peer_machine.specs.declared.event.Event.TheVariants as events
 use Rattle.phase_rows.specs.Peers.{those}
 use Rattle.schedule_text.specs.declared.event.ScheduleEvent.{ScheduleEvent}
-use Rattle.schedule_text.specs.declared.event.ScheduleEvent.TheVariants.{Call, Tick, Deliver, Pass, Lose, Calm, CalmAmong}
-use Rattle.world_spec.specs.Runs.{Run, next_event, opening_run, ticked, delivered, delivered_if, calmed}
+use Rattle.schedule_text.specs.declared.event.ScheduleEvent.TheVariants.{Call, Tick, Deliver, Pass, Lose, Calm, CalmAmong, Change, Stop, Start, Spoil, Revert, Fail}
+use Rattle.world_spec.specs.Nodes.{started, stopped, over_stores, while_down}
+use Rattle.world_spec.specs.Runs.{Run, next_event, opening_run, stepped, changed, ticked, delivered, delivered_if, calmed}
+use Rattle.world_spec.specs.Stores.{failing, leaves_of, spoiled, taken_back}
 
 -- the set of these peers
 abbrev pub set_of : List ℕ → List Bool
@@ -19,15 +24,30 @@ everyone = those (λ p. true)
 abbrev pub with_loss : ℕ → ℕ → Run → Run
 with_loss sender receiver w = record w { mail = lost sender receiver w.mail }
 
--- the effect of a line on the peers and the messages; a calm delivers at most as many messages as
--- are ever sent, and the lines that are not supported yet have no effect
+-- every call of a schedule comes from this client; its answer is known by the id of the call
+abbrev pub client : ℕ
+client = 32
+
+-- the call of a line
+abbrev pub call_of : ℕ → List ℕ → Command → CallIn
+call_of id key command = record { from = client; id = id; key = key; command = command }
+
+-- The effect of a line on the peers and the messages. A calm delivers at most as many messages as
+-- are ever sent. The lines `damage` and `inner` are not supported yet and have none.
 abbrev pub effect : ScheduleEvent → Run → Run
+effect (Call peer id key command) w = stepped peer (events.Call (call_of id key command)) w
 effect (Tick peer ticks) w = ticked peer ticks w
 effect (Deliver message) w = delivered (message - 1) w
 effect (Pass sender receiver) w = delivered_if (oldest (goes sender receiver) w.mail) w
 effect (Lose sender receiver) w = with_loss sender receiver w
 effect Calm w = calmed everyone most_messages w
 effect (CalmAmong members) w = calmed (set_of members) most_messages w
+effect (Change peer view) w = stepped peer (events.Change view) w
+effect (Stop peer) w = changed peer stopped w
+effect (Start peer) w = changed peer (started w.view) w
+effect (Spoil peer key bytes) w = changed peer (over_stores (spoiled key bytes)) w
+effect (Revert peer changes) w = changed peer (while_down (taken_back changes)) w
+effect (Fail peer store survivor) w = changed peer (over_stores (failing store (leaves_of survivor))) w
 effect other w = w
 
 -- the key that a call line names

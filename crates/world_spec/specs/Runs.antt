@@ -1,20 +1,22 @@
 -- The state of a world, and how deliveries and ticks change it.
 use Rattle.std.specs.Prelude.{ℕ, zero, suc, ◌+◌, ◌-◌, Bool, Option, Some, None, List, [], ◌∷◌, ◌++◌, map, replicate, slice_get, slice_set, min, ◌^◌}
 use Rattle.network.specs.Mail.{Mail, no_mail, posted, settled, is_among, oldest}
-use Rattle.peer_core.specs.declared.event.Event.{Event}
-use Rattle.peer_core.specs.declared.event.Event.TheVariants as events
+use Rattle.peer_machine.specs.declared.event.Event.{Event}
+use Rattle.peer_machine.specs.declared.event.Event.TheVariants as events
 use Rattle.register_model.specs.declared.note.Note.{Note}
 use Rattle.register_model.specs.declared.printed.Printed.{Printed}
 use Rattle.register_model.specs.declared.printed.Printed.TheVariants as lines
-use Rattle.step_plans.specs.Plans.{Out}
-use Rattle.step_plans.specs.declared.outbox.AnswerOut.{AnswerOut}
-use Rattle.step_plans.specs.declared.outbox.Outgoing.{Outgoing}
+use Rattle.peer_plans.specs.Plans.{Out}
+use Rattle.leader_words.specs.declared.out.AnswerOut.{AnswerOut}
+use Rattle.leader_words.specs.declared.out.Outgoing.{Outgoing}
 use Rattle.wire_frames.specs.declared.frame.Frame.{Frame}
 use Rattle.world_spec.specs.Nodes.{Node, Taken, taken, opening_node}
 
--- the peers 1, 2, .. in this order, the messages, the lines printed, the notes of leaders, the
--- number of events applied, and the keys of the call lines in order
+-- the view in which the ensemble opens, the peers 1, 2, .. in this order, the messages, the lines
+-- printed, the notes of leaders, the number of events applied, and the keys of the call lines in
+-- order
 pub record Run : Type 0 where
+  pub view : List ℕ
   pub nodes : List Node
   pub mail : Mail
   pub printed : List Printed
@@ -24,7 +26,7 @@ pub record Run : Type 0 where
 
 -- the state before the first event: the peers 1 to `peers` have started on empty stores
 abbrev pub opening_run : ℕ → List ℕ → Run
-opening_run peers view = record { nodes = replicate peers (opening_node view); mail = no_mail; printed = []; notes = []; events = 0; called = [] }
+opening_run peers view = record { view = view; nodes = replicate peers (opening_node view); mail = no_mail; printed = []; notes = []; events = 0; called = [] }
 
 -- the number of the next event; it stays at the greatest u64
 abbrev pub next_event : ℕ → ℕ
@@ -72,6 +74,15 @@ stepped_at (Some node) peer event w = with_taken peer (taken peer event node) w
 -- the world after a step of a peer on an event
 abbrev pub stepped : ℕ → Event → Run → Run
 stepped peer event w = stepped_at (slice_get w.nodes (place_of peer)) peer event w
+
+-- the world after a change of the node of a peer, if there is such a peer
+abbrev pub changed_at : Option Node → ℕ → (Node → Node) → Run → Run
+changed_at None peer change w = w
+changed_at (Some node) peer change w = record w { nodes = slice_set w.nodes (place_of peer) (change node) }
+
+-- the world after this change of the node of a peer; nothing is sent or printed
+abbrev pub changed : ℕ → (Node → Node) → Run → Run
+changed peer change w = changed_at (slice_get w.nodes (place_of peer)) peer change w
 
 -- the world after so many ticks of a peer
 unfoldable pub ticked : ℕ → ℕ → Run → Run

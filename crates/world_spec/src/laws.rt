@@ -1,22 +1,22 @@
-ghost use Rattle.std.specs.Prelude.{◌≤◌, ◌++◌, [], ◌∷◌, ℕ, List, All};
+ghost use Rattle.std.specs.Prelude.{◌≡◌, ◌≤◌, ◌++◌, [], ◌∷◌, ℕ, List, All, None};
 ghost use Rattle.ens_base.specs.View.{IsPeer};
+ghost use Rattle.held_stores.specs.Held.{HeldStores};
 ghost use Rattle.network.specs.Mail.{MayBeSent};
-ghost use Rattle.peer_core.specs.Ages.{IsYoung};
-ghost use Rattle.peer_core.specs.Drives.{step_of, MayCome};
-ghost use Rattle.peer_core.specs.declared.event.Event.{Event};
-ghost use Rattle.peer_core.specs.declared.state.State.{State};
-ghost use Rattle.register_model.specs.declared.note.Note.{Note};
+ghost use Rattle.peer_machine.specs.Ages.{IsYoung};
+ghost use Rattle.peer_machine.specs.Drives.{step_of, MayCome};
+ghost use Rattle.peer_machine.specs.declared.event.Event.{Event};
+ghost use Rattle.peer_machine.specs.declared.state.State.{State};
 ghost use Rattle.schedule_text.specs.Spelling.{AllMayStand};
 ghost use Rattle.schedule_text.specs.declared.event.ScheduleEvent.{ScheduleEvent};
 ghost use Rattle.schedule_text.specs.declared.event.ScheduleEvent.TheVariants.{Calm, CalmAmong};
+ghost use Rattle.world_spec.specs.Laws.{IsFinished, NoneWaits};
 ghost use Rattle.world_spec.specs.Lines.{everyone, set_of, run_of_schedule};
 ghost use Rattle.world_spec.specs.Messages.{IsCalm};
-ghost use Rattle.world_spec.specs.Nodes.{MemStores, IsFinished, run};
+ghost use Rattle.world_spec.specs.Nodes.{run_over};
 
-/// The run of each step of a running peer reaches its end: no rule makes a call that a world does
-/// not answer.
-pub fn steps_end()
-    ensures { (me : ℕ) (event : Event) (x : State) (s : MemStores) (notes : List Note) → IsPeer me → MayCome me event → IsYoung x.phase → IsFinished (run (step_of me event x) s notes) }
+/// The step of a peer ends well if no write of its stores is to fail, and none is to fail after it.
+pub fn steps_end_well()
+    ensures { (me : ℕ) (event : Event) (x : State) (s : HeldStores) → IsPeer me → MayCome me event → IsYoung x.phase → NoneWaits s → IsFinished (run_over (step_of me event x) s) }
 {}
 
 /// Every message in the run of every schedule goes from a peer to another and obeys the grammar of

@@ -1,10 +1,7 @@
-use Rattle.std.proofs.Common.{◌≡◌, ◌++◌, take, string_bytes}
+use Rattle.std.proofs.Common.{◌≡◌, take, string_bytes}
 use Rattle.std.specs.List.{flat_map}
-use Rattle.replay.specs.Text.{answer_line, history_line}
+use Rattle.replay.specs.Text.{answer_line}
 use Rattle.replay.proofs.text.write_text.Given as goal
 
 abbrev pub invariant-loop-answer : goal.invariant-loop-answer
 invariant-loop-answer l = string_bytes l.text ≡ flat_map answer_line (take l.answer-index l.answers)
-
-abbrev pub invariant-loop-history : goal.invariant-loop-history
-invariant-loop-history l = string_bytes l.text ≡ flat_map answer_line l.answers ++ flat_map history_line (take l.history-index l.histories)

@@ -1,17 +1,23 @@
-use Rattle.std.proofs.Common.{arith}
-use Rattle.std.proofs.lemmas.Grind.{common_steps}
-use Rattle.world_model.proofs.Loops.{ticking_first, ticking_next, ticking_over, ticking_last}
+use Rattle.world_model.proofs.Loops.{ticking_first, ticking_next, ticking_longer, ticking_last}
+use Rattle.peer_machine.specs.declared.event.Event.TheVariants as events
+use Rattle.world_spec.specs.Runs.{stepped, ticked}
+use Rattle.world_model.specs.Worlds.{run_of}
+use Rattle.world_model.proofs.Reached.{refused_further}
 use Rattle.world_model.proofs.world.World.tick.Goals as goal
 
 pub loop-tick-init : goal.loop-tick-init
 loop-tick-init g c = ticking_first c.args.peer c.args.ticks c.args.self.now
 
-pub returns-in_err-step_peer-clause-limit : goal.returns-in_err-step_peer-clause-limit
-returns-in_err-step_peer-clause-limit g c = λ is. ticking_over c.args.peer c.args.ticks c.loop-tick._tick c.args.self.now c.loop-tick.self c.loop-tick-test.true c.loop-tick.invariant (c.step_peer.ensures.limit (grind (arith, common_steps, is, c.from_residual.ensures, c.in_err-step_peer.was)))
+pub returns-in_err-step_peer-clause-reaches : goal.returns-in_err-step_peer-clause-reaches
+returns-in_err-step_peer-clause-reaches g c =
+    refused_further g.H.Hasher16.clashes g.H.Hasher16.fulls (stepped c.args.peer events.Tick (run_of c.loop-tick.self)) (ticked c.args.peer c.args.ticks (run_of c.args.self.now)) c.in_err-step_peer.field-0.0 (run_of c.step_peer.new.self) c.from_residual.result _
+    (ticking_longer c.args.peer c.args.ticks c.loop-tick._tick c.args.self.now c.loop-tick.self c.loop-tick-test.true c.loop-tick.invariant) c.from_residual.ensures.1 (λ d h. h) c.in_err-step_peer.ensures.reaches
 
 pub loop-tick-preserved : goal.loop-tick-preserved
 loop-tick-preserved g c = ticking_next c.args.peer c.args.ticks c.loop-tick._tick c.args.self.now c.loop-tick.self c.step_peer.new.self c.loop-tick-test.true c.loop-tick.invariant
-    c.in_ok-step_peer.ensures.ok c.in_ok-step_peer.ensures.within c.step_peer.ensures.begins
+    c.in_ok-step_peer.ensures.reaches.0 c.step_peer.ensures.begins
 
-pub returns-clause-ok : goal.returns-clause-ok
-returns-clause-ok g c = ticking_last c.args.peer c.args.ticks c.loop-tick._tick c.args.self.now c.loop-tick.self c.loop-tick-test.false c.loop-tick.invariant
+pub returns-clause-reaches : goal.returns-clause-reaches
+returns-clause-reaches g c =
+    let is = ticking_last c.args.peer c.args.ticks c.loop-tick._tick c.args.self.now c.loop-tick.self c.loop-tick-test.false c.loop-tick.invariant in
+    (is, rw (← is) c.loop-tick.self.within)

@@ -1,5 +1,0 @@
-pub mod Sending
-pub mod Parts
-pub mod Growing
-pub mod Alone
-pub mod Framed

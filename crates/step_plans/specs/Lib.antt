@@ -1,6 +1,0 @@
-pub mod Calls
-pub mod Plans
-pub mod Outboxes
-pub mod Sends
-pub mod Tasks
-pub mod Steps

@@ -1,0 +1,74 @@
+ghost use Rattle.std.specs.Prelude.{◌≡◌, ◌≤◌, length};
+ghost use Rattle.world_spec.specs.Nodes.{over_stores, started, stopped, while_down};
+ghost use Rattle.world_spec.specs.Runs.{changed};
+ghost use Rattle.world_spec.specs.Stores.{failing, leaves_of, spoiled, taken_back};
+ghost use Rattle.world_model.specs.Worlds.{run_of, Adds, Begins, Reaches};
+
+use crate::error::WorldError;
+use crate::world::World;
+use ens_base::{Bytes, Key, PeerId};
+use ens_hashing::Hasher16;
+use schedule_text::{StoreName, Survivor};
+use std::alloc::Global;
+
+impl World {
+    /// Stops `peer`.
+    pub(crate) fn stop(&mut self, peer: PeerId)
+        requires { (1 ≤ peer) × (peer ≤ length self.old.peers.items) }
+        ensures { run_of self.new ≡ changed peer stopped (run_of self.old) }
+    {
+        self.peers[(peer.0 - 1) as usize].stop();
+    }
+
+    /// Starts `peer` if it is down.
+    pub(crate) fn start<H: Hasher16>(
+        &mut self,
+        alloc: Global,
+        hasher: &mut H,
+        peer: PeerId,
+    ) -> Result<(), WorldError>
+        requires { (1 ≤ peer) × (peer ≤ length self.old.peers.items) }
+        ensures reaches { Reaches H.clashes H.fulls (changed peer (started self.old.opening) (run_of self.old)) result (run_of self.new) }
+        ensures begins { Begins self.old self.new }
+    {
+        let opening = self.opening;
+        self.peers[(peer.0 - 1) as usize].start(alloc, opening, hasher)
+    }
+
+    /// Replaces the bytes of an object in the backend of `peer`, or removes the object.
+    pub(crate) fn spoil(
+        &mut self,
+        alloc: Global,
+        peer: PeerId,
+        key: &Key,
+        bytes: &Option<Bytes>,
+    ) -> Result<(), WorldError>
+        requires { (1 ≤ peer) × (peer ≤ length self.old.peers.items) }
+        ensures reaches { Adds (changed peer (over_stores (spoiled key.now bytes.now)) (run_of self.old)) result (run_of self.new) }
+        ensures begins { Begins self.old self.new }
+    {
+        self.peers[(peer.0 - 1) as usize].spoil(alloc, key, bytes)
+    }
+
+    /// Takes back the last `changes` writes of the top record of `peer`, if it is down.
+    pub(crate) fn revert(&mut self, alloc: Global, peer: PeerId, changes: u32)
+        requires { (1 ≤ peer) × (peer ≤ length self.old.peers.items) }
+        ensures { run_of self.new ≡ changed peer (while_down (taken_back changes)) (run_of self.old) }
+    {
+        self.peers[(peer.0 - 1) as usize].revert(alloc, changes);
+    }
+
+    /// Makes the next write of a store of `peer` fail.
+    pub(crate) fn fail_next(
+        &mut self,
+        alloc: Global,
+        peer: PeerId,
+        store: StoreName,
+        survivor: Survivor,
+    )
+        requires { (1 ≤ peer) × (peer ≤ length self.old.peers.items) }
+        ensures { run_of self.new ≡ changed peer (over_stores (failing store (leaves_of survivor))) (run_of self.old) }
+    {
+        self.peers[(peer.0 - 1) as usize].fail_next(alloc, store, survivor);
+    }
+}

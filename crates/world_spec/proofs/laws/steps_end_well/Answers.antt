@@ -1,0 +1,10 @@
+use Rattle.std.proofs.Common.{[]}
+use Rattle.held_stores.specs.Laws.{held_with}
+use Rattle.peer_machine.proofs.Aging.{steps_young}
+use Rattle.peer_machine.specs.Ages.{IsYoung}
+use Rattle.peer_machine.specs.Drives.{step_of}
+use Rattle.world_spec.proofs.Ending.{run_finishes}
+use Rattle.world_spec.proofs.laws.steps_end_well.Goals as goal
+
+pub returns : goal.returns
+returns c = λ me event x s peer come young none. (run_finishes (λ y out. IsYoung y.phase) (step_of me event x) (held_with s []) [] (steps_young me event x peer come young) none).finished
