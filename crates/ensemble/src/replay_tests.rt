@@ -73,7 +73,10 @@ fn schedules_print_their_text(rt: HostRuntime) -> Result<(), Fail> {
             "tick 1 6\ncall 1 1 append 6b 76\ncall 1 2 append 6b 77\ncall 1 3 get 6b\n",
             "answer 1 2 ok 1.1.1\nanswer 2 3 ok 1.1.2\nanswer 3 4 value 1.1.2 7677\nhistory 6b 1 2 3\n",
         ),
-        done("call 1 1 delete 6b\n", "answer 1 1 unavailable\nhistory 6b\n"),
+        done(
+            "call 1 1 delete 6b\n",
+            "answer 1 1 unavailable\nhistory 6b\n",
+        ),
         done("stop 1\n", ""),
         unbuilt("start 1\n"),
     ];
