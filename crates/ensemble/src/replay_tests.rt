@@ -70,8 +70,8 @@ fn schedules_print_their_text(rt: HostRuntime) -> Result<(), Fail> {
         bad("call 1 1 get 6b\ncall 1 1 get 6b\n", "schedule 5 9\n"),
         // A command that the machine does not know runs in a world.
         done(
-            "tick 1 6\ncall 1 1 append 6b 76\ncall 1 2 append 6b 77\ncall 1 3 get 6b\n",
-            "answer 1 2 ok 1.1.1\nanswer 2 3 ok 1.1.2\nanswer 3 4 value 1.1.2 7677\nhistory 6b 1 2 3\n",
+            "tick 1 6\ncall 1 1 once 6b 61\ncall 1 2 once 6b 62\ncall 1 3 append 6b 62\n",
+            "answer 1 2 ok 1.1.1\nanswer 2 3 failed\nanswer 3 4 ok 1.1.2\nhistory 6b 1 2 3\n",
         ),
         done(
             "call 1 1 delete 6b\n",
