@@ -1,4 +1,4 @@
-//! Tests of one peer, of the network, and of worlds of several peers, a file for each crate.
+//! Tests of one peer, of the network, and of the stores of a schedule, a file for each crate.
 //!
 //! The messages of an election are written down from the rules of the phases. The tests use public
 //! calls alone.
@@ -10,7 +10,5 @@ mod network_tests;
 mod peer_machine_tests;
 #[cfg(test)]
 mod peer_plans_tests;
-#[cfg(test)]
-mod world_model_tests;
 #[cfg(test)]
 mod world_stores_tests;
