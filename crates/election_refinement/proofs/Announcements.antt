@@ -4,9 +4,9 @@ use Rattle.std.proofs.lemmas.Bool.Decides.{nat_tests}
 use Rattle.abstract_protocol.specs.Ledger.{Ledger, Place, raise, accept}
 use Rattle.abstract_protocol.specs.Numbers.{epoch_number}
 use Rattle.following.specs.Announcements.{takes, accepts}
-use Rattle.peer_machine.specs.Moves.{follower}
-use Rattle.peer_machine.specs.Rows.{announced, awaiting}
-use Rattle.peer_machine.specs.declared.state.State.{State}
+use Rattle.peer_core.specs.Moves.{follower}
+use Rattle.peer_core.specs.Rows.{announced, awaiting}
+use Rattle.peer_core.specs.declared.state.State.{State}
 use Rattle.peer_fact.specs.declared.fact.Fact.{Fact}
 use Rattle.phase_rows.specs.Orders.{is_below, is_same, may_accept}
 use Rattle.phase_rows.specs.Peers.{alone}

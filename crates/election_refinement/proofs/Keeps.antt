@@ -9,9 +9,9 @@ use Rattle.abstract_protocol.specs.Ledger.{Ledger, Place, is_established, raise,
 use Rattle.abstract_protocol.specs.Numbers.{epoch_number, IsEpoch}
 use Rattle.election_laws.specs.Preparing.{proposer_of}
 use Rattle.election.specs.declared.election.Election.TheVariants.{Preparing, Starting}
-use Rattle.peer_machine.specs.declared.state.Leadership.{Leadership}
-use Rattle.peer_machine.specs.declared.state.Phase.{Phase}
-use Rattle.peer_machine.specs.declared.state.Phase.TheVariants as phases
+use Rattle.peer_core.specs.declared.state.Leadership.{Leadership}
+use Rattle.peer_core.specs.declared.state.Phase.{Phase}
+use Rattle.peer_core.specs.declared.state.Phase.TheVariants as phases
 use Rattle.peer_fact.specs.declared.fact.Fact.{Fact}
 use Rattle.probe.specs.declared.probing.Probing.{Probing}
 use Rattle.leader_words.specs.declared.out.Outgoing.{Outgoing}

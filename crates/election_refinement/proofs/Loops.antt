@@ -22,31 +22,31 @@ use Rattle.leading.specs.Rules.{lead_row}
 use Rattle.leading.specs.Starts.{row_27}
 use Rattle.leading.specs.Ticks.{row_5_calls as calls_of_tick}
 use Rattle.leading.specs.declared.leader.Leader.{Leader}
-use Rattle.peer_machine.specs.Drives.{saved, and_sends, row_done, owned, followed_up, and_row, lead_done, lead, reminded, task_done, driven, most_turns, led_in, ticked, shown, after_put, put_done, delivered, unavailable, called, first, concluded, step_of}
-use Rattle.peer_machine.specs.Leading.{begins, end_of, older, row_5_calls, ticks, wished}
-use Rattle.peer_machine.specs.Moves.{left, left_answers, and_answers, leading, with_leader, turned, ends_leading, turned_answers}
-use Rattle.peer_machine.specs.Owns.{digested, read, kept, fetched, held, looked_at, looked, found_at, found, entered, written, confirmed}
-use Rattle.peer_machine.specs.Rows.{aged, changes, leads, phase_row, received}
-use Rattle.peer_machine.specs.Starts.{first_state, opened, start_of}
-use Rattle.peer_machine.specs.declared.event.CallIn.{CallIn}
-use Rattle.peer_machine.specs.declared.event.Event.{Event}
-use Rattle.peer_machine.specs.declared.event.Event.TheVariants as events
-use Rattle.peer_machine.specs.declared.state.ChangeState.{ChangeState}
-use Rattle.peer_machine.specs.declared.state.ChangeState.TheVariants.{Settled}
-use Rattle.peer_machine.specs.declared.state.Leadership.{Leadership}
-use Rattle.peer_machine.specs.declared.state.Phase.{Phase}
-use Rattle.peer_machine.specs.declared.state.Phase.TheVariants as phases
-use Rattle.peer_machine.specs.declared.state.State.{State}
+use Rattle.peer_core.specs.Drives.{saved, and_sends, row_done, owned, followed_up, and_row, lead_done, lead, reminded, task_done, driven, most_turns, led_in, ticked, shown, after_put, put_done, delivered, unavailable, called, first, concluded, step_of}
+use Rattle.peer_core.specs.Leading.{begins, end_of, older, row_5_calls, ticks, wished}
+use Rattle.peer_core.specs.Moves.{left, left_answers, and_answers, leading, with_leader, turned, ends_leading, turned_answers}
+use Rattle.peer_core.specs.Owns.{digested, read, kept, fetched, held, looked_at, looked, found_at, found, entered, written, confirmed}
+use Rattle.peer_core.specs.Rows.{aged, changes, leads, phase_row, received}
+use Rattle.peer_core.specs.Starts.{first_state, opened, start_of}
+use Rattle.peer_core.specs.declared.event.CallIn.{CallIn}
+use Rattle.peer_core.specs.declared.event.Event.{Event}
+use Rattle.peer_core.specs.declared.event.Event.TheVariants as events
+use Rattle.peer_core.specs.declared.state.ChangeState.{ChangeState}
+use Rattle.peer_core.specs.declared.state.ChangeState.TheVariants.{Settled}
+use Rattle.peer_core.specs.declared.state.Leadership.{Leadership}
+use Rattle.peer_core.specs.declared.state.Phase.{Phase}
+use Rattle.peer_core.specs.declared.state.Phase.TheVariants as phases
+use Rattle.peer_core.specs.declared.state.State.{State}
 use Rattle.peer_fact.specs.declared.fact.Fact.{Fact}
 use Rattle.register_model.specs.declared.note.Note.{Note}
-use Rattle.peer_plans.specs.Calls.{Call, Load, Save, Find, Enter, Fetch, Put, Hash, AnswerOf}
-use Rattle.peer_plans.specs.Plans.{Plan, Done, Say, Ask, Out, nothing, Part, Rest, asked, noted}
-use Rattle.peer_plans.specs.Sends.{posted_to}
-use Rattle.peer_plans.specs.Tasks.{named, keyed}
-use Rattle.peer_plans.specs.declared.tasks.Task.{Task}
-use Rattle.peer_plans.specs.declared.tasks.Task.TheVariants as tasks
-use Rattle.peer_plans.specs.declared.walked.Walked.{Walked}
-use Rattle.peer_plans.specs.declared.walked.Walked.TheVariants.{Reached, Broken}
+use Rattle.step_plans.specs.Calls.{Call, Load, Save, Find, Enter, Fetch, Put, Hash, AnswerOf}
+use Rattle.step_plans.specs.Plans.{Plan, Done, Say, Ask, Out, nothing, Part, Rest, asked, noted}
+use Rattle.step_plans.specs.Sends.{posted_to}
+use Rattle.step_plans.specs.Tasks.{named, keyed}
+use Rattle.step_plans.specs.declared.tasks.Task.{Task}
+use Rattle.step_plans.specs.declared.tasks.Task.TheVariants as tasks
+use Rattle.step_plans.specs.declared.walked.Walked.{Walked}
+use Rattle.step_plans.specs.declared.walked.Walked.TheVariants.{Reached, Broken}
 use Rattle.wire_frames.specs.declared.message.Message.{Message}
 use Rattle.wire_frames.specs.declared.message.Message.TheVariants as messages
 use Rattle.wire_frames.specs.declared.phase.PhaseOut.{PhaseOut}

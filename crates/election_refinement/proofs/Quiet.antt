@@ -15,14 +15,14 @@ use Rattle.following.specs.Announcements.{row_19}
 use Rattle.call_table.specs.Calls.{has_calls}
 use Rattle.leading.specs.Leaders.{new_leader}
 use Rattle.leading.specs.declared.leader.Leader.{Leader}
-use Rattle.peer_machine.specs.Moves.{electing, follower, leading}
-use Rattle.peer_machine.specs.Rows.{begun_change, change_heard, ended, leader_heard, while_14, while_15, while_17, while_25, while_26}
-use Rattle.peer_machine.specs.declared.state.ChangeState.{ChangeState}
-use Rattle.peer_machine.specs.declared.state.ChangeState.TheVariants.{Settled}
-use Rattle.peer_machine.specs.declared.state.Leadership.{Leadership}
-use Rattle.peer_machine.specs.declared.state.Phase.{Phase}
-use Rattle.peer_machine.specs.declared.state.Phase.TheVariants as phases
-use Rattle.peer_machine.specs.declared.state.State.{State}
+use Rattle.peer_core.specs.Moves.{electing, follower, leading}
+use Rattle.peer_core.specs.Rows.{begun_change, change_heard, ended, leader_heard, while_14, while_15, while_17, while_25, while_26}
+use Rattle.peer_core.specs.declared.state.ChangeState.{ChangeState}
+use Rattle.peer_core.specs.declared.state.ChangeState.TheVariants.{Settled}
+use Rattle.peer_core.specs.declared.state.Leadership.{Leadership}
+use Rattle.peer_core.specs.declared.state.Phase.{Phase}
+use Rattle.peer_core.specs.declared.state.Phase.TheVariants as phases
+use Rattle.peer_core.specs.declared.state.State.{State}
 use Rattle.peer_fact.specs.declared.fact.Fact.{Fact}
 use Rattle.phase_rows.specs.Orders.{is_below, is_same}
 use Rattle.phase_rows.specs.Peers.{joined}

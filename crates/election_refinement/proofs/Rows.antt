@@ -3,10 +3,10 @@
 -- and which rule follows, is in `Loops`.
 use Rattle.std.proofs.Common.{ℕ, Option, Some, None}
 use Rattle.abstract_protocol.specs.Ledger.{Ledger}
-use Rattle.peer_machine.specs.Moves.{follower, left, turned}
-use Rattle.peer_machine.specs.Rows.{calm}
-use Rattle.peer_machine.specs.declared.state.Phase.{Phase}
-use Rattle.peer_machine.specs.declared.state.State.{State}
+use Rattle.peer_core.specs.Moves.{follower, left, turned}
+use Rattle.peer_core.specs.Rows.{calm}
+use Rattle.peer_core.specs.declared.state.Phase.{Phase}
+use Rattle.peer_core.specs.declared.state.State.{State}
 use Rattle.peer_fact.specs.declared.fact.Fact.{Fact}
 use Rattle.phase_rows.specs.Rows.{silent}
 use Rattle.wire_frames.specs.declared.phase.PhaseOut.{PhaseOut}

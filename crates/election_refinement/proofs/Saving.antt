@@ -5,8 +5,8 @@ use Rattle.std.proofs.lemmas.Bool.Decides.{nat_tests}
 use Rattle.abstract_protocol.specs.Ledger.{Ledger, Place, mark, raise, accept}
 use Rattle.abstract_protocol.specs.Numbers.{epoch_number, IsEpoch}
 use Rattle.ens_base.specs.declared.epoch.Epoch.{Epoch}
-use Rattle.peer_machine.specs.declared.state.Phase.{Phase}
-use Rattle.peer_machine.specs.declared.state.State.{State}
+use Rattle.peer_core.specs.declared.state.Phase.{Phase}
+use Rattle.peer_core.specs.declared.state.State.{State}
 use Rattle.peer_fact.specs.declared.fact.Fact.{Fact}
 use Rattle.phase_rows.specs.Rows.{at_ballot}
 use Rattle.version_laws.proofs.Maps.{put_here}

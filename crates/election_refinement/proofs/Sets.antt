@@ -6,7 +6,7 @@ use Rattle.std.proofs.lemmas.List.{get_or-set_other}
 use Rattle.std.proofs.lemmas.List.Elements.{All-nil, All-cons, All-append}
 use Rattle.abstract_protocol.specs.Ledger.{Ledger}
 use Rattle.ens_base.specs.PeerSet.{holds}
-use Rattle.peer_plans.specs.Sends.{posted, posted_to}
+use Rattle.step_plans.specs.Sends.{posted, posted_to}
 use Rattle.leader_words.specs.declared.out.Outgoing.{Outgoing}
 use Rattle.phase_rows.specs.Peers.{nobody, joined, alone}
 use Rattle.wire_frames.specs.declared.message.Message.{Message}

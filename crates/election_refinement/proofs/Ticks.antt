@@ -11,12 +11,12 @@ use Rattle.following.specs.declared.follower.Follower.{Follower}
 use Rattle.leader_words.specs.Sends.{is_other}
 use Rattle.leader_words.specs.declared.out.Outgoing.{Outgoing}
 use Rattle.leading.specs.Ticks.{tick_message, ticks_up_to}
-use Rattle.peer_machine.specs.Moves.{electing, following}
-use Rattle.peer_machine.specs.Rows.{aged}
-use Rattle.peer_machine.specs.declared.state.Leadership.{Leadership}
-use Rattle.peer_machine.specs.declared.state.Phase.{Phase}
-use Rattle.peer_machine.specs.declared.state.Phase.TheVariants as phases
-use Rattle.peer_machine.specs.declared.state.State.{State}
+use Rattle.peer_core.specs.Moves.{electing, following}
+use Rattle.peer_core.specs.Rows.{aged}
+use Rattle.peer_core.specs.declared.state.Leadership.{Leadership}
+use Rattle.peer_core.specs.declared.state.Phase.{Phase}
+use Rattle.peer_core.specs.declared.state.Phase.TheVariants as phases
+use Rattle.peer_core.specs.declared.state.State.{State}
 use Rattle.peer_fact.specs.declared.fact.Fact.{Fact}
 use Rattle.phase_rows.specs.Orders.{is_joint}
 use Rattle.phase_rows.specs.Rows.{silent}

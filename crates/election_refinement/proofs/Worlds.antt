@@ -15,13 +15,13 @@ use Rattle.held_stores.specs.Held.{Held, HeldStores, unless_failing}
 use Rattle.held_stores.specs.Laws.{held_with}
 use Rattle.held_stores.specs.Runs.{Ended, run, either}
 use Rattle.network.specs.Mail.{Mail, MayBeSent, posted, settled, goes, oldest, is_among, most_messages}
-use Rattle.peer_machine.proofs.Aging.{steps_young}
-use Rattle.peer_machine.specs.Ages.{IsYoung}
-use Rattle.peer_machine.specs.Drives.{step_of, MayCome}
-use Rattle.peer_machine.specs.Starts.{start_of}
-use Rattle.peer_machine.specs.declared.event.Event.{Event}
-use Rattle.peer_machine.specs.declared.event.Event.TheVariants as events
-use Rattle.peer_machine.specs.declared.state.State.{State}
+use Rattle.peer_core.proofs.Aging.{steps_young}
+use Rattle.peer_core.specs.Ages.{IsYoung}
+use Rattle.peer_core.specs.Drives.{step_of, MayCome}
+use Rattle.peer_core.specs.Starts.{start_of}
+use Rattle.peer_core.specs.declared.event.Event.{Event}
+use Rattle.peer_core.specs.declared.event.Event.TheVariants as events
+use Rattle.peer_core.specs.declared.state.State.{State}
 use Rattle.register_model.specs.declared.note.Note.{Note}
 use Rattle.schedule_text.specs.Spelling.{MayStand}
 use Rattle.schedule_text.specs.declared.event.ScheduleEvent.{ScheduleEvent}
@@ -29,10 +29,10 @@ use Rattle.schedule_text.specs.declared.event.ScheduleEvent.TheVariants.{Call, T
 use Rattle.schedule_text.specs.declared.keyword.StoreName.{StoreName}
 use Rattle.schedule_text.specs.declared.keyword.StoreName.TheVariants as names
 use Rattle.peer_fact.specs.declared.fact.Fact.{Fact}
-use Rattle.peer_plans.specs.Calls.{Call as StoreCall, AnswerOf, Load, Save, FreshTree, OpenTree, Find, Enter, ScanTree, ReadNode, Install, Fetch, Put, Hash}
-use Rattle.peer_plans.specs.declared.error.PeerError.{PeerError}
-use Rattle.peer_plans.specs.declared.error.PeerError.TheVariants.{StoreFault}
-use Rattle.peer_plans.specs.Plans.{Plan, Done, Say, Ask, Ending, Stopped, nothing}
+use Rattle.step_plans.specs.Calls.{Call as StoreCall, AnswerOf, Load, Save, FreshTree, OpenTree, Find, Enter, ScanTree, ReadNode, Install, Fetch, Put, Hash}
+use Rattle.step_plans.specs.declared.error.PeerError.{PeerError}
+use Rattle.step_plans.specs.declared.error.PeerError.TheVariants.{StoreFault}
+use Rattle.step_plans.specs.Plans.{Plan, Done, Say, Ask, Ending, Stopped, nothing}
 use Rattle.leader_words.specs.declared.out.Outgoing.{Outgoing}
 use Rattle.wire_frames.specs.declared.frame.Frame.{Frame}
 use Rattle.world_spec.proofs.Ending.{Finishes, run_finishes}

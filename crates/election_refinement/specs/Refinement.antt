@@ -9,11 +9,11 @@ use Rattle.election.specs.declared.election.Election.TheVariants.{Preparing, Sta
 use Rattle.ens_base.specs.PeerSet.{holds}
 use Rattle.ens_base.specs.View.{IsPeer}
 use Rattle.ens_base.specs.declared.epoch.Epoch.{Epoch}
-use Rattle.peer_machine.specs.declared.state.ChangeState.TheVariants.{Settled}
-use Rattle.peer_machine.specs.declared.state.Leadership.{Leadership}
-use Rattle.peer_machine.specs.declared.state.Phase.{Phase}
-use Rattle.peer_machine.specs.declared.state.Phase.TheVariants as phases
-use Rattle.peer_machine.specs.declared.state.State.{State}
+use Rattle.peer_core.specs.declared.state.ChangeState.TheVariants.{Settled}
+use Rattle.peer_core.specs.declared.state.Leadership.{Leadership}
+use Rattle.peer_core.specs.declared.state.Phase.{Phase}
+use Rattle.peer_core.specs.declared.state.Phase.TheVariants as phases
+use Rattle.peer_core.specs.declared.state.State.{State}
 use Rattle.peer_fact.specs.declared.fact.Change.TheVariants as changes
 use Rattle.peer_fact.specs.declared.fact.Fact.{Fact}
 use Rattle.probe.specs.declared.probing.Probing.{Probing}

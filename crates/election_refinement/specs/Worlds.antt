@@ -5,9 +5,9 @@ use Rattle.abstract_protocol.specs.Numbers.{epoch_number}
 use Rattle.abstract_protocol.specs.Protocol.{Step, IsRun, state_after}
 use Rattle.election_laws.specs.Elections.{IsClosed}
 use Rattle.ens_base.specs.Epochs.{IsEpochBelow}
-use Rattle.peer_machine.specs.declared.state.Leadership.{Leadership}
-use Rattle.peer_machine.specs.declared.state.Phase.TheVariants as phases
-use Rattle.peer_machine.specs.declared.state.State.{State}
+use Rattle.peer_core.specs.declared.state.Leadership.{Leadership}
+use Rattle.peer_core.specs.declared.state.Phase.TheVariants as phases
+use Rattle.peer_core.specs.declared.state.State.{State}
 use Rattle.peer_fact.specs.declared.fact.Fact.{Fact}
 use Rattle.schedule_text.specs.declared.event.ScheduleEvent.{ScheduleEvent}
 use Rattle.schedule_text.specs.declared.event.ScheduleEvent.TheVariants.{Change, Stop, Fail}

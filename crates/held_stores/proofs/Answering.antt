@@ -5,11 +5,11 @@ use Rattle.ens_outside.specs.Failures.{left_by}
 use Rattle.ens_outside.specs.Maps.{value_at, with_value}
 use Rattle.ens_outside.specs.declared.memory.failing_call.Leaves.{Leaves}
 use Rattle.ens_outside.specs.declared.memory.failing_call.Leaves.TheVariants.{Old, New}
-use Rattle.peer_plans.specs.Calls.{Call, Load, Save, FreshTree, OpenTree, Find, Enter, ScanTree, ReadNode, Install, Fetch, Put, Hash, AnswerOf}
-use Rattle.peer_plans.specs.declared.walked.Walked.{Walked}
-use Rattle.peer_plans.specs.declared.walked.Walked.TheVariants.{Reached, Broken}
-use Rattle.peer_plans.specs.declared.error.PeerError.{PeerError}
-use Rattle.peer_plans.specs.declared.error.PeerError.TheVariants as errors
+use Rattle.step_plans.specs.Calls.{Call, Load, Save, FreshTree, OpenTree, Find, Enter, ScanTree, ReadNode, Install, Fetch, Put, Hash, AnswerOf}
+use Rattle.step_plans.specs.declared.walked.Walked.{Walked}
+use Rattle.step_plans.specs.declared.walked.Walked.TheVariants.{Reached, Broken}
+use Rattle.step_plans.specs.declared.error.PeerError.{PeerError}
+use Rattle.step_plans.specs.declared.error.PeerError.TheVariants as errors
 use Rattle.synctree.specs.Nodes.{node_plan}
 use Rattle.synctree.specs.Plans.{Plan}
 use Rattle.synctree.specs.Trees.{open_plan, fresh_plan, get_plan, insert_plan}
@@ -18,8 +18,8 @@ use Rattle.synctree.specs.declared.error.TreeError.TheVariants as trees
 use Rattle.tree_maps.specs.Sixteen.{sixteen}
 use Rattle.tree_node.specs.declared.position.Position.{Position}
 use Rattle.tree_verify.specs.Levels.{scan_plan}
-use Rattle.peer_machine.specs.Stores.{TreeAlone}
-use Rattle.peer_machine.specs.TreeCalls.{Walks, Halts, Changes, end_of, peer_error, rebuild_plan}
+use Rattle.peer_core.specs.Stores.{TreeAlone}
+use Rattle.peer_core.specs.TreeCalls.{Walks, Halts, Changes, end_of, peer_error, rebuild_plan}
 use Rattle.world_stores.specs.Faults.{spent}
 use Rattle.world_stores.specs.Nodes.{Nodes}
 use Rattle.world_stores.specs.Objects.{Objects}

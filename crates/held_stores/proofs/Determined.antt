@@ -1,10 +1,10 @@
 -- A plan over stores in memory has one run.
 use Rattle.std.proofs.Common.{◌≡◌, ◌⊎◌, ℕ, List, [], ◌∷◌, ◌++◌, Option, Ok, refl, inl, inr}
 use Rattle.register_model.specs.declared.note.Note.{Note}
-use Rattle.peer_plans.specs.Calls.{Call, AnswerOf}
-use Rattle.peer_plans.specs.Plans.{Plan, Done, Say, Ask, Ending, Stopped, Runs}
-use Rattle.peer_plans.specs.declared.error.PeerError.{PeerError}
-use Rattle.peer_plans.specs.declared.error.PeerError.TheVariants as errors
+use Rattle.step_plans.specs.Calls.{Call, AnswerOf}
+use Rattle.step_plans.specs.Plans.{Plan, Done, Say, Ask, Ending, Stopped, Runs}
+use Rattle.step_plans.specs.declared.error.PeerError.{PeerError}
+use Rattle.step_plans.specs.declared.error.PeerError.TheVariants as errors
 use Rattle.held_stores.specs.Held.{HeldStores, HasTaken}
 use Rattle.held_stores.specs.Laws.{HeldDo, HeldRefuse, IsUnplanned, IsCutOff, IsRun}
 use Rattle.held_stores.proofs.Answering.{Came_to, IsRefused, did_answer, was_refused}

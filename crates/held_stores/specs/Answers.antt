@@ -4,12 +4,12 @@ use Rattle.md5.specs.Md5.{md5}
 use Rattle.ens_outside.specs.Failures.{left_by}
 use Rattle.ens_outside.specs.Maps.{value_at, with_value}
 use Rattle.ens_outside.specs.declared.memory.failing_call.Leaves.{Leaves}
-use Rattle.peer_machine.specs.TreeCalls.{rebuild_plan}
-use Rattle.peer_plans.specs.Calls.{Call, Load, Save, FreshTree, OpenTree, Find, Enter, ScanTree, ReadNode, Install, Fetch, Put, Hash, AnswerOf}
-use Rattle.peer_plans.specs.declared.walked.Walked.{Walked}
-use Rattle.peer_plans.specs.declared.walked.Walked.TheVariants.{Reached, Broken}
-use Rattle.peer_plans.specs.declared.error.PeerError.{PeerError}
-use Rattle.peer_plans.specs.declared.error.PeerError.TheVariants.{StoreFault}
+use Rattle.peer_core.specs.TreeCalls.{rebuild_plan}
+use Rattle.step_plans.specs.Calls.{Call, Load, Save, FreshTree, OpenTree, Find, Enter, ScanTree, ReadNode, Install, Fetch, Put, Hash, AnswerOf}
+use Rattle.step_plans.specs.declared.walked.Walked.{Walked}
+use Rattle.step_plans.specs.declared.walked.Walked.TheVariants.{Reached, Broken}
+use Rattle.step_plans.specs.declared.error.PeerError.{PeerError}
+use Rattle.step_plans.specs.declared.error.PeerError.TheVariants.{StoreFault}
 use Rattle.synctree.specs.Nodes.{node_plan}
 use Rattle.synctree.specs.Plans.{Plan}
 use Rattle.synctree.specs.Trees.{open_plan, fresh_plan, get_plan, insert_plan}

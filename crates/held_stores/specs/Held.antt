@@ -2,7 +2,7 @@
 use Rattle.std.specs.Prelude.{◌≡◌, ℕ, List, [], ◌∷◌, ◌++◌, Option, None, Some}
 use Rattle.ens_hashing.specs.Hashing.{Takes}
 use Rattle.ens_outside.specs.declared.memory.failing_call.Leaves.{Leaves}
-use Rattle.peer_machine.specs.declared.stores.Stores.{Stores}
+use Rattle.peer_core.specs.declared.stores.Stores.{Stores}
 use Rattle.world_stores.specs.Faults.{no_faults}
 use Rattle.world_stores.specs.Nodes.{Nodes}
 use Rattle.world_stores.specs.Objects.{Objects}

@@ -1,11 +1,11 @@
 -- The only run of a plan.
 use Rattle.std.specs.Prelude.{◌≡◌, ◌⊎◌, ℕ, List, Option, Some}
 use Rattle.register_model.specs.declared.note.Note.{Note}
-use Rattle.peer_plans.specs.Calls.{Call, AnswerOf}
-use Rattle.peer_plans.specs.Plans.{Plan, Ending, Finished, Stopped, Runs}
-use Rattle.peer_plans.specs.declared.error.PeerError.{PeerError}
-use Rattle.peer_plans.specs.declared.error.PeerError.TheVariants.{Memory, Clash, BookFull}
-use Rattle.peer_machine.specs.Stores.{stores_do, stores_refuse}
+use Rattle.step_plans.specs.Calls.{Call, AnswerOf}
+use Rattle.step_plans.specs.Plans.{Plan, Ending, Finished, Stopped, Runs}
+use Rattle.step_plans.specs.declared.error.PeerError.{PeerError}
+use Rattle.step_plans.specs.declared.error.PeerError.TheVariants.{Memory, Clash, BookFull}
+use Rattle.peer_core.specs.Stores.{stores_do, stores_refuse}
 use Rattle.world_stores.specs.Facts.{FactDoes, FactRefuses, kept_of}
 use Rattle.world_stores.specs.Nodes.{NodesDo, NodesRefuse, top_of}
 use Rattle.world_stores.specs.Objects.{ObjectsDo, ObjectsRefuse}

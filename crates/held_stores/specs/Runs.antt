@@ -1,8 +1,8 @@
 -- The run of a plan over stores in memory, as a function.
 use Rattle.std.specs.Prelude.{List, [], ◌∷◌, ◌++◌, Result, Ok, Err}
 use Rattle.register_model.specs.declared.note.Note.{Note}
-use Rattle.peer_plans.specs.Plans.{Plan, Done, Say, Ask, Ending, Finished, Stopped}
-use Rattle.peer_plans.specs.declared.error.PeerError.{PeerError}
+use Rattle.step_plans.specs.Plans.{Plan, Done, Say, Ask, Ending, Finished, Stopped}
+use Rattle.step_plans.specs.declared.error.PeerError.{PeerError}
 use Rattle.held_stores.specs.Answers.{answered}
 use Rattle.held_stores.specs.Held.{Held}
 

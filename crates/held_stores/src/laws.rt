@@ -1,5 +1,5 @@
 ghost use Rattle.held_stores.specs.Laws.{AreDetermined};
-ghost use Rattle.peer_machine.specs.declared.state.State.{State};
+ghost use Rattle.peer_core.specs.declared.state.State.{State};
 
 use ens_hashing::Hasher16;
 

@@ -7,8 +7,8 @@
 #[cfg(test)]
 mod network_tests;
 #[cfg(test)]
-mod peer_machine_tests;
+mod peer_core_tests;
 #[cfg(test)]
-mod peer_plans_tests;
+mod step_plans_tests;
 #[cfg(test)]
 mod world_stores_tests;

@@ -1,12 +1,12 @@
 //! The job `replay`: reads a schedule, runs it, and prints the answers and a history for each key.
 //!
 //! A schedule runs in a world with all its peers (world_model) if its lines are calls, ticks, stops,
-//! deliveries and losses of messages, and stores that fail or objects that change in them. A schedule of one peer whose calls are gets and
-//! overwrites, and which has no other lines than calls and ticks, runs on a machine of its own. Every
-//! other schedule ends as `unbuilt`. The contract of `replay` says what is printed for each status
-//! (`specs/Jobs`): for a world, what its run prints, and the histories that follow from the notes of
-//! its leaders (`specs/Text`); for the machine, its answers (`specs/Machine`), and histories that are
-//! legal for their keys by the definition of register_model.
+//! deliveries and losses of messages, and stores that fail or objects that change in them. A schedule
+//! of one peer whose calls are gets and overwrites, and which has no other lines than calls and ticks,
+//! runs on a machine of its own. Every other schedule ends as `unbuilt`. The contract of `replay` says
+//! what is printed for each status (`specs/Jobs`): for a world, what its run prints, and the histories
+//! that follow from the notes of its leaders (`specs/Text`); for the machine, its answers
+//! (`specs/Machine`), and histories that are legal for their keys by the definition of register_model.
 #![tactic(auto)]
 
 mod event;

@@ -2,7 +2,7 @@
 use Rattle.std.proofs.Common.{◌≡◌, ◌<◌, ◌≤◌, ◌+◌, ◌-◌, ℕ, Some, None, List, refl, ap, ◌∙◌, sym, arith}
 use Rattle.std.specs.Prelude.{Bool, slice_get}
 use Rattle.network.specs.Mail.{settled, is_among, oldest, most_messages}
-use Rattle.peer_machine.specs.declared.event.Event.TheVariants as events
+use Rattle.peer_core.specs.declared.event.Event.TheVariants as events
 use Rattle.wire_frames.specs.declared.frame.Frame.{Frame}
 use Rattle.wire_frames.specs.declared.message.Message.{Message}
 use Rattle.world_spec.proofs.Growth.{ticked_grows, calmed_grows}

@@ -1,25 +1,25 @@
 -- A step of a peer over stores in memory is the step of its node.
 use Rattle.std.proofs.Common.{◌≡◌, ◌↔◌, ℕ, true, false, Option, None, Some, List, [], Result, Ok, Err, inl, inr, refl, ap, subst, sym, ◌∙◌, arith}
 use Rattle.std.specs.Prelude.{IsErrOf}
-use Rattle.peer_plans.specs.Outboxes.{HasNotesAlone, out_of}
-use Rattle.peer_plans.specs.Steps.{HasFinished, HasStopped}
-use Rattle.peer_plans.specs.declared.error.PeerError.{PeerError}
-use Rattle.peer_plans.specs.declared.error.PeerError.TheVariants as errors
-use Rattle.peer_plans.specs.declared.outbox.Outbox.{Outbox}
-use Rattle.peer_machine.specs.Drives.{MayCome, step_of}
-use Rattle.peer_machine.specs.Kept.{AllMayGo, MaySend}
-use Rattle.peer_machine.specs.Starts.{start_of}
-use Rattle.peer_machine.specs.Stores.{IsCause}
-use Rattle.peer_machine.specs.declared.peer.Suspended.{Suspended}
-use Rattle.peer_machine.specs.declared.stores.Stores.{Stores}
-use Rattle.peer_machine.specs.declared.state.State.{State}
-use Rattle.peer_plans.specs.Calls.{Call, AnswerOf}
-use Rattle.peer_plans.specs.Plans.{Plan, Finished, Stopped, Runs, nothing}
+use Rattle.step_plans.specs.Outboxes.{HasNotesAlone, out_of}
+use Rattle.step_plans.specs.Steps.{HasFinished, HasStopped}
+use Rattle.step_plans.specs.declared.error.PeerError.{PeerError}
+use Rattle.step_plans.specs.declared.error.PeerError.TheVariants as errors
+use Rattle.step_plans.specs.declared.outbox.Outbox.{Outbox}
+use Rattle.peer_core.specs.Drives.{MayCome, step_of}
+use Rattle.peer_core.specs.Kept.{AllMayGo, MaySend}
+use Rattle.peer_core.specs.Starts.{start_of}
+use Rattle.peer_core.specs.Stores.{IsCause}
+use Rattle.peer_core.specs.declared.peer.Suspended.{Suspended}
+use Rattle.peer_core.specs.declared.stores.Stores.{Stores}
+use Rattle.peer_core.specs.declared.state.State.{State}
+use Rattle.step_plans.specs.Calls.{Call, AnswerOf}
+use Rattle.step_plans.specs.Plans.{Plan, Finished, Stopped, Runs, nothing}
 use Rattle.std.proofs.lemmas.Option.{none-some, same_Some}
 use Rattle.std.specs.Option.{is_some}
 use Rattle.std.proofs.lemmas.Bool.{false≢true}
 use Rattle.std.proofs.lemmas.List.Elements.{All-nil}
-use Rattle.peer_machine.specs.declared.event.Event.{Event}
+use Rattle.peer_core.specs.declared.event.Event.{Event}
 use Rattle.world_spec.proofs.Determined.{step_taken, step_stopped, start_taken, start_stopped}
 use Rattle.held_stores.specs.Held.{HeldStores}
 use Rattle.held_stores.specs.Laws.{HeldDo, HeldRefuse, IsUnplanned}

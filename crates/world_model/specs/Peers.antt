@@ -1,8 +1,8 @@
 -- The peers of a world as the nodes of a run.
 use Rattle.std.specs.Prelude.{◌≡◌, ◌+◌, ℕ, List, Option, None, Some, slice_get}
 use Rattle.held_stores.specs.Held.{HeldStores}
-use Rattle.peer_machine.specs.declared.peer.Peer.{Peer}
-use Rattle.peer_machine.specs.declared.peer.Suspended.{Suspended}
+use Rattle.peer_core.specs.declared.peer.Peer.{Peer}
+use Rattle.peer_core.specs.declared.peer.Suspended.{Suspended}
 use Rattle.world_spec.specs.Nodes.{Node, Up, Down}
 use Rattle.world_stores.specs.Nodes.{Nodes}
 use Rattle.world_stores.specs.Objects.{Objects}

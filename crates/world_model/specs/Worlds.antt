@@ -2,7 +2,7 @@
 use Rattle.std.specs.Prelude.{◌≡◌, ◌++◌, ℕ, List, map, Result, Ok, Err}
 use Rattle.register_model.specs.declared.note.Note.{Note}
 use Rattle.register_model.specs.declared.printed.Printed.{Printed}
-use Rattle.peer_plans.specs.Plans.{Out}
+use Rattle.step_plans.specs.Plans.{Out}
 use Rattle.wire_frames.specs.declared.frame.Frame.{Frame}
 use Rattle.world_spec.specs.Messages.{IsWithinMessages, IsPastMessages}
 use Rattle.world_spec.specs.Runs.{Run, next_event, posted_all, frame_from, printed_by}

@@ -1,7 +1,7 @@
 ghost use Rattle.std.specs.Prelude.{◌≡◌, length};
 ghost use Rattle.ens_base.specs.View.{IsPeer};
 ghost use Rattle.joint_views.specs.Quorums.{is_in};
-ghost use Rattle.peer_machine.specs.declared.event.Event.TheVariants.{Call};
+ghost use Rattle.peer_core.specs.declared.event.Event.TheVariants.{Call};
 ghost use Rattle.schedule_text.specs.Spelling.{MayStand};
 ghost use Rattle.world_spec.specs.Lines.{applied, call_of, effect, everyone, set_of};
 ghost use Rattle.world_spec.specs.Runs.{stepped};
@@ -11,7 +11,7 @@ use crate::error::WorldError;
 use crate::world::World;
 use ens_base::{Command, Key, PeerId, PeerSet};
 use ens_hashing::Hasher16;
-use peer_machine::{CallIn, Event};
+use peer_core::{CallIn, Event};
 use schedule_text::ScheduleEvent;
 use std::alloc::Global;
 

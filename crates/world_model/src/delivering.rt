@@ -8,7 +8,7 @@ use crate::world::World;
 use ens_base::{PeerId, PeerSet};
 use ens_hashing::Hasher16;
 use network::Network;
-use peer_machine::Event;
+use peer_core::Event;
 use std::alloc::Global;
 
 impl World {

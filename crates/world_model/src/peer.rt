@@ -1,9 +1,9 @@
 ghost use Rattle.std.specs.Prelude.{◌≡◌, false, Some};
 ghost use Rattle.ens_base.specs.View.{IsPeer};
-ghost use Rattle.peer_machine.specs.declared.peer.Suspended.{Suspended};
+ghost use Rattle.peer_core.specs.declared.peer.Suspended.{Suspended};
 
 use ens_base::PeerId;
-use peer_machine::{Peer, Stores, Suspended};
+use peer_core::{Peer, Stores, Suspended};
 use world_stores::{HeldFact, HeldNodes, HeldObjects};
 
 /// The stores of a peer of a world.

@@ -1,14 +1,14 @@
 ghost use Rattle.std.specs.Prelude.{◌≡◌, ◌⊎◌, ◌<◌, ◌≤◌, ◌+◌, map, length, All, OnOk, IfErr, IsErrOf};
 ghost use Rattle.ens_base.specs.View.{IsPeer};
 ghost use Rattle.network.specs.Mail.{most_messages};
-ghost use Rattle.peer_machine.specs.Kept.{MaySend};
+ghost use Rattle.peer_core.specs.Kept.{MaySend};
 ghost use Rattle.world_spec.specs.Runs.{frame_from, posted_all};
 ghost use Rattle.world_model.specs.Messages.{StartsWith};
 
 use crate::error::WorldError;
 use ens_base::PeerId;
 use network::Network;
-use peer_plans::Outgoing;
+use step_plans::Outgoing;
 use wire_frames::Frame;
 
 /// Sends the messages of the peer `from` in order, and stops at the first that cannot be sent.

@@ -2,7 +2,7 @@ ghost use Rattle.std.specs.Prelude.{◌≡◌, ◌++◌, map, IfOk};
 ghost use Rattle.world_spec.specs.Runs.{answer_line as line_of_answer, change_line as line_of_change};
 
 use ens_base::PeerId;
-use peer_plans::AnswerOut;
+use step_plans::AnswerOut;
 use register_model::{Answer, Printed};
 use std::alloc::{AllocError, Global};
 

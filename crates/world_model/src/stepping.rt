@@ -1,7 +1,7 @@
 ghost use Rattle.ens_base.specs.View.{IsPeer};
-ghost use Rattle.peer_plans.specs.Outboxes.{out_of};
-ghost use Rattle.peer_machine.specs.Drives.{MayCome};
-ghost use Rattle.peer_machine.specs.Kept.{AllMayGo};
+ghost use Rattle.step_plans.specs.Outboxes.{out_of};
+ghost use Rattle.peer_core.specs.Drives.{MayCome};
+ghost use Rattle.peer_core.specs.Kept.{AllMayGo};
 ghost use Rattle.world_spec.specs.Runs.{stepped};
 ghost use Rattle.world_model.specs.Worlds.{run_of, Adds, Begins, Reaches, reported};
 
@@ -11,8 +11,8 @@ use crate::reporting::lines_of;
 use crate::world::World;
 use ens_base::PeerId;
 use ens_hashing::Hasher16;
-use peer_machine::Event;
-use peer_plans::Outbox;
+use peer_core::Event;
+use step_plans::Outbox;
 use std::alloc::Global;
 
 /// Drops an event for which there is no peer.

@@ -3,12 +3,12 @@ use Rattle.std.proofs.Common.{◌≡◌, ◌⊎◌, ℕ, List, [], Option, inl, 
 use Rattle.held_stores.proofs.Determined.{determined}
 use Rattle.held_stores.specs.Held.{HeldStores}
 use Rattle.held_stores.specs.Laws.{HeldDo, HeldRefuse, IsUnplanned, IsCutOff, IsRun}
-use Rattle.peer_machine.specs.Drives.{step_of}
-use Rattle.peer_machine.specs.Starts.{start_of}
-use Rattle.peer_machine.specs.declared.event.Event.{Event}
-use Rattle.peer_machine.specs.declared.state.State.{State}
-use Rattle.peer_plans.specs.Plans.{Plan, Out, nothing, Ending, Finished, Stopped, Runs}
-use Rattle.peer_plans.specs.declared.error.PeerError.{PeerError}
+use Rattle.peer_core.specs.Drives.{step_of}
+use Rattle.peer_core.specs.Starts.{start_of}
+use Rattle.peer_core.specs.declared.event.Event.{Event}
+use Rattle.peer_core.specs.declared.state.State.{State}
+use Rattle.step_plans.specs.Plans.{Plan, Out, nothing, Ending, Finished, Stopped, Runs}
+use Rattle.step_plans.specs.declared.error.PeerError.{PeerError}
 use Rattle.register_model.specs.declared.note.Note.{Note}
 use Rattle.world_spec.specs.Nodes.{Up, Down, started, taken, taken_of, run_over}
 

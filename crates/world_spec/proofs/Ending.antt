@@ -7,15 +7,15 @@ use Rattle.held_stores.specs.Held.{Held, HeldStores, unless_failing}
 use Rattle.held_stores.specs.Runs.{Ended, run, either}
 use Rattle.held_stores.specs.Walks.{End, Came, Broke, Failed, Walk, walk, nodes_failed}
 use Rattle.peer_fact.specs.Facts.{opening_fact}
-use Rattle.peer_machine.proofs.Damage.{IsInside, get_inside, insert_inside}
-use Rattle.peer_machine.specs.Kept.{IsStepCall, IsSound, IsInTree, Reaches}
-use Rattle.peer_machine.specs.Starts.{first_state}
-use Rattle.peer_machine.specs.declared.state.State.{State}
-use Rattle.peer_plans.specs.Calls.{Call, Load, Save, FreshTree, OpenTree, Find, Enter, ScanTree, ReadNode, Install, Fetch, Put, Hash, AnswerOf}
-use Rattle.peer_plans.specs.Plans.{Plan, Done, Say, Ask, Out, Ending, Finished, Stopped, Follows}
-use Rattle.peer_plans.specs.declared.error.PeerError.{PeerError}
-use Rattle.peer_plans.specs.declared.walked.Walked.{Walked}
-use Rattle.peer_plans.specs.declared.walked.Walked.TheVariants.{Reached, Broken as Damaged}
+use Rattle.peer_core.proofs.Damage.{IsInside, get_inside, insert_inside}
+use Rattle.peer_core.specs.Kept.{IsStepCall, IsSound, IsInTree, Reaches}
+use Rattle.peer_core.specs.Starts.{first_state}
+use Rattle.peer_core.specs.declared.state.State.{State}
+use Rattle.step_plans.specs.Calls.{Call, Load, Save, FreshTree, OpenTree, Find, Enter, ScanTree, ReadNode, Install, Fetch, Put, Hash, AnswerOf}
+use Rattle.step_plans.specs.Plans.{Plan, Done, Say, Ask, Out, Ending, Finished, Stopped, Follows}
+use Rattle.step_plans.specs.declared.error.PeerError.{PeerError}
+use Rattle.step_plans.specs.declared.walked.Walked.{Walked}
+use Rattle.step_plans.specs.declared.walked.Walked.TheVariants.{Reached, Broken as Damaged}
 use Rattle.register_model.specs.declared.note.Note.{Note}
 use Rattle.synctree.specs.Plans as tree
 use Rattle.synctree.specs.Trees.{get_plan, insert_plan}

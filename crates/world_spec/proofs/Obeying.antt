@@ -10,14 +10,14 @@ use Rattle.held_stores.specs.Runs.{Ended}
 use Rattle.leader_words.specs.declared.out.Outgoing.{Outgoing}
 use Rattle.network.specs.Mail.{Mail, MayBeSent, posted, settled, goes, is_among, oldest, most_messages}
 use Rattle.peer_fact.specs.declared.fact.Fact.{Fact}
-use Rattle.peer_machine.proofs.Passing.{steps_keep}
-use Rattle.peer_machine.specs.Drives.{step_of, MayCome}
-use Rattle.peer_machine.specs.Kept.{LeadsAs, MaySend, AllMayGo, Reaches}
-use Rattle.peer_machine.specs.Starts.{start_of, opened}
-use Rattle.peer_machine.specs.declared.event.Event.{Event}
-use Rattle.peer_machine.specs.declared.event.Event.TheVariants as events
-use Rattle.peer_machine.specs.declared.state.State.{State}
-use Rattle.peer_plans.specs.Plans.{Plan, Ending, Finished, Stopped}
+use Rattle.peer_core.proofs.Passing.{steps_keep}
+use Rattle.peer_core.specs.Drives.{step_of, MayCome}
+use Rattle.peer_core.specs.Kept.{LeadsAs, MaySend, AllMayGo, Reaches}
+use Rattle.peer_core.specs.Starts.{start_of, opened}
+use Rattle.peer_core.specs.declared.event.Event.{Event}
+use Rattle.peer_core.specs.declared.event.Event.TheVariants as events
+use Rattle.peer_core.specs.declared.state.State.{State}
+use Rattle.step_plans.specs.Plans.{Plan, Ending, Finished, Stopped}
 use Rattle.register_model.specs.declared.note.Note.{Note}
 use Rattle.schedule_text.specs.Spelling.{MayStand, AllMayStand}
 use Rattle.schedule_text.specs.declared.event.ScheduleEvent.{ScheduleEvent}

@@ -2,8 +2,8 @@
 use Rattle.std.specs.Prelude.{◌≡◌, None}
 use Rattle.held_stores.specs.Held.{HeldStores}
 use Rattle.held_stores.specs.Runs.{Ended}
-use Rattle.peer_machine.specs.declared.state.State.{State}
-use Rattle.peer_plans.specs.Plans.{Out, Finished}
+use Rattle.peer_core.specs.declared.state.State.{State}
+use Rattle.step_plans.specs.Plans.{Out, Finished}
 
 -- no write of these stores is to fail
 pub record NoneWaits (s : HeldStores) : Type 0 where

@@ -3,8 +3,8 @@ use Rattle.std.specs.Prelude.{ℕ, ◌-◌, Bool, true, List, [], ◌∷◌, ◌
 use Rattle.ens_base.specs.declared.command.Command.{Command}
 use Rattle.joint_views.specs.Quorums.{is_in}
 use Rattle.network.specs.Mail.{lost, goes, oldest, most_messages}
-use Rattle.peer_machine.specs.declared.event.CallIn.{CallIn}
-use Rattle.peer_machine.specs.declared.event.Event.TheVariants as events
+use Rattle.peer_core.specs.declared.event.CallIn.{CallIn}
+use Rattle.peer_core.specs.declared.event.Event.TheVariants as events
 use Rattle.phase_rows.specs.Peers.{those}
 use Rattle.schedule_text.specs.declared.event.ScheduleEvent.{ScheduleEvent}
 use Rattle.schedule_text.specs.declared.event.ScheduleEvent.TheVariants.{Call, Tick, Deliver, Pass, Lose, Calm, CalmAmong, Change, Stop, Start, Spoil, Revert, Fail}

@@ -3,11 +3,11 @@ use Rattle.std.specs.Prelude.{ℕ, List, []}
 use Rattle.held_stores.specs.Held.{HeldStores, empty_stores}
 use Rattle.held_stores.specs.Laws.{held_with}
 use Rattle.held_stores.specs.Runs.{Ended, run}
-use Rattle.peer_machine.specs.Drives.{step_of}
-use Rattle.peer_machine.specs.Starts.{start_of}
-use Rattle.peer_machine.specs.declared.event.Event.{Event}
-use Rattle.peer_machine.specs.declared.state.State.{State}
-use Rattle.peer_plans.specs.Plans.{Plan, Out, nothing, Ending, Finished, Stopped}
+use Rattle.peer_core.specs.Drives.{step_of}
+use Rattle.peer_core.specs.Starts.{start_of}
+use Rattle.peer_core.specs.declared.event.Event.{Event}
+use Rattle.peer_core.specs.declared.state.State.{State}
+use Rattle.step_plans.specs.Plans.{Plan, Out, nothing, Ending, Finished, Stopped}
 use Rattle.register_model.specs.declared.note.Note.{Note}
 
 -- a running peer, with its state and stores, or the stores of a peer that is down

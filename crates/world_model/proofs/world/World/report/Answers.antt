@@ -1,4 +1,4 @@
-use Rattle.peer_plans.specs.Outboxes.{out_of}
+use Rattle.step_plans.specs.Outboxes.{out_of}
 use Rattle.std.proofs.Common.{refl}
 use Rattle.world_model.specs.Worlds.{run_of, reported}
 use Rattle.world_model.proofs.Begins.{begins_same}

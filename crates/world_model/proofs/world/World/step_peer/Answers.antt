@@ -1,6 +1,6 @@
 use Rattle.std.proofs.Common.{arith, rules, ◌≡◌, ◌-◌, Some, refl, slice_get}
 use Rattle.std.proofs.lemmas.Option.{slice_get_read}
-use Rattle.peer_plans.specs.Outboxes.{out_of}
+use Rattle.step_plans.specs.Outboxes.{out_of}
 use Rattle.world_spec.specs.Runs.{stepped}
 use Rattle.world_model.specs.Worlds.{run_of}
 use Rattle.world_model.proofs.Begins.{begins_by}

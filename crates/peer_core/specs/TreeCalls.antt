@@ -1,0 +1,88 @@
+-- What the tree of a peer and the hasher lent to it may answer: each call is a plan of the tree.
+use Rattle.std.specs.Option.{IsSomeAnd}
+use Rattle.std.specs.Prelude.{◌≡◌, ℕ, List, [], ◌∷◌, Option, Result, Ok, Err}
+use Rattle.ens_base.specs.declared.entry.Entry.{Entry}
+use Rattle.step_plans.specs.Calls.{Call, FreshTree, OpenTree, Find, Enter, ScanTree, ReadNode, Install, AnswerOf}
+use Rattle.step_plans.specs.declared.walked.Walked.{Walked}
+use Rattle.step_plans.specs.declared.walked.Walked.TheVariants.{Reached, Broken}
+use Rattle.step_plans.specs.declared.error.PeerError.{PeerError}
+use Rattle.step_plans.specs.declared.error.PeerError.TheVariants as errors
+use Rattle.synctree.specs.Installs.{install_plan}
+use Rattle.synctree.specs.Nodes.{node_plan}
+use Rattle.synctree.specs.Plans.{Plan, Hash, Done, Ask, ◌>>=◌, Ends, Stops, Call as TreeCall, AnswerOf as TreeAnswer}
+use Rattle.synctree.specs.Trees.{open_plan, fresh_plan, get_plan, insert_plan}
+use Rattle.synctree.specs.declared.error.TreeError.{TreeError}
+use Rattle.synctree.specs.declared.error.TreeError.TheVariants as trees
+use Rattle.synctree.specs.declared.tree.Tree.{Tree}
+use Rattle.tree_maps.specs.Forms.{Form}
+use Rattle.tree_maps.specs.Sixteen.{sixteen}
+use Rattle.tree_node.specs.declared.position.Position.{Position}
+use Rattle.tree_repair.specs.Builds.{build_nodes, build_of}
+use Rattle.tree_verify.specs.Levels.{scan_plan}
+
+-- gives these strings to the hasher, one after another
+abbrev pub hash_all : List (List ℕ) → Plan (Unit {0})
+hash_all [] = Done tt
+hash_all (x ∷ xs) = Ask (Hash x) (λ _. hash_all xs)
+
+-- hashes the nodes of the tree of these entries, and then writes them, and the top record last
+abbrev pub rebuild_plan : Form → List Entry → Plan (List ℕ)
+rebuild_plan F m = hash_all (build_nodes F m) >>= (λ _. install_plan (build_of F m).nodes (build_of F m).top)
+
+-- the end of a walk that has this answer
+abbrev pub end_of : {A : Type 0} → Walked A → Result A Position
+end_of (Reached found) = Ok found
+end_of (Broken at) = Err at
+
+-- the plan came to this end, and led the nodes and the hasher from one state to the other
+abbrev pub Walks : {A N H : Type 0} → (N × H → (call : TreeCall) → TreeAnswer call → N × H → Type 0) → Plan A → Tree N × H → Result A Position → Tree N × H → Type 0
+Walks does plan s end t = (strings : List (List ℕ)) × Ends does plan (s.0.store, s.1) strings end (t.0.store, t.1)
+
+-- the plan of a change came to an end: the root of the tree has the digest that the plan returned,
+-- or it is the old root where a position did not verify
+abbrev pub Changes : (Result (List ℕ) Position → Type 0) → Option (List ℕ) → Walked (Unit {0}) → Option (List ℕ) → Type 0
+Changes ended old (Reached x) new = IsSomeAnd new (λ root. ended (Ok root))
+Changes ended old (Broken at) new = ended (Err at) × (new ≡ old)
+
+-- the error of a peer whose tree was stopped by this error; damage is an answer, and stops no plan
+abbrev pub peer_error : TreeError → PeerError
+peer_error (trees.Damaged at) = errors.StoreFault
+peer_error trees.Failed = errors.StoreFault
+peer_error (trees.Clash first second) = errors.Clash first.items second.items
+peer_error (trees.BookFull kept) = errors.BookFull kept
+peer_error trees.Memory = errors.Memory
+
+-- the result of a call of a peer's tree, where the call of the tree itself had this result
+abbrev pub heard : {A : Type 0} → Result A TreeError → Result (Walked A) PeerError
+heard (Ok x) = Ok (Reached x)
+heard (Err (trees.Damaged at)) = Ok (Broken at)
+heard (Err e) = Err (peer_error e)
+
+-- the plan was stopped, with this error of the peer, and the tree has its old root
+abbrev pub Halts : {A N H : Type 0} → (N × H → (call : TreeCall) → TreeAnswer call → N × H → Type 0) → (N × H → TreeCall → TreeError → N × H → Type 0)
+    → Plan A → Tree N × H → PeerError → Tree N × H → Type 0
+Halts does refuses plan s e t = (error : TreeError) × (e ≡ peer_error error) × Stops does refuses plan (s.0.store, s.1) error (t.0.store, t.1) × (t.0.top ≡ s.0.top)
+
+-- A call of the tree was answered. Calls that do not change the map leave the root as it was.
+abbrev pub TreeDoes : {N H : Type 0} → (N × H → (call : TreeCall) → TreeAnswer call → N × H → Type 0) → Tree N × H → (call : Call) → AnswerOf call → Tree N × H → Type 0
+TreeDoes does s FreshTree a t = IsSomeAnd t.0.top (λ root. Walks does (fresh_plan sixteen) s (Ok root) t)
+TreeDoes does s OpenTree a t = Walks does open_plan s (Ok t.0.top) t
+TreeDoes does s (Find key) a t = Walks does (get_plan sixteen s.0.top key) s (end_of a) t × (t.0.top ≡ s.0.top)
+TreeDoes does s (Enter entry) a t = Changes (λ end. Walks does (insert_plan sixteen s.0.top entry) s end t) s.0.top a t.0.top
+TreeDoes does s ScanTree a t = Walks does (scan_plan sixteen s.0.top) s (Ok a) t × (t.0.top ≡ s.0.top)
+TreeDoes does s (ReadNode at) a t = Walks does (node_plan sixteen s.0.top at) s (end_of a) t × (t.0.top ≡ s.0.top)
+TreeDoes does s (Install entries) a t = IsSomeAnd t.0.top (λ root. Walks does (rebuild_plan sixteen entries) s (Ok root) t)
+TreeDoes does s call a t = ⊥
+
+-- A call of the tree was refused: its plan was stopped. It may have written nodes, and the stored
+-- top record may be the new one.
+abbrev pub TreeRefuses : {N H : Type 0} → (N × H → (call : TreeCall) → TreeAnswer call → N × H → Type 0) → (N × H → TreeCall → TreeError → N × H → Type 0)
+    → Tree N × H → Call → PeerError → Tree N × H → Type 0
+TreeRefuses does refuses s FreshTree e t = Halts does refuses (fresh_plan sixteen) s e t
+TreeRefuses does refuses s OpenTree e t = Halts does refuses open_plan s e t
+TreeRefuses does refuses s (Find key) e t = Halts does refuses (get_plan sixteen s.0.top key) s e t
+TreeRefuses does refuses s (Enter entry) e t = Halts does refuses (insert_plan sixteen s.0.top entry) s e t
+TreeRefuses does refuses s ScanTree e t = Halts does refuses (scan_plan sixteen s.0.top) s e t
+TreeRefuses does refuses s (ReadNode at) e t = Halts does refuses (node_plan sixteen s.0.top at) s e t
+TreeRefuses does refuses s (Install entries) e t = Halts does refuses (rebuild_plan sixteen entries) s e t
+TreeRefuses does refuses s call e t = ⊥

@@ -1,0 +1,188 @@
+ghost use Rattle.std.specs.Prelude.{◌≡◌, [], Bool, IsOk, IfOk, IfErr, OnOk, IsErrOf};
+ghost use Rattle.ens_base.specs.View.{IsPeer};
+ghost use Rattle.step_plans.specs.Outboxes.{FitsIn, Grows};
+ghost use Rattle.step_plans.specs.Calls.{Save};
+ghost use Rattle.step_plans.specs.Plans.{asked};
+ghost use Rattle.step_plans.specs.Tasks.{named};
+ghost use Rattle.peer_core.specs.Drives.{saved, performed, row_done, task_done, driven};
+ghost use Rattle.peer_core.specs.NoAllocation.{EndsQuietly, IsFreeRow, IsFreeTask};
+ghost use Rattle.peer_core.specs.Outcomes.{Acts};
+
+use crate::state::State;
+use ens_base::PeerId;
+use peer_fact::{Change, Fact};
+use step_plans::{Outbox, PeerError, Store, Task, Tasks};
+use std::alloc::Global;
+use wire_frames::{Message, PhaseOut, Seen};
+
+/// The state of a peer and its stores.
+#[derive(Drop)]
+pub struct Machine<S> {
+    pub state: State,
+    pub stores: S,
+}
+
+impl<S> Machine<S> {
+    #[tactic(auto, using(crate::proofs::Parts::asked_did))]
+    fn save_fact<H>(&mut self, hasher: &mut H, out: &Outbox, fact: &Fact) -> Result<(), PeerError>
+    where
+        S: Store<H>,
+        ensures acts { Acts S.does S.refuses (asked (Save fact.now)) self.old hasher.old out.now result self.new hasher.new out.now }
+        ensures only { IfErr result (λ e. e ≡ PeerError.StoreFault) }
+        ensures state { self.new.state ≡ self.old.state }
+    {
+        self.stores.save(hasher, fact)
+    }
+
+    /// Saves the fact, if there is one.
+    #[tactic(auto, using(crate::proofs::Parts::cut))]
+    fn save<H>(&mut self, hasher: &mut H, out: &Outbox, save: Option<Fact>) -> Result<(), PeerError>
+    where
+        S: Store<H>,
+        ensures acts { Acts S.does S.refuses (saved save) self.old hasher.old out.now result self.new hasher.new out.now }
+        ensures only { IfErr result (λ e. e ≡ PeerError.StoreFault) }
+        ensures phase { OnOk result (self.new.state.phase ≡ self.old.state.phase) }
+    {
+        match save {
+            None => Ok(()),
+            Some(fact) => {
+                self.save_fact(hasher, out, &fact)?;
+                self.state.fact = fact;
+                Ok(())
+            }
+        }
+    }
+
+    /// Applies a row, except for what follows it: a leader steps down if asked, the fact is saved,
+    /// and the message is sent.
+    #[tactic(auto, using(crate::proofs::Parts::cut, crate::proofs::Quiet::still_quiet))]
+    fn perform<H>(
+        &mut self,
+        hasher: &mut H,
+        alloc: Global,
+        out: &mut Outbox,
+        row: PhaseOut,
+    ) -> Result<(), PeerError>
+    where
+        S: Store<H>,
+        ensures acts { Acts S.does S.refuses (performed row) self.old hasher.old out.old result self.new hasher.new out.new }
+        ensures grows { Grows out.old out.new }
+        ensures quiet { OnOk result ((ends : Bool) → EndsQuietly ends self.old.state.phase → EndsQuietly ends self.new.state.phase) }
+        ensures fits { FitsIn out.old row.to row.message → EndsQuietly row.leave self.old.state.phase → ¬ IsErrOf result PeerError.Memory }
+    {
+        let PhaseOut {
+            leave,
+            save,
+            to,
+            message,
+            then: _,
+        } = row;
+        self.state.leave(alloc, out, leave)?;
+        self.save(hasher, out, save)?;
+        out.send_to(alloc, to, message)?;
+        Ok(())
+    }
+
+    /// Applies a row, and returns the rule that it names.
+    #[tactic(auto, using(crate::proofs::Parts::cut))]
+    pub(crate) fn row_done<H>(
+        &mut self,
+        hasher: &mut H,
+        alloc: Global,
+        out: &mut Outbox,
+        me: PeerId,
+        row: PhaseOut,
+    ) -> Result<Tasks, PeerError>
+    where
+        S: Store<H>,
+        ensures acts { Acts S.does S.refuses (row_done me row) self.old hasher.old out.old result self.new hasher.new out.new }
+        ensures grows { Grows out.old out.new }
+        ensures names { IfOk result (λ tasks. tasks ≡ named row.then) }
+        ensures fits { IsFreeRow out.old self.old.state.phase row → ¬ IsErrOf result PeerError.Memory }
+    {
+        let then = row.then;
+        self.perform(hasher, alloc, out, row)?;
+        self.state.turn(alloc, out, me, then)?;
+        Ok(Tasks::named(alloc, then)?)
+    }
+
+    /// Runs the rule of one task, and returns the rules that its row names.
+    #[tactic(auto, using(crate::proofs::Parts::cut))]
+    pub(crate) fn task_done<H>(
+        &mut self,
+        hasher: &mut H,
+        alloc: Global,
+        out: &mut Outbox,
+        me: PeerId,
+        task: Task,
+    ) -> Result<Tasks, PeerError>
+    where
+        S: Store<H>,
+        requires { IsPeer me }
+        ensures acts { Acts S.does S.refuses (task_done me task) self.old hasher.old out.old result self.new hasher.new out.new }
+        ensures grows { Grows out.old out.new }
+        ensures none { IsFreeTask out.old me task self.old.state → IfOk result (λ tasks. tasks ≡ []) }
+        ensures fits { IsFreeTask out.old me task self.old.state → ¬ IsErrOf result PeerError.Memory }
+    {
+        match task {
+            Task::Phase(rule) => {
+                if rule == 5 {
+                    self.remind(hasher, alloc, out)
+                } else {
+                    let row = self.state.phase_row(rule, me);
+                    self.row_done(hasher, alloc, out, me, row)
+                }
+            }
+            Task::Key(rule, key) => self.key_done(
+                hasher,
+                alloc,
+                out,
+                me,
+                rule,
+                &key,
+                &Seen::Nothing,
+            ),
+            Task::Again(rule, key, seen) => self.key_done(
+                hasher, alloc, out, me, rule, &key, &seen,
+            ),
+        }
+    }
+
+    /// Runs `tasks`, at most `turns` of them. The rules that a row names run before the tasks that
+    /// were left. Returns the tasks that are left.
+    #[tactic(auto, using(crate::proofs::Parts::cut))]
+    pub(crate) fn drive<H>(
+        &mut self,
+        hasher: &mut H,
+        alloc: Global,
+        out: &mut Outbox,
+        me: PeerId,
+        turns: u64,
+        tasks: Tasks,
+    ) -> Result<Tasks, PeerError>
+    where
+        S: Store<H>,
+        requires { IsPeer me }
+        ensures acts { Acts S.does S.refuses (driven me turns tasks) self.old hasher.old out.old result self.new hasher.new out.new }
+        ensures grows { Grows out.old out.new }
+        ensures none { tasks ≡ [] → IsOk result }
+    {
+        let mut tasks = tasks;
+        for turn in 0..turns {
+            match tasks.take() {
+                None => return Ok(tasks),
+                Some(task) => {
+                    let more = match self.task_done(hasher, alloc, out, me, task) {
+                        Ok(more) => more,
+                        Err(error) => return Err(error),
+                    };
+                    match tasks.put_all(more) {
+                        Ok(()) => {}
+                        Err(_) => return Err(PeerError::Memory),
+                    }
+                }
+            }
+        }
+        Ok(tasks)
+    }
+}

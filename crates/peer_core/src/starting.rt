@@ -1,0 +1,81 @@
+ghost use Rattle.std.specs.Prelude.{◌≡◌, ℕ, true, IfOk};
+ghost use Rattle.peer_core.specs.Ages.{is_young};
+ghost use Rattle.peer_core.specs.Kept.{leads_as};
+ghost use Rattle.peer_core.specs.NoAllocation.{IsSteady};
+ghost use Rattle.peer_core.specs.Starts.{Starts, start_of, first_state as first, saves_opening, opened as opens};
+
+use crate::state::{State, following};
+use ens_base::View;
+use peer_fact::{Change, Fact};
+use step_plans::{PeerError, Store};
+use std::alloc::Global;
+
+/// The state in which a peer starts: it follows.
+fn first_state(fact: Fact, trusted: bool) -> State
+    ensures { result ≡ first fact trusted }
+{
+    State {
+        fact,
+        trusted,
+        phase: following(),
+    }
+}
+
+/// Saves the opening fact, and starts with it.
+fn save_opening<H, S: Store<H>>(
+    stores: &mut S,
+    hasher: &mut H,
+    opening: View,
+) -> Result<State, PeerError>
+    ensures starts { Starts S.does S.refuses (saves_opening opening) (stores.old, hasher.old) result (stores.new, hasher.new) }
+    ensures young { IfOk result (λ x. is_young x.phase ≡ true) }
+    ensures steady { IfOk result (λ x. IsSteady x) }
+    ensures own { IfOk result (λ x. (me : ℕ) → leads_as me x.phase ≡ true) }
+{
+    let fact = Fact::opening(opening);
+    match stores.save(hasher, &fact) {
+        Ok(()) => Ok(first_state(fact, true)),
+        Err(error) => Err(error),
+    }
+}
+
+/// Starts from what was kept.
+fn opened<H, S: Store<H>>(
+    stores: &mut S,
+    hasher: &mut H,
+    alloc: Global,
+    opening: View,
+    kept: Option<Fact>,
+) -> Result<State, PeerError>
+    ensures starts { Starts S.does S.refuses (opens opening kept) (stores.old, hasher.old) result (stores.new, hasher.new) }
+    ensures young { IfOk result (λ x. is_young x.phase ≡ true) }
+    ensures steady { IfOk result (λ x. IsSteady x) }
+    ensures own { IfOk result (λ x. (me : ℕ) → leads_as me x.phase ≡ true) }
+{
+    match kept {
+        Some(fact) => match stores.open_tree(hasher, alloc) {
+            Ok(()) => Ok(first_state(fact, false)),
+            Err(error) => Err(error),
+        },
+        None => match stores.fresh_tree(hasher, alloc) {
+            Ok(()) => save_opening(stores, hasher, opening),
+            Err(error) => Err(error),
+        },
+    }
+}
+
+/// Rule 1: returns the state in which a peer starts over these stores.
+pub(crate) fn start<H, S: Store<H>>(
+    stores: &mut S,
+    hasher: &mut H,
+    alloc: Global,
+    opening: View,
+) -> Result<State, PeerError>
+    ensures starts { Starts S.does S.refuses (start_of opening) (stores.old, hasher.old) result (stores.new, hasher.new) }
+    ensures young { IfOk result (λ x. is_young x.phase ≡ true) }
+    ensures steady { IfOk result (λ x. IsSteady x) }
+    ensures own { IfOk result (λ x. (me : ℕ) → leads_as me x.phase ≡ true) }
+{
+    let kept = stores.load(hasher)?;
+    opened(stores, hasher, alloc, opening, kept)
+}

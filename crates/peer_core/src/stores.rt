@@ -1,0 +1,167 @@
+ghost use Rattle.std.specs.Prelude.{◌≡◌};
+ghost use Rattle.peer_core.specs.Stores.{hash_error as hash_error_of};
+ghost use Rattle.peer_core.specs.TreeCalls.{heard, peer_error};
+
+use ens_base::{Bytes, Digest, Entry, Key};
+use ens_hashing::{HashError, Hasher16};
+use ens_outside::{Backend, NodeStore, StoreError};
+use fact_store::{FactKeeper, KeepError};
+use peer_fact::{Change, Fact};
+use step_plans::{PeerError, Store, Walked};
+use std::alloc::Global;
+use synctree::{Tree, TreeError};
+
+/// The stores of a peer: the objects, the tree, and the fact.
+#[derive(Drop)]
+pub struct Stores<B, N, F> {
+    pub backend: B,
+    pub tree: Tree<N>,
+    pub facts: F,
+}
+
+/// Returns the error of a peer whose tree was stopped by this error.
+fn tree_error(error: TreeError) -> PeerError
+    ensures { result ≡ peer_error error }
+{
+    match error {
+        TreeError::Damaged(_at) => PeerError::StoreFault,
+        TreeError::Failed => PeerError::StoreFault,
+        TreeError::Clash { first, second } => PeerError::Clash {
+            first: Bytes::new(first),
+            second: Bytes::new(second),
+        },
+        TreeError::BookFull(kept) => PeerError::BookFull(kept),
+        TreeError::Memory => PeerError::Memory,
+    }
+}
+
+/// Returns damage as an answer, and any other error as an error of the peer.
+fn damage<T>(error: TreeError) -> Result<Walked<T>, PeerError>
+    ensures { result ≡ heard (Err error) }
+{
+    match error {
+        TreeError::Damaged(at) => Ok(Walked::Broken(at)),
+        TreeError::Failed => Err(PeerError::StoreFault),
+        TreeError::Clash { first, second } => Err(PeerError::Clash {
+            first: Bytes::new(first),
+            second: Bytes::new(second),
+        }),
+        TreeError::BookFull(kept) => Err(PeerError::BookFull(kept)),
+        TreeError::Memory => Err(PeerError::Memory),
+    }
+}
+
+/// Returns the result of a call of the tree as a result of the stores.
+fn walked<T>(came: Result<T, TreeError>) -> Result<Walked<T>, PeerError>
+    ensures { result ≡ heard came }
+{
+    match came {
+        Ok(found) => Ok(Walked::Reached(found)),
+        Err(error) => damage(error),
+    }
+}
+
+/// Returns the error of a peer for this error of a hasher.
+fn hash_error(error: HashError) -> PeerError
+    ensures { result ≡ hash_error_of error }
+{
+    match error {
+        HashError::Clash { first, second } => PeerError::Clash {
+            first: Bytes::new(first),
+            second: Bytes::new(second),
+        },
+        HashError::BookFull(kept) => PeerError::BookFull(kept),
+        HashError::Memory => PeerError::Memory,
+    }
+}
+
+impl<B: Backend, N: NodeStore, F: FactKeeper, H: Hasher16> Store<H> for Stores<B, N, F> {
+    ghost use Rattle.peer_core.specs.Stores.{stores_do, stores_refuse};
+
+    ghost does = { stores_do B.may_answer B.fault_count N.may_answer N.top_record N.fault_count F.may_answer F.kept F.fault_count H.kept H.clashes H.fulls };
+
+    ghost refuses = { stores_refuse B.may_refuse B.fault_count N.may_answer N.may_refuse N.top_record N.fault_count F.may_refuse F.kept F.fault_count H.kept H.clashes H.fulls };
+
+    fn load(&mut self, _hasher: &mut H) -> Result<Option<Fact>, PeerError> {
+        match self.facts.load() {
+            Ok(kept) => Ok(kept),
+            Err(KeepError::Failed) => Err(PeerError::StoreFault),
+            Err(KeepError::Bad(why)) => Err(PeerError::BadFact(why)),
+            Err(KeepError::Memory) => Err(PeerError::Memory),
+        }
+    }
+
+    fn save(&mut self, _hasher: &mut H, fact: &Fact) -> Result<(), PeerError> {
+        match self.facts.save(fact) {
+            Ok(()) => Ok(()),
+            Err(_) => Err(PeerError::StoreFault),
+        }
+    }
+
+    fn fresh_tree(&mut self, hasher: &mut H, alloc: Global) -> Result<(), PeerError> {
+        match self.tree.empty(alloc, hasher) {
+            Ok(()) => Ok(()),
+            Err(error) => Err(tree_error(error)),
+        }
+    }
+
+    fn open_tree(&mut self, _hasher: &mut H, _alloc: Global) -> Result<(), PeerError> {
+        match self.tree.reopen() {
+            Ok(()) => Ok(()),
+            Err(error) => Err(tree_error(error)),
+        }
+    }
+
+    fn find(
+        &mut self,
+        hasher: &mut H,
+        alloc: Global,
+        key: &Key,
+    ) -> Result<Walked<Option<Entry>>, PeerError> {
+        walked(self.tree.get(alloc, hasher, key))
+    }
+
+    fn enter(
+        &mut self,
+        hasher: &mut H,
+        alloc: Global,
+        entry: &Entry,
+    ) -> Result<Walked<()>, PeerError> {
+        walked(self.tree.insert(alloc, hasher, entry))
+    }
+
+    fn fetch(
+        &mut self,
+        _hasher: &mut H,
+        alloc: Global,
+        key: &Key,
+    ) -> Result<Option<Bytes>, PeerError> {
+        match self.backend.get(alloc, key) {
+            Ok(Some(bytes)) => Ok(Some(Bytes::new(bytes))),
+            Ok(None) => Ok(None),
+            Err(StoreError::Failed) => Err(PeerError::StoreFault),
+            Err(StoreError::Memory) => Err(PeerError::Memory),
+        }
+    }
+
+    fn put(
+        &mut self,
+        _hasher: &mut H,
+        alloc: Global,
+        key: &Key,
+        bytes: &[u8],
+    ) -> Result<(), PeerError> {
+        match self.backend.put(alloc, key, bytes) {
+            Ok(()) => Ok(()),
+            Err(StoreError::Failed) => Err(PeerError::StoreFault),
+            Err(StoreError::Memory) => Err(PeerError::Memory),
+        }
+    }
+
+    fn hash(&mut self, hasher: &mut H, alloc: Global, bytes: &[u8]) -> Result<Digest, PeerError> {
+        match hasher.digest(alloc, bytes) {
+            Ok(digest) => Ok(digest),
+            Err(error) => Err(hash_error(error)),
+        }
+    }
+}

@@ -1,0 +1,78 @@
+ghost use Rattle.std.specs.Prelude.{◌≡◌, IfErr};
+ghost use Rattle.step_plans.specs.Calls.{Call, Load, Save, FreshTree, OpenTree, Find, Enter, Fetch, Put, Hash, AnswerOf, Answers};
+ghost use Rattle.step_plans.specs.declared.error.PeerError.{PeerError};
+ghost use Rattle.step_plans.specs.declared.error.PeerError.TheVariants.{StoreFault};
+
+use crate::error::PeerError;
+use crate::walked::Walked;
+use ens_base::{Bytes, Digest, Entry, Key};
+use peer_fact::{Change, Fact};
+use std::alloc::Global;
+
+/// The stores of a peer, which use a hasher lent to them. Two relations say what a call may do. The
+/// methods are the calls that the rules make so far.
+pub trait Store<H> {
+    /// Whether a call may give this answer, and leave the stores and the hasher in this state.
+    ghost does: { Self × H → (call : Call) → AnswerOf call → Self × H → Type 0 };
+
+    /// Whether a call may fail with this error, and leave the stores and the hasher in this state.
+    ghost refuses: { Self × H → Call → PeerError → Self × H → Type 0 };
+
+    /// Returns the kept fact, or `None` if no fact was ever saved.
+    fn load(&mut self, hasher: &mut H) -> Result<Option<Fact>, PeerError>
+        ensures { Answers does refuses (self.old, hasher.old) Load result (self.new, hasher.new) };
+
+    /// Replaces the kept fact by `fact`. Needs no heap memory.
+    fn save(&mut self, hasher: &mut H, fact: &Fact) -> Result<(), PeerError>
+        ensures answers { Answers does refuses (self.old, hasher.old) (Save fact.now) result (self.new, hasher.new) }
+        ensures only { IfErr result (λ e. e ≡ StoreFault) };
+
+    /// Makes the tree empty.
+    fn fresh_tree(&mut self, hasher: &mut H, alloc: Global) -> Result<(), PeerError>
+        ensures { Answers does refuses (self.old, hasher.old) FreshTree result (self.new, hasher.new) };
+
+    /// Opens the tree that is kept.
+    fn open_tree(&mut self, hasher: &mut H, alloc: Global) -> Result<(), PeerError>
+        ensures { Answers does refuses (self.old, hasher.old) OpenTree result (self.new, hasher.new) };
+
+    /// Returns the entry of the key in the tree, or `None` if it has none.
+    fn find(
+        &mut self,
+        hasher: &mut H,
+        alloc: Global,
+        key: &Key,
+    ) -> Result<Walked<Option<Entry>>, PeerError>
+        ensures { Answers does refuses (self.old, hasher.old) (Find key.now) result (self.new, hasher.new) };
+
+    /// Enters the entry in the tree, in place of the one of its key.
+    fn enter(
+        &mut self,
+        hasher: &mut H,
+        alloc: Global,
+        entry: &Entry,
+    ) -> Result<Walked<()>, PeerError>
+        ensures { Answers does refuses (self.old, hasher.old) (Enter entry.now) result (self.new, hasher.new) };
+
+    /// Returns the bytes that the backend keeps under the key, or `None` if there are none.
+    fn fetch(
+        &mut self,
+        hasher: &mut H,
+        alloc: Global,
+        key: &Key,
+    ) -> Result<Option<Bytes>, PeerError>
+        ensures { Answers does refuses (self.old, hasher.old) (Fetch key.now) result (self.new, hasher.new) };
+
+    /// Puts the bytes under the key in the backend.
+    fn put(
+        &mut self,
+        hasher: &mut H,
+        alloc: Global,
+        key: &Key,
+        bytes: &[u8],
+    ) -> Result<(), PeerError>
+        ensures { Answers does refuses (self.old, hasher.old) (Put key.now bytes.now) result (self.new, hasher.new) };
+
+    /// Returns the digest of the bytes.
+    fn hash(&mut self, hasher: &mut H, alloc: Global, bytes: &[u8]) -> Result<Digest, PeerError>
+        ensures { Answers does refuses (self.old, hasher.old) (Hash bytes.now) result (self.new, hasher.new) };
+}
