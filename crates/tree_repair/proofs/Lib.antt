@@ -4,3 +4,4 @@ pub mod Buckets
 pub mod Admissions
 pub mod Climbing
 pub mod Keys
+pub mod Rebuilds

@@ -1,3 +1,4 @@
 pub mod Builds
 pub mod Levels
 pub mod Admitting
+pub mod Rebuilds

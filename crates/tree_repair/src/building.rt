@@ -8,12 +8,12 @@ ghost use Rattle.tree_repair.specs.Builds.{somes, digest_if, names_of, nodes_dow
 
 use crate::built::Built;
 use crate::gate::Gate;
-use crate::hashing::digests;
+use crate::hashing::{digests, digests_whole};
 use crate::inner::inner_texts;
 use crate::segments::segment_texts;
 use ens_base::{Bytes, Digest, Entry, Seq};
 use ens_hashing::{HashError, Hasher16};
-use std::alloc::Global;
+use std::alloc::{AllocError, Global};
 use std::thread::Threads;
 use synctree::StoredNode;
 
@@ -66,54 +66,84 @@ fn keep_all<H: Hasher16>(
     Ok(())
 }
 
-/// Hashes the texts of a level, admits them and appends them to the nodes. Returns their digests.
-fn keep_level<H: Hasher16, R: Threads + Sync, G: Gate + Sync>(
-    rt: &R,
+/// Hashes the texts of a level by a call of `by`, admits them and appends them to the nodes. Returns
+/// their digests.
+fn keep_level<
+    H: Hasher16,
+    D: Fn(Global, &[Option<Bytes>]) -> Result<Vec<Option<Digest>>, AllocError>,
+>(
+    by: &D,
     alloc: Global,
     hasher: &mut H,
-    gate: &G,
     texts: Vec<Option<Bytes>>,
     nodes: &mut Vec<StoredNode>,
 ) -> Result<Vec<Option<Digest>>, HashError>
+    requires callable { D.IsAlwaysCallable by.now }
+    requires digests { (a all r : _) → D.post by.now a all r → IfOk r (λ v. v.items ≡ map digest_if all.now) }
     ensures names { IfOk result (λ v. v.items ≡ map digest_if texts.items) }
     ensures nodes { OnOk result (nodes.new.items ≡ nodes.old.items ++ map stored (somes texts.items)) }
     ensures admits { AdmitsAll H.kept H.clashes H.fulls (somes texts.items) hasher.old result hasher.new }
 {
-    let names = digests(rt, alloc, texts.as_slice(), gate)?;
+    let names = by(alloc, texts.as_slice())?;
     keep_all(alloc, hasher, texts, names.as_slice(), nodes)?;
     Ok(names)
 }
 
 /// Builds the nodes of a level and of all levels below it, the lowest level first. Returns the
 /// digests of the level.
-fn build_level<H: Hasher16, R: Threads + Sync, G: Gate + Sync>(
-    rt: &R,
+fn build_level<
+    H: Hasher16,
+    D: Fn(Global, &[Option<Bytes>]) -> Result<Vec<Option<Digest>>, AllocError>,
+>(
+    by: &D,
     alloc: Global,
     hasher: &mut H,
-    gate: &G,
     level: u8,
     entries: &[Entry],
     nodes: &mut Vec<StoredNode>,
 ) -> Result<Vec<Option<Digest>>, HashError>
     requires level { level ≤ 3 }
     requires ascending { AreAbove [] entries.now }
+    requires callable { D.IsAlwaysCallable by.now }
+    requires digests { (a all r : _) → D.post by.now a all r → IfOk r (λ v. v.items ≡ map digest_if all.now) }
     ensures names { IfOk result (λ v. v.items ≡ names_of sixteen level entries.now) }
     ensures nodes { OnOk result (nodes.new.items ≡ nodes.old.items ++ map stored (nodes_down sixteen (3 - level) level entries.now)) }
     ensures admits { AdmitsAll H.kept H.clashes H.fulls (nodes_down sixteen (3 - level) level entries.now) hasher.old result hasher.new }
 {
     if level == LAST_LEVEL {
         let texts = segment_texts(alloc, entries)?;
-        return keep_level(rt, alloc, hasher, gate, texts, nodes);
+        return keep_level(by, alloc, hasher, texts, nodes);
     }
-    let names = build_level(rt, alloc, hasher, gate, level + 1, entries, nodes)?;
+    let names = build_level(by, alloc, hasher, level + 1, entries, nodes)?;
     let texts = inner_texts(alloc, level, names.as_slice())?;
-    keep_level(rt, alloc, hasher, gate, texts, nodes)
+    keep_level(by, alloc, hasher, texts, nodes)
+}
+
+/// Returns the plain build of a map, given as its entries in ascending order of keys. `by` hashes the
+/// texts of a level.
+fn build_by<
+    H: Hasher16,
+    D: Fn(Global, &[Option<Bytes>]) -> Result<Vec<Option<Digest>>, AllocError>,
+>(by: &D, alloc: Global, hasher: &mut H, entries: &[Entry]) -> Result<Built, HashError>
+    requires ascending { AreAbove [] entries.now }
+    requires callable { D.IsAlwaysCallable by.now }
+    requires digests { (a all r : _) → D.post by.now a all r → IfOk r (λ v. v.items ≡ map digest_if all.now) }
+    ensures built { IfOk result (λ b. b ≡ build_of sixteen entries.now) }
+    ensures stands { IfOk result (λ b. IsMap entries.now → Stands sixteen b.top entries.now) }
+    ensures admits { AdmitsAll H.kept H.clashes H.fulls (build_nodes sixteen entries.now) hasher.old result hasher.new }
+{
+    let mut nodes = Vec::new(alloc);
+    let names = build_level(by, alloc, hasher, ROOT_LEVEL, entries, &mut nodes)?;
+    Ok(Built {
+        nodes: Seq::new(nodes),
+        top: names[0].unwrap(),
+    })
 }
 
 /// Returns the plain build of a map, given as its entries in ascending order of keys. The nodes of a
 /// level are hashed by threads, in pieces that the gate sees begin. The hasher admits each node, in
-/// the order of the build. Fails only if the hasher rejects a node, or when out
-/// of memory, which a segment of 2^32 entries or more counts as.
+/// the order of the build. Fails only if the hasher rejects a node, or when out of memory, which a
+/// segment of 2^32 entries or more counts as.
 pub fn build<H: Hasher16, R: Threads + Sync, G: Gate + Sync>(
     rt: &R,
     alloc: Global,
@@ -126,10 +156,23 @@ pub fn build<H: Hasher16, R: Threads + Sync, G: Gate + Sync>(
     ensures stands { IfOk result (λ b. IsMap entries.now → Stands sixteen b.top entries.now) }
     ensures admits { AdmitsAll H.kept H.clashes H.fulls (build_nodes sixteen entries.now) hasher.old result hasher.new }
 {
-    let mut nodes = Vec::new(alloc);
-    let names = build_level(rt, alloc, hasher, gate, ROOT_LEVEL, entries, &mut nodes)?;
-    Ok(Built {
-        nodes: Seq::new(nodes),
-        top: names[0].unwrap(),
-    })
+    let by = |alloc: Global, texts: &[Option<Bytes>]| -> Result<Vec<Option<Digest>>, AllocError>
+        ensures { IfOk result (λ v. v.items ≡ map digest_if texts.now) }
+    { digests(rt, alloc, texts, gate) };
+    build_by(&by, alloc, hasher, entries)
+}
+
+/// Returns the plain build of a map, given as its entries in ascending order of keys, as [`build`]
+/// does, by one thread.
+pub fn build_alone<H: Hasher16>(
+    alloc: Global,
+    hasher: &mut H,
+    entries: &[Entry],
+) -> Result<Built, HashError>
+    requires { AreAbove [] entries.now }
+    ensures built { IfOk result (λ b. b ≡ build_of sixteen entries.now) }
+    ensures stands { IfOk result (λ b. IsMap entries.now → Stands sixteen b.top entries.now) }
+    ensures admits { AdmitsAll H.kept H.clashes H.fulls (build_nodes sixteen entries.now) hasher.old result hasher.new }
+{
+    build_by(&digests_whole, alloc, hasher, entries)
 }

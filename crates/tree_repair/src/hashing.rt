@@ -22,7 +22,10 @@ fn digest_of_text(text: &Option<Bytes>) -> Option<Digest>
 }
 
 /// Returns the MD5 of each text that is there, by one thread.
-fn digests_whole(alloc: Global, texts: &[Option<Bytes>]) -> Result<Vec<Option<Digest>>, AllocError>
+pub(crate) fn digests_whole(
+    alloc: Global,
+    texts: &[Option<Bytes>],
+) -> Result<Vec<Option<Digest>>, AllocError>
     ensures { IfOk result (λ v. v.items ≡ map digest_if texts.now) }
 {
     let mut all = Vec::with_capacity(alloc, texts.len())?;

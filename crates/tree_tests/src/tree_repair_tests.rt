@@ -5,7 +5,7 @@ use std::alloc::Global;
 use std::sync::atomic::{AtomicU64, Ordering};
 use std::test::Fail;
 use synctree::{Tree, TreeError};
-use tree_repair::{Gate, NoGate, ascends, build, install};
+use tree_repair::{Gate, NoGate, ascends, build, build_alone, install, rebuild};
 
 /// The MD5 of the eight bytes of a root without children, `01 00 00000000 0000`, taken with another
 /// program.
@@ -92,6 +92,23 @@ fn a_build_has_the_top_of_the_inserts(rt: HostRuntime) -> Result<(), Fail> {
     Ok(())
 }
 
+#[test]
+fn a_rebuild_has_the_entries_given(rt: HostRuntime) -> Result<(), Fail> {
+    let alloc = rt.alloc();
+    let mut tree = fresh(alloc)?;
+    let gone = entry(alloc, b"gone")?;
+    tree.insert(alloc, &mut PlainHasher, &gone)?;
+    let entries = [entry(alloc, b"abc")?];
+    assert!(rt; ascends(&entries));
+    rebuild(alloc, &mut tree, &mut PlainHasher, &entries)?;
+    assert_eq!(rt; tree.top(), Some(ABC));
+    let found = tree.get(alloc, &mut PlainHasher, &entries[0].key)?;
+    assert_eq!(rt; found.as_ref(), Some(&entries[0]));
+    let none = tree.get(alloc, &mut PlainHasher, &gone.key)?;
+    assert_eq!(rt; none, None);
+    Ok(())
+}
+
 /// How often piece 0 looks whether piece 1 has begun.
 const MOST_TURNS: u64 = 100_000_000;
 
@@ -134,7 +151,7 @@ fn gate_two_halves(rt: HostRuntime) -> Result<(), Fail> {
         entries.push(entry(alloc, &[(key / 256) as u8, (key % 256) as u8])?)?;
     }
     assert!(rt; ascends(entries.as_slice()));
-    let plain = build(&rt, alloc, &mut PlainHasher, &NoGate, entries.as_slice())?;
+    let plain = build_alone(alloc, &mut PlainHasher, entries.as_slice())?;
     let built = build(&rt, alloc, &mut PlainHasher, &gate, entries.as_slice())?;
     assert_eq!(rt; built.top, plain.top);
     // 4,096 segments, 256 and 16 inner nodes are hashed in halves, the root is not.
