@@ -1,3 +1,4 @@
+pub mod Ascending
 pub mod Contents
 pub mod Keeping
 pub mod Same

@@ -1,11 +1,7 @@
 -- Loops over the sources that have finished.
-use Rattle.std.proofs.Common.{◌≡◌, ℕ, zero, suc, ◌+◌, ◌<◌, ◌≤◌, Bool, true, false, List, [], ◌∷◌, ◌++◌, length, get_or, take, drop, refl, ap, sym, ◌∙◌, arith, append_assoc}
+use Rattle.std.proofs.Common.{◌≡◌, ℕ, zero, suc, ◌+◌, ◌<◌, ◌≤◌, false, List, [], ◌∷◌, length, get_or, drop, refl, ap, arith}
 use Rattle.std.specs.Prelude.{◌==◌, ◌&&◌, ◌||◌}
-use Rattle.std.specs.List.{fold, flat_map}
 use Rattle.std.proofs.lemmas.List.{drop_more}
-use Rattle.std.proofs.lemmas.List.Sums.{fold_more}
-use Rattle.ens_base.specs.declared.entry.Entry.{Entry}
-use Rattle.sync_rule.specs.Merges.{with_entry, with_entries}
 use Rattle.sync_rule.specs.Syncs.{is_source, is_trusted_source}
 use Rattle.sync_rule.specs.declared.sync.Source.{Source}
 

@@ -1,12 +1,11 @@
 -- What sufficient sources tell.
-use Rattle.std.proofs.Common.{◌≡◌, ℕ, Bool, true, false, List, [], ◌∷◌, ◌++◌, arith, refl, sym, ◌∙◌, inl, inr}
-use Rattle.std.specs.Prelude.{◌||◌, ◌&&◌, ◌==◌, not}
+use Rattle.std.proofs.Common.{◌≡◌, ℕ, Bool, true, false, List, [], ◌∷◌, ◌++◌, arith, refl, inl, inr}
 use Rattle.ens_base.specs.Lists.{◌∈◌}
 use Rattle.ens_base.specs.declared.entry.Entry.{Entry}
 use Rattle.joint_views.specs.Quorums.{is_majority, has_all, Meet}
 use Rattle.joint_views.proofs.Majorities.{majority_more, meet_of_majorities}
 use Rattle.sync_rule.specs.Sources.{suffice, HasTeller}
-use Rattle.sync_rule.specs.Syncs.{is_source, is_trusted_source, is_own_source, has_finished, is_trusted, is_awaited, with_source, is_over}
+use Rattle.sync_rule.specs.Syncs.{is_source, is_trusted_source, has_finished, is_trusted, is_awaited, with_source, is_over}
 use Rattle.sync_rule.specs.declared.sync.Source.{Source}
 use Rattle.sync_rule.specs.declared.sync.Sync.{Sync}
 

@@ -1,5 +1,6 @@
 -- How a merge is kept: the version and the digest of each key, in the order of the keys.
-use Rattle.std.specs.Prelude.{ℕ, Bool, false, not, List, Option, None, Some, map}
+use Rattle.std.specs.Prelude.{◌≤◌, ℕ, Bool, false, not, List, length, Option, None, Some, map}
+use Rattle.std.specs.List.{AllByRecursion}
 use Rattle.std.specs.Ordering.{on, then_cmp, is_lt}
 use Rattle.ens_base.specs.Epochs.{version_cmp}
 use Rattle.ens_base.specs.Lists.{bytes_cmp}
@@ -21,6 +22,10 @@ is_below a b = is_lt (then_cmp (on (λ r. r.version) version_cmp) (on (λ r. r.d
 abbrev pub is_at_least : Option Rank → Rank → Bool
 is_at_least None rank = false
 is_at_least (Some held) rank = not (is_below held rank)
+
+-- no key is empty
+abbrev pub HaveKeys : List Entry → Type 0
+HaveKeys es = AllByRecursion (λ e. 1 ≤ length e.key) es
 
 -- the version and the digest of an entry
 abbrev pub rank_of : Entry → Rank

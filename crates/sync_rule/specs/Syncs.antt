@@ -1,5 +1,5 @@
 -- The sources of a sync that have finished, and what follows.
-use Rattle.std.specs.Prelude.{ℕ, Bool, true, false, not, ◌&&◌, ◌||◌, ◌==◌, if◌then◌else◌, List, [], ◌∷◌, ◌++◌, length}
+use Rattle.std.specs.Prelude.{ℕ, Bool, true, false, not, ◌&&◌, ◌||◌, ◌==◌, if◌then◌else◌, List, [], ◌∷◌, ◌++◌}
 use Rattle.std.specs.List.{flat_map}
 use lib.Pointwise.{pointwise}
 use Rattle.ens_base.specs.Epochs.{same_version}
@@ -9,6 +9,7 @@ use Rattle.ens_base.specs.Views.{last_view}
 use Rattle.peer_fact.specs.declared.fact.Fact.{Fact}
 use Rattle.tree_node.specs.declared.body.Scan.{Scan}
 use Rattle.tree_node.specs.declared.position.Position.{Position}
+use Rattle.tree_node.specs.Entries.{AreAbove}
 use Rattle.joint_views.specs.Quorums.{is_in}
 use Rattle.sync_rule.specs.declared.sync.Outcome.{Outcome}
 use Rattle.sync_rule.specs.declared.sync.Outcome.TheVariants.{Pending, Trusted}
@@ -73,6 +74,11 @@ is_over sync = suffice (is_trusted sync) (has_finished sync) sync.view
 -- the merged entries once the sources suffice
 abbrev pub outcome_of : Sync → Outcome
 outcome_of sync = if is_over sync then Trusted (merged (all_entries sync)) else Pending
+
+-- a tree can be built from the merged entries: their keys ascend strictly, the first above no bytes
+abbrev pub MayBeBuilt : Outcome → Type 0
+MayBeBuilt Pending = Unit {0}
+MayBeBuilt (Trusted entries) = AreAbove [] entries
 
 -- whether two entries are equal
 abbrev pub same_entry : Entry → Entry → Bool

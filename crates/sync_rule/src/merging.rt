@@ -1,8 +1,9 @@
-ghost use Rattle.std.specs.Prelude.{◌≡◌, [], IfOk, OnOk};
+ghost use Rattle.std.specs.Prelude.{◌≡◌, ◌≤◌, ◌++◌, ◌∷◌, [], length, IfOk, OnOk};
 ghost use Rattle.std.specs.BTreeMap.{get};
 ghost use Rattle.ens_base.specs.Lists.{bytes_cmp};
+ghost use Rattle.tree_node.specs.Entries.{AreAbove};
 ghost use Rattle.sync_rule.specs.Merges.{with_entry, with_entries};
-ghost use Rattle.sync_rule.specs.Ranks.{is_at_least};
+ghost use Rattle.sync_rule.specs.Ranks.{entry_at, entries_of, is_at_least, HaveKeys};
 
 use crate::error::SyncError;
 use ens_base::{Digest, Entry, Key, Version};
@@ -57,6 +58,32 @@ fn is_held(ranks: &BTreeMap<Key, Rank>, key: &Key, rank: Rank) -> bool
     }
 }
 
+/// Appends the entry of a key with this rank. Fails only when out of memory.
+fn push_entry(entries: &mut Vec<Entry>, key: Key, rank: Rank) -> Result<(), SyncError>
+    ensures entries { OnOk result (entries.new.items ≡ entries.old.items ++ entry_at (key, rank) ∷ []) }
+    ensures key { 1 ≤ length key }
+{
+    prove!(key.bytes().len() >= Key::LEAST);
+    entries.push(Entry {
+        key,
+        version: rank.version,
+        digest: rank.digest,
+    })?;
+    Ok(())
+}
+
+/// Returns the entries of these ranks. Fails only when out of memory.
+fn entries_in(alloc: Global, ranks: BTreeMap<Key, Rank>) -> Result<Vec<Entry>, SyncError>
+    ensures entries { IfOk result (λ es. es.items ≡ entries_of ranks.entries) }
+    ensures keys { IfOk result (λ es. HaveKeys es.items) }
+{
+    let mut entries = Vec::new(alloc);
+    for (key, rank) in ranks {
+        push_entry(&mut entries, key, rank)?;
+    }
+    Ok(entries)
+}
+
 impl Merge {
     /// Makes the merge of no entries.
     pub fn new(alloc: Global) -> Merge
@@ -92,19 +119,14 @@ impl Merge {
         Ok(())
     }
 
-    /// Returns the merged entries. Fails only when out of memory.
+    /// Returns the merged entries. Their keys ascend strictly, and none is empty. Fails only when
+    /// out of memory.
+    #[tactic(auto, using(crate::proofs::Ascending::merge_above))]
     pub fn into_entries(self, alloc: Global) -> Result<Vec<Entry>, SyncError>
-        ensures { IfOk result (λ es. es.items ≡ self) }
+        ensures entries { IfOk result (λ es. es.items ≡ self) }
+        ensures above { IfOk result (λ es. AreAbove [] es.items) }
     {
         let Merge { ranks } = self;
-        let mut entries = Vec::new(alloc);
-        for (key, rank) in ranks {
-            entries.push(Entry {
-                key,
-                version: rank.version,
-                digest: rank.digest,
-            })?;
-        }
-        Ok(entries)
+        entries_in(alloc, ranks)
     }
 }

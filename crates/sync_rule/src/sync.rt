@@ -1,7 +1,8 @@
-ghost use Rattle.std.specs.Prelude.{◌≡◌, IfOk, OnOk, OnErr};
+ghost use Rattle.std.specs.Prelude.{◌≡◌, [], IfOk, OnOk, OnErr};
+ghost use Rattle.tree_node.specs.Entries.{AreAbove};
 ghost use Rattle.joint_views.specs.Quorums.{is_majority, has_all};
 ghost use Rattle.sync_rule.specs.Merges.{merged, with_entries};
-ghost use Rattle.sync_rule.specs.Syncs.{begun, is_clean, is_source, is_trusted_source, is_own_source, has_finished, is_trusted, is_awaited, with_source, all_entries, is_over, outcome_of, needs_build as is_build_needed, same_entries};
+ghost use Rattle.sync_rule.specs.Syncs.{begun, is_clean, is_source, is_trusted_source, is_own_source, has_finished, is_trusted, is_awaited, with_source, all_entries, is_over, outcome_of, MayBeBuilt, needs_build as is_build_needed, same_entries};
 
 use crate::error::SyncError;
 use crate::merging::Merge;
@@ -177,7 +178,8 @@ impl Sync {
     }
 
     fn merged(&self, alloc: Global) -> Result<Vec<Entry>, SyncError>
-        ensures { IfOk result (λ es. es.items ≡ merged (all_entries self.now)) }
+        ensures entries { IfOk result (λ es. es.items ≡ merged (all_entries self.now)) }
+        ensures above { IfOk result (λ es. AreAbove [] es.items) }
     {
         let mut merge = Merge::new(alloc);
         merge.add_all(alloc, self.scan.entries.as_slice())?;
@@ -187,9 +189,11 @@ impl Sync {
         merge.into_entries(alloc)
     }
 
-    /// Returns what the sync has come to. Fails only when out of memory.
+    /// Returns what the sync has come to. A tree can be built from the merged entries. Fails only
+    /// when out of memory.
     pub fn outcome(&self, alloc: Global) -> Result<Outcome, SyncError>
-        ensures { IfOk result (λ o. o ≡ outcome_of self.now) }
+        ensures outcome { IfOk result (λ o. o ≡ outcome_of self.now) }
+        ensures above { IfOk result (λ o. MayBeBuilt o) }
     {
         if self.is_over() {
             Ok(Outcome::Trusted(Seq::new(self.merged(alloc)?)))

@@ -1,0 +1,4 @@
+pub mod Asks
+pub mod Rows
+pub mod Running
+pub mod Sends

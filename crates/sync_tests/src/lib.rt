@@ -1,0 +1,10 @@
+//! Tests of syncs that run, over public calls alone.
+//!
+//! Peer 1 syncs with peers 2 and 3. The MD5 of the key `abc` begins with the nibbles 9, 0 and 0
+//! (RFC 1321), so that its entry stands in the segment of this index.
+#![tactic(auto)]
+
+#[cfg(test)]
+mod builders;
+#[cfg(test)]
+mod sync_tests;
