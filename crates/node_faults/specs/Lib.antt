@@ -1,0 +1,3 @@
+pub mod Naming
+pub mod Faults
+pub mod Laws

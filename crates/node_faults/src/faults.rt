@@ -1,0 +1,92 @@
+ghost use Rattle.std.specs.Prelude.{◌≡◌, ◌≤◌, ◌<◌, ◌^◌, IfErr, OnOk, OnErr};
+ghost use Rattle.tree_node.specs.Positions.{IsPosition};
+ghost use Rattle.tree_maps.specs.Sixteen.{sixteen};
+ghost use Rattle.node_faults.specs.Faults.{place_at, replaced, spoiled_node};
+ghost use Rattle.node_faults.specs.Naming.{segment_place};
+
+use crate::naming::{named_at, segment_of};
+use ens_base::{Bytes, Digest, Key};
+use ens_outside::StoreError;
+use std::alloc::Global;
+use tree_node::Position;
+use world_stores::HeldNodes;
+
+/// Stores `bytes` under `digest`, or removes the node under it if `bytes` is `None`.
+fn replace(
+    alloc: Global,
+    nodes: &mut HeldNodes,
+    digest: &Digest,
+    bytes: &Option<Bytes>,
+) -> Result<(), StoreError>
+    ensures ok { OnOk result (nodes.new ≡ record nodes.old { entries = replaced digest.now bytes.now nodes.old.entries }) }
+    ensures err { OnErr result (nodes.new ≡ nodes.old) }
+    ensures memory { IfErr result (λ e. e ≡ StoreError.Memory) }
+{
+    match bytes {
+        None => {
+            nodes.lose(digest);
+            Ok(())
+        }
+        Some(bytes) => nodes.place(alloc, digest, bytes.as_slice()),
+    }
+}
+
+/// Replaces the bytes of the node that the stored nodes name at a position, or removes that node.
+fn damage_at(
+    alloc: Global,
+    nodes: &mut HeldNodes,
+    at: Position,
+    bytes: &Option<Bytes>,
+) -> Result<(), StoreError>
+    requires { IsPosition at }
+    ensures ok { OnOk result (nodes.new ≡ spoiled_node at bytes.now nodes.old) }
+    ensures err { OnErr result (nodes.new ≡ nodes.old) }
+    ensures memory { IfErr result (λ e. e ≡ StoreError.Memory) }
+{
+    match named_at(alloc, nodes, at)? {
+        Some(digest) => replace(alloc, nodes, &digest, bytes),
+        None => Ok(()),
+    }
+}
+
+/// Replaces the bytes of the segment of `key`, or removes that node if `bytes` is `None`. Changes
+/// nothing if the stored nodes name no such segment.
+///
+/// # Errors
+///
+/// `Memory` when out of memory, which leaves the nodes unchanged.
+pub fn damage(
+    alloc: Global,
+    nodes: &mut HeldNodes,
+    key: &Key,
+    bytes: &Option<Bytes>,
+) -> Result<(), StoreError>
+    ensures ok { OnOk result (nodes.new ≡ spoiled_node (segment_place sixteen key.now) bytes.now nodes.old) }
+    ensures err { OnErr result (nodes.new ≡ nodes.old) }
+    ensures memory { IfErr result (λ e. e ≡ StoreError.Memory) }
+{
+    damage_at(alloc, nodes, segment_of(key), bytes)
+}
+
+/// Replaces the bytes of the inner node at this level, 0 to 2, and index, below 16 to the power of
+/// the level, or removes that node if `bytes` is `None`. Changes nothing if the stored nodes name no
+/// such node.
+///
+/// # Errors
+///
+/// `Memory` when out of memory, which leaves the nodes unchanged.
+pub fn inner(
+    alloc: Global,
+    nodes: &mut HeldNodes,
+    level: u8,
+    index: u32,
+    bytes: &Option<Bytes>,
+) -> Result<(), StoreError>
+    requires level { level ≤ 2 }
+    requires index { index < 16 ^ level }
+    ensures ok { OnOk result (nodes.new ≡ spoiled_node (place_at level index) bytes.now nodes.old) }
+    ensures err { OnErr result (nodes.new ≡ nodes.old) }
+    ensures memory { IfErr result (λ e. e ≡ StoreError.Memory) }
+{
+    damage_at(alloc, nodes, Position { level, index }, bytes)
+}

@@ -1,0 +1,111 @@
+ghost use Rattle.std.specs.Prelude.{◌≡◌, ◌-◌, ◌/◌, ◌≤◌, ◌<◌, IfOk, IfErr, get_or, None};
+ghost use Rattle.tree_node.specs.Positions.{IsPosition};
+ghost use Rattle.tree_maps.specs.Sixteen.{sixteen, children_of};
+ghost use Rattle.node_faults.specs.Naming.{child_in as child_encoded, child_under as child_stored, named_at as digest_at, segment_place};
+
+use ens_base::{Digest, Key};
+use ens_hashing::digest_of;
+use ens_outside::StoreError;
+use std::alloc::Global;
+use synctree::{DEPTH, children};
+use tree_node::{InnerNode, NodeError, Position, decode_inner};
+use world_stores::HeldNodes;
+
+/// Returns the position of the parent.
+fn parent(at: Position) -> Position
+    requires { 0 < at.level }
+    ensures { result ≡ record { level = at.level - 1; index = at.index / 16 } }
+{
+    Position {
+        level: at.level - 1,
+        index: at.index / 16,
+    }
+}
+
+/// Returns the digest of child `digit` of the node, or `None` if there is no such child. Fails only
+/// when out of memory.
+fn child_of(alloc: Global, node: &InnerNode, digit: u8) -> Result<Option<Digest>, StoreError>
+    ensures found { IfOk result (λ o. o ≡ get_or (children_of node.now.mask node.now.digests) digit None) }
+    ensures memory { IfErr result (λ e. e ≡ StoreError.Memory) }
+{
+    let Ok(all) = children(alloc, node) else {
+        return Err(StoreError::Memory);
+    };
+    match all.as_slice().get(digit as usize) {
+        Some(child) => Ok(*child),
+        None => Ok(None),
+    }
+}
+
+/// Returns the digest of child `digit` in bytes that encode the inner node of a position, or `None`
+/// if there is no such child, or the bytes encode no such node. Fails only when out of memory.
+#[tactic(auto, unfolding(tree_maps::specs::Sixteen::sixteen))]
+fn child_in(
+    alloc: Global,
+    bytes: &[u8],
+    at: Position,
+    digit: u8,
+) -> Result<Option<Digest>, StoreError>
+    requires { IsPosition at }
+    ensures found { IfOk result (λ o. o ≡ child_encoded sixteen at digit bytes.now) }
+    ensures memory { IfErr result (λ e. e ≡ StoreError.Memory) }
+{
+    match decode_inner(alloc, bytes, at) {
+        Ok(node) => child_of(alloc, &node, digit),
+        Err(NodeError::Memory) => Err(StoreError::Memory),
+        Err(_) => Ok(None),
+    }
+}
+
+/// Returns the digest of child `digit` of the inner node stored under the digest, or `None` if there
+/// is no such child or no such node. Fails only when out of memory.
+fn child_under(
+    alloc: Global,
+    nodes: &HeldNodes,
+    at: Position,
+    digit: u8,
+    digest: &Digest,
+) -> Result<Option<Digest>, StoreError>
+    requires { IsPosition at }
+    ensures found { IfOk result (λ o. o ≡ child_stored sixteen nodes.now.entries at digit digest.now) }
+    ensures memory { IfErr result (λ e. e ≡ StoreError.Memory) }
+{
+    match nodes.look(digest) {
+        Some(bytes) => child_in(alloc, bytes, at, digit),
+        None => Ok(None),
+    }
+}
+
+/// Returns the digest that the stored nodes name at a position, or `None` if they name none. Fails
+/// only when out of memory.
+pub(crate) fn named_at(
+    alloc: Global,
+    nodes: &HeldNodes,
+    at: Position,
+) -> Result<Option<Digest>, StoreError>
+    requires { IsPosition at }
+    ensures found { IfOk result (λ o. o ≡ digest_at sixteen nodes.now at) }
+    ensures memory { IfErr result (λ e. e ≡ StoreError.Memory) }
+{
+    if at.level == 0 {
+        return Ok(nodes.top_record());
+    }
+    let above = parent(at);
+    let digit = (at.index % 16) as u8;
+    match named_at(alloc, nodes, above)? {
+        Some(digest) => child_under(alloc, nodes, above, digit, &digest),
+        None => Ok(None),
+    }
+}
+
+/// Returns the position of the segment of a key.
+pub(crate) fn segment_of(key: &Key) -> Position
+    ensures place { result ≡ segment_place sixteen key.now }
+    ensures position { IsPosition result }
+{
+    let digest = digest_of(key.bytes());
+    Position {
+        level: DEPTH,
+        index: 16 * u32::from(digest.0[0]) + u32::from(digest.0[1] / 16),
+    }
+}
