@@ -17,9 +17,10 @@ use Rattle.synctree.specs.declared.error.TreeError.{TreeError}
 use Rattle.synctree.specs.declared.error.TreeError.TheVariants as trees
 use Rattle.tree_maps.specs.Sixteen.{sixteen}
 use Rattle.tree_node.specs.declared.position.Position.{Position}
+use Rattle.tree_repair.specs.Rebuilds.{rebuild_plan}
 use Rattle.tree_verify.specs.Levels.{scan_plan}
 use Rattle.peer_core.specs.Stores.{TreeAlone}
-use Rattle.peer_core.specs.TreeCalls.{Walks, Halts, Changes, end_of, peer_error, rebuild_plan}
+use Rattle.peer_core.specs.TreeCalls.{Walks, Halts, Changes, end_of, peer_error}
 use Rattle.world_stores.specs.Faults.{spent}
 use Rattle.world_stores.specs.Nodes.{Nodes}
 use Rattle.world_stores.specs.Objects.{Objects}

@@ -4,7 +4,6 @@ use Rattle.md5.specs.Md5.{md5}
 use Rattle.ens_outside.specs.Failures.{left_by}
 use Rattle.ens_outside.specs.Maps.{value_at, with_value}
 use Rattle.ens_outside.specs.declared.memory.failing_call.Leaves.{Leaves}
-use Rattle.peer_core.specs.TreeCalls.{rebuild_plan}
 use Rattle.step_plans.specs.Calls.{Call, Load, Save, FreshTree, OpenTree, Find, Enter, ScanTree, ReadNode, Install, Fetch, Put, Hash, AnswerOf}
 use Rattle.step_plans.specs.declared.walked.Walked.{Walked}
 use Rattle.step_plans.specs.declared.walked.Walked.TheVariants.{Reached, Broken}
@@ -14,6 +13,7 @@ use Rattle.synctree.specs.Nodes.{node_plan}
 use Rattle.synctree.specs.Plans.{Plan}
 use Rattle.synctree.specs.Trees.{open_plan, fresh_plan, get_plan, insert_plan}
 use Rattle.tree_maps.specs.Sixteen.{sixteen}
+use Rattle.tree_repair.specs.Rebuilds.{rebuild_plan}
 use Rattle.tree_verify.specs.Levels.{scan_plan}
 use Rattle.world_stores.specs.Faults.{spent}
 use Rattle.world_stores.specs.Objects.{Objects}

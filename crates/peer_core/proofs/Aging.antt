@@ -14,11 +14,12 @@ use Rattle.election.specs.Starting.{row_4}
 use Rattle.election.specs.declared.election.Election.{Election}
 use Rattle.election.specs.declared.election.Election.TheVariants.{Preparing, Starting}
 use Rattle.following.specs.Refusals.{is_served}
-use Rattle.following.specs.Requests.{row_21, row_22}
+use Rattle.following.specs.Requests.{row_21, row_22, row_23}
 use Rattle.following.specs.declared.follower.Follower.{Follower}
 use Rattle.joint_views.specs.Quorums.{is_member}
 use Rattle.kept_objects.specs.Kept.{entry_of, matching, object_in}
 use Rattle.leader_words.specs.declared.out.LeadOut.{LeadOut}
+use Rattle.leader_words.specs.declared.out.Outgoing.{Outgoing}
 use Rattle.leader_words.specs.declared.out.Own.{Own}
 use Rattle.leader_words.specs.declared.out.Own.TheVariants as owns
 use Rattle.leading.specs.Puts.{row_35_reply}
@@ -29,10 +30,19 @@ use Rattle.leading.specs.Ticks.{aged, is_late}
 use Rattle.leading.specs.declared.leader.Leader.{Leader}
 use Rattle.leading.proofs.TimeOuts.{row_5_ticks}
 use Rattle.peer_fact.specs.declared.fact.Fact.{Fact}
-use Rattle.phase_rows.specs.Orders.{is_joint}
+use Rattle.phase_rows.specs.Orders.{is_joint, is_same}
+use Rattle.phase_rows.specs.Peers.{joined}
 use Rattle.phase_rows.specs.Rows.{silent}
+use Rattle.running_sync.specs.Rows.{row_start, row_resume, row_take}
+use Rattle.running_sync.specs.Running.{Running}
+use Rattle.running_sync.specs.declared.asking.Give.{Give}
+use Rattle.exchange.specs.declared.question.Question.{Question}
+use Rattle.sync_rule.specs.Syncs.{needs_build, outcome_of}
+use Rattle.sync_rule.specs.declared.sync.Outcome.{Outcome}
+use Rattle.sync_rule.specs.declared.sync.Outcome.TheVariants.{Pending, Trusted}
+use Rattle.tree_node.specs.declared.position.Position.{Position}
 use Rattle.register_model.specs.declared.note.Note.{Note}
-use Rattle.step_plans.specs.Calls.{Call, Save, Find, Enter, Fetch, Put, Hash}
+use Rattle.step_plans.specs.Calls.{Call, Save, Find, Enter, ScanTree, ReadNode, Install, Fetch, Put, Hash}
 use Rattle.step_plans.specs.Plans.{Plan, Done, Out, nothing, Rest, Part, Follows, asked, noted}
 use Rattle.step_plans.specs.Sends.{posted_to}
 use Rattle.step_plans.specs.Tasks.{named, keyed}
@@ -48,12 +58,13 @@ use Rattle.wire_frames.specs.declared.phase.Seen.TheVariants as seens
 use Rattle.wire_frames.specs.declared.phase.Then.{Then}
 use Rattle.wire_frames.specs.declared.phase.Then.TheVariants as thens
 use Rattle.peer_core.specs.Ages.{IsYoung, IsYoungChange, IsYoungElection}
-use Rattle.peer_core.specs.Drives.{saved, and_sends, row_done, owned, own_key, followed_up, and_row, lead_done, lead, reminded, task_done, driven, ticked, shown, after_put, put_done, delivered, first, most_turns, responded, concluded, step_of, MayCome}
+use Rattle.peer_core.specs.Drives.{row_done, owned, own_key, followed_up, and_row, lead_done, lead, reminded, task_done, driven, ticked, shown, after_put, put_done, delivered, first, most_turns, responded, concluded, step_of, MayCome}
+use Rattle.peer_core.specs.Syncs.{saved, and_sends, with_sync, installed, accepted, accepted_own, accepted_in, synced, ended_with, gone_on, resumed_sync, followed_on, reached, own_node, body_of, shown_node, needs_node, taken_give}
 use Rattle.peer_core.specs.Kept.{IsStepCall}
 use Rattle.peer_core.specs.Leading.{older, end_of, row_5_calls, wished}
-use Rattle.peer_core.specs.Moves.{left, left_answers, turned, turned_answers, leading, with_leader, electing, following, probing}
+use Rattle.peer_core.specs.Moves.{left, left_answers, turned, turned_answers, leading, with_leader, electing, following, probing, without_sync}
 use Rattle.peer_core.specs.Owns.{digested, read, kept, fetched, held, looked_at, looked, found_at, found, entered, written, confirmed}
-use Rattle.peer_core.specs.Rows.{begun, phase_row, received, asked_change, leads, changes}
+use Rattle.peer_core.specs.Rows.{runs_sync, begun, phase_row, received, asked_change, leads, changes}
 use Rattle.peer_core.specs.declared.event.Event.{Event}
 use Rattle.peer_core.specs.declared.event.Event.TheVariants as events
 use Rattle.peer_core.specs.declared.state.ChangeState.{ChangeState}
@@ -132,6 +143,18 @@ module _ (P : State → Out → Type 0) where
   noted_follows [] p follows = follows
   noted_follows (n ∷ notes) p follows = noted_follows notes p follows
 
+  pub installed_asks : (needed : Bool) (entries : List Entry) → Asks (installed needed entries)
+  installed_asks true entries x out next go = asked_asks (Install entries) tt x out next go
+  installed_asks false entries x out next go = go tt
+
+  pub own_node_asks : (needed : Bool) (at : Position) → Asks (own_node needed at)
+  own_node_asks true at x out next go = asked_asks (ReadNode at) tt x out (λ walked y o. next (reached walked) y o) (λ walked. go (reached walked))
+  own_node_asks false at x out next go = go None
+
+  pub shown_node_asks : (answered : Bool) (q : Question) → Asks (shown_node answered q)
+  shown_node_asks true q x out next go = asked_asks (ReadNode q.position) tt x out (λ walked y o. next (Some (body_of q walked)) y o) (λ walked. go (Some (body_of q walked)))
+  shown_node_asks false q x out next go = go None
+
   pub shown_asks : (served : Bool) (part : Part State Seen) → Asks part → Asks (shown served part)
   shown_asks true part asks x out next go = asks x out next go
   shown_asks false part asks x out next go = go seens.Nothing
@@ -189,12 +212,55 @@ module _ (me : ℕ) (peer : IsPeer me) (P : State → Out → Type 0) where
   saved_passes (Some fact) x out next young go =
       asked_asks P (Save fact) tt x out (λ u y o. next tt (record y { fact = fact }) o) (λ u. go tt (record x { fact = fact }) out young)
 
+  accepted_own_passes : (e : Election) → IsYoungElection e → Passes (accepted_own me e)
+  accepted_own_passes (Starting new accepts age) is x out next young go = go (tasks.Phase 14 ∷ []) (electing (Starting new (joined me accepts) age) x) out is
+  accepted_own_passes (Preparing base promises asked age) is x out next young go = go [] x out young
+
+  accepted_in_passes : (fact : Fact) (phase : Phase) → IsYoung phase → Passes (accepted_in me fact phase)
+  accepted_in_passes fact (phases.Electing e) is x out next young go = accepted_own_passes e is x out next young go
+  accepted_in_passes fact (phases.Following f) is x out next young go = go [] x (and_sends out (accepted me fact)) young
+  accepted_in_passes fact (phases.Probing p) is x out next young go = go [] x out young
+  accepted_in_passes fact (phases.Leading l) is x out next young go = go [] x out young
+
+  synced_passes : (r : Running) (entries : List Entry) → Passes (synced me r entries)
+  synced_passes r entries x out next young go =
+      installed_asks P (needs_build r.sync.scan entries) entries (without_sync x) out
+      (λ u y o. saved (Some r.fact) y o (λ v z p. accepted_in me r.fact z.phase (record z { trusted = true }) p next))
+      (λ u. saved_passes (Some r.fact) (without_sync x) out (λ v z p. accepted_in me r.fact z.phase (record z { trusted = true }) p next) young
+      (λ v z p fine. accepted_in_passes r.fact z.phase fine (record z { trusted = true }) p next fine go))
+
+  ended_with_passes : (r : Running) (outcome : Outcome) → Passes (ended_with me r outcome)
+  ended_with_passes r Pending x out next young go = go [] (with_sync r x) out young
+  ended_with_passes r (Trusted entries) x out next young go = synced_passes r entries x out next young go
+
+  gone_on_passes : (r : Running × List Outgoing) → Passes (gone_on me r)
+  gone_on_passes r x out next young go = ended_with_passes r.0 (outcome_of r.0.sync) x (and_sends out r.1) next young go
+
+  resumed_passes : (running : Option Running) → Passes (resumed_sync running)
+  resumed_passes None x out next young go = go [] x out young
+  resumed_passes (Some r) x out next young go = go [] (with_sync (row_resume r).0 x) (and_sends out (row_resume r).1) young
+
+  followed_on_passes : (t : Then) → Passes (followed_on me t)
+  followed_on_passes (thens.SyncOn fact) x out next young go =
+      asked_asks P ScanTree tt x out (λ scan y o. gone_on me (row_start fact me y.trusted scan) y o next) (λ scan. gone_on_passes (row_start fact me x.trusted scan) x out next young go)
+  followed_on_passes thens.Resume x out next young go = resumed_passes x.sync x out next young go
+  followed_on_passes (thens.Rule n) x out next young go = go (named (thens.Rule n)) x out young
+  followed_on_passes thens.Stay x out next young go = go [] x out young
+  followed_on_passes thens.Follow x out next young go = go [] x out young
+  followed_on_passes (thens.Lead fact) x out next young go = go [] x out young
+  followed_on_passes thens.Untrust x out next young go = go [] x out young
+  followed_on_passes thens.Put x out next young go = go [] x out young
+
+  taken_give_passes : (from : ℕ) (give : Give) (own : Option (List ℕ)) (running : Option Running) → Passes (taken_give me from give own running)
+  taken_give_passes from give own None x out next young go = go [] x out young
+  taken_give_passes from give own (Some r) x out next young go = gone_on_passes (row_take from give own r) x out next young go
+
   pub row_done_passes : (row : PhaseOut) → Passes (row_done me row)
   row_done_passes row x out next young go =
       saved_passes row.save (left row.leave x) (left_answers row.leave x out)
-      (λ u y o. next (named row.then) (turned me row.then y) (turned_answers row.then y (and_sends o (posted_to row.to row.message))))
+      (λ u y o. followed_on me row.then (turned me row.then y) (turned_answers row.then y (and_sends o (posted_to row.to row.message))) next)
       (left_young row.leave x young)
-      (λ u y o fine. go (named row.then) (turned me row.then y) (turned_answers row.then y (and_sends o (posted_to row.to row.message))) (turned_young me row.then y fine))
+      (λ u y o fine. followed_on_passes row.then (turned me row.then y) (turned_answers row.then y (and_sends o (posted_to row.to row.message))) next (turned_young me row.then y fine) go)
 
   followed_up_passes : (n : ℕ) (own : Option Own) (turn : Then) (keys : List (List ℕ)) → Passes (followed_up me n own turn keys)
   followed_up_passes n None turn keys x out next young go = go (keyed turn keys) (turned me turn x) (turned_answers turn x out) (turned_young me turn x young)
@@ -267,7 +333,7 @@ module _ (me : ℕ) (peer : IsPeer me) (P : State → Out → Type 0) where
     where
       by_test : (t : Bool) → (age + 1 == 8) ≡ t → Follows IsStepCall P (ticked me (phases.Electing (Starting new accepts age)) x out (onward next))
       by_test true e = rw e (onward_goes next go [] _ _ (lit< tt))
-      by_test false e = row_done_passes (row_4 (Starting new accepts age) me false).1 (electing (row_4 (Starting new accepts age) me false).0 x) out (onward next)
+      by_test false e = row_done_passes (row_4 (Starting new accepts age) me (runs_sync x.sync)).1 (electing (row_4 (Starting new accepts age) me (runs_sync x.sync)).0 x) out (onward next)
           (tt, older_spent age young.1 e) (onward_goes next go)
 
   ticked_passes : (phase : Phase) → IsYoung phase → (x : State) (out : Out) (next : Rest State (Unit {0})) → Goes next → Follows IsStepCall P (ticked me phase x out (onward next))
@@ -299,6 +365,14 @@ module _ (me : ℕ) (peer : IsPeer me) (P : State → Out → Type 0) where
       (go [] x out young)
   delivered_passes from other (messages.PutReply ballot key version) x out next young go = lead_passes (row_35_reply from ballot key version) 35 x.phase young x out next young go
   delivered_passes from other (messages.CheckReply ballot round) x out next young go = lead_passes (row_33_reply from ballot round) 33 x.phase young x out next young go
+  delivered_passes from other (messages.TreeAsk ballot at after) x out next young go =
+      let q : Question = record { position = at; after = after } in
+      shown_node_asks P (is_same ballot x.fact.ballot) q x out (λ body y o. row_done me (row_23 y.fact y.trusted from ballot q.position q.after body) y o next)
+      (λ body. row_done_passes (row_23 x.fact x.trusted from ballot at after body) x out next young go)
+  delivered_passes from other (messages.TreeGive ballot at after trusted body) x out next young go =
+      let give : Give = record { ballot = ballot; question = record { position = at; after = after }; trusted = trusted; body = body } in
+      own_node_asks P (needs_node from give x.sync) at x out (λ own y o. taken_give me from give own y.sync y o next)
+      (λ own. taken_give_passes from give own x.sync x out next young go)
   delivered_passes from other message x out next young go =
       row_done_passes (received me from message x).1 (received me from message x).0 out next (received_good me peer from message x other young).0 go
 

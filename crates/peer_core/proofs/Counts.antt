@@ -216,9 +216,9 @@ module _ {B N F H : Type 0} (gives : B → (call : BackendCall) → BackendAnswe
   call_error s Load e t is off = absurd is
   call_error s FreshTree e t is off = absurd is
   call_error s OpenTree e t is off = absurd is
-  call_error s ScanTree e t is off = absurd is
-  call_error s (ReadNode at) e t is off = absurd is
-  call_error s (Install entries) e t is off = absurd is
+  call_error s ScanTree e t is off = tree_refusal s e t off.1
+  call_error s (ReadNode at) e t is off = tree_refusal s e t off.1
+  call_error s (Install entries) e t is off = tree_refusal s e t off.1
 
   only_memory : (e : PeerError) → stop e ≡ stop errors.Memory → IsCallError e
   only_memory e same = rw (stopped_injective e errors.Memory same) tt

@@ -1,5 +1,6 @@
 -- The tree of a peer reports damage only at positions of the tree.
-use Rattle.std.proofs.Common.{◌≡◌, ◌<◌, ℕ, zero, suc, Bool, true, false, if◌then◌else◌, List, [], Option, Some, None, Result, Err, subst, arith}
+use Rattle.std.proofs.Common.{◌≡◌, ◌<◌, ◌≤◌, ◌-◌, ◌/◌, ◌%◌, ◌^◌, ◌*◌, lit<, ℕ, zero, suc, Bool, true, false, if◌then◌else◌, List, [], Option, Some, None, Result, Err, subst, arith}
+use Rattle.std.proofs.Math.Nat.{div-lt_iff_lt-mul, pow-suc}
 use Rattle.std.specs.Prelude.{get_or, set, replicate}
 use Rattle.ens_base.specs.Lists.{same_bytes}
 use Rattle.ens_base.specs.declared.entry.Entry.{Entry}
@@ -11,6 +12,7 @@ use Rattle.peer_fact.specs.declared.fact.Fact.{Fact}
 use Rattle.step_plans.specs.Calls.{Call, Load, Save, FreshTree, OpenTree, Find, Enter, ScanTree, ReadNode, Install, Fetch, Put, Hash, AnswerOf}
 use Rattle.step_plans.specs.declared.walked.Walked.TheVariants.{Reached, Broken as Ended}
 use Rattle.synctree.specs.Plans.{Plan, Done, Broken, Ask, ◌>>=◌, Ends, Call as TreeCall, AnswerOf as TreeAnswer}
+use Rattle.synctree.specs.Nodes.{child_name, name_at, is_node, node_bytes, node_under, node_plan}
 use Rattle.synctree.specs.Trees.{get_plan, insert_plan, publish_plan}
 use Rattle.synctree.specs.Walks.{verified, fetch, spelled, open_node, onward, find, reach, store, enter, set_top, from_top}
 use Rattle.synctree.proofs.Places.{position_of}
@@ -114,6 +116,39 @@ insert_inside top e = λ u.
     from_top_inside top (λ digest. publish_plan sixteen digest e)
     (λ digest. then_inside (enter sixteen sixteen.depth root (Some digest) e) set_top (enter_inside sixteen.depth root (Some digest) e (root_place sixteen)) (λ below. set_top_inside below))
 
+-- ## The node at a position
+
+wide : (l i : ℕ) → i < 16 ^ suc l → i < 16 ^ l * 16
+wide l i less = let q = rw (pow-suc 16 l) at less in omega (arith, q)
+
+above_lower : (l : ℕ) → suc l ≤ 3 → l ≤ 3
+above_lower l le = omega (arith, le)
+
+-- the node above a node of the tree is in the tree
+above_place : (l i : ℕ) → IsPosition (record { level = suc l; index = i }) → IsPosition (record { level = l; index = i / 16 })
+above_place l i is = record { level = above_lower l is.level; index = (div-lt_iff_lt-mul {k = 16} {x = i} {y = 16 ^ l} (lit< tt)).1 (wide l i is.index) }
+
+name_inside : (digest : List ℕ) (level index : ℕ) → IsPosition (record { level = level; index = index }) → IsInside (name_at sixteen digest level index)
+unfolding sixteen
+name_inside digest zero index is = tt
+name_inside digest (suc level) index is =
+    let up = above_place level index is in
+    let at : Position = record { level = level; index = index / 16 } in
+    then_inside (name_at sixteen digest level (index / 16)) _ (name_inside digest level (index / 16) up)
+    (λ named. onward_inside None (child_name sixteen at (index % 16)) named
+    (λ below. then_inside (open_node (sixteen.inner_at at) at below) _ (open_inside (sixteen.inner_at at) at below up) (λ names. tt)))
+
+bytes_inside : (at : Position) (digest : List ℕ) → IsPosition at → IsInside (node_bytes sixteen at digest)
+bytes_inside at digest is =
+    then_inside (fetch at digest) _ (fetch_inside at digest is) (λ bytes. choice_inside (is_node sixteen (sixteen.depth - at.level) at bytes) (Done (Some bytes)) (Broken at) tt is)
+
+under_inside : (at : Position) (digest : List ℕ) → IsPosition at → IsInside (node_under sixteen at digest)
+under_inside at digest is =
+    then_inside (name_at sixteen digest at.level at.index) _ (name_inside digest at.level at.index is) (λ named. onward_inside None (node_bytes sixteen at) named (λ below. bytes_inside at below is))
+
+pub node_inside : (top : Option (List ℕ)) (at : Position) → IsPosition at → IsInside (node_plan sixteen top at)
+node_inside top at is = from_top_inside top (node_under sixteen at) (λ digest. under_inside at digest is)
+
 -- the answers of a peer's stores are sound
 module _ {B N F H : Type 0} (gives : B → (call : BackendCall) → BackendAnswer call → B → Type 0) (b : B → ℕ) (reads : N → (call : NodeCall) → NodeAnswer call → N → Type 0)
     (tops : N → Option (Option (List ℕ))) (n : N → ℕ) (tells : F → (call : KeeperCall) → KeeperAnswer call → F → Type 0) (kept : F → Option (Result Fact FactError)) (f : F → ℕ)
@@ -128,7 +163,8 @@ module _ {B N F H : Type 0} (gives : B → (call : BackendCall) → BackendAnswe
   stores_sound s FreshTree a t told = tt
   stores_sound s OpenTree a t told = tt
   stores_sound s ScanTree a t told = tt
-  stores_sound s (ReadNode at) a t told = tt
+  stores_sound s (ReadNode at) (Reached node) t told = λ is. tt
+  stores_sound s (ReadNode at) (Ended place) t told = λ is. walked_inside _ (node_plan sixteen s.0.tree.top at) _ place _ (node_inside s.0.tree.top at is) told.0.0
   stores_sound s (Install entries) a t told = tt
   stores_sound s (Fetch key) a t told = tt
   stores_sound s (Put key bytes) a t told = tt

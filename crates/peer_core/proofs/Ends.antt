@@ -1,5 +1,7 @@
 -- Where a plan that ran to its end arrived.
-use Rattle.std.proofs.Common.{◌≡◌, List, [], ◌∷◌, ◌++◌, inl, inr, subst, arith}
+use Rattle.std.specs.Prelude.{OnOk, is_err}
+use Rattle.std.proofs.Common.{◌≡◌, false, List, [], ◌∷◌, ◌++◌, Result, Ok, Err, inl, inr, subst, arith}
+use Rattle.std.proofs.lemmas.Bool.{true≢false}
 use Rattle.register_model.specs.declared.note.Note.{Note}
 use Rattle.step_plans.specs.Calls.{Call, AnswerOf}
 use Rattle.step_plans.specs.Plans.{Plan, Done, Say, Ask, Out, Finished, Runs, Follows}
@@ -27,3 +29,8 @@ ran_follows does refuses Q P (Ask call next) s ns x out t ms follows ran = elim 
   | inr (inl off) ↦ let none : ⊥ = grind (arith, off.2) in absurd none
   | inr (inr on) ↦ ran_follows does refuses Q P (next on.0) on.1 ns x out t ms (follows.1 on.0) on.3
 ]
+
+-- what holds after a step that ended well
+pub on_ok : {A E P : Type 0} (r : Result A E) → OnOk r P → is_err r ≡ false → P
+on_ok (Ok u) holds well = holds
+on_ok (Err e) holds well = absurd (true≢false well)

@@ -7,7 +7,7 @@ use Rattle.ens_base.specs.declared.epoch.Epoch.{Epoch}
 use Rattle.ens_object.specs.Objects.{object_spelling}
 use Rattle.ens_object.specs.declared.object.Object.{Object}
 use Rattle.following.specs.Refusals.{is_served}
-use Rattle.following.specs.Requests.{row_21, row_22}
+use Rattle.following.specs.Requests.{row_21, row_22, row_23}
 use Rattle.kept_objects.specs.Kept.{entry_of, matching, object_in}
 use Rattle.leader_words.specs.declared.out.AnswerOut.{AnswerOut}
 use Rattle.leader_words.specs.declared.out.LeadOut.{LeadOut}
@@ -20,8 +20,20 @@ use Rattle.leading.specs.Rules.{lead_row}
 use Rattle.leading.specs.Starts.{row_27}
 use Rattle.leading.specs.declared.leader.Leader.{Leader}
 use Rattle.peer_fact.specs.declared.fact.Fact.{Fact}
+use Rattle.phase_rows.specs.Orders.{is_same}
+use Rattle.phase_rows.specs.Peers.{joined}
+use Rattle.election.specs.declared.election.Election.{Election}
+use Rattle.election.specs.declared.election.Election.TheVariants.{Preparing, Starting}
+use Rattle.running_sync.specs.Rows.{row_start, row_resume, row_take}
+use Rattle.running_sync.specs.Running.{Running}
+use Rattle.running_sync.specs.declared.asking.Give.{Give}
+use Rattle.exchange.specs.declared.question.Question.{Question}
+use Rattle.sync_rule.specs.Syncs.{needs_build, outcome_of}
+use Rattle.sync_rule.specs.declared.sync.Outcome.{Outcome}
+use Rattle.sync_rule.specs.declared.sync.Outcome.TheVariants.{Pending, Trusted}
+use Rattle.tree_node.specs.declared.position.Position.{Position}
 use Rattle.register_model.specs.declared.note.Note.{Note}
-use Rattle.step_plans.specs.Calls.{Call, Save, Find, Enter, Fetch, Put, Hash, AnswerOf}
+use Rattle.step_plans.specs.Calls.{Call, Save, Find, Enter, ScanTree, ReadNode, Install, Fetch, Put, Hash, AnswerOf}
 use Rattle.step_plans.specs.Outboxes.{out_of}
 use Rattle.step_plans.specs.Plans.{Plan, Done, Say, Ask, Out, nothing, Rest, Part, Spot, Finished, Stopped, Runs, Did, asked, noted}
 use Rattle.step_plans.specs.Sends.{posted_to}
@@ -41,9 +53,10 @@ use Rattle.wire_frames.specs.declared.phase.Seen.{Seen}
 use Rattle.wire_frames.specs.declared.phase.Seen.TheVariants as seens
 use Rattle.wire_frames.specs.declared.phase.Then.{Then}
 use Rattle.wire_frames.specs.declared.phase.Then.TheVariants as thens
-use Rattle.peer_core.specs.Drives.{saved, and_sends, performed, row_done, owned, own_key, followed_up, and_row, lead_done, lead, reminded, task_done, driven, ticked, shown, got, after_put, put_done, put_in, get_replied, delivered, unavailable, called, and_change, first, responded, concluded, whole, step_of, most_turns}
+use Rattle.peer_core.specs.Drives.{performed, row_done, owned, own_key, followed_up, and_row, lead_done, lead, reminded, task_done, driven, ticked, shown, got, got_ask, after_put, put_done, put_in, get_replied, delivered, unavailable, called, and_change, first, responded, concluded, whole, step_of, most_turns}
+use Rattle.peer_core.specs.Syncs.{saved, and_sends, with_sync, installed, accepted, accepted_own, accepted_in, synced, ended_with, gone_on, begun_sync, resumed_sync, followed_on, reached, own_node, body_of, shown_node, needs_node, taken_give, got_give}
 use Rattle.peer_core.specs.Leading.{row_5_calls, ticks, wished, begins}
-use Rattle.peer_core.specs.Moves.{left, left_answers, and_answers, timeouts, ends_leading, turned, turned_answers, leading, with_leader}
+use Rattle.peer_core.specs.Moves.{left, left_answers, and_answers, timeouts, ends_leading, turned, turned_answers, leading, with_leader, electing, without_sync}
 use Rattle.peer_core.specs.Owns.{digested, read, kept, fetched, held, looked_at, looked, found_at, found, entered, written, confirmed}
 use Rattle.peer_core.specs.Rows.{aged, phase_row, received, asked_change, leads, changes}
 use Rattle.peer_core.specs.declared.event.CallIn.{CallIn}
@@ -106,10 +119,58 @@ module _ (me : ℕ) (a : Out) where
       (λ u y o. rw (sends_after o more) (same tt y (and_sends o more)))
       )
 
+  installed_frames : (needed : Bool) (entries : List Entry) → Frames (installed needed entries)
+  installed_frames true entries x out next later same = asked_frames (Install entries) x out next later same
+  installed_frames false entries x out next later same = same tt x out
+
+  accepted_own_frames : (e : Election) → Frames (accepted_own me e)
+  accepted_own_frames (Starting new accepts age) x out next later same = same (tasks.Phase 14 ∷ []) (electing (Starting new (joined me accepts) age) x) out
+  accepted_own_frames (Preparing base promises sent age) x out next later same = same [] x out
+
+  accepted_in_frames : (fact : Fact) (phase : Phase) → Frames (accepted_in me fact phase)
+  accepted_in_frames fact (phases.Electing e) x out next later same = accepted_own_frames e x out next later same
+  accepted_in_frames fact (phases.Following f) x out next later same = rw (sends_after out (accepted me fact)) (same [] x (and_sends out (accepted me fact)))
+  accepted_in_frames fact (phases.Probing p) x out next later same = same [] x out
+  accepted_in_frames fact (phases.Leading l) x out next later same = same [] x out
+
+  synced_frames : (r : Running) (entries : List Entry) → Frames (synced me r entries)
+  synced_frames r entries x out next later same =
+      installed_frames (needs_build r.sync.scan entries) entries (without_sync x) out
+      (λ u y o. saved (Some r.fact) y o (λ v z p. accepted_in me r.fact z.phase (record z { trusted = true }) p next))
+      (λ u y o. saved (Some r.fact) y o (λ v z p. accepted_in me r.fact z.phase (record z { trusted = true }) p later))
+      (λ u y o. saved_frames (Some r.fact) y o (λ v z p. accepted_in me r.fact z.phase (record z { trusted = true }) p next) (λ v z p. accepted_in me r.fact z.phase (record z { trusted = true }) p later)
+      (λ v z p. accepted_in_frames r.fact z.phase (record z { trusted = true }) p next later same))
+
+  ended_with_frames : (r : Running) (outcome : Outcome) → Frames (ended_with me r outcome)
+  ended_with_frames r Pending x out next later same = same [] (with_sync r x) out
+  ended_with_frames r (Trusted entries) x out next later same = synced_frames r entries x out next later same
+
+  gone_on_frames : (r : Running × List Outgoing) → Frames (gone_on me r)
+  gone_on_frames r x out next later same = rw (sends_after out r.1) (ended_with_frames r.0 (outcome_of r.0.sync) x (and_sends out r.1) next later same)
+
+  begun_sync_frames : (fact : Fact) → Frames (begun_sync me fact)
+  begun_sync_frames fact x out next later same =
+      asked_frames ScanTree x out (λ scan y o. gone_on me (row_start fact me y.trusted scan) y o next) (λ scan y o. gone_on me (row_start fact me y.trusted scan) y o later)
+      (λ scan y o. gone_on_frames (row_start fact me y.trusted scan) y o next later same)
+
+  resumed_frames : (running : Option Running) → Frames (resumed_sync running)
+  resumed_frames None x out next later same = same [] x out
+  resumed_frames (Some r) x out next later same = rw (sends_after out (row_resume r).1) (same [] (with_sync (row_resume r).0 x) (and_sends out (row_resume r).1))
+
+  followed_on_frames : (t : Then) → Frames (followed_on me t)
+  followed_on_frames (thens.SyncOn fact) x out next later same = begun_sync_frames fact x out next later same
+  followed_on_frames thens.Resume x out next later same = resumed_frames x.sync x out next later same
+  followed_on_frames (thens.Rule n) x out next later same = same (named (thens.Rule n)) x out
+  followed_on_frames thens.Stay x out next later same = same [] x out
+  followed_on_frames thens.Follow x out next later same = same [] x out
+  followed_on_frames (thens.Lead fact) x out next later same = same [] x out
+  followed_on_frames thens.Untrust x out next later same = same [] x out
+  followed_on_frames thens.Put x out next later same = same [] x out
+
   row_done_frames : (row : PhaseOut) → Frames (row_done me row)
   row_done_frames row x out next later same =
-      performed_frames row x out (λ u y o. next (named row.then) (turned me row.then y) (turned_answers row.then y o)) (λ u y o. later (named row.then) (turned me row.then y) (turned_answers row.then y o))
-      (λ u y o. rw (left_after (ends_leading row.then) y o) (same (named row.then) (turned me row.then y) (turned_answers row.then y o)))
+      performed_frames row x out (λ u y o. followed_on me row.then (turned me row.then y) (turned_answers row.then y o) next) (λ u y o. followed_on me row.then (turned me row.then y) (turned_answers row.then y o) later)
+      (λ u y o. rw (left_after (ends_leading row.then) y o) (followed_on_frames row.then (turned me row.then y) (turned_answers row.then y o) next later same))
 
   digested_frames : (object : Option Object) (bytes : List ℕ) → Frames (digested object bytes)
   digested_frames None bytes x out next later same = same None x out
@@ -250,6 +311,33 @@ module _ (me : ℕ) (a : Out) where
       (λ named y o. lead (row_29_reply from ballot round key entry named) me 29 y.phase y o later)
       (λ named y o. lead_frames (row_29_reply from ballot round key entry named) 29 y.phase y o next later same)
 
+  shown_node_frames : (answered : Bool) (q : Question) → Frames (shown_node answered q)
+  shown_node_frames true q x out next later same =
+      asked_frames (ReadNode q.position) x out (λ walked y o. next (Some (body_of q walked)) y o) (λ walked y o. later (Some (body_of q walked)) y o) (λ walked y o. same (Some (body_of q walked)) y o)
+  shown_node_frames false q x out next later same = same None x out
+
+  got_ask_frames : (from : ℕ) (ballot : Epoch) (q : Question) → Frames (got_ask me from ballot q)
+  got_ask_frames from ballot q x out next later same =
+      shown_node_frames (is_same ballot x.fact.ballot) q x out
+      (λ body y o. row_done me (row_23 y.fact y.trusted from ballot q.position q.after body) y o next)
+      (λ body y o. row_done me (row_23 y.fact y.trusted from ballot q.position q.after body) y o later)
+      (λ body y o. row_done_frames (row_23 y.fact y.trusted from ballot q.position q.after body) y o next later same)
+
+  own_node_frames : (needed : Bool) (at : Position) → Frames (own_node needed at)
+  own_node_frames true at x out next later same =
+      asked_frames (ReadNode at) x out (λ walked y o. next (reached walked) y o) (λ walked y o. later (reached walked) y o) (λ walked y o. same (reached walked) y o)
+  own_node_frames false at x out next later same = same None x out
+
+  taken_give_frames : (from : ℕ) (give : Give) (own : Option (List ℕ)) (running : Option Running) → Frames (taken_give me from give own running)
+  taken_give_frames from give own None x out next later same = same [] x out
+  taken_give_frames from give own (Some r) x out next later same = gone_on_frames (row_take from give own r) x out next later same
+
+  got_give_frames : (from : ℕ) (give : Give) → Frames (got_give me from give)
+  got_give_frames from give x out next later same =
+      own_node_frames (needs_node from give x.sync) give.question.position x out
+      (λ own y o. taken_give me from give own y.sync y o next) (λ own y o. taken_give me from give own y.sync y o later)
+      (λ own y o. taken_give_frames from give own y.sync y o next later same)
+
   delivered_frames : (from : ℕ) (message : Message) → Frames (delivered me from message)
   delivered_frames from (messages.Get ballot round key) x out next later same = got_frames from ballot round key x out next later same
   delivered_frames from (messages.Put ballot o) x out next later same = put_in_frames from ballot o x out next later same
@@ -257,6 +345,9 @@ module _ (me : ℕ) (a : Out) where
       if_same (leads x.phase) _ _ _ _ (get_replied_frames from ballot round key entry object x out next later same) (same [] x out)
   delivered_frames from (messages.PutReply ballot key version) x out next later same = lead_frames (row_35_reply from ballot key version) 35 x.phase x out next later same
   delivered_frames from (messages.CheckReply ballot round) x out next later same = lead_frames (row_33_reply from ballot round) 33 x.phase x out next later same
+  delivered_frames from (messages.TreeAsk ballot at after) x out next later same = got_ask_frames from ballot (record { position = at; after = after }) x out next later same
+  delivered_frames from (messages.TreeGive ballot at after trusted body) x out next later same =
+      got_give_frames from (record { ballot = ballot; question = record { position = at; after = after }; trusted = trusted; body = body }) x out next later same
   delivered_frames from message x out next later same = row_done_frames (received me from message x).1 (received me from message x).0 out next later same
 
   called_frames : (call : CallIn) → Frames (called me call)

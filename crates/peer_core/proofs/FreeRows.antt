@@ -17,7 +17,6 @@ use Rattle.step_plans.specs.Outboxes.{spare}
 use Rattle.step_plans.specs.Plans.{Done, Out, nothing, Rest, Spot, Finished, Did, Follows, asked}
 use Rattle.step_plans.specs.Sends.{posted}
 use Rattle.step_plans.specs.Steps.{HasFinished}
-use Rattle.step_plans.specs.Tasks.{named}
 use Rattle.step_plans.specs.declared.error.PeerError.{PeerError}
 use Rattle.step_plans.specs.declared.outbox.Outbox.{Outbox}
 use Rattle.leader_words.specs.declared.out.Outgoing.{Outgoing}
@@ -28,9 +27,10 @@ use Rattle.wire_frames.specs.declared.message.Message.{Message}
 use Rattle.wire_frames.specs.declared.message.Message.TheVariants as messages
 use Rattle.wire_frames.specs.declared.phase.PhaseOut.{PhaseOut}
 use Rattle.wire_frames.specs.declared.phase.Then.TheVariants as thens
-use Rattle.peer_core.specs.Drives.{and_sends, row_done, delivered, responded, driven, concluded, most_turns, step_of, MayCome}
+use Rattle.peer_core.specs.Drives.{row_done, delivered, responded, driven, concluded, most_turns, step_of, MayCome}
+use Rattle.peer_core.specs.Syncs.{and_sends}
 use Rattle.peer_core.specs.Kept.{IsStepCall}
-use Rattle.peer_core.specs.NoAllocation.{IsAllocationFreeMessage, IsAllocationFree, is_over, is_over_in, IsSteady, IsFreeRow, IsFreeTask}
+use Rattle.peer_core.specs.NoAllocation.{ends_step, IsAllocationFreeMessage, IsAllocationFree, is_over, is_over_in, IsSteady, IsFreeRow, IsFreeTask}
 use Rattle.peer_core.specs.Moves.{waits}
 use Rattle.peer_core.specs.Rows.{received, ended, while_26}
 use Rattle.peer_core.specs.declared.event.Event.{Event}
@@ -93,9 +93,9 @@ received_free o me from (messages.Beat ballot) x peer quiet fits is = row_19_fre
 received_free o me from (messages.Check ballot round) x peer quiet fits is = row_20_free o x.phase x.fact from ballot round peer fits
 received_free o me from other x peer quiet fits is = absurd is
 
--- the row of such a message names no rule
+-- nothing runs after the row of such a message
 abbrev EndsStep : PhaseOut → Type 0
-EndsStep row = named row.then ≡ []
+EndsStep row = ends_step row.then ≡ true
 
 row_19_ends : (fact : Fact) (trusted : Bool) (from : ℕ) (ballot : Epoch) → EndsStep (row_19 fact trusted from ballot)
 row_19_ends fact trusted from ballot = either EndsStep (is_below ballot fact.ballot) _ _ refl (by_test (is_same fact.epoch ballot && trusted))
@@ -104,7 +104,7 @@ row_19_ends fact trusted from ballot = either EndsStep (is_below ballot fact.bal
     by_test true = refl
     by_test false = refl
 
-pub received_ends : (me from : ℕ) (message : Message) (x : State) → IsAllocationFreeMessage message → named (received me from message x).1.then ≡ []
+pub received_ends : (me from : ℕ) (message : Message) (x : State) → IsAllocationFreeMessage message → ends_step (received me from message x).1.then ≡ true
 received_ends me from (messages.Prepare ballot) x is = either EndsStep (is_below x.fact.ballot ballot) _ _ refl (either EndsStep (is_same ballot x.fact.ballot) _ _ refl refl)
 received_ends me from (messages.Beat ballot) x is = row_19_ends x.fact x.trusted from ballot
 received_ends me from (messages.Check ballot round) x is = either EndsStep (is_below ballot x.fact.ballot) _ _ refl (either EndsStep (is_same ballot x.fact.ballot) _ _ refl refl)

@@ -6,8 +6,9 @@ use Rattle.ens_object.specs.declared.object.Object.{Object}
 use Rattle.election.specs.Preparing.{row_10}
 use Rattle.election.specs.declared.election.Election.{Election}
 use Rattle.election.specs.declared.election.Election.TheVariants.{Preparing, Starting}
+use Rattle.following.specs.Announcements.{row_16}
 use Rattle.following.specs.Refusals.{is_served}
-use Rattle.following.specs.Requests.{row_21, row_22}
+use Rattle.following.specs.Requests.{row_21, row_22, row_23}
 use Rattle.kept_objects.specs.Kept.{entry_of, matching}
 use Rattle.ens_object.specs.Objects.{object_spelling}
 use Rattle.leader_words.specs.declared.out.LeadOut.{LeadOut}
@@ -28,7 +29,16 @@ use Rattle.peer_fact.specs.declared.fact.Change.{Change}
 use Rattle.peer_fact.specs.declared.fact.Change.TheVariants.{Add}
 use Rattle.peer_fact.specs.declared.fact.Fact.{Fact}
 use Rattle.phase_rows.specs.Orders.{is_same}
-use Rattle.step_plans.specs.Calls.{Find, Enter, Put, Hash}
+use Rattle.phase_rows.specs.Peers.{joined}
+use Rattle.leader_words.specs.declared.out.Outgoing.{Outgoing}
+use Rattle.running_sync.specs.Rows.{row_start, row_resume, row_take}
+use Rattle.running_sync.specs.Running.{Running}
+use Rattle.running_sync.specs.declared.asking.Give.{Give}
+use Rattle.sync_rule.specs.Syncs.{needs_build, outcome_of}
+use Rattle.sync_rule.specs.declared.sync.Outcome.{Outcome}
+use Rattle.sync_rule.specs.declared.sync.Outcome.TheVariants.{Pending as RunsOn, Trusted}
+use Rattle.exchange.specs.declared.question.Question.{Question}
+use Rattle.step_plans.specs.Calls.{Find, Enter, ScanTree, Put, Hash}
 use Rattle.step_plans.specs.Plans.{Plan, Out, Rest, asked}
 use Rattle.step_plans.specs.Sends.{posted_to}
 use Rattle.step_plans.specs.Tasks.{named, keyed}
@@ -46,11 +56,12 @@ use Rattle.wire_frames.specs.declared.phase.Seen.{Seen}
 use Rattle.wire_frames.specs.declared.phase.Seen.TheVariants as seens
 use Rattle.wire_frames.specs.declared.phase.Then.{Then}
 use Rattle.wire_frames.specs.declared.phase.Then.TheVariants as thens
-use Rattle.peer_core.specs.Drives.{saved, and_sends, row_done, owned, own_key, followed_up, and_row, lead_done, lead, reminded, task_done, driven, led_in, after_put, put_done, delivered, unavailable, and_change, first, most_turns}
+use Rattle.peer_core.specs.Drives.{row_done, owned, own_key, followed_up, and_row, lead_done, lead, reminded, task_done, driven, led_in, after_put, put_done, delivered, unavailable, and_change, first, most_turns}
+use Rattle.peer_core.specs.Syncs.{saved, and_sends, with_sync, accepted, accepted_own, accepted_in, ended_with, gone_on, resumed_sync, followed_on, needs_node, taken_give}
 use Rattle.peer_core.specs.Leading.{older, end_of, row_5_calls, wished, begins}
-use Rattle.peer_core.specs.Moves.{stopped_leading, without_candidacy, left, left_answers, turned, turned_answers, stood, leading, with_leader, and_answers}
+use Rattle.peer_core.specs.Moves.{stopped_leading, without_candidacy, left, left_answers, turned, turned_answers, stood, leading, with_leader, and_answers, electing, without_sync, waiting_phase, waiting_for}
 use Rattle.peer_core.specs.Owns.{looked, looked_at, held, fetched, found, written, entered}
-use Rattle.peer_core.specs.Rows.{aged, aged_election, begun, while_8, while_9, while_10, while_12, while_13, while_14, while_15, accepted_by, while_17, leads, changes, wanting, asked_change, finishing, begun_change, while_25, while_26, phase_row, received}
+use Rattle.peer_core.specs.Rows.{runs_sync, aged, aged_election, begun, while_8, while_9, while_10, while_12, while_13, while_14, while_15, accepted_by, while_17, leads, changes, wanting, asked_change, finishing, begun_change, while_25, while_26, phase_row, received}
 use Rattle.peer_core.specs.Turns.{StepsAlone, IsFineAtNone, HasFewCalls}
 use Rattle.peer_core.specs.declared.event.Event.{Event}
 use Rattle.peer_core.specs.declared.event.Event.TheVariants as events
@@ -60,7 +71,7 @@ use Rattle.peer_core.specs.declared.state.Leadership.{Leadership}
 use Rattle.peer_core.specs.declared.state.Phase.{Phase}
 use Rattle.peer_core.specs.declared.state.Phase.TheVariants as phases
 use Rattle.peer_core.specs.declared.state.State.{State}
-use Rattle.peer_core.proofs.Aging.{if_follows, asked_asks, kept_asks, looked_asks, found_asks, written_asks, confirmed_asks, noted_follows, shown_asks}
+use Rattle.peer_core.proofs.Aging.{if_follows, asked_asks, installed_asks, own_node_asks, shown_node_asks, kept_asks, looked_asks, found_asks, written_asks, confirmed_asks, noted_follows, shown_asks}
 use Rattle.peer_core.proofs.Grammar.{either}
 use Rattle.peer_core.proofs.Names.{NamesOnly, NamesNone, while_9_names, while_10_names, while_13_names, while_14_names, while_25_names, while_26_names}
 
@@ -164,8 +175,19 @@ some_turns (tasks.Phase n) = phase_some n
 some_turns (tasks.Key n key) = some_of n
 some_turns (tasks.Again n key seen) = some_seen n seen
 
+-- the most tasks that run after a row: those of the rule that it names, or rule 14 after a sync
+abbrev then_turns : Then → ℕ
+then_turns (thens.Rule n) = phase_turns n + 0
+then_turns thens.Stay = 0
+then_turns thens.Follow = 0
+then_turns (thens.Lead fact) = 0
+then_turns thens.Untrust = 0
+then_turns thens.Put = 0
+then_turns thens.Resume = 0
+then_turns (thens.SyncOn fact) = 1
+
 -- what a row names takes fewer turns than any row of an event may
-named_few : (t : Then) → turns (named t) < 26
+named_few : (t : Then) → then_turns t < 26
 named_few (thens.Rule n) = phase_few n
 named_few thens.Stay = lit< tt
 named_few thens.Follow = lit< tt
@@ -178,7 +200,10 @@ named_few (thens.SyncOn fact) = lit< tt
 named_rule : (r m k : ℕ) → r ≡ m → phase_turns m < k → phase_turns r + 0 < k
 named_rule r m k is less = rw is (omega (arith, less))
 
-named_only : (m k : ℕ) (t : Then) → NamesOnly m t → phase_turns m < k → turns (named t) < k
+after_some : (m k : ℕ) → 0 < m → m < k → 1 < k
+after_some m k some less = omega (arith, some, less)
+
+named_only : (m k : ℕ) (t : Then) → NamesOnly m t → phase_turns m < k → then_turns t < k
 named_only m k (thens.Rule r) is less = named_rule r m k is less
 named_only m k thens.Stay is less = omega (arith, less)
 named_only m k thens.Follow is less = omega (arith, less)
@@ -186,9 +211,9 @@ named_only m k (thens.Lead fact) is less = omega (arith, less)
 named_only m k thens.Untrust is less = omega (arith, less)
 named_only m k thens.Put is less = omega (arith, less)
 named_only m k thens.Resume is less = omega (arith, less)
-named_only m k (thens.SyncOn fact) is less = omega (arith, less)
+named_only m k (thens.SyncOn fact) is less = after_some (phase_turns m) k (phase_some m) less
 
-named_none : (t : Then) → NamesNone t → turns (named t) < 1
+named_none : (t : Then) → NamesNone t → then_turns t < 1
 named_none (thens.Rule r) is = absurd is
 named_none thens.Stay is = lit< tt
 named_none thens.Follow is = lit< tt
@@ -196,7 +221,7 @@ named_none (thens.Lead fact) is = lit< tt
 named_none thens.Untrust is = lit< tt
 named_none thens.Put is = lit< tt
 named_none thens.Resume is = lit< tt
-named_none (thens.SyncOn fact) is = lit< tt
+named_none (thens.SyncOn fact) is = absurd is
 
 -- ## The rows owe no more than before
 
@@ -235,6 +260,22 @@ turned_owed me thens.Put x = owed_self (owed x.phase)
 turned_owed me thens.Resume x = owed_self (owed x.phase)
 turned_owed me (thens.SyncOn fact) x = owed_self (owed x.phase)
 turned_owed me (thens.Rule n) x = owed_self (owed x.phase)
+
+waiting_phase_owed : (phase : Phase) → owed (waiting_phase phase) ≤ owed phase
+waiting_phase_owed (phases.Leading l) = owed_self (weight l.leader)
+waiting_phase_owed (phases.Following f) = lit≤ tt
+waiting_phase_owed (phases.Probing p) = lit≤ tt
+waiting_phase_owed (phases.Electing e) = lit≤ tt
+
+waiting_owed : (t : Then) (x : State) → owed (waiting_for t x).phase ≤ owed x.phase
+waiting_owed (thens.SyncOn fact) x = waiting_phase_owed x.phase
+waiting_owed thens.Resume x = waiting_phase_owed x.phase
+waiting_owed thens.Stay x = owed_self (owed x.phase)
+waiting_owed thens.Follow x = owed_self (owed x.phase)
+waiting_owed (thens.Lead fact) x = owed_self (owed x.phase)
+waiting_owed thens.Untrust x = owed_self (owed x.phase)
+waiting_owed thens.Put x = owed_self (owed x.phase)
+waiting_owed (thens.Rule n) x = owed_self (owed x.phase)
 
 -- the row owes no more than before, where this phase owed no more
 abbrev OwesNoMore : State → State × PhaseOut → Type 0
@@ -332,7 +373,7 @@ received_owes me from (messages.ProbeReply fact) x = while_8_owes x.phase me fro
 received_owes me from (messages.Prepare ballot) x = same_owed x
 received_owes me from (messages.Promise ballot fact) x = while_12_owes x.phase me from ballot fact x
 received_owes me from (messages.Nack ballot cause) x = while_15_owes x.phase ballot cause x
-received_owes me from (messages.NewEpoch fact) x = same_owed x
+received_owes me from (messages.NewEpoch fact) x = waiting_owed (row_16 x.fact me x.trusted (runs_sync x.sync) from fact).then x
 received_owes me from (messages.Accepted ballot seq) x = while_17_owes x.phase from ballot seq x (same_owed x)
 received_owes me from (messages.Commit fact) x = same_owed x
 received_owes me from (messages.Beat ballot) x = same_owed x
@@ -366,7 +407,7 @@ each R true a b p q first second = first
 each R false a b p q first second = second
 
 abbrev NamesFewer : ℕ → State × PhaseOut → Type 0
-NamesFewer k r = turns (named r.1.then) < k
+NamesFewer k r = then_turns r.1.then < k
 
 later_names : (n me : ℕ) (x : State)
     → NamesFewer (if n == 7 then 5 else (if n == 9 then 4 else (if n == 10 then 3 else (if n == 13 then 2 else (if n == 14 then 1 else (if n == 25 then 1 else (if n == 26 then 4 else 1))))))) (phase_row n me x)
@@ -396,16 +437,72 @@ unfolding asked
 saved_fine None x out next go = go x out refl
 saved_fine (Some fact) x out next go = (tt, λ u. go (record x { fact = fact }) out refl)
 
-in_turns : (a k u v w z : ℕ) → a < k → u ≤ v → v ≡ w → w ≤ z → a + u < k + z
-in_turns a k u v w z less first same last = omega (arith, less, first, same, last)
+-- what follows takes fewer tasks than this, besides those for the unanswered calls
+abbrev Lowers : ℕ → State → Rest State (List Task) → Type 0
+Lowers k x next = (ts : List Task) (y : State) (o : Out) → turns ts + owed y.phase < k + owed x.phase → StepsAlone (next ts y o)
 
-row_lowers : (me k : ℕ) (row : PhaseOut) (x : State) (out : Out) (next : Rest State (List Task)) → turns (named row.then) < k
-    → ((ts : List Task) (y : State) (o : Out) → turns ts + owed y.phase < k + owed x.phase → StepsAlone (next ts y o)) → StepsAlone (row_done me row x out next)
+none_then : (k u : ℕ) → 0 < k → 0 + u < k + u
+none_then k u some = omega (arith, some)
+
+fourteen_then : (k u : ℕ) → 1 < k → 1 + 0 + 0 < k + u
+fourteen_then k u some = omega (arith, some)
+
+some_then : (t k : ℕ) → t < k → 0 < k
+some_then t k less = omega (arith, less)
+
+accepted_own_lowers : (me k : ℕ) → 1 < k → (e : Election) (x : State) (out : Out) (next : Rest State (List Task)) → Lowers k x next → StepsAlone (accepted_own me e x out next)
+accepted_own_lowers me k some (Starting new accepts age) x out next go = go (tasks.Phase 14 ∷ []) (electing (Starting new (joined me accepts) age) x) out (fourteen_then k (owed x.phase) some)
+accepted_own_lowers me k some (Preparing base promises sent age) x out next go = go [] x out (none_then k (owed x.phase) (some_then 1 k some))
+
+accepted_in_lowers : (me k : ℕ) → 1 < k → (fact : Fact) (phase : Phase) (x : State) (out : Out) (next : Rest State (List Task)) → Lowers k x next → StepsAlone (accepted_in me fact phase x out next)
+accepted_in_lowers me k some fact (phases.Electing e) x out next go = accepted_own_lowers me k some e x out next go
+accepted_in_lowers me k some fact (phases.Following f) x out next go = go [] x (and_sends out (accepted me fact)) (none_then k (owed x.phase) (some_then 1 k some))
+accepted_in_lowers me k some fact (phases.Probing p) x out next go = go [] x out (none_then k (owed x.phase) (some_then 1 k some))
+accepted_in_lowers me k some fact (phases.Leading l) x out next go = go [] x out (none_then k (owed x.phase) (some_then 1 k some))
+
+in_phase : (a k u v : ℕ) → a < k + u → u ≡ v → a < k + v
+in_phase a k u v less same = omega (arith, less, same)
+
+ended_with_lowers : (me k : ℕ) → 1 < k → (r : Running) (outcome : Outcome) (x : State) (out : Out) (next : Rest State (List Task)) → Lowers k x next → StepsAlone (ended_with me r outcome x out next)
+ended_with_lowers me k some r RunsOn x out next go = go [] (with_sync r x) out (none_then k (owed x.phase) (some_then 1 k some))
+ended_with_lowers me k some r (Trusted entries) x out next go =
+    installed_asks P (needs_build r.sync.scan entries) entries (without_sync x) out
+    (λ u y o. saved (Some r.fact) y o (λ v z p. accepted_in me r.fact z.phase (record z { trusted = true }) p next))
+    (λ u. saved_fine (Some r.fact) (without_sync x) out (λ v z p. accepted_in me r.fact z.phase (record z { trusted = true }) p next)
+    (λ z p same. accepted_in_lowers me k some r.fact z.phase (record z { trusted = true }) p next
+    (λ ts y o less. go ts y o (in_phase (turns ts + owed y.phase) k (owed z.phase) (owed x.phase) less (ap owed same)))))
+
+gone_on_lowers : (me k : ℕ) → 1 < k → (r : Running × List Outgoing) (x : State) (out : Out) (next : Rest State (List Task)) → Lowers k x next → StepsAlone (gone_on me r x out next)
+gone_on_lowers me k some r x out next go = ended_with_lowers me k some r.0 (outcome_of r.0.sync) x (and_sends out r.1) next go
+
+resumed_lowers : (k : ℕ) → 0 < k → (running : Option Running) (x : State) (out : Out) (next : Rest State (List Task)) → Lowers k x next → StepsAlone (resumed_sync running x out next)
+resumed_lowers k some None x out next go = go [] x out (none_then k (owed x.phase) some)
+resumed_lowers k some (Some r) x out next go = go [] (with_sync (row_resume r).0 x) (and_sends out (row_resume r).1) (none_then k (owed x.phase) some)
+
+rule_then : (t k u : ℕ) → t < k → t + u < k + u
+rule_then t k u less = omega (arith, less)
+
+followed_on_lowers : (me k : ℕ) (t : Then) → then_turns t < k → (x : State) (out : Out) (next : Rest State (List Task)) → Lowers k x next → StepsAlone (followed_on me t x out next)
+followed_on_lowers me k (thens.SyncOn fact) few x out next go =
+    asked_asks P ScanTree tt x out (λ scan y o. gone_on me (row_start fact me y.trusted scan) y o next) (λ scan. gone_on_lowers me k few (row_start fact me x.trusted scan) x out next go)
+followed_on_lowers me k thens.Resume few x out next go = resumed_lowers k few x.sync x out next go
+followed_on_lowers me k (thens.Rule n) few x out next go = go (named (thens.Rule n)) x out (rule_then (phase_turns n + 0) k (owed x.phase) few)
+followed_on_lowers me k thens.Stay few x out next go = go [] x out (none_then k (owed x.phase) few)
+followed_on_lowers me k thens.Follow few x out next go = go [] x out (none_then k (owed x.phase) few)
+followed_on_lowers me k (thens.Lead fact) few x out next go = go [] x out (none_then k (owed x.phase) few)
+followed_on_lowers me k thens.Untrust few x out next go = go [] x out (none_then k (owed x.phase) few)
+followed_on_lowers me k thens.Put few x out next go = go [] x out (none_then k (owed x.phase) few)
+
+in_order_of : (a k u v w z : ℕ) → a < k + u → u ≤ v → v ≡ w → w ≤ z → a < k + z
+in_order_of a k u v w z less first same last = omega (arith, less, first, same, last)
+
+row_lowers : (me k : ℕ) (row : PhaseOut) (x : State) (out : Out) (next : Rest State (List Task)) → then_turns row.then < k → Lowers k x next → StepsAlone (row_done me row x out next)
 row_lowers me k row x out next few go =
     saved_fine row.save (left row.leave x) (left_answers row.leave x out)
-    (λ u y o. next (named row.then) (turned me row.then y) (turned_answers row.then y (and_sends o (posted_to row.to row.message))))
-    (λ y o same. go (named row.then) (turned me row.then y) (turned_answers row.then y (and_sends o (posted_to row.to row.message)))
-    (in_turns (turns (named row.then)) k (owed (turned me row.then y).phase) (owed y.phase) (owed (left row.leave x).phase) (owed x.phase) few (turned_owed me row.then y) (ap owed same) (left_owed row.leave x)))
+    (λ u y o. followed_on me row.then (turned me row.then y) (turned_answers row.then y (and_sends o (posted_to row.to row.message))) next)
+    (λ y o same. followed_on_lowers me k row.then few (turned me row.then y) (turned_answers row.then y (and_sends o (posted_to row.to row.message))) next
+    (λ ts z p less. go ts z p
+    (in_order_of (turns ts + owed z.phase) k (owed (turned me row.then y).phase) (owed y.phase) (owed (left row.leave x).phase) (owed x.phase) less (turned_owed me row.then y) (ap owed same) (left_owed row.leave x))))
 
 -- the part asks the stores, and sees something of them
 abbrev Sees : (State → Out → Rest State Seen → Plan State) → Type 0
@@ -561,6 +658,10 @@ put_done_few me (thens.Rule n) from ballot object row x out next go = event_row_
 nothing_few : (x : State) (out : Out) (next : Rest State (List Task)) → Few x next → StepsAlone (next [] x out)
 nothing_few x out next go = go [] x out (omega arith)
 
+taken_few : (me from : ℕ) (give : Give) (own : Option (List ℕ)) (running : Option Running) (x : State) (out : Out) (next : Rest State (List Task)) → Few x next → StepsAlone (taken_give me from give own running x out next)
+taken_few me from give own None x out next go = nothing_few x out next go
+taken_few me from give own (Some r) x out next go = gone_on_lowers me 26 (lit< tt) (row_take from give own r) x out next go
+
 delivered_few : (me from : ℕ) (message : Message) (x : State) (out : Out) (next : Rest State (List Task)) → Few x next → StepsAlone (delivered me from message x out next)
 delivered_few me from (messages.Get ballot round key) x out next go =
     shown_asks P (is_served x.fact x.trusted ballot) (looked key) (looked_asks P key) x out (λ seen y o. row_done me (row_21 y.fact y.trusted from ballot round key seen) y o next)
@@ -578,6 +679,14 @@ delivered_few me from (messages.PutReply ballot key version) x out next go =
     event_led_few me 35 5 (row_35_reply from ballot key version) (lit< tt) (lit≤ tt) (λ l. (row_35_reply_step from ballot key version l).lowers) x out next go
 delivered_few me from (messages.CheckReply ballot round) x out next go =
     event_led_few me 33 1 (row_33_reply from ballot round) (lit< tt) (lit≤ tt) (λ l. (row_33_reply_step from ballot round l).1.lowers) x out next go
+delivered_few me from (messages.TreeAsk ballot at after) x out next go =
+    let q : Question = record { position = at; after = after } in
+    shown_node_asks P (is_same ballot x.fact.ballot) q x out (λ body y o. row_done me (row_23 y.fact y.trusted from ballot q.position q.after body) y o next)
+    (λ body. event_row_few me (row_23 x.fact x.trusted from ballot at after body) x x out next (same_owed x) go)
+delivered_few me from (messages.TreeGive ballot at after trusted body) x out next go =
+    let give : Give = record { ballot = ballot; question = record { position = at; after = after }; trusted = trusted; body = body } in
+    own_node_asks P (needs_node from give x.sync) at x out (λ own y o. taken_give me from give own y.sync y o next)
+    (λ own. taken_few me from give own x.sync x out next go)
 delivered_few me from message x out next go = event_row_few me (received me from message x).1 x (received me from message x).0 out next (received_owes me from message x) go
 
 in_tick : (more ts u w b v z : ℕ) → more ≡ ts + 2 → ts + u ≤ b + w → b + w ≤ v → v ≤ z → more + u < 26 + z

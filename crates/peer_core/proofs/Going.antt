@@ -6,6 +6,7 @@ use Rattle.ens_base.specs.declared.epoch.Epoch.{Epoch}
 use Rattle.election.specs.Preparing.{row_10}
 use Rattle.election.specs.declared.election.Election.{Election}
 use Rattle.election.specs.declared.election.Election.TheVariants.{Preparing, Starting}
+use Rattle.following.specs.Announcements.{row_16}
 use Rattle.following.specs.declared.follower.Follower.{Follower}
 use Rattle.joint_views.specs.Quorums.{is_member}
 use Rattle.leading.specs.declared.leader.Leader.{Leader}
@@ -23,8 +24,8 @@ use Rattle.wire_frames.specs.declared.phase.PhaseOut.{PhaseOut}
 use Rattle.wire_frames.specs.declared.phase.Then.{Then}
 use Rattle.wire_frames.specs.declared.phase.Then.TheVariants as thens
 use Rattle.peer_core.specs.Kept.{LeadsAs}
-use Rattle.peer_core.specs.Moves.{stopped_leading, without_candidacy, left, turned, stood}
-use Rattle.peer_core.specs.Rows.{aged, aged_election, while_8, while_9, prepared, while_10, while_12, while_13, while_14, while_15, accepted_by, while_17, leads, changes, wanting, asked_change, finishing, begun_change, while_25, while_26, phase_row, received}
+use Rattle.peer_core.specs.Moves.{stopped_leading, without_candidacy, left, turned, stood, waiting_phase, waiting_for}
+use Rattle.peer_core.specs.Rows.{runs_sync, aged, aged_election, while_8, while_9, prepared, while_10, while_12, while_13, while_14, while_15, accepted_by, while_17, leads, changes, wanting, asked_change, finishing, begun_change, while_25, while_26, phase_row, received}
 use Rattle.peer_core.specs.declared.state.ChangeState.{ChangeState}
 use Rattle.peer_core.specs.declared.state.ChangeState.TheVariants.{Settled, Wanted, Finishing as Finishes}
 use Rattle.peer_core.specs.declared.state.Leadership.{Leadership}
@@ -68,6 +69,22 @@ module _ (me : ℕ) where
   turned_as thens.Resume x own = own
   turned_as (thens.SyncOn fact) x own = own
   turned_as (thens.Rule n) x own = own
+
+  waiting_phase_as : (phase : Phase) → LeadsAs me phase → LeadsAs me (waiting_phase phase)
+  waiting_phase_as (phases.Leading l) own = own
+  waiting_phase_as (phases.Following f) own = tt
+  waiting_phase_as (phases.Probing p) own = tt
+  waiting_phase_as (phases.Electing e) own = tt
+
+  waiting_as : (t : Then) (x : State) → LeadsAs me x.phase → LeadsAs me (waiting_for t x).phase
+  waiting_as (thens.SyncOn fact) x own = waiting_phase_as x.phase own
+  waiting_as thens.Resume x own = waiting_phase_as x.phase own
+  waiting_as thens.Stay x own = own
+  waiting_as thens.Follow x own = own
+  waiting_as (thens.Lead fact) x own = own
+  waiting_as thens.Untrust x own = own
+  waiting_as thens.Put x own = own
+  waiting_as (thens.Rule n) x own = own
 
   stood_as : (election : Option Election) (x : State) → LeadsAs me x.phase → LeadsAs me (stood election x).phase
   stood_as None x own = own
@@ -168,7 +185,8 @@ module _ (me : ℕ) where
 
     aged_election_goes : (e : Election) (x : State) → IsGoing me (aged_election e me x)
     aged_election_goes (Preparing base promises asked age) x = (tt, (tt, none_me me peer))
-    aged_election_goes (Starting new accepts age) x = (tt, (row_4_obeys (Starting new accepts age) me, row_4_elsewhere me peer (Starting new accepts age)))
+    aged_election_goes (Starting new accepts age) x =
+        let runs = runs_sync x.sync in (tt, (row_4_obeys (Starting new accepts age) me runs, row_4_elsewhere me peer (Starting new accepts age) runs))
 
     -- a tick of a peer that does not lead
     pub aged_goes : (phase : Phase) (x : State) → LeadsAs me x.phase → IsGoing me (aged phase me x)
@@ -184,7 +202,9 @@ module _ (me : ℕ) where
     received_goes from (messages.Prepare ballot) x other own = (own, (row_11_obeys x.fact from ballot, row_11_elsewhere me peer from other x.fact ballot))
     received_goes from (messages.Promise ballot fact) x other own = while_12_goes x.phase from ballot fact x own
     received_goes from (messages.Nack ballot cause) x other own = while_15_goes x.phase ballot cause x own
-    received_goes from (messages.NewEpoch fact) x other own = (own, (row_16_obeys x.fact me x.trusted false from fact, row_16_elsewhere me peer from other x.fact x.trusted fact))
+    received_goes from (messages.NewEpoch fact) x other own =
+        let runs = runs_sync x.sync in
+        (waiting_as (row_16 x.fact me x.trusted runs from fact).then x own, (row_16_obeys x.fact me x.trusted runs from fact, row_16_elsewhere me peer from other x.fact x.trusted runs fact))
     received_goes from (messages.Accepted ballot seq) x other own = while_17_goes x.phase from ballot seq x own own
     received_goes from (messages.Commit fact) x other own = (own, (row_18_obeys x.fact x.trusted from fact, row_18_elsewhere me peer from other x.fact x.trusted fact))
     received_goes from (messages.Beat ballot) x other own = (own, (row_19_obeys x.fact x.trusted from ballot, row_19_elsewhere me peer from other x.fact x.trusted ballot))

@@ -34,7 +34,7 @@ use Rattle.wire_frames.specs.declared.phase.PhaseOut.{PhaseOut}
 use Rattle.step_plans.specs.Plans.{Out}
 use Rattle.step_plans.specs.Sends.{posted, posted_to}
 use Rattle.leader_words.specs.declared.out.Outgoing.{Outgoing}
-use Rattle.peer_core.specs.Drives.{and_sends}
+use Rattle.peer_core.specs.Syncs.{and_sends}
 use Rattle.peer_core.specs.Kept.{MaySend, AllMayGo}
 
 -- what holds of both branches holds of the choice
@@ -137,9 +137,9 @@ pub row_3_obeys : (e : Election) → RowObeys (row_3 e).1
 row_3_obeys (Preparing base promises asked age) = tt
 row_3_obeys (Starting new accepts age) = tt
 
-pub row_4_obeys : (e : Election) (me : ℕ) → RowObeys (row_4 e me false).1
-row_4_obeys (Preparing base promises asked age) me = tt
-row_4_obeys (Starting new accepts age) me = grind arith
+pub row_4_obeys : (e : Election) (me : ℕ) (runs : Bool) → RowObeys (row_4 e me runs).1
+row_4_obeys (Preparing base promises asked age) me runs = tt
+row_4_obeys (Starting new accepts age) me runs = grind arith
 
 pub row_17_obeys : (e : Election) (fact : Fact) (from : ℕ) (ballot : Epoch) (seq : ℕ) → RowObeys (row_17 e fact from ballot seq).1
 row_17_obeys (Preparing base promises asked age) fact from ballot seq = tt
@@ -196,9 +196,9 @@ module _ (me : ℕ) (peer : IsPeer me) where
   row_14_elsewhere (Preparing base promises asked age) = none_me me peer
   row_14_elsewhere (Starting new accepts age) = none_me me peer
 
-  pub row_4_elsewhere : (e : Election) → IsElsewhere me (row_4 e me false).1
-  row_4_elsewhere (Preparing base promises asked age) = none_me me peer
-  row_4_elsewhere (Starting new accepts age) = either (IsElsewhere me) (age + 1 == 8) _ _ (none_me me peer) (outside_me me accepts new.views peer)
+  pub row_4_elsewhere : (e : Election) (runs : Bool) → IsElsewhere me (row_4 e me runs).1
+  row_4_elsewhere (Preparing base promises asked age) runs = none_me me peer
+  row_4_elsewhere (Starting new accepts age) runs = either (IsElsewhere me) (age + 1 == 8) _ _ (none_me me peer) (outside_me me accepts new.views peer)
 
   pub row_17_elsewhere : (e : Election) (fact : Fact) (from : ℕ) (ballot : Epoch) (seq : ℕ) → IsElsewhere me (row_17 e fact from ballot seq).1
   row_17_elsewhere (Preparing base promises asked age) fact from ballot seq = none_me me peer
@@ -218,13 +218,13 @@ module _ (me : ℕ) (peer : IsPeer me) where
     pub row_11_elsewhere : (fact : Fact) (ballot : Epoch) → IsElsewhere me (row_11 fact from ballot)
     row_11_elsewhere fact ballot = either (IsElsewhere me) (is_below fact.ballot ballot) _ _ to_it (either (IsElsewhere me) (is_same ballot fact.ballot) _ _ (none_me me peer) to_it)
 
-    takes_elsewhere : (fact : Fact) (trusted : Bool) (new : Fact) → IsElsewhere me (takes fact me trusted false from new)
-    takes_elsewhere fact trusted new = either (IsElsewhere me) (may_accept trusted me new) _ _ to_it (either (IsElsewhere me) (is_below fact.ballot new.epoch) _ _ (none_me me peer) (none_me me peer))
+    takes_elsewhere : (fact : Fact) (trusted runs : Bool) (new : Fact) → IsElsewhere me (takes fact me trusted runs from new)
+    takes_elsewhere fact trusted runs new = either (IsElsewhere me) (may_accept trusted me new) _ _ to_it (either (IsElsewhere me) (is_below fact.ballot new.epoch) _ _ (none_me me peer) (none_me me peer))
 
-    pub row_16_elsewhere : (fact : Fact) (trusted : Bool) (new : Fact) → IsElsewhere me (row_16 fact me trusted false from new)
-    row_16_elsewhere fact trusted new =
+    pub row_16_elsewhere : (fact : Fact) (trusted runs : Bool) (new : Fact) → IsElsewhere me (row_16 fact me trusted runs from new)
+    row_16_elsewhere fact trusted runs new =
         either (IsElsewhere me) (is_below new.epoch fact.ballot) _ _ to_it
-        (either (IsElsewhere me) (is_same new.epoch fact.epoch) _ _ to_it (takes_elsewhere fact trusted new))
+        (either (IsElsewhere me) (is_same new.epoch fact.epoch) _ _ to_it (takes_elsewhere fact trusted runs new))
 
     commits_elsewhere : (fact commit : Fact) → IsElsewhere me (commits fact from commit)
     commits_elsewhere fact commit = either (IsElsewhere me) (fact.seq == 1) _ _ to_it to_it

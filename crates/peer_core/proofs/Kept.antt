@@ -8,6 +8,7 @@ use Rattle.election.specs.Preparing.{row_12, row_13, starts, first_fact}
 use Rattle.election.specs.Starting.{row_14, row_17}
 use Rattle.election.specs.declared.election.Election.{Election}
 use Rattle.election.specs.declared.election.Election.TheVariants.{Preparing, Starting}
+use Rattle.following.specs.Announcements.{row_16}
 use Rattle.joint_views.specs.Quorums.{is_quorum, is_member}
 use Rattle.peer_fact.specs.Facts.{views_after}
 use Rattle.peer_fact.specs.declared.fact.Change.{Change}
@@ -29,8 +30,8 @@ use Rattle.wire_frames.specs.declared.phase.Then.{Then}
 use Rattle.wire_frames.specs.declared.phase.Then.TheVariants as thens
 use Rattle.call_table.specs.Calls.{has_calls}
 use Rattle.peer_core.specs.Ages.{IsYoung, IsYoungChange, IsYoungElection}
-use Rattle.peer_core.specs.Moves.{stopped_leading, without_candidacy, left, turned}
-use Rattle.peer_core.specs.Rows.{begun, while_8, while_9, prepared, while_10, while_12, while_13, while_14, while_15, change_heard, while_17, leads, changes, wanting, asked_change, begun_change, while_25, ended, while_26, phase_row, received}
+use Rattle.peer_core.specs.Moves.{stopped_leading, without_candidacy, left, turned, waiting_phase, waiting_for}
+use Rattle.peer_core.specs.Rows.{runs_sync, begun, while_8, while_9, prepared, while_10, while_12, while_13, while_14, while_15, change_heard, while_17, leads, changes, wanting, asked_change, begun_change, while_25, ended, while_26, phase_row, received}
 use Rattle.peer_core.specs.declared.state.ChangeState.{ChangeState}
 use Rattle.peer_core.specs.declared.state.ChangeState.TheVariants.{Settled, Wanted, Finishing as Finishes}
 use Rattle.peer_core.specs.declared.state.Leadership.{Leadership}
@@ -74,6 +75,22 @@ turned_young me thens.Put x young = young
 turned_young me thens.Resume x young = young
 turned_young me (thens.SyncOn fact) x young = young
 turned_young me (thens.Rule n) x young = young
+
+waiting_phase_young : (phase : Phase) → IsYoung phase → IsYoung (waiting_phase phase)
+waiting_phase_young (phases.Leading l) young = young
+waiting_phase_young (phases.Following f) young = lit< tt
+waiting_phase_young (phases.Probing p) young = lit< tt
+waiting_phase_young (phases.Electing e) young = lit< tt
+
+waiting_young : (t : Then) (x : State) → IsYoung x.phase → IsYoung (waiting_for t x).phase
+waiting_young (thens.SyncOn fact) x young = waiting_phase_young x.phase young
+waiting_young thens.Resume x young = waiting_phase_young x.phase young
+waiting_young thens.Stay x young = young
+waiting_young thens.Follow x young = young
+waiting_young (thens.Lead fact) x young = young
+waiting_young thens.Untrust x young = young
+waiting_young thens.Put x young = young
+waiting_young (thens.Rule n) x young = young
 
 -- the ages of the rules
 row_8_age : (p : Probing) (me from : ℕ) (reply : Fact) → p.age < 6 → (row_8 p me from reply).0.age < 6
@@ -240,7 +257,9 @@ module _ (me : ℕ) (peer : IsPeer me) where
   received_good from (messages.Prepare ballot) x other young = (young, (row_11_obeys x.fact from ballot, row_11_elsewhere me peer from other x.fact ballot))
   received_good from (messages.Promise ballot fact) x other young = while_12_good x.phase from ballot fact x young young
   received_good from (messages.Nack ballot cause) x other young = while_15_good x.phase ballot cause x young
-  received_good from (messages.NewEpoch fact) x other young = (young, (row_16_obeys x.fact me x.trusted false from fact, row_16_elsewhere me peer from other x.fact x.trusted fact))
+  received_good from (messages.NewEpoch fact) x other young =
+      let runs = runs_sync x.sync in
+      (waiting_young (row_16 x.fact me x.trusted runs from fact).then x young, (row_16_obeys x.fact me x.trusted runs from fact, row_16_elsewhere me peer from other x.fact x.trusted runs fact))
   received_good from (messages.Accepted ballot seq) x other young = while_17_good x.phase from ballot seq x young young
   received_good from (messages.Commit fact) x other young = (young, (row_18_obeys x.fact x.trusted from fact, row_18_elsewhere me peer from other x.fact x.trusted fact))
   received_good from (messages.Beat ballot) x other young = (young, (row_19_obeys x.fact x.trusted from ballot, row_19_elsewhere me peer from other x.fact x.trusted ballot))

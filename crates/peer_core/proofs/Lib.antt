@@ -3,6 +3,9 @@ pub mod Grammar
 pub mod Kept
 pub mod Replies
 pub mod Going
+pub mod Asking
+pub mod Gives
+pub mod Syncs
 pub mod Passing
 pub mod Counts
 pub mod Halts
@@ -16,7 +19,7 @@ pub mod Closing
 pub mod Framed
 pub mod Steady
 pub mod FreeRows
-pub mod Led
 pub mod Delivering
 pub mod Damage
+pub mod Whole
 mod TreeCounts

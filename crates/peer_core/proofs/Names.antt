@@ -30,9 +30,10 @@ abbrev pub NamesOnly : ℕ → Then → Type 0
 NamesOnly k (thens.Rule n) = n ≡ k
 NamesOnly k other = Unit {0}
 
--- the row names no rule
+-- the row names no rule, and begins no sync
 abbrev pub NamesNone : Then → Type 0
 NamesNone (thens.Rule n) = ⊥
+NamesNone (thens.SyncOn fact) = ⊥
 NamesNone other = Unit {0}
 
 then_14 : (e : Election) (me : ℕ) → NamesNone (row_14 e me).1.then

@@ -5,7 +5,7 @@ use Rattle.call_table.specs.declared.waiting.Waiting.{Waiting}
 use Rattle.call_table.specs.Calls.{has_calls}
 use Rattle.std.specs.Prelude.{map}
 use Rattle.leading.specs.Ticks.{left_answer}
-use Rattle.peer_core.specs.Moves.{waits, timeouts, left}
+use Rattle.peer_core.specs.Moves.{waits, timeouts, stopped_leading, left}
 use Rattle.peer_core.specs.NoAllocation.{EndsQuietly}
 use Rattle.peer_core.specs.declared.state.Phase.{Phase}
 use Rattle.peer_core.specs.declared.state.Phase.TheVariants as phases
@@ -21,14 +21,17 @@ no_timeouts (phases.Following f) none = refl
 no_timeouts (phases.Probing p) none = refl
 no_timeouts (phases.Electing e) none = refl
 
-waits_less : (fact : _) (trusted : Bool) (leave : Bool) (phase : Phase) → waits phase ≡ false → waits (left leave (record { fact = fact; trusted = trusted; phase = phase })).phase ≡ false
-waits_less fact trusted false phase none = none
-waits_less fact trusted true (phases.Leading l) none = refl
-waits_less fact trusted true (phases.Following f) none = refl
-waits_less fact trusted true (phases.Probing p) none = refl
-waits_less fact trusted true (phases.Electing e) none = refl
+stopped_waits : (phase : Phase) → waits phase ≡ false → waits (stopped_leading phase) ≡ false
+stopped_waits (phases.Leading l) none = refl
+stopped_waits (phases.Following f) none = refl
+stopped_waits (phases.Probing p) none = refl
+stopped_waits (phases.Electing e) none = refl
+
+waits_less : (leave : Bool) (x : State) → waits x.phase ≡ false → waits (left leave x).phase ≡ false
+waits_less false x none = none
+waits_less true x none = stopped_waits x.phase none
 
 -- a leader that stepped down has no call left
 pub still_quiet : (leave ends : Bool) (x : State) → EndsQuietly ends x.phase → EndsQuietly ends (left leave x).phase
-still_quiet leave true x none = waits_less x.fact x.trusted leave x.phase none
+still_quiet leave true x none = waits_less leave x none
 still_quiet leave false x none = tt

@@ -10,6 +10,13 @@ use Rattle.joint_views.specs.Quorums.{is_member}
 use Rattle.peer_fact.specs.Facts.{views_after}
 use Rattle.peer_fact.specs.declared.fact.Fact.{Fact}
 use Rattle.phase_rows.specs.Rows.{silent}
+use Rattle.phase_rows.specs.Peers.{joined}
+use Rattle.step_plans.specs.Calls.{ScanTree}
+use Rattle.running_sync.specs.Rows.{row_start, row_resume}
+use Rattle.running_sync.specs.Running.{Running}
+use Rattle.sync_rule.specs.Syncs.{needs_build, outcome_of}
+use Rattle.sync_rule.specs.declared.sync.Outcome.{Outcome}
+use Rattle.sync_rule.specs.declared.sync.Outcome.TheVariants.{Pending, Trusted}
 use Rattle.step_plans.specs.Plans.{Done, Out, nothing, Rest, Part, Follows, asked}
 use Rattle.step_plans.specs.Sends.{posted_to}
 use Rattle.step_plans.specs.Tasks.{named}
@@ -21,9 +28,10 @@ use Rattle.wire_frames.specs.declared.phase.PhaseOut.{PhaseOut}
 use Rattle.wire_frames.specs.declared.phase.Then.{Then}
 use Rattle.wire_frames.specs.declared.phase.Then.TheVariants as thens
 use Rattle.peer_core.specs.Ages.{IsYoung}
-use Rattle.peer_core.specs.Drives.{saved, and_sends, row_done, driven, concluded, most_turns, step_of, MayCome}
+use Rattle.peer_core.specs.Drives.{row_done, driven, concluded, most_turns, step_of, MayCome}
+use Rattle.peer_core.specs.Syncs.{saved, and_sends, with_sync, accepted, accepted_own, accepted_in, ended_with, gone_on, resumed_sync, followed_on}
 use Rattle.peer_core.specs.Kept.{IsStepCall}
-use Rattle.peer_core.specs.Moves.{stopped_leading, without_candidacy, left, left_answers, turned, turned_answers}
+use Rattle.peer_core.specs.Moves.{stopped_leading, without_candidacy, left, left_answers, turned, turned_answers, electing, without_sync}
 use Rattle.peer_core.specs.NoAllocation.{is_over, is_over_in, IsSteady}
 use Rattle.peer_core.specs.Rows.{while_10, while_13, while_14, ended, while_26}
 use Rattle.peer_core.specs.declared.event.Event.{Event}
@@ -33,7 +41,7 @@ use Rattle.peer_core.specs.declared.state.Leadership.{Leadership}
 use Rattle.peer_core.specs.declared.state.Phase.{Phase}
 use Rattle.peer_core.specs.declared.state.Phase.TheVariants as phases
 use Rattle.peer_core.specs.declared.state.State.{State}
-use Rattle.peer_core.proofs.Aging.{responded_passes, most_is_some}
+use Rattle.peer_core.proofs.Aging.{asked_asks, installed_asks, responded_passes, most_is_some}
 use Rattle.peer_core.proofs.Names.{NamesOnly, NamesNone, while_13_names, while_14_names}
 
 -- no change has begun
@@ -116,13 +124,53 @@ module _ (me : ℕ) (P : State → Out → Type 0) where
   saved_settles None x out next none go = go tt x out none
   saved_settles (Some fact) x out next none go = (tt, λ u. go tt (record x { fact = fact }) out none)
 
-  -- after a row, what follows runs the rule that it names
-  row_done_settles : (row : PhaseOut) (x : State) (out : Out) (next : Rest State (List Task)) → HasBegunNone x.phase
-      → ((y : State) (o : Out) → HasBegunNone y.phase → Follows IsStepCall P (next (named row.then) y o)) → Follows IsStepCall P (row_done me row x out next)
-  row_done_settles row x out next none go =
+  -- what follows goes on with these tasks
+  abbrev GoesWith : List Task → Rest State (List Task) → Type 0
+  GoesWith ts next = (y : State) (o : Out) → HasBegunNone y.phase → Follows IsStepCall P (next ts y o)
+
+  -- after a sync, no task follows, or rule 14 does
+  accepted_own_settles : (e : Election) (x : State) (out : Out) (next : Rest State (List Task)) → HasBegunNone x.phase → GoesWith [] next → GoesWith (tasks.Phase 14 ∷ []) next → Follows IsStepCall P (accepted_own me e x out next)
+  accepted_own_settles (Starting new accepts age) x out next none go own = own (electing (Starting new (joined me accepts) age) x) out tt
+  accepted_own_settles (Preparing base promises asked age) x out next none go own = go x out none
+
+  accepted_in_settles : (fact : Fact) (phase : Phase) (x : State) (out : Out) (next : Rest State (List Task)) → HasBegunNone x.phase → GoesWith [] next → GoesWith (tasks.Phase 14 ∷ []) next → Follows IsStepCall P (accepted_in me fact phase x out next)
+  accepted_in_settles fact (phases.Electing e) x out next none go own = accepted_own_settles e x out next none go own
+  accepted_in_settles fact (phases.Following f) x out next none go own = go x (and_sends out (accepted me fact)) none
+  accepted_in_settles fact (phases.Probing p) x out next none go own = go x out none
+  accepted_in_settles fact (phases.Leading l) x out next none go own = go x out none
+
+  ended_with_settles : (r : Running) (outcome : Outcome) (x : State) (out : Out) (next : Rest State (List Task)) → HasBegunNone x.phase → GoesWith [] next → GoesWith (tasks.Phase 14 ∷ []) next → Follows IsStepCall P (ended_with me r outcome x out next)
+  ended_with_settles r Pending x out next none go own = go (with_sync r x) out none
+  ended_with_settles r (Trusted entries) x out next none go own =
+      installed_asks P (needs_build r.sync.scan entries) entries (without_sync x) out
+      (λ u y o. saved (Some r.fact) y o (λ v z p. accepted_in me r.fact z.phase (record z { trusted = true }) p next))
+      (λ u. saved_settles (Some r.fact) (without_sync x) out (λ v z p. accepted_in me r.fact z.phase (record z { trusted = true }) p next) none
+      (λ v z p still. accepted_in_settles r.fact z.phase (record z { trusted = true }) p next still go own))
+
+  resumed_settles : (running : Option Running) (x : State) (out : Out) (next : Rest State (List Task)) → HasBegunNone x.phase → GoesWith [] next → Follows IsStepCall P (resumed_sync running x out next)
+  resumed_settles None x out next none go = go x out none
+  resumed_settles (Some r) x out next none go = go (with_sync (row_resume r).0 x) (and_sends out (row_resume r).1) none
+
+  followed_on_settles : (t : Then) (x : State) (out : Out) (next : Rest State (List Task)) → HasBegunNone x.phase → GoesWith [] next → GoesWith (tasks.Phase 14 ∷ []) next → GoesWith (named t) next
+      → Follows IsStepCall P (followed_on me t x out next)
+  followed_on_settles (thens.SyncOn fact) x out next none go own goes =
+      asked_asks P ScanTree tt x out (λ scan y o. gone_on me (row_start fact me y.trusted scan) y o next)
+      (λ scan. let r = row_start fact me x.trusted scan in ended_with_settles r.0 (outcome_of r.0.sync) x (and_sends out r.1) next none go own)
+  followed_on_settles thens.Resume x out next none go own goes = resumed_settles x.sync x out next none go
+  followed_on_settles (thens.Rule n) x out next none go own goes = goes x out none
+  followed_on_settles thens.Stay x out next none go own goes = go x out none
+  followed_on_settles thens.Follow x out next none go own goes = go x out none
+  followed_on_settles (thens.Lead fact) x out next none go own goes = go x out none
+  followed_on_settles thens.Untrust x out next none go own goes = go x out none
+  followed_on_settles thens.Put x out next none go own goes = go x out none
+
+  -- after a row, no task follows, or rule 14 does, or the rule that it names
+  row_done_settles : (row : PhaseOut) (x : State) (out : Out) (next : Rest State (List Task)) → HasBegunNone x.phase → GoesWith [] next → GoesWith (tasks.Phase 14 ∷ []) next → GoesWith (named row.then) next
+      → Follows IsStepCall P (row_done me row x out next)
+  row_done_settles row x out next none go own goes =
       saved_settles row.save (left row.leave x) (left_answers row.leave x out)
-      (λ u y o. next (named row.then) (turned me row.then y) (turned_answers row.then y (and_sends o (posted_to row.to row.message)))) (left_none row.leave x none)
-      (λ u y o still. go (turned me row.then y) (turned_answers row.then y (and_sends o (posted_to row.to row.message))) (turned_none me row.then y still))
+      (λ u y o. followed_on me row.then (turned me row.then y) (turned_answers row.then y (and_sends o (posted_to row.to row.message))) next) (left_none row.leave x none)
+      (λ u y o still. followed_on_settles row.then (turned me row.then y) (turned_answers row.then y (and_sends o (posted_to row.to row.message))) next (turned_none me row.then y still) go own goes)
 
   nothing_settles : (n : ℕ) → Settles (driven me n [])
   unfolding driven
@@ -147,13 +195,14 @@ module _ (me : ℕ) (P : State → Out → Type 0) where
   none_settles n thens.Untrust is = nothing_settles n
   none_settles n thens.Put is = nothing_settles n
   none_settles n thens.Resume is = nothing_settles n
-  none_settles n (thens.SyncOn fact) is = nothing_settles n
+  none_settles n (thens.SyncOn fact) is = absurd is
 
   settles_14 : (n : ℕ) → Settles (driven me n (tasks.Phase 14 ∷ []))
   unfolding driven
   settles_14 zero x out next none go = go _ x out none
   settles_14 (suc n) x out next none go =
       row_done_settles (while_14 x.phase me x).1 (while_14 x.phase me x).0 out (λ ts y o. driven me n (ts ++ []) y o next) (while_14_none x.phase me x none)
+      (λ y o still. nothing_settles n y o next still go) (λ y o still. settles_14 n y o next still go)
       (λ y o still. none_settles n (while_14 x.phase me x).1.then (while_14_names x.phase me x) y o next still go)
 
   settles_13 : (n : ℕ) → Settles (driven me n (tasks.Phase 13 ∷ []))
@@ -161,6 +210,7 @@ module _ (me : ℕ) (P : State → Out → Type 0) where
   settles_13 zero x out next none go = go _ x out none
   settles_13 (suc n) x out next none go =
       row_done_settles (while_13 x.phase me x).1 (while_13 x.phase me x).0 out (λ ts y o. driven me n (ts ++ []) y o next) (while_13_none x.phase me x none)
+      (λ y o still. nothing_settles n y o next still go) (λ y o still. settles_14 n y o next still go)
       (λ y o still. only_settles n 14 (while_13 x.phase me x).1.then (while_13_names x.phase me x) (settles_14 n) y o next still go)
 
   -- what comes next reaches the end from each steady state
@@ -186,6 +236,8 @@ module _ (me : ℕ) (P : State → Out → Type 0) where
       by_test true e = rw e (no_task n _ _ (λ rest z q. next tt z q) (go _ _ refl))
       by_test false e = rw e (
           row_done_settles (prepares x.fact me x.fact (next_ballot x.fact.ballot.count me)).0 _ out (λ ts y o. driven me n (ts ++ []) y o (λ rest z q. next tt z q)) tt
+          (λ y o still. nothing_settles n y o (λ rest z q. next tt z q) still (λ rest z q none. go z q (none_steady z.phase z.fact none)))
+          (λ y o still. settles_14 n y o (λ rest z q. next tt z q) still (λ rest z q none. go z q (none_steady z.phase z.fact none)))
           (λ y o still. settles_13 n y o (λ rest z q. next tt z q) still (λ rest z q none. go z q (none_steady z.phase z.fact none)))
           )
 

@@ -10,13 +10,17 @@ use Rattle.synctree.specs.Halves.{NodesDid}
 use Rattle.synctree.specs.Meanings.{Enters, Reopens}
 use Rattle.synctree.specs.Outsides.{outside_does, outside_refuses}
 use Rattle.synctree.specs.Plans.{Call, Node, Hash, AnswerOf, Plan, Done, Broken, Ask, Ends, Stops, Did}
+use Rattle.synctree.specs.Nodes.{node_plan}
 use Rattle.synctree.specs.Trees.{open_plan, fresh_plan, get_plan, insert_plan}
 use Rattle.synctree.specs.declared.error.TreeError.{TreeError}
 use Rattle.synctree.specs.declared.error.TreeError.TheVariants as trees
 use Rattle.step_plans.specs.Calls as peers
-use Rattle.step_plans.specs.Calls.{FreshTree, OpenTree, Find, Enter, Answers}
+use Rattle.step_plans.specs.Calls.{FreshTree, OpenTree, Find, Enter, ScanTree, ReadNode, Install, Answers}
 use Rattle.tree_maps.specs.Sixteen.{sixteen}
+use Rattle.tree_node.specs.declared.body.Scan.{Scan}
 use Rattle.tree_node.specs.declared.position.Position.{Position}
+use Rattle.tree_repair.specs.Rebuilds.{rebuild_plan}
+use Rattle.tree_verify.specs.Levels.{scan_plan}
 use Rattle.fact_store.specs.Keeping.{KeeperCall, KeeperAnswer}
 use Rattle.fact_store.specs.declared.error.KeepError.{KeepError}
 use Rattle.peer_fact.specs.declared.error.FactError.{FactError}
@@ -24,6 +28,7 @@ use Rattle.peer_fact.specs.declared.fact.Fact.{Fact}
 use Rattle.peer_core.specs.Stores.{stores_do, stores_refuse, TreeAlone, TreeLater, IsTreeError}
 use Rattle.peer_core.specs.TreeCalls.{Walks, Halts, heard, peer_error}
 use Rattle.peer_core.specs.declared.stores.Stores.{Stores}
+use Rattle.peer_core.proofs.Whole.{never_broken, scan_whole, rebuild_whole}
 
 same_count : {A : Type 0} (count : A → ℕ) (a b : A) → b ≡ a → count a ≤ count b
 same_count count a b e = omega (arith, ap count e)
@@ -183,3 +188,34 @@ module _ {N H : Type 0} (reads : N → (call : NodeCall) → NodeAnswer call →
       entered entry (Err (trees.Clash x y)) did = halts (insert_plan sixteen s.0.tree.top entry) (trees.Clash x y) did.1 did.0
       entered entry (Err (trees.BookFull k)) did = halts (insert_plan sixteen s.0.tree.top entry) (trees.BookFull k) did.1 did.0
       entered entry (Err trees.Memory) did = halts (insert_plan sixteen s.0.tree.top entry) trees.Memory did.1 did.0
+
+      -- the tree was scanned, which reports no damage as an error
+      pub scanned_ok : (found : Scan) → t.0.tree.top ≡ s.0.tree.top → Did Does Refuses (scan_plan sixteen s.0.tree.top) (s.0.tree.store, s.1) (Ok found) (t.0.tree.store, t.1) → StoresAnswer ScanTree (Ok found)
+      scanned_ok found top did = ((did, top), walks (scan_plan sixteen s.0.tree.top) (Ok found) did)
+
+      pub scanned_err : (e : TreeError) → t.0.tree.top ≡ s.0.tree.top → Did Does Refuses (scan_plan sixteen s.0.tree.top) (s.0.tree.store, s.1) (Err e) (t.0.tree.store, t.1) → StoresAnswer ScanTree (Err (peer_error e))
+      scanned_err (trees.Damaged at) top did = absurd (never_broken Does (scan_plan sixteen s.0.tree.top) _ did.0 at _ (scan_whole sixteen s.0.tree.top) did.1)
+      scanned_err trees.Failed top did = halts (scan_plan sixteen s.0.tree.top) trees.Failed top did
+      scanned_err (trees.Clash x y) top did = halts (scan_plan sixteen s.0.tree.top) (trees.Clash x y) top did
+      scanned_err (trees.BookFull k) top did = halts (scan_plan sixteen s.0.tree.top) (trees.BookFull k) top did
+      scanned_err trees.Memory top did = halts (scan_plan sixteen s.0.tree.top) trees.Memory top did
+
+      -- a node was read
+      pub node_read : (at : Position) (r : Result (Option (List ℕ)) TreeError) → t.0.tree.top ≡ s.0.tree.top → Did Does Refuses (node_plan sixteen s.0.tree.top at) (s.0.tree.store, s.1) r (t.0.tree.store, t.1) → StoresAnswer (ReadNode at) (heard r)
+      node_read at (Ok x) top did = ((did, top), walks (node_plan sixteen s.0.tree.top at) (Ok x) did)
+      node_read at (Err (trees.Damaged place)) top did = ((did, top), walks (node_plan sixteen s.0.tree.top at) (Err place) did)
+      node_read at (Err trees.Failed) top did = halts (node_plan sixteen s.0.tree.top at) trees.Failed top did
+      node_read at (Err (trees.Clash x y)) top did = halts (node_plan sixteen s.0.tree.top at) (trees.Clash x y) top did
+      node_read at (Err (trees.BookFull k)) top did = halts (node_plan sixteen s.0.tree.top at) (trees.BookFull k) top did
+      node_read at (Err trees.Memory) top did = halts (node_plan sixteen s.0.tree.top at) trees.Memory top did
+
+      -- the tree was built anew and installed
+      pub installed_ok : (entries : List Entry) (u : Unit {0}) → Enters (λ r. Did Does Refuses (rebuild_plan sixteen entries) (s.0.tree.store, s.1) r (t.0.tree.store, t.1)) s.0.tree.top (Ok u) t.0.tree.top → StoresAnswer (Install entries) (Ok u)
+      installed_ok entries u did = (did, changed (rebuild_plan sixteen entries) t.0.tree.top did)
+
+      pub installed_err : (entries : List Entry) (e : TreeError) → Enters (λ r. Did Does Refuses (rebuild_plan sixteen entries) (s.0.tree.store, s.1) r (t.0.tree.store, t.1)) s.0.tree.top (Err e) t.0.tree.top → StoresAnswer (Install entries) (Err (peer_error e))
+      installed_err entries (trees.Damaged at) did = absurd (never_broken Does (rebuild_plan sixteen entries) _ did.0.0 at _ (rebuild_whole sixteen entries) did.0.1)
+      installed_err entries trees.Failed did = halts (rebuild_plan sixteen entries) trees.Failed did.1 did.0
+      installed_err entries (trees.Clash x y) did = halts (rebuild_plan sixteen entries) (trees.Clash x y) did.1 did.0
+      installed_err entries (trees.BookFull k) did = halts (rebuild_plan sixteen entries) (trees.BookFull k) did.1 did.0
+      installed_err entries trees.Memory did = halts (rebuild_plan sixteen entries) trees.Memory did.1 did.0

@@ -7,7 +7,8 @@ use Rattle.ens_base.specs.declared.epoch.Epoch.{Epoch}
 use Rattle.ens_base.specs.declared.reply.Reply.TheVariants.{Unavailable}
 use Rattle.ens_object.specs.declared.object.Object.{Object}
 use Rattle.following.specs.Refusals.{is_served, tells_damage}
-use Rattle.following.specs.Requests.{row_21, row_22}
+use Rattle.exchange.specs.declared.question.Question.{Question}
+use Rattle.following.specs.Requests.{row_21, row_22, row_23}
 use Rattle.leader_words.specs.declared.out.AnswerOut.{AnswerOut}
 use Rattle.leader_words.specs.declared.out.LeadOut.{LeadOut}
 use Rattle.leader_words.specs.declared.out.Outgoing.{Outgoing}
@@ -19,10 +20,10 @@ use Rattle.leading.specs.Rules.{lead_row}
 use Rattle.leading.specs.Starts.{row_27}
 use Rattle.leading.specs.declared.leader.Leader.{Leader}
 use Rattle.peer_fact.specs.declared.fact.Fact.{Fact}
-use Rattle.step_plans.specs.Calls.{Save}
 use Rattle.step_plans.specs.Plans.{Plan, Done, Out, nothing, Part, asked, noted}
 use Rattle.step_plans.specs.Sends.{posted_to}
 use Rattle.step_plans.specs.Tasks.{named, keyed}
+use Rattle.phase_rows.specs.Orders.{is_same}
 use Rattle.step_plans.specs.declared.tasks.Task.{Task}
 use Rattle.step_plans.specs.declared.tasks.Task.TheVariants as tasks
 use Rattle.wire_frames.specs.Messages.{Obeys}
@@ -37,6 +38,7 @@ use Rattle.wire_frames.specs.declared.phase.Then.TheVariants as thens
 use Rattle.peer_core.specs.Leading.{row_5_calls, ticks, wished, begins}
 use Rattle.peer_core.specs.Moves.{left, left_answers, and_answers, leading, with_leader, turned, turned_answers}
 use Rattle.peer_core.specs.Owns.{looked, fetched, found, written, confirmed}
+use Rattle.peer_core.specs.Syncs.{saved, and_sends, followed_on, shown_node, got_give}
 use Rattle.peer_core.specs.Rows.{aged, asked_change, changes, leads, phase_row, received}
 use Rattle.peer_core.specs.declared.event.CallIn.{CallIn}
 use Rattle.peer_core.specs.declared.event.Event.{Event}
@@ -45,24 +47,15 @@ use Rattle.peer_core.specs.declared.state.Phase.{Phase}
 use Rattle.peer_core.specs.declared.state.Phase.TheVariants as phases
 use Rattle.peer_core.specs.declared.state.State.{State}
 
--- the fact, if there is one, is saved, and becomes the saved fact
-abbrev pub saved : Option Fact → Part State (Unit {0})
-saved None x out next = next tt x out
-saved (Some fact) x out next = asked (Save fact) x out (λ u y o. next tt (record y { fact = fact }) o)
-
--- these messages are added to the output
-abbrev pub and_sends : Out → List Outgoing → Out
-and_sends out more = record out { sends = out.sends ++ more }
-
 -- a row, except for what follows it: a leader steps down if asked, the fact is saved, and the
 -- message is sent
 abbrev pub performed : PhaseOut → Part State (Unit {0})
 performed row x out next =
     saved row.save (left row.leave x) (left_answers row.leave x out) (λ u y o. next tt y (and_sends o (posted_to row.to row.message)))
 
--- a whole row, which returns the rule that it names
+-- a whole row, with the sync that it begins or resumes; it returns the rule that runs next
 abbrev pub row_done : ℕ → PhaseOut → Part State (List Task)
-row_done me row x out next = performed row x out (λ u y o. next (named row.then) (turned me row.then y) (turned_answers row.then y o))
+row_done me row x out next = performed row x out (λ u y o. followed_on me row.then (turned me row.then y) (turned_answers row.then y o) next)
 
 -- what a rule of a leader asks of the peer's own tree and backend; rule 28 asks for the object alone
 abbrev pub owned : ℕ → Own → Part State Seen
@@ -156,6 +149,11 @@ abbrev pub get_replied : ℕ → ℕ → Epoch → ℕ → List ℕ → Option E
 get_replied me from ballot round key entry object x out next =
     confirmed entry object x out (λ named y o. lead (row_29_reply from ballot round key entry named) me 29 y.phase y o next)
 
+-- rule 23, TreeAsk: a node is read if the ballot is the promised one
+abbrev pub got_ask : ℕ → ℕ → Epoch → Question → Part State (List Task)
+got_ask me from ballot q x out next =
+    shown_node (is_same ballot x.fact.ballot) q x out (λ body y o. row_done me (row_23 y.fact y.trusted from ballot q.position q.after body) y o next)
+
 -- a message from a peer
 abbrev pub delivered : ℕ → ℕ → Message → Part State (List Task)
 delivered me from (messages.Get ballot round key) x out next = got me from ballot round key x out next
@@ -164,6 +162,9 @@ delivered me from (messages.GetReply ballot round key entry object) x out next =
     if leads x.phase then get_replied me from ballot round key entry object x out next else next [] x out
 delivered me from (messages.PutReply ballot key version) x out next = lead (row_35_reply from ballot key version) me 35 x.phase x out next
 delivered me from (messages.CheckReply ballot round) x out next = lead (row_33_reply from ballot round) me 33 x.phase x out next
+delivered me from (messages.TreeAsk ballot at after) x out next = got_ask me from ballot (record { position = at; after = after }) x out next
+delivered me from (messages.TreeGive ballot at after trusted body) x out next =
+    got_give me from (record { ballot = ballot; question = record { position = at; after = after }; trusted = trusted; body = body }) x out next
 delivered me from message x out next = row_done me (received me from message x).1 (received me from message x).0 out next
 
 -- the answer to a call that the peer does not take

@@ -1,7 +1,9 @@
 -- What all steps keep to, whatever the stores answer.
-use Rattle.std.specs.Prelude.{◌≡◌, ◌≢◌, ℕ, ◌==◌, Bool, true, All}
+use Rattle.std.specs.Prelude.{◌≡◌, ◌≢◌, ℕ, Option, None, Some, All}
+use Rattle.running_sync.specs.Running.{Running}
+use Rattle.running_sync.specs.Sends.{AsksOthers}
 use Rattle.ens_base.specs.View.{IsPeer}
-use Rattle.step_plans.specs.Calls.{Call, Save, Find, Enter, Fetch, Put, Hash, AnswerOf}
+use Rattle.step_plans.specs.Calls.{Call, Save, Find, Enter, ScanTree, ReadNode, Install, Fetch, Put, Hash, AnswerOf}
 use Rattle.step_plans.specs.Plans.{Plan, Done, Say, Ask, Out}
 use Rattle.step_plans.specs.declared.error.PeerError.{PeerError}
 use Rattle.step_plans.specs.declared.error.PeerError.TheVariants as errors
@@ -14,12 +16,15 @@ use Rattle.peer_core.specs.declared.state.Phase.{Phase}
 use Rattle.peer_core.specs.declared.state.Phase.TheVariants as phases
 use Rattle.peer_core.specs.declared.state.State.{State}
 
--- a call that a step may make: it saves the fact, finds or enters an entry, fetches or puts an
--- object, or hashes bytes
+-- a call that a step may make: it saves the fact, finds or enters an entry, scans the tree, reads one of
+-- its nodes or builds it anew, fetches or puts an object, or hashes bytes
 abbrev pub IsStepCall : Call → Type 0
 IsStepCall (Save fact) = Unit {0}
 IsStepCall (Find key) = Unit {0}
 IsStepCall (Enter entry) = Unit {0}
+IsStepCall ScanTree = Unit {0}
+IsStepCall (ReadNode at) = Unit {0}
+IsStepCall (Install entries) = Unit {0}
 IsStepCall (Fetch key) = Unit {0}
 IsStepCall (Put key bytes) = Unit {0}
 IsStepCall (Hash bytes) = Unit {0}
@@ -51,12 +56,14 @@ LeadsAs me (phases.Following f) = Unit {0}
 LeadsAs me (phases.Probing p) = Unit {0}
 LeadsAs me (phases.Electing e) = Unit {0}
 
--- the same condition as a test
-abbrev pub leads_as : ℕ → Phase → Bool
-leads_as me (phases.Leading l) = l.leader.me == me
-leads_as me (phases.Following f) = true
-leads_as me (phases.Probing p) = true
-leads_as me (phases.Electing e) = true
+-- a sync that runs asks other peers alone
+abbrev pub SyncsAs : ℕ → Option Running → Type 0
+SyncsAs me None = Unit {0}
+SyncsAs me (Some r) = AsksOthers me r
+
+-- a leader sends as this peer, and a sync that runs asks other peers alone
+abbrev pub IsOwn : ℕ → State → Type 0
+IsOwn me x = LeadsAs me x.phase × SyncsAs me x.sync
 
 -- if a walk in the tree found damage, it was at a position of the tree
 abbrev pub IsInTree : {A : Type 0} → Walked A → Type 0
@@ -67,6 +74,7 @@ IsInTree (Broken at) = IsPosition at
 abbrev pub IsSound : (call : Call) → AnswerOf call → Type 0
 IsSound (Find key) found = IsInTree found
 IsSound (Enter entry) end = IsInTree end
+IsSound (ReadNode at) node = IsPosition at → IsInTree node
 IsSound other answer = Unit {0}
 
 -- each end that the plan may reach satisfies P, as long as the answers of the stores are sound

@@ -24,9 +24,13 @@ use Rattle.peer_core.specs.declared.state.State.{State}
 abbrev pub follower : Phase
 follower = phases.Following (record { quiet = 0 })
 
--- the peer follows
+-- no sync runs
+abbrev pub without_sync : State → State
+without_sync x = record x { sync = None }
+
+-- the peer follows, and no sync runs
 abbrev pub followed : State → State
-followed x = record x { phase = follower }
+followed x = record x { phase = follower; sync = None }
 
 -- a leader steps down, and any other phase stays
 abbrev pub stopped_leading : Phase → Phase
@@ -75,10 +79,10 @@ without_candidacy (phases.Leading l) = phases.Leading l
 without_candidacy (phases.Following f) = phases.Following f
 without_candidacy (phases.Probing p) = phases.Probing p
 
--- the tree becomes untrusted: a leader steps down, a starting peer follows, and any other stays in
--- its phase
+-- the tree becomes untrusted, and no sync runs: a leader steps down, a starting peer follows, and any
+-- other stays in its phase
 abbrev pub untrusted : State → State
-untrusted x = record x { trusted = false; phase = without_candidacy (stopped_leading x.phase) }
+untrusted x = record x { trusted = false; phase = without_candidacy (stopped_leading x.phase); sync = None }
 
 -- the peers that accepted the epoch that is starting
 abbrev pub accepts_of : Election → List Bool
@@ -100,9 +104,9 @@ leading l x = record x { phase = phases.Leading l }
 abbrev pub with_leader : Leader → Leadership → Leadership
 with_leader leader l = record l { leader = leader }
 
--- the peer `me` leads the epoch of this fact, with the acceptances so far
+-- the peer `me` leads the epoch of this fact, with the acceptances so far, and no sync runs
 abbrev pub led : ℕ → Fact → State → State
-led me fact x = leading (record { leader = new_leader fact me (accepts_in x.phase); change = Settled }) x
+led me fact x = leading (record { leader = new_leader fact me (accepts_in x.phase); change = Settled }) (without_sync x)
 
 -- the peer follows, with some quiet ticks counted
 abbrev pub following : Follower → State → State
@@ -116,19 +120,37 @@ probing p x = record x { phase = phases.Probing p }
 abbrev pub electing : Election → State → State
 electing e x = record x { phase = phases.Electing e }
 
--- the peer begins to probe, if this is given
+-- the peer begins to probe, if this is given, and no sync runs
 abbrev pub sought : Option Probing → State → State
 sought None x = x
-sought (Some p) x = probing p x
+sought (Some p) x = probing p (without_sync x)
 
--- the peer begins an election, if this is given
+-- the peer begins an election, if this is given, and no sync runs
 abbrev pub stood : Option Election → State → State
 stood None x = x
-stood (Some election) x = electing election x
+stood (Some election) x = electing election (without_sync x)
 
--- What follows the message of a rule, at peer `me`. A sync asks nobody yet, so beginning or resuming
--- one changes nothing. The object of a put is written by the rule that asks for it, and a rule that
--- is named runs next.
+-- a peer that waits for a sync follows, with no quiet tick; a leader stays until it steps down
+abbrev pub waiting_phase : Phase → Phase
+waiting_phase (phases.Leading l) = phases.Leading l
+waiting_phase (phases.Following f) = follower
+waiting_phase (phases.Probing p) = follower
+waiting_phase (phases.Electing e) = follower
+
+-- the peer waits for the end of a sync, if a sync begins or resumes
+abbrev pub waiting_for : Then → State → State
+waiting_for (thens.SyncOn fact) x = record x { phase = waiting_phase x.phase }
+waiting_for thens.Resume x = record x { phase = waiting_phase x.phase }
+waiting_for thens.Stay x = x
+waiting_for thens.Follow x = x
+waiting_for (thens.Lead fact) x = x
+waiting_for thens.Untrust x = x
+waiting_for thens.Put x = x
+waiting_for (thens.Rule n) x = x
+
+-- How the phase and the trust change after the message of a rule, at peer `me`. The object of a put
+-- is written by the rule that asks for it; a sync that begins or resumes, and a rule that is named,
+-- run next.
 abbrev pub turned : ℕ → Then → State → State
 turned me thens.Follow x = followed x
 turned me (thens.Lead fact) x = led me fact x

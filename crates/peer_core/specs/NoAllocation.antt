@@ -4,7 +4,8 @@ use Rattle.std.specs.Prelude.{◌≡◌, ◌≢◌, ℕ, Bool, true, false, []}
 use Rattle.call_table.specs.Calls.{has_calls}
 use Rattle.peer_fact.specs.declared.fact.Fact.{Fact}
 use Rattle.step_plans.specs.Outboxes.{FitsIn}
-use Rattle.step_plans.specs.Tasks.{named}
+use Rattle.wire_frames.specs.declared.phase.Then.{Then}
+use Rattle.wire_frames.specs.declared.phase.Then.TheVariants as thens
 use Rattle.step_plans.specs.declared.outbox.Outbox.{Outbox}
 use Rattle.step_plans.specs.declared.tasks.Task.{Task}
 use Rattle.step_plans.specs.declared.tasks.Task.TheVariants as tasks
@@ -59,11 +60,22 @@ abbrev pub EndsQuietly : Bool → Phase → Type 0
 EndsQuietly true phase = waits phase ≡ false
 EndsQuietly false phase = Unit {0}
 
--- the row names no rule, the outbox has room for its message, if there is one, which has one
+-- whether nothing runs after a row: no rule is named, and no sync begins or resumes
+abbrev pub ends_step : Then → Bool
+ends_step thens.Stay = true
+ends_step thens.Follow = true
+ends_step (thens.Lead fact) = true
+ends_step thens.Untrust = true
+ends_step thens.Put = true
+ends_step thens.Resume = false
+ends_step (thens.SyncOn fact) = false
+ends_step (thens.Rule n) = false
+
+-- nothing runs after the row, the outbox has room for its message, if there is one, which has one
 -- receiver, and no call is unanswered if it ends leading
 pub record IsFreeRow (o : Outbox) (phase : Phase) (row : PhaseOut) : Type 0 where
   pub fits : FitsIn o row.to row.message
-  pub ends : named row.then ≡ []
+  pub ends : ends_step row.then ≡ true
   pub leaves : EndsQuietly row.leave phase
   pub turns : EndsQuietly (ends_leading row.then) phase
 

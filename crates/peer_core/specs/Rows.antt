@@ -18,6 +18,7 @@ use Rattle.peer_fact.specs.declared.fact.Fact.{Fact}
 use Rattle.phase_rows.specs.Orders.{is_same}
 use Rattle.phase_rows.specs.Peers.{joined}
 use Rattle.phase_rows.specs.Rows.{silent}
+use Rattle.running_sync.specs.Running.{Running}
 use Rattle.probe.specs.Probing.{row_3 as probing_row_3, row_7, row_8, row_8_probe, row_9}
 use Rattle.view_change.specs.Changes.{row_24, row_25}
 use Rattle.view_change.specs.Finishing.{row_17 as finishing_row_17, row_26}
@@ -28,7 +29,7 @@ use Rattle.wire_frames.specs.declared.message.NackCause.{NackCause}
 use Rattle.wire_frames.specs.declared.phase.PhaseOut.{PhaseOut}
 use Rattle.wire_frames.specs.declared.phase.Then.{Then}
 use Rattle.wire_frames.specs.declared.phase.Then.TheVariants as thens
-use Rattle.peer_core.specs.Moves.{electing, following, leading, probing, sought, stood}
+use Rattle.peer_core.specs.Moves.{electing, following, leading, probing, sought, stood, waiting_for}
 use Rattle.peer_core.specs.declared.state.ChangeState.{ChangeState}
 use Rattle.peer_core.specs.declared.state.ChangeState.TheVariants.{Settled, Wanted, Finishing as Finishes}
 use Rattle.peer_core.specs.declared.state.Leadership.{Leadership}
@@ -40,10 +41,16 @@ use Rattle.peer_core.specs.declared.state.State.{State}
 abbrev pub calm : State → State × PhaseOut
 calm x = (x, silent thens.Stay)
 
--- rules 3 and 4, a tick while preparing or starting; no sync runs yet
+-- whether a sync runs
+abbrev pub runs_sync : Option Running → Bool
+runs_sync None = false
+runs_sync (Some r) = true
+
+-- rules 3 and 4, a tick while preparing or starting
 abbrev pub aged_election : Election → ℕ → State → State × PhaseOut
 aged_election (Preparing base promises asked age) me x = (electing (row_3 (Preparing base promises asked age)).0 x, (row_3 (Preparing base promises asked age)).1)
-aged_election (Starting new accepts age) me x = (electing (row_4 (Starting new accepts age) me false).0 x, (row_4 (Starting new accepts age) me false).1)
+aged_election (Starting new accepts age) me x =
+    (electing (row_4 (Starting new accepts age) me (runs_sync x.sync)).0 x, (row_4 (Starting new accepts age) me (runs_sync x.sync)).1)
 
 -- rules 2 to 4, a tick of a peer that does not lead
 abbrev pub aged : Phase → ℕ → State → State × PhaseOut
@@ -97,15 +104,10 @@ while_15 (phases.Electing e) ballot cause x = (x, row_15 x.fact ballot cause)
 while_15 (phases.Leading l) ballot cause x = (x, row_15 x.fact ballot cause)
 while_15 other ballot cause x = calm x
 
--- a peer that would wait for a sync follows; a sync asks nobody yet
-abbrev pub awaiting : Then → Then
-awaiting (thens.SyncOn fact) = thens.Follow
-awaiting thens.Resume = thens.Follow
-awaiting other = other
-
 -- rule 16: a leader announces the first fact of its epoch
-abbrev pub announced : ℕ → ℕ → Fact → State → PhaseOut
-announced me from new x = record (row_16 x.fact me x.trusted false from new) { then = awaiting (row_16 x.fact me x.trusted false from new).then }
+abbrev pub announced : ℕ → ℕ → Fact → State → State × PhaseOut
+announced me from new x =
+    (waiting_for (row_16 x.fact me x.trusted (runs_sync x.sync) from new).then x, row_16 x.fact me x.trusted (runs_sync x.sync) from new)
 
 -- the acceptances of the second fact, if the epoch is ending
 abbrev pub change_heard : ChangeState → Fact → ℕ → Epoch → ℕ → ChangeState
@@ -192,15 +194,14 @@ phase_row n me x =
     else calm x))))))
 
 -- a message from a peer whose rule asks neither the tree nor the backend, and which no leader counts
--- for its calls; a message that does not fit the phase is ignored, and the rules of the remaining
--- messages are not supported yet
+-- for its calls; a message that does not fit the phase is ignored, and so is one that no rule counts
 abbrev pub received : ℕ → ℕ → Message → State → State × PhaseOut
 received me from messages.Probe x = (x, row_8_probe x.fact from)
 received me from (messages.ProbeReply fact) x = while_8 x.phase me from fact x
 received me from (messages.Prepare ballot) x = (x, row_11 x.fact from ballot)
 received me from (messages.Promise ballot fact) x = while_12 x.phase me from ballot fact x
 received me from (messages.Nack ballot cause) x = while_15 x.phase ballot cause x
-received me from (messages.NewEpoch fact) x = (x, announced me from fact x)
+received me from (messages.NewEpoch fact) x = announced me from fact x
 received me from (messages.Accepted ballot seq) x = while_17 x.phase from ballot seq x
 received me from (messages.Commit fact) x = (x, row_18 x.fact x.trusted from fact)
 received me from (messages.Beat ballot) x = (x, row_19 x.fact x.trusted from ballot)

@@ -11,7 +11,7 @@ use Rattle.peer_core.specs.declared.state.State.{State}
 
 -- the state in which a peer starts: it follows
 abbrev pub first_state : Fact → Bool → State
-first_state fact trusted = record { fact = fact; trusted = trusted; phase = follower }
+first_state fact trusted = record { fact = fact; trusted = trusted; phase = follower; sync = None }
 
 -- the opening fact is saved, and the tree is trusted
 abbrev pub saves_opening : List ℕ → Plan State

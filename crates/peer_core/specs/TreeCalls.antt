@@ -1,33 +1,21 @@
 -- What the tree of a peer and the hasher lent to it may answer: each call is a plan of the tree.
 use Rattle.std.specs.Option.{IsSomeAnd}
-use Rattle.std.specs.Prelude.{◌≡◌, ℕ, List, [], ◌∷◌, Option, Result, Ok, Err}
-use Rattle.ens_base.specs.declared.entry.Entry.{Entry}
+use Rattle.std.specs.Prelude.{◌≡◌, ℕ, List, Option, Result, Ok, Err}
 use Rattle.step_plans.specs.Calls.{Call, FreshTree, OpenTree, Find, Enter, ScanTree, ReadNode, Install, AnswerOf}
 use Rattle.step_plans.specs.declared.walked.Walked.{Walked}
 use Rattle.step_plans.specs.declared.walked.Walked.TheVariants.{Reached, Broken}
 use Rattle.step_plans.specs.declared.error.PeerError.{PeerError}
 use Rattle.step_plans.specs.declared.error.PeerError.TheVariants as errors
-use Rattle.synctree.specs.Installs.{install_plan}
 use Rattle.synctree.specs.Nodes.{node_plan}
-use Rattle.synctree.specs.Plans.{Plan, Hash, Done, Ask, ◌>>=◌, Ends, Stops, Call as TreeCall, AnswerOf as TreeAnswer}
+use Rattle.synctree.specs.Plans.{Plan, Ends, Stops, Call as TreeCall, AnswerOf as TreeAnswer}
 use Rattle.synctree.specs.Trees.{open_plan, fresh_plan, get_plan, insert_plan}
 use Rattle.synctree.specs.declared.error.TreeError.{TreeError}
 use Rattle.synctree.specs.declared.error.TreeError.TheVariants as trees
 use Rattle.synctree.specs.declared.tree.Tree.{Tree}
-use Rattle.tree_maps.specs.Forms.{Form}
 use Rattle.tree_maps.specs.Sixteen.{sixteen}
 use Rattle.tree_node.specs.declared.position.Position.{Position}
-use Rattle.tree_repair.specs.Builds.{build_nodes, build_of}
+use Rattle.tree_repair.specs.Rebuilds.{rebuild_plan}
 use Rattle.tree_verify.specs.Levels.{scan_plan}
-
--- gives these strings to the hasher, one after another
-abbrev pub hash_all : List (List ℕ) → Plan (Unit {0})
-hash_all [] = Done tt
-hash_all (x ∷ xs) = Ask (Hash x) (λ _. hash_all xs)
-
--- hashes the nodes of the tree of these entries, and then writes them, and the top record last
-abbrev pub rebuild_plan : Form → List Entry → Plan (List ℕ)
-rebuild_plan F m = hash_all (build_nodes F m) >>= (λ _. install_plan (build_of F m).nodes (build_of F m).top)
 
 -- the end of a walk that has this answer
 abbrev pub end_of : {A : Type 0} → Walked A → Result A Position

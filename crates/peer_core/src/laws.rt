@@ -4,7 +4,7 @@ ghost use Rattle.step_plans.specs.Plans.{Out, Rest};
 ghost use Rattle.step_plans.specs.declared.tasks.Task.{Task};
 ghost use Rattle.step_plans.specs.declared.tasks.Task.TheVariants.{Phase};
 ghost use Rattle.peer_core.specs.Drives.{first, task_done, driven, most_turns, step_of, MayCome};
-ghost use Rattle.peer_core.specs.Kept.{AllMayGo, LeadsAs, Reaches};
+ghost use Rattle.peer_core.specs.Kept.{AllMayGo, IsOwn, Reaches};
 ghost use Rattle.peer_core.specs.Turns.{StepsAlone, IsFineAtNone, HasFewCalls};
 ghost use Rattle.peer_core.specs.declared.event.Event.{Event};
 ghost use Rattle.peer_core.specs.declared.state.State.{State};
@@ -19,8 +19,9 @@ pub fn nothing_is_left()
 {}
 
 /// As long as the damage that the stores report is at positions of the tree, the messages of a step
-/// go to other peers and obey the grammar of frames, and a leader sends as the peer itself.
+/// go to other peers and obey the grammar of frames, a leader sends as the peer itself, and a sync asks
+/// other peers alone.
 pub fn messages_may_go()
-    ensures sends { (me : ℕ) (event : Event) (x : State) → IsPeer me → MayCome me event → LeadsAs me x.phase → Reaches (λ y out. AllMayGo me out) (step_of me event x) }
-    ensures leader { (me : ℕ) (event : Event) (x : State) → IsPeer me → MayCome me event → LeadsAs me x.phase → Reaches (λ y out. LeadsAs me y.phase) (step_of me event x) }
+    ensures sends { (me : ℕ) (event : Event) (x : State) → IsPeer me → MayCome me event → IsOwn me x → Reaches (λ y out. AllMayGo me out) (step_of me event x) }
+    ensures own { (me : ℕ) (event : Event) (x : State) → IsPeer me → MayCome me event → IsOwn me x → Reaches (λ y out. IsOwn me y) (step_of me event x) }
 {}

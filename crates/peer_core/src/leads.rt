@@ -16,8 +16,8 @@ use ens_base::{Entry, Epoch, Key, PeerId, Reply, Version};
 use ens_object::Object;
 use leader_words::{LeadError, LeadOut, Own};
 use peer_fact::{Change, Fact};
-use step_plans::{Outbox, PeerError, Store, Task, Tasks};
 use std::alloc::Global;
+use step_plans::{Outbox, PeerError, Store, Task, Tasks};
 use wire_frames::{Message, Seen, Then};
 
 /// The key that a rule asks about.

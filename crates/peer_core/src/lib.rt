@@ -36,6 +36,7 @@ mod starting;
 mod state;
 mod stepping;
 mod stores;
+mod syncing;
 
 pub use event::{CallIn, Event};
 pub use laws::{messages_may_go, nothing_is_left};

@@ -1,19 +1,20 @@
-ghost use Rattle.std.specs.Prelude.{◌≡◌, [], Bool, IsOk, IfOk, IfErr, OnOk, IsErrOf};
+ghost use Rattle.std.specs.Prelude.{◌≡◌, [], true, Bool, IsOk, IfOk, IfErr, OnOk, IsErrOf};
 ghost use Rattle.ens_base.specs.View.{IsPeer};
 ghost use Rattle.step_plans.specs.Outboxes.{FitsIn, Grows};
 ghost use Rattle.step_plans.specs.Calls.{Save};
 ghost use Rattle.step_plans.specs.Plans.{asked};
-ghost use Rattle.step_plans.specs.Tasks.{named};
-ghost use Rattle.peer_core.specs.Drives.{saved, performed, row_done, task_done, driven};
-ghost use Rattle.peer_core.specs.NoAllocation.{EndsQuietly, IsFreeRow, IsFreeTask};
+ghost use Rattle.peer_core.specs.Drives.{performed, row_done, task_done, driven};
+ghost use Rattle.peer_core.specs.Moves.{turned, turned_answers, ends_leading};
+ghost use Rattle.peer_core.specs.Syncs.{saved, followed_on};
+ghost use Rattle.peer_core.specs.NoAllocation.{ends_step, EndsQuietly, IsFreeRow, IsFreeTask};
 ghost use Rattle.peer_core.specs.Outcomes.{Acts};
 
 use crate::state::State;
 use ens_base::PeerId;
 use peer_fact::{Change, Fact};
-use step_plans::{Outbox, PeerError, Store, Task, Tasks};
 use std::alloc::Global;
-use wire_frames::{Message, PhaseOut, Seen};
+use step_plans::{Outbox, PeerError, Store, Task, Tasks};
+use wire_frames::{Message, PhaseOut, Seen, Then};
 
 /// The state of a peer and its stores.
 #[derive(Drop)]
@@ -36,7 +37,12 @@ impl<S> Machine<S> {
 
     /// Saves the fact, if there is one.
     #[tactic(auto, using(crate::proofs::Parts::cut))]
-    fn save<H>(&mut self, hasher: &mut H, out: &Outbox, save: Option<Fact>) -> Result<(), PeerError>
+    pub(crate) fn save<H>(
+        &mut self,
+        hasher: &mut H,
+        out: &Outbox,
+        save: Option<Fact>,
+    ) -> Result<(), PeerError>
     where
         S: Store<H>,
         ensures acts { Acts S.does S.refuses (saved save) self.old hasher.old out.now result self.new hasher.new out.now }
@@ -83,7 +89,31 @@ impl<S> Machine<S> {
         Ok(())
     }
 
-    /// Applies a row, and returns the rule that it names.
+    /// Applies what follows the message of a row, with the sync that it begins or resumes. Returns the
+    /// rule that runs next.
+    #[tactic(auto, using(crate::proofs::Parts::cut))]
+    fn turn<H>(
+        &mut self,
+        hasher: &mut H,
+        alloc: Global,
+        out: &mut Outbox,
+        me: PeerId,
+        then: Then,
+    ) -> Result<Tasks, PeerError>
+    where
+        S: Store<H>,
+        requires { IsPeer me }
+        ensures acts { Acts S.does S.refuses (λ x o next. followed_on me then (turned me then x) (turned_answers then x o) next) self.old hasher.old out.old result self.new hasher.new out.new }
+        ensures grows { Grows out.old out.new }
+        ensures none { ends_step then ≡ true → IfOk result (λ tasks. tasks ≡ []) }
+        ensures fits { ends_step then ≡ true → EndsQuietly (ends_leading then) self.old.state.phase → IsOk result }
+    {
+        self.state.turn(alloc, out, me, then)?;
+        let tasks = self.follow_on(hasher, alloc, out, me, &then)?;
+        Ok(tasks)
+    }
+
+    /// Applies a row, with the sync that it begins or resumes. Returns the rule that runs next.
     #[tactic(auto, using(crate::proofs::Parts::cut))]
     pub(crate) fn row_done<H>(
         &mut self,
@@ -95,15 +125,16 @@ impl<S> Machine<S> {
     ) -> Result<Tasks, PeerError>
     where
         S: Store<H>,
+        requires { IsPeer me }
         ensures acts { Acts S.does S.refuses (row_done me row) self.old hasher.old out.old result self.new hasher.new out.new }
         ensures grows { Grows out.old out.new }
-        ensures names { IfOk result (λ tasks. tasks ≡ named row.then) }
+        ensures none { ends_step row.then ≡ true → IfOk result (λ tasks. tasks ≡ []) }
         ensures fits { IsFreeRow out.old self.old.state.phase row → ¬ IsErrOf result PeerError.Memory }
     {
         let then = row.then;
         self.perform(hasher, alloc, out, row)?;
-        self.state.turn(alloc, out, me, then)?;
-        Ok(Tasks::named(alloc, then)?)
+        let tasks = self.turn(hasher, alloc, out, me, then)?;
+        Ok(tasks)
     }
 
     /// Runs the rule of one task, and returns the rules that its row names.

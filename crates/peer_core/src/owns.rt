@@ -11,8 +11,8 @@ use ens_base::{Bytes, Digest, Entry, Key};
 use ens_object::{Object, ObjectError};
 use kept_objects::{entry_of, matching, object_in};
 use peer_fact::{Change, Fact};
-use step_plans::{Outbox, PeerError, Store, Walked};
 use std::alloc::Global;
+use step_plans::{Outbox, PeerError, Store, Walked};
 use wire_frames::{Message, Seen};
 
 /// Encodes the object. Fails only when out of memory.

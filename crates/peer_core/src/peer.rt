@@ -1,7 +1,8 @@
 ghost use Rattle.std.specs.Prelude.{◌≡◌, ◌↔◌, true, false};
 ghost use Rattle.ens_base.specs.View.{IsPeer};
 ghost use Rattle.peer_core.specs.Ages.{is_young};
-ghost use Rattle.peer_core.specs.Kept.{leads_as};
+ghost use Rattle.peer_core.specs.Kept.{IsOwn};
+ghost use Rattle.peer_core.specs.Own.{own_props};
 ghost use Rattle.peer_core.specs.NoAllocation.{IsSteady};
 
 use crate::event::Event;
@@ -13,8 +14,8 @@ use ens_base::{PeerId, View};
 use ens_hashing::Hasher16;
 use ens_outside::{Backend, NodeStore};
 use fact_store::FactKeeper;
-use step_plans::{Outbox, PeerError};
 use std::alloc::Global;
+use step_plans::{Outbox, PeerError};
 
 /// A peer over its stores. A halted peer takes no step.
 #[derive(Drop)]
@@ -25,7 +26,7 @@ pub struct Peer<B, N, F> {
     ghost is_peer: { IsPeer me },
     ghost young: { halted ≡ false → is_young machine.state.phase ≡ true },
     ghost steady: { halted ≡ false → IsSteady machine.state },
-    ghost own: { halted ≡ false → leads_as me machine.state.phase ≡ true },
+    ghost own: { halted ≡ false → IsOwn me machine.state } by { Prim.hlevel own_props },
 }
 
 /// A peer without its stores. The stores may be changed before the peer resumes.
@@ -37,7 +38,7 @@ pub struct Suspended {
     ghost is_peer: { IsPeer me },
     ghost young: { halted ≡ false → is_young state.phase ≡ true },
     ghost steady: { halted ≡ false → IsSteady state },
-    ghost own: { halted ≡ false → leads_as me state.phase ≡ true },
+    ghost own: { halted ≡ false → IsOwn me state } by { Prim.hlevel own_props },
 }
 
 /// Why a peer did not start, and the stores that it was given.

@@ -1,7 +1,6 @@
 ghost use Rattle.std.specs.Prelude.{◌≡◌};
 ghost use Rattle.ens_base.specs.View.{IsPeer};
 ghost use Rattle.peer_core.specs.Ages.{IsYoung, IsYoungElection};
-ghost use Rattle.peer_core.specs.Rows.{awaiting as awaits};
 
 use crate::state::{Phase, State};
 use election::{Election, rule_10, rule_11, rule_15};
@@ -23,7 +22,7 @@ impl State {
         let mut election = election;
         let row = match election {
             Election::Preparing { .. } => election.rule_3(),
-            Election::Starting { .. } => election.rule_4(me, false),
+            Election::Starting { .. } => election.rule_4(me, self.sync.is_some()),
         };
         self.phase = Phase::Electing(election);
         row
@@ -178,28 +177,18 @@ impl State {
     }
 }
 
-/// Makes a peer that would wait for a sync follow instead.
-fn await_sync(then: Then) -> Then
-    ensures { result ≡ awaits then }
-{
-    match then {
-        Then::SyncOn(_) => Then::Follow,
-        Then::Resume => Then::Follow,
-        _ => then,
-    }
-}
-
 impl State {
     ghost use Rattle.peer_core.specs.Rows.{announced, while_17, leads, changes, asked_change, while_25, while_26, phase_row, received};
 
     /// Rule 16: a leader announces the first fact of its epoch.
-    fn rule_16(&self, me: PeerId, from: PeerId, new: Fact) -> PhaseOut
+    fn rule_16(&mut self, me: PeerId, from: PeerId, new: Fact) -> PhaseOut
         requires { IsPeer from }
-        ensures { result ≡ announced me from new self.now }
+        ensures { (self.new, result) ≡ announced me from new self.old }
     {
-        let row = rule_16(self.fact, me, self.trusted, false, from, new);
-        let then = await_sync(row.then);
-        PhaseOut { then, ..row }
+        let runs = self.sync.is_some();
+        let row = rule_16(self.fact, me, self.trusted, runs, from, new);
+        self.wait_for(&row.then);
+        row
     }
 
     /// Rule 17: counts an acceptance.
@@ -269,7 +258,7 @@ impl State {
     }
 
     /// The row of the rule for a message, if that asks neither the tree nor the backend. Nothing
-    /// happens on a message that does not fit the phase, or whose rule is not supported yet.
+    /// happens on a message that does not fit the phase, or that no rule counts.
     pub(crate) fn receive(&mut self, me: PeerId, from: PeerId, message: &Message) -> PhaseOut
         requires { IsPeer me × IsPeer from }
         ensures { (self.new, result) ≡ received me from message.now self.old }

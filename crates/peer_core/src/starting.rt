@@ -1,14 +1,14 @@
 ghost use Rattle.std.specs.Prelude.{◌≡◌, ℕ, true, IfOk};
 ghost use Rattle.peer_core.specs.Ages.{is_young};
-ghost use Rattle.peer_core.specs.Kept.{leads_as};
+ghost use Rattle.peer_core.specs.Kept.{IsOwn};
 ghost use Rattle.peer_core.specs.NoAllocation.{IsSteady};
 ghost use Rattle.peer_core.specs.Starts.{Starts, start_of, first_state as first, saves_opening, opened as opens};
 
 use crate::state::{State, following};
 use ens_base::View;
 use peer_fact::{Change, Fact};
-use step_plans::{PeerError, Store};
 use std::alloc::Global;
+use step_plans::{PeerError, Store};
 
 /// The state in which a peer starts: it follows.
 fn first_state(fact: Fact, trusted: bool) -> State
@@ -18,6 +18,7 @@ fn first_state(fact: Fact, trusted: bool) -> State
         fact,
         trusted,
         phase: following(),
+        sync: None,
     }
 }
 
@@ -30,7 +31,7 @@ fn save_opening<H, S: Store<H>>(
     ensures starts { Starts S.does S.refuses (saves_opening opening) (stores.old, hasher.old) result (stores.new, hasher.new) }
     ensures young { IfOk result (λ x. is_young x.phase ≡ true) }
     ensures steady { IfOk result (λ x. IsSteady x) }
-    ensures own { IfOk result (λ x. (me : ℕ) → leads_as me x.phase ≡ true) }
+    ensures own { IfOk result (λ x. (me : ℕ) → IsOwn me x) }
 {
     let fact = Fact::opening(opening);
     match stores.save(hasher, &fact) {
@@ -50,7 +51,7 @@ fn opened<H, S: Store<H>>(
     ensures starts { Starts S.does S.refuses (opens opening kept) (stores.old, hasher.old) result (stores.new, hasher.new) }
     ensures young { IfOk result (λ x. is_young x.phase ≡ true) }
     ensures steady { IfOk result (λ x. IsSteady x) }
-    ensures own { IfOk result (λ x. (me : ℕ) → leads_as me x.phase ≡ true) }
+    ensures own { IfOk result (λ x. (me : ℕ) → IsOwn me x) }
 {
     match kept {
         Some(fact) => match stores.open_tree(hasher, alloc) {
@@ -74,7 +75,7 @@ pub(crate) fn start<H, S: Store<H>>(
     ensures starts { Starts S.does S.refuses (start_of opening) (stores.old, hasher.old) result (stores.new, hasher.new) }
     ensures young { IfOk result (λ x. is_young x.phase ≡ true) }
     ensures steady { IfOk result (λ x. IsSteady x) }
-    ensures own { IfOk result (λ x. (me : ℕ) → leads_as me x.phase ≡ true) }
+    ensures own { IfOk result (λ x. (me : ℕ) → IsOwn me x) }
 {
     let kept = stores.load(hasher)?;
     opened(stores, hasher, alloc, opening, kept)

@@ -1,7 +1,7 @@
 ghost use Rattle.std.specs.Prelude.{◌≡◌, IsOk, OnOk, IfOk, IfErr, false, true, []};
 ghost use Rattle.leading.specs.Leaders.{new_leader};
 ghost use Rattle.step_plans.specs.Outboxes.{Grows, out_of};
-ghost use Rattle.peer_core.specs.Moves.{follower, waits, timeouts, and_answers, stopped_leading, without_candidacy, accepts_of, accepts_in, leading, left, left_answers, followed, untrusted, turned, ends_leading, turned_answers, stood, sought};
+ghost use Rattle.peer_core.specs.Moves.{follower, waits, timeouts, and_answers, stopped_leading, without_candidacy, without_sync, accepts_of, accepts_in, leading, left, left_answers, followed, untrusted, turned, ends_leading, turned_answers, stood, sought, waiting_phase, waiting_for};
 ghost use Rattle.peer_core.specs.NoAllocation.{EndsQuietly};
 ghost use Rattle.peer_core.specs.declared.state.ChangeState.TheVariants.{Settled};
 
@@ -10,10 +10,11 @@ use ens_base::{PeerId, PeerSet};
 use following::Follower;
 use leading::Leader;
 use peer_fact::{Change, Fact};
-use step_plans::{AnswerOut, Outbox, PeerError};
 use probe::Probing;
+use running_sync::RunningSync;
 use std::alloc::Global;
 use std::mem::replace;
+use step_plans::{AnswerOut, Outbox, PeerError};
 use view_change::Finishing;
 use wire_frames::Then;
 
@@ -45,12 +46,13 @@ pub enum Phase {
 }
 
 /// A peer without its number and its stores: the last saved fact, whether the peer trusts its tree,
-/// and its phase.
+/// its phase, and the sync that runs, if one does.
 #[derive(Drop)]
 pub struct State {
     pub fact: Fact,
     pub trusted: bool,
     pub phase: Phase,
+    pub sync: Option<RunningSync>,
 }
 
 /// The phase of a following peer that has counted no quiet tick.
@@ -110,6 +112,16 @@ impl Phase {
         Ok(())
     }
 
+    /// Makes a peer that waits for a sync follow. A leader stays.
+    fn wait(&mut self)
+        ensures { self.new ≡ waiting_phase self.old }
+    {
+        match self {
+            Phase::Leading(_) => {}
+            Phase::Following(_) | Phase::Probing(_) | Phase::Electing(_) => *self = following(),
+        }
+    }
+
     /// Makes a starting peer follow. Any other phase stays.
     fn leave_starting(&mut self)
         ensures { self.new ≡ without_candidacy self.old }
@@ -152,18 +164,19 @@ impl State {
         Ok(())
     }
 
-    /// Leads the epoch whose first fact is `fact`, which `accepts` accepted so far.
+    /// Leads the epoch whose first fact is `fact`, which `accepts` accepted so far. No sync runs.
     fn lead(&mut self, alloc: Global, me: PeerId, fact: Fact, accepts: PeerSet)
-        ensures { self.new ≡ leading (record { leader = new_leader fact me accepts; change = Settled }) self.old }
+        ensures { self.new ≡ leading (record { leader = new_leader fact me accepts; change = Settled }) (without_sync self.old) }
     {
+        self.sync = None;
         self.phase = Phase::Leading(Leadership {
             leader: Leader::new(alloc, fact, me, accepts),
             change: ChangeState::Settled,
         });
     }
 
-    /// Applies what follows the message of a rule, except that it runs no rule. If leading ends, the
-    /// unanswered calls are answered. Fails only when out of memory.
+    /// Applies what follows the message of a rule, except that it runs no rule, and begins or resumes
+    /// no sync. If leading ends, the unanswered calls are answered. Fails only when out of memory.
     pub(crate) fn turn(
         &mut self,
         alloc: Global,
@@ -183,6 +196,7 @@ impl State {
         match then {
             Then::Follow => {
                 self.phase = following();
+                self.sync = None;
                 Ok(())
             }
             Then::Lead(fact) => {
@@ -191,6 +205,7 @@ impl State {
             }
             Then::Untrust => {
                 self.trusted = false;
+                self.sync = None;
                 self.phase.leave_starting();
                 Ok(())
             }
@@ -198,21 +213,35 @@ impl State {
         }
     }
 
-    /// Begins to probe, if `probing` is given.
+    /// Begins to probe, if `probing` is given. Then no sync runs.
     pub(crate) fn seek(&mut self, probing: Option<Probing>)
         ensures { self.new ≡ sought probing self.old }
     {
         if let Some(probing) = probing {
             self.phase = Phase::Probing(probing);
+            self.sync = None;
         }
     }
 
-    /// Begins an election, if `election` is given.
+    /// Begins an election, if `election` is given. Then no sync runs.
     pub(crate) fn stand(&mut self, election: Option<Election>)
         ensures { self.new ≡ stood election self.old }
     {
         if let Some(election) = election {
             self.phase = Phase::Electing(election);
+            self.sync = None;
+        }
+    }
+
+    /// Waits for the end of a sync, if a sync begins or resumes: a peer follows, with no quiet tick. A
+    /// leader stays, and steps down when its row is applied.
+    pub(crate) fn wait_for(&mut self, then: &Then)
+        ensures { self.new ≡ waiting_for then.now self.old }
+    {
+        match then {
+            Then::SyncOn(_) | Then::Resume => self.phase.wait(),
+            Then::Stay | Then::Follow | Then::Lead(_) | Then::Untrust | Then::Put | Then::Rule(_) =>
+                {}
         }
     }
 }

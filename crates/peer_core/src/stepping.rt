@@ -1,5 +1,6 @@
 ghost use Rattle.std.specs.Prelude.{◌≡◌, ◌≤◌, ◌+◌, [], true, false, length, OnOk, IfOk, IfErr, IsErrOf};
 ghost use Rattle.ens_base.specs.View.{IsPeer};
+ghost use Rattle.wire_frames.specs.Messages.{Obeys};
 ghost use Rattle.following.specs.Requests.{row_21, row_22};
 ghost use Rattle.step_plans.specs.Outboxes.{Grows, room, spare};
 ghost use Rattle.step_plans.specs.Steps.{Steps};
@@ -13,12 +14,13 @@ ghost use Rattle.peer_core.specs.Owns.{looked, found};
 use crate::event::Event;
 use crate::machine::Machine;
 use crate::state::{ChangeState, Phase, State};
+use crate::syncing::{give_of, question_of};
 use ens_base::{Epoch, Key, PeerId, View};
 use ens_object::Object;
 use following::{is_served, rule_21, rule_22, tell_damage};
 use peer_fact::{Change, Fact};
-use step_plans::{Outbox, PeerError, Store, Task, Tasks};
 use std::alloc::Global;
+use step_plans::{Outbox, PeerError, Store, Task, Tasks};
 use view_change::rule_24;
 use wire_frames::{Message, NackCause, PhaseOut, Seen, Then};
 
@@ -152,6 +154,7 @@ impl<S> Machine<S> {
     ) -> Result<Tasks, PeerError>
     where
         S: Store<H>,
+        requires me { IsPeer me }
         requires young { IsYoung self.old.state.phase }
         ensures acts { Acts S.does S.refuses (λ x o next. ticked me x.phase x o next) self.old hasher.old out.old result self.new hasher.new out.new }
         ensures grows { Grows out.old out.new }
@@ -221,7 +224,8 @@ impl<S> Machine<S> {
     ) -> Result<Tasks, PeerError>
     where
         S: Store<H>,
-        requires { IsPeer from }
+        requires me { IsPeer me }
+        requires from { IsPeer from }
         ensures acts { Acts S.does S.refuses (got me from ballot round key.now) self.old hasher.old out.old result self.new hasher.new out.new }
         ensures grows { Grows out.old out.new }
     {
@@ -248,7 +252,8 @@ impl<S> Machine<S> {
     ) -> Result<Tasks, PeerError>
     where
         S: Store<H>,
-        requires { IsPeer from }
+        requires me { IsPeer me }
+        requires from { IsPeer from }
         ensures acts { Acts S.does S.refuses (put_done Then.Put me from ballot object.now row) self.old hasher.old out.old result self.new hasher.new out.new }
         ensures grows { Grows out.old out.new }
     {
@@ -273,7 +278,8 @@ impl<S> Machine<S> {
     ) -> Result<Tasks, PeerError>
     where
         S: Store<H>,
-        requires { IsPeer from }
+        requires me { IsPeer me }
+        requires from { IsPeer from }
         ensures acts { Acts S.does S.refuses (put_done row.then me from ballot object.now row) self.old hasher.old out.old result self.new hasher.new out.new }
         ensures grows { Grows out.old out.new }
     {
@@ -297,7 +303,8 @@ impl<S> Machine<S> {
     ) -> Result<Tasks, PeerError>
     where
         S: Store<H>,
-        requires { IsPeer from }
+        requires me { IsPeer me }
+        requires from { IsPeer from }
         ensures acts { Acts S.does S.refuses (put_in me from ballot object.now) self.old hasher.old out.old result self.new hasher.new out.new }
         ensures grows { Grows out.old out.new }
     {
@@ -323,6 +330,7 @@ impl<S> Machine<S> {
         S: Store<H>,
         requires me { IsPeer me }
         requires from { IsPeer from }
+        requires obeys { Obeys message.now }
         ensures acts { Acts S.does S.refuses (delivered me from message.now) self.old hasher.old out.old result self.new hasher.new out.new }
         ensures grows { Grows out.old out.new }
         ensures names { IsAllocationFreeMessage message.now → IfOk result (λ tasks. tasks ≡ []) }
@@ -349,6 +357,14 @@ impl<S> Machine<S> {
             }
             Message::CheckReply(ballot, round) => {
                 self.check_reply(hasher, alloc, out, me, from, *ballot, *round)
+            }
+            Message::TreeAsk(ballot, at, after) => {
+                let question = question_of(alloc, *at, after)?;
+                self.tree_ask(hasher, alloc, out, me, from, *ballot, question)
+            }
+            Message::TreeGive(ballot, at, after, trusted, body) => {
+                let give = give_of(alloc, *ballot, *at, after, *trusted, body)?;
+                self.tree_give(hasher, alloc, out, me, from, &give)
             }
             _ => {
                 let row = self.state.receive(me, from, message);

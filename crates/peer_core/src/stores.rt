@@ -7,9 +7,12 @@ use ens_hashing::{HashError, Hasher16};
 use ens_outside::{Backend, NodeStore, StoreError};
 use fact_store::{FactKeeper, KeepError};
 use peer_fact::{Change, Fact};
-use step_plans::{PeerError, Store, Walked};
 use std::alloc::Global;
+use step_plans::{PeerError, Store, Walked};
 use synctree::{Tree, TreeError};
+use tree_node::{Position, Scan};
+use tree_repair::rebuild;
+use tree_verify::scan;
 
 /// The stores of a peer: the objects, the tree, and the fact.
 #[derive(Drop)]
@@ -128,6 +131,34 @@ impl<B: Backend, N: NodeStore, F: FactKeeper, H: Hasher16> Store<H> for Stores<B
         entry: &Entry,
     ) -> Result<Walked<()>, PeerError> {
         walked(self.tree.insert(alloc, hasher, entry))
+    }
+
+    fn scan_tree(&mut self, hasher: &mut H, alloc: Global) -> Result<Scan, PeerError> {
+        match scan(alloc, &mut self.tree, hasher) {
+            Ok(found) => Ok(found),
+            Err(error) => Err(tree_error(error)),
+        }
+    }
+
+    fn read_node(
+        &mut self,
+        hasher: &mut H,
+        alloc: Global,
+        at: Position,
+    ) -> Result<Walked<Option<Bytes>>, PeerError> {
+        walked(self.tree.node(alloc, hasher, at))
+    }
+
+    fn install(
+        &mut self,
+        hasher: &mut H,
+        alloc: Global,
+        entries: &[Entry],
+    ) -> Result<(), PeerError> {
+        match rebuild(alloc, &mut self.tree, hasher, entries) {
+            Ok(()) => Ok(()),
+            Err(error) => Err(tree_error(error)),
+        }
     }
 
     fn fetch(

@@ -7,12 +7,12 @@ use ens_base::{Epoch, PeerId, View, ViewError};
 use ens_hashing::PlainHasher;
 use ens_outside::{MemBackend, MemNodes};
 use fact_store::{FactKeeper, Kept, MemFacts};
-use peer_fact::{Change, Fact};
 use peer_core::{Event, Peer, StartError, Stores};
-use step_plans::{Outbox, PeerError};
+use peer_fact::{Change, Fact};
 use slot_disk::Failing;
 use std::alloc::Global;
 use std::test::Fail;
+use step_plans::{Outbox, PeerError};
 use synctree::Tree;
 use wire_frames::Message;
 

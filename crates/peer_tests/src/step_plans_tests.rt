@@ -1,5 +1,5 @@
-use step_plans::{Task, Tasks};
 use std::test::Fail;
+use step_plans::{Task, Tasks};
 
 /// The number of a rule of a phase.
 fn rule(task: Option<Task>) -> Option<u8> {

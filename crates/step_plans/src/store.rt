@@ -1,5 +1,7 @@
-ghost use Rattle.std.specs.Prelude.{◌≡◌, IfErr};
-ghost use Rattle.step_plans.specs.Calls.{Call, Load, Save, FreshTree, OpenTree, Find, Enter, Fetch, Put, Hash, AnswerOf, Answers};
+ghost use Rattle.std.specs.Prelude.{◌≡◌, [], IfErr};
+ghost use Rattle.tree_node.specs.Entries.{AreAbove};
+ghost use Rattle.tree_node.specs.Positions.{IsPosition};
+ghost use Rattle.step_plans.specs.Calls.{Call, Load, Save, FreshTree, OpenTree, Find, Enter, ScanTree, ReadNode, Install, Fetch, Put, Hash, AnswerOf, Answers};
 ghost use Rattle.step_plans.specs.declared.error.PeerError.{PeerError};
 ghost use Rattle.step_plans.specs.declared.error.PeerError.TheVariants.{StoreFault};
 
@@ -8,6 +10,7 @@ use crate::walked::Walked;
 use ens_base::{Bytes, Digest, Entry, Key};
 use peer_fact::{Change, Fact};
 use std::alloc::Global;
+use tree_node::{Position, Scan};
 
 /// The stores of a peer, which use a hasher lent to them. Two relations say what a call may do. The
 /// methods are the calls that the rules make so far.
@@ -52,6 +55,25 @@ pub trait Store<H> {
         entry: &Entry,
     ) -> Result<Walked<()>, PeerError>
         ensures { Answers does refuses (self.old, hasher.old) (Enter entry.now) result (self.new, hasher.new) };
+
+    /// Scans the tree: its entries that verify, and the damaged positions.
+    fn scan_tree(&mut self, hasher: &mut H, alloc: Global) -> Result<Scan, PeerError>
+        ensures { Answers does refuses (self.old, hasher.old) ScanTree result (self.new, hasher.new) };
+
+    /// Returns the bytes of the node at a position of the tree, or `None` if the position is empty.
+    fn read_node(
+        &mut self,
+        hasher: &mut H,
+        alloc: Global,
+        at: Position,
+    ) -> Result<Walked<Option<Bytes>>, PeerError>
+        requires { IsPosition at }
+        ensures { Answers does refuses (self.old, hasher.old) (ReadNode at) result (self.new, hasher.new) };
+
+    /// Builds the tree of these entries, and installs it. Their keys ascend strictly.
+    fn install(&mut self, hasher: &mut H, alloc: Global, entries: &[Entry]) -> Result<(), PeerError>
+        requires { AreAbove [] entries.now }
+        ensures { Answers does refuses (self.old, hasher.old) (Install entries.now) result (self.new, hasher.new) };
 
     /// Returns the bytes that the backend keeps under the key, or `None` if there are none.
     fn fetch(

@@ -1,11 +1,9 @@
-use Rattle.std.specs.Prelude.{IfOk}
-use Rattle.std.proofs.Common.{◌≡◌, [], sym, subst}
+use Rattle.std.proofs.Common.{◌≡◌, true, sym, subst}
 use Rattle.step_plans.specs.Outboxes.{out_of}
 use Rattle.step_plans.specs.Plans.{Runs}
-use Rattle.step_plans.specs.Tasks.{named}
 use Rattle.step_plans.proofs.Parts.{did_after}
 use Rattle.peer_core.specs.Drives.{row_done, delivered}
-use Rattle.peer_core.specs.NoAllocation.{IsFreeRow}
+use Rattle.peer_core.specs.NoAllocation.{ends_step, IsFreeRow}
 use Rattle.peer_core.specs.Outcomes.{spot}
 use Rattle.peer_core.proofs.Delivering.{delivered_row}
 use Rattle.peer_core.proofs.FreeRows.{received_free, received_ends}
@@ -18,13 +16,12 @@ returns-in_default-clause-fits g c = λ is quiet room.
 
 pub returns-in_default-clause-names : goal.returns-in_default-clause-names
 returns-in_default-clause-names g c = λ is.
-    let ends : named c.receive-row.result.then ≡ [] = subst (λ r. named r.1.then ≡ []) (sym c.receive-row.ensures) (received_ends c.args.me c.args.from c.args.message.now c.args.self.now.state is) in
-    subst (λ k. IfOk c.row_done.result (λ tasks. tasks ≡ k)) ends c.row_done.ensures.names
+    c.row_done.ensures.none (subst (λ r. ends_step r.1.then ≡ true) (sym c.receive-row.ensures) (received_ends c.args.me c.args.from c.args.message.now c.args.self.now.state is))
 
 pub returns-in_default-clause-acts : goal.returns-in_default-clause-acts
 returns-in_default-clause-acts g c =
     did_after g.S.Store.does g.S.Store.refuses (delivered c.args.me c.args.from c.args.message.now) (row_done c.args.me c.receive-row.result)
     (spot c.args.self.now c.args.hasher.now c.args.out.now) (spot (record c.args.self.now { state = c.receive-row.new.self }) c.args.hasher.now c.args.out.now) (spot c.row_done.new.self c.row_done.new.hasher c.row_done.new.out) c.row_done.result
-    (λ next e end ls h. rw (delivered_row c.args.me c.args.from c.args.message.now c.args.self.now.state (out_of c.args.out.now) next c.in_default.not-Get c.in_default.not-GetReply c.in_default.not-Put c.in_default.not-PutReply c.in_default.not-CheckReply)
+    (λ next e end ls h. rw (delivered_row c.args.me c.args.from c.args.message.now c.args.self.now.state (out_of c.args.out.now) next c.in_default.not-Get c.in_default.not-GetReply c.in_default.not-Put c.in_default.not-PutReply c.in_default.not-CheckReply c.in_default.not-TreeAsk c.in_default.not-TreeGive)
     (subst (λ q. Runs g.S.Store.does g.S.Store.refuses (row_done c.args.me q.1 q.0 (out_of c.args.out.now) next) (c.args.self.now.stores, c.args.hasher.now) c.args.out.now.notes.items e end ls) c.receive-row.ensures h))
     c.row_done.ensures.acts

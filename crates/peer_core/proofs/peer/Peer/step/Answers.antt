@@ -4,7 +4,7 @@ use Rattle.std.proofs.lemmas.Bool.{true≢false}
 use Rattle.peer_core.specs.Stores.{stores_do, stores_refuse}
 use Rattle.peer_core.proofs.Damage.{stores_sound}
 use Rattle.peer_core.proofs.Halts.{causes, only, not_halted}
-use Rattle.peer_core.proofs.Led.{led_as, led_test, on_ok}
+use Rattle.peer_core.proofs.Ends.{on_ok}
 use Rattle.peer_core.proofs.Passing.{all_may_go, still_own}
 use Rattle.peer_core.proofs.peer.Peer.step.Goals as goal
 
@@ -32,7 +32,7 @@ returns-clause-may_go g c = all_may_go
     (stores_do g.B.Backend.may_answer g.B.Backend.fault_count g.N.NodeStore.may_answer g.N.NodeStore.top_record g.N.NodeStore.fault_count g.F.FactKeeper.may_answer g.F.FactKeeper.kept g.F.FactKeeper.fault_count g.H.Hasher16.kept g.H.Hasher16.clashes g.H.Hasher16.fulls)
     (stores_refuse g.B.Backend.may_refuse g.B.Backend.fault_count g.N.NodeStore.may_answer g.N.NodeStore.may_refuse g.N.NodeStore.top_record g.N.NodeStore.fault_count g.F.FactKeeper.may_refuse g.F.FactKeeper.kept g.F.FactKeeper.fault_count g.H.Hasher16.kept g.H.Hasher16.clashes g.H.Hasher16.fulls)
     (stores_sound g.B.Backend.may_answer g.B.Backend.fault_count g.N.NodeStore.may_answer g.N.NodeStore.top_record g.N.NodeStore.fault_count g.F.FactKeeper.may_answer g.F.FactKeeper.kept g.F.FactKeeper.fault_count g.H.Hasher16.kept g.H.Hasher16.clashes g.H.Hasher16.fulls)
-    c.args.self.now.me c.args.event c.args.self.now.machine.state c.args.self.now.is_peer c.requires (led_as c.args.self.now.me c.args.self.now.machine.state.phase (c.args.self.now.own c.if-self.false))
+    c.args.self.now.me c.args.event c.args.self.now.machine.state c.args.self.now.is_peer c.requires (c.args.self.now.own c.if-self.false)
     (c.args.self.now.machine.stores, c.args.hasher.now) (c.step-result.new.self.stores, c.step-result.new.hasher) c.step-result.new.self.state c.args.out.now c.step-result.new.out c.step-result.result c.step-result.ensures.steps
 
 pub invariant_of-self : goal.invariant_of-self
@@ -42,10 +42,10 @@ invariant_of-self g c =
       is_peer = c.args.self.now.is_peer;
       young = λ on. on_ok c.step-result.result c.step-result.ensures.young (well on);
       steady = λ on. on_ok c.step-result.result c.step-result.ensures.steady (well on);
-      own = λ on. led_test c.args.self.now.me c.step-result.new.self.state.phase (on_ok c.step-result.result (still_own
+      own = λ on. on_ok c.step-result.result (still_own
           (stores_do g.B.Backend.may_answer g.B.Backend.fault_count g.N.NodeStore.may_answer g.N.NodeStore.top_record g.N.NodeStore.fault_count g.F.FactKeeper.may_answer g.F.FactKeeper.kept g.F.FactKeeper.fault_count g.H.Hasher16.kept g.H.Hasher16.clashes g.H.Hasher16.fulls)
           (stores_refuse g.B.Backend.may_refuse g.B.Backend.fault_count g.N.NodeStore.may_answer g.N.NodeStore.may_refuse g.N.NodeStore.top_record g.N.NodeStore.fault_count g.F.FactKeeper.may_refuse g.F.FactKeeper.kept g.F.FactKeeper.fault_count g.H.Hasher16.kept g.H.Hasher16.clashes g.H.Hasher16.fulls)
           (stores_sound g.B.Backend.may_answer g.B.Backend.fault_count g.N.NodeStore.may_answer g.N.NodeStore.top_record g.N.NodeStore.fault_count g.F.FactKeeper.may_answer g.F.FactKeeper.kept g.F.FactKeeper.fault_count g.H.Hasher16.kept g.H.Hasher16.clashes g.H.Hasher16.fulls)
-          c.args.self.now.me c.args.event c.args.self.now.machine.state c.args.self.now.is_peer c.requires (led_as c.args.self.now.me c.args.self.now.machine.state.phase (c.args.self.now.own c.if-self.false))
-          (c.args.self.now.machine.stores, c.args.hasher.now) (c.step-result.new.self.stores, c.step-result.new.hasher) c.step-result.new.self.state c.args.out.now c.step-result.new.out c.step-result.result c.step-result.ensures.steps) (well on));
+          c.args.self.now.me c.args.event c.args.self.now.machine.state c.args.self.now.is_peer c.requires (c.args.self.now.own c.if-self.false)
+          (c.args.self.now.machine.stores, c.args.hasher.now) (c.step-result.new.self.stores, c.step-result.new.hasher) c.step-result.new.self.state c.args.out.now c.step-result.new.out c.step-result.result c.step-result.ensures.steps) (well on);
     }

@@ -1,0 +1,598 @@
+ghost use Rattle.std.specs.Prelude.{◌≡◌, [], true, IsOk, IfOk, IfErr, OnOk};
+ghost use Rattle.ens_base.specs.View.{IsPeer};
+ghost use Rattle.step_plans.specs.Calls.{ScanTree, ReadNode, Install};
+ghost use Rattle.step_plans.specs.Outboxes.{Grows, out_of};
+ghost use Rattle.step_plans.specs.Plans.{asked};
+ghost use Rattle.tree_node.specs.Entries.{AreAbove};
+ghost use Rattle.tree_node.specs.Positions.{IsPosition};
+ghost use Rattle.peer_core.specs.NoAllocation.{ends_step};
+ghost use Rattle.peer_core.specs.Outcomes.{Acts};
+ghost use Rattle.peer_core.specs.Syncs.{and_sends, installed, accepted, accepted_in, synced, ended_with, gone_on, begun_sync, resumed_sync, followed_on, reached, own_node, body_of, shown_node, needs_node, taken_give, got_give};
+ghost use Rattle.following.specs.Requests.{row_23};
+ghost use Rattle.peer_core.specs.Drives.{got_ask};
+ghost use Rattle.running_sync.specs.Rows.{row_start, row_resume, row_take};
+ghost use Rattle.sync_rule.specs.Syncs.{outcome_of, MayBeBuilt};
+
+use crate::machine::Machine;
+use crate::state::{Phase, State};
+use election::Election;
+use ens_base::{Bytes, Entry, Epoch, Key, PeerId, Seq};
+use exchange::{AskError, Question, given};
+use following::rule_23;
+use leader_words::Outgoing;
+use peer_fact::{Change, Fact};
+use running_sync::{Give, RunningSync};
+use std::alloc::Global;
+use step_plans::{Outbox, PeerError, Store, Tasks, Walked};
+use sync_rule::{Outcome, SyncError, needs_build};
+use tree_node::{Position, Scan, TreeBody};
+use wire_frames::{Message, PhaseOut, Then};
+
+/// Copies the key, if there is one. Fails only when out of memory.
+fn copy_of(alloc: Global, key: &Option<Key>) -> Result<Option<Key>, PeerError>
+    ensures ok { IfOk result (λ k. k ≡ key.now) }
+    ensures memory { IfErr result (λ e. e ≡ PeerError.Memory) }
+{
+    match key {
+        None => Ok(None),
+        Some(key) => Ok(Some(key.copy(alloc)?)),
+    }
+}
+
+/// Copies the body. Fails only when out of memory.
+fn copy_body(alloc: Global, body: &TreeBody) -> Result<TreeBody, PeerError>
+    ensures ok { IfOk result (λ b. b ≡ body.now) }
+    ensures memory { IfErr result (λ e. e ≡ PeerError.Memory) }
+{
+    Ok(body.copy(alloc)?)
+}
+
+/// The node, if the walk reached its position.
+fn reached_node(walked: Walked<Option<Bytes>>) -> Option<Bytes>
+    ensures { result ≡ reached walked }
+{
+    match walked {
+        Walked::Reached(node) => node,
+        Walked::Broken(_) => None,
+    }
+}
+
+/// What a peer sends of a node that it was asked for. Fails only when out of memory.
+fn body_given(
+    alloc: Global,
+    question: &Question,
+    walked: Walked<Option<Bytes>>,
+) -> Result<TreeBody, PeerError>
+    requires { IsPosition question.now.position }
+    ensures ok { IfOk result (λ b. b ≡ body_of question.now walked) }
+    ensures memory { IfErr result (λ e. e ≡ PeerError.Memory) }
+{
+    match walked {
+        Walked::Broken(at) => Ok(TreeBody::Damaged(at)),
+        Walked::Reached(node) => match given(alloc, &node, question) {
+            Ok(body) => Ok(body),
+            Err(_) => Err(PeerError::Memory),
+        },
+    }
+}
+
+impl<S> Machine<S> {
+    #[tactic(auto, using(crate::proofs::Parts::asked_did))]
+    fn scan<H>(&mut self, hasher: &mut H, alloc: Global, out: &Outbox) -> Result<Scan, PeerError>
+    where
+        S: Store<H>,
+        ensures { Acts S.does S.refuses (asked ScanTree) self.old hasher.old out.now result self.new hasher.new out.now }
+    {
+        self.stores.scan_tree(hasher, alloc)
+    }
+
+    #[tactic(auto, using(crate::proofs::Parts::asked_did))]
+    fn read_node<H>(
+        &mut self,
+        hasher: &mut H,
+        alloc: Global,
+        out: &Outbox,
+        at: Position,
+    ) -> Result<Walked<Option<Bytes>>, PeerError>
+    where
+        S: Store<H>,
+        requires { IsPosition at }
+        ensures { Acts S.does S.refuses (asked (ReadNode at)) self.old hasher.old out.now result self.new hasher.new out.now }
+    {
+        self.stores.read_node(hasher, alloc, at)
+    }
+
+    #[tactic(auto, using(crate::proofs::Parts::asked_did))]
+    fn build<H>(
+        &mut self,
+        hasher: &mut H,
+        alloc: Global,
+        out: &Outbox,
+        entries: &[Entry],
+    ) -> Result<(), PeerError>
+    where
+        S: Store<H>,
+        requires { AreAbove [] entries.now }
+        ensures { Acts S.does S.refuses (asked (Install entries.now)) self.old hasher.old out.now result self.new hasher.new out.now }
+    {
+        self.stores.install(hasher, alloc, entries)
+    }
+
+    /// Builds the tree of these entries and installs it, if that is needed.
+    #[tactic(auto, using(crate::proofs::Parts::cut))]
+    fn install<H>(
+        &mut self,
+        hasher: &mut H,
+        alloc: Global,
+        out: &Outbox,
+        needed: bool,
+        entries: &[Entry],
+    ) -> Result<(), PeerError>
+    where
+        S: Store<H>,
+        requires { AreAbove [] entries.now }
+        ensures { Acts S.does S.refuses (installed needed entries.now) self.old hasher.old out.now result self.new hasher.new out.now }
+    {
+        if needed {
+            self.build(hasher, alloc, out, entries)?;
+        }
+        Ok(())
+    }
+
+    /// The node at the position, if it is needed.
+    #[tactic(auto, using(crate::proofs::Parts::cut))]
+    fn own_node<H>(
+        &mut self,
+        hasher: &mut H,
+        alloc: Global,
+        out: &Outbox,
+        needed: bool,
+        at: Position,
+    ) -> Result<Option<Bytes>, PeerError>
+    where
+        S: Store<H>,
+        requires { IsPosition at }
+        ensures { Acts S.does S.refuses (own_node needed at) self.old hasher.old out.now result self.new hasher.new out.now }
+    {
+        if needed {
+            let walked = self.read_node(hasher, alloc, out, at)?;
+            Ok(reached_node(walked))
+        } else {
+            Ok(None)
+        }
+    }
+
+    /// What the peer sends for a question, if it is answered.
+    #[tactic(auto, using(crate::proofs::Parts::cut))]
+    fn shown_node<H>(
+        &mut self,
+        hasher: &mut H,
+        alloc: Global,
+        out: &Outbox,
+        answered: bool,
+        question: &Question,
+    ) -> Result<Option<TreeBody>, PeerError>
+    where
+        S: Store<H>,
+        requires { IsPosition question.now.position }
+        ensures { Acts S.does S.refuses (shown_node answered question.now) self.old hasher.old out.now result self.new hasher.new out.now }
+    {
+        if answered {
+            let walked = self.read_node(hasher, alloc, out, question.position)?;
+            let body = body_given(alloc, question, walked)?;
+            Ok(Some(body))
+        } else {
+            Ok(None)
+        }
+    }
+}
+
+/// What the sync has come to. Fails only when out of memory.
+fn outcome(alloc: Global, running: &RunningSync) -> Result<Outcome, PeerError>
+    ensures ok { IfOk result (λ o. o ≡ outcome_of running.now.sync) }
+    ensures above { IfOk result MayBeBuilt }
+    ensures memory { IfErr result (λ e. e ≡ PeerError.Memory) }
+{
+    match running.outcome(alloc) {
+        Ok(outcome) => Ok(outcome),
+        Err(SyncError::Memory) => Err(PeerError::Memory),
+    }
+}
+
+/// Begins a sync, and returns it with its messages. Fails only when out of memory.
+fn start(
+    alloc: Global,
+    new: Fact,
+    me: PeerId,
+    trusted: bool,
+    scan: Scan,
+) -> Result<(RunningSync, Seq<Outgoing>), PeerError>
+    ensures ok { IfOk result (λ r. r ≡ row_start new me trusted scan) }
+    ensures memory { IfErr result (λ e. e ≡ PeerError.Memory) }
+{
+    match RunningSync::start(alloc, new, me, trusted, scan) {
+        Ok(started) => Ok(started),
+        Err(SyncError::Memory) => Err(PeerError::Memory),
+    }
+}
+
+/// Resumes a sync, and returns its messages. Fails only when out of memory.
+fn resume(alloc: Global, running: &mut RunningSync) -> Result<Seq<Outgoing>, PeerError>
+    ensures ok { IfOk result (λ sends. (running.new, sends) ≡ row_resume running.old) }
+    ensures memory { IfErr result (λ e. e ≡ PeerError.Memory) }
+{
+    match running.resume(alloc) {
+        Ok(sends) => Ok(sends),
+        Err(SyncError::Memory) => Err(PeerError::Memory),
+    }
+}
+
+/// Lets a sync take an answer, and returns its messages. Fails only when out of memory.
+fn take(
+    alloc: Global,
+    running: &mut RunningSync,
+    from: PeerId,
+    give: &Give,
+    own: &Option<Bytes>,
+) -> Result<Seq<Outgoing>, PeerError>
+    requires { IsPosition give.now.question.position }
+    ensures ok { IfOk result (λ sends. (running.new, sends) ≡ row_take from give.now own.now running.old) }
+    ensures memory { IfErr result (λ e. e ≡ PeerError.Memory) }
+{
+    match running.take(alloc, from, give, own) {
+        Ok(sends) => Ok(sends),
+        Err(SyncError::Memory) => Err(PeerError::Memory),
+    }
+}
+
+impl State {
+    /// Whether the own node at the position must be read to take this answer.
+    fn needs_node(&self, from: PeerId, give: &Give) -> bool
+        ensures { result ≡ needs_node from give.now self.now.sync }
+    {
+        match &self.sync {
+            None => false,
+            Some(running) => running.needs_own(from, give),
+        }
+    }
+}
+
+impl<S> Machine<S> {
+    /// Sends the acceptance of a follower to the peer that leads the epoch of the fact, if that is
+    /// another peer. Fails only when out of memory.
+    fn send_accepted(&self, out: &mut Outbox, me: PeerId, new: &Fact) -> Result<(), PeerError>
+        ensures sends { OnOk result (out_of out.new ≡ and_sends (out_of out.old) (accepted me new.now)) }
+        ensures notes { out.new.notes ≡ out.old.notes }
+        ensures grows { Grows out.old out.new }
+        ensures memory { IfErr result (λ e. e ≡ PeerError.Memory) }
+    {
+        let leader = new.leader;
+        if leader.0 >= 1 && leader.0 <= 31 && leader != me {
+            out.send(leader, Message::Accepted(new.epoch, 1))?;
+        }
+        Ok(())
+    }
+
+    /// The fact of a sync was accepted: a starting peer counts itself, and a follower sends its
+    /// acceptance.
+    #[tactic(auto, using(crate::proofs::Parts::cut))]
+    fn accept<H>(
+        &mut self,
+        hasher: &H,
+        alloc: Global,
+        out: &mut Outbox,
+        me: PeerId,
+        new: &Fact,
+    ) -> Result<Tasks, PeerError>
+    where
+        S: Store<H>,
+        requires { IsPeer me }
+        ensures acts { Acts S.does S.refuses (λ x o next. accepted_in me new.now x.phase x o next) self.old hasher.now out.old result self.new hasher.now out.new }
+        ensures grows { Grows out.old out.new }
+    {
+        match &mut self.state.phase {
+            Phase::Electing(Election::Starting { accepts, .. }) => {
+                accepts.insert(me);
+                Ok(Tasks::named(alloc, Then::Rule(14))?)
+            }
+            Phase::Following(_) => {
+                self.send_accepted(out, me, new)?;
+                Ok(Tasks::none(alloc))
+            }
+            _ => Ok(Tasks::none(alloc)),
+        }
+    }
+
+    /// Ends a sync with these merged entries.
+    #[tactic(auto, using(crate::proofs::Parts::cut))]
+    fn end_sync<H>(
+        &mut self,
+        hasher: &mut H,
+        alloc: Global,
+        out: &mut Outbox,
+        me: PeerId,
+        running: RunningSync,
+        entries: &[Entry],
+    ) -> Result<Tasks, PeerError>
+    where
+        S: Store<H>,
+        requires me { IsPeer me }
+        requires above { AreAbove [] entries.now }
+        ensures acts { Acts S.does S.refuses (synced me running entries.now) self.old hasher.old out.old result self.new hasher.new out.new }
+        ensures grows { Grows out.old out.new }
+    {
+        self.state.sync = None;
+        let needed = needs_build(running.scan(), entries);
+        let new = running.fact();
+        self.install(hasher, alloc, out, needed, entries)?;
+        self.save(hasher, out, Some(new))?;
+        self.state.trusted = true;
+        let tasks = self.accept(hasher, alloc, out, me, &new)?;
+        Ok(tasks)
+    }
+
+    /// Lets a sync run on, or ends it.
+    #[tactic(auto, using(crate::proofs::Parts::cut))]
+    fn end_with<H>(
+        &mut self,
+        hasher: &mut H,
+        alloc: Global,
+        out: &mut Outbox,
+        me: PeerId,
+        running: RunningSync,
+        outcome: Outcome,
+    ) -> Result<Tasks, PeerError>
+    where
+        S: Store<H>,
+        requires me { IsPeer me }
+        requires above { MayBeBuilt outcome }
+        ensures acts { Acts S.does S.refuses (ended_with me running outcome) self.old hasher.old out.old result self.new hasher.new out.new }
+        ensures grows { Grows out.old out.new }
+    {
+        match outcome {
+            Outcome::Pending => {
+                self.state.sync = Some(running);
+                Ok(Tasks::none(alloc))
+            }
+            Outcome::Trusted(entries) => {
+                self.end_sync(hasher, alloc, out, me, running, entries.as_slice())
+            }
+        }
+    }
+
+    /// Sends the messages of a sync, which then runs on, or ends if its sources suffice.
+    #[tactic(auto, using(crate::proofs::Parts::cut))]
+    fn go_on<H>(
+        &mut self,
+        hasher: &mut H,
+        alloc: Global,
+        out: &mut Outbox,
+        me: PeerId,
+        running: RunningSync,
+        sends: Seq<Outgoing>,
+    ) -> Result<Tasks, PeerError>
+    where
+        S: Store<H>,
+        requires { IsPeer me }
+        ensures acts { Acts S.does S.refuses (gone_on me (running, sends)) self.old hasher.old out.old result self.new hasher.new out.new }
+        ensures grows { Grows out.old out.new }
+    {
+        out.send_all(sends.into_vec())?;
+        let outcome = outcome(alloc, &running)?;
+        self.end_with(hasher, alloc, out, me, running, outcome)
+    }
+
+    /// Begins a sync on a fact.
+    #[tactic(auto, using(crate::proofs::Parts::cut))]
+    fn begin_sync<H>(
+        &mut self,
+        hasher: &mut H,
+        alloc: Global,
+        out: &mut Outbox,
+        me: PeerId,
+        new: Fact,
+    ) -> Result<Tasks, PeerError>
+    where
+        S: Store<H>,
+        requires { IsPeer me }
+        ensures acts { Acts S.does S.refuses (begun_sync me new) self.old hasher.old out.old result self.new hasher.new out.new }
+        ensures grows { Grows out.old out.new }
+    {
+        let scan = self.scan(hasher, alloc, out)?;
+        let (running, sends) = start(alloc, new, me, self.state.trusted, scan)?;
+        self.go_on(hasher, alloc, out, me, running, sends)
+    }
+
+    /// Resumes the sync that runs, if one does.
+    #[tactic(auto, using(crate::proofs::Parts::cut))]
+    fn resume_sync<H>(
+        &mut self,
+        hasher: &H,
+        alloc: Global,
+        out: &mut Outbox,
+    ) -> Result<Tasks, PeerError>
+    where
+        S: Store<H>,
+        ensures acts { Acts S.does S.refuses (λ x o next. resumed_sync x.sync x o next) self.old hasher.now out.old result self.new hasher.now out.new }
+        ensures grows { Grows out.old out.new }
+    {
+        match &mut self.state.sync {
+            None => Ok(Tasks::none(alloc)),
+            Some(running) => {
+                let sends = resume(alloc, running)?;
+                out.send_all(sends.into_vec())?;
+                Ok(Tasks::none(alloc))
+            }
+        }
+    }
+
+    /// Runs what follows the message of a row: a sync begins or resumes, or the named rule runs next.
+    #[tactic(auto, using(crate::proofs::Parts::cut))]
+    pub(crate) fn follow_on<H>(
+        &mut self,
+        hasher: &mut H,
+        alloc: Global,
+        out: &mut Outbox,
+        me: PeerId,
+        then: &Then,
+    ) -> Result<Tasks, PeerError>
+    where
+        S: Store<H>,
+        requires { IsPeer me }
+        ensures acts { Acts S.does S.refuses (followed_on me then.now) self.old hasher.old out.old result self.new hasher.new out.new }
+        ensures grows { Grows out.old out.new }
+        ensures none { ends_step then.now ≡ true → IfOk result (λ tasks. tasks ≡ []) }
+        ensures fits { ends_step then.now ≡ true → IsOk result }
+    {
+        match then {
+            Then::SyncOn(new) => self.begin_sync(hasher, alloc, out, me, *new),
+            Then::Resume => self.resume_sync(hasher, alloc, out),
+            Then::Rule(_) => Ok(Tasks::named(alloc, *then)?),
+            Then::Stay | Then::Follow | Then::Lead(_) | Then::Untrust | Then::Put => {
+                Ok(Tasks::none(alloc))
+            }
+        }
+    }
+
+    /// Rule 23: a peer that syncs asks for a node of the tree.
+    #[tactic(auto, using(crate::proofs::Parts::cut))]
+    pub(crate) fn tree_ask<H>(
+        &mut self,
+        hasher: &mut H,
+        alloc: Global,
+        out: &mut Outbox,
+        me: PeerId,
+        from: PeerId,
+        ballot: Epoch,
+        question: Question,
+    ) -> Result<Tasks, PeerError>
+    where
+        S: Store<H>,
+        requires me { IsPeer me }
+        requires from { IsPeer from }
+        requires position { IsPosition question.position }
+        ensures acts { Acts S.does S.refuses (got_ask me from ballot question) self.old hasher.old out.old result self.new hasher.new out.new }
+        ensures grows { Grows out.old out.new }
+    {
+        let answered = ballot == self.state.fact.ballot;
+        let body = self.shown_node(hasher, alloc, out, answered, &question)?;
+        let row = ask_row(&self.state, from, ballot, question, body)?;
+        let tasks = self.row_done(hasher, alloc, out, me, row)?;
+        Ok(tasks)
+    }
+
+    /// Lets the sync that runs, if one does, take an answer.
+    #[tactic(auto, using(crate::proofs::Parts::cut, crate::proofs::Syncs::gone_on_without))]
+    fn take_give<H>(
+        &mut self,
+        hasher: &mut H,
+        alloc: Global,
+        out: &mut Outbox,
+        me: PeerId,
+        from: PeerId,
+        give: &Give,
+        own: &Option<Bytes>,
+    ) -> Result<Tasks, PeerError>
+    where
+        S: Store<H>,
+        requires me { IsPeer me }
+        requires position { IsPosition give.now.question.position }
+        ensures acts { Acts S.does S.refuses (λ x o next. taken_give me from give.now own.now x.sync x o next) self.old hasher.old out.old result self.new hasher.new out.new }
+        ensures grows { Grows out.old out.new }
+    {
+        match self.state.sync.take() {
+            None => Ok(Tasks::none(alloc)),
+            Some(running) => {
+                let mut running = running;
+                let sends = take(alloc, &mut running, from, give, own)?;
+                self.go_on(hasher, alloc, out, me, running, sends)
+            }
+        }
+    }
+
+    /// Takes what a source of the sync sent.
+    #[tactic(auto, using(crate::proofs::Parts::cut))]
+    pub(crate) fn tree_give<H>(
+        &mut self,
+        hasher: &mut H,
+        alloc: Global,
+        out: &mut Outbox,
+        me: PeerId,
+        from: PeerId,
+        give: &Give,
+    ) -> Result<Tasks, PeerError>
+    where
+        S: Store<H>,
+        requires me { IsPeer me }
+        requires position { IsPosition give.now.question.position }
+        ensures acts { Acts S.does S.refuses (got_give me from give.now) self.old hasher.old out.old result self.new hasher.new out.new }
+        ensures grows { Grows out.old out.new }
+    {
+        let needed = self.state.needs_node(from, give);
+        let own = self.own_node(hasher, alloc, out, needed, give.question.position)?;
+        let tasks = self.take_give(hasher, alloc, out, me, from, give, &own)?;
+        Ok(tasks)
+    }
+}
+
+/// The question for a node of the tree. Fails only when out of memory.
+pub(crate) fn question_of(
+    alloc: Global,
+    at: Position,
+    after: &Option<Key>,
+) -> Result<Question, PeerError>
+    ensures ok { IfOk result (λ q. q ≡ record { position = at; after = after.now }) }
+    ensures memory { IfErr result (λ e. e ≡ PeerError.Memory) }
+{
+    Ok(Question {
+        position: at,
+        after: copy_of(alloc, after)?,
+    })
+}
+
+/// The answer of a source, from its message. Fails only when out of memory.
+pub(crate) fn give_of(
+    alloc: Global,
+    ballot: Epoch,
+    at: Position,
+    after: &Option<Key>,
+    trusted: bool,
+    body: &TreeBody,
+) -> Result<Give, PeerError>
+    ensures ok { IfOk result (λ g. g ≡ record { ballot = ballot; question = record { position = at; after = after.now }; trusted = trusted; body = body.now }) }
+    ensures memory { IfErr result (λ e. e ≡ PeerError.Memory) }
+{
+    Ok(Give {
+        ballot,
+        question: question_of(alloc, at, after)?,
+        trusted,
+        body: copy_body(alloc, body)?,
+    })
+}
+
+/// Rule 23, from what was read. Fails only when out of memory.
+fn ask_row(
+    state: &State,
+    from: PeerId,
+    ballot: Epoch,
+    question: Question,
+    body: Option<TreeBody>,
+) -> Result<PhaseOut, PeerError>
+    requires { IsPeer from }
+    ensures ok { IfOk result (λ row. row ≡ row_23 state.now.fact state.now.trusted from ballot question.position question.after body) }
+    ensures memory { IfErr result (λ e. e ≡ PeerError.Memory) }
+{
+    let Question { position, after } = question;
+    match rule_23(
+        state.fact,
+        state.trusted,
+        from,
+        ballot,
+        position,
+        after,
+        body,
+    ) {
+        Ok(row) => Ok(row),
+        Err(_) => Err(PeerError::Memory),
+    }
+}
