@@ -1,42 +1,58 @@
 -- Rule 16: a leader announces the first fact of its epoch.
-use Rattle.std.proofs.Common.{◌≡◌, ℕ, ◌<◌, ◌≤◌, true, false, Option, arith, refl, ap, sym, subst}
+use Rattle.std.proofs.Common.{◌≡◌, ℕ, ◌<◌, ◌≤◌, true, false, if◌then◌else◌, Option, None, arith, refl, ap, sym, subst}
 use Rattle.std.proofs.lemmas.Bool.Decides.{nat_tests}
 use Rattle.abstract_protocol.specs.Ledger.{Ledger, Place, raise, accept}
 use Rattle.abstract_protocol.specs.Numbers.{epoch_number}
 use Rattle.following.specs.Announcements.{takes, accepts}
-use Rattle.peer_core.specs.Moves.{follower}
-use Rattle.peer_core.specs.Rows.{announced, awaiting}
+use Rattle.peer_core.specs.Moves.{follower, stopped_leading, waiting_phase, waiting_for}
+use Rattle.peer_core.specs.Rows.{announced, runs_sync}
+use Rattle.peer_core.specs.declared.state.Phase.{Phase}
+use Rattle.peer_core.specs.declared.state.Phase.TheVariants as phases
 use Rattle.peer_core.specs.declared.state.State.{State}
 use Rattle.peer_fact.specs.declared.fact.Fact.{Fact}
 use Rattle.phase_rows.specs.Orders.{is_below, is_same, may_accept}
 use Rattle.phase_rows.specs.Peers.{alone}
-use Rattle.phase_rows.specs.Rows.{sends, saves, leaves_leading, at_ballot}
+use Rattle.phase_rows.specs.Rows.{silent, sends, saves, leaves_leading, at_ballot}
 use Rattle.version_laws.proofs.Maps.{put_here}
 use Rattle.wire_frames.specs.declared.message.Message.TheVariants as messages
 use Rattle.wire_frames.specs.declared.phase.PhaseOut.{PhaseOut}
+use Rattle.wire_frames.specs.declared.phase.Then.{Then}
 use Rattle.wire_frames.specs.declared.phase.Then.TheVariants as thens
 use Rattle.election_refinement.proofs.Keeps.{keeps_both, raise_keeps, accept_keeps, first_keeps}
-use Rattle.election_refinement.proofs.Numbers.{same_epochs, other_number, not_below_number}
+use Rattle.election_refinement.proofs.Numbers.{same_epochs, same_number, other_number, not_below_number}
 use Rattle.election_refinement.proofs.Quiet.{refuses}
-use Rattle.election_refinement.proofs.Reaching.{Course, reaches_safe, raise_reaches}
-use Rattle.election_refinement.proofs.Rows.{Fits, Goes, unmoved, enters}
-use Rattle.election_refinement.proofs.Saving.{mark_here, may_raise, raised_fits, accepted_fits}
+use Rattle.election_refinement.proofs.Reaching.{Course, raise_reaches}
+use Rattle.election_refinement.proofs.Rows.{Fits, Goes, runs_on, unmoved, enters, enters_alone}
+use Rattle.election_refinement.proofs.Saving.{mark_here, may_raise, own_accepted, raised_fits, accepted_fits}
 use Rattle.election_refinement.proofs.Tests.{by_test}
-use Rattle.election_refinement.specs.Refinement.{IsFirst}
+use Rattle.election_refinement.specs.Refinement.{IsFirst, PhaseHolds, may_wait}
+
+-- a peer that waits for a sync, and steps down if it led, follows
+waiting_holds : (l : Ledger) (p : ℕ) (fact : Fact) (phase : Phase) → PhaseHolds l p fact (stopped_leading (waiting_phase phase))
+waiting_holds l p fact (phases.Following f) = tt
+waiting_holds l p fact (phases.Probing b) = tt
+waiting_holds l p fact (phases.Electing e) = tt
+waiting_holds l p fact (phases.Leading leadership) = tt
+
+waiting : (phase : Phase) → may_wait (stopped_leading (waiting_phase phase)) ≡ true
+waiting (phases.Following f) = refl
+waiting (phases.Probing b) = refl
+waiting (phases.Electing e) = refl
+waiting (phases.Leading leadership) = refl
 
 module _ {c : Course} {l : Ledger} {x : State} {stored : Option Fact} (h : Fits c l x stored) (from : ℕ) (new : Fact) (told : IsFirst l new) where
   open c use {peer as p}
 
-  -- the row, where a peer that would wait for a sync follows
+  -- the row, once a peer that is to wait for a sync follows
   abbrev Does : PhaseOut → Type 0
-  Does row = Goes c l stored (x, record row { then = awaiting row.then })
+  Does row = Goes c l stored (waiting_for row.then x, row)
 
   -- the epoch was accepted already
   again : new.epoch ≡ x.fact.epoch → Does (sends (alone from) (messages.Accepted new.epoch 1) thens.Follow)
-  again same = unmoved (enters h follower tt) (record { first = refl; accepted = accepted })
+  again same = unmoved (enters_alone h follower tt) (record { first = refl; accepted = accepted }) tt
     where
       accepted : l.accepted (epoch_number new.epoch) p ≡ true
-      accepted = subst (λ e. l.accepted (epoch_number e) p ≡ true) (sym same) (subst (λ (place : Place). l.accepted place.epoch p ≡ true) h.peer.saved.place ((reaches_safe c l h.reaches).ballots.last p))
+      accepted = subst (λ e. l.accepted (epoch_number e) p ≡ true) (sym same) (own_accepted h)
 
   module _ (above : epoch_number x.fact.ballot ≤ epoch_number new.epoch) (other : epoch_number x.fact.epoch ≡ epoch_number new.epoch → ⊥) where
     abbrev d : ℕ
@@ -48,38 +64,54 @@ module _ {c : Course} {l : Ledger} {x : State} {stored : Option Fact} (h : Fits 
     may : l.ballot p ≤ d
     may = may_raise h d above
 
-    newer : (l.fact p).epoch < d
-    newer = rw (ap (λ (place : Place). place.epoch) h.peer.saved.place) (less h.peer.saved.known.below)
+    newer_fact : epoch_number x.fact.epoch < d
+    newer_fact = less h.peer.saved.known.below
       where
         less : epoch_number x.fact.epoch ≤ epoch_number x.fact.ballot → epoch_number x.fact.epoch < d
         less below = grind (arith, nat_tests)
+
+    newer : (l.fact p).epoch < d
+    newer = rw (ap (λ (place : Place). place.epoch) h.peer.saved.place) newer_fact
 
     accepts_goes : Does (leaves_leading (accepts from new))
     accepts_goes = record {
       ledger = accept raised p d;
       keeps = keeps_both l raised (accept raised p d) p (raise_keeps l p d may) (accept_keeps raised p d (put_here l.ballot p d));
-      fits = accepted_fits h raised (raise_reaches c l h.reaches d may) new (first_keeps l raised p (raise_keeps l p d may) new told) (put_here l.ballot p d) newer follower tt;
+      fits = accepted_fits h raised (raise_reaches c l h.reaches d may) new (first_keeps l raised p (raise_keeps l p d may) new told) (put_here l.ballot p d) newer follower tt None tt;
       says = record { first = refl; accepted = mark_here l.accepted d p };
+      syncs = tt;
     }
 
-    -- a peer that does not trust its tree only promises the epoch, if its ballot is lower
+    -- a peer that may not accept the epoch only promises it, if its ballot is lower, and syncs on it
     promises_goes : Does (leaves_leading (saves (at_ballot x.fact new.epoch) (thens.SyncOn new)))
     promises_goes = record {
       ledger = raised;
       keeps = raise_keeps l p d may;
-      fits = raised_fits h new.epoch told.known.epoch above follower tt;
+      fits = raised_fits h new.epoch told.known.epoch above (stopped_leading (waiting_phase x.phase)) (waiting_holds raised p (at_ballot x.fact new.epoch) x.phase);
       says = tt;
+      syncs = record { first = first_keeps l raised p (raise_keeps l p d may) new told; promised = refl; newer = newer_fact; waits = waiting x.phase };
     }
 
-    takes_goes : Does (leaves_leading (takes x.fact p x.trusted false from new))
+    -- at its own ballot it resumes the sync that runs, or begins one
+    at_own : is_below x.fact.ballot new.epoch ≡ false → Does (leaves_leading (silent (if runs_sync x.sync then thens.Resume else thens.SyncOn new)))
+    at_own not_below =
+        let promised = same_number new.epoch x.fact.ballot told.known.epoch h.peer.saved.known.ballot (at_most_twice (not_below_number x.fact.ballot new.epoch h.peer.saved.known.ballot told.known.epoch not_below) above) in
+        by_test (λ (turn : Then). Does (leaves_leading (silent turn))) (runs_sync x.sync) thens.Resume (thens.SyncOn new)
+        (λ runs. unmoved (enters h (stopped_leading (waiting_phase x.phase)) (waiting_holds l p x.fact x.phase) (runs_on l p x.fact (may_wait x.phase) (may_wait (stopped_leading (waiting_phase x.phase))) x.sync (waiting x.phase) h.peer.sync)) tt tt)
+        (λ none. unmoved (enters_alone h (stopped_leading (waiting_phase x.phase)) (waiting_holds l p x.fact x.phase)) tt (record { first = told; promised = promised; newer = newer_fact; waits = waiting x.phase }))
+      where
+        at_most_twice : {a b : ℕ} → a ≤ b → b ≤ a → a ≡ b
+        at_most_twice less more = omega (arith, less, more)
+
+    takes_goes : Does (leaves_leading (takes x.fact p x.trusted (runs_sync x.sync) from new))
     takes_goes =
         by_test (λ (row : PhaseOut). Does (leaves_leading row)) (may_accept x.trusted p new) _ _
         (λ accepts_now. accepts_goes)
         (λ waits. by_test (λ (row : PhaseOut). Does (leaves_leading row)) (is_below x.fact.ballot new.epoch) _ _
         (λ below. promises_goes)
-        (λ at_own. unmoved (enters h follower tt) tt))
+        (λ not_below. at_own not_below))
 
-  pub rule_16 : Goes c l stored (x, announced p from new x)
+  pub rule_16 : Goes c l stored (announced p from new x)
   rule_16 =
       by_test Does (is_below new.epoch x.fact.ballot) _ _
       (λ below. refuses h from new.epoch)

@@ -66,23 +66,24 @@ IsOfCalls other = ⊥
 abbrev pub AsksPeer : Outgoing → Type 0
 AsksPeer o = IsPeer o.to × IsOfCalls o.message
 
--- no epoch begins to be led
-abbrev pub LeadsNothing : Then → Type 0
-LeadsNothing (thens.Lead fact) = ⊥
-LeadsNothing other = Unit {0}
+-- no epoch begins to be led, and no sync begins
+abbrev pub BeginsNothing : Then → Type 0
+BeginsNothing (thens.Lead fact) = ⊥
+BeginsNothing (thens.SyncOn fact) = ⊥
+BeginsNothing other = Unit {0}
 
 -- the leader still leads the epoch of this fact, which these peers accepted
 pub record StillLeads (first : Fact) (accepters : List Bool) (r : Leader × LeadOut) : Type 0 where
   pub fact : r.0.fact ≡ first
   pub accepts : r.0.accepts ≡ accepters
   pub sends : All AsksPeer r.1.sends
-  pub next : LeadsNothing r.1.then
+  pub next : BeginsNothing r.1.then
 
 abbrev Stays : Leader → Leader × LeadOut → Type 0
 Stays l r = StillLeads l.fact l.accepts r
 
 -- nothing is sent
-silent : {first : Fact} {accepters : List Bool} {m : Leader} {out : LeadOut} → m.fact ≡ first → m.accepts ≡ accepters → out.sends ≡ [] → LeadsNothing out.then → StillLeads first accepters (m, out)
+silent : {first : Fact} {accepters : List Bool} {m : Leader} {out : LeadOut} → m.fact ≡ first → m.accepts ≡ accepters → out.sends ≡ [] → BeginsNothing out.then → StillLeads first accepters (m, out)
 silent {out = out} fact accepts sends next = record { fact = fact; accepts = accepts; sends = subst_none out.sends sends; next = next }
   where
     subst_none : (xs : List Outgoing) → xs ≡ [] → All AsksPeer xs
@@ -201,7 +202,7 @@ gathered_for_stays : (w : Option Waiting) (key : List ℕ) (l : Leader) → Stay
 gathered_for_stays None key l = silent refl refl refl tt
 gathered_for_stays (Some w) key l = gathered_stays (row_at key l.table.rows).stage w key l
 
-begins_stays : (state : RoundState) (votes : Round) (reply : Reply) (w : Waiting) (key : List ℕ) (out : LeadOut) (l : Leader) → All AsksPeer out.sends → LeadsNothing out.then → Stays l (begins_check state votes reply w key out l)
+begins_stays : (state : RoundState) (votes : Round) (reply : Reply) (w : Waiting) (key : List ℕ) (out : LeadOut) (l : Leader) → All AsksPeer out.sends → BeginsNothing out.then → Stays l (begins_check state votes reply w key out l)
 begins_stays Open votes reply w key out l sends next = record { fact = refl; accepts = refl; sends = sends; next = next }
 begins_stays Met votes reply w key out l sends next = record { fact = refl; accepts = refl; sends = sends; next = tt }
 begins_stays AllAnswered votes reply w key out l sends next = record { fact = refl; accepts = refl; sends = sends; next = tt }
@@ -244,15 +245,15 @@ rewritten_stays : (task : Pending) (key : List ℕ) (l : Leader) → Stays l (re
 rewritten_stays (tasks.Rewrite o) key l = by_test (Stays l) (is_spent l.seq) _ _ (λ spent. silent refl refl refl tt) (λ more. silent refl refl refl tt)
 rewritten_stays task key l = silent refl refl refl tt
 
-write_settled_stays : (w : Option Waiting) (o : Object) (key : List ℕ) (out : LeadOut) (l : Leader) → All AsksPeer out.sends → LeadsNothing out.then → Stays l (write_settled w o key out l)
+write_settled_stays : (w : Option Waiting) (o : Object) (key : List ℕ) (out : LeadOut) (l : Leader) → All AsksPeer out.sends → BeginsNothing out.then → Stays l (write_settled w o key out l)
 write_settled_stays None o key out l sends next = record { fact = refl; accepts = refl; sends = sends; next = next }
 write_settled_stays (Some w) o key out l sends next = record { fact = refl; accepts = refl; sends = sends; next = tt }
 
-settled_stays : (rewrite : Bool) (o : Object) (key : List ℕ) (out : LeadOut) (l : Leader) → All AsksPeer out.sends → LeadsNothing out.then → Stays l (settled_for rewrite o key out l)
+settled_stays : (rewrite : Bool) (o : Object) (key : List ℕ) (out : LeadOut) (l : Leader) → All AsksPeer out.sends → BeginsNothing out.then → Stays l (settled_for rewrite o key out l)
 settled_stays true o key out l sends next = record { fact = refl; accepts = refl; sends = sends; next = tt }
 settled_stays false o key out l sends next = write_settled_stays (running key l.table.calls) o key out l sends next
 
-acknowledged_stays : (state : RoundState) (o : Object) (digest : List ℕ) (acks : Round) (rewrite : Bool) (key : List ℕ) (out : LeadOut) (l : Leader) → All AsksPeer out.sends → LeadsNothing out.then → Stays l (acknowledged state o digest acks rewrite key out l)
+acknowledged_stays : (state : RoundState) (o : Object) (digest : List ℕ) (acks : Round) (rewrite : Bool) (key : List ℕ) (out : LeadOut) (l : Leader) → All AsksPeer out.sends → BeginsNothing out.then → Stays l (acknowledged state o digest acks rewrite key out l)
 acknowledged_stays Open o digest acks rewrite key out l sends next = record { fact = refl; accepts = refl; sends = sends; next = next }
 acknowledged_stays Met o digest acks rewrite key out l sends next = settled_stays rewrite o key _ _ sends next
 acknowledged_stays AllAnswered o digest acks rewrite key out l sends next = settled_stays rewrite o key _ _ sends next
@@ -291,11 +292,11 @@ lead_stays n key seen l = let P : Leader × LeadOut → Type 0 = Stays l in
     by_test P (n == 35) _ _ (λ is. put_stays l.task seen key (with_task tasks.Nothing l)) (λ not.
     by_test P (n == 36) _ _ (λ is. next_stays (running key l.table.calls) key l) (λ not. silent refl refl refl tt)))))))))
 
-timed_out_stays : (ds : List DueCall) (o : LeadOut) (l m : Leader) → m.fact ≡ l.fact → m.accepts ≡ l.accepts → o.sends ≡ [] → LeadsNothing o.then → Stays l (m, timed_out ds o)
+timed_out_stays : (ds : List DueCall) (o : LeadOut) (l m : Leader) → m.fact ≡ l.fact → m.accepts ≡ l.accepts → o.sends ≡ [] → BeginsNothing o.then → Stays l (m, timed_out ds o)
 timed_out_stays [] o l m fact accepts none next = silent fact accepts none next
 timed_out_stays (d ∷ ds) o l m fact accepts none next = with_key d.running (and_answer d.from d.id replies.Timeout o) none next (λ p no_send leads. timed_out_stays ds p l m fact accepts no_send leads)
   where
-    with_key : (key : Option (List ℕ)) (p : LeadOut) → p.sends ≡ [] → LeadsNothing p.then → ((q : LeadOut) → q.sends ≡ [] → LeadsNothing q.then → Stays l (m, timed_out ds q)) → Stays l (m, timed_out ds (and_key_if key p))
+    with_key : (key : Option (List ℕ)) (p : LeadOut) → p.sends ≡ [] → BeginsNothing p.then → ((q : LeadOut) → q.sends ≡ [] → BeginsNothing q.then → Stays l (m, timed_out ds q)) → Stays l (m, timed_out ds (and_key_if key p))
     with_key None p no_send leads rest = rest p no_send leads
     with_key (Some key) p no_send leads rest = rest (and_key key p) no_send leads
 

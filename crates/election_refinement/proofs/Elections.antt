@@ -28,11 +28,11 @@ use Rattle.wire_frames.specs.declared.phase.Then.TheVariants as thens
 use Rattle.election_refinement.proofs.Keeps.{Keeps, keeps_both, elect_keeps, accept_keeps, known_keeps, first_keeps}
 use Rattle.election_refinement.proofs.Numbers.{proposer_of-number, same_epochs, newer_number, not_newer_number}
 use Rattle.election_refinement.proofs.Reaching.{Course, Reaches, elect_reaches}
-use Rattle.election_refinement.proofs.Rows.{Fits, Goes, unmoved, enters, quiet, follows, rests_in, names}
+use Rattle.election_refinement.proofs.Rows.{Fits, Goes, none_runs, unmoved, enters, quiet, follows, rests_in, names}
 use Rattle.election_refinement.proofs.Saving.{mark_here, accepted_fits}
 use Rattle.election_refinement.proofs.Sets.{nobody_then, alone_then, joined_then}
 use Rattle.election_refinement.proofs.Tests.{by_test}
-use Rattle.election_refinement.specs.Refinement.{first_seq, fact_place, IsKnown, IsFirst, HasPromised, IsPreparing, IsStarting, PhaseHolds, IsPrepare, IsPromise}
+use Rattle.election_refinement.specs.Refinement.{first_seq, fact_place, IsKnown, IsFirst, HasPromised, IsPreparing, IsStarting, PhaseHolds, may_wait, SyncHolds, IsPrepare, IsPromise}
 
 -- a known fact is a fact of the ledger
 fact_of_known : (l : Ledger) (f : Fact) → IsKnown l f → IsFact l (fact_place f)
@@ -87,7 +87,7 @@ module _ {c : Course} {l : Ledger} {x : State} {stored : Option Fact} (h : Fits 
   open c use {peer as p}
 
   -- rule 13, for a member, with a quorum of promises
-  module _ (base : Fact) (promises : List Bool) (preparing : IsPreparing l p x.fact base promises) (quorum : is_quorum (holds promises) base.views ≡ true) where
+  module _ (base : Fact) (promises : List Bool) (preparing : IsPreparing l p x.fact base promises) (alone_now : SyncHolds l p x.fact false x.sync) (quorum : is_quorum (holds promises) base.views ≡ true) where
     abbrev d : ℕ
     d = epoch_number x.fact.ballot
 
@@ -143,11 +143,15 @@ module _ {c : Course} {l : Ledger} {x : State} {stored : Option Fact} (h : Fits 
       own_ballot = refl;
     }
 
-    newer : (l.fact p).epoch < d
-    newer = below (h.peer.saved.known.below) (λ same. not_both (subst (λ n. l.elected n ≡ true) same h.peer.saved.known.elected) preparing.fresh) (ap (λ (place : Place). place.epoch) h.peer.saved.place)
+    -- the peer accepted a lower epoch, since this one was not elected
+    newer_fact : epoch_number x.fact.epoch < d
+    newer_fact = below h.peer.saved.known.below (λ same. not_both (subst (λ n. l.elected n ≡ true) same h.peer.saved.known.elected) preparing.fresh)
       where
-        below : epoch_number x.fact.epoch ≤ d → (epoch_number x.fact.epoch ≡ d → ⊥) → (l.fact p).epoch ≡ epoch_number x.fact.epoch → (l.fact p).epoch < d
-        below low other place = grind (arith, nat_tests)
+        below : epoch_number x.fact.epoch ≤ d → (epoch_number x.fact.epoch ≡ d → ⊥) → epoch_number x.fact.epoch < d
+        below low other = grind (arith, nat_tests)
+
+    newer : (l.fact p).epoch < d
+    newer = rw (ap (λ (place : Place). place.epoch) h.peer.saved.place) newer_fact
 
     starting : IsStarting (accept chosen p d) p new new (alone p)
     starting = record {
@@ -161,8 +165,10 @@ module _ {c : Course} {l : Ledger} {x : State} {stored : Option Fact} (h : Fits 
     begun_goes = record {
       ledger = accept chosen p d;
       keeps = keeps_both l chosen (accept chosen p d) p (elect_keeps l p d (fact_place base) proposes preparing.fresh) (accept_keeps chosen p d h.peer.saved.ballot);
-      fits = accepted_fits h chosen chosen_reaches new is_first h.peer.saved.ballot newer (phases.Electing (Starting new (alone p) 0)) starting;
+      fits = accepted_fits h chosen chosen_reaches new is_first h.peer.saved.ballot newer (phases.Electing (Starting new (alone p) 0)) starting x.sync
+          (none_runs l (accept chosen p d) p x.fact new true x.sync alone_now);
       says = starting.first;
+      syncs = tt;
     }
 
     -- a peer that does not trust its tree is elected, and does not accept the epoch yet
@@ -179,36 +185,38 @@ module _ {c : Course} {l : Ledger} {x : State} {stored : Option Fact} (h : Fits 
           saved = record { known = known_keeps l chosen p elected_keeps x.fact h.peer.saved.known; ballot = h.peer.saved.ballot; place = h.peer.saved.place };
           kept = h.peer.kept;
           phase = record { own = preparing.own; first = is_first; at_ballot = refl; accepted = nobody_then (λ q. chosen.accepted d q ≡ true) };
+          sync = tt;
         };
       };
       says = is_first;
+      syncs = record { first = is_first; promised = refl; newer = newer_fact; waits = refl };
     }
 
     starts_goes : Goes c l stored (electing (starts x.trusted p new).0 x, (starts x.trusted p new).1)
     starts_goes = starts_either (λ (r : Election × PhaseOut). Goes c l stored (electing r.0 x, r.1)) x.trusted p new begun_goes waits_goes
 
-  pub rule_13 : (phase : Phase) → PhaseHolds l p x.fact phase → Goes c l stored (while_13 phase p x)
-  rule_13 (phases.Electing (Preparing base promises asked age)) old =
+  pub rule_13 : (phase : Phase) → PhaseHolds l p x.fact phase → SyncHolds l p x.fact (may_wait phase) x.sync → Goes c l stored (while_13 phase p x)
+  rule_13 (phases.Electing (Preparing base promises asked age)) old runs =
       by_test does (is_quorum (holds promises) base.views) _ _
       (λ quorum. by_test does (is_member (views_after base) p) _ _
-      (λ member. starts_goes base promises old quorum)
+      (λ member. starts_goes base promises old runs quorum)
       (λ stranger. follows h (phases.Electing (Preparing base promises asked age))))
-      (λ few. rests_in h (phases.Electing (Preparing base promises asked age)) old)
+      (λ few. rests_in h (phases.Electing (Preparing base promises asked age)) old runs)
     where
       does : Election × PhaseOut → Type 0
       does r = Goes c l stored (electing r.0 x, r.1)
-  rule_13 (phases.Electing (Starting new accepts age)) old = rests_in h (phases.Electing (Starting new accepts age)) old
-  rule_13 other old = quiet h
+  rule_13 (phases.Electing (Starting new accepts age)) old runs = rests_in h (phases.Electing (Starting new accepts age)) old runs
+  rule_13 other old runs = quiet h
 
   -- rule 12, for a promise of the peer's own ballot
-  promised_goes : (from : ℕ) (base promised : Fact) (promises asked : List Bool) (age : ℕ) → IsPreparing l p x.fact base promises → IsPromise l from x.fact.ballot promised
+  promised_goes : (from : ℕ) (base promised : Fact) (promises asked : List Bool) (age : ℕ) → IsPreparing l p x.fact base promises → SyncHolds l p x.fact false x.sync → IsPromise l from x.fact.ballot promised
       → Goes c l stored (electing (promised_by base promises asked age p from x.fact.ballot promised).0 x, (promised_by base promises asked age p from x.fact.ballot promised).1)
-  promised_goes from base promised promises asked age old told =
+  promised_goes from base promised promises asked age old runs told =
       by_test (λ (r : Election × PhaseOut). Goes c l stored (electing r.0 x, r.1)) (is_newer promised base) _ _
       (λ newer. unmoved (enters h (phases.Electing now)
-      (counted l p from x.fact base promised promised promises old told told.known told.lower (newer_number promised base told.known.epoch old.known.epoch newer) (omega arith))) asks)
+      (counted l p from x.fact base promised promised promises old told told.known told.lower (newer_number promised base told.known.epoch old.known.epoch newer) (omega arith)) runs) asks tt)
       (λ older. names h 13 (phases.Electing (Preparing base (joined from promises) asked age))
-      (counted l p from x.fact base base promised promises old told old.known old.above (omega arith) (not_newer_number promised base told.known.epoch old.known.epoch older)))
+      (counted l p from x.fact base base promised promises old told old.known old.above (omega arith) (not_newer_number promised base told.known.epoch old.known.epoch older)) runs)
     where
       now : Election
       now = Preparing promised (joined from promises) (with_members asked promised.views) age
@@ -216,15 +224,15 @@ module _ {c : Course} {l : Ledger} {x : State} {stored : Option Fact} (h : Fits 
       asks : IsPrepare l p x.fact.ballot
       asks = record { epoch = h.peer.saved.known.ballot; own = old.own; stands = rw h.peer.saved.ballot (omega arith) }
 
-  pub rule_12 : (phase : Phase) (from : ℕ) (ballot : Epoch) (promised : Fact) → PhaseHolds l p x.fact phase → IsPromise l from ballot promised → Goes c l stored (while_12 phase p from ballot promised x)
-  rule_12 (phases.Electing (Preparing base promises asked age)) from ballot promised old told =
+  pub rule_12 : (phase : Phase) (from : ℕ) (ballot : Epoch) (promised : Fact) → PhaseHolds l p x.fact phase → SyncHolds l p x.fact (may_wait phase) x.sync → IsPromise l from ballot promised → Goes c l stored (while_12 phase p from ballot promised x)
+  rule_12 (phases.Electing (Preparing base promises asked age)) from ballot promised old runs told =
       by_test (λ (r : Election × PhaseOut). Goes c l stored (electing r.0 x, r.1)) (is_same ballot x.fact.ballot) _ _
       (λ same. at_own (sym (same_epochs ballot x.fact.ballot same)))
-      (λ other. rests_in h (phases.Electing (Preparing base promises asked age)) old)
+      (λ other. rests_in h (phases.Electing (Preparing base promises asked age)) old runs)
     where
       at_own : x.fact.ballot ≡ ballot → Goes c l stored (electing (promised_by base promises asked age p from ballot promised).0 x, (promised_by base promises asked age p from ballot promised).1)
       at_own same =
           subst (λ (b : Epoch). Goes c l stored (electing (promised_by base promises asked age p from b promised).0 x, (promised_by base promises asked age p from b promised).1)) same
-          (promised_goes from base promised promises asked age old (subst (λ (b : Epoch). IsPromise l from b promised) (sym same) told))
-  rule_12 (phases.Electing (Starting new accepts age)) from ballot promised old told = rests_in h (phases.Electing (Starting new accepts age)) old
-  rule_12 other from ballot promised old told = quiet h
+          (promised_goes from base promised promises asked age old runs (subst (λ (b : Epoch). IsPromise l from b promised) (sym same) told))
+  rule_12 (phases.Electing (Starting new accepts age)) from ballot promised old runs told = rests_in h (phases.Electing (Starting new accepts age)) old runs
+  rule_12 other from ballot promised old runs told = quiet h

@@ -1,6 +1,6 @@
 -- What the steps of one peer preserve in the ledger: for the other peers, and for everything
 -- asserted before.
-use Rattle.std.proofs.Common.{◌≡◌, ℕ, ◌<◌, ◌≤◌, Bool, true, false, ◌==◌, if◌then◌else◌, eqb-true, List, arith, refl, ap, le_trans, ◌∙◌, sym}
+use Rattle.std.proofs.Common.{◌≡◌, ℕ, ◌<◌, ◌≤◌, Bool, true, false, ◌==◌, if◌then◌else◌, eqb-true, List, Option, None, Some, arith, refl, ap, le_trans, ◌∙◌, sym}
 use Rattle.std.specs.Prelude.{All}
 use Rattle.std.proofs.lemmas.Bool.Decides.{nat_tests}
 use Rattle.std.proofs.lemmas.List.Elements.{All-weaker}
@@ -15,12 +15,13 @@ use Rattle.peer_core.specs.declared.state.Phase.TheVariants as phases
 use Rattle.peer_fact.specs.declared.fact.Fact.{Fact}
 use Rattle.probe.specs.declared.probing.Probing.{Probing}
 use Rattle.leader_words.specs.declared.out.Outgoing.{Outgoing}
+use Rattle.running_sync.specs.Running.{Running}
 use Rattle.wire_frames.specs.declared.frame.Frame.{Frame}
 use Rattle.wire_frames.specs.declared.message.Message.{Message}
 use Rattle.wire_frames.specs.declared.message.Message.TheVariants as messages
 use Rattle.world_spec.specs.Nodes.{Node, Up, Down}
 use Rattle.election_refinement.proofs.Numbers.{proposer_of-number}
-use Rattle.election_refinement.specs.Refinement.{IsKnown, IsFirst, HasPromised, IsProbing, IsPreparing, IsStarting, IsLeading, PhaseHolds, IsSaved, NodeHolds, MessageHolds, SendHolds, FrameHolds}
+use Rattle.election_refinement.specs.Refinement.{IsKnown, IsFirst, HasPromised, IsProbing, IsPreparing, IsStarting, IsLeading, PhaseHolds, may_wait, MaySync, SyncHolds, IsSaved, NodeHolds, MessageHolds, SendHolds, FrameHolds}
 
 -- the steps of peer p led from ledger l to ledger m
 pub record Keeps (l m : Ledger) (p : ℕ) : Type 0 where
@@ -126,6 +127,8 @@ module _ (l m : Ledger) (p : ℕ) (k : Keeps l m p) where
   message_keeps q (messages.GetReply ballot round key entry object) old = tt
   message_keeps q (messages.Put ballot object) old = tt
   message_keeps q (messages.PutReply ballot key version) old = tt
+  message_keeps q (messages.TreeAsk ballot at after) old = tt
+  message_keeps q (messages.TreeGive ballot at after trusted body) old = tt
   message_keeps q other old = absurd old
 
   pub sends_keep : (q : ℕ) (sends : List Outgoing) → All (SendHolds l q) sends → All (SendHolds m q) sends
@@ -133,6 +136,9 @@ module _ (l m : Ledger) (p : ℕ) (k : Keeps l m p) where
 
   pub frames_keep : (frames : List Frame) → All (FrameHolds l) frames → All (FrameHolds m) frames
   frames_keep frames old = All-weaker (FrameHolds l) (FrameHolds m) (λ f h. (h.0, (h.1.0, message_keeps f.from f.message h.1.1))) frames old
+
+  pub may_sync_keeps : (fact : Fact) (waiting : Bool) (new : Fact) → MaySync l fact waiting new → MaySync m fact waiting new
+  may_sync_keeps fact waiting new old = record { first = first_keeps new old.first; promised = old.promised; newer = old.newer; waits = old.waits }
 
   -- ## The other peers
 
@@ -165,9 +171,18 @@ module _ (l m : Ledger) (p : ℕ) (k : Keeps l m p) where
   phase_keeps q fact (phases.Electing (Starting new accepts age)) other epoch old = starting_keeps q fact new accepts old
   phase_keeps q fact (phases.Leading leadership) other epoch old = leading_keeps q fact leadership old
 
+  sync_keeps : (q : ℕ) (fact : Fact) (waiting : Bool) (sync : Option Running) → SyncHolds l q fact waiting sync → SyncHolds m q fact waiting sync
+  sync_keeps q fact waiting None old = tt
+  sync_keeps q fact waiting (Some r) old = record { may = may_sync_keeps fact waiting r.fact old.may; asks = old.asks }
+
   saved_keeps : (q : ℕ) (fact : Fact) → (p ≡ q → ⊥) → IsSaved l q fact → IsSaved m q fact
   saved_keeps q fact other old = record { known = known_keeps fact old.known; ballot = k.ballot q other ∙ old.ballot; place = k.fact q other ∙ old.place }
 
   pub node_keeps : (q : ℕ) (node : Node) → (p ≡ q → ⊥) → NodeHolds l q node → NodeHolds m q node
-  node_keeps q (Up x stores) other old = record { saved = saved_keeps q x.fact other old.saved; kept = old.kept; phase = phase_keeps q x.fact x.phase other old.saved.known.ballot old.phase }
+  node_keeps q (Up x stores) other old = record {
+    saved = saved_keeps q x.fact other old.saved;
+    kept = old.kept;
+    phase = phase_keeps q x.fact x.phase other old.saved.known.ballot old.phase;
+    sync = sync_keeps q x.fact (may_wait x.phase) x.sync old.sync;
+  }
   node_keeps q (Down stores) other old = record { fact = old.fact; kept = old.kept; saved = saved_keeps q old.fact other old.saved }

@@ -14,6 +14,7 @@ pub mod Elections
 pub mod Announcements
 pub mod Ticks
 pub mod Rules
+pub mod Syncing
 pub mod Loops
 pub mod Worlds
 pub mod Openings

@@ -3,14 +3,17 @@
 use Rattle.std.proofs.Common.{◌≡◌, ℕ, zero, suc, ◌==◌, Bool, true, false, List, [], ◌∷◌, ◌++◌, Option, Some, None, arith, refl, ap, ◌∙◌, sym, subst}
 use Rattle.std.specs.Prelude.{All}
 use Rattle.std.proofs.lemmas.List.Elements.{All-nil, All-append, All-weaker}
-use Rattle.abstract_protocol.specs.Ledger.{Ledger, is_established}
+use Rattle.abstract_protocol.specs.Ledger.{Ledger, accept, is_established}
 use Rattle.abstract_protocol.specs.Numbers.{epoch_number}
+use Rattle.election.specs.declared.election.Election.TheVariants.{Preparing, Starting}
+use Rattle.ens_base.specs.Views.{last_view}
 use Rattle.ens_base.specs.declared.entry.Entry.{Entry}
 use Rattle.ens_base.specs.declared.epoch.Epoch.{Epoch}
 use Rattle.ens_object.specs.Objects.{object_spelling}
 use Rattle.ens_object.specs.declared.object.Object.{Object}
+use Rattle.exchange.specs.declared.question.Question.{Question}
 use Rattle.following.specs.Refusals.{is_served}
-use Rattle.following.specs.Requests.{row_21, row_22}
+use Rattle.following.specs.Requests.{row_21, row_22, row_23}
 use Rattle.kept_objects.specs.Kept.{entry_of, matching, object_in}
 use Rattle.leader_words.specs.declared.out.LeadOut.{LeadOut}
 use Rattle.leader_words.specs.declared.out.Outgoing.{Outgoing}
@@ -22,9 +25,10 @@ use Rattle.leading.specs.Rules.{lead_row}
 use Rattle.leading.specs.Starts.{row_27}
 use Rattle.leading.specs.Ticks.{row_5_calls as calls_of_tick}
 use Rattle.leading.specs.declared.leader.Leader.{Leader}
-use Rattle.peer_core.specs.Drives.{saved, and_sends, row_done, owned, followed_up, and_row, lead_done, lead, reminded, task_done, driven, most_turns, led_in, ticked, shown, after_put, put_done, delivered, unavailable, called, first, concluded, step_of}
+use Rattle.peer_core.specs.Drives.{row_done, owned, followed_up, and_row, lead_done, lead, reminded, task_done, driven, most_turns, led_in, ticked, shown, after_put, put_done, delivered, unavailable, called, first, concluded, step_of}
+use Rattle.peer_core.specs.Syncs.{saved, and_sends, with_sync, installed, accepted, accepted_in, synced, ended_with, gone_on, begun_sync, resumed_sync, followed_on, reached, own_node, body_of, shown_node, needs_node, taken_give}
 use Rattle.peer_core.specs.Leading.{begins, end_of, older, row_5_calls, ticks, wished}
-use Rattle.peer_core.specs.Moves.{left, left_answers, and_answers, leading, with_leader, turned, ends_leading, turned_answers}
+use Rattle.peer_core.specs.Moves.{electing, left, left_answers, and_answers, without_sync, leading, with_leader, turned, ends_leading, turned_answers}
 use Rattle.peer_core.specs.Owns.{digested, read, kept, fetched, held, looked_at, looked, found_at, found, entered, written, confirmed}
 use Rattle.peer_core.specs.Rows.{aged, changes, leads, phase_row, received}
 use Rattle.peer_core.specs.Starts.{first_state, opened, start_of}
@@ -38,8 +42,16 @@ use Rattle.peer_core.specs.declared.state.Phase.{Phase}
 use Rattle.peer_core.specs.declared.state.Phase.TheVariants as phases
 use Rattle.peer_core.specs.declared.state.State.{State}
 use Rattle.peer_fact.specs.declared.fact.Fact.{Fact}
+use Rattle.phase_rows.specs.Orders.{is_same}
+use Rattle.phase_rows.specs.Peers.{joined}
 use Rattle.register_model.specs.declared.note.Note.{Note}
-use Rattle.step_plans.specs.Calls.{Call, Load, Save, Find, Enter, Fetch, Put, Hash, AnswerOf}
+use Rattle.running_sync.proofs.Keeping.{fact_stays}
+use Rattle.running_sync.proofs.Messages.{start_go, start_ask, resume_go, resume_ask, take_go, take_ask}
+use Rattle.running_sync.proofs.Others.{asks_are, resumed_are, taken_are}
+use Rattle.running_sync.specs.Rows.{row_start, row_resume, row_take}
+use Rattle.running_sync.specs.Running.{Running}
+use Rattle.running_sync.specs.declared.asking.Give.{Give}
+use Rattle.step_plans.specs.Calls.{Call, Load, Save, Find, Enter, ReadNode, Fetch, Put, Hash, AnswerOf}
 use Rattle.step_plans.specs.Plans.{Plan, Done, Say, Ask, Out, nothing, Part, Rest, asked, noted}
 use Rattle.step_plans.specs.Sends.{posted_to}
 use Rattle.step_plans.specs.Tasks.{named, keyed}
@@ -47,6 +59,10 @@ use Rattle.step_plans.specs.declared.tasks.Task.{Task}
 use Rattle.step_plans.specs.declared.tasks.Task.TheVariants as tasks
 use Rattle.step_plans.specs.declared.walked.Walked.{Walked}
 use Rattle.step_plans.specs.declared.walked.Walked.TheVariants.{Reached, Broken}
+use Rattle.sync_rule.specs.Syncs.{needs_build, outcome_of}
+use Rattle.sync_rule.specs.declared.sync.Outcome.{Outcome}
+use Rattle.sync_rule.specs.declared.sync.Outcome.TheVariants.{Pending, Trusted}
+use Rattle.tree_node.specs.declared.position.Position.{Position}
 use Rattle.wire_frames.specs.declared.message.Message.{Message}
 use Rattle.wire_frames.specs.declared.message.Message.TheVariants as messages
 use Rattle.wire_frames.specs.declared.phase.PhaseOut.{PhaseOut}
@@ -54,16 +70,18 @@ use Rattle.wire_frames.specs.declared.phase.Seen.{Seen}
 use Rattle.wire_frames.specs.declared.phase.Seen.TheVariants as seens
 use Rattle.wire_frames.specs.declared.phase.Then.{Then}
 use Rattle.wire_frames.specs.declared.phase.Then.TheVariants as thens
-use Rattle.election_refinement.proofs.Calls.{IsOfCalls, AsksPeer, LeadsNothing, StillLeads, joined_stays, got_stays, stands_stays, put_heard_stays, lead_stays, tick_stays}
-use Rattle.election_refinement.proofs.Keeps.{Keeps, keeps_both, sends_keep}
+use Rattle.election_refinement.proofs.Calls.{IsOfCalls, AsksPeer, BeginsNothing, StillLeads, joined_stays, got_stays, stands_stays, put_heard_stays, lead_stays, tick_stays}
+use Rattle.election_refinement.proofs.Keeps.{Keeps, keeps_both, accept_keeps, sends_keep}
 use Rattle.election_refinement.proofs.Reaching.{Course, Reaches}
-use Rattle.election_refinement.proofs.Requests.{left_fits, turned_fits, IsHarmless, harmless_goes, row_21_harmless, row_22_harmless, after_put_harmless}
-use Rattle.election_refinement.proofs.Rows.{saved_in, stored_in, settled, Fits, Goes, enters}
+use Rattle.election_refinement.proofs.Requests.{left_fits, turned_fits, IsHarmless, harmless_goes, row_21_harmless, row_22_harmless, row_23_harmless, after_put_harmless}
+use Rattle.election_refinement.proofs.Rows.{saved_in, stored_in, made_way, settled, ThenHolds, Fits, Goes, enters, enters_alone}
 use Rattle.election_refinement.proofs.Rules.{phase_goes, received_goes}
+use Rattle.election_refinement.proofs.Saving.{own_accepted}
 use Rattle.election_refinement.proofs.Sets.{posted_to_hold}
+use Rattle.election_refinement.proofs.Syncing.{questions_hold, acceptance_holds, stands_at, synced_fits, counts_itself}
 use Rattle.election_refinement.proofs.Tests.{by_test}
 use Rattle.election_refinement.proofs.Ticks.{aged_goes, not_joint, ticks_hold}
-use Rattle.election_refinement.specs.Refinement.{IsKept, IsLeading, IsStarting, MessageHolds, PhaseHolds, SendHolds}
+use Rattle.election_refinement.specs.Refinement.{IsKept, IsLeading, IsStarting, MessageHolds, PhaseHolds, may_wait, MaySync, IsSyncing, SyncHolds, SendHolds}
 
 -- what an event asserts; no peer is asked to change its view yet
 abbrev pub EventHolds : Ledger → Event → Type 0
@@ -131,13 +149,117 @@ module _ (c : Course) (before : Ledger) where
   moved : (x y : State) (stored : Option Fact) (out more : Out) → (h : Here x stored out) → Fits c h.ledger y stored → more.sends ≡ out.sends → Here y stored more
   moved x y stored out more h fits same = record { ledger = h.ledger; keeps = h.keeps; fits = fits; sends = subst (All (SendHolds h.ledger p)) (sym same) h.sends }
 
-  -- ## Rows of phases
-
+  -- the fact is saved, if there is one
   saved_good : (save : Option Fact) (x : State) (stored : Option Fact) (out : Out) (next : Rest State (Unit {0}))
       → Rests stored → Rests (stored_in save stored) → Good (next tt (saved_in save x) out) (stored_in save stored) → Good (saved save x out next) stored
   unfolding asked
   saved_good None x stored out next old new good = good
   saved_good (Some fact) x stored out next old new good = (old, (new, good))
+
+  -- ## Syncs
+
+  -- no sync runs
+  abbrev without : (x : State) (stored : Option Fact) (out : Out) → Here x stored out → Here (without_sync x) stored out
+  without x stored out h = record { ledger = h.ledger; keeps = h.keeps; fits = enters_alone h.fits x.phase h.fits.peer.phase; sends = h.sends }
+
+  -- a sync runs
+  runs : (r : Running) (x : State) (stored : Option Fact) (out : Out) → (h : Here (without_sync x) stored out) → IsSyncing h.ledger p x.fact (may_wait x.phase) r → Here (with_sync r x) stored out
+  runs r x stored out h syncing = record {
+    ledger = h.ledger;
+    keeps = h.keeps;
+    fits = record { reaches = h.fits.reaches; peer = record { saved = h.fits.peer.saved; kept = h.fits.peer.kept; phase = h.fits.peer.phase; sync = syncing } };
+    sends = h.sends;
+  }
+
+  -- more messages are sent
+  abbrev tells : (x : State) (stored : Option Fact) (out : Out) (more : List Outgoing) → (h : Here x stored out) → All (SendHolds h.ledger p) more → Here x stored (and_sends out more)
+  tells x stored out more h hold = record { ledger = h.ledger; keeps = h.keeps; fits = h.fits; sends = All-append (SendHolds h.ledger p) out.sends more h.sends hold }
+
+  -- the tree is built anew, if that is needed
+  installed_good : (builds : Bool) (entries : List Entry) (x : State) (stored : Option Fact) (out : Out) (next : Rest State (Unit {0})) → Rests stored → ((u : Unit {0}) → Good (next u x out) stored) → Good (installed builds entries x out next) stored
+  unfolding asked
+  installed_good true entries x stored out next old goes = (old, goes)
+  installed_good false entries x stored out next old goes = goes tt
+
+  -- a peer that accepted the epoch of its fact, and runs no sync
+  accepted_good : (phase : Phase) (x : State) (stored : Option Fact) (out : Out) (next : Rest State (List Task)) → (h : Here (without_sync x) stored out) → PhaseHolds h.ledger p x.fact phase → x.fact.ballot ≡ x.fact.epoch → Onward next
+      → Good (accepted_in p x.fact phase (without_sync x) out next) stored
+  accepted_good (phases.Electing (Starting new accepts age)) x stored out next h old own_ballot go = go (tasks.Phase 14 ∷ []) (electing (Starting new (joined p accepts) age) (without_sync x)) stored out (record {
+    ledger = h.ledger;
+    keeps = h.keeps;
+    fits = enters_alone h.fits (phases.Electing (Starting new (joined p accepts) age)) (counts_itself h.ledger p x.fact new accepts own_ballot (own_accepted h.fits) old);
+    sends = h.sends;
+  })
+  accepted_good (phases.Electing (Preparing base promises asked age)) x stored out next h old own_ballot go = go [] (without_sync x) stored out h
+  accepted_good (phases.Following f) x stored out next h old own_ballot go =
+      go [] (without_sync x) stored (and_sends out (accepted p x.fact)) (tells (without_sync x) stored out (accepted p x.fact) h (acceptance_holds h.ledger p x.fact (own_accepted h.fits)))
+  accepted_good (phases.Probing b) x stored out next h old own_ballot go = go [] (without_sync x) stored out h
+  accepted_good (phases.Leading l) x stored out next h old own_ballot go = go [] (without_sync x) stored out h
+
+  -- at the end of a sync the peer accepts the epoch that it promised
+  synced_good : (r : Running) (entries : List Entry) (x : State) (stored : Option Fact) (out : Out) (next : Rest State (List Task)) → (h : Here (without_sync x) stored out) → MaySync h.ledger x.fact (may_wait x.phase) r.fact → Onward next
+      → Good (synced p r entries x out next) stored
+  synced_good r entries x stored out next h may go =
+      installed_good (needs_build r.sync.scan entries) entries (without_sync x) stored out _ (rests (without_sync x) stored out h)
+      (λ u. saved_good (Some r.fact) (without_sync x) stored out (λ v z o. accepted_in p r.fact z.phase (record z { trusted = true }) o next)
+      (rests (without_sync x) stored out h)
+      (rests (without_sync now) (Some r.fact) out there)
+      (accepted_good x.phase now (Some r.fact) out next there there.fits.peer.phase may.first.own_ballot go))
+    where
+      now : State
+      now = record x { fact = r.fact; trusted = true }
+
+      there : Here (without_sync now) (Some r.fact) out
+      there =
+          let k = accept_keeps h.ledger p (epoch_number r.fact.epoch) (stands_at h.fits r.fact may) in
+          let m = accept h.ledger p (epoch_number r.fact.epoch) in
+          record { ledger = m; keeps = keeps_both before h.ledger m p h.keeps k; fits = synced_fits h.fits r.fact may; sends = sends_keep h.ledger m p k p out.sends h.sends }
+
+  ended_good : (r : Running) (outcome : Outcome) (x : State) (stored : Option Fact) (out : Out) (next : Rest State (List Task)) → (h : Here (without_sync x) stored out) → IsSyncing h.ledger p x.fact (may_wait x.phase) r → Onward next
+      → Good (ended_with p r outcome x out next) stored
+  ended_good r Pending x stored out next h syncing go = go [] (with_sync r x) stored out (runs r x stored out h syncing)
+  ended_good r (Trusted entries) x stored out next h syncing go = synced_good r entries x stored out next h syncing.may go
+
+  gone_on_good : (r : Running × List Outgoing) (x : State) (stored : Option Fact) (out : Out) (next : Rest State (List Task)) → (h : Here (without_sync x) stored out) → IsSyncing h.ledger p x.fact (may_wait x.phase) r.0 → All (SendHolds h.ledger p) r.1 → Onward next
+      → Good (gone_on p r x out next) stored
+  gone_on_good r x stored out next h syncing hold go = ended_good r.0 (outcome_of r.0.sync) x stored (and_sends out r.1) next (tells (without_sync x) stored out r.1 h hold) syncing go
+
+  begun_good : (new : Fact) (x : State) (stored : Option Fact) (out : Out) (next : Rest State (List Task)) → (h : Here (without_sync x) stored out) → MaySync h.ledger x.fact (may_wait x.phase) new → Onward next → Good (begun_sync p new x out next) stored
+  unfolding asked
+  begun_good new x stored out next h may go = (
+    rests (without_sync x) stored out h,
+    λ scan. gone_on_good (row_start new p x.trusted scan) x stored out next h (record { may = may; asks = asks_are p (last_view new.views) })
+        (questions_hold h.ledger p (row_start new p x.trusted scan).0 (row_start new p x.trusted scan).1 (start_go new p x.trusted scan) (start_ask new p x.trusted scan)) go,
+  )
+
+  resumed_good : (sync : Option Running) (x : State) (stored : Option Fact) (out : Out) (next : Rest State (List Task)) → (h : Here x stored out) → SyncHolds h.ledger p x.fact (may_wait x.phase) sync → Onward next → Good (resumed_sync sync x out next) stored
+  resumed_good None x stored out next h holds go = go [] x stored out h
+  resumed_good (Some r) x stored out next h holds go =
+      go [] (with_sync (row_resume r).0 x) stored (and_sends out (row_resume r).1)
+      (runs (row_resume r).0 x stored (and_sends out (row_resume r).1)
+      (tells (without_sync x) stored out (row_resume r).1 (without x stored out h) (questions_hold h.ledger p r (row_resume r).1 (resume_go p r holds.asks) (resume_ask p r holds.asks)))
+      (record { may = holds.may; asks = resumed_are p r holds.asks }))
+
+  taken_good : (from : ℕ) (give : Give) (own : Option (List ℕ)) (sync : Option Running) (x : State) (stored : Option Fact) (out : Out) (next : Rest State (List Task)) → (h : Here x stored out) → SyncHolds h.ledger p x.fact (may_wait x.phase) sync → Onward next
+      → Good (taken_give p from give own sync x out next) stored
+  taken_good from give own None x stored out next h holds go = go [] x stored out h
+  taken_good from give own (Some r) x stored out next h holds go =
+      gone_on_good (row_take from give own r) x stored out next (without x stored out h)
+      (record { may = subst (MaySync h.ledger x.fact (may_wait x.phase)) (sym (fact_stays from give own r)) holds.may; asks = taken_are p from give own r holds.asks })
+      (questions_hold h.ledger p r (row_take from give own r).1 (take_go p from give own r holds.asks) (take_ask p from give own r holds.asks)) go
+
+  -- what follows the message of a row
+  followed_on_good : (then : Then) (x : State) (stored : Option Fact) (out : Out) (next : Rest State (List Task)) → (h : Here (made_way then x) stored out) → ThenHolds h.ledger (made_way then x) then → Onward next → Good (followed_on p then x out next) stored
+  followed_on_good (thens.SyncOn new) x stored out next h syncs go = begun_good new x stored out next h syncs go
+  followed_on_good thens.Resume x stored out next h syncs go = resumed_good x.sync x stored out next h h.fits.peer.sync go
+  followed_on_good (thens.Rule n) x stored out next h syncs go = go (named (thens.Rule n)) x stored out h
+  followed_on_good thens.Stay x stored out next h syncs go = go [] x stored out h
+  followed_on_good thens.Follow x stored out next h syncs go = go [] x stored out h
+  followed_on_good (thens.Lead fact) x stored out next h syncs go = go [] x stored out h
+  followed_on_good thens.Untrust x stored out next h syncs go = go [] x stored out h
+  followed_on_good thens.Put x stored out next h syncs go = go [] x stored out h
+
+  -- ## Rows of phases
 
   -- the output after a row
   abbrev put_out : PhaseOut → State → Out → Out
@@ -151,10 +273,10 @@ module _ (c : Course) (before : Ledger) where
   row_good : (r : State × PhaseOut) (x : State) (stored : Option Fact) (out : Out) (next : Rest State (List Task)) → (h : Here x stored out) → Goes c h.ledger stored r → Onward next → Good (row_done p r.1 r.0 out next) stored
   row_good r x stored out next h goes go =
       saved_good r.1.save (left r.1.leave r.0) stored (left_answers r.1.leave r.0 out)
-      (λ u y o. next (named r.1.then) (turned p r.1.then y) (turned_answers r.1.then y (and_sends o (posted_to r.1.to r.1.message))))
+      (λ u y o. followed_on p r.1.then (turned p r.1.then y) (turned_answers r.1.then y (and_sends o (posted_to r.1.to r.1.message))) next)
       (rests x stored out h)
       (rests (settled p r.1 r.0) (stored_in r.1.save stored) (put_out r.1 r.0 out) there)
-      (go (named r.1.then) (settled p r.1 r.0) (stored_in r.1.save stored) (put_out r.1 r.0 out) there)
+      (followed_on_good r.1.then (turned p r.1.then (saved_in r.1.save (left r.1.leave r.0))) (stored_in r.1.save stored) (put_out r.1 r.0 out) next there goes.syncs go)
     where
       there : Here (settled p r.1 r.0) (stored_in r.1.save stored) (put_out r.1 r.0 out)
       there = record {
@@ -224,9 +346,17 @@ module _ (c : Course) (before : Ledger) where
       by_test (λ (plan : Plan State). Good plan stored) (n == 28) _ _ (λ is. fetched_good key x stored out next h go) (λ not. looked_good key x stored out next h go)
   owned_good n (owns.Put o) x stored out next h go = written_good o x stored out next h go
 
+  own_node_good : (needed : Bool) (at : Position) → Passes (own_node needed at)
+  own_node_good true at x stored out next h go = asked_good (ReadNode at) tt x stored out _ h (λ walked y s q there. go (reached walked) y s q there)
+  own_node_good false at x stored out next h go = go None x stored out h
+
+  shown_node_good : (answers : Bool) (q : Question) → Passes (shown_node answers q)
+  shown_node_good true q x stored out next h go = asked_good (ReadNode q.position) tt x stored out _ h (λ walked y s o there. go (Some (body_of q walked)) y s o there)
+  shown_node_good false q x stored out next h go = go None x stored out h
+
   -- ## Rows of leaders
 
-  followed_good : (n : ℕ) (own : Option Own) (then : Then) (keys : List (List ℕ)) → LeadsNothing then → Passes (followed_up p n own then keys)
+  followed_good : (n : ℕ) (own : Option Own) (then : Then) (keys : List (List ℕ)) → BeginsNothing then → Passes (followed_up p n own then keys)
   followed_good n None then keys leads x stored out next h go =
       go (keyed then keys) (turned p then x) stored (turned_answers then x out) (moved x (turned p then x) stored out (turned_answers then x out) h (turned_fits then x leads h.fits) (answers_send_nothing (ends_leading then) x out))
   followed_good n (Some own) then keys leads x stored out next h go = owned_good n own x stored out _ h (λ seen y s q there. go _ y s q there)
@@ -240,7 +370,7 @@ module _ (c : Course) (before : Ledger) where
       of_calls (messages.Put ballot object) is = tt
       of_calls other is = absurd is
 
-  lead_done_good : (n : ℕ) (row : LeadOut) → All AsksPeer row.sends → LeadsNothing row.then → Passes (lead_done p n row)
+  lead_done_good : (n : ℕ) (row : LeadOut) → All AsksPeer row.sends → BeginsNothing row.then → Passes (lead_done p n row)
   lead_done_good n row sends leads x stored out next h go =
       noted_good row.notes (followed_up p n row.own row.then row.keys (left row.leave x) (and_row row x out) next) stored
       (followed_good n row.own row.then row.keys leads (left row.leave x) stored (and_row row x out) next (record {
@@ -260,27 +390,27 @@ module _ (c : Course) (before : Ledger) where
 
   -- a rule of a leader, whatever the phase
   lead_good : (row : Leader → Leader × LeadOut) → ((leader : Leader) → StillLeads leader.fact leader.accepts (row leader)) → (n : ℕ) (phase : Phase) (x : State) (stored : Option Fact) (out : Out) (next : Rest State (List Task))
-      → (h : Here x stored out) → PhaseHolds h.ledger p x.fact phase → Onward next → Good (lead row p n phase x out next) stored
-  lead_good row stays n (phases.Leading l) x stored out next h old go =
+      → (h : Here x stored out) → PhaseHolds h.ledger p x.fact phase → SyncHolds h.ledger p x.fact (may_wait phase) x.sync → Onward next → Good (lead row p n phase x out next) stored
+  lead_good row stays n (phases.Leading l) x stored out next h old syncing go =
       let led = stays l.leader in
       lead_done_good n (row l.leader).1 led.sends led.next (leading (with_leader (row l.leader).0 l) x) stored out next (record {
         ledger = h.ledger;
         keeps = h.keeps;
-        fits = enters h.fits (phases.Leading (with_leader (row l.leader).0 l)) (still_leads h.ledger x.fact l (row l.leader).0 led.fact led.accepts old);
+        fits = enters h.fits (phases.Leading (with_leader (row l.leader).0 l)) (still_leads h.ledger x.fact l (row l.leader).0 led.fact led.accepts old) syncing;
         sends = h.sends;
       }) go
-  lead_good row stays n (phases.Following f) x stored out next h old go = go [] x stored out h
-  lead_good row stays n (phases.Probing b) x stored out next h old go = go [] x stored out h
-  lead_good row stays n (phases.Electing e) x stored out next h old go = go [] x stored out h
+  lead_good row stays n (phases.Following f) x stored out next h old syncing go = go [] x stored out h
+  lead_good row stays n (phases.Probing b) x stored out next h old syncing go = go [] x stored out h
+  lead_good row stays n (phases.Electing e) x stored out next h old syncing go = go [] x stored out h
 
   -- rule 5 (d) and (e): the other members of the view are sent one message each
-  reminded_good : (phase : Phase) (x : State) (stored : Option Fact) (out : Out) (next : Rest State (List Task)) → (h : Here x stored out) → PhaseHolds h.ledger p x.fact phase → Onward next → Good (reminded phase x out next) stored
-  reminded_good (phases.Leading l) x stored out next h old go =
+  reminded_good : (phase : Phase) (x : State) (stored : Option Fact) (out : Out) (next : Rest State (List Task)) → (h : Here x stored out) → PhaseHolds h.ledger p x.fact phase → SyncHolds h.ledger p x.fact (may_wait phase) x.sync → Onward next → Good (reminded phase x out next) stored
+  reminded_good (phases.Leading l) x stored out next h old syncing go =
       subst (λ (change : ChangeState). Good (reminded (phases.Leading (record l { change = change })) x out next) stored) (sym old.settled)
       (subst (λ (change : ChangeState). Good (next (named (begins change)) (leading (record l { change = change }) x) (and_sends out (ticks x.fact still))) stored) (sym none) (go [] (leading still x) stored _ (record {
         ledger = h.ledger;
         keeps = h.keeps;
-        fits = enters h.fits (phases.Leading still) holds;
+        fits = enters h.fits (phases.Leading still) holds syncing;
         sends = All-append (SendHolds h.ledger p) out.sends (ticks x.fact still) h.sends (ticks_hold h.ledger p x.fact still holds 31 (omega arith));
       })))
     where
@@ -292,19 +422,19 @@ module _ (c : Course) (before : Ledger) where
 
       none : wished l.leader.fact Settled ≡ Settled
       none = rw (not_joint h.fits l old) refl
-  reminded_good (phases.Following f) x stored out next h old go = go [] x stored out h
-  reminded_good (phases.Probing b) x stored out next h old go = go [] x stored out h
-  reminded_good (phases.Electing e) x stored out next h old go = go [] x stored out h
+  reminded_good (phases.Following f) x stored out next h old syncing go = go [] x stored out h
+  reminded_good (phases.Probing b) x stored out next h old syncing go = go [] x stored out h
+  reminded_good (phases.Electing e) x stored out next h old syncing go = go [] x stored out h
 
   -- ## Tasks
 
   task_good : (task : Task) → Passes (task_done p task)
   task_good (tasks.Phase n) x stored out next h go =
       by_test (λ (plan : Plan State). Good plan stored) (n == 5) _ _
-      (λ is. reminded_good x.phase x stored out next h h.fits.peer.phase go)
+      (λ is. reminded_good x.phase x stored out next h h.fits.peer.phase h.fits.peer.sync go)
       (λ not. row_good (phase_row n p x) x stored out next h (phase_goes h.fits n) go)
-  task_good (tasks.Key n key) x stored out next h go = lead_good (lead_row n key seens.Nothing) (lead_stays n key seens.Nothing) n x.phase x stored out next h h.fits.peer.phase go
-  task_good (tasks.Again n key seen) x stored out next h go = lead_good (lead_row n key seen) (lead_stays n key seen) n x.phase x stored out next h h.fits.peer.phase go
+  task_good (tasks.Key n key) x stored out next h go = lead_good (lead_row n key seens.Nothing) (lead_stays n key seens.Nothing) n x.phase x stored out next h h.fits.peer.phase h.fits.peer.sync go
+  task_good (tasks.Again n key seen) x stored out next h go = lead_good (lead_row n key seen) (lead_stays n key seen) n x.phase x stored out next h h.fits.peer.phase h.fits.peer.sync go
 
   drive_good : (n : ℕ) (ts : List Task) → Passes (driven p n ts)
   unfolding driven
@@ -316,12 +446,12 @@ module _ (c : Course) (before : Ledger) where
   -- ## Events
 
   -- rule 5 (a) to (c), of a leader
-  led_good : (l : Leadership) (x : State) (stored : Option Fact) (out : Out) (next : Rest State (List Task)) → (h : Here x stored out) → IsLeading h.ledger p x.fact l → Onward next → Good (led_in p (phases.Leading l) x out next) stored
-  led_good l x stored out next h old go =
+  led_good : (l : Leadership) (x : State) (stored : Option Fact) (out : Out) (next : Rest State (List Task)) → (h : Here x stored out) → IsLeading h.ledger p x.fact l → SyncHolds h.ledger p x.fact false x.sync → Onward next → Good (led_in p (phases.Leading l) x out next) stored
+  led_good l x stored out next h old syncing go =
       lead_done_good 5 (row_5_calls x.fact l).1 led.sends led.next (leading (row_5_calls x.fact l).0 x) stored out (λ ts y o. next (ts ++ tasks.Phase 5 ∷ []) y o) (record {
         ledger = h.ledger;
         keeps = h.keeps;
-        fits = enters h.fits (phases.Leading (row_5_calls x.fact l).0) (still_leads h.ledger x.fact (record l { change = older l.change }) (row_5_calls x.fact l).0.leader led.fact led.accepts one_older);
+        fits = enters h.fits (phases.Leading (row_5_calls x.fact l).0) (still_leads h.ledger x.fact (record l { change = older l.change }) (row_5_calls x.fact l).0.leader led.fact led.accepts one_older) syncing;
         sends = h.sends;
       }) (λ ts y s o there. go (ts ++ tasks.Phase 5 ∷ []) y s o there)
     where
@@ -331,9 +461,9 @@ module _ (c : Course) (before : Ledger) where
       one_older : IsLeading h.ledger p x.fact (record l { change = older l.change })
       one_older = record { started = old.started; established = old.established; settled = ap older old.settled }
 
-  tick_good : (phase : Phase) (x : State) (stored : Option Fact) (out : Out) (next : Rest State (List Task)) → (h : Here x stored out) → PhaseHolds h.ledger p x.fact phase → Onward next → Good (ticked p phase x out next) stored
-  tick_good (phases.Leading l) x stored out next h old go = led_good l x stored out next h old go
-  tick_good phase x stored out next h old go = row_good (aged phase p x) x stored out next h (aged_goes h.fits phase old) go
+  tick_good : (phase : Phase) (x : State) (stored : Option Fact) (out : Out) (next : Rest State (List Task)) → (h : Here x stored out) → PhaseHolds h.ledger p x.fact phase → SyncHolds h.ledger p x.fact (may_wait phase) x.sync → Onward next → Good (ticked p phase x out next) stored
+  tick_good (phases.Leading l) x stored out next h old syncing go = led_good l x stored out next h old syncing go
+  tick_good phase x stored out next h old syncing go = row_good (aged phase p x) x stored out next h (aged_goes h.fits phase old syncing) go
 
   shown_good : (b : Bool) (part : Part State Seen) → Passes part → Passes (shown b part)
   shown_good true part good x stored out next h go = good x stored out next h go
@@ -354,23 +484,29 @@ module _ (c : Course) (before : Ledger) where
   delivered_good from (messages.GetReply ballot round key entry object) x stored out next h says go =
       by_test (λ (plan : Plan State). Good plan stored) (leads x.phase) _ _
       (λ is. confirmed_good entry object x stored out _ h
-      (λ sent y s q there. lead_good (row_29_reply from ballot round key entry sent) (got_stays from ballot round key entry sent) 29 y.phase y s q next there there.fits.peer.phase go))
+      (λ sent y s q there. lead_good (row_29_reply from ballot round key entry sent) (got_stays from ballot round key entry sent) 29 y.phase y s q next there there.fits.peer.phase there.fits.peer.sync go))
       (λ not. go [] x stored out h)
   delivered_good from (messages.PutReply ballot key version) x stored out next h says go =
-      lead_good (row_35_reply from ballot key version) (put_heard_stays from ballot key version) 35 x.phase x stored out next h h.fits.peer.phase go
-  delivered_good from (messages.CheckReply ballot round) x stored out next h says go = lead_good (row_33_reply from ballot round) (stands_stays from ballot round) 33 x.phase x stored out next h h.fits.peer.phase go
+      lead_good (row_35_reply from ballot key version) (put_heard_stays from ballot key version) 35 x.phase x stored out next h h.fits.peer.phase h.fits.peer.sync go
+  delivered_good from (messages.CheckReply ballot round) x stored out next h says go = lead_good (row_33_reply from ballot round) (stands_stays from ballot round) 33 x.phase x stored out next h h.fits.peer.phase h.fits.peer.sync go
+  delivered_good from (messages.TreeAsk ballot at after) x stored out next h says go =
+      shown_node_good (is_same ballot x.fact.ballot) (record { position = at; after = after }) x stored out _ h
+      (λ body y s q there. harmless_good (row_23 y.fact y.trusted from ballot at after body) (row_23_harmless y.fact y.trusted from ballot at after body) y s q next there go)
+  delivered_good from (messages.TreeGive ballot at after trusted body) x stored out next h says go =
+      let give : Give = record { ballot = ballot; question = record { position = at; after = after }; trusted = trusted; body = body } in
+      own_node_good (needs_node from give x.sync) at x stored out _ h (λ own y s q there. taken_good from give own y.sync y s q next there there.fits.peer.sync go)
   delivered_good from message x stored out next h says go = row_good (received p from message x) x stored out next h (received_goes h.fits from message says) go
 
   -- rule 27
   called_good : (call : CallIn) → Passes (called p call)
   called_good call x stored out next h go =
       by_test (λ (plan : Plan State). Good plan stored) (leads x.phase) _ _
-      (λ is. lead_good (row_27 call.from call.id call.key call.command (changes x.phase)) (joined_stays call.from call.id call.key call.command (changes x.phase)) 27 x.phase x stored out next h h.fits.peer.phase go)
+      (λ is. lead_good (row_27 call.from call.id call.key call.command (changes x.phase)) (joined_stays call.from call.id call.key call.command (changes x.phase)) 27 x.phase x stored out next h h.fits.peer.phase h.fits.peer.sync go)
       (λ not. go [] x stored (and_answers out (unavailable call ∷ [])) (moved x x stored out (and_answers out (unavailable call ∷ [])) h h.fits refl))
 
   event_good : (event : Event) (x : State) (stored : Option Fact) (out : Out) (next : Rest State (List Task)) → (h : Here x stored out) → EventHolds h.ledger event → Onward next → Good (first p event x out next) stored
   event_good (events.Deliver from message) x stored out next h says go = delivered_good from message x stored out next h says go
-  event_good events.Tick x stored out next h says go = tick_good x.phase x stored out next h h.fits.peer.phase go
+  event_good events.Tick x stored out next h says go = tick_good x.phase x stored out next h h.fits.peer.phase h.fits.peer.sync go
   event_good (events.Call call) x stored out next h says go = called_good call x stored out next h go
   event_good (events.Change view) x stored out next h says go = absurd says
 
@@ -399,6 +535,6 @@ module _ (c : Course) (before : Ledger) where
       follows_on = record {
         ledger = r.ledger;
         keeps = r.keeps;
-        fits = record { reaches = r.reaches; peer = record { saved = r.kept.saved; kept = refl; phase = tt } };
+        fits = record { reaches = r.reaches; peer = record { saved = r.kept.saved; kept = refl; phase = tt; sync = tt } };
         sends = All-nil (SendHolds r.ledger p);
       }

@@ -43,7 +43,7 @@ module _ (view : List ℕ) where
   started : (p : ℕ) → NodeHolds (opening_ledger view) p (opening_node view)
   started p =
       let o = opening_is view in
-      subst (NodeHolds (opening_ledger view) p) (sym o.is) (record { saved = saved_first p; kept = o.kept; phase = tt })
+      subst (NodeHolds (opening_ledger view) p) (sym o.is) (record { saved = saved_first p; kept = o.kept; phase = tt; sync = tt })
 
   orderly_first : IsOrderly view (opening_ledger view)
   orderly_first = record { one_view = λ d h. refl; reached = λ d h. zero_only d h }

@@ -17,9 +17,9 @@ use Rattle.wire_frames.specs.declared.phase.PhaseOut.{PhaseOut}
 use Rattle.wire_frames.specs.declared.phase.Then.{Then}
 use Rattle.election_refinement.proofs.Numbers.{newer_number}
 use Rattle.election_refinement.proofs.Reaching.{Course}
-use Rattle.election_refinement.proofs.Rows.{Fits, Goes, unmoved, enters, quiet, rests_in, names}
+use Rattle.election_refinement.proofs.Rows.{Fits, Goes, unmoved, enters, enters_alone, quiet, rests_in, names}
 use Rattle.election_refinement.proofs.Tests.{by_test}
-use Rattle.election_refinement.specs.Refinement.{IsKnown, IsProbing, PhaseHolds}
+use Rattle.election_refinement.specs.Refinement.{IsKnown, IsProbing, PhaseHolds, may_wait, SyncHolds}
 
 -- a peer that begins to probe knows its own fact
 pub first_holds : (l : Ledger) (p : ℕ) (fact : Fact) → IsKnown l fact → IsProbing l fact (first_probing fact p)
@@ -47,20 +47,20 @@ module _ {c : Course} {l : Ledger} {x : State} {stored : Option Fact} (h : Fits 
 
   -- rule 7
   pub rule_7 : Goes c l stored (begun p x)
-  rule_7 = unmoved (enters h (phases.Probing (first_probing x.fact p)) (first_holds l p x.fact h.peer.saved.known)) tt
+  rule_7 = unmoved (enters_alone h (phases.Probing (first_probing x.fact p)) (first_holds l p x.fact h.peer.saved.known)) tt tt
 
   -- rule 8, on a reply
-  pub rule_8 : (phase : Phase) (from : ℕ) (reply : Fact) → PhaseHolds l p x.fact phase → IsKnown l reply → Goes c l stored (while_8 phase p from reply x)
-  rule_8 (phases.Probing b) from reply old told =
+  pub rule_8 : (phase : Phase) (from : ℕ) (reply : Fact) → PhaseHolds l p x.fact phase → SyncHolds l p x.fact (may_wait phase) x.sync → IsKnown l reply → Goes c l stored (while_8 phase p from reply x)
+  rule_8 (phases.Probing b) from reply old runs told =
       by_test (λ (r : Probing × PhaseOut). Goes c l stored (probing r.0 x, r.1)) (is_newer reply b.best) _ _
-      (λ newer. unmoved (enters h (phases.Probing (bettered (heard_from b from reply) reply)) (bettered_holds l x.fact reply b from old told newer)) tt)
-      (λ older. names h 9 (phases.Probing (heard_from b from reply)) (heard_holds l x.fact reply b from old))
-  rule_8 other from reply old told = quiet h
+      (λ newer. unmoved (enters h (phases.Probing (bettered (heard_from b from reply) reply)) (bettered_holds l x.fact reply b from old told newer) runs) tt tt)
+      (λ older. names h 9 (phases.Probing (heard_from b from reply)) (heard_holds l x.fact reply b from old) runs)
+  rule_8 other from reply old runs told = quiet h
 
   -- rule 9
-  pub rule_9 : (phase : Phase) → PhaseHolds l p x.fact phase → Goes c l stored (while_9 phase x)
-  rule_9 (phases.Probing b) old =
+  pub rule_9 : (phase : Phase) → PhaseHolds l p x.fact phase → SyncHolds l p x.fact (may_wait phase) x.sync → Goes c l stored (while_9 phase x)
+  rule_9 (phases.Probing b) old runs =
       by_test (λ (turn : Then). Goes c l stored (probing b x, silent turn)) (is_quorum (holds b.heard) b.best.views) _ _
-      (λ enough. names h 10 (phases.Probing b) old)
-      (λ few. rests_in h (phases.Probing b) old)
-  rule_9 other old = quiet h
+      (λ enough. names h 10 (phases.Probing b) old runs)
+      (λ few. rests_in h (phases.Probing b) old runs)
+  rule_9 other old runs = quiet h

@@ -50,6 +50,7 @@ module _ {c : Course} {l : Ledger} {x : State} {stored : Option Fact} (h : Fits 
           lower = le_trans (omega (arith, h.peer.saved.known.below)) above;
           promised = own_promise h (epoch_number ballot) (epoch_number x.fact.epoch) (omega arith);
         };
+        syncs = tt;
       }
 
   pub rule_11 : (from : ℕ) (ballot : Epoch) → IsEpoch ballot → Goes c l stored (x, row_11 x.fact from ballot)
@@ -107,6 +108,7 @@ module _ {c : Course} {l : Ledger} {x : State} {stored : Option Fact} (h : Fits 
       keeps = keeps;
       fits = raised_fits h ballot ballot_ok (omega (arith, above_own)) (phases.Electing (Preparing b.best (alone p) (members b.best.views) 0)) preparing;
       says = asks;
+      syncs = tt;
     }
 
     prepared_goes : Goes c l stored (prepared p b.best b.count x)

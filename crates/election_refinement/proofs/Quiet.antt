@@ -34,10 +34,10 @@ use Rattle.wire_frames.specs.declared.phase.PhaseOut.{PhaseOut}
 use Rattle.wire_frames.specs.declared.phase.Then.{Then}
 use Rattle.election_refinement.proofs.Numbers.{same_epochs}
 use Rattle.election_refinement.proofs.Reaching.{Course}
-use Rattle.election_refinement.proofs.Rows.{Fits, Goes, unmoved, enters, quiet, follows, rests_in, names}
+use Rattle.election_refinement.proofs.Rows.{Fits, Goes, unmoved, enters_alone, quiet, follows, rests_in, names}
 use Rattle.election_refinement.proofs.Sets.{joined_then}
 use Rattle.election_refinement.proofs.Tests.{by_test}
-use Rattle.election_refinement.specs.Refinement.{IsStarting, IsLeading, PhaseHolds, IsAcceptance}
+use Rattle.election_refinement.specs.Refinement.{IsStarting, IsLeading, PhaseHolds, may_wait, SyncHolds, IsAcceptance}
 
 -- a starting peer that a quorum accepted leads
 leads : (l : Ledger) (p : ℕ) (fact new : Fact) (accepts : List Bool) → IsStarting l p fact new accepts → is_quorum (holds accepts) new.views ≡ true
@@ -76,27 +76,27 @@ module _ {c : Course} {l : Ledger} {x : State} {stored : Option Fact} (h : Fits 
 
   -- rule 8, on a probe
   pub rule_8_probe : (from : ℕ) → Goes c l stored (x, row_8_probe x.fact from)
-  rule_8_probe from = unmoved h h.peer.saved.known
+  rule_8_probe from = unmoved h h.peer.saved.known tt
 
   -- a refusal
   pub refuses : (from : ℕ) (ballot : Epoch) → Goes c l stored (x, refuses_below from ballot x.fact)
-  refuses from ballot = unmoved h tt
+  refuses from ballot = unmoved h tt tt
 
   -- rule 14
-  pub rule_14 : (phase : Phase) → PhaseHolds l p x.fact phase → Goes c l stored (while_14 phase p x)
-  rule_14 (phases.Electing (Starting new accepts age)) old =
+  pub rule_14 : (phase : Phase) → PhaseHolds l p x.fact phase → SyncHolds l p x.fact (may_wait phase) x.sync → Goes c l stored (while_14 phase p x)
+  rule_14 (phases.Electing (Starting new accepts age)) old runs =
       by_test (λ (turn : Then). Goes c l stored (electing (Starting new accepts age) x, silent turn)) (holds accepts p && is_quorum (holds accepts) new.views) _ _
-      (λ enough. unmoved (enters h (phases.Leading (record { leader = new_leader new p accepts; change = Settled }))
-      (leads l p x.fact new accepts old (and_parts (holds accepts p) (is_quorum (holds accepts) new.views) enough).1)) tt)
-      (λ few. rests_in h (phases.Electing (Starting new accepts age)) old)
-  rule_14 (phases.Electing (Preparing base promises asked age)) old = rests_in h (phases.Electing (Preparing base promises asked age)) old
-  rule_14 other old = quiet h
+      (λ enough. unmoved (enters_alone h (phases.Leading (record { leader = new_leader new p accepts; change = Settled }))
+      (leads l p x.fact new accepts old (and_parts (holds accepts p) (is_quorum (holds accepts) new.views) enough).1)) tt tt)
+      (λ few. rests_in h (phases.Electing (Starting new accepts age)) old runs)
+  rule_14 (phases.Electing (Preparing base promises asked age)) old runs = rests_in h (phases.Electing (Preparing base promises asked age)) old runs
+  rule_14 other old runs = quiet h
 
   -- rule 15
   heeded : (ballot : Epoch) (cause : NackCause) → Goes c l stored (x, row_15 x.fact ballot cause)
   heeded ballot (causes.Greater other) =
       by_test (λ (row : PhaseOut). Goes c l stored (x, row)) (is_same ballot x.fact.ballot && is_below ballot other) _ _
-      (λ own. unmoved (enters h follower tt) tt)
+      (λ own. unmoved (enters_alone h follower tt) tt tt)
       (λ old. quiet h)
   heeded ballot causes.Untrusted = quiet h
   heeded ballot (causes.Damaged position) = quiet h
@@ -107,14 +107,14 @@ module _ {c : Course} {l : Ledger} {x : State} {stored : Option Fact} (h : Fits 
   rule_15 other ballot cause = quiet h
 
   -- rule 17
-  pub rule_17 : (phase : Phase) (from : ℕ) (ballot : Epoch) (seq : ℕ) → PhaseHolds l p x.fact phase → IsAcceptance l from ballot seq → Goes c l stored (while_17 phase from ballot seq x)
-  rule_17 (phases.Electing (Starting new accepts age)) from ballot seq old told =
+  pub rule_17 : (phase : Phase) (from : ℕ) (ballot : Epoch) (seq : ℕ) → PhaseHolds l p x.fact phase → SyncHolds l p x.fact (may_wait phase) x.sync → IsAcceptance l from ballot seq → Goes c l stored (while_17 phase from ballot seq x)
+  rule_17 (phases.Electing (Starting new accepts age)) from ballot seq old runs told =
       by_test (λ (r : Election × PhaseOut). Goes c l stored (electing r.0 x, r.1)) (is_same ballot x.fact.ballot && seq == 1) _ _
-      (λ own. names h 14 (phases.Electing (Starting new (joined from accepts) age)) (counted l p from seq ballot x.fact new accepts told own old))
-      (λ other. rests_in h (phases.Electing (Starting new accepts age)) old)
-  rule_17 (phases.Electing (Preparing base promises asked age)) from ballot seq old told = rests_in h (phases.Electing (Preparing base promises asked age)) old
-  rule_17 (phases.Leading y) from ballot seq old told = rests_in h (phases.Leading (leader_heard y x.fact from ballot seq)) (heard l p from seq ballot x.fact y told old)
-  rule_17 other from ballot seq old told = quiet h
+      (λ own. names h 14 (phases.Electing (Starting new (joined from accepts) age)) (counted l p from seq ballot x.fact new accepts told own old) runs)
+      (λ other. rests_in h (phases.Electing (Starting new accepts age)) old runs)
+  rule_17 (phases.Electing (Preparing base promises asked age)) from ballot seq old runs told = rests_in h (phases.Electing (Preparing base promises asked age)) old runs
+  rule_17 (phases.Leading y) from ballot seq old runs told = rests_in h (phases.Leading (leader_heard y x.fact from ballot seq)) (heard l p from seq ballot x.fact y told old) runs
+  rule_17 other from ballot seq old runs told = quiet h
 
   -- rule 19
   pub rule_19 : (from : ℕ) (ballot : Epoch) → Goes c l stored (x, row_19 x.fact x.trusted from ballot)
@@ -126,9 +126,9 @@ module _ {c : Course} {l : Ledger} {x : State} {stored : Option Fact} (h : Fits 
       (λ other. quiet h))
 
   -- rule 25: no change is wanted
-  pub rule_25 : (phase : Phase) → PhaseHolds l p x.fact phase → Goes c l stored (while_25 phase p x)
-  rule_25 (phases.Leading y) old = subst (λ (change : ChangeState). Goes c l stored (leading (begun_change change y x.fact p).0 x, (begun_change change y x.fact p).1)) (sym old.settled) (rests_in h (phases.Leading y) old)
-  rule_25 other old = quiet h
+  pub rule_25 : (phase : Phase) → PhaseHolds l p x.fact phase → SyncHolds l p x.fact (may_wait phase) x.sync → Goes c l stored (while_25 phase p x)
+  rule_25 (phases.Leading y) old runs = subst (λ (change : ChangeState). Goes c l stored (leading (begun_change change y x.fact p).0 x, (begun_change change y x.fact p).1)) (sym old.settled) (rests_in h (phases.Leading y) old runs)
+  rule_25 other old runs = quiet h
 
   -- rule 26: no epoch ends
   pub rule_26 : (phase : Phase) → PhaseHolds l p x.fact phase → Goes c l stored (while_26 phase p x)

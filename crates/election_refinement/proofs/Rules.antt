@@ -26,22 +26,22 @@ module _ {c : Course} {l : Ledger} {x : State} {stored : Option Fact} (h : Fits 
   pub phase_goes : (n : ℕ) → Goes c l stored (phase_row n p x)
   phase_goes n = let G : State × PhaseOut → Type 0 = Goes c l stored in
       by_test G (n == 7) _ _ (λ is. rule_7 h) (λ not.
-      by_test G (n == 9) _ _ (λ is. rule_9 h x.phase h.peer.phase) (λ not.
+      by_test G (n == 9) _ _ (λ is. rule_9 h x.phase h.peer.phase h.peer.sync) (λ not.
       by_test G (n == 10) _ _ (λ is. rule_10 h x.phase h.peer.phase) (λ not.
-      by_test G (n == 13) _ _ (λ is. rule_13 h x.phase h.peer.phase) (λ not.
-      by_test G (n == 14) _ _ (λ is. rule_14 h x.phase h.peer.phase) (λ not.
-      by_test G (n == 25) _ _ (λ is. rule_25 h x.phase h.peer.phase) (λ not.
+      by_test G (n == 13) _ _ (λ is. rule_13 h x.phase h.peer.phase h.peer.sync) (λ not.
+      by_test G (n == 14) _ _ (λ is. rule_14 h x.phase h.peer.phase h.peer.sync) (λ not.
+      by_test G (n == 25) _ _ (λ is. rule_25 h x.phase h.peer.phase h.peer.sync) (λ not.
       by_test G (n == 26) _ _ (λ is. rule_26 h x.phase h.peer.phase) (λ not. quiet h)))))))
 
   -- the rule for a message
   pub received_goes : (from : ℕ) (message : Message) → MessageHolds l from message → Goes c l stored (received p from message x)
   received_goes from messages.Probe says = rule_8_probe h from
-  received_goes from (messages.ProbeReply fact) says = rule_8 h x.phase from fact h.peer.phase says
+  received_goes from (messages.ProbeReply fact) says = rule_8 h x.phase from fact h.peer.phase h.peer.sync says
   received_goes from (messages.Prepare ballot) says = rule_11 h from ballot says.epoch
-  received_goes from (messages.Promise ballot fact) says = rule_12 h x.phase from ballot fact h.peer.phase says
+  received_goes from (messages.Promise ballot fact) says = rule_12 h x.phase from ballot fact h.peer.phase h.peer.sync says
   received_goes from (messages.Nack ballot cause) says = rule_15 h x.phase ballot cause
   received_goes from (messages.NewEpoch fact) says = rule_16 h from fact says
-  received_goes from (messages.Accepted ballot seq) says = rule_17 h x.phase from ballot seq h.peer.phase says
+  received_goes from (messages.Accepted ballot seq) says = rule_17 h x.phase from ballot seq h.peer.phase h.peer.sync says
   received_goes from (messages.Beat ballot) says = rule_19 h from ballot
   received_goes from (messages.Check ballot round) says = harmless_goes h (row_20 x.fact from ballot round) (row_20_harmless x.fact from ballot round)
   received_goes from (messages.CheckReply ballot round) says = quiet h
@@ -49,4 +49,6 @@ module _ {c : Course} {l : Ledger} {x : State} {stored : Option Fact} (h : Fits 
   received_goes from (messages.GetReply ballot round key entry object) says = quiet h
   received_goes from (messages.Put ballot object) says = quiet h
   received_goes from (messages.PutReply ballot key version) says = quiet h
+  received_goes from (messages.TreeAsk ballot at after) says = quiet h
+  received_goes from (messages.TreeGive ballot at after trusted body) says = quiet h
   received_goes from other says = absurd says

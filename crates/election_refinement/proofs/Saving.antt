@@ -1,6 +1,6 @@
 -- The state of a peer after it saved a fact: at a greater ballot, or as the first fact of an epoch
 -- that it accepts.
-use Rattle.std.proofs.Common.{◌≡◌, ℕ, ◌<◌, ◌≤◌, Bool, true, Option, Some, arith, refl, ap, le_trans, ◌∙◌, sym, subst}
+use Rattle.std.proofs.Common.{◌≡◌, ℕ, ◌<◌, ◌≤◌, Bool, true, Option, Some, None, arith, refl, ap, le_trans, ◌∙◌, sym, subst}
 use Rattle.std.proofs.lemmas.Bool.Decides.{nat_tests}
 use Rattle.abstract_protocol.specs.Ledger.{Ledger, Place, mark, raise, accept}
 use Rattle.abstract_protocol.specs.Numbers.{epoch_number, IsEpoch}
@@ -9,11 +9,12 @@ use Rattle.peer_core.specs.declared.state.Phase.{Phase}
 use Rattle.peer_core.specs.declared.state.State.{State}
 use Rattle.peer_fact.specs.declared.fact.Fact.{Fact}
 use Rattle.phase_rows.specs.Rows.{at_ballot}
+use Rattle.running_sync.specs.Running.{Running}
 use Rattle.version_laws.proofs.Maps.{put_here}
 use Rattle.election_refinement.proofs.Keeps.{accept_keeps, first_keeps}
 use Rattle.election_refinement.proofs.Reaching.{Course, Reaches, reaches_safe, raise_reaches, accept_reaches}
 use Rattle.election_refinement.proofs.Rows.{Fits}
-use Rattle.election_refinement.specs.Refinement.{first_seq, IsKnown, IsFirst, HasPromised, IsSaved, PhaseHolds}
+use Rattle.election_refinement.specs.Refinement.{first_seq, IsKnown, IsFirst, HasPromised, IsSaved, PhaseHolds, may_wait, SyncHolds}
 
 pub mark_here : (r : ℕ → ℕ → Bool) (d p : ℕ) → mark r d p d p ≡ true
 mark_here r d p = grind (arith, nat_tests)
@@ -56,13 +57,17 @@ module _ {c : Course} {l : Ledger} {x : State} {stored : Option Fact} (h : Fits 
   pub may_raise : (d : ℕ) → epoch_number x.fact.ballot ≤ d → l.ballot p ≤ d
   may_raise d above = subst (λ n. n ≤ d) (sym h.peer.saved.ballot) above
 
-  -- the fact is saved at a ballot that is not lower
+  -- the fact is saved at a ballot that is not lower, and no sync runs
   abbrev pub raised_fits : (ballot : Epoch) → IsEpoch ballot → epoch_number x.fact.ballot ≤ epoch_number ballot → (phase : Phase) → PhaseHolds (raise l p (epoch_number ballot)) p (at_ballot x.fact ballot) phase
-      → Fits c (raise l p (epoch_number ballot)) (record x { fact = at_ballot x.fact ballot; phase = phase }) (Some (at_ballot x.fact ballot))
+      → Fits c (raise l p (epoch_number ballot)) (record x { fact = at_ballot x.fact ballot; phase = phase; sync = None }) (Some (at_ballot x.fact ballot))
   raised_fits ballot epoch above phase holds = record {
     reaches = raise_reaches c l h.reaches (epoch_number ballot) (may_raise (epoch_number ballot) above);
-    peer = record { saved = raised_saved l p x.fact ballot h.peer.saved epoch above; kept = refl; phase = holds };
+    peer = record { saved = raised_saved l p x.fact ballot h.peer.saved epoch above; kept = refl; phase = holds; sync = tt };
   }
+
+  -- the peer accepted the epoch of its fact
+  pub own_accepted : l.accepted (epoch_number x.fact.epoch) p ≡ true
+  own_accepted = subst (λ (place : Place). l.accepted place.epoch p ≡ true) h.peer.saved.place ((reaches_safe c l h.reaches).ballots.last p)
 
   -- the peer accepted nothing later than its fact, so it may promise with it
   pub own_promise : (d b : ℕ) → epoch_number x.fact.epoch ≤ b → HasPromised (raise l p d) p d b
@@ -74,13 +79,14 @@ module _ {c : Course} {l : Ledger} {x : State} {stored : Option Fact} (h : Fits 
   -- the first fact of an epoch is accepted and saved, after steps that led to a ledger where the
   -- peer is at the ballot of this epoch
   abbrev pub accepted_fits : (m : Ledger) → Reaches c m → (new : Fact) → IsFirst m new → m.ballot p ≡ epoch_number new.epoch → (m.fact p).epoch < epoch_number new.epoch
-      → (phase : Phase) → PhaseHolds (accept m p (epoch_number new.epoch)) p new phase
-      → Fits c (accept m p (epoch_number new.epoch)) (record x { fact = new; phase = phase }) (Some new)
-  accepted_fits m reaches new is_first stands newer phase holds = record {
+      → (phase : Phase) → PhaseHolds (accept m p (epoch_number new.epoch)) p new phase → (sync : Option Running) → SyncHolds (accept m p (epoch_number new.epoch)) p new (may_wait phase) sync
+      → Fits c (accept m p (epoch_number new.epoch)) (record x { fact = new; phase = phase; sync = sync }) (Some new)
+  accepted_fits m reaches new is_first stands newer phase holds sync runs = record {
     reaches = accept_reaches c m reaches (epoch_number new.epoch) is_first.known.elected stands newer;
     peer = record {
       saved = accepted_saved m p new is_first stands (first_keeps m (accept m p (epoch_number new.epoch)) p (accept_keeps m p (epoch_number new.epoch) stands) new is_first);
       kept = refl;
       phase = holds;
+      sync = runs;
     };
   }

@@ -7,11 +7,11 @@ use Rattle.network.specs.Mail.{settled, goes, oldest, is_among, most_messages}
 use Rattle.peer_core.specs.declared.event.Event.{Event}
 use Rattle.peer_core.specs.declared.event.Event.TheVariants as events
 use Rattle.schedule_text.specs.declared.event.ScheduleEvent.{ScheduleEvent}
-use Rattle.schedule_text.specs.declared.event.ScheduleEvent.TheVariants.{Call, Tick, Deliver, Pass, Lose, Calm, CalmAmong, Change, Stop, Start, Spoil, Revert, Fail}
+use Rattle.schedule_text.specs.declared.event.ScheduleEvent.TheVariants.{Call, Tick, Deliver, Pass, Lose, Calm, CalmAmong, Change, Stop, Start, Spoil, Damage, Inner, Revert, Fail}
 use Rattle.wire_frames.specs.declared.frame.Frame.{Frame}
 use Rattle.world_spec.specs.Lines.{call_of, set_of, everyone, effect, applied, run_from, run_of_schedule}
 use Rattle.world_spec.specs.Nodes.{Node, Up, Down, taken, started, stopped, over_stores, while_down, opening_node}
-use Rattle.world_spec.specs.Stores.{failing, leaves_of, spoiled, taken_back}
+use Rattle.world_spec.specs.Stores.{failing, leaves_of, spoiled, segment_spoiled, inner_spoiled, taken_back}
 use Rattle.world_spec.specs.Runs.{Run, opening_run, place_of, stepped, stepped_at, changed, changed_at, ticked, received_if, delivered, delivered_if, going_on, calmed}
 use Rattle.election_refinement.proofs.Worlds.{IsSpared}
 use Rattle.election_refinement.specs.Refinement.{NodeHolds}
@@ -72,9 +72,10 @@ effect_size (Change peer view) w = stepped_size peer (events.Change view) w
 effect_size (Stop peer) w = changed_size peer stopped w
 effect_size (Start peer) w = changed_size peer (started w.view) w
 effect_size (Spoil peer key bytes) w = changed_size peer (over_stores (spoiled key bytes)) w
+effect_size (Damage peer key bytes) w = changed_size peer (over_stores (segment_spoiled key bytes)) w
+effect_size (Inner peer level index bytes) w = changed_size peer (over_stores (inner_spoiled level index bytes)) w
 effect_size (Revert peer changes) w = changed_size peer (while_down (taken_back changes)) w
 effect_size (Fail peer store survivor) w = changed_size peer (over_stores (failing store (leaves_of survivor))) w
-effect_size event w = refl
 
 run_from_size : (events : List ScheduleEvent) (w : Run) → size (run_from events w) ≡ size w
 run_from_size [] w = refl

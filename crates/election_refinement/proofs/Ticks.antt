@@ -12,21 +12,23 @@ use Rattle.leader_words.specs.Sends.{is_other}
 use Rattle.leader_words.specs.declared.out.Outgoing.{Outgoing}
 use Rattle.leading.specs.Ticks.{tick_message, ticks_up_to}
 use Rattle.peer_core.specs.Moves.{electing, following}
-use Rattle.peer_core.specs.Rows.{aged}
+use Rattle.peer_core.specs.Rows.{aged, runs_sync}
 use Rattle.peer_core.specs.declared.state.Leadership.{Leadership}
 use Rattle.peer_core.specs.declared.state.Phase.{Phase}
 use Rattle.peer_core.specs.declared.state.Phase.TheVariants as phases
 use Rattle.peer_core.specs.declared.state.State.{State}
 use Rattle.peer_fact.specs.declared.fact.Fact.{Fact}
 use Rattle.phase_rows.specs.Orders.{is_joint}
-use Rattle.phase_rows.specs.Rows.{silent}
+use Rattle.phase_rows.specs.Peers.{others_outside}
+use Rattle.phase_rows.specs.Rows.{silent, sends}
+use Rattle.wire_frames.specs.declared.message.Message.TheVariants as messages
 use Rattle.wire_frames.specs.declared.phase.PhaseOut.{PhaseOut}
 use Rattle.wire_frames.specs.declared.phase.Then.{Then}
 use Rattle.wire_frames.specs.declared.phase.Then.TheVariants as thens
 use Rattle.election_refinement.proofs.Reaching.{Course}
 use Rattle.election_refinement.proofs.Rows.{Fits, Goes, unmoved, enters, quiet, follows, rests_in, names}
 use Rattle.election_refinement.proofs.Tests.{by_test}
-use Rattle.election_refinement.specs.Refinement.{IsLeading, PhaseHolds, MessageHolds, SendHolds}
+use Rattle.election_refinement.specs.Refinement.{IsLeading, PhaseHolds, may_wait, SyncHolds, MessageHolds, SendHolds}
 
 -- what a leader's message to a peer asserts holds
 pub word_holds : (l : Ledger) (p : ℕ) (fact : Fact) (leadership : Leadership) → IsLeading l p fact leadership → (q : ℕ) → MessageHolds l p (tick_message None fact leadership.leader q)
@@ -56,23 +58,25 @@ module _ {c : Course} {l : Ledger} {x : State} {stored : Option Fact} (h : Fits 
   not_joint leadership leading = rw (leading.started.first.known.views ∙ h.reaches.orderly.one_view (epoch_number leadership.leader.fact.epoch) leading.started.first.known.elected) refl
 
   -- a tick that changes only the phase, and may run rule 7
-  anew : (phase : Phase) (test : Bool) → PhaseHolds l p x.fact phase → Goes c l stored (record x { phase = phase }, silent (if test then thens.Rule 7 else thens.Stay))
-  anew phase test holds =
+  anew : (phase : Phase) (test : Bool) → PhaseHolds l p x.fact phase → SyncHolds l p x.fact (may_wait phase) x.sync → Goes c l stored (record x { phase = phase }, silent (if test then thens.Rule 7 else thens.Stay))
+  anew phase test holds runs =
       by_test (λ (turn : Then). Goes c l stored (record x { phase = phase }, silent turn)) test _ _
-      (λ is. names h 7 phase holds)
-      (λ not. rests_in h phase holds)
+      (λ is. names h 7 phase holds runs)
+      (λ not. rests_in h phase holds runs)
 
   -- rules 2 to 4
-  pub aged_goes : (phase : Phase) → PhaseHolds l p x.fact phase → Goes c l stored (aged phase p x)
-  aged_goes (phases.Following f) old =
+  pub aged_goes : (phase : Phase) → PhaseHolds l p x.fact phase → SyncHolds l p x.fact (may_wait phase) x.sync → Goes c l stored (aged phase p x)
+  aged_goes (phases.Following f) old runs =
       by_test (λ (r : Follower × PhaseOut). Goes c l stored (following r.0 x, r.1)) (is_member x.fact.views p) _ _
-      (λ member. anew (phases.Following (record f { quiet = f.quiet + 1 })) (f.quiet + 1 == 6) tt)
-      (λ stranger. rests_in h (phases.Following f) tt)
-  aged_goes (phases.Probing b) old =
-      anew (phases.Probing (record b { age = b.age + 1 })) (b.age + 1 == 6) (record { best = old.best; newer = old.newer; counts_best = old.counts_best; counts_own = old.counts_own })
-  aged_goes (phases.Electing (Preparing base promises asked age)) old = anew (phases.Electing (Preparing base promises asked (age + 1))) (age + 1 == 6) old
-  aged_goes (phases.Electing (Starting new accepts age)) old =
+      (λ member. anew (phases.Following (record f { quiet = f.quiet + 1 })) (f.quiet + 1 == 6) tt runs)
+      (λ stranger. rests_in h (phases.Following f) tt runs)
+  aged_goes (phases.Probing b) old runs =
+      anew (phases.Probing (record b { age = b.age + 1 })) (b.age + 1 == 6) (record { best = old.best; newer = old.newer; counts_best = old.counts_best; counts_own = old.counts_own }) runs
+  aged_goes (phases.Electing (Preparing base promises asked age)) old runs = anew (phases.Electing (Preparing base promises asked (age + 1))) (age + 1 == 6) old runs
+  aged_goes (phases.Electing (Starting new accepts age)) old runs =
       by_test (λ (row : PhaseOut). Goes c l stored (electing (Starting new accepts (age + 1)) x, row)) (age + 1 == 8) _ _
       (λ spent. follows h (phases.Electing (Starting new accepts (age + 1))))
-      (λ young. unmoved (enters h (phases.Electing (Starting new accepts (age + 1))) old) old.first)
-  aged_goes (phases.Leading y) old = quiet h
+      (λ young. by_test (λ (turn : Then). Goes c l stored (electing (Starting new accepts (age + 1)) x, sends (others_outside p accepts new.views) (messages.NewEpoch new) turn)) (runs_sync x.sync) _ _
+      (λ syncs. unmoved (enters h (phases.Electing (Starting new accepts (age + 1))) old runs) old.first tt)
+      (λ none. unmoved (enters h (phases.Electing (Starting new accepts (age + 1))) old runs) old.first tt))
+  aged_goes (phases.Leading y) old runs = quiet h

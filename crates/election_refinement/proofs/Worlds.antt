@@ -25,7 +25,7 @@ use Rattle.peer_core.specs.declared.state.State.{State}
 use Rattle.register_model.specs.declared.note.Note.{Note}
 use Rattle.schedule_text.specs.Spelling.{MayStand}
 use Rattle.schedule_text.specs.declared.event.ScheduleEvent.{ScheduleEvent}
-use Rattle.schedule_text.specs.declared.event.ScheduleEvent.TheVariants.{Call, Tick, Deliver, Pass, Lose, Calm, CalmAmong, Change, Stop, Start, Spoil, Revert, Fail}
+use Rattle.schedule_text.specs.declared.event.ScheduleEvent.TheVariants.{Call, Tick, Deliver, Pass, Lose, Calm, CalmAmong, Change, Stop, Start, Spoil, Damage, Inner, Revert, Fail}
 use Rattle.schedule_text.specs.declared.keyword.StoreName.{StoreName}
 use Rattle.schedule_text.specs.declared.keyword.StoreName.TheVariants as names
 use Rattle.peer_fact.specs.declared.fact.Fact.{Fact}
@@ -41,7 +41,7 @@ use Rattle.world_spec.specs.Laws.{NoneWaits}
 use Rattle.world_stores.specs.Objects.{Objects}
 use Rattle.world_spec.specs.Lines.{call_of, set_of, everyone, with_loss, effect, counted, applied}
 use Rattle.world_spec.specs.Nodes.{Node, Up, Down, Taken, taken, taken_by, taken_of, run_over, started, stopped, over_stores, while_down}
-use Rattle.world_spec.specs.Stores.{failing, leaves_of, spoiled, taken_back}
+use Rattle.world_spec.specs.Stores.{failing, leaves_of, spoiled, segment_spoiled, inner_spoiled, taken_back}
 use Rattle.world_spec.specs.Runs.{Run, place_of, frame_from, posted_all, with_taken, stepped, stepped_at, changed, changed_at, ticked, received_if, delivered, delivered_if, going_on, calmed}
 use Rattle.election_refinement.proofs.Keeps.{Keeps, keeps_none, node_keeps, frames_keep}
 use Rattle.election_refinement.proofs.Loops.{EventHolds, Here, Rests, Good, LeavesFact, step_good, start_good}
@@ -419,11 +419,14 @@ module _ (view : List ℕ) (steps : List Step) (spared : ℕ → Type 0) where
     effect_refines (Start peer) w may linked spares a =
         changed_refines peer (is_peer peer may.first may.last) (started w.view) w a (started_agrees peer (is_peer peer may.first may.last) w a.on w.view) (λ is_spared. started_spared w.view) (started_own peer w.view)
     effect_refines (Spoil peer key bytes) w may linked spares a = over_refines peer (is_peer peer may.0.first may.0.last) (spoiled key bytes) (λ st. refl) (λ is_spared st none. record { facts = none.facts; tree = none.tree; backend = none.backend }) w a
+    effect_refines (Damage peer key bytes) w may linked spares a =
+        over_refines peer (is_peer peer may.0.first may.0.last) (segment_spoiled key bytes) (λ st. refl) (λ is_spared st none. record { facts = none.facts; tree = none.tree; backend = none.backend }) w a
+    effect_refines (Inner peer level index bytes) w may linked spares a =
+        over_refines peer (is_peer peer may.0.first may.0.last) (inner_spoiled level index bytes) (λ st. refl) (λ is_spared st none. record { facts = none.facts; tree = none.tree; backend = none.backend }) w a
     effect_refines (Revert peer changes) w may linked spares a =
         changed_refines peer (is_peer peer may.0.first may.0.last) (while_down (taken_back changes)) w a (while_agrees peer (is_peer peer may.0.first may.0.last) w a.on (taken_back changes) (λ st. refl)) (λ is_spared. while_spared (taken_back changes)) (while_down_own (taken_back changes) peer)
     effect_refines (Fail peer store survivor) w may linked spares a =
         over_refines peer (is_peer peer may.first may.last) (failing store (leaves_of survivor)) (failing_keeps store (leaves_of survivor)) (λ is_spared st none. absurd (not_spared peer (is_peer peer may.first may.last) (spares (place_of peer) is_spared))) w a
-    effect_refines event w may linked spares a = a
 
     pub applied_refines : (event : ScheduleEvent) (w : Run) → MayStand peers event → IsLinked event → SparesAll spared event → Advances w → Advances (applied event w)
     applied_refines event w may linked spares a = resent (effect event w) (counted event (effect event w)) refl refl (effect_refines event w may linked spares a)

@@ -1,6 +1,6 @@
 -- The refinement relation, part by part: what a fact, a phase, a peer and a message assert about
 -- the ledger of the abstract protocol.
-use Rattle.std.specs.Prelude.{◌≡◌, ℕ, ◌<◌, ◌≤◌, Bool, true, false, List, [], ◌∷◌, Option, Some, ◌==◌, if◌then◌else◌}
+use Rattle.std.specs.Prelude.{◌≡◌, ℕ, ◌<◌, ◌≤◌, Bool, true, false, List, [], ◌∷◌, Option, None, Some, ◌==◌, if◌then◌else◌}
 use Rattle.abstract_protocol.specs.Ledger.{Ledger, Place, is_established}
 use Rattle.abstract_protocol.specs.Numbers.{epoch_number, IsEpoch}
 use Rattle.election_laws.specs.Preparing.{proposer_of}
@@ -17,6 +17,8 @@ use Rattle.peer_core.specs.declared.state.State.{State}
 use Rattle.peer_fact.specs.declared.fact.Change.TheVariants as changes
 use Rattle.peer_fact.specs.declared.fact.Fact.{Fact}
 use Rattle.probe.specs.declared.probing.Probing.{Probing}
+use Rattle.running_sync.specs.Running.{Running}
+use Rattle.running_sync.specs.Sends.{AsksOthers}
 use Rattle.leader_words.specs.declared.out.Outgoing.{Outgoing}
 use Rattle.wire_frames.specs.declared.frame.Frame.{Frame}
 use Rattle.wire_frames.specs.declared.message.Message.{Message}
@@ -108,6 +110,32 @@ PhaseHolds l me fact (phases.Probing probing) = IsProbing l fact probing
 PhaseHolds l me fact (phases.Electing election) = IsElecting l me fact election
 PhaseHolds l me fact (phases.Leading leadership) = IsLeading l me fact leadership
 
+-- ## Syncs
+
+-- whether a peer in this phase may wait for a sync: it follows, or it starts an epoch
+abbrev pub may_wait : Phase → Bool
+may_wait (phases.Following follower) = true
+may_wait (phases.Electing (Starting new accepts age)) = true
+may_wait other = false
+
+-- a peer with this saved fact may sync on `new`: it is the first fact of its epoch, the peer promised
+-- this epoch and accepted a lower one, and its phase may wait for a sync, as `waiting` tells
+pub record MaySync (l : Ledger) (fact : Fact) (waiting : Bool) (new : Fact) : Type 0 where
+  pub first : IsFirst l new
+  pub promised : new.epoch ≡ fact.ballot
+  pub newer : epoch_number fact.epoch < epoch_number new.epoch
+  pub waits : waiting ≡ true
+
+-- a sync that runs: the peer may sync on its fact, and it asks other peers alone
+pub record IsSyncing (l : Ledger) (me : ℕ) (fact : Fact) (waiting : Bool) (r : Running) : Type 0 where
+  pub may : MaySync l fact waiting r.fact
+  pub asks : AsksOthers me r
+
+-- what the sync of a peer asserts, if one runs
+abbrev pub SyncHolds : Ledger → ℕ → Fact → Bool → Option Running → Type 0
+SyncHolds l me fact waiting None = Unit {0}
+SyncHolds l me fact waiting (Some r) = IsSyncing l me fact waiting r
+
 -- ## Peers
 
 -- the last fact that the peer saved: its ballot is the peer's ballot, and its place is that of the
@@ -117,11 +145,13 @@ pub record IsSaved (l : Ledger) (me : ℕ) (f : Fact) : Type 0 where
   pub ballot : l.ballot me ≡ epoch_number f.ballot
   pub place : l.fact me ≡ fact_place f
 
--- a running peer, whose stores keep `stored`: they keep its fact, and what its phase asserts holds
+-- a running peer, whose stores keep `stored`: they keep its fact, and what its phase and its sync
+-- assert holds
 pub record PeerHolds (l : Ledger) (me : ℕ) (x : State) (stored : Option Fact) : Type 0 where
   pub saved : IsSaved l me x.fact
   pub kept : stored ≡ Some x.fact
   pub phase : PhaseHolds l me x.fact x.phase
+  pub sync : SyncHolds l me x.fact (may_wait x.phase) x.sync
 
 -- a peer that is down, whose stores keep `stored`: they keep the last fact that it saved
 pub record IsKept (l : Ledger) (me : ℕ) (stored : Option Fact) : Type 0 where
@@ -160,8 +190,8 @@ pub record IsThere (l : Ledger) (epoch : Epoch) : Type 0 where
   pub elected : l.elected (epoch_number epoch) ≡ true
   pub established : is_established l (epoch_number epoch) ≡ true
 
--- what a message asserts about elections; the messages of calls assert nothing, and no message of
--- the remaining kinds is ever sent
+-- what a message asserts about elections; the messages of calls and of syncs assert nothing, and no
+-- message of the remaining kind is ever sent
 abbrev pub MessageHolds : Ledger → ℕ → Message → Type 0
 MessageHolds l sender messages.Probe = Unit {0}
 MessageHolds l sender (messages.ProbeReply fact) = IsKnown l fact
@@ -177,6 +207,8 @@ MessageHolds l sender (messages.Get ballot round key) = Unit {0}
 MessageHolds l sender (messages.GetReply ballot round key entry object) = Unit {0}
 MessageHolds l sender (messages.Put ballot object) = Unit {0}
 MessageHolds l sender (messages.PutReply ballot key version) = Unit {0}
+MessageHolds l sender (messages.TreeAsk ballot at after) = Unit {0}
+MessageHolds l sender (messages.TreeGive ballot at after trusted body) = Unit {0}
 MessageHolds l sender other = ⊥
 
 -- an outgoing message goes to a peer, and what it asserts holds

@@ -7,14 +7,17 @@
 //! the facts that peers keep and for peers that lead.
 //!
 //! Peers stop and start, a write may fail with its effect or without it, trees and backends may lie,
-//! and leaders take calls. Of calls only this is shown: a leader that serves them leads the same
-//! epoch until it steps down, and their messages assert nothing about elections. The run of the
-//! abstract protocol has no steps of calls. A line that changes the view is not linked yet.
+//! peers sync, and leaders take calls. Of syncs this is shown: a sync runs only at the ballot that
+//! its peer promised, and at its end the peer accepts the epoch of that ballot, whatever the tree
+//! became. Of calls only this is shown: a leader that serves them leads the same epoch until it steps
+//! down. The messages of syncs and of calls assert nothing about elections, and the run of the
+//! abstract protocol has no steps of either. A line that changes the view is not linked yet.
 //!
 //! The proof looks at each rule by its row alone. `proofs/Rows` says what a row of a phase has to
 //! show, and `proofs/Rules` lists these rows; `proofs/Calls` has the rows of a leader's calls, and
-//! `proofs/Requests` those of a peer that is asked. `proofs/Loops` takes them through a step, and
-//! `proofs/Worlds` takes steps through the lines of a schedule.
+//! `proofs/Requests` those of a peer that is asked. `proofs/Syncing` has the end of a sync.
+//! `proofs/Loops` takes them all through a step, and `proofs/Worlds` takes steps through the lines of
+//! a schedule.
 #![tactic(auto)]
 
 mod laws;

@@ -7,3 +7,4 @@ pub mod Placed
 pub mod Loops
 pub mod Starting
 pub mod Events
+pub mod StoreLines

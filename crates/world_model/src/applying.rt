@@ -3,9 +3,9 @@ ghost use Rattle.ens_base.specs.View.{IsPeer};
 ghost use Rattle.joint_views.specs.Quorums.{is_in};
 ghost use Rattle.peer_core.specs.declared.event.Event.TheVariants.{Call};
 ghost use Rattle.schedule_text.specs.Spelling.{MayStand};
-ghost use Rattle.world_spec.specs.Lines.{applied, call_of, effect, everyone, set_of};
+ghost use Rattle.world_spec.specs.Lines.{applied, call_of, effect, everyone, set_of, stores_effect};
 ghost use Rattle.world_spec.specs.Runs.{stepped};
-ghost use Rattle.world_model.specs.Worlds.{run_of, Begins, Reaches};
+ghost use Rattle.world_model.specs.Worlds.{run_of, Adds, Begins, Reaches};
 
 use crate::error::WorldError;
 use crate::world::World;
@@ -114,7 +114,25 @@ impl World {
                 Ok(())
             }
             ScheduleEvent::Start { peer } => self.start(alloc, hasher, *peer),
+            _ => self.effect_on_stores(alloc, event),
+        }
+    }
+
+    /// Applies the effect of a line on the stores of a peer. Any other line changes nothing here.
+    fn effect_on_stores(&mut self, alloc: Global, event: &ScheduleEvent) -> Result<(), WorldError>
+        requires { MayStand (length self.old.peers.items) event.now }
+        ensures reaches { Adds (stores_effect event.now (run_of self.old)) result (run_of self.new) }
+        ensures begins { Begins self.old self.new }
+    {
+        match event {
             ScheduleEvent::Spoil { peer, key, bytes } => self.spoil(alloc, *peer, key, bytes),
+            ScheduleEvent::Damage { peer, key, bytes } => self.damage(alloc, *peer, key, bytes),
+            ScheduleEvent::Inner {
+                peer,
+                level,
+                index,
+                bytes,
+            } => self.inner(alloc, *peer, *level, *index, bytes),
             ScheduleEvent::Revert { peer, changes } => {
                 self.revert(alloc, *peer, *changes);
                 Ok(())
@@ -127,7 +145,7 @@ impl World {
                 self.fail_next(alloc, *peer, *store, *survivor);
                 Ok(())
             }
-            ScheduleEvent::Damage { .. } | ScheduleEvent::Inner { .. } => Ok(()),
+            _ => Ok(()),
         }
     }
 

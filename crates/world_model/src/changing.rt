@@ -1,7 +1,7 @@
-ghost use Rattle.std.specs.Prelude.{◌≡◌, ◌≤◌, length};
+ghost use Rattle.std.specs.Prelude.{◌≡◌, ◌≤◌, ◌<◌, ◌^◌, length};
 ghost use Rattle.world_spec.specs.Nodes.{over_stores, started, stopped, while_down};
 ghost use Rattle.world_spec.specs.Runs.{changed};
-ghost use Rattle.world_spec.specs.Stores.{failing, leaves_of, spoiled, taken_back};
+ghost use Rattle.world_spec.specs.Stores.{failing, inner_spoiled, leaves_of, segment_spoiled, spoiled, taken_back};
 ghost use Rattle.world_model.specs.Worlds.{run_of, Adds, Begins, Reaches};
 
 use crate::error::WorldError;
@@ -48,6 +48,38 @@ impl World {
         ensures begins { Begins self.old self.new }
     {
         self.peers[(peer.0 - 1) as usize].spoil(alloc, key, bytes)
+    }
+
+    /// Replaces the bytes of the segment of a key in the tree of `peer`, or removes that node.
+    pub(crate) fn damage(
+        &mut self,
+        alloc: Global,
+        peer: PeerId,
+        key: &Key,
+        bytes: &Option<Bytes>,
+    ) -> Result<(), WorldError>
+        requires { (1 ≤ peer) × (peer ≤ length self.old.peers.items) }
+        ensures reaches { Adds (changed peer (over_stores (segment_spoiled key.now bytes.now)) (run_of self.old)) result (run_of self.new) }
+        ensures begins { Begins self.old self.new }
+    {
+        self.peers[(peer.0 - 1) as usize].damage(alloc, key, bytes)
+    }
+
+    /// Replaces the bytes of an inner node in the tree of `peer`, or removes that node.
+    pub(crate) fn inner(
+        &mut self,
+        alloc: Global,
+        peer: PeerId,
+        level: u8,
+        index: u32,
+        bytes: &Option<Bytes>,
+    ) -> Result<(), WorldError>
+        requires peer { (1 ≤ peer) × (peer ≤ length self.old.peers.items) }
+        requires place { (level ≤ 2) × (index < 16 ^ level) }
+        ensures reaches { Adds (changed peer (over_stores (inner_spoiled level index bytes.now)) (run_of self.old)) result (run_of self.new) }
+        ensures begins { Begins self.old self.new }
+    {
+        self.peers[(peer.0 - 1) as usize].inner(alloc, level, index, bytes)
     }
 
     /// Takes back the last `changes` writes of the top record of `peer`, if it is down.

@@ -3,9 +3,8 @@
 //! A `World` opens with all peers started on empty stores, and `apply` applies one line of a
 //! schedule. Its state is the run of the lines applied so far, which world_spec defines as a pure
 //! function; `specs/Worlds` maps a `World` to this state. Messages are numbered in the order of
-//! sending and never removed. The notes of leaders go to a scribe, which derives the histories. The
-//! lines `call`, `damage` and `inner` are not supported yet and have no effect, except that the key
-//! of a call line gets a history.
+//! sending and never removed. The notes of leaders go to a scribe, which derives the histories, one
+//! for each key that a call line names.
 //!
 //! A peer lies between its steps: its stores, and the rest of it while it runs. So a line can stop
 //! it, and change its stores whether it runs or not.

@@ -2,9 +2,9 @@ ghost use Rattle.std.specs.Prelude.{◌≡◌, ◌++◌, map, IfOk};
 ghost use Rattle.world_spec.specs.Runs.{answer_line as line_of_answer, change_line as line_of_change};
 
 use ens_base::PeerId;
-use step_plans::AnswerOut;
 use register_model::{Answer, Printed};
 use std::alloc::{AllocError, Global};
+use step_plans::AnswerOut;
 
 /// Returns the printed line of an answer.
 fn answer_line(event: u64, answer: AnswerOut) -> Printed

@@ -1,7 +1,7 @@
-ghost use Rattle.std.specs.Prelude.{◌≡◌, IfErr, OnOk};
+ghost use Rattle.std.specs.Prelude.{◌≡◌, ◌≤◌, ◌<◌, ◌^◌, IfErr, OnOk};
 ghost use Rattle.std.specs.Option.{option_map};
 ghost use Rattle.world_spec.specs.Nodes.{over_stores, stopped, while_down};
-ghost use Rattle.world_spec.specs.Stores.{failing, leaves_of as left_as, spoiled, taken_back};
+ghost use Rattle.world_spec.specs.Stores.{failing, inner_spoiled, leaves_of as left_as, segment_spoiled, spoiled, taken_back};
 ghost use Rattle.world_model.specs.Peers.{node_of};
 
 use crate::error::WorldError;
@@ -76,6 +76,49 @@ impl WorldPeer {
                 Ok(()) => Ok(()),
                 Err(_) => Err(WorldError::Memory),
             },
+        }
+    }
+
+    /// Replaces the bytes of the segment of a key, or removes that node. Fails when out of memory.
+    pub(crate) fn damage(
+        &mut self,
+        alloc: Global,
+        key: &Key,
+        bytes: &Option<Bytes>,
+    ) -> Result<(), WorldError>
+        ensures ok { OnOk result (node_of self.new ≡ over_stores (segment_spoiled key.now bytes.now) (node_of self.old)) }
+        ensures me { self.new.me ≡ self.old.me }
+        ensures memory { IfErr result (λ e. e ≡ WorldError.Memory) }
+    {
+        let (mark, mut nodes) = take_nodes(alloc, &mut self.stores.tree);
+        let damaged = node_faults::damage(alloc, &mut nodes, key, bytes);
+        self.stores.tree = Tree::join(mark, nodes);
+        match damaged {
+            Ok(()) => Ok(()),
+            Err(_) => Err(WorldError::Memory),
+        }
+    }
+
+    /// Replaces the bytes of the inner node at this level and index, or removes it. Fails when out
+    /// of memory.
+    pub(crate) fn inner(
+        &mut self,
+        alloc: Global,
+        level: u8,
+        index: u32,
+        bytes: &Option<Bytes>,
+    ) -> Result<(), WorldError>
+        requires { (level ≤ 2) × (index < 16 ^ level) }
+        ensures ok { OnOk result (node_of self.new ≡ over_stores (inner_spoiled level index bytes.now) (node_of self.old)) }
+        ensures me { self.new.me ≡ self.old.me }
+        ensures memory { IfErr result (λ e. e ≡ WorldError.Memory) }
+    {
+        let (mark, mut nodes) = take_nodes(alloc, &mut self.stores.tree);
+        let damaged = node_faults::inner(alloc, &mut nodes, level, index, bytes);
+        self.stores.tree = Tree::join(mark, nodes);
+        match damaged {
+            Ok(()) => Ok(()),
+            Err(_) => Err(WorldError::Memory),
         }
     }
 

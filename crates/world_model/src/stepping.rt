@@ -12,8 +12,8 @@ use crate::world::World;
 use ens_base::PeerId;
 use ens_hashing::Hasher16;
 use peer_core::Event;
-use step_plans::Outbox;
 use std::alloc::Global;
+use step_plans::Outbox;
 
 /// Drops an event for which there is no peer.
 fn ignore(_event: Event) {}

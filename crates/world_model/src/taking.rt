@@ -13,8 +13,8 @@ use crate::peer::{MemPeer, MemStores, WorldPeer};
 use ens_base::{PeerId, View};
 use ens_hashing::Hasher16;
 use peer_core::{Event, Peer, StartError, Stores};
-use step_plans::{Outbox, PeerError};
 use std::alloc::Global;
+use step_plans::{Outbox, PeerError};
 use synctree::Tree;
 use world_stores::{HeldFact, HeldNodes, HeldObjects};
 

@@ -7,13 +7,13 @@ use Rattle.network.proofs.MailLaws.{oldest_is_sent, oldest_is_beyond, clear_at_f
 use Rattle.peer_core.specs.declared.event.Event.{Event}
 use Rattle.peer_core.specs.declared.event.Event.TheVariants as events
 use Rattle.schedule_text.specs.declared.event.ScheduleEvent.{ScheduleEvent}
-use Rattle.schedule_text.specs.declared.event.ScheduleEvent.TheVariants.{Call, Tick, Deliver, Pass, Lose, Calm, CalmAmong, Change, Stop, Start, Spoil, Revert, Fail}
+use Rattle.schedule_text.specs.declared.event.ScheduleEvent.TheVariants.{Call, Tick, Deliver, Pass, Lose, Calm, CalmAmong, Change, Stop, Start, Spoil, Damage, Inner, Revert, Fail}
 use Rattle.wire_frames.specs.declared.frame.Frame.{Frame}
 use Rattle.world_spec.specs.Lines.{call_of, everyone, set_of, effect, applied, run_from, run_of_schedule}
 use Rattle.world_spec.specs.Nodes.{Node, taken, started, stopped, over_stores, while_down}
 use Rattle.world_spec.specs.Runs.{Run, opening_run, place_of, frame_from, posted_all, stepped_at, stepped, changed, ticked, received_if, delivered, delivered_if, going_on, calmed}
 use Rattle.world_spec.specs.Messages.{sent_in, IsCalm}
-use Rattle.world_spec.specs.Stores.{failing, leaves_of, spoiled, taken_back}
+use Rattle.world_spec.specs.Stores.{failing, leaves_of, spoiled, segment_spoiled, inner_spoiled, taken_back}
 use Rattle.world_spec.proofs.Growth.{changed_mail}
 
 -- there is one flag for each message, and no message below this number waits and passes the test
@@ -118,9 +118,10 @@ module _ (test : Frame → Bool) (k : ℕ) where
   effect_quiet (Stop peer) w quiet = changed_quiet test k peer stopped w quiet
   effect_quiet (Start peer) w quiet = changed_quiet test k peer (started w.view) w quiet
   effect_quiet (Spoil peer key bytes) w quiet = changed_quiet test k peer (over_stores (spoiled key bytes)) w quiet
+  effect_quiet (Damage peer key bytes) w quiet = changed_quiet test k peer (over_stores (segment_spoiled key bytes)) w quiet
+  effect_quiet (Inner peer level index bytes) w quiet = changed_quiet test k peer (over_stores (inner_spoiled level index bytes)) w quiet
   effect_quiet (Revert peer changes) w quiet = changed_quiet test k peer (while_down (taken_back changes)) w quiet
   effect_quiet (Fail peer store survivor) w quiet = changed_quiet test k peer (over_stores (failing store (leaves_of survivor))) w quiet
-  effect_quiet other w quiet = quiet
 
   run_quiet : (events : List ScheduleEvent) (w : Run) → Quiet test k w.mail → Quiet test k (run_from events w).mail
   run_quiet [] w quiet = quiet

@@ -2,12 +2,13 @@
 use Rattle.std.proofs.Common.{◌≡◌, ℕ, List, [], ◌∷◌, ◌++◌, Option, None, Some, Result, Ok, Err, true, refl, sym, subst, arith}
 use Rattle.ens_outside.specs.Stores.{NodeCall, Read, Write, Top, SetTop}
 use Rattle.ens_outside.specs.declared.memory.failing_call.Leaves.{Leaves}
-use Rattle.held_stores.specs.Answers.{answered, looked, entered}
+use Rattle.held_stores.specs.Answers.{answered, looked, entered, whole, done}
 use Rattle.held_stores.specs.Held.{Held, HeldStores, unless_failing}
 use Rattle.held_stores.specs.Runs.{Ended, run, either}
 use Rattle.held_stores.specs.Walks.{End, Came, Broke, Failed, Walk, walk, nodes_failed}
 use Rattle.peer_fact.specs.Facts.{opening_fact}
-use Rattle.peer_core.proofs.Damage.{IsInside, get_inside, insert_inside}
+use Rattle.peer_core.proofs.Damage.{IsInside, get_inside, insert_inside, node_inside}
+use Rattle.peer_core.proofs.Whole.{IsWhole, scan_whole, rebuild_whole}
 use Rattle.peer_core.specs.Kept.{IsStepCall, IsSound, IsInTree, Reaches}
 use Rattle.peer_core.specs.Starts.{first_state}
 use Rattle.peer_core.specs.declared.state.State.{State}
@@ -17,11 +18,14 @@ use Rattle.step_plans.specs.declared.error.PeerError.{PeerError}
 use Rattle.step_plans.specs.declared.walked.Walked.{Walked}
 use Rattle.step_plans.specs.declared.walked.Walked.TheVariants.{Reached, Broken as Damaged}
 use Rattle.register_model.specs.declared.note.Note.{Note}
+use Rattle.synctree.specs.Nodes.{node_plan}
 use Rattle.synctree.specs.Plans as tree
 use Rattle.synctree.specs.Trees.{get_plan, insert_plan}
 use Rattle.tree_maps.specs.Sixteen.{sixteen}
 use Rattle.tree_node.specs.Positions.{IsPosition}
 use Rattle.tree_node.specs.declared.position.Position.{Position}
+use Rattle.tree_repair.specs.Rebuilds.{rebuild_plan}
+use Rattle.tree_verify.specs.Levels.{scan_plan}
 use Rattle.world_spec.specs.Laws.{IsFinished, NoneWaits}
 use Rattle.world_spec.specs.Nodes.{Node, Up, opening_node}
 use Rattle.world_stores.specs.Nodes.{Nodes, refusal, answer, after}
@@ -64,7 +68,9 @@ answered_sound (Save fact) h a is = tt
 answered_sound FreshTree h a is = tt
 answered_sound OpenTree h a is = tt
 answered_sound ScanTree h a is = tt
-answered_sound (ReadNode at) h a is = tt
+answered_sound (ReadNode at) h a is = λ inside.
+    let plan = node_plan sixteen h.stores.tree.top at in
+    looked_inside (walk plan h.stores.tree.store h.hashed).end a (λ place broke. walk_inside plan h.stores.tree.store h.hashed place (node_inside h.stores.tree.top at inside) broke) is
 answered_sound (Install entries) h a is = tt
 answered_sound (Fetch key) h a is = tt
 answered_sound (Put key bytes) h a is = tt
@@ -113,6 +119,18 @@ walk_unfailing (tree.Ask (tree.Node call) next) s hashed none =
     subst (λ (o : Option Leaves). IsUnfailing (unless_failing o (walk (next (answer s call)) (after s call) hashed) (λ leaves. record { end = Failed; nodes = nodes_failed s call leaves; hashed = hashed }))) (sym (none_refused s call none))
     (walk_unfailing (next (answer s call)) (after s call) hashed (rw (after_waits s call) none))
 
+-- the walk of a plan that reports no damage meets none
+walk_whole : {A : Type 0} (p : tree.Plan A) (s : Nodes) (hashed : List (List ℕ)) (at : Position) → IsWhole p → (walk p s hashed).end ≡ Broke at → ⊥
+unfolding walk
+walk_whole (tree.Done x) s hashed at whole is = let none : ⊥ = grind (arith, is) in none
+walk_whole (tree.Broken here) s hashed at whole is = whole
+walk_whole (tree.Ask (tree.Hash bytes) next) s hashed at whole is = walk_whole (next tt) s (hashed ++ bytes ∷ []) at (whole tt) is
+walk_whole (tree.Ask (tree.Node call) next) s hashed at whole is = by_failure (refusal s call) is (λ went. walk_whole (next (answer s call)) (after s call) hashed at (whole (answer s call)) went) where
+  by_failure : (o : Option Leaves) → (unless_failing o (walk (next (answer s call)) (after s call) hashed) (λ leaves. record { end = Failed; nodes = nodes_failed s call leaves; hashed = hashed })).end ≡ Broke at
+      → ((walk (next (answer s call)) (after s call) hashed).end ≡ Broke at → ⊥) → ⊥
+  by_failure None is goes = goes is
+  by_failure (Some leaves) is goes = let none : ⊥ = grind (arith, is) in none
+
 -- the call was answered, and no failure waits after it
 record IsAnswered (call : Call) (h : Held) : Type 0 where
   answer : AnswerOf call
@@ -128,6 +146,16 @@ entered_answer : (end : End (List ℕ)) → (end ≡ Failed → ⊥) → (a : Wa
 entered_answer (Came x) goes = (Reached tt, refl)
 entered_answer (Broke at) goes = (Damaged at, refl)
 entered_answer Failed goes = absurd (goes refl)
+
+whole_answer : {A : Type 0} (end : End A) → (end ≡ Failed → ⊥) → ((at : Position) → end ≡ Broke at → ⊥) → (a : A) × (whole end ≡ Ok a)
+whole_answer (Came x) goes sound = (x, refl)
+whole_answer (Broke at) goes sound = absurd (sound at refl)
+whole_answer Failed goes sound = absurd (goes refl)
+
+done_answer : {A : Type 0} (end : End A) → (end ≡ Failed → ⊥) → ((at : Position) → end ≡ Broke at → ⊥) → done end ≡ Ok tt
+done_answer (Came x) goes sound = refl
+done_answer (Broke at) goes sound = absurd (sound at refl)
+done_answer Failed goes sound = absurd (goes refl)
 
 is_answered : (call : Call) (h : Held) → IsStepCall call → NoneWaits h.stores → IsAnswered call h
 is_answered (Find key) h one none =
@@ -145,9 +173,21 @@ is_answered (Hash bytes) h one none = record { answer = _; is = refl; none = rec
 is_answered Load h one none = absurd one
 is_answered FreshTree h one none = absurd one
 is_answered OpenTree h one none = absurd one
-is_answered ScanTree h one none = absurd one
-is_answered (ReadNode at) h one none = absurd one
-is_answered (Install entries) h one none = absurd one
+is_answered ScanTree h one none =
+    let plan = scan_plan sixteen h.stores.tree.top in
+    let went = walk_unfailing plan h.stores.tree.store h.hashed none.tree in
+    let came = whole_answer (walk plan h.stores.tree.store h.hashed).end went.end (λ at broke. walk_whole plan h.stores.tree.store h.hashed at (scan_whole sixteen h.stores.tree.top) broke) in
+    record { answer = came.0; is = came.1; none = record { facts = none.facts; tree = went.none; backend = none.backend } }
+is_answered (ReadNode at) h one none =
+    let plan = node_plan sixteen h.stores.tree.top at in
+    let went = walk_unfailing plan h.stores.tree.store h.hashed none.tree in
+    let came = looked_answer (walk plan h.stores.tree.store h.hashed).end went.end in
+    record { answer = came.0; is = came.1; none = record { facts = none.facts; tree = went.none; backend = none.backend } }
+is_answered (Install entries) h one none =
+    let plan = rebuild_plan sixteen entries in
+    let went = walk_unfailing plan h.stores.tree.store h.hashed none.tree in
+    let came = done_answer (walk plan h.stores.tree.store h.hashed).end went.end (λ at broke. walk_whole plan h.stores.tree.store h.hashed at (rebuild_whole sixteen entries) broke) in
+    record { answer = tt; is = came; none = record { facts = none.facts; tree = went.none; backend = none.backend } }
 
 -- the plan ended well, where P holds, and no write is to fail after it
 pub record Finishes (P : State → Out → Type 0) (e : Ended State) : Type 0 where

@@ -6,13 +6,13 @@ use Rattle.network.specs.Mail.{Mail, posted, settled, goes, is_among, oldest, mo
 use Rattle.peer_core.specs.declared.event.Event.{Event}
 use Rattle.peer_core.specs.declared.event.Event.TheVariants as events
 use Rattle.schedule_text.specs.declared.event.ScheduleEvent.{ScheduleEvent}
-use Rattle.schedule_text.specs.declared.event.ScheduleEvent.TheVariants.{Call, Tick, Deliver, Pass, Lose, Calm, CalmAmong, Change, Stop, Start, Spoil, Revert, Fail}
+use Rattle.schedule_text.specs.declared.event.ScheduleEvent.TheVariants.{Call, Tick, Deliver, Pass, Lose, Calm, CalmAmong, Change, Stop, Start, Spoil, Damage, Inner, Revert, Fail}
 use Rattle.wire_frames.specs.declared.frame.Frame.{Frame}
 use Rattle.world_spec.specs.Lines.{call_of, everyone, set_of, applied, run_from}
 use Rattle.world_spec.specs.Messages.{sent_in}
 use Rattle.world_spec.specs.Nodes.{Node, Taken, taken, started, stopped, over_stores, while_down}
 use Rattle.world_spec.specs.Runs.{Run, place_of, frame_from, posted_all, with_taken, stepped_at, stepped, changed_at, changed, ticked, received_if, delivered, delivered_if, going_on, calmed}
-use Rattle.world_spec.specs.Stores.{failing, leaves_of, spoiled, taken_back}
+use Rattle.world_spec.specs.Stores.{failing, leaves_of, spoiled, segment_spoiled, inner_spoiled, taken_back}
 
 length_posted : (m : Mail) (f : Frame) → length (posted m f).sent ≡ length m.sent + 1
 length_posted m f = length-append m.sent (f ∷ [])
@@ -117,9 +117,10 @@ applied_same (Change peer view) w = stepped_same peer (events.Change view) w
 applied_same (Stop peer) w = changed_same peer stopped w
 applied_same (Start peer) w = changed_same peer (started w.view) w
 applied_same (Spoil peer key bytes) w = changed_same peer (over_stores (spoiled key bytes)) w
+applied_same (Damage peer key bytes) w = changed_same peer (over_stores (segment_spoiled key bytes)) w
+applied_same (Inner peer level index bytes) w = changed_same peer (over_stores (inner_spoiled level index bytes)) w
 applied_same (Revert peer changes) w = changed_same peer (while_down (taken_back changes)) w
 applied_same (Fail peer store survivor) w = changed_same peer (over_stores (failing store (leaves_of survivor))) w
-applied_same event w = refl
 
 -- no line removes a message
 passed_grows : (n : Option ℕ) (w : Run) → sent_in w ≤ sent_in (delivered_if n w)
@@ -138,9 +139,10 @@ applied_grows (Change peer view) w = stepped_grows peer (events.Change view) w
 applied_grows (Stop peer) w = changed_grows peer stopped w
 applied_grows (Start peer) w = changed_grows peer (started w.view) w
 applied_grows (Spoil peer key bytes) w = changed_grows peer (over_stores (spoiled key bytes)) w
+applied_grows (Damage peer key bytes) w = changed_grows peer (over_stores (segment_spoiled key bytes)) w
+applied_grows (Inner peer level index bytes) w = changed_grows peer (over_stores (inner_spoiled level index bytes)) w
 applied_grows (Revert peer changes) w = changed_grows peer (while_down (taken_back changes)) w
 applied_grows (Fail peer store survivor) w = changed_grows peer (over_stores (failing store (leaves_of survivor))) w
-applied_grows event w = omega arith
 
 pub run_grows : (events : List ScheduleEvent) (w : Run) → sent_in w ≤ sent_in (run_from events w)
 run_grows [] w = omega arith

@@ -12,7 +12,7 @@ use Rattle.network.specs.Mail.{Mail, MayBeSent, posted, settled, goes, is_among,
 use Rattle.peer_fact.specs.declared.fact.Fact.{Fact}
 use Rattle.peer_core.proofs.Passing.{steps_keep}
 use Rattle.peer_core.specs.Drives.{step_of, MayCome}
-use Rattle.peer_core.specs.Kept.{LeadsAs, MaySend, AllMayGo, Reaches}
+use Rattle.peer_core.specs.Kept.{IsOwn, MaySend, AllMayGo, Reaches}
 use Rattle.peer_core.specs.Starts.{start_of, opened}
 use Rattle.peer_core.specs.declared.event.Event.{Event}
 use Rattle.peer_core.specs.declared.event.Event.TheVariants as events
@@ -21,17 +21,17 @@ use Rattle.step_plans.specs.Plans.{Plan, Ending, Finished, Stopped}
 use Rattle.register_model.specs.declared.note.Note.{Note}
 use Rattle.schedule_text.specs.Spelling.{MayStand, AllMayStand}
 use Rattle.schedule_text.specs.declared.event.ScheduleEvent.{ScheduleEvent}
-use Rattle.schedule_text.specs.declared.event.ScheduleEvent.TheVariants.{Call, Tick, Deliver, Pass, Lose, Calm, CalmAmong, Change, Stop, Start, Spoil, Revert, Fail}
+use Rattle.schedule_text.specs.declared.event.ScheduleEvent.TheVariants.{Call, Tick, Deliver, Pass, Lose, Calm, CalmAmong, Change, Stop, Start, Spoil, Damage, Inner, Revert, Fail}
 use Rattle.wire_frames.specs.declared.frame.Frame.{Frame}
 use Rattle.world_spec.proofs.Ending.{EndsIn, run_reaches}
 use Rattle.world_spec.specs.Lines.{call_of, everyone, set_of, effect, applied, run_from, run_of_schedule}
 use Rattle.world_spec.specs.Nodes.{Node, Up, Down, Taken, taken, taken_by, taken_of, run_over, started, stopped, over_stores, while_down, opening_node}
 use Rattle.world_spec.specs.Runs.{Run, opening_run, place_of, frame_from, posted_all, with_taken, stepped_at, stepped, changed_at, changed, ticked, received, received_if, delivered, delivered_if, going_on, calmed}
-use Rattle.world_spec.specs.Stores.{failing, leaves_of, spoiled, taken_back}
+use Rattle.world_spec.specs.Stores.{failing, leaves_of, spoiled, segment_spoiled, inner_spoiled, taken_back}
 
--- a running peer that leads sends as itself
+-- a running peer that leads sends as itself, and a sync that it runs asks other peers alone
 abbrev pub IsOwnNode : ℕ → Node → Type 0
-IsOwnNode me (Up x s) = LeadsAs me x.phase
+IsOwnNode me (Up x s) = IsOwn me x
 IsOwnNode me (Down s) = Unit {0}
 
 -- the peer sends as itself after the step, and its messages may be sent
@@ -44,24 +44,24 @@ pub record IsFine (w : Run) : Type 0 where
   pub mail : All MayBeSent w.mail.sent
   pub nodes : (place : ℕ) (node : Node) → slice_get w.nodes place ≡ Some node → IsOwnNode (suc place) node
 
-ended_fine : (me : ℕ) (e : Ending State) (s : HeldStores) (ns : List Note) → EndsIn (λ y out. LeadsAs me y.phase × AllMayGo me out) e → IsFineTaken me (taken_by e s ns)
+ended_fine : (me : ℕ) (e : Ending State) (s : HeldStores) (ns : List Note) → EndsIn (λ y out. IsOwn me y × AllMayGo me out) e → IsFineTaken me (taken_by e s ns)
 ended_fine me (Finished x out) s ns ends = record { node = ends.0; out = ends.1 }
 ended_fine me (Stopped error) s ns ends = record { node = tt; out = All-nil (MaySend me) }
 
-run_fine : (me : ℕ) (p : Plan State) (s : HeldStores) → Reaches (λ y out. LeadsAs me y.phase × AllMayGo me out) p → IsFineTaken me (taken_of (run_over p s))
+run_fine : (me : ℕ) (p : Plan State) (s : HeldStores) → Reaches (λ y out. IsOwn me y × AllMayGo me out) p → IsFineTaken me (taken_of (run_over p s))
 run_fine me p s reaches =
     let e : Ended State = run_over p s in
-    ended_fine me e.ending e.held.stores e.notes (run_reaches (λ y out. LeadsAs me y.phase × AllMayGo me out) p (held_with s []) [] reaches)
+    ended_fine me e.ending e.held.stores e.notes (run_reaches (λ y out. IsOwn me y × AllMayGo me out) p (held_with s []) [] reaches)
 
 -- all messages that a node sends in a step may be sent, and it sends as itself
 pub taken_fine : (me : ℕ) (event : Event) (node : Node) → IsPeer me → MayCome me event → IsOwnNode me node → IsFineTaken me (taken me event node)
 taken_fine me event (Up x s) peer come own = run_fine me (step_of me event x) s (steps_keep me event x peer come own)
 taken_fine me event (Down s) peer come own = record { node = tt; out = All-nil (MaySend me) }
 
--- a peer that starts leads nobody
-opened_reaches : (me : ℕ) (view : List ℕ) (kept : Option Fact) → Reaches (λ y out. LeadsAs me y.phase × AllMayGo me out) (opened view kept)
-opened_reaches me view None = λ a sound b kept. (tt, All-nil (MaySend me))
-opened_reaches me view (Some fact) = λ a sound. (tt, All-nil (MaySend me))
+-- a peer that starts leads nobody, and runs no sync
+opened_reaches : (me : ℕ) (view : List ℕ) (kept : Option Fact) → Reaches (λ y out. IsOwn me y × AllMayGo me out) (opened view kept)
+opened_reaches me view None = λ a sound b kept. ((tt, tt), All-nil (MaySend me))
+opened_reaches me view (Some fact) = λ a sound. ((tt, tt), All-nil (MaySend me))
 
 pub started_own : (me : ℕ) (view : List ℕ) (node : Node) → IsOwnNode me node → IsOwnNode me (started view node)
 started_own me view (Up x s) own = own
@@ -180,9 +180,10 @@ effect_fine peers (Change peer view) w few stand old = stepped_fine peer (events
 effect_fine peers (Stop peer) w few stand old = changed_fine peer stopped w (stand.first, omega (arith, few, stand.last)) (stopped_own peer) old
 effect_fine peers (Start peer) w few stand old = changed_fine peer (started w.view) w (stand.first, omega (arith, few, stand.last)) (started_own peer w.view) old
 effect_fine peers (Spoil peer key bytes) w few stand old = changed_fine peer (over_stores (spoiled key bytes)) w (stand.0.first, omega (arith, few, stand.0.last)) (over_stores_own (spoiled key bytes) peer) old
+effect_fine peers (Damage peer key bytes) w few stand old = changed_fine peer (over_stores (segment_spoiled key bytes)) w (stand.0.first, omega (arith, few, stand.0.last)) (over_stores_own (segment_spoiled key bytes) peer) old
+effect_fine peers (Inner peer level index bytes) w few stand old = changed_fine peer (over_stores (inner_spoiled level index bytes)) w (stand.0.first, omega (arith, few, stand.0.last)) (over_stores_own (inner_spoiled level index bytes) peer) old
 effect_fine peers (Revert peer changes) w few stand old = changed_fine peer (while_down (taken_back changes)) w (stand.0.first, omega (arith, few, stand.0.last)) (while_down_own (taken_back changes) peer) old
 effect_fine peers (Fail peer store survivor) w few stand old = changed_fine peer (over_stores (failing store (leaves_of survivor))) w (stand.first, omega (arith, few, stand.last)) (over_stores_own (failing store (leaves_of survivor)) peer) old
-effect_fine peers other w few stand old = old
 
 run_from_fine : (peers : ℕ) (events : List ScheduleEvent) (w : Run) → peers ≤ 31 → AllMayStand peers events → IsFine w → IsFine (run_from events w)
 run_from_fine peers [] w few stand old = old

@@ -7,10 +7,10 @@ use Rattle.peer_core.specs.declared.event.CallIn.{CallIn}
 use Rattle.peer_core.specs.declared.event.Event.TheVariants as events
 use Rattle.phase_rows.specs.Peers.{those}
 use Rattle.schedule_text.specs.declared.event.ScheduleEvent.{ScheduleEvent}
-use Rattle.schedule_text.specs.declared.event.ScheduleEvent.TheVariants.{Call, Tick, Deliver, Pass, Lose, Calm, CalmAmong, Change, Stop, Start, Spoil, Revert, Fail}
+use Rattle.schedule_text.specs.declared.event.ScheduleEvent.TheVariants.{Call, Tick, Deliver, Pass, Lose, Calm, CalmAmong, Change, Stop, Start, Spoil, Damage, Inner, Revert, Fail}
 use Rattle.world_spec.specs.Nodes.{started, stopped, over_stores, while_down}
 use Rattle.world_spec.specs.Runs.{Run, next_event, opening_run, stepped, changed, ticked, delivered, delivered_if, calmed}
-use Rattle.world_spec.specs.Stores.{failing, leaves_of, spoiled, taken_back}
+use Rattle.world_spec.specs.Stores.{failing, leaves_of, spoiled, segment_spoiled, inner_spoiled, taken_back}
 
 -- the set of these peers
 abbrev pub set_of : List ℕ → List Bool
@@ -32,8 +32,17 @@ client = 32
 abbrev pub call_of : ℕ → List ℕ → Command → CallIn
 call_of id key command = record { from = client; id = id; key = key; command = command }
 
+-- the effect of a line on the stores of a peer; a line that leaves all stores alone has none
+abbrev pub stores_effect : ScheduleEvent → Run → Run
+stores_effect (Spoil peer key bytes) w = changed peer (over_stores (spoiled key bytes)) w
+stores_effect (Damage peer key bytes) w = changed peer (over_stores (segment_spoiled key bytes)) w
+stores_effect (Inner peer level index bytes) w = changed peer (over_stores (inner_spoiled level index bytes)) w
+stores_effect (Revert peer changes) w = changed peer (while_down (taken_back changes)) w
+stores_effect (Fail peer store survivor) w = changed peer (over_stores (failing store (leaves_of survivor))) w
+stores_effect other w = w
+
 -- The effect of a line on the peers and the messages. A calm delivers at most as many messages as
--- are ever sent. The lines `damage` and `inner` are not supported yet and have none.
+-- are ever sent.
 abbrev pub effect : ScheduleEvent → Run → Run
 effect (Call peer id key command) w = stepped peer (events.Call (call_of id key command)) w
 effect (Tick peer ticks) w = ticked peer ticks w
@@ -45,10 +54,7 @@ effect (CalmAmong members) w = calmed (set_of members) most_messages w
 effect (Change peer view) w = stepped peer (events.Change view) w
 effect (Stop peer) w = changed peer stopped w
 effect (Start peer) w = changed peer (started w.view) w
-effect (Spoil peer key bytes) w = changed peer (over_stores (spoiled key bytes)) w
-effect (Revert peer changes) w = changed peer (while_down (taken_back changes)) w
-effect (Fail peer store survivor) w = changed peer (over_stores (failing store (leaves_of survivor))) w
-effect other w = w
+effect other w = stores_effect other w
 
 -- the key that a call line names
 abbrev pub keys_in : ScheduleEvent → List (List ℕ)

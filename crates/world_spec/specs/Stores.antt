@@ -1,15 +1,16 @@
 -- What the lines of a schedule do to the stores of a peer.
-use Rattle.std.specs.Prelude.{ℕ, List, Option, Some, None}
-use Rattle.ens_outside.specs.Maps.{Entries, with_value}
+use Rattle.std.specs.Prelude.{ℕ, List, Option}
 use Rattle.ens_outside.specs.declared.memory.failing_call.Leaves.{Leaves}
 use Rattle.ens_outside.specs.declared.memory.failing_call.Leaves.TheVariants as left
 use Rattle.held_stores.specs.Held.{HeldStores}
+use Rattle.node_faults.specs.Faults.{place_at, replaced, spoiled_node}
+use Rattle.node_faults.specs.Naming.{segment_place}
 use Rattle.schedule_text.specs.declared.keyword.StoreName.{StoreName}
 use Rattle.schedule_text.specs.declared.keyword.StoreName.TheVariants as names
 use Rattle.schedule_text.specs.declared.keyword.Survivor.{Survivor}
 use Rattle.schedule_text.specs.declared.keyword.Survivor.TheVariants as survivors
+use Rattle.tree_maps.specs.Sixteen.{sixteen}
 use Rattle.world_stores.specs.Faults.{awaiting}
-use Rattle.world_stores.specs.Maps.{without}
 use Rattle.world_stores.specs.Nodes.{Nodes, reverted}
 
 -- what a failed write leaves, as the line says
@@ -27,14 +28,17 @@ failing names.Fact leaves s = record s { facts = record s.facts { faults = await
 failing names.Tree leaves s = with_nodes (record s.tree.store { faults = awaiting leaves s.tree.store.faults }) s
 failing names.Backend leaves s = record s { backend = record s.backend { faults = awaiting leaves s.backend.faults } }
 
--- the map with these bytes under the key, or without the key
-abbrev pub replaced : List ℕ → Option (List ℕ) → Entries → Entries
-replaced key None es = without key es
-replaced key (Some bytes) es = with_value key bytes es
-
 -- the backend has these bytes under the key, or has lost the object
 abbrev pub spoiled : List ℕ → Option (List ℕ) → HeldStores → HeldStores
 spoiled key bytes s = record s { backend = record s.backend { entries = replaced key bytes s.backend.entries } }
+
+-- the segment of the key, as the stored nodes name it, has these bytes in place of its own, or is lost
+abbrev pub segment_spoiled : List ℕ → Option (List ℕ) → HeldStores → HeldStores
+segment_spoiled key bytes s = with_nodes (spoiled_node (segment_place sixteen key) bytes s.tree.store) s
+
+-- the same of the inner node at this level and index
+abbrev pub inner_spoiled : ℕ → ℕ → Option (List ℕ) → HeldStores → HeldStores
+inner_spoiled level index bytes s = with_nodes (spoiled_node (place_at level index) bytes s.tree.store) s
 
 -- the last n writes of the top record are taken back, but not the first write
 abbrev pub taken_back : ℕ → HeldStores → HeldStores

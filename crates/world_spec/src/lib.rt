@@ -6,8 +6,8 @@
 //! memory or the hasher refuses a string, so a step or a start of a peer is a function of its state,
 //! its stores and the event (`specs/Nodes`). A peer that a store stops is down, and a peer that is
 //! down keeps its stores until it starts again. The state of a world is in `specs/Runs`, the effect
-//! of each line in `specs/Lines`. The lines `damage` and `inner` are not supported yet and have no
-//! effect. `laws.rt` states what holds of every run.
+//! of each line in `specs/Lines`; node_faults says which node a line damages. `laws.rt` states what
+//! holds of every run.
 #![tactic(auto)]
 
 mod laws;

@@ -1,6 +1,9 @@
-use Rattle.std.proofs.Common.{ap, refl}
-use Rattle.world_model.proofs.Begins.{begins_by, begins_sent, begins_changed}
-use Rattle.world_model.proofs.Reached.{adds_reaches}
+use Rattle.std.proofs.Common.{ap, sym, refl}
+use Rattle.world_spec.specs.Lines.{effect, stores_effect}
+use Rattle.world_model.specs.Worlds.{run_of}
+use Rattle.world_model.proofs.Begins.{begins_sent, begins_changed}
+use Rattle.world_model.proofs.Reached.{adds_reaches, reaches_same}
+use Rattle.world_model.proofs.StoreLines.{stores_line}
 use Rattle.world_model.proofs.world.World.effect.Goals as goal
 
 pub returns-in-Lose-clause-begins : goal.returns-in-Lose-clause-begins
@@ -9,14 +12,7 @@ returns-in-Lose-clause-begins g c = begins_sent c.args.self.now _ (ap (λ m. m.s
 pub returns-in-Stop-clause-begins : goal.returns-in-Stop-clause-begins
 returns-in-Stop-clause-begins g c = begins_changed c.args.self.now _ _ _ c.stop.ensures
 
-pub returns-in-Revert-clause-begins : goal.returns-in-Revert-clause-begins
-returns-in-Revert-clause-begins g c = begins_changed c.args.self.now _ _ _ c.revert.ensures
-
-pub returns-in-Fail-clause-begins : goal.returns-in-Fail-clause-begins
-returns-in-Fail-clause-begins g c = begins_changed c.args.self.now _ _ _ c.fail_next.ensures
-
-pub returns-in-Damage-clause-begins : goal.returns-in-Damage-clause-begins
-returns-in-Damage-clause-begins g c = begins_by c.args.self.now c.args.self.now refl refl
-
-pub returns-in-Spoil-clause-reaches : goal.returns-in-Spoil-clause-reaches
-returns-in-Spoil-clause-reaches g c = rw c.in-Spoil.is (adds_reaches g.H.Hasher16.clashes g.H.Hasher16.fulls _ c.spoil.result _ c.spoil.ensures.reaches)
+pub returns-in_default-clause-reaches : goal.returns-in_default-clause-reaches
+returns-in_default-clause-reaches g c = reaches_same g.H.Hasher16.clashes g.H.Hasher16.fulls (stores_effect c.args.event.now (run_of c.args.self.now)) (effect c.args.event.now (run_of c.args.self.now)) c.effect_on_stores.result _
+    (sym (stores_line c.args.event.now (run_of c.args.self.now) c.in_default.not-Call c.in_default.not-Tick c.in_default.not-Deliver c.in_default.not-Pass c.in_default.not-Lose c.in_default.not-Calm c.in_default.not-CalmAmong c.in_default.not-Change c.in_default.not-Stop c.in_default.not-Start))
+    (adds_reaches g.H.Hasher16.clashes g.H.Hasher16.fulls _ c.effect_on_stores.result _ c.effect_on_stores.ensures.reaches)

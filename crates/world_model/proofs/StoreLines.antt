@@ -1,0 +1,49 @@
+-- The lines that change the stores of a peer, and the others.
+use Rattle.std.proofs.Common.{◌≡◌, ℕ, List, Option, refl}
+use Rattle.ens_base.specs.declared.command.Command.{Command}
+use Rattle.schedule_text.specs.declared.event.ScheduleEvent.{ScheduleEvent}
+use Rattle.schedule_text.specs.declared.event.ScheduleEvent.TheVariants.{Call, Tick, Deliver, Pass, Lose, Calm, CalmAmong, Change, Stop, Start, Spoil, Damage, Inner, Revert, Fail}
+use Rattle.schedule_text.specs.declared.keyword.StoreName.{StoreName}
+use Rattle.schedule_text.specs.declared.keyword.Survivor.{Survivor}
+use Rattle.world_spec.specs.Lines.{effect, stores_effect}
+use Rattle.world_spec.specs.Runs.{Run}
+
+-- a line that is none of these has its effect on stores alone
+pub stores_line : (event : ScheduleEvent) (w : Run)
+    → ((peer id : ℕ) (key : List ℕ) (command : Command) → event ≡ Call peer id key command → ⊥)
+    → ((peer ticks : ℕ) → event ≡ Tick peer ticks → ⊥)
+    → ((message : ℕ) → event ≡ Deliver message → ⊥)
+    → ((sender receiver : ℕ) → event ≡ Pass sender receiver → ⊥)
+    → ((sender receiver : ℕ) → event ≡ Lose sender receiver → ⊥)
+    → (event ≡ Calm → ⊥)
+    → ((members : List ℕ) → event ≡ CalmAmong members → ⊥)
+    → ((peer : ℕ) (view : List ℕ) → event ≡ Change peer view → ⊥)
+    → ((peer : ℕ) → event ≡ Stop peer → ⊥)
+    → ((peer : ℕ) → event ≡ Start peer → ⊥)
+    → effect event w ≡ stores_effect event w
+stores_line (Call peer id key command) w call tick deliver pass lose calm among change stop start = absurd (call peer id key command refl)
+stores_line (Tick peer ticks) w call tick deliver pass lose calm among change stop start = absurd (tick peer ticks refl)
+stores_line (Deliver message) w call tick deliver pass lose calm among change stop start = absurd (deliver message refl)
+stores_line (Pass sender receiver) w call tick deliver pass lose calm among change stop start = absurd (pass sender receiver refl)
+stores_line (Lose sender receiver) w call tick deliver pass lose calm among change stop start = absurd (lose sender receiver refl)
+stores_line Calm w call tick deliver pass lose calm among change stop start = absurd (calm refl)
+stores_line (CalmAmong members) w call tick deliver pass lose calm among change stop start = absurd (among members refl)
+stores_line (Change peer view) w call tick deliver pass lose calm among change stop start = absurd (change peer view refl)
+stores_line (Stop peer) w call tick deliver pass lose calm among change stop start = absurd (stop peer refl)
+stores_line (Start peer) w call tick deliver pass lose calm among change stop start = absurd (start peer refl)
+stores_line other w call tick deliver pass lose calm among change stop start = refl
+
+-- a line that is none of these leaves all stores alone
+pub other_line : (event : ScheduleEvent) (w : Run)
+    → ((peer : ℕ) (key : List ℕ) (bytes : Option (List ℕ)) → event ≡ Spoil peer key bytes → ⊥)
+    → ((peer : ℕ) (key : List ℕ) (bytes : Option (List ℕ)) → event ≡ Damage peer key bytes → ⊥)
+    → ((peer level index : ℕ) (bytes : Option (List ℕ)) → event ≡ Inner peer level index bytes → ⊥)
+    → ((peer changes : ℕ) → event ≡ Revert peer changes → ⊥)
+    → ((peer : ℕ) (store : StoreName) (survivor : Survivor) → event ≡ Fail peer store survivor → ⊥)
+    → stores_effect event w ≡ w
+other_line (Spoil peer key bytes) w spoil damage inner revert fail = absurd (spoil peer key bytes refl)
+other_line (Damage peer key bytes) w spoil damage inner revert fail = absurd (damage peer key bytes refl)
+other_line (Inner peer level index bytes) w spoil damage inner revert fail = absurd (inner peer level index bytes refl)
+other_line (Revert peer changes) w spoil damage inner revert fail = absurd (revert peer changes refl)
+other_line (Fail peer store survivor) w spoil damage inner revert fail = absurd (fail peer store survivor refl)
+other_line other w spoil damage inner revert fail = refl
