@@ -28,11 +28,11 @@ const fn bad(lines: &'static str, text: &'static str) -> Case {
     }
 }
 
-const fn unbuilt(lines: &'static str) -> Case {
+const fn unsound(lines: &'static str, text: &'static str) -> Case {
     Case {
         lines,
-        text: "unbuilt\n",
-        status: Status::Unbuilt,
+        text,
+        status: Status::Premise,
     }
 }
 
@@ -78,7 +78,8 @@ fn schedules_print_their_text(rt: HostRuntime) -> Result<(), Fail> {
             "answer 1 1 unavailable\nhistory 6b\n",
         ),
         done("stop 1\n", ""),
-        unbuilt("start 1\n"),
+        done("start 1\n", ""),
+        unsound("stop 1\nrevert 1 1\n", "premise 1 reverted 1\n"),
     ];
     for case in cases {
         let schedule = format!(in alloc; "ensemble 1\npeers 1\nview 1\n{}", case.lines)?;

@@ -1,10 +1,12 @@
 -- The events that are run have the same calls as their schedule.
-use Rattle.std.proofs.Common.{◌≡◌, ℕ, ◌==◌, Bool, true, false, List, [], ◌∷◌, Option, None, Some, refl, sym, ap, subst, ◌∙◌}
+use Rattle.std.proofs.Common.{◌≡◌, ℕ, ◌==◌, Bool, true, false, List, [], ◌∷◌, Option, None, Some, refl, sym, ap, subst, ◌∙◌, inl, inr}
 use Rattle.std.specs.Prelude.{if◌then◌else◌, ◌&&◌}
 use Rattle.std.specs.List.{list_all}
 use Rattle.std.proofs.lemmas.Bool.{false≢true}
-use Rattle.ens_base.specs.Lists.{AreDistinct}
+use Rattle.ens_base.specs.Lists.{◌∈◌, AreDistinct}
 use Rattle.ens_base.specs.declared.command.Command.TheVariants as does
+use Rattle.schedule_premise.specs.Premise.{first_unsound}
+use Rattle.schedule_premise.proofs.Soundness.{unreverted_is_none}
 use Rattle.schedule_text.specs.Spelling as schedule
 use Rattle.schedule_text.specs.declared.event.ScheduleEvent.{ScheduleEvent}
 use Rattle.schedule_text.specs.declared.event.ScheduleEvent.TheVariants as line
@@ -15,7 +17,6 @@ use Rattle.replay.specs.declared.event.Event.TheVariants.{Tick, Read, Write}
 use Rattle.replay.specs.Events.{call_ids}
 use Rattle.replay.specs.Form.{form_event, form_events, form_of, before, is_machine, is_machine_line}
 use Rattle.replay.specs.Jobs.{EndsSo, IsMachineText, IsRunText, IsWorldText}
-use Rattle.replay.specs.Worlds.{runs_in_world}
 
 behind : (e : Event) (o : Option (List Event)) (es : List Event) → before (Some e) o ≡ Some es → (rest : List Event) × (o ≡ Some rest) × (es ≡ e ∷ rest)
 behind e None es h = absurd cc
@@ -69,12 +70,23 @@ form_stands s h none = stands (s.peers == 1) h none where
   stands true h none = events_stand s.events h none
   stands false h none = cc
 
+-- the machine has no line that reverts a peer
+reverts_none : (lines : List ScheduleEvent) (peer changes : ℕ) → list_all is_machine_line lines ≡ true → line.Revert peer changes ∈ lines → ⊥
+reverts_none [] peer changes all at = absurd at
+reverts_none (l ∷ ls) peer changes all (inl same) =
+    let tests = both (is_machine_line l) (list_all is_machine_line ls) all in
+    false≢true (ap is_machine_line same ∙ tests.0)
+reverts_none (l ∷ ls) peer changes all (inr at) = reverts_none ls peer changes (both (is_machine_line l) (list_all is_machine_line ls) all).1 at
+
+pub machine_sound : (s : Schedule) → schedule.IsSchedule s → is_machine s ≡ true → first_unsound s ≡ None
+machine_sound s of form = unreverted_is_none s of (λ p reverted. reverts_none s.events p reverted.0 (both (s.peers == 1) (list_all is_machine_line s.events) form).1 reverted.1)
+
 -- what the machine's run of a schedule prints
-pub machine_done : (s : Schedule) (text : List ℕ) → schedule.IsSchedule s → is_machine s ≡ true → IsMachineText s text → EndsSo s Status.Done text
-machine_done s text of form ran None read = tt
-machine_done s text of form ran (Some bytes) read = let P : Bool → Type 0 = λ b. IsRunText b s text in (s, read, of, subst P (sym form) ran)
+pub machine_done : (s : Schedule) (text : List ℕ) → schedule.IsSchedule s → first_unsound s ≡ None → is_machine s ≡ true → IsMachineText s text → EndsSo s Status.Done text
+machine_done s text of sound form ran None read = tt
+machine_done s text of sound form ran (Some bytes) read = let P : Bool → Type 0 = λ b. IsRunText b s text in (s, read, of, sound, subst P (sym form) ran)
 
 -- what the run of a schedule in a world prints
-pub world_done : (s : Schedule) (text : List ℕ) → schedule.IsSchedule s → is_machine s ≡ false → runs_in_world s ≡ true → IsWorldText s text → EndsSo s Status.Done text
-world_done s text of form runs ran None read = tt
-world_done s text of form runs ran (Some bytes) read = let P : Bool → Type 0 = λ b. IsRunText b s text in (s, read, of, subst P (sym form) (runs, ran))
+pub world_done : (s : Schedule) (text : List ℕ) → schedule.IsSchedule s → first_unsound s ≡ None → is_machine s ≡ false → IsWorldText s text → EndsSo s Status.Done text
+world_done s text of sound form ran None read = tt
+world_done s text of sound form ran (Some bytes) read = let P : Bool → Type 0 = λ b. IsRunText b s text in (s, read, of, sound, subst P (sym form) ran)

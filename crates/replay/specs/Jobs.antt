@@ -1,5 +1,6 @@
 -- What a job prints, and why it ends as it does.
-use Rattle.std.specs.Prelude.{◌≡◌, ◌⊎◌, ℕ, Bool, true, false, List, [], ◌∷◌, ◌++◌, codes, Option, Some, Ok, IfSome}
+use Rattle.std.specs.Prelude.{◌≡◌, ◌⊎◌, ℕ, Bool, true, false, List, [], ◌∷◌, ◌++◌, codes, Option, None, Some, Ok, IfSome}
+use Rattle.schedule_premise.specs.Premise.{first_unsound}
 use Rattle.schedule_text.specs.Reading.{schedule_of}
 use Rattle.schedule_text.specs.Spelling.{IsSchedule}
 use Rattle.schedule_text.specs.declared.schedule.Schedule.{Schedule}
@@ -7,14 +8,14 @@ use Rattle.ens_base.specs.Lists.{◌∈◌}
 use Rattle.ens_base.specs.declared.status.Status.{Status}
 use Rattle.register_model.specs.Histories.{IsLegal}
 use Rattle.register_model.specs.declared.history.History.{History}
-use Rattle.schedule_input.specs.Endings.{IsBadLine, IsLineLimit}
+use Rattle.schedule_input.specs.Endings.{IsBadLine, IsLineLimit, IsUnsound}
 use Rattle.replay.specs.declared.event.Event.{Event}
 use Rattle.replay.specs.Events.{calls_from}
 use Rattle.replay.specs.Form.{form_of, is_machine}
 use Rattle.replay.specs.Machine.{start, answers_from}
 use Rattle.replay.specs.Histories.{AreHistories}
 use Rattle.replay.specs.Text.{text_of, IsTextOfRun}
-use Rattle.replay.specs.Worlds.{runs_in_world, schedule_run}
+use Rattle.replay.specs.Worlds.{schedule_run}
 use Rattle.world_spec.specs.Messages.{IsPastMessages, IsWithinMessages}
 
 -- every history is legal for its key, for these calls and answers
@@ -35,19 +36,15 @@ IsWorldText s text = IsWithinMessages (schedule_run s) × IsTextOfRun (schedule_
 -- world prints
 abbrev pub IsRunText : Bool → Schedule → List ℕ → Type 0
 IsRunText true s text = IsMachineText s text
-IsRunText false s text = (runs_in_world s ≡ true) × IsWorldText s text
+IsRunText false s text = IsWorldText s text
 
--- the bytes are a schedule, and the text is that of its run
+-- the bytes are a sound schedule, and the text is that of its run
 abbrev pub IsReplay : List ℕ → List ℕ → Type 0
-IsReplay bytes text = (s : Schedule) × (schedule_of bytes ≡ Ok s) × IsSchedule s × IsRunText (is_machine s) s text
+IsReplay bytes text = (s : Schedule) × (schedule_of bytes ≡ Ok s) × IsSchedule s × (first_unsound s ≡ None) × IsRunText (is_machine s) s text
 
--- the bytes are a schedule that runs in a world, and its run exceeds the limit on messages
+-- the bytes are a sound schedule that runs in a world, and its run exceeds the limit on messages
 abbrev pub IsPastLimit : List ℕ → Type 0
-IsPastLimit bytes = (s : Schedule) × (schedule_of bytes ≡ Ok s) × (is_machine s ≡ false) × (runs_in_world s ≡ true) × IsPastMessages (schedule_run s)
-
--- the bytes are a schedule that runs neither on the machine nor in a world
-abbrev pub IsUnbuilt : List ℕ → Type 0
-IsUnbuilt bytes = (s : Schedule) × (schedule_of bytes ≡ Ok s) × (is_machine s ≡ false) × (runs_in_world s ≡ false)
+IsPastLimit bytes = (s : Schedule) × (schedule_of bytes ≡ Ok s) × (first_unsound s ≡ None) × (is_machine s ≡ false) × IsPastMessages (schedule_run s)
 
 -- message 500,001 would be sent, and the text reports it
 abbrev pub IsMessageLimit : Option (List ℕ) → List ℕ → Type 0
@@ -58,8 +55,8 @@ IsMessageLimit source text = IfSome source IsPastLimit × (text ≡ codes "limit
 abbrev pub Prints : Option (List ℕ) → Status → List ℕ → Type 0
 Prints source Status.Done text = IfSome source (λ bytes. IsReplay bytes text)
 Prints source Status.Schedule text = IsBadLine source text
+Prints source Status.Premise text = IsUnsound source text
 Prints source Status.Limit text = IsLineLimit source text ⊎ IsMessageLimit source text
-Prints source Status.Unbuilt text = IfSome source IsUnbuilt × (text ≡ codes "unbuilt" ++ 10 ∷ [])
 Prints source Status.ReadFault text = text ≡ codes "read fault" ++ 10 ∷ []
 Prints source Status.Memory text = text ≡ codes "memory" ++ 10 ∷ []
 Prints source status text = ⊥

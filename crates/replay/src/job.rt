@@ -3,15 +3,15 @@ ghost use Rattle.std.specs.Io.KnownBytes.{Appends, IsAtEnd};
 ghost use Rattle.ens_base.specs.Causes.{Rose};
 ghost use Rattle.ens_base.specs.declared.status.Status.{Status};
 ghost use Rattle.ens_outside.specs.Written.{AppendsFront};
+ghost use Rattle.schedule_premise.specs.Premise.{first_unsound};
 ghost use Rattle.schedule_text.specs.Spelling.{IsSchedule};
 ghost use Rattle.replay.specs.Form.{form_of, is_machine as has_machine_form};
 ghost use Rattle.replay.specs.Jobs.{EndsSo, IsMachineText, Prints};
-ghost use Rattle.replay.specs.Worlds.{runs_in_world as runs_all_in_world};
 
 use crate::form::{form_of, is_machine};
 use crate::run::run;
 use crate::text::write_text;
-use crate::worlds::{runs_in_world, world_text};
+use crate::worlds::world_text;
 use ens_base::Status;
 use ens_outside::{Sink, Source, finish};
 use schedule_input::{Ending, read_schedule};
@@ -32,8 +32,8 @@ fn machine_text(alloc: Global, schedule: Schedule) -> Result<Option<String>, All
 /// Runs a schedule in a world. Ends with `limit` if it would send too many messages.
 fn world_ending(alloc: Global, schedule: &Schedule) -> Result<Ending, AllocError>
     requires valid { IsSchedule schedule.now }
-    requires machine { has_machine_form schedule.now ≡ false }
-    requires world { runs_all_in_world schedule.now ≡ true }
+    requires sound { first_unsound schedule.now ≡ None }
+    requires form { has_machine_form schedule.now ≡ false }
     ensures ends { IfOk result (λ e. EndsSo schedule.now e.status (string_bytes e.text)) }
     ensures status { IfOk result (λ e. e.status ≢ Status.ReadFault) }
 {
@@ -49,6 +49,7 @@ fn world_ending(alloc: Global, schedule: &Schedule) -> Result<Ending, AllocError
 /// Runs a schedule on the machine.
 fn machine_ending(alloc: Global, schedule: Schedule) -> Result<Ending, AllocError>
     requires valid { IsSchedule schedule }
+    requires sound { first_unsound schedule ≡ None }
     requires form { has_machine_form schedule ≡ true }
     ensures ends { IfOk result (λ e. EndsSo schedule e.status (string_bytes e.text)) }
     ensures status { IfOk result (λ e. e.status ≢ Status.ReadFault) }
@@ -62,19 +63,30 @@ fn machine_ending(alloc: Global, schedule: Schedule) -> Result<Ending, AllocErro
     }
 }
 
-/// Runs a schedule, and returns how the job ends: with `unbuilt` if it has a form that cannot be run
-/// yet.
-fn run_ending(alloc: Global, schedule: Schedule) -> Result<Ending, AllocError>
-    requires { IsSchedule schedule }
+/// Runs a sound schedule: on the machine if it has its form, and otherwise in a world.
+fn sound_ending(alloc: Global, schedule: Schedule) -> Result<Ending, AllocError>
+    requires valid { IsSchedule schedule }
+    requires sound { first_unsound schedule ≡ None }
     ensures ends { IfOk result (λ e. EndsSo schedule e.status (string_bytes e.text)) }
     ensures status { IfOk result (λ e. e.status ≢ Status.ReadFault) }
 {
     if is_machine(&schedule) {
         machine_ending(alloc, schedule)
-    } else if runs_in_world(&schedule) {
-        world_ending(alloc, &schedule)
     } else {
-        Ending::new(alloc, Status::Unbuilt, "unbuilt\n")
+        world_ending(alloc, &schedule)
+    }
+}
+
+/// Returns how the job ends that read this schedule: with the first view that fails the premise if
+/// there is one, and otherwise with its run.
+fn run_ending(alloc: Global, schedule: Schedule) -> Result<Ending, AllocError>
+    requires { IsSchedule schedule }
+    ensures ends { IfOk result (λ e. EndsSo schedule e.status (string_bytes e.text)) }
+    ensures status { IfOk result (λ e. e.status ≢ Status.ReadFault) }
+{
+    match Ending::unsound(alloc, &schedule)? {
+        Some(ending) => Ok(ending),
+        None => sound_ending(alloc, schedule),
     }
 }
 
@@ -96,9 +108,9 @@ fn replay_ending<S: Source>(alloc: Global, input: &mut S) -> Result<Ending, Allo
 ///
 /// A job that ends in any other way writes one line: `read fault` if the input failed, `schedule
 /// LINE CAUSE` if the input is not a schedule, `limit lines 200000` if it has too many lines,
-/// `limit messages 500000` if its run would send more messages, `unbuilt` if it is a schedule of a
-/// form that cannot be run yet, and `memory` when out of memory. If the output fails, a prefix of
-/// the text was written.
+/// `premise VIEW reverted MEMBERS` if at least half of the members of a view are reverted, `limit
+/// messages 500000` if its run would send more messages, and `memory` when out of memory. If the
+/// output fails, a prefix of the text was written.
 pub fn replay<S: Source, O: Sink>(alloc: Global, input: &mut S, output: &mut O) -> Status
     ensures printed { result ≢ Status.WriteFault → (text : List ℕ) × Prints (S.left input.old) result text × Appends (O.written output.old) (O.written output.new) text }
     ensures front { result ≡ Status.WriteFault → (status : Status) × (text : List ℕ) × Prints (S.left input.old) status text × AppendsFront (O.written output.old) (O.written output.new) text }

@@ -1,9 +1,8 @@
 //! The job `replay`: reads a schedule, runs it, and prints the answers and a history for each key.
 //!
-//! A schedule runs in a world with all its peers (world_model) if its lines are calls, ticks, stops,
-//! deliveries and losses of messages, and stores that fail or objects that change in them. A schedule
-//! of one peer whose calls are gets and overwrites, and which has no other lines than calls and ticks,
-//! runs on a machine of its own. Every other schedule ends as `unbuilt`. The contract of `replay` says
+//! A schedule runs in a world with all its peers (world_model), unless it reverts half of a view
+//! (schedule_premise). A schedule of one peer whose calls are gets and overwrites, and which has no
+//! other lines than calls and ticks, runs on a machine of its own. The contract of `replay` says
 //! what is printed for each status (`specs/Jobs`): for a world, what its run prints, and the histories
 //! that follow from the notes of its leaders (`specs/Text`); for the machine, its answers
 //! (`specs/Machine`), and histories that are legal for their keys by the definition of register_model.
@@ -13,6 +12,7 @@ mod event;
 mod form;
 mod job;
 mod keys;
+mod laws;
 mod run;
 mod runner;
 mod text;
@@ -20,4 +20,4 @@ mod worlds;
 
 pub use event::Event;
 pub use job::replay;
-pub use worlds::runs_in_world;
+pub use laws::machines_are_sound;

@@ -1,8 +1,11 @@
--- What a job prints if it read no schedule.
-use Rattle.std.specs.Prelude.{◌≡◌, ℕ, List, [], ◌∷◌, ◌++◌, codes, Option, Err, IfSome}
+-- What a job prints if it read no schedule, or one that fails the premise on reverted trees.
+use Rattle.std.specs.Prelude.{◌≡◌, ℕ, List, [], ◌∷◌, ◌++◌, codes, Option, Some, Ok, Err, IfSome}
 use Rattle.std.specs.Fmt.{decimal}
+use Rattle.schedule_premise.specs.Premise.{first_unsound, is_reverted}
+use Rattle.schedule_premise.specs.Text.{premise_line}
 use Rattle.schedule_text.specs.Reading.{schedule_of}
 use Rattle.schedule_text.specs.declared.error.ScheduleError.TheVariants as schedule
+use Rattle.schedule_text.specs.declared.schedule.Schedule.{Schedule}
 use Rattle.ens_base.specs.declared.status.Status.{Status}
 
 -- the text that reports the first bad line
@@ -23,3 +26,11 @@ IsUnread source Status.Schedule text = IsBadLine source text
 IsUnread source Status.Limit text = IsLineLimit source text
 IsUnread source Status.ReadFault text = text ≡ codes "read fault" ++ 10 ∷ []
 IsUnread source status text = ⊥
+
+-- the text reports the first view that fails the premise of the schedule
+abbrev pub IsPremiseText : Schedule → List ℕ → Type 0
+IsPremiseText s text = (view : List ℕ) × (first_unsound s ≡ Some view) × (text ≡ premise_line (is_reverted s.events) view)
+
+-- the bytes are a schedule that fails the premise, and the text reports its first such view
+abbrev pub IsUnsound : Option (List ℕ) → List ℕ → Type 0
+IsUnsound source text = (s : Schedule) × IfSome source (λ bytes. schedule_of bytes ≡ Ok s) × IsPremiseText s text

@@ -1,11 +1,15 @@
-ghost use Rattle.std.specs.Prelude.{◌≡◌, ◌≢◌, ℕ, List, Option, IfOk, string_bytes};
+ghost use Rattle.std.specs.Prelude.{◌≡◌, ◌≢◌, ℕ, List, Option, None, IfOk, MatchOption, string_bytes};
 ghost use Rattle.ens_base.specs.declared.status.Status.{Status};
+ghost use Rattle.schedule_premise.specs.Premise.{first_unsound};
 ghost use Rattle.schedule_text.specs.Progress.{Blank};
-ghost use Rattle.schedule_input.specs.Endings.{IsUnread};
+ghost use Rattle.schedule_text.specs.Spelling.{IsSchedule};
+ghost use Rattle.schedule_input.specs.Endings.{IsPremiseText, IsUnread};
 ghost use Rattle.schedule_input.specs.Reading.{Refuses};
 
 use crate::read::ReadError;
 use ens_base::Status;
+use schedule_premise::{premise, write_premise};
+use schedule_text::Schedule;
 use std::alloc::{AllocError, Global};
 
 /// The end of a job: its status, and the text that it prints.
@@ -40,6 +44,21 @@ impl Ending {
             }),
             ReadError::Lines => Ending::new(alloc, Status::Limit, "limit lines 200000\n"),
             ReadError::Memory => Err(AllocError),
+        }
+    }
+
+    /// Returns the ending of a job whose schedule fails the premise on reverted trees: the line that
+    /// reports the first such view. Returns `None` for a sound schedule.
+    pub fn unsound(alloc: Global, schedule: &Schedule) -> Result<Option<Ending>, AllocError>
+        requires { IsSchedule schedule.now }
+        ensures { IfOk result (λ o. MatchOption o (first_unsound schedule.now ≡ None) (λ e. (e.status ≡ Status.Premise) × IsPremiseText schedule.now (string_bytes e.text))) }
+    {
+        match premise(schedule) {
+            Some(unsound) => Ok(Some(Ending {
+                status: Status::Premise,
+                text: write_premise(alloc, &unsound)?,
+            })),
+            None => Ok(None),
         }
     }
 }

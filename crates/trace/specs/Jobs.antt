@@ -1,25 +1,22 @@
 -- What a trace prints, and why it ends as it does.
-use Rattle.std.specs.Prelude.{◌≡◌, ◌⊎◌, ℕ, true, false, List, [], ◌∷◌, ◌++◌, codes, Option, Ok, IfSome}
+use Rattle.std.specs.Prelude.{◌≡◌, ◌⊎◌, ℕ, List, [], ◌∷◌, ◌++◌, codes, Option, None, Ok, IfSome}
 use Rattle.ens_base.specs.declared.status.Status.{Status}
-use Rattle.replay.specs.Worlds.{runs_in_world, schedule_run}
-use Rattle.schedule_input.specs.Endings.{IsBadLine, IsLineLimit}
+use Rattle.replay.specs.Worlds.{schedule_run}
+use Rattle.schedule_input.specs.Endings.{IsBadLine, IsLineLimit, IsUnsound}
+use Rattle.schedule_premise.specs.Premise.{first_unsound}
 use Rattle.schedule_text.specs.Reading.{schedule_of}
 use Rattle.schedule_text.specs.declared.schedule.Schedule.{Schedule}
 use Rattle.world_spec.specs.Messages.{IsPastMessages, IsWithinMessages}
 use Rattle.trace.specs.Text.{trace_text}
 
--- the bytes are a schedule that runs in a world, its run stays within the limit on messages, and
--- the text is the list of these messages
+-- the bytes are a sound schedule, its run stays within the limit on messages, and the text is the
+-- list of these messages
 abbrev pub IsTrace : List ℕ → List ℕ → Type 0
-IsTrace bytes text = (s : Schedule) × (schedule_of bytes ≡ Ok s) × (runs_in_world s ≡ true) × IsWithinMessages (schedule_run s) × (text ≡ trace_text (schedule_run s).mail.sent)
+IsTrace bytes text = (s : Schedule) × (schedule_of bytes ≡ Ok s) × (first_unsound s ≡ None) × IsWithinMessages (schedule_run s) × (text ≡ trace_text (schedule_run s).mail.sent)
 
--- the bytes are a schedule that runs in a world, and its run exceeds the limit on messages
+-- the bytes are a sound schedule, and its run exceeds the limit on messages
 abbrev pub IsPastLimit : List ℕ → Type 0
-IsPastLimit bytes = (s : Schedule) × (schedule_of bytes ≡ Ok s) × (runs_in_world s ≡ true) × IsPastMessages (schedule_run s)
-
--- the bytes are a schedule with another line
-abbrev pub IsUnbuilt : List ℕ → Type 0
-IsUnbuilt bytes = (s : Schedule) × (schedule_of bytes ≡ Ok s) × (runs_in_world s ≡ false)
+IsPastLimit bytes = (s : Schedule) × (schedule_of bytes ≡ Ok s) × (first_unsound s ≡ None) × IsPastMessages (schedule_run s)
 
 -- message 500,001 would be sent, and the text reports it
 abbrev pub IsMessageLimit : Option (List ℕ) → List ℕ → Type 0
@@ -30,8 +27,8 @@ IsMessageLimit source text = IfSome source IsPastLimit × (text ≡ codes "limit
 abbrev pub Traces : Option (List ℕ) → Status → List ℕ → Type 0
 Traces source Status.Done text = IfSome source (λ bytes. IsTrace bytes text)
 Traces source Status.Schedule text = IsBadLine source text
+Traces source Status.Premise text = IsUnsound source text
 Traces source Status.Limit text = IsLineLimit source text ⊎ IsMessageLimit source text
-Traces source Status.Unbuilt text = IfSome source IsUnbuilt × (text ≡ codes "unbuilt" ++ 10 ∷ [])
 Traces source Status.ReadFault text = text ≡ codes "read fault" ++ 10 ∷ []
 Traces source Status.Memory text = text ≡ codes "memory" ++ 10 ∷ []
 Traces source status text = ⊥

@@ -1,10 +1,11 @@
-ghost use Rattle.std.specs.Prelude.{◌≡◌, ◌≢◌, ℕ, List, Option, Ok, IfOk, IfSome, MatchOption, string_bytes};
+ghost use Rattle.std.specs.Prelude.{◌≡◌, ◌≢◌, ℕ, List, Option, Ok, IfOk, IfSome, MatchOption, None, string_bytes};
 ghost use Rattle.std.specs.Io.KnownBytes.{Appends, IsAtEnd};
 ghost use Rattle.ens_base.specs.Causes.{Rose};
 ghost use Rattle.ens_base.specs.declared.status.Status.{Status};
 ghost use Rattle.ens_outside.specs.Written.{AppendsFront};
 ghost use Rattle.replay.specs.Worlds.{schedule_run};
 ghost use Rattle.world_spec.specs.Messages.{IsPastMessages, IsWithinMessages};
+ghost use Rattle.schedule_premise.specs.Premise.{first_unsound};
 ghost use Rattle.schedule_text.specs.Reading.{schedule_of};
 ghost use Rattle.schedule_text.specs.Spelling.{IsSchedule};
 ghost use Rattle.trace.specs.Jobs.{Traces};
@@ -14,7 +15,6 @@ use crate::text::write_trace;
 use ens_base::Status;
 use ens_hashing::PlainHasher;
 use ens_outside::{Sink, Source, finish};
-use replay::runs_in_world;
 use schedule_input::{Ending, read_schedule};
 use schedule_text::Schedule;
 use std::alloc::{AllocError, Global};
@@ -35,21 +35,31 @@ fn run_text(alloc: Global, schedule: &Schedule) -> Result<Option<String>, AllocE
     }
 }
 
-/// Returns the ending with the messages of a schedule, or with the reason why there are none.
-fn run_ending(alloc: Global, schedule: &Schedule) -> Result<Ending, AllocError>
-    requires { IsSchedule schedule.now }
+/// Returns the ending with the messages of a sound schedule, or with the limit that its run exceeds.
+fn sound_ending(alloc: Global, schedule: &Schedule) -> Result<Ending, AllocError>
+    requires valid { IsSchedule schedule.now }
+    requires sound { first_unsound schedule.now ≡ None }
     ensures printed { IfOk result (λ e. (source : Option (List ℕ)) → IfSome source (λ bytes. schedule_of bytes ≡ Ok schedule.now) → Traces source e.status (string_bytes e.text)) }
     ensures status { IfOk result (λ e. e.status ≢ Status.ReadFault) }
 {
-    if !runs_in_world(schedule) {
-        return Ending::new(alloc, Status::Unbuilt, "unbuilt\n");
-    }
     match run_text(alloc, schedule)? {
         Some(text) => Ok(Ending {
             status: Status::Done,
             text,
         }),
         None => Ending::new(alloc, Status::Limit, "limit messages 500000\n"),
+    }
+}
+
+/// Returns the ending with the messages of a schedule, or with the reason why there are none.
+fn run_ending(alloc: Global, schedule: &Schedule) -> Result<Ending, AllocError>
+    requires { IsSchedule schedule.now }
+    ensures printed { IfOk result (λ e. (source : Option (List ℕ)) → IfSome source (λ bytes. schedule_of bytes ≡ Ok schedule.now) → Traces source e.status (string_bytes e.text)) }
+    ensures status { IfOk result (λ e. e.status ≢ Status.ReadFault) }
+{
+    match Ending::unsound(alloc, schedule)? {
+        Some(ending) => Ok(ending),
+        None => sound_ending(alloc, schedule),
     }
 }
 
@@ -72,9 +82,9 @@ fn trace_ending<S: Source>(alloc: Global, input: &mut S) -> Result<Ending, Alloc
 ///
 /// A trace that ends in any other way writes one line: `read fault` if the input failed, `schedule
 /// LINE CAUSE` if the input is not a schedule, `limit lines 200000` if it has too many lines,
-/// `limit messages 500000` if its run would send more messages, `unbuilt` if it has a line that
-/// cannot be run yet, and `memory` when out of memory. If the output fails, a prefix of the text
-/// was written.
+/// `premise VIEW reverted MEMBERS` if at least half of the members of a view are reverted, `limit
+/// messages 500000` if its run would send more messages, and `memory` when out of memory. If the
+/// output fails, a prefix of the text was written.
 pub fn trace<S: Source, O: Sink>(alloc: Global, input: &mut S, output: &mut O) -> Status
     ensures printed { result ≢ Status.WriteFault → (text : List ℕ) × Traces (S.left input.old) result text × Appends (O.written output.old) (O.written output.new) text }
     ensures front { result ≡ Status.WriteFault → (status : Status) × (text : List ℕ) × Traces (S.left input.old) status text × AppendsFront (O.written output.old) (O.written output.new) text }

@@ -16,7 +16,14 @@ fn each_status_has_its_case(rt: HostRuntime) -> Result<(), Fail> {
         ("tick 1 6\n", 0, Status::Done, PROBES),
         // A message is told also when it waits no more.
         ("tick 1 6\nlose 1 2\n", 0, Status::Done, PROBES),
-        ("tick 1 6\nstart 1\n", 0, Status::Unbuilt, "unbuilt\n"),
+        // A peer that runs is not started again.
+        ("tick 1 6\nstart 1\n", 0, Status::Done, PROBES),
+        (
+            "revert 1 1\nrevert 2 1\n",
+            0,
+            Status::Premise,
+            "premise 1 2 3 reverted 1 2\n",
+        ),
         ("tick 4 1\n", 0, Status::Schedule, "schedule 4 8\n"),
         ("tick 1 6\n", 1, Status::ReadFault, "read fault\n"),
     ];

@@ -1,0 +1,123 @@
+-- What the search for a failing view says of a schedule.
+use Rattle.std.proofs.Common.{◌≡◌, ℕ, Bool, true, false, not, None, Some, List, [], ◌∷◌, refl, sym, ap, subst, ◌∙◌, inl, inr, arith}
+use Rattle.std.specs.Prelude.{◌↔◌, find}
+use Rattle.std.proofs.lemmas.Bool.{true≢false, false≢true}
+use Rattle.ens_base.specs.Lists.{◌∈◌}
+use Rattle.ens_base.specs.PeerSet.{holds}
+use Rattle.ens_base.specs.View.{IsView}
+use Rattle.joint_views.specs.Quorums.{is_majority, is_quorum, Meet}
+use Rattle.joint_views.proofs.Majorities.{majority_more, meet_of_majorities, quorum_of_all}
+use Rattle.schedule_text.specs.Spelling.{IsSchedule}
+use Rattle.schedule_text.specs.declared.schedule.Schedule.{Schedule}
+use Rattle.schedule_premise.specs.Premise.{fails, first_unsound, is_reverted, keeps_majority, views_named}
+use Rattle.schedule_premise.specs.Sound.{FailsFirst, HasKept, IsNamed, IsReverted, IsSound, KeepsMajority}
+use Rattle.schedule_premise.proofs.Lines.{asked_by, by_change, by_revert, reverted_by, view_stands}
+use Rattle.schedule_premise.proofs.Searches.{FoundAt, finds_none, found_at, found_first, none_passes}
+
+not_true : (b : Bool) → not b ≡ true → b ≡ true → ⊥
+not_true true h e = false≢true h
+not_true false h e = false≢true e
+
+not_false : (b : Bool) → not b ≡ false → b ≡ true
+not_false true h = refl
+not_false false h = absurd (true≢false h)
+
+not_of_true : (b : Bool) → b ≡ true → not b ≡ false
+not_of_true true h = refl
+not_of_true false h = absurd (false≢true h)
+
+true_of_not : (b : Bool) → (b ≡ true → ⊥) → not b ≡ true
+true_of_not true h = absurd (h refl)
+true_of_not false h = refl
+
+module _ (s : Schedule) where
+  kept : ℕ → Bool
+  kept p = not (is_reverted s.events p)
+
+  kept_not : (p : ℕ) → not (is_reverted s.events p) ≡ true → ¬ IsReverted s p
+  kept_not p h r = not_true (is_reverted s.events p) h (by_revert p r.0 s.events r.1)
+
+  -- ## One view
+
+  keeps : (view : List ℕ) → fails (is_reverted s.events) view ≡ false → KeepsMajority s view
+  keeps view h = record { peers = λ p. not (is_reverted s.events p); majority = not_false (keeps_majority (is_reverted s.events) view) h; kept = kept_not }
+
+  kept_holds : (view : List ℕ) → KeepsMajority s view → keeps_majority (is_reverted s.events) view ≡ true
+  kept_holds view k = majority_more k.peers (λ p. not (is_reverted s.events p)) (λ p inside. true_of_not (is_reverted s.events p) (λ r. k.kept p inside (reverted_by p s.events r))) view k.majority
+
+  passes : (view : List ℕ) → KeepsMajority s view → fails (is_reverted s.events) view ≡ false
+  passes view k = not_of_true (keeps_majority (is_reverted s.events) view) (kept_holds view k)
+
+  -- ## The named views
+
+  named : (view : List ℕ) → view ∈ views_named s → IsNamed s view
+  named view (inl same) = inl same
+  named view (inr at) = inr (asked_by view s.events at)
+
+  among : (view : List ℕ) → IsNamed s view → view ∈ views_named s
+  among view (inl same) = inl same
+  among view (inr asked) = inr (by_change asked.0 view s.events asked.1)
+
+  pub none_is_sound : first_unsound s ≡ None → IsSound s
+  none_is_sound none view is = keeps view (none_passes (fails (is_reverted s.events)) (views_named s) none view (among view is))
+
+  pub sound_is_none : IsSound s → first_unsound s ≡ None
+  sound_is_none sound = finds_none (fails (is_reverted s.events)) (views_named s) (λ view at. passes view (sound view (named view at)))
+
+  pub found_fails : (view : List ℕ) → first_unsound s ≡ Some view → FailsFirst s view
+  found_fails view found =
+      let at : FoundAt (fails (is_reverted s.events)) (views_named s) view = found_at (fails (is_reverted s.events)) (views_named s) view found in
+      record {
+        earlier = at.earlier;
+        later = at.later;
+        place = at.place;
+        sound = λ v inside. keeps v (at.failed v inside);
+        fails = λ k. true≢false (sym at.passed ∙ passes view k);
+      }
+
+  failing : (view : List ℕ) → ¬ KeepsMajority s view → fails (is_reverted s.events) view ≡ true
+  failing view never = by (fails (is_reverted s.events) view) refl
+    where
+      by : (b : Bool) → fails (is_reverted s.events) view ≡ b → fails (is_reverted s.events) view ≡ true
+      by true e = e
+      by false e = absurd (never (keeps view e))
+
+  pub fails_found : (view : List ℕ) → FailsFirst s view → first_unsound s ≡ Some view
+  fails_found view f =
+      ap (find (fails (is_reverted s.events))) f.place
+      ∙ found_first (fails (is_reverted s.events)) f.earlier f.later view (λ v inside. passes v (f.sound v inside)) (failing view f.fails)
+
+  -- ## Majorities of a sound schedule
+
+  pub majority_kept : (view : List ℕ) (peers : ℕ → Bool) → IsSound s → IsNamed s view → is_majority peers view ≡ true → HasKept s peers view
+  majority_kept view peers sound is more =
+      let k : KeepsMajority s view = sound view is in
+      let m : Meet k.peers peers view = meet_of_majorities k.peers peers view k.majority more in
+      record { peer = m.peer; member = m.member; inside = m.in_right; kept = k.kept m.peer m.in_left }
+
+  -- ## No reverts
+
+  one_view : (peers : ℕ → Bool) (view : List ℕ) → is_quorum peers (view ∷ []) ≡ true → is_majority peers view ≡ true
+  one_view peers view h = grind arith
+
+  all_kept : (view : List ℕ) → IsView view → ((p : ℕ) → ¬ IsReverted s p) → KeepsMajority s view
+  all_kept view is none = record { peers = λ p. true; majority = one_view (λ p. true) view (quorum_of_all (λ p. true) (λ q. refl) view is.size.0); kept = λ p inside. none p }
+
+  named_view : IsSchedule s → (view : List ℕ) → IsNamed s view → IsView view
+  named_view of view (inl same) = let P : List ℕ → Type 0 = IsView in subst P (sym same) of.view.1
+  named_view of view (inr asked) = view_stands s.peers asked.0 view s.events of.events asked.1
+
+  pub unreverted_is_none : IsSchedule s → ((p : ℕ) → ¬ IsReverted s p) → first_unsound s ≡ None
+  unreverted_is_none of none = sound_is_none (λ view is. all_kept view (named_view of view is) none)
+
+pub sound_exactly : (s : Schedule) → ((first_unsound s ≡ None) ↔ IsSound s)
+sound_exactly s = (none_is_sound s, sound_is_none s)
+
+pub first_exactly : (s : Schedule) (view : List ℕ) → ((first_unsound s ≡ Some view) ↔ FailsFirst s view)
+first_exactly s view = (found_fails s view, fails_found s view)
+
+-- the search with a set of the reverted peers
+pub found_by : (s : Schedule) (set : List Bool) → ((p : ℕ) → holds set p ≡ is_reverted s.events p) → first_unsound s ≡ find (fails (holds set)) (views_named s)
+found_by s set same =
+    let reverted : holds set ≡ is_reverted s.events = λ i p. same p i in
+    ap (λ (peers : ℕ → Bool). find (fails peers) (views_named s)) (sym reverted)

@@ -1,0 +1,14 @@
+use Rattle.schedule_premise.proofs.Soundness.{first_exactly, majority_kept, sound_exactly, unreverted_is_none}
+use Rattle.schedule_premise.proofs.laws.sound_schedules.Goals as goal
+
+pub returns-clause-sound : goal.returns-clause-sound
+returns-clause-sound c = sound_exactly
+
+pub returns-clause-first : goal.returns-clause-first
+returns-clause-first c = first_exactly
+
+pub returns-clause-majority : goal.returns-clause-majority
+returns-clause-majority c = majority_kept
+
+pub returns-clause-unreverted : goal.returns-clause-unreverted
+returns-clause-unreverted c = unreverted_is_none

@@ -1,0 +1,3 @@
+pub mod Premise
+pub mod Sound
+pub mod Text
