@@ -1,9 +1,12 @@
--- Rule 16: a leader announces the first fact of its epoch.
-use Rattle.std.proofs.Common.{◌≡◌, ℕ, ◌<◌, ◌≤◌, true, false, if◌then◌else◌, Option, None, arith, refl, ap, sym, subst}
+-- Rules 16 and 18: a leader announces the first fact of its epoch, or the second.
+use Rattle.std.specs.Prelude.{not}
+use Rattle.std.proofs.Common.{◌≡◌, ℕ, ◌<◌, ◌≤◌, Bool, true, false, ◌==◌, if◌then◌else◌, inl, inr, Option, None, arith, refl, ap, ◌∙◌, sym, subst}
+use Rattle.std.proofs.lemmas.Bool.{true≢false}
 use Rattle.std.proofs.lemmas.Bool.Decides.{nat_tests}
-use Rattle.abstract_protocol.specs.Ledger.{Ledger, Place, raise, accept}
+use Rattle.abstract_protocol.specs.Ledger.{Ledger, Place, IsFact, IsNew, MayAdopt, raise, accept, adopt}
 use Rattle.abstract_protocol.specs.Numbers.{epoch_number}
-use Rattle.following.specs.Announcements.{takes, accepts}
+use Rattle.following.specs.Announcements.{takes, accepts, commits, row_18}
+use Rattle.following.specs.Refusals.{unless_refused}
 use Rattle.peer_core.specs.Moves.{follower, stopped_leading, waiting_phase, waiting_for}
 use Rattle.peer_core.specs.Rows.{announced, runs_sync}
 use Rattle.peer_core.specs.declared.state.Phase.{Phase}
@@ -12,20 +15,21 @@ use Rattle.peer_core.specs.declared.state.State.{State}
 use Rattle.peer_fact.specs.declared.fact.Fact.{Fact}
 use Rattle.phase_rows.specs.Orders.{is_below, is_same, may_accept}
 use Rattle.phase_rows.specs.Peers.{alone}
-use Rattle.phase_rows.specs.Rows.{silent, sends, saves, leaves_leading, at_ballot}
+use Rattle.phase_rows.specs.Rows.{silent, sends, saves, saves_and_sends, leaves_leading, at_ballot}
 use Rattle.version_laws.proofs.Maps.{put_here}
 use Rattle.wire_frames.specs.declared.message.Message.TheVariants as messages
 use Rattle.wire_frames.specs.declared.phase.PhaseOut.{PhaseOut}
 use Rattle.wire_frames.specs.declared.phase.Then.{Then}
 use Rattle.wire_frames.specs.declared.phase.Then.TheVariants as thens
-use Rattle.election_refinement.proofs.Keeps.{keeps_both, raise_keeps, accept_keeps, first_keeps}
+use Rattle.election_refinement.proofs.Elections.{not_new}
+use Rattle.election_refinement.proofs.Keeps.{keeps_both, raise_keeps, accept_keeps, adopt_keeps, first_keeps, second_keeps}
 use Rattle.election_refinement.proofs.Numbers.{same_epochs, same_number, other_number, not_below_number}
 use Rattle.election_refinement.proofs.Quiet.{refuses}
-use Rattle.election_refinement.proofs.Reaching.{Course, raise_reaches}
+use Rattle.election_refinement.proofs.Reaching.{Course, reaches_safe, raise_reaches, adopt_reaches}
 use Rattle.election_refinement.proofs.Rows.{Fits, Goes, runs_on, unmoved, enters, enters_alone}
 use Rattle.election_refinement.proofs.Saving.{mark_here, may_raise, own_accepted, raised_fits, accepted_fits}
 use Rattle.election_refinement.proofs.Tests.{by_test}
-use Rattle.election_refinement.specs.Refinement.{IsFirst, PhaseHolds, may_wait}
+use Rattle.election_refinement.specs.Refinement.{fact_place, IsFirst, IsSecond, IsAcceptance, PhaseHolds, may_wait}
 
 -- a peer that waits for a sync, and steps down if it led, follows
 waiting_holds : (l : Ledger) (p : ℕ) (fact : Fact) (phase : Phase) → PhaseHolds l p fact (stopped_leading (waiting_phase phase))
@@ -49,10 +53,13 @@ module _ {c : Course} {l : Ledger} {x : State} {stored : Option Fact} (h : Fits 
 
   -- the epoch was accepted already
   again : new.epoch ≡ x.fact.epoch → Does (sends (alone from) (messages.Accepted new.epoch 1) thens.Follow)
-  again same = unmoved (enters_alone h follower tt) (record { first = refl; accepted = accepted }) tt
+  again same = unmoved (enters_alone h follower tt) said tt
     where
       accepted : l.accepted (epoch_number new.epoch) p ≡ true
       accepted = subst (λ e. l.accepted (epoch_number e) p ≡ true) (sym same) (own_accepted h)
+
+      said : IsAcceptance l p new.epoch 1
+      said = inl (refl, accepted)
 
   module _ (above : epoch_number x.fact.ballot ≤ epoch_number new.epoch) (other : epoch_number x.fact.epoch ≡ epoch_number new.epoch → ⊥) where
     abbrev d : ℕ
@@ -73,12 +80,12 @@ module _ {c : Course} {l : Ledger} {x : State} {stored : Option Fact} (h : Fits 
     newer : (l.fact p).epoch < d
     newer = rw (ap (λ (place : Place). place.epoch) h.peer.saved.place) newer_fact
 
-    accepts_goes : Does (leaves_leading (accepts from new))
-    accepts_goes = record {
+    accepts_goes : may_accept x.trusted p new ≡ true → Does (leaves_leading (accepts from new))
+    accepts_goes accepts_now = record {
       ledger = accept raised p d;
       keeps = keeps_both l raised (accept raised p d) p (raise_keeps l p d may) (accept_keeps raised p d (put_here l.ballot p d));
-      fits = accepted_fits h raised (raise_reaches c l h.reaches d may) new (first_keeps l raised p (raise_keeps l p d may) new told) (put_here l.ballot p d) newer follower tt None tt;
-      says = record { first = refl; accepted = mark_here l.accepted d p };
+      fits = accepted_fits h raised (raise_reaches c l h.reaches d may) new (first_keeps l raised p (raise_keeps l p d may) new told) (put_here l.ballot p d) newer (λ is_new. not_new x.trusted p new accepts_now (subst (λ views. IsNew views p) (sym told.known.views) is_new)) follower tt None tt;
+      says = inl (refl, mark_here l.accepted d p);
       syncs = tt;
     }
 
@@ -106,7 +113,7 @@ module _ {c : Course} {l : Ledger} {x : State} {stored : Option Fact} (h : Fits 
     takes_goes : Does (leaves_leading (takes x.fact p x.trusted (runs_sync x.sync) from new))
     takes_goes =
         by_test (λ (row : PhaseOut). Does (leaves_leading row)) (may_accept x.trusted p new) _ _
-        (λ accepts_now. accepts_goes)
+        accepts_goes
         (λ waits. by_test (λ (row : PhaseOut). Does (leaves_leading row)) (is_below x.fact.ballot new.epoch) _ _
         (λ below. promises_goes)
         (λ not_below. at_own not_below))
@@ -119,3 +126,101 @@ module _ {c : Course} {l : Ledger} {x : State} {stored : Option Fact} (h : Fits 
       (λ same. again (same_epochs new.epoch x.fact.epoch same))
       (λ other. takes_goes (not_below_number new.epoch x.fact.ballot told.known.epoch h.peer.saved.known.ballot not_below)
       (λ e. other_number new.epoch x.fact.epoch told.known.epoch h.peer.saved.known.epoch other (sym e))))
+
+-- ## Rule 18
+
+module _ {c : Course} {l : Ledger} {x : State} {stored : Option Fact} (h : Fits c l x stored) (from : ℕ) (new : Fact) (told : IsSecond l new) where
+  open c use {peer as p}
+
+  abbrev Takes : PhaseOut → Type 0
+  Takes row = Goes c l stored (x, row)
+
+  module _ (above : epoch_number x.fact.ballot ≤ epoch_number new.epoch) (same : x.fact.epoch ≡ new.epoch) where
+    abbrev e : ℕ
+    e = epoch_number new.epoch
+
+    at_number : epoch_number x.fact.epoch ≡ e
+    at_number = ap epoch_number same
+
+    stands : l.ballot p ≡ e
+    stands = h.peer.saved.ballot ∙ equal h.peer.saved.known.below at_number above
+      where
+        equal : {a b : ℕ} → a ≤ b → a ≡ e → b ≤ e → b ≡ e
+        equal low is high = omega (arith, low, is, high)
+
+    changed : l.changed e ≡ true
+    changed = by_place told.known.is_fact
+      where
+        none : (s : ℕ) → s ≡ 2 → s ≡ 0 → ⊥
+        none s two zero = omega (arith, two, zero)
+
+        one : (s : ℕ) → s ≡ 2 → s ≡ 1 → ⊥
+        one s two first = omega (arith, two, first)
+
+        by_place : IsFact l (fact_place new) → l.changed e ≡ true
+        by_place (inl opening) = absurd (none new.seq told.seq opening.1)
+        by_place (inr (inl first)) = absurd (one new.seq told.seq first.1)
+        by_place (inr (inr second)) = second.0
+
+    may_adopt : MayAdopt l p e
+    may_adopt = record { changed = changed; stands = stands; first = subst (λ n. l.accepted n p ≡ true) at_number (own_accepted h) }
+
+    -- the second fact is saved
+    adopts_goes : Takes (saves_and_sends new (alone from) (messages.Accepted new.epoch 2) thens.Follow)
+    adopts_goes = record {
+      ledger = adopt l p e;
+      keeps = adopt_keeps l p e stands;
+      fits = record {
+        reaches = adopt_reaches c l h.reaches e may_adopt;
+        peer = record {
+          saved = record {
+            known = (second_keeps l (adopt l p e) p (adopt_keeps l p e stands) new told).known;
+            ballot = stands ∙ ap epoch_number (sym told.own_ballot);
+            place = put_here l.fact p (record { epoch = e; seq = 2 }) ∙ ap (λ n. record { epoch = e; seq = n }) (sym told.seq);
+          };
+          kept = refl;
+          phase = tt;
+          sync = tt;
+        };
+      };
+      says = inr (refl, mark_here l.adopted e p);
+      syncs = tt;
+    }
+
+    -- the second fact was saved before
+    adopted : (x.fact.seq == 1) ≡ false → l.adopted e p ≡ true
+    adopted later = subst (λ n. l.adopted n p ≡ true) (ap (λ (place : Place). place.epoch) h.peer.saved.place ∙ at_number) ((reaches_safe c l h.reaches).ballots.last_change p (ap (λ (place : Place). place.seq) h.peer.saved.place ∙ by_place h.peer.saved.known.is_fact))
+      where
+        none : {n : ℕ} → n ≡ 0 → n ≡ e → 0 < e → ⊥
+        none zero is above = omega (arith, zero, is, above)
+
+        one : (s : ℕ) → s ≡ 1 → (s == 1) ≡ false → ⊥
+        one s is not_one = grind (arith, nat_tests)
+
+        by_place : IsFact l (fact_place x.fact) → x.fact.seq ≡ 2
+        by_place (inl opening) = absurd (none opening.0 at_number told.later)
+        by_place (inr (inl first)) = absurd (one x.fact.seq first.1 later)
+        by_place (inr (inr second)) = second.1
+
+    commits_goes : Takes (commits x.fact from new)
+    commits_goes =
+        by_test Takes (x.fact.seq == 1) _ _
+        (λ first. adopts_goes)
+        (λ later. unmoved (enters_alone h follower tt) (said later) tt)
+      where
+        said : (x.fact.seq == 1) ≡ false → IsAcceptance l p new.epoch 2
+        said later = inr (refl, adopted later)
+
+  pub rule_18 : Takes (row_18 x.fact x.trusted from new)
+  rule_18 = let P : Option PhaseOut → Type 0 = λ refused. Takes (unless_refused refused (commits x.fact from new)) in
+      by_test P (is_below new.epoch x.fact.ballot) _ _
+      (λ below. refuses h from new.epoch)
+      (λ not_below. by_test P (not (is_same x.fact.epoch new.epoch)) _ _
+      (λ other. unmoved h tt tt)
+      (λ same. by_test P (not x.trusted) _ _
+      (λ untrusted. unmoved h tt tt)
+      (λ trusts. commits_goes (not_below_number new.epoch x.fact.ballot told.known.epoch h.peer.saved.known.ballot not_below) (same_epochs x.fact.epoch new.epoch (true_of (is_same x.fact.epoch new.epoch) same)))))
+    where
+      true_of : (b : Bool) → not b ≡ false → b ≡ true
+      true_of true same = refl
+      true_of false same = absurd (true≢false same)

@@ -1,8 +1,10 @@
 -- Rules 12 and 13: promises are counted, and an epoch starts.
-use Rattle.std.proofs.Common.{◌≡◌, ℕ, ◌<◌, ◌≤◌, Bool, true, false, ◌==◌, List, inl, inr, Option, arith, refl, ap, le_trans, ◌∙◌, sym, subst}
+use Rattle.std.proofs.Common.{◌≡◌, ℕ, ◌<◌, ◌≤◌, Bool, true, false, ◌==◌, if◌then◌else◌, List, [], ◌∷◌, inl, inr, Option, arith, refl, ap, le_trans, ◌∙◌, sym, subst}
+use Rattle.std.specs.Prelude.{◌&&◌, not}
+use Rattle.std.proofs.lemmas.Bool.{and_parts, false≢true}
 use Rattle.std.proofs.lemmas.Bool.Decides.{nat_tests}
-use Rattle.joint_views.specs.Quorums.{is_quorum, is_member}
-use Rattle.abstract_protocol.specs.Ledger.{Ledger, Place, elect, accept, next_views, IsFact, MayElect}
+use Rattle.joint_views.specs.Quorums.{is_in, is_quorum, is_member}
+use Rattle.abstract_protocol.specs.Ledger.{Ledger, Place, Change, Add, Drop, IsAtMost, elect, accept, changed_views as ledger_views, next_views, IsNew, MayElect}
 use Rattle.abstract_protocol.specs.Numbers.{epoch_number}
 use Rattle.election.specs.Preparing.{promised_by, starts, first_fact}
 use Rattle.election.specs.declared.election.Election.{Election}
@@ -10,6 +12,7 @@ use Rattle.election.specs.declared.election.Election.TheVariants.{Preparing, Sta
 use Rattle.election_laws.proofs.Epochs.{not_both}
 use Rattle.election_laws.specs.Preparing.{proposer_of}
 use Rattle.ens_base.specs.PeerSet.{holds}
+use Rattle.ens_base.specs.Views.{first_view}
 use Rattle.ens_base.specs.declared.epoch.Epoch.{Epoch}
 use Rattle.peer_core.specs.Moves.{electing}
 use Rattle.peer_core.specs.Rows.{while_12, while_13}
@@ -17,70 +20,87 @@ use Rattle.peer_core.specs.declared.state.Phase.{Phase}
 use Rattle.peer_core.specs.declared.state.Phase.TheVariants as phases
 use Rattle.peer_core.specs.declared.state.State.{State}
 use Rattle.peer_fact.specs.Facts.{changed_views, views_after}
+use Rattle.peer_fact.specs.declared.fact.Change.TheVariants as changes
 use Rattle.peer_fact.specs.declared.fact.Fact.{Fact}
-use Rattle.phase_rows.specs.Orders.{is_same, is_newer, may_accept}
+use Rattle.phase_rows.specs.Orders.{is_joint, is_same, is_newer, may_accept}
 use Rattle.phase_rows.specs.Peers.{alone, nobody, joined, members, others_of, with_members}
 use Rattle.phase_rows.specs.Rows.{sends, saves_and_sends}
 use Rattle.version_laws.proofs.Maps.{put_here}
 use Rattle.wire_frames.specs.declared.message.Message.TheVariants as messages
 use Rattle.wire_frames.specs.declared.phase.PhaseOut.{PhaseOut}
 use Rattle.wire_frames.specs.declared.phase.Then.TheVariants as thens
-use Rattle.election_refinement.proofs.Keeps.{Keeps, keeps_both, elect_keeps, accept_keeps, known_keeps, first_keeps}
-use Rattle.election_refinement.proofs.Numbers.{proposer_of-number, same_epochs, newer_number, not_newer_number}
-use Rattle.election_refinement.proofs.Reaching.{Course, Reaches, elect_reaches}
+use Rattle.election_refinement.proofs.Keeps.{Keeps, keeps_both, elect_keeps, accept_keeps, known_keeps, first_keeps, changed_of}
+use Rattle.election_refinement.proofs.Numbers.{proposer_of-number, same_epochs, newer_place, not_newer_place, place_epoch, place_same, place_trans}
+use Rattle.election_refinement.proofs.Reaching.{Course, Reaches, reaches_sound, elect_reaches}
 use Rattle.election_refinement.proofs.Rows.{Fits, Goes, none_runs, unmoved, enters, quiet, follows, rests_in, names}
 use Rattle.election_refinement.proofs.Saving.{mark_here, accepted_fits}
-use Rattle.election_refinement.proofs.Sets.{nobody_then, alone_then, joined_then}
+use Rattle.election_refinement.proofs.Sets.{view_in, nobody_then, alone_then, joined_then}
 use Rattle.election_refinement.proofs.Tests.{by_test}
-use Rattle.election_refinement.specs.Refinement.{first_seq, fact_place, IsKnown, IsFirst, HasPromised, IsPreparing, IsStarting, PhaseHolds, may_wait, SyncHolds, IsPrepare, IsPromise}
+use Rattle.election_refinement.specs.Refinement.{fact_place, told_change, change_at, IsFitting, second_of, IsKnown, IsFirst, HasPromised, IsPreparing, IsStarting, PhaseHolds, may_wait, SyncHolds, IsPrepare, IsPromise, IsOrderly}
 
--- a known fact is a fact of the ledger
-fact_of_known : (l : Ledger) (f : Fact) → IsKnown l f → IsFact l (fact_place f)
-fact_of_known l f known = by_number (epoch_number f.epoch == 0) refl
+-- a change that fits makes of these views, in a fact, what it makes of them in the ledger
+same_change : (change : Change) (views : List (List ℕ)) → IsFitting change views → changed_views (told_change change) views ≡ ledger_views change views
+same_change (Add new) [] fits = absurd fits
+same_change (Add new) (view ∷ []) fits = refl
+same_change (Add new) (view ∷ old ∷ rest) fits = absurd fits
+same_change Drop [] fits = refl
+same_change Drop (view ∷ []) fits = refl
+same_change Drop (view ∷ old ∷ []) fits = refl
+same_change Drop (view ∷ old ∷ other ∷ rest) fits = refl
+
+-- the views after a known fact are those of the next epoch in the ledger
+pub same_views : (l : Ledger) (f : Fact) → IsOrderly l → IsKnown l f → views_after f ≡ next_views l (fact_place f)
+same_views l f orderly known = ap (λ c. changed_views c f.views) known.change ∙ ap (λ views. changed_views (change_at l (fact_place f)) views) known.views ∙ by_seq (f.seq == 2) refl
   where
-    opening : (n s : ℕ) → s ≡ first_seq n → (n == 0) ≡ true → (n ≡ 0) × (s ≡ 0)
-    opening n s e t = grind (arith, nat_tests)
+    d : ℕ
+    d = epoch_number f.epoch
 
-    later : (n s : ℕ) → s ≡ first_seq n → (n == 0) ≡ false → s ≡ 1
-    later n s e t = grind (arith, nat_tests)
+    by_seq : (b : Bool) → (f.seq == 2) ≡ b → changed_views (if b then told_change (l.change d) else changes.None) (l.views d) ≡ (if b then ledger_views (l.change d) (l.views d) else l.views d)
+    by_seq true second = same_change (l.change d) (l.views d) (orderly.fits d (changed_of l (fact_place f) known.is_fact second))
+    by_seq false first = refl
 
-    by_number : (b : Bool) → (epoch_number f.epoch == 0) ≡ b → IsFact l (fact_place f)
-    by_number true t = inl (opening (epoch_number f.epoch) f.seq known.seq t)
-    by_number false t = inr (inl (known.elected, later (epoch_number f.epoch) f.seq known.seq t))
-
--- a known fact is not the second of its epoch
-pub not_second : (l : Ledger) (f : Fact) → IsKnown l f → (f.seq == 2) ≡ false
-not_second l f known = plain (epoch_number f.epoch) f.seq known.seq
+-- a peer that may accept a fact at once is no member of the new view of two
+pub not_new : (trusted : Bool) (me : ℕ) (new : Fact) → may_accept trusted me new ≡ true → ¬ IsNew new.views me
+not_new trusted me new may is_new = by_views new.views is_new (part trusted (not (is_joint new.views && is_in (first_view new.views) me)) may)
   where
-    plain : (n s : ℕ) → s ≡ first_seq n → (s == 2) ≡ false
-    plain n s e = grind (arith, nat_tests)
+    part : (a b : Bool) → (a && b) ≡ true → b ≡ true
+    part a b h = (and_parts a b h).1
 
--- the next views of a known fact are its own views
-pub same_views : (l : Ledger) (f : Fact) → IsKnown l f → views_after f ≡ l.views (epoch_number f.epoch)
-same_views l f known = ap (λ c. changed_views c f.views) known.change ∙ known.views
+    by_views : (views : List (List ℕ)) → IsNew views me → not (is_joint views && is_in (first_view views) me) ≡ true → ⊥
+    by_views [] is old = is
+    by_views (view ∷ []) is old = is
+    by_views (view ∷ other ∷ rest) is old = not_both (view_in view me is) (false_of (is_in view me) old)
+      where
+        false_of : (b : Bool) → not (true && b) ≡ true → b ≡ false
+        false_of true h = absurd (false≢true h)
+        false_of false h = refl
 
 -- a peer that starts an epoch accepts it at once, or waits for a sync
 starts_either : (P : Election × PhaseOut → Type 0) (trusted : Bool) (me : ℕ) (new : Fact)
-    → P (Starting new (alone me) 0, saves_and_sends new (others_of me (members new.views)) (messages.NewEpoch new) (thens.Rule 14))
+    → (may_accept trusted me new ≡ true → P (Starting new (alone me) 0, saves_and_sends new (others_of me (members new.views)) (messages.NewEpoch new) (thens.Rule 14)))
     → P (Starting new nobody 0, sends (others_of me (members new.views)) (messages.NewEpoch new) (thens.SyncOn new)) → P (starts trusted me new)
 unfolding starts
-starts_either P trusted me new accepts waits = by_test P (may_accept trusted me new) _ _ (λ may. accepts) (λ may_not. waits)
+starts_either P trusted me new accepts waits = by_test P (may_accept trusted me new) _ _ accepts (λ may_not. waits)
 
 -- a promise is counted; the base is then no older than it was, and no older than the promised fact
-promised_more : (l : Ledger) (q d b now : ℕ) → b ≤ now → HasPromised l q d b → HasPromised l q d now
-promised_more l q d b now low has = record { stands = has.stands; told = λ a accepted below. le_trans (has.told a accepted below) low }
+promised_more : (l : Ledger) (q d : ℕ) (b now : Place) → IsAtMost b now → HasPromised l q d b → HasPromised l q d now
+promised_more l q d b now low has = record {
+  stands = has.stands;
+  told = λ a accepted below. le_trans (has.told a accepted below) (place_epoch b now low);
+  told_second = λ a adopted below. place_trans (second_of a) b now (has.told_second a adopted below) low;
+}
 
 counted : (l : Ledger) (p from : ℕ) (fact base now promised : Fact) (promises : List Bool) → IsPreparing l p fact base promises → IsPromise l from fact.ballot promised
-    → IsKnown l now → epoch_number now.epoch < epoch_number fact.ballot → epoch_number base.epoch ≤ epoch_number now.epoch → epoch_number promised.epoch ≤ epoch_number now.epoch
+    → IsKnown l now → epoch_number now.epoch < epoch_number fact.ballot → IsAtMost (fact_place base) (fact_place now) → IsAtMost (fact_place promised) (fact_place now)
     → IsPreparing l p fact now (joined from promises)
 counted l p from fact base now promised promises old told known above rises covers = record {
   own = old.own;
   fresh = old.fresh;
   known = known;
   above = above;
-  promised = joined_then (λ q. HasPromised l q (epoch_number fact.ballot) (epoch_number now.epoch)) from promises
-      (promised_more l from (epoch_number fact.ballot) (epoch_number promised.epoch) (epoch_number now.epoch) covers told.promised)
-      (λ q h. promised_more l q (epoch_number fact.ballot) (epoch_number base.epoch) (epoch_number now.epoch) rises (old.promised q h));
+  promised = joined_then (λ q. HasPromised l q (epoch_number fact.ballot) (fact_place now)) from promises
+      (promised_more l from (epoch_number fact.ballot) (fact_place promised) (fact_place now) covers told.promised)
+      (λ q h. promised_more l q (epoch_number fact.ballot) (fact_place base) (fact_place now) rises (old.promised q h));
 }
 
 module _ {c : Course} {l : Ledger} {x : State} {stored : Option Fact} (h : Fits c l x stored) where
@@ -97,12 +117,12 @@ module _ {c : Course} {l : Ledger} {x : State} {stored : Option Fact} (h : Fits 
     abbrev new : Fact
     new = first_fact x.fact p (views_after base)
 
-    may_elect : MayElect l d (fact_place base)
+    abbrev may_elect : MayElect l d (fact_place base)
     may_elect = record {
       fresh = preparing.fresh;
       above = preparing.above;
       listed = preparing.known.elected;
-      is_fact = fact_of_known l base preparing.known;
+      is_fact = preparing.known.is_fact;
       voters = holds promises;
       quorum = subst (λ views. is_quorum (holds promises) views ≡ true) preparing.known.views quorum;
       reached = λ q voted. (preparing.promised q voted).stands;
@@ -113,19 +133,13 @@ module _ {c : Course} {l : Ledger} {x : State} {stored : Option Fact} (h : Fits 
     proposes = sym (proposer_of-number x.fact.ballot h.peer.saved.known.ballot ∙ preparing.own)
 
     chosen_reaches : Reaches c chosen
-    chosen_reaches = elect_reaches c l h.reaches d (fact_place base) proposes (rw h.peer.saved.ballot (omega arith)) (not_second l base preparing.known) may_elect
+    chosen_reaches = elect_reaches c l h.reaches d (fact_place base) proposes (rw h.peer.saved.ballot (omega arith)) may_elect (λ q voted adopted. (preparing.promised q voted).told_second (epoch_number base.epoch) adopted preparing.above)
 
     later : 0 < d
     later = let above = preparing.above in omega (arith, above)
 
-    new_seq : (n : ℕ) → 0 < n → 1 ≡ first_seq n
-    new_seq n is_later = grind (arith, nat_tests)
-
     new_views : views_after base ≡ chosen.views d
-    new_views = same_views l base preparing.known ∙ sym (put_here l.views d (next_views l (fact_place base)) ∙ stays)
-      where
-        stays : next_views l (fact_place base) ≡ l.views (epoch_number base.epoch)
-        stays = rw (not_second l base preparing.known) refl
+    new_views = same_views l base h.reaches.orderly preparing.known ∙ sym (put_here l.views d (next_views l (fact_place base)))
 
     is_first : IsFirst chosen new
     is_first = record {
@@ -134,14 +148,20 @@ module _ {c : Course} {l : Ledger} {x : State} {stored : Option Fact} (h : Fits 
         epoch = h.peer.saved.known.ballot;
         below = omega arith;
         elected = put_here l.elected d true;
-        seq = new_seq d later;
+        is_fact = inr (inl (put_here l.elected d true, refl));
         leader = sym preparing.own;
         views = new_views;
         change = refl;
       };
+      seq = refl;
       later = later;
       own_ballot = refl;
     }
+
+    -- no epoch is changed before it is elected
+    unchanged : (b : Bool) → l.changed d ≡ b → l.changed d ≡ false
+    unchanged true e = absurd (not_both ((reaches_sound c l h.reaches).leaders.changed d e) preparing.fresh)
+    unchanged false e = e
 
     -- the peer accepted a lower epoch, since this one was not elected
     newer_fact : epoch_number x.fact.epoch < d
@@ -155,19 +175,22 @@ module _ {c : Course} {l : Ledger} {x : State} {stored : Option Fact} (h : Fits 
 
     starting : IsStarting (accept chosen p d) p new new (alone p)
     starting = record {
-      own = preparing.own;
-      first = first_keeps chosen (accept chosen p d) p (accept_keeps chosen p d h.peer.saved.ballot) new is_first;
-      at_ballot = refl;
-      accepted = alone_then (λ q. (accept chosen p d).accepted d q ≡ true) p (mark_here l.accepted d p);
+      started = record {
+        own = preparing.own;
+        first = first_keeps chosen (accept chosen p d) p (accept_keeps chosen p d h.peer.saved.ballot) new is_first;
+        at_ballot = refl;
+        accepted = alone_then (λ q. (accept chosen p d).accepted d q ≡ true) p (mark_here l.accepted d p);
+      };
+      unchanged = unchanged (l.changed d) refl;
     }
 
-    begun_goes : Goes c l stored (electing (Starting new (alone p) 0) x, saves_and_sends new (others_of p (members new.views)) (messages.NewEpoch new) (thens.Rule 14))
-    begun_goes = record {
+    begun_goes : may_accept x.trusted p new ≡ true → Goes c l stored (electing (Starting new (alone p) 0) x, saves_and_sends new (others_of p (members new.views)) (messages.NewEpoch new) (thens.Rule 14))
+    begun_goes may = record {
       ledger = accept chosen p d;
       keeps = keeps_both l chosen (accept chosen p d) p (elect_keeps l p d (fact_place base) proposes preparing.fresh) (accept_keeps chosen p d h.peer.saved.ballot);
-      fits = accepted_fits h chosen chosen_reaches new is_first h.peer.saved.ballot newer (phases.Electing (Starting new (alone p) 0)) starting x.sync
+      fits = accepted_fits h chosen chosen_reaches new is_first h.peer.saved.ballot newer (λ is_new. not_new x.trusted p new may (subst (λ views. IsNew views p) (sym new_views) is_new)) (phases.Electing (Starting new (alone p) 0)) starting x.sync
           (none_runs l (accept chosen p d) p x.fact new true x.sync alone_now);
-      says = starting.first;
+      says = starting.started.first;
       syncs = tt;
     }
 
@@ -184,7 +207,10 @@ module _ {c : Course} {l : Ledger} {x : State} {stored : Option Fact} (h : Fits 
         peer = record {
           saved = record { known = known_keeps l chosen p elected_keeps x.fact h.peer.saved.known; ballot = h.peer.saved.ballot; place = h.peer.saved.place };
           kept = h.peer.kept;
-          phase = record { own = preparing.own; first = is_first; at_ballot = refl; accepted = nobody_then (λ q. chosen.accepted d q ≡ true) };
+          phase = record {
+            started = record { own = preparing.own; first = is_first; at_ballot = refl; accepted = nobody_then (λ q. chosen.accepted d q ≡ true) };
+            unchanged = unchanged (l.changed d) refl;
+          };
           sync = tt;
         };
       };
@@ -214,9 +240,9 @@ module _ {c : Course} {l : Ledger} {x : State} {stored : Option Fact} (h : Fits 
   promised_goes from base promised promises asked age old runs told =
       by_test (λ (r : Election × PhaseOut). Goes c l stored (electing r.0 x, r.1)) (is_newer promised base) _ _
       (λ newer. unmoved (enters h (phases.Electing now)
-      (counted l p from x.fact base promised promised promises old told told.known told.lower (newer_number promised base told.known.epoch old.known.epoch newer) (omega arith)) runs) asks tt)
+      (counted l p from x.fact base promised promised promises old told told.known told.lower (newer_place promised base told.known.epoch old.known.epoch newer) (place_same (fact_place promised))) runs) asks tt)
       (λ older. names h 13 (phases.Electing (Preparing base (joined from promises) asked age))
-      (counted l p from x.fact base base promised promises old told old.known old.above (omega arith) (not_newer_number promised base told.known.epoch old.known.epoch older)) runs)
+      (counted l p from x.fact base base promised promises old told old.known old.above (place_same (fact_place base)) (not_newer_place promised base told.known.epoch old.known.epoch older)) runs)
     where
       now : Election
       now = Preparing promised (joined from promises) (with_members asked promised.views) age

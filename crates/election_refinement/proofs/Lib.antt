@@ -2,6 +2,7 @@ pub mod Tests
 pub mod Numbers
 pub mod Calls
 pub mod Keeps
+pub mod Joining
 pub mod Reaching
 pub mod Sets
 pub mod Rows
@@ -12,6 +13,7 @@ pub mod Saving
 pub mod Promises
 pub mod Elections
 pub mod Announcements
+pub mod Changes
 pub mod Ticks
 pub mod Rules
 pub mod Syncing

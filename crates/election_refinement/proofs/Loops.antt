@@ -3,7 +3,7 @@
 use Rattle.std.proofs.Common.{◌≡◌, ℕ, zero, suc, ◌==◌, Bool, true, false, List, [], ◌∷◌, ◌++◌, Option, Some, None, arith, refl, ap, ◌∙◌, sym, subst}
 use Rattle.std.specs.Prelude.{All}
 use Rattle.std.proofs.lemmas.List.Elements.{All-nil, All-append, All-weaker}
-use Rattle.abstract_protocol.specs.Ledger.{Ledger, accept, is_established}
+use Rattle.abstract_protocol.specs.Ledger.{Ledger, join, is_established}
 use Rattle.abstract_protocol.specs.Numbers.{epoch_number}
 use Rattle.election.specs.declared.election.Election.TheVariants.{Preparing, Starting}
 use Rattle.ens_base.specs.Views.{last_view}
@@ -25,18 +25,16 @@ use Rattle.leading.specs.Rules.{lead_row}
 use Rattle.leading.specs.Starts.{row_27}
 use Rattle.leading.specs.Ticks.{row_5_calls as calls_of_tick}
 use Rattle.leading.specs.declared.leader.Leader.{Leader}
-use Rattle.peer_core.specs.Drives.{row_done, owned, followed_up, and_row, lead_done, lead, reminded, task_done, driven, most_turns, led_in, ticked, shown, after_put, put_done, delivered, unavailable, called, first, concluded, step_of}
+use Rattle.peer_core.specs.Drives.{row_done, owned, followed_up, and_row, lead_done, lead, reminded, task_done, driven, most_turns, led_in, ticked, shown, after_put, put_done, delivered, unavailable, called, and_change, first, concluded, step_of}
 use Rattle.peer_core.specs.Syncs.{saved, and_sends, with_sync, installed, accepted, accepted_in, synced, ended_with, gone_on, begun_sync, resumed_sync, followed_on, reached, own_node, body_of, shown_node, needs_node, taken_give}
 use Rattle.peer_core.specs.Leading.{begins, end_of, older, row_5_calls, ticks, wished}
 use Rattle.peer_core.specs.Moves.{electing, left, left_answers, and_answers, without_sync, leading, with_leader, turned, ends_leading, turned_answers}
 use Rattle.peer_core.specs.Owns.{digested, read, kept, fetched, held, looked_at, looked, found_at, found, entered, written, confirmed}
-use Rattle.peer_core.specs.Rows.{aged, changes, leads, phase_row, received}
+use Rattle.peer_core.specs.Rows.{aged, asked_change, changes, leads, phase_row, received}
 use Rattle.peer_core.specs.Starts.{first_state, opened, start_of}
 use Rattle.peer_core.specs.declared.event.CallIn.{CallIn}
 use Rattle.peer_core.specs.declared.event.Event.{Event}
 use Rattle.peer_core.specs.declared.event.Event.TheVariants as events
-use Rattle.peer_core.specs.declared.state.ChangeState.{ChangeState}
-use Rattle.peer_core.specs.declared.state.ChangeState.TheVariants.{Settled}
 use Rattle.peer_core.specs.declared.state.Leadership.{Leadership}
 use Rattle.peer_core.specs.declared.state.Phase.{Phase}
 use Rattle.peer_core.specs.declared.state.Phase.TheVariants as phases
@@ -71,7 +69,8 @@ use Rattle.wire_frames.specs.declared.phase.Seen.TheVariants as seens
 use Rattle.wire_frames.specs.declared.phase.Then.{Then}
 use Rattle.wire_frames.specs.declared.phase.Then.TheVariants as thens
 use Rattle.election_refinement.proofs.Calls.{IsOfCalls, AsksPeer, BeginsNothing, StillLeads, joined_stays, got_stays, stands_stays, put_heard_stays, lead_stays, tick_stays}
-use Rattle.election_refinement.proofs.Keeps.{Keeps, keeps_both, accept_keeps, sends_keep}
+use Rattle.election_refinement.proofs.Changes.{rule_24, is_second, older_holds, wished_holds}
+use Rattle.election_refinement.proofs.Keeps.{Keeps, keeps_both, join_keeps, sends_keep}
 use Rattle.election_refinement.proofs.Reaching.{Course, Reaches}
 use Rattle.election_refinement.proofs.Requests.{left_fits, turned_fits, IsHarmless, harmless_goes, row_21_harmless, row_22_harmless, row_23_harmless, after_put_harmless}
 use Rattle.election_refinement.proofs.Rows.{saved_in, stored_in, made_way, settled, ThenHolds, Fits, Goes, enters, enters_alone}
@@ -80,15 +79,15 @@ use Rattle.election_refinement.proofs.Saving.{own_accepted}
 use Rattle.election_refinement.proofs.Sets.{posted_to_hold}
 use Rattle.election_refinement.proofs.Syncing.{questions_hold, acceptance_holds, stands_at, synced_fits, counts_itself}
 use Rattle.election_refinement.proofs.Tests.{by_test}
-use Rattle.election_refinement.proofs.Ticks.{aged_goes, not_joint, ticks_hold}
-use Rattle.election_refinement.specs.Refinement.{IsKept, IsLeading, IsStarting, MessageHolds, PhaseHolds, may_wait, MaySync, IsSyncing, SyncHolds, SendHolds}
+use Rattle.election_refinement.proofs.Ticks.{aged_goes, ticks_hold}
+use Rattle.election_refinement.specs.Refinement.{IsKept, IsLeading, IsStarted, MessageHolds, PhaseHolds, may_wait, MaySync, IsSyncing, SyncHolds, SendHolds}
 
--- what an event asserts; no peer is asked to change its view yet
+-- what an event asserts
 abbrev pub EventHolds : Ledger → Event → Type 0
 EventHolds l (events.Deliver from message) = MessageHolds l from message
 EventHolds l events.Tick = Unit {0}
 EventHolds l (events.Call call) = Unit {0}
-EventHolds l (events.Change view) = ⊥
+EventHolds l (events.Change view) = Unit {0}
 
 -- the answers to calls add no message
 answers_send_nothing : (b : Bool) (x : State) (out : Out) → (left_answers b x out).sends ≡ out.sends
@@ -211,8 +210,8 @@ module _ (c : Course) (before : Ledger) where
 
       there : Here (without_sync now) (Some r.fact) out
       there =
-          let k = accept_keeps h.ledger p (epoch_number r.fact.epoch) (stands_at h.fits r.fact may) in
-          let m = accept h.ledger p (epoch_number r.fact.epoch) in
+          let k = join_keeps h.ledger p (epoch_number r.fact.epoch) (stands_at h.fits r.fact may) in
+          let m = join h.ledger p (epoch_number r.fact.epoch) in
           record { ledger = m; keeps = keeps_both before h.ledger m p h.keeps k; fits = synced_fits h.fits r.fact may; sends = sends_keep h.ledger m p k p out.sends h.sends }
 
   ended_good : (r : Running) (outcome : Outcome) (x : State) (stored : Option Fact) (out : Out) (next : Rest State (List Task)) → (h : Here (without_sync x) stored out) → IsSyncing h.ledger p x.fact (may_wait x.phase) r → Onward next
@@ -383,9 +382,10 @@ module _ (c : Course) (before : Ledger) where
 
   still_leads : (l : Ledger) (fact : Fact) (leadership : Leadership) (leader : Leader) → leader.fact ≡ leadership.leader.fact → leader.accepts ≡ leadership.leader.accepts → IsLeading l p fact leadership → IsLeading l p fact (with_leader leader leadership)
   still_leads l fact leadership leader same accepts old = record {
-    started = subst (λ f. IsStarting l p fact f leader.accepts) (sym same) (subst (λ set. IsStarting l p fact leadership.leader.fact set) (sym accepts) old.started);
+    started = subst (λ f. IsStarted l p fact f leader.accepts) (sym same) (subst (λ set. IsStarted l p fact leadership.leader.fact set) (sym accepts) old.started);
     established = subst (λ (f : Fact). is_established l (epoch_number f.epoch) ≡ true) (sym same) old.established;
-    settled = old.settled;
+    has = subst (λ (f : Fact). fact.epoch ≡ f.epoch) (sym same) old.has;
+    change = old.change;
   }
 
   -- a rule of a leader, whatever the phase
@@ -403,25 +403,18 @@ module _ (c : Course) (before : Ledger) where
   lead_good row stays n (phases.Probing b) x stored out next h old syncing go = go [] x stored out h
   lead_good row stays n (phases.Electing e) x stored out next h old syncing go = go [] x stored out h
 
-  -- rule 5 (d) and (e): the other members of the view are sent one message each
+  -- rule 5 (d) and (e): the other members of the views are sent one message each, and a change that
+  -- is wanted begins
   reminded_good : (phase : Phase) (x : State) (stored : Option Fact) (out : Out) (next : Rest State (List Task)) → (h : Here x stored out) → PhaseHolds h.ledger p x.fact phase → SyncHolds h.ledger p x.fact (may_wait phase) x.sync → Onward next → Good (reminded phase x out next) stored
-  reminded_good (phases.Leading l) x stored out next h old syncing go =
-      subst (λ (change : ChangeState). Good (reminded (phases.Leading (record l { change = change })) x out next) stored) (sym old.settled)
-      (subst (λ (change : ChangeState). Good (next (named (begins change)) (leading (record l { change = change }) x) (and_sends out (ticks x.fact still))) stored) (sym none) (go [] (leading still x) stored _ (record {
-        ledger = h.ledger;
-        keeps = h.keeps;
-        fits = enters h.fits (phases.Leading still) holds syncing;
-        sends = All-append (SendHolds h.ledger p) out.sends (ticks x.fact still) h.sends (ticks_hold h.ledger p x.fact still holds 31 (omega arith));
-      })))
+  reminded_good (phases.Leading l) x stored out next h old syncing go = go (named (begins wants.change)) (leading wants x) stored (and_sends out (ticks x.fact l)) (record {
+    ledger = h.ledger;
+    keeps = h.keeps;
+    fits = enters h.fits (phases.Leading wants) (record { started = old.started; established = old.established; has = old.has; change = wished_holds h.ledger x.fact l.leader.fact l.change old.change }) syncing;
+    sends = All-append (SendHolds h.ledger p) out.sends (ticks x.fact l) h.sends (ticks_hold h.ledger p x.fact l old (is_second h.fits l old) 31 (omega arith));
+  })
     where
-      still : Leadership
-      still = record l { change = Settled }
-
-      holds : IsLeading h.ledger p x.fact still
-      holds = record { started = old.started; established = old.established; settled = refl }
-
-      none : wished l.leader.fact Settled ≡ Settled
-      none = rw (not_joint h.fits l old) refl
+      wants : Leadership
+      wants = record l { change = wished l.leader.fact l.change }
   reminded_good (phases.Following f) x stored out next h old syncing go = go [] x stored out h
   reminded_good (phases.Probing b) x stored out next h old syncing go = go [] x stored out h
   reminded_good (phases.Electing e) x stored out next h old syncing go = go [] x stored out h
@@ -459,7 +452,7 @@ module _ (c : Course) (before : Ledger) where
       led = tick_stays (end_of (older l.change)) l.leader
 
       one_older : IsLeading h.ledger p x.fact (record l { change = older l.change })
-      one_older = record { started = old.started; established = old.established; settled = ap older old.settled }
+      one_older = record { started = old.started; established = old.established; has = old.has; change = older_holds h.ledger x.fact l.change old.change }
 
   tick_good : (phase : Phase) (x : State) (stored : Option Fact) (out : Out) (next : Rest State (List Task)) → (h : Here x stored out) → PhaseHolds h.ledger p x.fact phase → SyncHolds h.ledger p x.fact (may_wait phase) x.sync → Onward next → Good (ticked p phase x out next) stored
   tick_good (phases.Leading l) x stored out next h old syncing go = led_good l x stored out next h old syncing go
@@ -504,11 +497,18 @@ module _ (c : Course) (before : Ledger) where
       (λ is. lead_good (row_27 call.from call.id call.key call.command (changes x.phase)) (joined_stays call.from call.id call.key call.command (changes x.phase)) 27 x.phase x stored out next h h.fits.peer.phase h.fits.peer.sync go)
       (λ not. go [] x stored (and_answers out (unavailable call ∷ [])) (moved x x stored out (and_answers out (unavailable call ∷ [])) h h.fits refl))
 
+  -- rule 24
+  changed_good : (view : List ℕ) → Passes (λ x out next. row_done p (asked_change view x).1.0 (asked_change view x).0 (and_change out (asked_change view x).1.1) next)
+  changed_good view x stored out next h go =
+      let told = and_change out (asked_change view x).1.1 in
+      let same : Here x stored told = moved x x stored out told h h.fits refl in
+      row_good ((asked_change view x).0, (asked_change view x).1.0) x stored told next same (rule_24 same.fits x.phase view same.fits.peer.phase same.fits.peer.sync) go
+
   event_good : (event : Event) (x : State) (stored : Option Fact) (out : Out) (next : Rest State (List Task)) → (h : Here x stored out) → EventHolds h.ledger event → Onward next → Good (first p event x out next) stored
   event_good (events.Deliver from message) x stored out next h says go = delivered_good from message x stored out next h says go
   event_good events.Tick x stored out next h says go = tick_good x.phase x stored out next h h.fits.peer.phase h.fits.peer.sync go
   event_good (events.Call call) x stored out next h says go = called_good call x stored out next h go
-  event_good (events.Change view) x stored out next h says go = absurd says
+  event_good (events.Change view) x stored out next h says go = changed_good view x stored out next h go
 
   -- the tasks that a row names, and what follows once no task is left
   abbrev driving : Rest State (Unit {0}) → Rest State (List Task)

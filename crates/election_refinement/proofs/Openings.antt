@@ -1,5 +1,6 @@
 -- The world of a schedule before its first event and after its last.
-use Rattle.std.proofs.Common.{◌≡◌, ℕ, zero, suc, ◌≤◌, true, List, [], ◌∷◌, Some, slice_get, replicate, arith, lit<, refl, sym, subst}
+use Rattle.std.proofs.Common.{◌≡◌, ℕ, zero, suc, ◌<◌, ◌≤◌, true, List, [], ◌∷◌, inl, Some, slice_get, replicate, arith, lit<, refl, sym, subst}
+use Rattle.std.proofs.lemmas.Bool.{false≢true}
 use Rattle.std.proofs.lemmas.Bool.Decides.{nat_tests}
 use Rattle.std.proofs.lemmas.List.Elements.{All-nil}
 use Rattle.abstract_protocol.specs.Ledger.{opening_ledger}
@@ -16,7 +17,7 @@ use Rattle.world_spec.specs.Runs.{Run, opening_run}
 use Rattle.election_refinement.proofs.Numbers.{number_zero}
 use Rattle.election_refinement.proofs.Worlds.{IsSpared, AreSpared, SparesAll, applied_refines}
 use Rattle.election_refinement.specs.Refinement.{IsKnown, IsSaved, NodeHolds, FrameHolds, IsOrderly}
-use Rattle.election_refinement.specs.Worlds.{IsLinked, AllLinked, AllSpare, IsRefinement, HasRun, GoesOn}
+use Rattle.election_refinement.specs.Worlds.{AllSpare, IsRefinement, HasRun, GoesOn}
 
 -- each element of a list of equal ones
 replicated : {A : Type 0} (n place : ℕ) (x y : A) → slice_get (replicate n x) place ≡ Some y → x ≡ y
@@ -31,7 +32,7 @@ module _ (view : List ℕ) where
     epoch = omega arith;
     below = omega arith;
     elected = rw number_zero refl;
-    seq = rw number_zero refl;
+    is_fact = inl (number_zero, refl);
     leader = refl;
     views = refl;
     change = refl;
@@ -45,9 +46,12 @@ module _ (view : List ℕ) where
       let o = opening_is view in
       subst (NodeHolds (opening_ledger view) p) (sym o.is) (record { saved = saved_first p; kept = o.kept; phase = tt; sync = tt })
 
-  orderly_first : IsOrderly view (opening_ledger view)
-  orderly_first = record { one_view = λ d h. refl; reached = λ d h. zero_only d h }
+  orderly_first : IsOrderly (opening_ledger view)
+  orderly_first = record { reached = λ d h. zero_only d h; fits = λ d h. absurd (false≢true h); adopted = λ q d h. absurd (false≢true h); left = λ d h later. absurd (none d (zero_only d h) later) }
     where
+      none : (d : ℕ) → d ≤ 0 → 0 < d → ⊥
+      none d low later = omega (arith, low, later)
+
       zero_only : (d : ℕ) → (opening_ledger view).elected d ≡ true → d ≤ 0
       zero_only d h = grind (arith, nat_tests)
 
@@ -58,9 +62,9 @@ module _ (view : List ℕ) where
   }
 
   -- the world after an event refines an extension of the run
-  pub event_refines : (steps : List Step) (peers : ℕ) (event : ScheduleEvent) (w : Run) → peers ≤ 31 → MayStand peers event → IsLinked event → IsRefinement view steps w → GoesOn view steps (applied event w)
-  event_refines steps peers event w few may linked refinement =
-      (applied_refines view steps (λ place. ⊥) peers few event w may linked (λ place none. absurd none) (record { on = record { more = []; refinement = refinement }; up = λ place node none at. absurd none; fine = λ place none. absurd none })).on
+  pub event_refines : (steps : List Step) (peers : ℕ) (event : ScheduleEvent) (w : Run) → peers ≤ 31 → MayStand peers event → IsRefinement view steps w → GoesOn view steps (applied event w)
+  event_refines steps peers event w few may refinement =
+      (applied_refines view steps (λ place. ⊥) peers few event w may (λ place none. absurd none) (record { on = record { more = []; refinement = refinement }; up = λ place node none at. absurd none; fine = λ place none. absurd none })).on
 
   -- the world refines a run, and the spared peers run
   record Runs (spared : ℕ → Type 0) (w : Run) : Type 0 where
@@ -69,15 +73,15 @@ module _ (view : List ℕ) where
     fine : (place : ℕ) → spared place → IsFine w
 
   module _ (spared : ℕ → Type 0) (peers : ℕ) (few : peers ≤ 31) where
-    next_runs : (event : ScheduleEvent) (w : Run) → MayStand peers event → IsLinked event → SparesAll spared event → Runs spared w → Runs spared (applied event w)
-    next_runs event w may linked spares h =
-        let now = applied_refines view h.has.steps spared peers few event w may linked spares (record { on = record { more = []; refinement = h.has.refinement }; up = h.up; fine = h.fine }) in
+    next_runs : (event : ScheduleEvent) (w : Run) → MayStand peers event → SparesAll spared event → Runs spared w → Runs spared (applied event w)
+    next_runs event w may spares h =
+        let now = applied_refines view h.has.steps spared peers few event w may spares (record { on = record { more = []; refinement = h.has.refinement }; up = h.up; fine = h.fine }) in
         record { has = record { steps = _; refinement = now.on.refinement }; up = now.up; fine = now.fine }
 
-    from_runs : (events : List ScheduleEvent) (w : Run) → AllMayStand peers events → AllLinked events → ((place : ℕ) → spared place → AllSpare (suc place) events) → Runs spared w → Runs spared (run_from events w)
-    from_runs [] w may linked spare h = h
-    from_runs (event ∷ more) w may linked spare h =
-        from_runs more (applied event w) may.1 linked.1 (λ place is_spared. (spare place is_spared).1) (next_runs event w may.0 linked.0 (λ place is_spared. (spare place is_spared).0) h)
+    from_runs : (events : List ScheduleEvent) (w : Run) → AllMayStand peers events → ((place : ℕ) → spared place → AllSpare (suc place) events) → Runs spared w → Runs spared (run_from events w)
+    from_runs [] w may spare h = h
+    from_runs (event ∷ more) w may spare h =
+        from_runs more (applied event w) may.1 (λ place is_spared. (spare place is_spared).1) (next_runs event w may.0 (λ place is_spared. (spare place is_spared).0) h)
 
     opening_spared : IsSpared (opening_node view)
     opening_spared = let o = opening_is view in subst IsSpared (sym o.is) (o.none, lit< tt)
@@ -89,12 +93,12 @@ module _ (view : List ℕ) where
       fine = λ place is_spared. opening_fine peers view;
     }
 
-  pub schedule_refines : (peers : ℕ) (events : List ScheduleEvent) → peers ≤ 31 → IsView view → AllMayStand peers events → AllLinked events → HasRun view (run_of_schedule peers view events)
-  schedule_refines peers events few is_view may linked =
-      (from_runs (λ place. ⊥) peers few events (opening_run peers view) may linked (λ place none. absurd none) (opening_runs (λ place. ⊥) peers few is_view)).has
+  pub schedule_refines : (peers : ℕ) (events : List ScheduleEvent) → peers ≤ 31 → IsView view → AllMayStand peers events → HasRun view (run_of_schedule peers view events)
+  schedule_refines peers events few is_view may =
+      (from_runs (λ place. ⊥) peers few events (opening_run peers view) may (λ place none. absurd none) (opening_runs (λ place. ⊥) peers few is_view)).has
 
   -- the peer at this place runs, if no line stops it or makes one of its writes fail
-  pub spared_runs : (peers : ℕ) (events : List ScheduleEvent) (place : ℕ) → peers ≤ 31 → IsView view → AllMayStand peers events → AllLinked events → AllSpare (suc place) events
+  pub spared_runs : (peers : ℕ) (events : List ScheduleEvent) (place : ℕ) → peers ≤ 31 → IsView view → AllMayStand peers events → AllSpare (suc place) events
       → (node : Node) → slice_get (run_of_schedule peers view events).nodes place ≡ Some node → IsSpared node
-  spared_runs peers events place few is_view may linked spare node at =
-      (from_runs (λ q. place ≡ q) peers few events (opening_run peers view) may linked (λ q same. subst (λ n. AllSpare (suc n) events) same spare) (opening_runs (λ q. place ≡ q) peers few is_view)).up place node refl at
+  spared_runs peers events place few is_view may spare node at =
+      (from_runs (λ q. place ≡ q) peers few events (opening_run peers view) may (λ q same. subst (λ n. AllSpare (suc n) events) same spare) (opening_runs (λ q. place ≡ q) peers few is_view)).up place node refl at

@@ -15,21 +15,21 @@ use Rattle.probe.specs.Probing.{first_probing, heard_from, bettered}
 use Rattle.probe.specs.declared.probing.Probing.{Probing}
 use Rattle.wire_frames.specs.declared.phase.PhaseOut.{PhaseOut}
 use Rattle.wire_frames.specs.declared.phase.Then.{Then}
-use Rattle.election_refinement.proofs.Numbers.{newer_number}
+use Rattle.election_refinement.proofs.Numbers.{newer_place, place_same, place_trans}
 use Rattle.election_refinement.proofs.Reaching.{Course}
 use Rattle.election_refinement.proofs.Rows.{Fits, Goes, unmoved, enters, enters_alone, quiet, rests_in, names}
 use Rattle.election_refinement.proofs.Tests.{by_test}
-use Rattle.election_refinement.specs.Refinement.{IsKnown, IsProbing, PhaseHolds, may_wait, SyncHolds}
+use Rattle.election_refinement.specs.Refinement.{fact_place, IsKnown, IsProbing, PhaseHolds, may_wait, SyncHolds}
 
 -- a peer that begins to probe knows its own fact
 pub first_holds : (l : Ledger) (p : ℕ) (fact : Fact) → IsKnown l fact → IsProbing l fact (first_probing fact p)
-first_holds l p fact known = record { best = known; newer = omega arith; counts_best = omega arith; counts_own = omega arith }
+first_holds l p fact known = record { best = known; newer = place_same (fact_place fact); counts_best = omega arith; counts_own = omega arith }
 
 -- the sender of a reply is heard, and its fact may become the best
 bettered_holds : (l : Ledger) (fact reply : Fact) (b : Probing) (from : ℕ) → IsProbing l fact b → IsKnown l reply → is_newer reply b.best ≡ true → IsProbing l fact (bettered (heard_from b from reply) reply)
 bettered_holds l fact reply b from old told newer = record {
   best = told;
-  newer = le_trans old.newer (newer_number reply b.best told.epoch old.best.epoch newer);
+  newer = place_trans (fact_place fact) (fact_place b.best) (fact_place reply) old.newer (newer_place reply b.best told.epoch old.best.epoch newer);
   counts_best = omega arith;
   counts_own = le_trans old.counts_own (omega arith);
 }

@@ -23,7 +23,7 @@ use Rattle.probe.specs.declared.probing.Probing.{Probing}
 use Rattle.version_laws.proofs.Maps.{put_here}
 use Rattle.wire_frames.specs.declared.phase.PhaseOut.{PhaseOut}
 use Rattle.election_refinement.proofs.Keeps.{Keeps, known_keeps, raise_keeps}
-use Rattle.election_refinement.proofs.Numbers.{proposer_of-number, below_number, count_number}
+use Rattle.election_refinement.proofs.Numbers.{proposer_of-number, below_number, count_number, place_same}
 use Rattle.election_refinement.proofs.Probes.{first_holds}
 use Rattle.election_refinement.proofs.Quiet.{refuses}
 use Rattle.election_refinement.proofs.Reaching.{Course}
@@ -31,7 +31,7 @@ use Rattle.election_refinement.proofs.Rows.{Fits, Goes, quiet, follows}
 use Rattle.election_refinement.proofs.Saving.{may_raise, raised_fits, own_promise}
 use Rattle.election_refinement.proofs.Sets.{alone_then}
 use Rattle.election_refinement.proofs.Tests.{by_test}
-use Rattle.election_refinement.specs.Refinement.{HasPromised, IsProbing, IsPreparing, PhaseHolds, IsPrepare}
+use Rattle.election_refinement.specs.Refinement.{fact_place, HasPromised, IsProbing, IsPreparing, PhaseHolds, IsPrepare}
 
 module _ {c : Course} {l : Ledger} {x : State} {stored : Option Fact} (h : Fits c l x stored) where
   open c use {peer as p}
@@ -48,7 +48,7 @@ module _ {c : Course} {l : Ledger} {x : State} {stored : Option Fact} (h : Fits 
           known = fits.peer.saved.known;
           at_ballot = refl;
           lower = le_trans (omega (arith, h.peer.saved.known.below)) above;
-          promised = own_promise h (epoch_number ballot) (epoch_number x.fact.epoch) (omega arith);
+          promised = own_promise h (epoch_number ballot) (fact_place x.fact) (place_same (fact_place x.fact));
         };
         syncs = tt;
       }
@@ -96,7 +96,7 @@ module _ {c : Course} {l : Ledger} {x : State} {stored : Option Fact} (h : Fits 
       fresh = fresh (l.elected (epoch_number ballot)) refl;
       known = known_keeps l raised p keeps b.best old.best;
       above = above_best;
-      promised = alone_then (λ q. HasPromised raised q (epoch_number ballot) (epoch_number b.best.epoch)) p (own_promise h (epoch_number ballot) (epoch_number b.best.epoch) old.newer);
+      promised = alone_then (λ q. HasPromised raised q (epoch_number ballot) (fact_place b.best)) p (own_promise h (epoch_number ballot) (fact_place b.best) old.newer);
     }
 
     asks : IsPrepare raised p ballot

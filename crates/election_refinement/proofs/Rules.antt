@@ -8,11 +8,12 @@ use Rattle.peer_fact.specs.declared.fact.Fact.{Fact}
 use Rattle.wire_frames.specs.declared.message.Message.{Message}
 use Rattle.wire_frames.specs.declared.message.Message.TheVariants as messages
 use Rattle.wire_frames.specs.declared.phase.PhaseOut.{PhaseOut}
-use Rattle.election_refinement.proofs.Announcements.{rule_16}
+use Rattle.election_refinement.proofs.Announcements.{rule_16, rule_18}
+use Rattle.election_refinement.proofs.Changes.{rule_25, rule_26}
 use Rattle.election_refinement.proofs.Elections.{rule_12, rule_13}
 use Rattle.election_refinement.proofs.Probes.{rule_7, rule_8, rule_9}
 use Rattle.election_refinement.proofs.Promises.{rule_10, rule_11}
-use Rattle.election_refinement.proofs.Quiet.{rule_8_probe, rule_14, rule_15, rule_17, rule_19, rule_25, rule_26}
+use Rattle.election_refinement.proofs.Quiet.{rule_8_probe, rule_14, rule_15, rule_17, rule_19}
 use Rattle.election_refinement.proofs.Reaching.{Course}
 use Rattle.election_refinement.proofs.Requests.{row_20_harmless, harmless_goes}
 use Rattle.election_refinement.proofs.Rows.{Fits, Goes, quiet}
@@ -31,7 +32,7 @@ module _ {c : Course} {l : Ledger} {x : State} {stored : Option Fact} (h : Fits 
       by_test G (n == 13) _ _ (λ is. rule_13 h x.phase h.peer.phase h.peer.sync) (λ not.
       by_test G (n == 14) _ _ (λ is. rule_14 h x.phase h.peer.phase h.peer.sync) (λ not.
       by_test G (n == 25) _ _ (λ is. rule_25 h x.phase h.peer.phase h.peer.sync) (λ not.
-      by_test G (n == 26) _ _ (λ is. rule_26 h x.phase h.peer.phase) (λ not. quiet h)))))))
+      by_test G (n == 26) _ _ (λ is. rule_26 h x.phase) (λ not. quiet h)))))))
 
   -- the rule for a message
   pub received_goes : (from : ℕ) (message : Message) → MessageHolds l from message → Goes c l stored (received p from message x)
@@ -42,6 +43,7 @@ module _ {c : Course} {l : Ledger} {x : State} {stored : Option Fact} (h : Fits 
   received_goes from (messages.Nack ballot cause) says = rule_15 h x.phase ballot cause
   received_goes from (messages.NewEpoch fact) says = rule_16 h from fact says
   received_goes from (messages.Accepted ballot seq) says = rule_17 h x.phase from ballot seq h.peer.phase h.peer.sync says
+  received_goes from (messages.Commit fact) says = rule_18 h from fact says
   received_goes from (messages.Beat ballot) says = rule_19 h from ballot
   received_goes from (messages.Check ballot round) says = harmless_goes h (row_20 x.fact from ballot round) (row_20_harmless x.fact from ballot round)
   received_goes from (messages.CheckReply ballot round) says = quiet h

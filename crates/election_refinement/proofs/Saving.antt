@@ -2,7 +2,7 @@
 -- that it accepts.
 use Rattle.std.proofs.Common.{◌≡◌, ℕ, ◌<◌, ◌≤◌, Bool, true, Option, Some, None, arith, refl, ap, le_trans, ◌∙◌, sym, subst}
 use Rattle.std.proofs.lemmas.Bool.Decides.{nat_tests}
-use Rattle.abstract_protocol.specs.Ledger.{Ledger, Place, mark, raise, accept}
+use Rattle.abstract_protocol.specs.Ledger.{Ledger, Place, IsAtMost, IsNew, mark, raise, accept, join}
 use Rattle.abstract_protocol.specs.Numbers.{epoch_number, IsEpoch}
 use Rattle.ens_base.specs.declared.epoch.Epoch.{Epoch}
 use Rattle.peer_core.specs.declared.state.Phase.{Phase}
@@ -11,16 +11,14 @@ use Rattle.peer_fact.specs.declared.fact.Fact.{Fact}
 use Rattle.phase_rows.specs.Rows.{at_ballot}
 use Rattle.running_sync.specs.Running.{Running}
 use Rattle.version_laws.proofs.Maps.{put_here}
-use Rattle.election_refinement.proofs.Keeps.{accept_keeps, first_keeps}
-use Rattle.election_refinement.proofs.Reaching.{Course, Reaches, reaches_safe, raise_reaches, accept_reaches}
+use Rattle.election_refinement.proofs.Keeps.{Keeps, accept_keeps, join_keeps, first_keeps}
+use Rattle.election_refinement.proofs.Numbers.{place_epoch, place_trans}
+use Rattle.election_refinement.proofs.Reaching.{Course, Reaches, reaches_safe, raise_reaches, accept_reaches, join_reaches}
 use Rattle.election_refinement.proofs.Rows.{Fits}
-use Rattle.election_refinement.specs.Refinement.{first_seq, IsKnown, IsFirst, HasPromised, IsSaved, PhaseHolds, may_wait, SyncHolds}
+use Rattle.election_refinement.specs.Refinement.{fact_place, second_of, IsKnown, IsFirst, HasPromised, IsSaved, PhaseHolds, may_wait, SyncHolds}
 
 pub mark_here : (r : ℕ → ℕ → Bool) (d p : ℕ) → mark r d p d p ≡ true
 mark_here r d p = grind (arith, nat_tests)
-
-first_seq_later : (d : ℕ) → 0 < d → first_seq d ≡ 1
-first_seq_later d later = grind (arith, nat_tests)
 
 -- ## A greater ballot
 
@@ -30,7 +28,7 @@ raised_known l p fact ballot old epoch above = record {
   epoch = old.epoch;
   below = le_trans old.below above;
   elected = old.elected;
-  seq = old.seq;
+  is_fact = old.is_fact;
   leader = old.leader;
   views = old.views;
   change = old.change;
@@ -41,15 +39,17 @@ raised_saved l p fact ballot old epoch above = record { known = raised_known l p
 
 -- ## The first fact of an epoch
 
-pub accepted_saved : (l : Ledger) (p : ℕ) (new : Fact) → IsFirst l new → l.ballot p ≡ epoch_number new.epoch → IsFirst (accept l p (epoch_number new.epoch)) new → IsSaved (accept l p (epoch_number new.epoch)) p new
-accepted_saved l p new is_first stands now = record {
-  known = now.known;
+-- the place of a fact with this number in its epoch
+same_place : (d s t : ℕ) → s ≡ t → ◌≡◌ {A = Place} (record { epoch = d; seq = s }) (record { epoch = d; seq = t })
+same_place d s t e = ap (λ n. record { epoch = d; seq = n }) e
+
+-- the first fact of an epoch is saved once the peer accepted the epoch, in either way
+pub first_saved : (l m : Ledger) (p : ℕ) (new : Fact) → Keeps l m p → IsFirst l new → m.ballot p ≡ epoch_number new.epoch → m.fact p ≡ record { epoch = epoch_number new.epoch; seq = 1 } → IsSaved m p new
+first_saved l m p new keeps is_first stands place = record {
+  known = (first_keeps l m p keeps new is_first).known;
   ballot = stands ∙ ap epoch_number (sym is_first.own_ballot);
-  place = put_here l.fact p (record { epoch = epoch_number new.epoch; seq = 1 }) ∙ same_place (epoch_number new.epoch) 1 new.seq (sym (is_first.known.seq ∙ first_seq_later (epoch_number new.epoch) is_first.later));
+  place = place ∙ same_place (epoch_number new.epoch) 1 new.seq (sym is_first.seq);
 }
-  where
-    same_place : (d s t : ℕ) → s ≡ t → ◌≡◌ {A = Place} (record { epoch = d; seq = s }) (record { epoch = d; seq = t })
-    same_place d s t e = rw e refl
 
 module _ {c : Course} {l : Ledger} {x : State} {stored : Option Fact} (h : Fits c l x stored) where
   open c use {peer as p}
@@ -70,23 +70,40 @@ module _ {c : Course} {l : Ledger} {x : State} {stored : Option Fact} (h : Fits 
   own_accepted = subst (λ (place : Place). l.accepted place.epoch p ≡ true) h.peer.saved.place ((reaches_safe c l h.reaches).ballots.last p)
 
   -- the peer accepted nothing later than its fact, so it may promise with it
-  pub own_promise : (d b : ℕ) → epoch_number x.fact.epoch ≤ b → HasPromised (raise l p d) p d b
-  own_promise d b low = record {
+  pub own_promise : (d : ℕ) (f : Place) → IsAtMost (fact_place x.fact) f → HasPromised (raise l p d) p d f
+  own_promise d f low = record {
     stands = subst (λ n. d ≤ n) (sym (put_here l.ballot p d)) (omega arith);
-    told = λ a accepted below. le_trans (subst (λ (place : Place). a ≤ place.epoch) h.peer.saved.place ((reaches_safe c l h.reaches).ballots.accepted p a accepted)) low;
+    told = λ a accepted below. le_trans ((reaches_safe c l h.reaches).ballots.accepted p a accepted) (place_epoch (l.fact p) f at_most);
+    told_second = λ a adopted below. place_trans (second_of a) (l.fact p) f (h.reaches.orderly.adopted p a adopted) at_most;
   }
+    where
+      at_most : IsAtMost (l.fact p) f
+      at_most = subst (λ (place : Place). IsAtMost place f) (sym h.peer.saved.place) low
 
   -- the first fact of an epoch is accepted and saved, after steps that led to a ledger where the
   -- peer is at the ballot of this epoch
-  abbrev pub accepted_fits : (m : Ledger) → Reaches c m → (new : Fact) → IsFirst m new → m.ballot p ≡ epoch_number new.epoch → (m.fact p).epoch < epoch_number new.epoch
+  abbrev pub accepted_fits : (m : Ledger) → Reaches c m → (new : Fact) → IsFirst m new → m.ballot p ≡ epoch_number new.epoch → (m.fact p).epoch < epoch_number new.epoch → ¬ IsNew (m.views (epoch_number new.epoch)) p
       → (phase : Phase) → PhaseHolds (accept m p (epoch_number new.epoch)) p new phase → (sync : Option Running) → SyncHolds (accept m p (epoch_number new.epoch)) p new (may_wait phase) sync
       → Fits c (accept m p (epoch_number new.epoch)) (record x { fact = new; phase = phase; sync = sync }) (Some new)
-  accepted_fits m reaches new is_first stands newer phase holds sync runs = record {
-    reaches = accept_reaches c m reaches (epoch_number new.epoch) is_first.known.elected stands newer;
+  accepted_fits m reaches new is_first stands newer old phase holds sync runs = record {
+    reaches = accept_reaches c m reaches (epoch_number new.epoch) is_first.known.elected stands newer old;
     peer = record {
-      saved = accepted_saved m p new is_first stands (first_keeps m (accept m p (epoch_number new.epoch)) p (accept_keeps m p (epoch_number new.epoch) stands) new is_first);
+      saved = first_saved m (accept m p (epoch_number new.epoch)) p new (accept_keeps m p (epoch_number new.epoch) stands) is_first stands (put_here m.fact p (record { epoch = epoch_number new.epoch; seq = 1 }));
       kept = refl;
       phase = holds;
       sync = runs;
+    };
+  }
+
+  -- the same by the end of a sync, after which no sync runs
+  abbrev pub joined_fits : (new : Fact) → IsFirst l new → l.ballot p ≡ epoch_number new.epoch → (l.fact p).epoch < epoch_number new.epoch
+      → (phase : Phase) → PhaseHolds (join l p (epoch_number new.epoch)) p new phase → Fits c (join l p (epoch_number new.epoch)) (record x { fact = new; phase = phase; sync = None }) (Some new)
+  joined_fits new is_first stands newer phase holds = record {
+    reaches = join_reaches c l h.reaches (epoch_number new.epoch) is_first.later is_first.known.elected stands newer;
+    peer = record {
+      saved = first_saved l (join l p (epoch_number new.epoch)) p new (join_keeps l p (epoch_number new.epoch) stands) is_first stands (put_here l.fact p (record { epoch = epoch_number new.epoch; seq = 1 }));
+      kept = refl;
+      phase = holds;
+      sync = tt;
     };
   }

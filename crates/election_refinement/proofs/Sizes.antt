@@ -84,7 +84,7 @@ run_from_size (event ∷ more) w = run_from_size more (applied event w) ∙ effe
 pub schedule_size : (peers : ℕ) (view : List ℕ) (events : List ScheduleEvent) → size (run_of_schedule peers view events) ≡ peers
 schedule_size peers view events = run_from_size events (opening_run peers view) ∙ length-replicate peers (opening_node view)
 
-module _ (view : List ℕ) (l : Ledger) (w : Run) (refines : Refines view l w) where
+module _ (view : List ℕ) (l : Ledger) (w : Run) (refines : Refines l w) where
   -- the node at a place
   at_place : (place : ℕ) → place < size w → slice_get w.nodes place ≡ Some (get_or w.nodes place (opening_node view))
   at_place place below = slice_get-get_or w.nodes place (opening_node view) below

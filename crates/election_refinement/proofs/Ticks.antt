@@ -1,24 +1,25 @@
 -- Rules 2 to 5: a tick.
 use Rattle.std.specs.Prelude.{All}
-use Rattle.std.proofs.Common.{◌≡◌, ℕ, zero, suc, ◌≤◌, ◌+◌, Bool, false, ◌==◌, if◌then◌else◌, [], ◌∷◌, Option, None, arith, refl, ◌∙◌}
+use Rattle.std.proofs.Common.{◌≡◌, ℕ, zero, suc, ◌≤◌, ◌+◌, Bool, ◌==◌, if◌then◌else◌, [], ◌∷◌, Option, arith}
 use Rattle.std.proofs.lemmas.List.Elements.{All-nil, All-cons, All-append}
 use Rattle.joint_views.specs.Quorums.{is_member}
 use Rattle.abstract_protocol.specs.Ledger.{Ledger}
-use Rattle.abstract_protocol.specs.Numbers.{epoch_number}
 use Rattle.election.specs.declared.election.Election.TheVariants.{Preparing, Starting}
 use Rattle.ens_base.specs.PeerSet.{holds}
 use Rattle.following.specs.declared.follower.Follower.{Follower}
 use Rattle.leader_words.specs.Sends.{is_other}
 use Rattle.leader_words.specs.declared.out.Outgoing.{Outgoing}
-use Rattle.leading.specs.Ticks.{tick_message, ticks_up_to}
+use Rattle.leading.specs.Ticks.{finishing_message, tick_message, ticks_up_to}
 use Rattle.peer_core.specs.Moves.{electing, following}
+use Rattle.peer_core.specs.Leading.{end_of}
 use Rattle.peer_core.specs.Rows.{aged, runs_sync}
+use Rattle.peer_core.specs.declared.state.ChangeState.{ChangeState}
+use Rattle.peer_core.specs.declared.state.ChangeState.TheVariants.{Settled, Wanted, Finishing as Finishes}
 use Rattle.peer_core.specs.declared.state.Leadership.{Leadership}
 use Rattle.peer_core.specs.declared.state.Phase.{Phase}
 use Rattle.peer_core.specs.declared.state.Phase.TheVariants as phases
 use Rattle.peer_core.specs.declared.state.State.{State}
 use Rattle.peer_fact.specs.declared.fact.Fact.{Fact}
-use Rattle.phase_rows.specs.Orders.{is_joint}
 use Rattle.phase_rows.specs.Peers.{others_outside}
 use Rattle.phase_rows.specs.Rows.{silent, sends}
 use Rattle.wire_frames.specs.declared.message.Message.TheVariants as messages
@@ -28,34 +29,39 @@ use Rattle.wire_frames.specs.declared.phase.Then.TheVariants as thens
 use Rattle.election_refinement.proofs.Reaching.{Course}
 use Rattle.election_refinement.proofs.Rows.{Fits, Goes, unmoved, enters, quiet, follows, rests_in, names}
 use Rattle.election_refinement.proofs.Tests.{by_test}
-use Rattle.election_refinement.specs.Refinement.{IsLeading, PhaseHolds, may_wait, SyncHolds, MessageHolds, SendHolds}
+use Rattle.election_refinement.specs.Refinement.{IsSecond, ChangeHolds, IsLeading, PhaseHolds, may_wait, SyncHolds, MessageHolds, SendHolds}
+
+-- a leader tells a peer that accepted the epoch of the second fact, or that it is alive
+told_after : (l : Ledger) (p : ℕ) (fact : Fact) (y : Leadership) → IsLeading l p fact y → (fact.seq ≡ 2 → IsSecond l fact) → (change : ChangeState) → ChangeHolds l fact change → (q : ℕ) → MessageHolds l p (finishing_message (end_of change) fact y.leader q)
+told_after l p fact y leading second Settled old q = record { elected = leading.started.first.known.elected; established = leading.established }
+told_after l p fact y leading second (Wanted change) old q = record { elected = leading.started.first.known.elected; established = leading.established }
+told_after l p fact y leading second (Finishes f) old q =
+    by_test (MessageHolds l p) (holds f.accepts2 q) _ _
+    (λ has. record { elected = leading.started.first.known.elected; established = leading.established })
+    (λ lacks. second old.seq)
 
 -- what a leader's message to a peer asserts holds
-pub word_holds : (l : Ledger) (p : ℕ) (fact : Fact) (leadership : Leadership) → IsLeading l p fact leadership → (q : ℕ) → MessageHolds l p (tick_message None fact leadership.leader q)
-word_holds l p fact leadership leading q =
-    by_test (MessageHolds l p) (holds leadership.leader.accepts q) _ _
-    (λ has. record { elected = leading.started.first.known.elected; established = leading.established })
+pub word_holds : (l : Ledger) (p : ℕ) (fact : Fact) (y : Leadership) → IsLeading l p fact y → (fact.seq ≡ 2 → IsSecond l fact) → (q : ℕ) → MessageHolds l p (tick_message (end_of y.change) fact y.leader q)
+word_holds l p fact y leading second q =
+    by_test (MessageHolds l p) (holds y.leader.accepts q) _ _
+    (λ has. told_after l p fact y leading second y.change leading.change q)
     (λ lacks. leading.started.first)
 
 -- what a leader sends at a tick
-pub ticks_hold : (l : Ledger) (p : ℕ) (fact : Fact) (leadership : Leadership) → IsLeading l p fact leadership → (n : ℕ) → n ≤ 31 → All (SendHolds l p) (ticks_up_to None fact leadership.leader n)
+pub ticks_hold : (l : Ledger) (p : ℕ) (fact : Fact) (y : Leadership) → IsLeading l p fact y → (fact.seq ≡ 2 → IsSecond l fact) → (n : ℕ) → n ≤ 31 → All (SendHolds l p) (ticks_up_to (end_of y.change) fact y.leader n)
 unfolding ticks_up_to
-ticks_hold l p fact leadership leading zero within = All-nil (SendHolds l p)
-ticks_hold l p fact leadership leading (suc n) within =
-    All-append (SendHolds l p) (ticks_up_to None fact leadership.leader n) (if is_other leadership.leader.me leadership.leader.fact.views (n + 1) then sent ∷ [] else []) (ticks_hold l p fact leadership leading n (omega arith))
-    (by_test (All (SendHolds l p)) (is_other leadership.leader.me leadership.leader.fact.views (n + 1)) (sent ∷ []) []
-    (λ is. All-cons (SendHolds l p) sent [] ((omega arith, omega arith), word_holds l p fact leadership leading (n + 1)) (All-nil (SendHolds l p)))
+ticks_hold l p fact y leading second zero within = All-nil (SendHolds l p)
+ticks_hold l p fact y leading second (suc n) within =
+    All-append (SendHolds l p) (ticks_up_to (end_of y.change) fact y.leader n) (if is_other y.leader.me y.leader.fact.views (n + 1) then sent ∷ [] else []) (ticks_hold l p fact y leading second n (omega arith))
+    (by_test (All (SendHolds l p)) (is_other y.leader.me y.leader.fact.views (n + 1)) (sent ∷ []) []
+    (λ is. All-cons (SendHolds l p) sent [] ((omega arith, omega arith), word_holds l p fact y leading second (n + 1)) (All-nil (SendHolds l p)))
     (λ not. All-nil (SendHolds l p)))
   where
     sent : Outgoing
-    sent = record { to = n + 1; message = tick_message None fact leadership.leader (n + 1) }
+    sent = record { to = n + 1; message = tick_message (end_of y.change) fact y.leader (n + 1) }
 
 module _ {c : Course} {l : Ledger} {x : State} {stored : Option Fact} (h : Fits c l x stored) where
   open c use {peer as p}
-
-  -- the views of a leader's epoch are the opening view alone
-  pub not_joint : (leadership : Leadership) → IsLeading l p x.fact leadership → is_joint leadership.leader.fact.views ≡ false
-  not_joint leadership leading = rw (leading.started.first.known.views ∙ h.reaches.orderly.one_view (epoch_number leadership.leader.fact.epoch) leading.started.first.known.elected) refl
 
   -- a tick that changes only the phase, and may run rule 7
   anew : (phase : Phase) (test : Bool) → PhaseHolds l p x.fact phase → SyncHolds l p x.fact (may_wait phase) x.sync → Goes c l stored (record x { phase = phase }, silent (if test then thens.Rule 7 else thens.Stay))
@@ -77,6 +83,6 @@ module _ {c : Course} {l : Ledger} {x : State} {stored : Option Fact} (h : Fits 
       by_test (λ (row : PhaseOut). Goes c l stored (electing (Starting new accepts (age + 1)) x, row)) (age + 1 == 8) _ _
       (λ spent. follows h (phases.Electing (Starting new accepts (age + 1))))
       (λ young. by_test (λ (turn : Then). Goes c l stored (electing (Starting new accepts (age + 1)) x, sends (others_outside p accepts new.views) (messages.NewEpoch new) turn)) (runs_sync x.sync) _ _
-      (λ syncs. unmoved (enters h (phases.Electing (Starting new accepts (age + 1))) old runs) old.first tt)
-      (λ none. unmoved (enters h (phases.Electing (Starting new accepts (age + 1))) old runs) old.first tt))
+      (λ syncs. unmoved (enters h (phases.Electing (Starting new accepts (age + 1))) old runs) old.started.first tt)
+      (λ none. unmoved (enters h (phases.Electing (Starting new accepts (age + 1))) old runs) old.started.first tt))
   aged_goes (phases.Leading y) old runs = quiet h

@@ -47,7 +47,7 @@ use Rattle.election_refinement.proofs.Keeps.{Keeps, keeps_none, node_keeps, fram
 use Rattle.election_refinement.proofs.Loops.{EventHolds, Here, Rests, Good, LeavesFact, step_good, start_good}
 use Rattle.election_refinement.proofs.Reaching.{Course, Reaches}
 use Rattle.election_refinement.specs.Refinement.{PeerHolds, IsKept, NodeHolds, SendHolds, FrameHolds}
-use Rattle.election_refinement.specs.Worlds.{IsLinked, Spares, Refines, ledger_after, GoesOn}
+use Rattle.election_refinement.specs.Worlds.{Spares, Refines, ledger_after, GoesOn}
 
 -- the element at a place after an element was set
 get_put : {A : Type 0} (xs : List A) (p q : ℕ) (y m : A) → slice_get (slice_set xs p y) q ≡ Some m → ((p ≡ q) × (m ≡ y)) ⊎ ((p ≡ q → ⊥) × (slice_get xs q ≡ Some m))
@@ -202,7 +202,7 @@ module _ (view : List ℕ) (steps : List Step) (spared : ℕ → Type 0) where
     put_goes_on : (t : Taken) (v : Run) → (h : Agrees (course p peer) (ledger_of w g) t) → v.nodes ≡ slice_set w.nodes (place_of p) t.node → All (FrameHolds h.ledger) v.mail.sent → GoesOn view steps v
     put_goes_on t v h set sent = record {
       more = h.reaches.more;
-      refinement = record { run = h.reaches.run; refines = subst (λ l. Refines view l v) (sym h.reaches.same) (record { orderly = h.reaches.orderly; nodes = nodes; sent = sent }) };
+      refinement = record { run = h.reaches.run; refines = subst (λ l. Refines l v) (sym h.reaches.same) (record { orderly = h.reaches.orderly; nodes = nodes; sent = sent }) };
     }
       where
         put : (place : ℕ) (node : Node) → slice_get (slice_set w.nodes (place_of p) t.node) place ≡ Some node → NodeHolds h.ledger (suc place) node
@@ -405,28 +405,28 @@ module _ (view : List ℕ) (steps : List Step) (spared : ℕ → Type 0) where
     failing_keeps names.Tree leaves st = refl
     failing_keeps names.Backend leaves st = refl
 
-    effect_refines : (event : ScheduleEvent) (w : Run) → MayStand peers event → IsLinked event → SparesAll spared event → Advances w → Advances (effect event w)
-    effect_refines (Call peer id key command) w may linked spares a = stepped_refines peer (is_peer peer may.0.first may.0.last) (events.Call (call_of id key command)) w a tt (λ q is_spared. tt)
-    effect_refines (Tick peer ticks) w may linked spares a = ticked_refines peer (is_peer peer may.0.first may.0.last) ticks w a
-    effect_refines (Deliver message) w may linked spares a = delivered_refines (message - 1) w a
-    effect_refines (Pass sender receiver) w may linked spares a = delivered_if_refines (oldest (goes sender receiver) w.mail) w a
-    effect_refines (Lose sender receiver) w may linked spares a = resent w (with_loss sender receiver w) refl refl a
-    effect_refines Calm w may linked spares a = calmed_refines everyone most_messages w a
-    effect_refines (CalmAmong members) w may linked spares a = calmed_refines (set_of members) most_messages w a
-    effect_refines (Change peer asked) w may linked spares a = absurd linked
-    effect_refines (Stop peer) w may linked spares a =
+    effect_refines : (event : ScheduleEvent) (w : Run) → MayStand peers event → SparesAll spared event → Advances w → Advances (effect event w)
+    effect_refines (Call peer id key command) w may spares a = stepped_refines peer (is_peer peer may.0.first may.0.last) (events.Call (call_of id key command)) w a tt (λ q is_spared. tt)
+    effect_refines (Tick peer ticks) w may spares a = ticked_refines peer (is_peer peer may.0.first may.0.last) ticks w a
+    effect_refines (Deliver message) w may spares a = delivered_refines (message - 1) w a
+    effect_refines (Pass sender receiver) w may spares a = delivered_if_refines (oldest (goes sender receiver) w.mail) w a
+    effect_refines (Lose sender receiver) w may spares a = resent w (with_loss sender receiver w) refl refl a
+    effect_refines Calm w may spares a = calmed_refines everyone most_messages w a
+    effect_refines (CalmAmong members) w may spares a = calmed_refines (set_of members) most_messages w a
+    effect_refines (Change peer asked) w may spares a = stepped_refines peer (is_peer peer may.0.first may.0.last) (events.Change asked) w a tt (λ q is_spared. tt)
+    effect_refines (Stop peer) w may spares a =
         changed_refines peer (is_peer peer may.first may.last) stopped w a (stopped_agrees peer (is_peer peer may.first may.last) w a.on) (λ is_spared node up. absurd (not_spared peer (is_peer peer may.first may.last) (spares (place_of peer) is_spared))) (stopped_own peer)
-    effect_refines (Start peer) w may linked spares a =
+    effect_refines (Start peer) w may spares a =
         changed_refines peer (is_peer peer may.first may.last) (started w.view) w a (started_agrees peer (is_peer peer may.first may.last) w a.on w.view) (λ is_spared. started_spared w.view) (started_own peer w.view)
-    effect_refines (Spoil peer key bytes) w may linked spares a = over_refines peer (is_peer peer may.0.first may.0.last) (spoiled key bytes) (λ st. refl) (λ is_spared st none. record { facts = none.facts; tree = none.tree; backend = none.backend }) w a
-    effect_refines (Damage peer key bytes) w may linked spares a =
+    effect_refines (Spoil peer key bytes) w may spares a = over_refines peer (is_peer peer may.0.first may.0.last) (spoiled key bytes) (λ st. refl) (λ is_spared st none. record { facts = none.facts; tree = none.tree; backend = none.backend }) w a
+    effect_refines (Damage peer key bytes) w may spares a =
         over_refines peer (is_peer peer may.0.first may.0.last) (segment_spoiled key bytes) (λ st. refl) (λ is_spared st none. record { facts = none.facts; tree = none.tree; backend = none.backend }) w a
-    effect_refines (Inner peer level index bytes) w may linked spares a =
+    effect_refines (Inner peer level index bytes) w may spares a =
         over_refines peer (is_peer peer may.0.first may.0.last) (inner_spoiled level index bytes) (λ st. refl) (λ is_spared st none. record { facts = none.facts; tree = none.tree; backend = none.backend }) w a
-    effect_refines (Revert peer changes) w may linked spares a =
+    effect_refines (Revert peer changes) w may spares a =
         changed_refines peer (is_peer peer may.0.first may.0.last) (while_down (taken_back changes)) w a (while_agrees peer (is_peer peer may.0.first may.0.last) w a.on (taken_back changes) (λ st. refl)) (λ is_spared. while_spared (taken_back changes)) (while_down_own (taken_back changes) peer)
-    effect_refines (Fail peer store survivor) w may linked spares a =
+    effect_refines (Fail peer store survivor) w may spares a =
         over_refines peer (is_peer peer may.first may.last) (failing store (leaves_of survivor)) (failing_keeps store (leaves_of survivor)) (λ is_spared st none. absurd (not_spared peer (is_peer peer may.first may.last) (spares (place_of peer) is_spared))) w a
 
-    pub applied_refines : (event : ScheduleEvent) (w : Run) → MayStand peers event → IsLinked event → SparesAll spared event → Advances w → Advances (applied event w)
-    applied_refines event w may linked spares a = resent (effect event w) (counted event (effect event w)) refl refl (effect_refines event w may linked spares a)
+    pub applied_refines : (event : ScheduleEvent) (w : Run) → MayStand peers event → SparesAll spared event → Advances w → Advances (applied event w)
+    applied_refines event w may spares a = resent (effect event w) (counted event (effect event w)) refl refl (effect_refines event w may spares a)

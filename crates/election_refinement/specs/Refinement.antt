@@ -1,24 +1,28 @@
 -- The refinement relation, part by part: what a fact, a phase, a peer and a message assert about
 -- the ledger of the abstract protocol.
-use Rattle.std.specs.Prelude.{◌≡◌, ℕ, ◌<◌, ◌≤◌, Bool, true, false, List, [], ◌∷◌, Option, None, Some, ◌==◌, if◌then◌else◌}
-use Rattle.abstract_protocol.specs.Ledger.{Ledger, Place, is_established}
+use Rattle.std.specs.Prelude.{◌≡◌, ℕ, ◌<◌, ◌≤◌, ◌⊎◌, Bool, true, false, ◌||◌, nat_le, List, [], ◌∷◌, Option, None, Some, ◌==◌, if◌then◌else◌}
+use Rattle.abstract_protocol.specs.Ledger.{Ledger, Place, Change, Add, Drop, IsAtMost, IsFact, is_established}
 use Rattle.abstract_protocol.specs.Numbers.{epoch_number, IsEpoch}
 use Rattle.election_laws.specs.Preparing.{proposer_of}
 use Rattle.election.specs.declared.election.Election.{Election}
 use Rattle.election.specs.declared.election.Election.TheVariants.{Preparing, Starting}
 use Rattle.ens_base.specs.PeerSet.{holds}
+use Rattle.joint_views.specs.Quorums.{is_quorum}
 use Rattle.ens_base.specs.View.{IsPeer}
 use Rattle.ens_base.specs.declared.epoch.Epoch.{Epoch}
-use Rattle.peer_core.specs.declared.state.ChangeState.TheVariants.{Settled}
+use Rattle.peer_core.specs.declared.state.ChangeState.{ChangeState}
+use Rattle.peer_core.specs.declared.state.ChangeState.TheVariants.{Settled, Wanted, Finishing as Finishes}
 use Rattle.peer_core.specs.declared.state.Leadership.{Leadership}
 use Rattle.peer_core.specs.declared.state.Phase.{Phase}
 use Rattle.peer_core.specs.declared.state.Phase.TheVariants as phases
 use Rattle.peer_core.specs.declared.state.State.{State}
+use Rattle.peer_fact.specs.declared.fact.Change.{Change as FactChange}
 use Rattle.peer_fact.specs.declared.fact.Change.TheVariants as changes
 use Rattle.peer_fact.specs.declared.fact.Fact.{Fact}
 use Rattle.probe.specs.declared.probing.Probing.{Probing}
 use Rattle.running_sync.specs.Running.{Running}
 use Rattle.running_sync.specs.Sends.{AsksOthers}
+use Rattle.view_change.specs.declared.finishing.Finishing.{Finishing}
 use Rattle.leader_words.specs.declared.out.Outgoing.{Outgoing}
 use Rattle.wire_frames.specs.declared.frame.Frame.{Frame}
 use Rattle.wire_frames.specs.declared.message.Message.{Message}
@@ -27,39 +31,72 @@ use Rattle.world_spec.specs.Nodes.{Node, Up, Down}
 
 -- ## Facts
 
--- the sequence number of the first fact of an epoch: 0 in the opening epoch, 1 in every other
-abbrev pub first_seq : ℕ → ℕ
-first_seq d = if d == 0 then 0 else 1
-
 -- the place of a fact in the order of facts
 abbrev pub fact_place : Fact → Place
 fact_place f = record { epoch = epoch_number f.epoch; seq = f.seq }
 
--- the opening fact, or the first fact of an elected epoch: its leader is the proposer of the epoch,
--- its views are those of the ledger, and it begins no change; its ballot may be greater than its
--- epoch
+-- a change of the ledger, as a fact tells it
+abbrev pub told_change : Change → FactChange
+told_change (Add view) = changes.Add view
+told_change Drop = changes.Drop
+
+-- the change that the fact at this place tells: only the second fact of an epoch tells one
+abbrev pub change_at : Ledger → Place → FactChange
+change_at l f = if f.seq == 2 then told_change (l.change f.epoch) else changes.None
+
+-- the change can be made of these views: a view is added to a single one
+abbrev pub IsFitting : Change → List (List ℕ) → Type 0
+IsFitting Drop views = Unit {0}
+IsFitting (Add view) (only ∷ []) = Unit {0}
+IsFitting (Add view) views = ⊥
+
+-- a fact of the ledger: the opening, the first fact of an elected epoch, or the second of a changed
+-- one; its leader is the proposer of the epoch, its views and its change are those of the ledger, and
+-- its ballot may be greater than its epoch
 pub record IsKnown (l : Ledger) (f : Fact) : Type 0 where
   pub ballot : IsEpoch f.ballot
   pub epoch : IsEpoch f.epoch
   pub below : epoch_number f.epoch ≤ epoch_number f.ballot
   pub elected : l.elected (epoch_number f.epoch) ≡ true
-  pub seq : f.seq ≡ first_seq (epoch_number f.epoch)
+  pub is_fact : IsFact l (fact_place f)
   pub leader : f.leader ≡ f.epoch.proposer
   pub views : f.views ≡ l.views (epoch_number f.epoch)
-  pub change : f.change ≡ changes.None
+  pub change : f.change ≡ change_at l (fact_place f)
 
 -- the fact with which an elected epoch began, at the ballot of that epoch
 pub record IsFirst (l : Ledger) (f : Fact) : Type 0 where
   pub known : IsKnown l f
+  pub seq : f.seq ≡ 1
   pub later : 0 < epoch_number f.epoch
   pub own_ballot : f.ballot ≡ f.epoch
 
+-- the fact with which the leader of an epoch changed the views, at the ballot of that epoch
+pub record IsSecond (l : Ledger) (f : Fact) : Type 0 where
+  pub known : IsKnown l f
+  pub seq : f.seq ≡ 2
+  pub later : 0 < epoch_number f.epoch
+  pub own_ballot : f.ballot ≡ f.epoch
+
+-- whether the peer accepted the fact at this place, or still may
+abbrev pub may_take : Ledger → Place → ℕ → Bool
+may_take l f q = nat_le (l.ballot q) f.epoch || (if f.seq == 2 then l.adopted f.epoch q else l.accepted f.epoch q)
+
+-- no quorum can accept the fact at this place any more
+abbrev pub IsFactClosed : Ledger → Place → Type 0
+IsFactClosed l f = is_quorum (may_take l f) (l.views f.epoch) ≡ false
+
+-- the place of the second fact of an epoch
+abbrev pub second_of : ℕ → Place
+second_of d = record { epoch = d; seq = 2 }
+
 -- ## Promises and acceptances
 
--- the peer is at the ballot or above, and accepted no epoch above b and below the ballot
-pub record HasPromised (l : Ledger) (peer ballot b : ℕ) : Type 0 where
+-- the peer is at the ballot or above, and of the facts of lower epochs it accepted none that is later
+-- than the one at this place
+pub record HasPromised (l : Ledger) (peer ballot : ℕ) (f : Place) : Type 0 where
   pub stands : ballot ≤ l.ballot peer
-  pub told : (a : ℕ) → l.accepted a peer ≡ true → a < ballot → a ≤ b
+  pub told : (a : ℕ) → l.accepted a peer ≡ true → a < ballot → a ≤ f.epoch
+  pub told_second : (a : ℕ) → l.adopted a peer ≡ true → a < ballot → IsAtMost (second_of a) f
 
 -- every peer of the set accepted the epoch
 abbrev pub HaveAccepted : Ledger → ℕ → List Bool → Type 0
@@ -71,32 +108,56 @@ HaveAccepted l d peers = (q : ℕ) → holds peers q ≡ true → l.accepted d q
 -- below the counts of their ballots
 pub record IsProbing (l : Ledger) (fact : Fact) (probing : Probing) : Type 0 where
   pub best : IsKnown l probing.best
-  pub newer : epoch_number fact.epoch ≤ epoch_number probing.best.epoch
+  pub newer : IsAtMost (fact_place fact) (fact_place probing.best)
   pub counts_best : probing.best.ballot.count ≤ probing.count
   pub counts_own : fact.ballot.count ≤ probing.count
 
 -- a preparing peer: the epoch of its ballot is not elected yet, the base is a known fact below the
--- ballot, and no peer that promised had accepted a newer epoch than that of the base
+-- ballot, and no peer that promised had accepted a newer fact
 pub record IsPreparing (l : Ledger) (me : ℕ) (fact base : Fact) (promises : List Bool) : Type 0 where
   pub own : fact.ballot.proposer ≡ me
   pub fresh : l.elected (epoch_number fact.ballot) ≡ false
   pub known : IsKnown l base
   pub above : epoch_number base.epoch < epoch_number fact.ballot
-  pub promised : (q : ℕ) → holds promises q ≡ true → HasPromised l q (epoch_number fact.ballot) (epoch_number base.epoch)
+  pub promised : (q : ℕ) → holds promises q ≡ true → HasPromised l q (epoch_number fact.ballot) (fact_place base)
 
--- a starting peer: it is the proposer of its ballot, the epoch of the ballot is elected, `new` is
--- its first fact, and every peer in the set accepted it
-pub record IsStarting (l : Ledger) (me : ℕ) (fact new : Fact) (accepts : List Bool) : Type 0 where
+-- a peer that started an epoch: it is the proposer of its ballot, the epoch of the ballot is elected,
+-- `new` is its first fact, and every peer in the set accepted it
+pub record IsStarted (l : Ledger) (me : ℕ) (fact new : Fact) (accepts : List Bool) : Type 0 where
   pub own : fact.ballot.proposer ≡ me
   pub first : IsFirst l new
   pub at_ballot : new.epoch ≡ fact.ballot
   pub accepted : HaveAccepted l (epoch_number new.epoch) accepts
 
--- a leading peer: it started the epoch, a quorum accepted it, and no change of the view has begun
+-- a starting peer: it has not changed the views of its epoch
+pub record IsStarting (l : Ledger) (me : ℕ) (fact new : Fact) (accepts : List Bool) : Type 0 where
+  pub started : IsStarted l me fact new accepts
+  pub unchanged : l.changed (epoch_number new.epoch) ≡ false
+
+-- a leader wants this change: it has not changed the views yet, and the change can be made of them
+pub record IsWanted (l : Ledger) (fact : Fact) (wanted : FactChange) : Type 0 where
+  pub unchanged : l.changed (epoch_number fact.epoch) ≡ false
+  pub change : Change
+  pub told : wanted ≡ told_change change
+  pub fits : IsFitting change (l.views (epoch_number fact.epoch))
+
+-- a leader whose epoch ends: it saved the second fact, and every peer in the set accepted it
+pub record IsFinishing (l : Ledger) (fact : Fact) (finishing : Finishing) : Type 0 where
+  pub seq : fact.seq ≡ 2
+  pub adopted : (q : ℕ) → holds finishing.accepts2 q ≡ true → l.adopted (epoch_number fact.epoch) q ≡ true
+
+-- how far a leader with this saved fact is with a change of the views
+abbrev pub ChangeHolds : Ledger → Fact → ChangeState → Type 0
+ChangeHolds l fact Settled = l.changed (epoch_number fact.epoch) ≡ false
+ChangeHolds l fact (Wanted change) = IsWanted l fact change
+ChangeHolds l fact (Finishes finishing) = IsFinishing l fact finishing
+
+-- a leading peer: it started the epoch and accepted it, and so did a quorum
 pub record IsLeading (l : Ledger) (me : ℕ) (fact : Fact) (leadership : Leadership) : Type 0 where
-  pub started : IsStarting l me fact leadership.leader.fact leadership.leader.accepts
+  pub started : IsStarted l me fact leadership.leader.fact leadership.leader.accepts
   pub established : is_established l (epoch_number leadership.leader.fact.epoch) ≡ true
-  pub settled : leadership.change ≡ Settled
+  pub has : fact.epoch ≡ leadership.leader.fact.epoch
+  pub change : ChangeHolds l fact leadership.change
 
 -- a preparing or starting peer
 abbrev pub IsElecting : Ledger → ℕ → Fact → Election → Type 0
@@ -173,25 +234,24 @@ pub record IsPrepare (l : Ledger) (sender : ℕ) (ballot : Epoch) : Type 0 where
   pub stands : epoch_number ballot ≤ l.ballot sender
 
 -- a promise of the ballot, with the sender's fact: its epoch is lower, and the sender accepted no
--- epoch in between
+-- fact in between
 pub record IsPromise (l : Ledger) (sender : ℕ) (ballot : Epoch) (f : Fact) : Type 0 where
   pub known : IsKnown l f
   pub at_ballot : f.ballot ≡ ballot
   pub lower : epoch_number f.epoch < epoch_number ballot
-  pub promised : HasPromised l sender (epoch_number ballot) (epoch_number f.epoch)
+  pub promised : HasPromised l sender (epoch_number ballot) (fact_place f)
 
--- the sender accepted the first fact of the epoch
-pub record IsAcceptance (l : Ledger) (sender : ℕ) (epoch : Epoch) (seq : ℕ) : Type 0 where
-  pub first : seq ≡ 1
-  pub accepted : l.accepted (epoch_number epoch) sender ≡ true
+-- the sender accepted the first fact of the epoch, or its second
+abbrev pub IsAcceptance : Ledger → ℕ → Epoch → ℕ → Type 0
+IsAcceptance l sender epoch seq = ((seq ≡ 1) × (l.accepted (epoch_number epoch) sender ≡ true)) ⊎ ((seq ≡ 2) × (l.adopted (epoch_number epoch) sender ≡ true))
 
 -- the epoch was elected, and a quorum accepted it
 pub record IsThere (l : Ledger) (epoch : Epoch) : Type 0 where
   pub elected : l.elected (epoch_number epoch) ≡ true
   pub established : is_established l (epoch_number epoch) ≡ true
 
--- what a message asserts about elections; the messages of calls and of syncs assert nothing, and no
--- message of the remaining kind is ever sent
+-- what a message asserts about elections; the messages of calls and of syncs assert nothing, and the
+-- frames of clients are never sent between peers
 abbrev pub MessageHolds : Ledger → ℕ → Message → Type 0
 MessageHolds l sender messages.Probe = Unit {0}
 MessageHolds l sender (messages.ProbeReply fact) = IsKnown l fact
@@ -200,6 +260,7 @@ MessageHolds l sender (messages.Promise ballot fact) = IsPromise l sender ballot
 MessageHolds l sender (messages.Nack ballot cause) = Unit {0}
 MessageHolds l sender (messages.NewEpoch fact) = IsFirst l fact
 MessageHolds l sender (messages.Accepted epoch seq) = IsAcceptance l sender epoch seq
+MessageHolds l sender (messages.Commit fact) = IsSecond l fact
 MessageHolds l sender (messages.Beat epoch) = IsThere l epoch
 MessageHolds l sender (messages.Check ballot round) = Unit {0}
 MessageHolds l sender (messages.CheckReply ballot round) = Unit {0}
@@ -221,7 +282,11 @@ FrameHolds l f = IsPeer f.from × (IsPeer f.to × MessageHolds l f.from f.messag
 
 -- ## The ledger
 
--- every elected epoch has the opening view alone, and its proposer is at its ballot or above
-pub record IsOrderly (view : List ℕ) (l : Ledger) : Type 0 where
-  pub one_view : (d : ℕ) → l.elected d ≡ true → l.views d ≡ view ∷ []
+-- the proposer of every elected epoch is at its ballot or above; every change can be made of the views
+-- of its epoch; a peer that accepted a second fact holds no earlier one; and each elected epoch is
+-- based on the second fact of the epoch of its base, or no quorum can accept that fact any more
+pub record IsOrderly (l : Ledger) : Type 0 where
   pub reached : (d : ℕ) → l.elected d ≡ true → d ≤ l.ballot (proposer_of d)
+  pub fits : (d : ℕ) → l.changed d ≡ true → IsFitting (l.change d) (l.views d)
+  pub adopted : (q d : ℕ) → l.adopted d q ≡ true → IsAtMost (second_of d) (l.fact q)
+  pub left : (d : ℕ) → l.elected d ≡ true → 0 < d → IsAtMost (second_of (l.base d).epoch) (l.base d) ⊎ IsFactClosed l (second_of (l.base d).epoch)

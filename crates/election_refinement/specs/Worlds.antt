@@ -3,30 +3,19 @@ use Rattle.std.specs.Prelude.{◌≡◌, ◌≢◌, ℕ, suc, ◌<◌, ◌≤◌
 use Rattle.abstract_protocol.specs.Ledger.{Ledger, IsAtMost}
 use Rattle.abstract_protocol.specs.Numbers.{epoch_number}
 use Rattle.abstract_protocol.specs.Protocol.{Step, IsRun, state_after}
-use Rattle.election_laws.specs.Elections.{IsClosed}
 use Rattle.ens_base.specs.Epochs.{IsEpochBelow}
 use Rattle.peer_core.specs.declared.state.Leadership.{Leadership}
 use Rattle.peer_core.specs.declared.state.Phase.TheVariants as phases
 use Rattle.peer_core.specs.declared.state.State.{State}
 use Rattle.peer_fact.specs.declared.fact.Fact.{Fact}
 use Rattle.schedule_text.specs.declared.event.ScheduleEvent.{ScheduleEvent}
-use Rattle.schedule_text.specs.declared.event.ScheduleEvent.TheVariants.{Change, Stop, Fail}
+use Rattle.schedule_text.specs.declared.event.ScheduleEvent.TheVariants.{Stop, Fail}
 use Rattle.world_spec.specs.Nodes.{Node, Up, Down}
 use Rattle.world_spec.specs.Runs.{Run}
 use Rattle.held_stores.specs.Held.{HeldStores}
-use Rattle.election_refinement.specs.Refinement.{fact_place, NodeHolds, FrameHolds, IsOrderly}
+use Rattle.election_refinement.specs.Refinement.{fact_place, IsFactClosed, NodeHolds, FrameHolds, IsOrderly}
 
 -- ## Schedules
-
--- the rules that this line runs are linked to the abstract protocol: all but those that change the
--- view
-abbrev pub IsLinked : ScheduleEvent → Type 0
-IsLinked (Change peer view) = ⊥
-IsLinked event = Unit {0}
-
-abbrev pub AllLinked : List ScheduleEvent → Type 0
-AllLinked [] = Unit {0}
-AllLinked (event ∷ more) = IsLinked event × AllLinked more
 
 -- the line neither stops the peer nor makes one of its writes fail
 abbrev pub Spares : ℕ → ScheduleEvent → Type 0
@@ -42,8 +31,8 @@ AllSpare peer (event ∷ more) = Spares peer event × AllSpare peer more
 
 -- the world refines the ledger: each peer agrees with it, and what each message ever sent asserts
 -- holds
-pub record Refines (view : List ℕ) (l : Ledger) (w : Run) : Type 0 where
-  pub orderly : IsOrderly view l
+pub record Refines (l : Ledger) (w : Run) : Type 0 where
+  pub orderly : IsOrderly l
   pub nodes : (place : ℕ) (node : Node) → slice_get w.nodes place ≡ Some node → NodeHolds l (suc place) node
   pub sent : All (FrameHolds l) w.mail.sent
 
@@ -54,7 +43,7 @@ ledger_after view steps = (state_after view steps).objects.ledger
 -- these steps are a run of the abstract protocol, and the world refines the ledger after them
 pub record IsRefinement (view : List ℕ) (steps : List Step) (w : Run) : Type 0 where
   pub run : IsRun view steps
-  pub refines : Refines view (ledger_after view steps) w
+  pub refines : Refines (ledger_after view steps) w
 
 -- the world refines some run
 pub record HasRun (view : List ℕ) (w : Run) : Type 0 where
@@ -124,10 +113,10 @@ abbrev pub EpochsHaveOneLeader : Run → Type 0
 EpochsHaveOneLeader w = (p q : ℕ) (a b : Leadership) → Leads w p a → Leads w q b → a.leader.fact.epoch ≡ b.leader.fact.epoch → p ≡ q
 
 -- if peers keep facts of two epochs, the greater epoch is based on a fact no older than the one of
--- the lower epoch, or no quorum can accept the lower epoch any more
+-- the lower epoch, or no quorum can accept that fact any more
 abbrev pub FactsAreComplete : Ledger → Run → Type 0
 FactsAreComplete l w = (p q : ℕ) (f g : Fact) → HasFact w p f → HasFact w q g → 0 < epoch_number g.epoch → epoch_number g.epoch < epoch_number f.epoch
-    → IsAtMost (fact_place g) (l.base (epoch_number f.epoch)) ⊎ IsClosed l (epoch_number g.epoch)
+    → IsAtMost (fact_place g) (l.base (epoch_number f.epoch)) ⊎ IsFactClosed l (fact_place g)
 
 -- if a peer leads an epoch, each greater epoch of which a peer keeps a fact is based on it or on a
 -- later one

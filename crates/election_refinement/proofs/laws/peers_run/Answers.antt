@@ -10,12 +10,12 @@ within : (peers : ℕ) (view : List ℕ) (events : List ScheduleEvent) (place : 
 within peers view events place below = subst (λ n. place < n) (sym (schedule_size peers view events)) below
 
 pub returns-clause-kept : goal.returns-clause-kept
-returns-clause-kept c = λ peers view events place few is_view may linked below.
-    let h = schedule_refines view peers events few is_view may linked in
+returns-clause-kept c = λ peers view events place few is_view may below.
+    let h = schedule_refines view peers events few is_view may in
     is_keeping view (ledger_after view h.steps) (run_of_schedule peers view events) h.refinement.refines place (within peers view events place below)
 
 pub returns-clause-spared : goal.returns-clause-spared
-returns-clause-spared c = λ peers view events place few is_view may linked spare below.
-    let h = schedule_refines view peers events few is_view may linked in
+returns-clause-spared c = λ peers view events place few is_view may spare below.
+    let h = schedule_refines view peers events few is_view may in
     is_running view (ledger_after view h.steps) (run_of_schedule peers view events) h.refinement.refines place (within peers view events place below)
-    (spared_runs view peers events place few is_view may linked spare)
+    (spared_runs view peers events place few is_view may spare)
