@@ -16,7 +16,7 @@ use Rattle.replay.specs.declared.event.Event.{Event}
 use Rattle.replay.specs.declared.event.Event.TheVariants.{Tick, Read, Write}
 use Rattle.replay.specs.Events.{call_ids}
 use Rattle.replay.specs.Form.{form_event, form_events, form_of, before, is_machine, is_machine_line}
-use Rattle.replay.specs.Jobs.{EndsSo, IsMachineText, IsRunText, IsWorldText}
+use Rattle.replay.specs.Jobs.{EndsSo, IsMachineText, IsRunText}
 
 behind : (e : Event) (o : Option (List Event)) (es : List Event) → before (Some e) o ≡ Some es → (rest : List Event) × (o ≡ Some rest) × (es ≡ e ∷ rest)
 behind e None es h = absurd cc
@@ -85,8 +85,3 @@ machine_sound s of form = unreverted_is_none s of (λ p reverted. reverts_none s
 pub machine_done : (s : Schedule) (text : List ℕ) → schedule.IsSchedule s → first_unsound s ≡ None → is_machine s ≡ true → IsMachineText s text → EndsSo s Status.Done text
 machine_done s text of sound form ran None read = tt
 machine_done s text of sound form ran (Some bytes) read = let P : Bool → Type 0 = λ b. IsRunText b s text in (s, read, of, sound, subst P (sym form) ran)
-
--- what the run of a schedule in a world prints
-pub world_done : (s : Schedule) (text : List ℕ) → schedule.IsSchedule s → first_unsound s ≡ None → is_machine s ≡ false → IsWorldText s text → EndsSo s Status.Done text
-world_done s text of sound form ran None read = tt
-world_done s text of sound form ran (Some bytes) read = let P : Bool → Type 0 = λ b. IsRunText b s text in (s, read, of, sound, subst P (sym form) ran)
