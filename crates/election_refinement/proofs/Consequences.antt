@@ -8,9 +8,10 @@ use Rattle.abstract_protocol.specs.Numbers.{epoch_number}
 use Rattle.abstract_protocol.specs.Protocol.{Step, IsRun}
 use Rattle.abstract_protocol.proofs.Ranks.{epochs_ordered}
 use Rattle.election_laws.specs.Elections.{IsClosed, may_accept}
-use Rattle.election_laws.proofs.Epochs.{run_elections}
+use Rattle.election_laws.proofs.Epochs.{run_elections, run_lists}
 use Rattle.election_laws.proofs.Sound.{Sound, run_sound}
 use Rattle.joint_views.proofs.Majorities.{quorum_less}
+use Rattle.joint_views.specs.Quorums.{SharesView}
 use Rattle.election_laws.proofs.Rising.{run_stays}
 use Rattle.ens_base.specs.declared.epoch.Epoch.{Epoch}
 use Rattle.peer_core.specs.declared.state.Leadership.{Leadership}
@@ -21,7 +22,7 @@ use Rattle.world_spec.specs.Nodes.{Node, Up, Down}
 use Rattle.world_spec.specs.Runs.{Run}
 use Rattle.held_stores.specs.Held.{HeldStores}
 use Rattle.election_refinement.specs.Refinement.{change_at, may_take, IsFactClosed, second_of, IsOrderly, IsKnown, IsSaved, IsLeading, PhaseHolds, NodeHolds}
-use Rattle.election_refinement.specs.Worlds.{Refines, ledger_after, IsRefinement, GoesOn, kept_by, HasFact, Leads, BallotsRise, Agree, FactsAgree, EpochsHaveOneLeader, FactsAreComplete, LedEpochsAreKept}
+use Rattle.election_refinement.specs.Worlds.{Refines, ledger_after, IsRefinement, GoesOn, kept_by, HasFact, Leads, BallotsRise, Agree, FactsAgree, EpochsHaveOneLeader, FactsAreComplete, LedEpochsAreKept, ViewsAreShared}
 
 -- the fact that a peer's stores keep is the one that it saved
 saved_of : (l : Ledger) (p : ℕ) (node : Node) (f : Fact) → NodeHolds l p node → kept_by node ≡ Some f → IsSaved l p f
@@ -117,3 +118,10 @@ pub led_kept : (view : List ℕ) (steps : List Step) (w : Run) → IsRefinement 
 led_kept view steps w refinement p q a f leads has below =
     let leading = leading_in (ledger_after view steps) w refinement.refines p a leads in
     (run_elections view steps refinement.run).kept (epoch_number f.epoch) (epoch_number a.leader.fact.epoch) (saved_in (ledger_after view steps) w refinement.refines q f has).known.elected leading.started.first.known.elected below leading.established
+
+pub shared : (view : List ℕ) (steps : List Step) (w : Run) → IsRefinement view steps w → ViewsAreShared (ledger_after view steps) w
+shared view steps w refinement p f has later =
+    let l = ledger_after view steps in
+    let known = (saved_in l w refinement.refines p f has).known in
+    let list = run_lists view steps refinement.run (epoch_number f.epoch) later known.elected in
+    record { from = list.from; is_last = list.is_last; shares = subst (λ (views : List (List ℕ)). SharesView views (l.views list.from)) (sym known.views) list.shares }

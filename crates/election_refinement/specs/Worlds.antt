@@ -3,7 +3,9 @@ use Rattle.std.specs.Prelude.{◌≡◌, ◌≢◌, ℕ, suc, ◌<◌, ◌≤◌
 use Rattle.abstract_protocol.specs.Ledger.{Ledger, IsAtMost}
 use Rattle.abstract_protocol.specs.Numbers.{epoch_number}
 use Rattle.abstract_protocol.specs.Protocol.{Step, IsRun, state_after}
+use Rattle.election_laws.specs.Elections.{IsLastOpen}
 use Rattle.ens_base.specs.Epochs.{IsEpochBelow}
+use Rattle.joint_views.specs.Quorums.{SharesView}
 use Rattle.peer_core.specs.declared.state.Leadership.{Leadership}
 use Rattle.peer_core.specs.declared.state.Phase.TheVariants as phases
 use Rattle.peer_core.specs.declared.state.State.{State}
@@ -123,3 +125,14 @@ FactsAreComplete l w = (p q : ℕ) (f g : Fact) → HasFact w p f → HasFact w 
 abbrev pub LedEpochsAreKept : Ledger → Run → Type 0
 LedEpochsAreKept l w = (p q : ℕ) (a : Leadership) (f : Fact) → Leads w p a → HasFact w q f → epoch_number a.leader.fact.epoch < epoch_number f.epoch
     → epoch_number a.leader.fact.epoch ≤ (l.base (epoch_number f.epoch)).epoch
+
+-- the views of the fact share a view with those of the last lower epoch that some quorum accepted or
+-- may still accept
+pub record SharesAView (l : Ledger) (f : Fact) : Type 0 where
+  pub from : ℕ
+  pub is_last : IsLastOpen l (epoch_number f.epoch) from
+  pub shares : SharesView f.views (l.views from)
+
+-- so do those of every fact that a peer keeps, but for the opening epoch's
+abbrev pub ViewsAreShared : Ledger → Run → Type 0
+ViewsAreShared l w = (p : ℕ) (f : Fact) → HasFact w p f → 0 < epoch_number f.epoch → SharesAView l f

@@ -5,7 +5,7 @@ ghost use Rattle.schedule_text.specs.Spelling.{MayStand, AllMayStand};
 ghost use Rattle.schedule_text.specs.declared.event.ScheduleEvent.{ScheduleEvent};
 ghost use Rattle.world_spec.specs.Runs.{Run};
 ghost use Rattle.world_spec.specs.Lines.{applied, run_of_schedule};
-ghost use Rattle.election_refinement.specs.Worlds.{ledger_after, AllSpare, IsRefinement, HasRun, GoesOn, IsRunning, IsKeeping, BallotsRise, FactsAgree, EpochsHaveOneLeader, FactsAreComplete, LedEpochsAreKept};
+ghost use Rattle.election_refinement.specs.Worlds.{ledger_after, AllSpare, IsRefinement, HasRun, GoesOn, IsRunning, IsKeeping, BallotsRise, FactsAgree, EpochsHaveOneLeader, FactsAreComplete, LedEpochsAreKept, ViewsAreShared};
 
 /// The world after the events of a schedule refines a run of the abstract protocol. If a world
 /// refines a run, the world after one more event refines an extension of this run.
@@ -43,4 +43,10 @@ pub fn epochs_have_one_leader()
 pub fn facts_are_complete()
     ensures facts { (view : List ℕ) (steps : List Step) (w : Run) → IsRefinement view steps w → FactsAreComplete (ledger_after view steps) w }
     ensures leaders { (view : List ℕ) (steps : List Step) (w : Run) → IsRefinement view steps w → LedEpochsAreKept (ledger_after view steps) w }
+{}
+
+/// The views of a fact that a peer keeps share a view with those of the last lower epoch that some
+/// quorum accepted or may still accept. So quorums of the two epochs have a peer in common.
+pub fn lists_share_a_view()
+    ensures { (view : List ℕ) (steps : List Step) (w : Run) → IsRefinement view steps w → ViewsAreShared (ledger_after view steps) w }
 {}

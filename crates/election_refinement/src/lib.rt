@@ -25,6 +25,6 @@
 mod laws;
 
 pub use laws::{
-    ballots_rise, epochs_have_one_leader, facts_agree, facts_are_complete, peers_run,
-    worlds_refine_the_protocol,
+    ballots_rise, epochs_have_one_leader, facts_agree, facts_are_complete, lists_share_a_view,
+    peers_run, worlds_refine_the_protocol,
 };
