@@ -1,0 +1,34 @@
+-- What was drawn before, and what is still to be drawn, as loops go over it.
+use Rattle.std.proofs.Common.{◌≡◌, ℕ, suc, ◌+◌, ◌-◌, ◌<◌, ◌≤◌, List, [], ◌∷◌, ◌++◌, sym, ap, append_assoc, arith}
+use Rattle.std.proofs.lemmas.List.{append-nil}
+use Rattle.schedule_text.specs.declared.event.ScheduleEvent.{ScheduleEvent}
+use Rattle.schedule_generator.specs.Drawing.{draw, draw_bytes}
+use Rattle.schedule_generator.specs.Generated.{draw_calls, draw_lines}
+
+-- bytes in front of those that are drawn
+abbrev pub onto : List ℕ → ℕ × List ℕ → ℕ × List ℕ
+onto front drawn = (drawn.0, front ++ drawn.1)
+
+pub one_byte : (count turn x : ℕ) (front : List ℕ) → turn < count
+    → onto front (draw_bytes (count - turn) x) ≡ onto (front ++ (draw 256 x).1 ∷ []) (draw_bytes (count - (turn + 1)) (draw 256 x).0)
+one_byte count turn x front lt =
+    let k : count - turn ≡ suc (count - (turn + 1)) = omega arith in
+    let rest = draw_bytes (count - (turn + 1)) (draw 256 x).0 in
+    rw k (ap (λ (bytes : List ℕ). (rest.0, bytes)) (sym (append_assoc front ((draw 256 x).1 ∷ []) rest.1)))
+
+pub all_bytes : (count turn x : ℕ) (front : List ℕ) → count ≤ turn → onto front (draw_bytes (count - turn) x) ≡ (x, front)
+all_bytes count turn x front le =
+    let k : count - turn ≡ 0 = omega arith in
+    rw k (ap (λ (bytes : List ℕ). (x, bytes)) (append-nil front))
+
+pub one_call : (calls i peer x : ℕ) (front : List ScheduleEvent) → i < calls
+    → front ++ (draw_calls (calls - i) peer (i + 1) x).1
+    ≡ (front ++ (draw_lines peer (i + 1) x).1.1) ++ (draw_calls (calls - (i + 1)) (draw_lines peer (i + 1) x).1.0 (i + 1 + 1) (draw_lines peer (i + 1) x).0).1
+one_call calls i peer x front lt =
+    let k : calls - i ≡ suc (calls - (i + 1)) = omega arith in
+    rw k (sym (append_assoc front (draw_lines peer (i + 1) x).1.1 _))
+
+pub all_calls : (calls i peer x : ℕ) (front : List ScheduleEvent) → calls ≤ i → front ++ (draw_calls (calls - i) peer (i + 1) x).1 ≡ front
+all_calls calls i peer x front le =
+    let k : calls - i ≡ 0 = omega arith in
+    rw k (append-nil front)

@@ -1,0 +1,8 @@
+use Rattle.std.proofs.Common.{◌*◌}
+use Rattle.std.proofs.Math.Nat.{mod-add-mod}
+use Rattle.schedule_generator.specs.Drawing.{moved}
+use Rattle.schedule_generator.proofs.draws.next.Goals as goal
+
+pub returns : goal.returns
+unfolding moved
+returns c = mod-add-mod (c.args.x * 6364136223846793005) 18446744073709551616 1442695040888963407
