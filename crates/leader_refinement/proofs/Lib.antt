@@ -1,0 +1,13 @@
+pub mod Numbers
+pub mod Base
+pub mod Votes
+pub mod Orders
+pub mod Openings
+pub mod Joins
+pub mod Starts
+pub mod Answers
+pub mod Asking
+pub mod Gathering
+pub mod Writes
+pub mod Checks
+pub mod Puts

@@ -1,0 +1,59 @@
+-- Versions and their numbers.
+use Rattle.std.proofs.Common.{◌≡◌, ℕ, suc, ◌<◌, ◌+◌, true, false, ◌==◌, Option, Some, None, arith, refl, ap}
+use Rattle.std.proofs.lemmas.Bool.Decides.{nat_tests}
+use Rattle.ens_base.specs.Epochs.{same_version}
+use Rattle.ens_base.specs.declared.epoch.Epoch.{Epoch}
+use Rattle.ens_base.specs.declared.epoch.Version.{Version}
+use Rattle.phase_rows.specs.Orders.{is_same}
+use Rattle.abstract_protocol.specs.Numbers.{epoch_number, IsVersion}
+use Rattle.abstract_protocol.specs.Book.{version_of, version_or_none}
+use Rattle.call_table.specs.Rows.{base_of}
+use Rattle.call_table.specs.declared.row.Known.{Known}
+use Rattle.call_table.specs.declared.row.Known.TheVariants as knowns
+use Rattle.leader_laws.specs.Tables as theory
+use Rattle.leader_refinement.specs.Seen.{rank, rank_or_none}
+use Rattle.leader_refinement.specs.Follows.{MayBeVersion, KnownFits, settled_rank}
+
+version : ℕ → ℕ → ℕ → Version
+version count proposer seq = record { epoch = record { count = count; proposer = proposer }; seq = seq }
+
+from_parts : (v : Version) (count proposer seq : ℕ) → count ≡ v.epoch.count → proposer ≡ v.epoch.proposer → seq ≡ v.seq → version count proposer seq ≡ v
+unfolding version
+from_parts v count proposer seq e f h = rw (e, f, h) refl
+
+-- the version of the number of a version is the version
+pub rank_back : (v : Version) → IsVersion v → version_of (rank v) ≡ v
+unfolding version_of theory.version_at epoch_number version
+rank_back v fits = from_parts v _ _ _ (omega (arith, fits.0, fits.1)) (omega (arith, fits.0, fits.1)) (omega (arith, fits.0, fits.1))
+
+some_rank : (v : Version) → (rank v == 0) ≡ false
+unfolding theory.version_at
+some_rank v = grind (arith, nat_tests)
+
+pub rank_some : (v : Version) → 0 < rank v
+unfolding theory.version_at
+rank_some v = omega arith
+
+pub option_back : (v : Option Version) → MayBeVersion v → version_or_none (rank_or_none v) ≡ v
+option_back None fits = refl
+option_back (Some v) fits = rw (some_rank v) (ap (λ (u : Version). Some u) (rank_back v fits))
+
+-- the number of the settled version
+pub base_rank : (known : Known) → rank_or_none (base_of known) ≡ settled_rank known
+base_rank knowns.Unknown = refl
+base_rank knowns.Absent = refl
+base_rank (knowns.Present v stamp digest tombstone) = refl
+
+pub base_fits : (known : Known) → KnownFits known → MayBeVersion (base_of known)
+base_fits knowns.Unknown fits = tt
+base_fits knowns.Absent fits = tt
+base_fits (knowns.Present v stamp digest tombstone) fits = fits
+
+pub plus_one : (n : ℕ) → suc n ≡ n + 1
+plus_one n = omega arith
+
+pub same_epochs : (a b : Epoch) → is_same a b ≡ true → a ≡ b
+same_epochs a b h = grind (arith, nat_tests)
+
+pub same_versions : (a b : Version) → same_version a b ≡ true → a ≡ b
+same_versions a b h = grind (arith, nat_tests)

@@ -1,0 +1,94 @@
+-- The peers that answered in a round, and messages to all members.
+use Rattle.std.specs.Prelude.{All, replicate, slice_index_or, slice_set}
+use Rattle.std.proofs.Common.{◌≡◌, ℕ, zero, suc, ◌+◌, Bool, true, false, ◌==◌, if◌then◌else◌, eqb-true, List, [], ◌∷◌, arith, refl, sym, ◌∙◌, subst}
+use Rattle.std.proofs.lemmas.Bool.{eqb-false, false≢true}
+use Rattle.std.proofs.lemmas.Bool.Decides.{nat_tests}
+use Rattle.std.proofs.lemmas.List.{get_or-set_other}
+use Rattle.std.proofs.lemmas.List.Elements.{All-nil, All-cons, All-append}
+use Rattle.abstract_protocol.specs.Ledger.{put}
+use Rattle.ens_base.specs.PeerSet.{holds}
+use Rattle.joint_views.specs.Quorums.{is_member, is_quorum, has_every}
+use Rattle.quorum_round.specs.Rounds.{answered, begun, state_of}
+use Rattle.quorum_round.specs.declared.round.Round.{Round}
+use Rattle.quorum_round.specs.declared.round.RoundState.{RoundState}
+use Rattle.quorum_round.specs.declared.round.RoundState.TheVariants.{Open, Met, AllAnswered}
+use Rattle.leader_words.specs.Sends.{sent_up_to}
+use Rattle.leader_words.specs.declared.out.Outgoing.{Outgoing}
+use Rattle.wire_frames.specs.declared.message.Message.{Message}
+use Rattle.abstract_protocol.specs.Protocol.{State}
+use Rattle.leader_laws.specs.Tables.{Ghosts}
+use Rattle.leader_refinement.specs.Seen.{voters}
+use Rattle.leader_refinement.specs.Follows.{SendSays, SentSays}
+
+none_held : (n q : ℕ) → slice_index_or (replicate n false) q false ≡ false
+none_held zero q = refl
+none_held (suc n) zero = refl
+none_held (suc n) (suc q) = none_held n q
+
+set_then : (P : ℕ → Type 0) (peer : ℕ) (votes : List Bool) → P peer → ((q : ℕ) → holds votes q ≡ true → P q) → (q : ℕ) → holds (slice_set votes peer true) q ≡ true → P q
+set_then P peer votes here old q h = by_same (peer == q) refl
+  where
+    by_same : (b : Bool) → (peer == q) ≡ b → P q
+    by_same true e = subst P (eqb-true peer q e) here
+    by_same false e = old q (sym (get_or-set_other votes peer q true false (λ s. eqb-false peer q e (sym s))) ∙ h)
+
+-- what holds of a peer and of all that answered before holds of all that have answered
+pub answered_then : (P : ℕ → Type 0) (round : Round) (from : ℕ) → P from → ((q : ℕ) → voters round q ≡ true → P q) → (q : ℕ) → voters (answered from round) q ≡ true → P q
+unfolding answered
+answered_then P round from here old q = by_member (is_member round.tally.views from)
+  where
+    by_member : (b : Bool) → holds (if b then slice_set round.tally.votes from true else round.tally.votes) q ≡ true → P q
+    by_member true h = set_then P from round.tally.votes here old q h
+    by_member false h = old q h
+
+pub begun_then : (P : ℕ → Type 0) (views : List (List ℕ)) (me : ℕ) → P me → (q : ℕ) → voters (begun views me) q ≡ true → P q
+unfolding begun
+begun_then P views me here = answered_then P (record { tally = record { views = views; votes = replicate 32 false } }) me here (λ q h. absurd (false≢true (sym (none_held 32 q) ∙ h)))
+
+pub answered_on : (round : Round) (from : ℕ) → (answered from round).tally.views ≡ round.tally.views
+unfolding answered
+answered_on round from = refl
+
+pub begun_on : (views : List (List ℕ)) (me : ℕ) → (begun views me).tally.views ≡ views
+unfolding begun answered
+begun_on views me = refl
+
+put_here : (f : ℕ → Bool) (p : ℕ) → put f p true p ≡ true
+put_here f p = grind (arith, nat_tests)
+
+put_more : (f : ℕ → Bool) (p q : ℕ) → f q ≡ true → put f p true q ≡ true
+put_more f p q h = grind (arith, nat_tests)
+
+-- a reply counts at most for the peer that sent it
+pub answered_fewer : (round : Round) (from : ℕ) (q : ℕ) → voters (answered from round) q ≡ true → put (voters round) from true q ≡ true
+answered_fewer round from = answered_then (λ q. put (voters round) from true q ≡ true) round from (put_here (voters round) from) (λ q h. put_more (voters round) from q h)
+
+pub begun_fewer : (views : List (List ℕ)) (me : ℕ) (q : ℕ) → voters (begun views me) q ≡ true → put (λ p. false) me true q ≡ true
+begun_fewer views me = begun_then (λ q. put (λ p. false) me true q ≡ true) views me (put_here (λ p. false) me)
+
+-- the round is no longer open
+abbrev pub IsClosed : RoundState → Type 0
+IsClosed Open = ⊥
+IsClosed state = Unit {0}
+
+-- then a quorum has answered
+pub closed_quorum : (round : Round) → IsClosed (state_of round) → is_quorum (voters round) round.tally.views ≡ true
+unfolding state_of
+closed_quorum round closed = by_quorum (is_quorum (holds round.tally.votes) round.tally.views) closed
+  where
+    by_quorum : (b : Bool) → IsClosed (if b then (if has_every (holds round.tally.votes) round.tally.views then AllAnswered else Met) else Open) → b ≡ true
+    by_quorum true closed = refl
+    by_quorum false closed = absurd closed
+
+-- a message to each member says what it says
+pub sent_say : (g : Ghosts) (s : State) (test : ℕ → Bool) (message : Message) → SendSays g s message → (n : ℕ) → All (SentSays g s) (sent_up_to test message n)
+unfolding sent_up_to
+sent_say g s test message says zero = All-nil (SentSays g s)
+sent_say g s test message says (suc n) = All-append (SentSays g s) (sent_up_to test message n) (if test (n + 1) then sent ∷ [] else []) (sent_say g s test message says n) (by_test (test (n + 1)))
+  where
+    sent : Outgoing
+    sent = record { to = n + 1; message = message }
+
+    by_test : (b : Bool) → All (SentSays g s) (if b then sent ∷ [] else [])
+    by_test true = All-cons (SentSays g s) sent [] says (All-nil (SentSays g s))
+    by_test false = All-nil (SentSays g s)

@@ -1,0 +1,3 @@
+pub mod Seen
+pub mod Follows
+pub mod Laws
