@@ -6,4 +6,5 @@ pub mod Histories
 pub mod Text
 pub mod Form
 pub mod Worlds
+pub mod Summary
 pub mod Jobs

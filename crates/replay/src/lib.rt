@@ -15,9 +15,11 @@ mod keys;
 mod laws;
 mod run;
 mod runner;
+mod summary;
 mod text;
 mod worlds;
 
 pub use event::Event;
 pub use job::replay;
 pub use laws::machines_are_sound;
+pub use worlds::summarize;
