@@ -1,15 +1,37 @@
--- The valid command lines, and what the program prints.
-use Rattle.std.specs.Prelude.{◌≡◌, ◌≢◌, ℕ, List, [], ◌∷◌, ◌++◌, codes, Option}
+-- The jobs, and what the program prints.
+use Rattle.std.specs.Prelude.{◌≡◌, ℕ, true, false, List, [], ◌∷◌, ◌++◌, codes, Option}
 use Rattle.ens_base.specs.declared.status.Status.{Status}
-use Rattle.ens_base.specs.declared.status.Status.TheVariants as Status
+use Rattle.ens_words.specs.Forms.{AreForm, IsJob, words_of}
+use Rattle.ens_words.specs.declared.job.Job.{Job}
+use Rattle.ens_words.specs.declared.job.Job.TheVariants.{Replay, Generate}
 use Rattle.replay.specs.Jobs.{Prints}
+use Rattle.replay.specs.Summary.{EndsInSummary}
+use Rattle.schedule_generator.specs.Generated.{generate}
+use Rattle.schedule_text.specs.Spelling.{schedule_text}
 
--- the arguments ask for a replay
-abbrev pub IsReplay : List (List ℕ) → Type 0
-IsReplay words = words ≡ codes "replay" ∷ []
+-- the text reports that memory ran out
+abbrev pub IsMemoryText : List ℕ → Type 0
+IsMemoryText text = text ≡ codes "memory" ++ 10 ∷ []
 
--- the text that the program prints, for each status: a usage line if the arguments are invalid, and
+-- the schedule that is generated from a number, for so many calls
+abbrev pub PrintsSchedule : ℕ → ℕ → Status → List ℕ → Type 0
+PrintsSchedule number calls Status.Done text = text ≡ schedule_text (generate number calls)
+PrintsSchedule number calls Status.Memory text = IsMemoryText text
+PrintsSchedule number calls status text = ⊥
+
+-- the summary of the run of that schedule
+abbrev pub PrintsSummary : ℕ → ℕ → Status → List ℕ → Type 0
+PrintsSummary number calls Status.Memory text = IsMemoryText text
+PrintsSummary number calls status text = EndsInSummary (generate number calls) status text
+
+-- the text that a job prints, for each status; only a replay reads the source
+abbrev pub Does : Job → Option (List ℕ) → Status → List ℕ → Type 0
+Does Replay source status text = Prints source status text
+Does (Generate number calls false) source status text = PrintsSchedule number calls status text
+Does (Generate number calls true) source status text = PrintsSummary number calls status text
+
+-- the text that the program prints, for each status: a usage line if the words ask for no job, and
 -- otherwise what the job prints
 abbrev pub Ends : List (List ℕ) → Option (List ℕ) → Status → List ℕ → Type 0
-Ends words source Status.Usage text = ¬ IsReplay words × (text ≡ codes "usage" ++ 10 ∷ [])
-Ends words source status text = IsReplay words × Prints source status text
+Ends words source Status.Usage text = ¬ AreForm words × (text ≡ codes "usage" ++ 10 ∷ [])
+Ends words source status text = (job : Job) × IsJob job × (words ≡ words_of job) × Does job source status text

@@ -6,6 +6,7 @@
 //! replay.
 #![tactic(auto)]
 
+mod generating;
 mod top;
 
 use ens_base::Status;

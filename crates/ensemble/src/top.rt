@@ -1,28 +1,50 @@
-ghost use Rattle.std.specs.Prelude.{◌≡◌, ◌≢◌, ◌↔◌, ℕ, List, map, IsTrue};
+ghost use Rattle.std.specs.Prelude.{◌≡◌, ◌≢◌, ◌∷◌, [], ℕ, List, codes, map};
 ghost use Rattle.std.specs.Io.KnownBytes.{Appends, IsAtEnd};
 ghost use Rattle.ens_base.specs.Causes.{Rose};
 ghost use Rattle.ens_base.specs.declared.status.Status.{Status};
 ghost use Rattle.ens_outside.specs.Written.{AppendsFront};
-ghost use Rattle.ensemble.specs.Top.{IsReplay, Ends};
+ghost use Rattle.ens_words.specs.Forms.{IsJob};
+ghost use Rattle.ens_words.specs.declared.job.Job.TheVariants.{Replay};
+ghost use Rattle.ensemble.specs.Top.{Does, Ends};
 
+use crate::generating::{print_generated, print_summary};
 use ens_base::Status;
 use ens_outside::{Sink, Source, finish};
+use ens_words::{Job, WordsError, read_words};
 use replay::replay;
 use std::alloc::Global;
 
-fn is_replay(words: &[&str]) -> bool
-    ensures { IsTrue result ↔ IsReplay (map (λ w. w.now) words.now) }
+/// Runs a job on this input and output. Returns the status.
+fn run_job<S: Source, O: Sink>(alloc: Global, job: Job, input: &mut S, output: &mut O) -> Status
+    requires { IsJob job }
+    ensures printed { result ≢ Status.WriteFault → (text : List ℕ) × Does job (S.left input.old) result text × Appends (O.written output.old) (O.written output.new) text }
+    ensures front { result ≡ Status.WriteFault → (status : Status) × (text : List ℕ) × Does job (S.left input.old) status text × AppendsFront (O.written output.old) (O.written output.new) text }
+    ensures end { job ≡ Replay → result ≡ Status.Done → IsAtEnd (S.left input.new) }
+    ensures read { result ≡ Status.ReadFault → Rose (S.fault_count input.old) (S.fault_count input.new) }
+    ensures write { result ≡ Status.WriteFault → Rose (O.fault_count output.old) (O.fault_count output.new) }
 {
-    match words {
-        [word] => *word == "replay",
-        _ => false,
+    match job {
+        Job::Replay => replay(alloc, input, output),
+        Job::Generate {
+            number,
+            calls,
+            summary,
+        } => {
+            if summary {
+                print_summary(alloc, number, calls, output)
+            } else {
+                print_generated(alloc, number, calls, output)
+            }
+        }
     }
 }
 
 /// Runs the job that the arguments ask for, on this input and output. Returns the status.
 ///
-/// The argument `replay` alone reads a schedule, and writes what its run prints and one history for
-/// each key. Any other arguments are a usage error.
+/// The argument `replay` reads a schedule, and writes what its run prints and one history for each
+/// key. `generate NUMBER CALLS schedule` writes the schedule of 1 to 20,000 calls that is generated
+/// from a number, and `generate NUMBER CALLS summary` the six lines that sum up its run. Any other
+/// arguments are a usage error.
 pub fn ensemble_main<S: Source, O: Sink>(
     alloc: Global,
     words: &[&str],
@@ -34,13 +56,12 @@ pub fn ensemble_main<S: Source, O: Sink>(
     ensures printed { result ≢ Status.WriteFault → (text : List ℕ) × Ends (map (λ w. w.now) words.now) (S.left input.old) result text × Appends (O.written output.old) (O.written output.new) text }
     // A prefix of that text, if the output failed.
     ensures front { result ≡ Status.WriteFault → (status : Status) × (text : List ℕ) × Ends (map (λ w. w.now) words.now) (S.left input.old) status text × AppendsFront (O.written output.old) (O.written output.new) text }
-    ensures end { result ≡ Status.Done → IsAtEnd (S.left input.new) }
+    ensures end { map (λ w. w.now) words.now ≡ codes "replay" ∷ [] → result ≡ Status.Done → IsAtEnd (S.left input.new) }
     ensures read { result ≡ Status.ReadFault → Rose (S.fault_count input.old) (S.fault_count input.new) }
     ensures write { result ≡ Status.WriteFault → Rose (O.fault_count output.old) (O.fault_count output.new) }
 {
-    if is_replay(words) {
-        replay(alloc, input, output)
-    } else {
-        finish(output, "usage\n", Status::Usage)
+    match read_words(words) {
+        Ok(job) => run_job(alloc, job, input, output),
+        Err(WordsError::Usage) => finish(output, "usage\n", Status::Usage),
     }
 }
