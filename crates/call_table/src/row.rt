@@ -2,7 +2,7 @@ ghost use Rattle.std.specs.Prelude.{◌≡◌, IfOk};
 ghost use Rattle.call_table.specs.Rows.{base_of, check_round, has_put};
 
 use ens_base::{CopyError, Digest, Entry, Reply, Version};
-use ens_object::Object;
+use ens_object::{Object, copy_object};
 use quorum_round::Round;
 use std::alloc::Global;
 
@@ -73,15 +73,6 @@ pub enum Stage {
     },
 }
 
-fn copy_object(object: &Option<Object>, alloc: Global) -> Result<Option<Object>, CopyError>
-    ensures { IfOk result (λ o. o ≡ object.now) }
-{
-    match object {
-        None => Ok(None),
-        Some(object) => Ok(Some(object.copy(alloc)?)),
-    }
-}
-
 fn copy_found(found: &Option<Found>, alloc: Global) -> Result<Option<Found>, CopyError>
     ensures { IfOk result (λ f. f ≡ found.now) }
 {
@@ -89,7 +80,7 @@ fn copy_found(found: &Option<Found>, alloc: Global) -> Result<Option<Found>, Cop
         None => Ok(None),
         Some(found) => Ok(Some(Found {
             entry: found.entry.copy(alloc)?,
-            object: copy_object(&found.object, alloc)?,
+            object: copy_object(alloc, &found.object)?,
         })),
     }
 }

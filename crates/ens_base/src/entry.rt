@@ -29,3 +29,13 @@ impl Entry {
         })
     }
 }
+
+/// Returns a copy of the entry, if there is one. Fails only when out of memory.
+pub fn copy_entry(alloc: Global, entry: &Option<Entry>) -> Result<Option<Entry>, CopyError>
+    ensures { IfOk result (λ e. e ≡ entry.now) }
+{
+    match entry {
+        None => Ok(None),
+        Some(entry) => Ok(Some(entry.copy(alloc)?)),
+    }
+}

@@ -63,3 +63,13 @@ impl Key {
         })
     }
 }
+
+/// Returns a copy of the key, if there is one. Fails only when out of memory.
+pub fn copy_key(alloc: Global, key: &Option<Key>) -> Result<Option<Key>, CopyError>
+    ensures { IfOk result (λ k. k ≡ key.now) }
+{
+    match key {
+        None => Ok(None),
+        Some(key) => Ok(Some(key.copy(alloc)?)),
+    }
+}

@@ -26,12 +26,10 @@ pub enum Status {
     Limit,
     /// 10: out of memory.
     Memory,
-    /// 11: this version does not run schedules of this form yet.
-    Unbuilt,
 }
 
 impl Status {
-    /// Returns the exit status, from 0 to 11.
+    /// Returns the exit status, from 0 to 10.
     pub fn number(self) -> u8
         ensures { result ≡ status_number self }
     {
@@ -47,7 +45,6 @@ impl Status {
             Status::LinkFault => 8,
             Status::Limit => 9,
             Status::Memory => 10,
-            Status::Unbuilt => 11,
         }
     }
 }

@@ -16,4 +16,4 @@ pub use encoding::{put_object, take_object};
 pub use error::{ObjectError, ObjectRule};
 pub use faults::objects_fault_first;
 pub use laws::objects_stand_apart;
-pub use object::Object;
+pub use object::{Object, copy_object};

@@ -43,3 +43,13 @@ impl Object {
         self.key == entry.key && self.version == entry.version && *digest == entry.digest
     }
 }
+
+/// Returns a copy of the object, if there is one. Fails only when out of memory.
+pub fn copy_object(alloc: Global, object: &Option<Object>) -> Result<Option<Object>, CopyError>
+    ensures { IfOk result (λ o. o ≡ object.now) }
+{
+    match object {
+        None => Ok(None),
+        Some(object) => Ok(Some(object.copy(alloc)?)),
+    }
+}

@@ -51,6 +51,6 @@ fn copies_are_equal(rt: HostRuntime) -> Result<(), Fail> {
     assert!(rt; swap.copy(alloc)? == swap);
     let reply = Reply::Value(VERSION, Value::new(alloc, b"a")?);
     assert!(rt; reply.copy(alloc)? == reply);
-    assert!(rt; Status::Done.number() == 0 && Status::Unbuilt.number() == 11);
+    assert!(rt; Status::Done.number() == 0 && Status::Memory.number() == 10);
     Ok(())
 }

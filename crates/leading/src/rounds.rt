@@ -13,32 +13,14 @@ ghost use Rattle.leading.specs.Rounds.{counts, asked, asked_for, row_29, heard, 
 use crate::leader::{Leader, is_last, settled_known};
 use crate::pending::Pending;
 use call_table::{Found, Known, Stage, Waiting, better};
-use ens_base::{Command, Entry, Epoch, Key, PeerId, Reply};
-use ens_object::Object;
+use ens_base::{Command, Entry, Epoch, Key, PeerId, Reply, copy_entry};
+use ens_object::{Object, copy_object};
 use key_commands::{Verdict, apply, on_any};
 use leader_words::{LeadError, LeadOut, Own};
 use peer_fact::{Change, Fact};
 use quorum_round::{Round, RoundState};
 use std::alloc::Global;
 use wire_frames::{Message, Seen, Then};
-
-fn copy_entry(alloc: Global, entry: &Option<Entry>) -> Result<Option<Entry>, LeadError>
-    ensures { IfOk result (λ e. e ≡ entry.now) }
-{
-    match entry {
-        None => Ok(None),
-        Some(entry) => Ok(Some(entry.copy(alloc)?)),
-    }
-}
-
-fn copy_object(alloc: Global, object: &Option<Object>) -> Result<Option<Object>, LeadError>
-    ensures { IfOk result (λ o. o ≡ object.now) }
-{
-    match object {
-        None => Ok(None),
-        Some(object) => Ok(Some(object.copy(alloc)?)),
-    }
-}
 
 /// Applies the command to the settled object. `None` means that the key is absent.
 fn verdict_at(

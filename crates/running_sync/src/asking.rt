@@ -3,7 +3,7 @@ ghost use Rattle.tree_node.specs.Positions.{IsPosition};
 ghost use Rattle.exchange.specs.Asks.{taken};
 ghost use Rattle.running_sync.specs.Asks.{anew as anew_at, after_step, answered, resumed, question_of, is_open, is_finished, needs_node};
 
-use ens_base::{Bytes, Epoch, Key, PeerId};
+use ens_base::{Bytes, Epoch, PeerId, copy_key};
 use exchange::{Ask, Question, Step};
 use leader_words::Outgoing;
 use std::alloc::Global;
@@ -46,15 +46,6 @@ pub struct Give {
     pub trusted: bool,
     /// What it sends.
     pub body: TreeBody,
-}
-
-fn copy_after(alloc: Global, after: &Option<Key>) -> Result<Option<Key>, SyncError>
-    ensures { IfOk result (λ k. k ≡ after.now) }
-{
-    match after {
-        None => Ok(None),
-        Some(key) => Ok(Some(key.copy(alloc)?)),
-    }
 }
 
 impl Asking {
@@ -124,7 +115,7 @@ impl Asking {
         match self.ask.question() {
             None => Ok(()),
             Some(question) => {
-                let after = copy_after(alloc, &question.after)?;
+                let after = copy_key(alloc, &question.after)?;
                 let message = Message::TreeAsk(ballot, question.position, after);
                 sends.push(Outgoing {
                     to: self.peer,

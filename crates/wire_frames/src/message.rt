@@ -1,7 +1,7 @@
 ghost use Rattle.std.specs.Prelude.{◌≡◌, IfOk};
 
-use ens_base::{Command, CopyError, Entry, Epoch, Key, Reply, Version};
-use ens_object::Object;
+use ens_base::{Command, CopyError, Entry, Epoch, Key, Reply, Version, copy_entry, copy_key};
+use ens_object::{Object, copy_object};
 use peer_fact::Fact;
 use std::alloc::Global;
 use tree_node::{Position, TreeBody};
@@ -60,33 +60,6 @@ pub enum Message {
     AnswerFrame(u64, Reply),
 }
 
-fn copy_key(key: &Option<Key>, alloc: Global) -> Result<Option<Key>, CopyError>
-    ensures { IfOk result (λ k. k ≡ key.now) }
-{
-    match key {
-        None => Ok(None),
-        Some(key) => Ok(Some(key.copy(alloc)?)),
-    }
-}
-
-fn copy_entry(entry: &Option<Entry>, alloc: Global) -> Result<Option<Entry>, CopyError>
-    ensures { IfOk result (λ e. e ≡ entry.now) }
-{
-    match entry {
-        None => Ok(None),
-        Some(entry) => Ok(Some(entry.copy(alloc)?)),
-    }
-}
-
-fn copy_object(object: &Option<Object>, alloc: Global) -> Result<Option<Object>, CopyError>
-    ensures { IfOk result (λ o. o ≡ object.now) }
-{
-    match object {
-        None => Ok(None),
-        Some(object) => Ok(Some(object.copy(alloc)?)),
-    }
-}
-
 impl Message {
     /// An equal message.
     pub fn copy(&self, alloc: Global) -> Result<Message, CopyError>
@@ -105,8 +78,8 @@ impl Message {
                 *epoch,
                 *round,
                 key.copy(alloc)?,
-                copy_entry(entry, alloc)?,
-                copy_object(object, alloc)?,
+                copy_entry(alloc, entry)?,
+                copy_object(alloc, object)?,
             )),
             Message::Put(epoch, object) => Ok(Message::Put(*epoch, object.copy(alloc)?)),
             Message::PutReply(epoch, key, version) => Ok(Message::PutReply(
@@ -119,12 +92,12 @@ impl Message {
             Message::TreeAsk(epoch, position, after) => Ok(Message::TreeAsk(
                 *epoch,
                 *position,
-                copy_key(after, alloc)?,
+                copy_key(alloc, after)?,
             )),
             Message::TreeGive(epoch, position, after, trusted, body) => Ok(Message::TreeGive(
                 *epoch,
                 *position,
-                copy_key(after, alloc)?,
+                copy_key(alloc, after)?,
                 *trusted,
                 body.copy(alloc)?,
             )),
