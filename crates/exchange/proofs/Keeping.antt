@@ -1,5 +1,5 @@
 -- Taking what a peer with some map sends keeps covered what that map has.
-use Rattle.std.proofs.Common.{◌≡◌, ◌⊎◌, ℕ, zero, suc, ◌+◌, ◌-◌, ◌*◌, ◌/◌, ◌%◌, ◌<◌, ◌≤◌, Bool, true, false, List, [], ◌∷◌, Option, None, Some, length, get_or, take, refl, ap, sym, ◌∙◌, subst, arith, inl, inr}
+use Rattle.std.proofs.Common.{◌≡◌, ◌≢◌, ◌⊎◌, ℕ, zero, suc, ◌+◌, ◌-◌, ◌*◌, ◌/◌, ◌%◌, ◌<◌, ◌≤◌, Bool, true, false, List, [], ◌∷◌, Option, None, Some, length, get_or, take, refl, ap, sym, ◌∙◌, subst, arith, inl, inr}
 use Rattle.std.specs.Prelude.{nat_lt, ◌==◌, ◌&&◌, not, if◌then◌else◌}
 use Rattle.std.proofs.lemmas.Bool.{and_parts}
 use Rattle.std.proofs.lemmas.Bool.Decides.{nat_tests}
@@ -13,15 +13,15 @@ use Rattle.tree_node.specs.declared.body.TreeBody.{TreeBody}
 use Rattle.tree_node.specs.declared.position.Position.{Position}
 use Rattle.tree_node.specs.Positions.{IsPosition, same_position}
 use Rattle.tree_maps.specs.Entries.{IsMap}
-use Rattle.tree_maps.specs.Forms.{IsPlace, child}
-use Rattle.tree_maps.specs.Maps.{within, named, text, children}
+use Rattle.tree_maps.specs.Forms.{IsPlace, root, child}
+use Rattle.tree_maps.specs.Maps.{within, named, text, children, IsNode}
 use Rattle.tree_maps.specs.Paths.{passes, under}
 use Rattle.tree_maps.specs.Sixteen.{sixteen, children_of}
-use Rattle.tree_maps.proofs.Below.{under_map, node_below, some_width}
+use Rattle.tree_maps.proofs.Below.{there_if_some, under_map, node_below, some_width}
 use Rattle.tree_maps.proofs.Formats.{sixteen_laws}
 use Rattle.tree_maps.proofs.Orders.{same_is}
 use Rattle.tree_maps.proofs.Parts.{map_part}
-use Rattle.tree_maps.proofs.Unique.{one_map, child_is, child_place}
+use Rattle.tree_maps.proofs.Unique.{has_entries, one_map, child_is, child_place}
 use Rattle.synctree.proofs.Places.{position_of, place_of}
 use Rattle.exchange.specs.Asked.{Asked}
 use Rattle.exchange.specs.declared.question.Question.{Question}
@@ -87,6 +87,11 @@ passes_child key at wide p =
     both : (b : Bool) (d : ℕ) → b ≡ true → (b && d == d) ≡ true
     both b d e = grind (arith, nat_tests, e)
 
+-- a node below a child that has entries is a node of the map
+child_below : (h : ℕ) (at : Position) (m : List Entry) (c : ℕ) (s : List ℕ) → IsPlace sixteen (suc h) at → c < sixteen.width → within sixteen at c (under sixteen at m) ≢ [] → IsNode sixteen h (child sixteen at c) (within sixteen at c (under sixteen at m)) s
+    → IsNode sixteen sixteen.depth root m s
+child_below h at m c s p wide some n = node_below sixteen sixteen_laws (suc h) at.level at.index m s p (there_if_some at.level (under sixteen at m) (λ none. some (ap (within sixteen at c) none))) (inr (c, wide, some, n))
+
 known_has : (h : ℕ) (at : Position) (own : Option (List ℕ)) (scan : Scan) (m n : List Entry) → IsPlace sixteen (suc h) at → IsMap m → IsOwn own scan at n → AreApart m n → IsFair h at scan.damaged (names_in at own) scan.entries m
 known_has h at own scan m n p ok is apart c d k v wide known names passing has = by (own_names h at own n p is.node)
   where
@@ -101,11 +106,11 @@ known_has h at own scan m n p ok is apart c d k v wide known names passing has =
         let through : Passes e.entry.key (child sixteen at c) = subst (λ (key : List ℕ). Passes key (child sixteen at c)) (sym e.key_is) passing in
         in_has e.entry scan.entries k v (is.scanned e.entry two.0 (λ any. passes_none e.entry.key (child sixteen at c) scan.damaged (position_of h (child sixteen at c) place) is.positions free through any)) e.key_is e.least
 
-    same : d ≡ md5 (text sixteen h (child sixteen at c) (within sixteen at c (under sixteen at n))) → (within sixteen at c (under sixteen at m)) ≡ (within sixteen at c (under sixteen at n))
-    same e = one_map sixteen sixteen_laws h (child sixteen at c) (within sixteen at c (under sixteen at m)) (within sixteen at c (under sixteen at n)) place
+    same : within sixteen at c (under sixteen at n) ≢ [] → d ≡ md5 (text sixteen h (child sixteen at c) (within sixteen at c (under sixteen at n))) → (within sixteen at c (under sixteen at m)) ≡ (within sixteen at c (under sixteen at n))
+    same some e = one_map sixteen sixteen_laws h (child sixteen at c) (within sixteen at c (under sixteen at m)) (within sixteen at c (under sixteen at n)) place
         (map_part (λ key. sixteen.digit key at.level == c) (under sixteen at m) (under_map sixteen at m ok)) (map_part (λ key. sixteen.digit key at.level == c) (under sixteen at n) (under_map sixteen at n is.is_map))
         (sym names ∙ e)
-        (λ s t x y z. apart s t (node_below sixteen sixteen_laws (suc h) at.level at.index m s p (inr (c, wide, x))) (node_below sixteen sixteen_laws (suc h) at.level at.index n t p (inr (c, wide, y))) z)
+        (λ s t x y z. apart s t (child_below h at m c s p wide (λ none. subst (λ (es : List Entry). Has es k v) none has) x) (child_below h at n c t p wide some y) z)
 
     at_names : (names : List (Option (List ℕ))) → names_in at own ≡ names → is_known scan.damaged (child sixteen at c) (get_or names c None) d ≡ true
     at_names names e = subst (λ (cs : List (Option (List ℕ))). is_known scan.damaged (child sixteen at c) (get_or cs c None) d ≡ true) e known
@@ -117,8 +122,10 @@ known_has h at own scan m n p ok is apart c d k v wide known names passing has =
         no e = absurd cc
     by (inr cs) =
         let parts = known_parts scan.damaged (child sixteen at c) (get_or (children sixteen h at (under sixteen at n)) c None) d (at_names (children sixteen h at (under sixteen at n)) cs) in
-        let digest : d ≡ md5 (text sixteen h (child sixteen at c) (within sixteen at c (under sixteen at n))) = named_some (within sixteen at c (under sixteen at n)) (text sixteen h (child sixteen at c) (within sixteen at c (under sixteen at n))) d (sym (child_is sixteen h at (under sixteen at n) c wide) ∙ parts.0) in
-        found parts.1 (subst (λ (es : List Entry). Has es k v) (same digest) has)
+        let name : named (within sixteen at c (under sixteen at n)) (text sixteen h (child sixteen at c) (within sixteen at c (under sixteen at n))) ≡ Some d = sym (child_is sixteen h at (under sixteen at n) c wide) ∙ parts.0 in
+        let some : within sixteen at c (under sixteen at n) ≢ [] = has_entries (within sixteen at c (under sixteen at n)) (text sixteen h (child sixteen at c) (within sixteen at c (under sixteen at n))) d name in
+        let digest : d ≡ md5 (text sixteen h (child sixteen at c) (within sixteen at c (under sixteen at n))) = named_some (within sixteen at c (under sixteen at n)) (text sixteen h (child sixteen at c) (within sixteen at c (under sixteen at n))) d name in
+        found parts.1 (subst (λ (es : List Entry). Has es k v) (same some digest) has)
 
 -- ## The whole
 

@@ -1,6 +1,6 @@
 ghost use Rattle.std.specs.Prelude.{◌≡◌, IfOk};
 
-use ens_base::{CopyError, Key};
+use ens_base::{CopyError, Key, copy_key};
 use std::alloc::Global;
 use tree_node::Position;
 
@@ -14,16 +14,6 @@ pub struct Question {
     pub after: Option<Key>,
 }
 
-/// Returns a copy of the key, if there is one.
-fn copy_key(key: &Option<Key>, alloc: Global) -> Result<Option<Key>, CopyError>
-    ensures { IfOk result (λ k. k ≡ key.now) }
-{
-    match key {
-        Some(key) => Ok(Some(key.copy(alloc)?)),
-        None => Ok(None),
-    }
-}
-
 impl Question {
     /// Returns a copy. Fails only when out of memory.
     pub fn copy(&self, alloc: Global) -> Result<Question, CopyError>
@@ -31,7 +21,7 @@ impl Question {
     {
         Ok(Question {
             position: self.position,
-            after: copy_key(&self.after, alloc)?,
+            after: copy_key(alloc, &self.after)?,
         })
     }
 }

@@ -18,7 +18,7 @@ use Rattle.tree_maps.specs.Maps.{within, named, text, children, AreApart, Stands
 use Rattle.tree_maps.specs.Paths.{under, present, node_of}
 use Rattle.tree_maps.proofs.Orders.{same_is}
 use Rattle.tree_maps.proofs.Unique.{root_is_node, child_is}
-use Rattle.tree_maps.proofs.Below.{place, every, under_child, child_again, parent_place, node_below, some_width}
+use Rattle.tree_maps.proofs.Below.{IsThere, place, every, under_child, child_again, parent_place, node_below, some_width}
 use native.Mathlib.Nat.{pow-zero}
 use Rattle.std.proofs.Math.Nat.{mod-lt}
 use Rattle.synctree.specs.declared.error.TreeError.{TreeError}
@@ -82,10 +82,10 @@ segment_kind at bytes low = let zero_is : 3 - at.level ≡ 0 = omega (arith, low
 
 -- ## What is read
 
-present_is : (l : ℕ) (es : List Entry) (t : List ℕ) → ((present l es t ≡ None) × (es ≡ [])) ⊎ (present l es t ≡ Some t)
-present_is zero es t = inr refl
+present_is : (l : ℕ) (es : List Entry) (t : List ℕ) → ((present l es t ≡ None) × (es ≡ [])) ⊎ (IsThere l es × (present l es t ≡ Some t))
+present_is zero es t = inr (tt, refl)
 present_is (suc l) [] t = inl (refl, refl)
-present_is (suc l) (e ∷ es) t = inr refl
+present_is (suc l) (e ∷ es) t = inr (λ is. cc, refl)
 
 -- the digest of a node that is there
 abbrev digested : Option (List ℕ) → Option (List ℕ)
@@ -112,18 +112,18 @@ module _ {S : Type 0} (does : S → (call : Call) → AnswerOf call → S → Ty
   whole false at bytes s t xs o (n, bad, same) = absurd cc
 
   module _ (F : Form) (laws : Laws F) where
-    -- the strings are apart from the nodes below a position
-    apart_below : (h l i : ℕ) (m : List Entry) (xs : List (List ℕ)) → IsPlace F h (place l i) → AreApart xs F F.depth root m → AreApart xs F h (place l i) (under F (place l i) m)
-    apart_below h l i m xs p apart s t x n = apart s t x (node_below F laws h l i m t p n)
+    -- the strings are apart from the nodes below a node that is there
+    apart_below : (h l i : ℕ) (m : List Entry) (xs : List (List ℕ)) → IsPlace F h (place l i) → IsThere l (under F (place l i) m) → AreApart xs F F.depth root m → AreApart xs F h (place l i) (under F (place l i) m)
+    apart_below h l i m xs p there apart s t x n = apart s t x (node_below F laws h l i m t p there n)
 
-    child_finds : (h l i : ℕ) (m : List Entry) (digest : List ℕ) (s t : S) (xs : List (List ℕ)) (o : Option (List ℕ)) → IsPlace F h (place (suc l) i) → AreApart xs F F.depth root m
+    child_finds : (h l i : ℕ) (m : List Entry) (digest : List ℕ) (s t : S) (xs : List (List ℕ)) (o : Option (List ℕ)) → IsPlace F h (place (suc l) i) → IsThere l (under F (place l (i / F.width)) m) → AreApart xs F F.depth root m
         → digest ≡ md5 (text F (suc h) (place l (i / F.width)) (under F (place l (i / F.width)) m)) → Ends does (child_name F (place l (i / F.width)) (i % F.width) digest) s xs (Ok o) t
         → o ≡ named (under F (place (suc l) i) m) (text F h (place (suc l) i) (under F (place (suc l) i) m))
-    child_finds h l i m digest s t xs o p apart is ends =
+    child_finds h l i m digest s t xs o p there apart is ends =
         let up = place l (i / F.width) in
         let r = parted does (open_node (F.inner_at (place l (i / F.width))) (place l (i / F.width)) digest) (λ names. Done (get_or names (i % F.width) None)) s t xs o ends in
         let cs : r.value ≡ children F h (place l (i / F.width)) (under F (place l (i / F.width)) m) = names_are does F laws h (place l (i / F.width)) (under F (place l (i / F.width)) m) digest r.first r.value (parent_place F laws h l i p) is
-        (apart_left F (suc h) (place l (i / F.width)) (under F (place l (i / F.width)) m) r.first r.second (subst (λ zs. AreApart zs F (suc h) (place l (i / F.width)) (under F (place l (i / F.width)) m)) r.strings (apart_below (suc h) l (i / F.width) m xs (parent_place F laws h l i p) apart)))
+        (apart_left F (suc h) (place l (i / F.width)) (under F (place l (i / F.width)) m) r.first r.second (subst (λ zs. AreApart zs F (suc h) (place l (i / F.width)) (under F (place l (i / F.width)) m)) r.strings (apart_below (suc h) l (i / F.width) m xs (parent_place F laws h l i p) there apart)))
         (opened does (F.inner_at (place l (i / F.width))) (place l (i / F.width)) digest s r.between r.first r.value r.came) in
         ok_once o (get_or r.value (i % F.width) None) r.went_on.1 ∙ ap (λ zs. get_or zs (i % F.width) None) cs ∙ child_is F h (place l (i / F.width)) (under F (place l (i / F.width)) m) (i % F.width) (mod-lt i (some_width F laws))
         ∙ ap (λ (q : Position). named (within F (place l (i / F.width)) (i % F.width) (under F (place l (i / F.width)) m)) (text F h q (within F (place l (i / F.width)) (i % F.width) (under F (place l (i / F.width)) m)))) (child_again F laws l i)
@@ -149,22 +149,22 @@ module _ {S : Type 0} (does : S → (call : Call) → AnswerOf call → S → Ty
         none_below : under F (place l (i / F.width)) m ≡ [] → under F (place (suc l) i) m ≡ []
         none_below e = under_child F l i m ∙ ap (within F (place l (i / F.width)) (i % F.width)) e
 
-        onward_is : (q : Option (List ℕ)) (u : S) (zs : List (List ℕ)) → AreApart zs F F.depth root m → q ≡ Some (md5 (text F (suc h) (place l (i / F.width)) (under F (place l (i / F.width)) m)))
+        onward_is : (q : Option (List ℕ)) (u : S) (zs : List (List ℕ)) → IsThere l (under F (place l (i / F.width)) m) → AreApart zs F F.depth root m → q ≡ Some (md5 (text F (suc h) (place l (i / F.width)) (under F (place l (i / F.width)) m)))
             → Ends does (onward None (child_name F (place l (i / F.width)) (i % F.width)) q) u zs (Ok o) t → o ≡ digested (present (suc l) (under F (place (suc l) i) m) (text F h (place (suc l) i) (under F (place (suc l) i) m)))
-        onward_is None u zs a e w = absurd cc
-        onward_is (Some d) u zs a e w =
+        onward_is None u zs there a e w = absurd cc
+        onward_is (Some d) u zs there a e w =
             let is : d ≡ md5 (text F (suc h) (place l (i / F.width)) (under F (place l (i / F.width)) m)) = cc in
-            child_finds h l i m d u t zs o p a is w ∙ named_is l (under F (place (suc l) i) m) (text F h (place (suc l) i) (under F (place (suc l) i) m))
+            child_finds h l i m d u t zs o p there a is w ∙ named_is l (under F (place (suc l) i) m) (text F h (place (suc l) i) (under F (place (suc l) i) m))
 
         onward_none : (q : Option (List ℕ)) (u : S) (zs : List (List ℕ)) → q ≡ None → Ends does (onward None (child_name F (place l (i / F.width)) (i % F.width)) q) u zs (Ok o) t → o ≡ None
         onward_none None u zs e (n, one, same) = ok_once o None one
         onward_none (Some d) u zs e w = absurd cc
 
         by : (q : Option (List ℕ)) (u : S) (zs : List (List ℕ)) → q ≡ digested (present l (under F (place l (i / F.width)) m) (text F (suc h) (place l (i / F.width)) (under F (place l (i / F.width)) m))) → AreApart zs F F.depth root m
-            → ((present l (under F (place l (i / F.width)) m) (text F (suc h) (place l (i / F.width)) (under F (place l (i / F.width)) m)) ≡ None) × (under F (place l (i / F.width)) m ≡ [])) ⊎ (present l (under F (place l (i / F.width)) m) (text F (suc h) (place l (i / F.width)) (under F (place l (i / F.width)) m)) ≡ Some (text F (suc h) (place l (i / F.width)) (under F (place l (i / F.width)) m)))
+            → ((present l (under F (place l (i / F.width)) m) (text F (suc h) (place l (i / F.width)) (under F (place l (i / F.width)) m)) ≡ None) × (under F (place l (i / F.width)) m ≡ [])) ⊎ (IsThere l (under F (place l (i / F.width)) m) × (present l (under F (place l (i / F.width)) m) (text F (suc h) (place l (i / F.width)) (under F (place l (i / F.width)) m)) ≡ Some (text F (suc h) (place l (i / F.width)) (under F (place l (i / F.width)) m))))
             → Ends does (onward None (child_name F (place l (i / F.width)) (i % F.width)) q) u zs (Ok o) t → o ≡ digested (present (suc l) (under F (place (suc l) i) m) (text F h (place (suc l) i) (under F (place (suc l) i) m)))
         by q u zs e a (inl (none, empty)) w = onward_none q u zs (e ∙ ap digested none) w ∙ ap (λ (es : List Entry). digested (present (suc l) es (text F h (place (suc l) i) es))) (sym (none_below empty))
-        by q u zs e a (inr some) w = onward_is q u zs a (e ∙ ap digested some) w
+        by q u zs e a (inr (there, some)) w = onward_is q u zs there a (e ∙ ap digested some) w
 
     node_is : (h : ℕ) (at : Position) (m : List Entry) (digest : List ℕ) (s t : S) (xs : List (List ℕ)) (o : Option (List ℕ)) → IsPlace F h at → AreApart xs F F.depth root m → Stands F digest m → Ends does (node_plan F (Some digest) at) s xs (Ok o) t → o ≡ node_of F at m
     node_is h at m digest s t xs o p apart stands ends =
@@ -180,20 +180,20 @@ module _ {S : Type 0} (does : S → (call : Call) → AnswerOf call → S → Ty
         onward_none None u zs e (n, one, same) = ok_once o None one
         onward_none (Some d) u zs e w = absurd cc
 
-        onward_is : (q : Option (List ℕ)) (u : S) (zs : List (List ℕ)) → AreApart zs F F.depth root m → q ≡ Some (md5 (text F h at (under F at m))) → Ends does (onward None (node_bytes F at) q) u zs (Ok o) t → o ≡ Some (text F h at (under F at m))
-        onward_is None u zs a e w = absurd cc
-        onward_is (Some d) u zs a e w =
+        onward_is : (q : Option (List ℕ)) (u : S) (zs : List (List ℕ)) → IsThere at.level (under F at m) → AreApart zs F F.depth root m → q ≡ Some (md5 (text F h at (under F at m))) → Ends does (onward None (node_bytes F at) q) u zs (Ok o) t → o ≡ Some (text F h at (under F at m))
+        onward_is None u zs there a e w = absurd cc
+        onward_is (Some d) u zs there a e w =
             let is : d ≡ md5 (text F h at (under F at m)) = cc in
             let r = parted does (fetch at d) (λ bytes. if is_node F (F.depth - at.level) at bytes then Done (Some bytes) else Broken at) u t zs o w in
             let f = fetched at d r.value u r.between r.first r.came in
-            let same : r.value ≡ text F h at (under F at m) = apart_below h at.level at.index m zs p a r.value (text F h at (under F at m)) (subst (λ ys. r.value ∈ ys) (sym (r.strings ∙ ap (λ ys. ys ++ r.second) f.0)) (inl refl)) (root_is_node F h at (under F at m)) (f.1 ∙ is) in
+            let same : r.value ≡ text F h at (under F at m) = apart_below h at.level at.index m zs p there a r.value (text F h at (under F at m)) (subst (λ ys. r.value ∈ ys) (sym (r.strings ∙ ap (λ ys. ys ++ r.second) f.0)) (inl refl)) (root_is_node F h at (under F at m)) (f.1 ∙ is) in
             whole (is_node F (F.depth - at.level) at r.value) at r.value r.between t r.second o r.went_on ∙ ap Some same
 
         by : (q : Option (List ℕ)) (u : S) (zs : List (List ℕ)) → q ≡ digested (present at.level (under F at m) (text F h at (under F at m))) → AreApart zs F F.depth root m
-            → ((present at.level (under F at m) (text F h at (under F at m)) ≡ None) × (under F at m ≡ [])) ⊎ (present at.level (under F at m) (text F h at (under F at m)) ≡ Some (text F h at (under F at m)))
+            → ((present at.level (under F at m) (text F h at (under F at m)) ≡ None) × (under F at m ≡ [])) ⊎ (IsThere at.level (under F at m) × (present at.level (under F at m) (text F h at (under F at m)) ≡ Some (text F h at (under F at m))))
             → Ends does (onward None (node_bytes F at) q) u zs (Ok o) t → o ≡ present at.level (under F at m) (text F h at (under F at m))
         by q u zs e a (inl (none, empty)) w = onward_none q u zs (e ∙ ap digested none) w ∙ sym none
-        by q u zs e a (inr some) w = onward_is q u zs a (e ∙ ap digested some) w ∙ sym some
+        by q u zs e a (inr (there, some)) w = onward_is q u zs there a (e ∙ ap digested some) w ∙ sym some
 
     pub reads_of : (refuses : S → Call → TreeError → S → Type 0) (top : Option (List ℕ)) (h : ℕ) (at : Position) (s t : S) (r : Result (Option (List ℕ)) TreeError) → IsPlace F h at → Did does refuses (node_plan F top at) s r t → IfOk r (λ o. Reads does F top at s o t)
     reads_of refuses top h at s t (Ok o) p (xs, ends) = record { strings = xs; ends = ends; answers = λ digest m is stands apart. node_is h at m digest s t xs o p apart stands (subst (λ (q : Option (List ℕ)). Ends does (node_plan F q at) s xs (Ok o) t) is ends) }

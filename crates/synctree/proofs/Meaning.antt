@@ -1,5 +1,5 @@
 -- What the walks of a tree return, for every map that stands under its digest.
-use Rattle.std.proofs.Common.{◌≡◌, ℕ, zero, suc, ◌<◌, Bool, true, false, cond, List, [], ◌∷◌, ◌++◌, Option, None, Some, Result, Ok, Err, IfOk, get_or, arith, refl, ap, sym, ◌∙◌, subst, inl, inr}
+use Rattle.std.proofs.Common.{◌≡◌, ◌≢◌, ℕ, zero, suc, ◌<◌, Bool, true, false, cond, List, [], ◌∷◌, ◌++◌, Option, None, Some, Result, Ok, Err, IfOk, get_or, arith, refl, ap, sym, ◌∙◌, subst, inl, inr}
 use Rattle.std.specs.Prelude.{◌==◌}
 use Rattle.md5.specs.Md5.{md5}
 use Rattle.ens_base.specs.declared.entry.Entry.{Entry}
@@ -21,12 +21,12 @@ use Rattle.synctree.proofs.Composing.{hashed_append}
 pub ok_once : {A : Type 0} (x y : A) → (let r : Result A Position = Ok x in r) ≡ Ok y → x ≡ y
 ok_once x y e = cc
 
-in_left : (x : List ℕ) (xs ys : List (List ℕ)) → x ∈ xs → x ∈ (xs ++ ys)
+pub in_left : (x : List ℕ) (xs ys : List (List ℕ)) → x ∈ xs → x ∈ (xs ++ ys)
 in_left x [] ys h = absurd h
 in_left x (y ∷ xs) ys (inl e) = inl e
 in_left x (y ∷ xs) ys (inr h) = inr (in_left x xs ys h)
 
-in_right : (x : List ℕ) (xs ys : List (List ℕ)) → x ∈ ys → x ∈ (xs ++ ys)
+pub in_right : (x : List ℕ) (xs ys : List (List ℕ)) → x ∈ ys → x ∈ (xs ++ ys)
 in_right x [] ys h = h
 in_right x (y ∷ xs) ys h = inr (in_right x xs ys h)
 
@@ -36,8 +36,8 @@ apart_left F h at m xs ys a s t i = a s t (in_left s xs ys i)
 pub apart_right : (F : Form) (h : ℕ) (at : Position) (m : List Entry) (xs ys : List (List ℕ)) → AreApart (xs ++ ys) F h at m → AreApart ys F h at m
 apart_right F h at m xs ys a s t i = a s t (in_right s xs ys i)
 
-pub apart_child : (F : Form) (h : ℕ) (at : Position) (m : List Entry) (c : ℕ) → c < F.width → (xs : List (List ℕ)) → AreApart xs F (suc h) at m → AreApart xs F h (child F at c) (within F at c m)
-apart_child F h at m c l xs a s t i n = a s t i (inr (c, l, n))
+pub apart_child : (F : Form) (h : ℕ) (at : Position) (m : List Entry) (c : ℕ) → c < F.width → within F at c m ≢ [] → (xs : List (List ℕ)) → AreApart xs F (suc h) at m → AreApart xs F h (child F at c) (within F at c m)
+apart_child F h at m c l some xs a s t i n = a s t i (inr (c, l, some, n))
 
 -- one plan after another, both ended well: what each returned
 pub record Parted {A B S : Type 0} (does : S → (call : Call) → AnswerOf call → S → Type 0) (p : Plan A) (f : A → Plan B) (s : S) (xs : List (List ℕ)) (y : B) (t : S) : Type 0 where
@@ -91,9 +91,9 @@ module _ {S : Type 0} (does : S → (call : Call) → AnswerOf call → S → Ty
     pub names_are : (h : ℕ) (at : Position) (m : List Entry) (digest : List ℕ) (xs : List (List ℕ)) (cs : List (Option (List ℕ))) → IsPlace F (suc h) at → digest ≡ md5 (text F (suc h) at m) → AreApart xs F (suc h) at m → Opened (F.inner_at at) digest xs cs → cs ≡ children F h at m
     names_are h at m digest xs cs p is apart o = some_once (F.inner_at at (F.inner_text at (children F h at m))) cs (children F h at m) (opened_text (suc h) at m digest (F.inner_at at) xs cs is apart o) (children_again F laws h at m p)
 
-    onward_finds : (l : List Entry) (t : List ℕ) (next : List ℕ → Plan (Option Entry)) (u v : S) (zs : List (List ℕ)) (key : List ℕ) (o : Option Entry) → Ends does (onward None next (named l t)) u zs (Ok o) v → (Ends does (next (md5 t)) u zs (Ok o) v → o ≡ lookup key l) → o ≡ lookup key l
+    onward_finds : (l : List Entry) (t : List ℕ) (next : List ℕ → Plan (Option Entry)) (u v : S) (zs : List (List ℕ)) (key : List ℕ) (o : Option Entry) → Ends does (onward None next (named l t)) u zs (Ok o) v → (l ≢ [] → Ends does (next (md5 t)) u zs (Ok o) v → o ≡ lookup key l) → o ≡ lookup key l
     onward_finds [] t next u v zs key o (e, is, same) f = ok_once o None is
-    onward_finds (x ∷ l) t next u v zs key o h f = f h
+    onward_finds (x ∷ l) t next u v zs key o h f = f (λ is. cc) h
 
     pub find_finds : (h : ℕ) (at : Position) (m : List Entry) (digest key : List ℕ) (s t : S) (xs : List (List ℕ)) (o : Option Entry) → IsPlace F h at → IsMap m → digest ≡ md5 (text F h at m) → AreApart xs F h at m → Ends does (find F h at digest key) s xs (Ok o) t → o ≡ lookup key m
     find_finds zero at m digest key s t xs o p ok is apart ends =
@@ -114,7 +114,7 @@ module _ {S : Type 0} (does : S → (call : Call) → AnswerOf call → S → Ty
             ap (λ zs. get_or zs (F.digit key at.level) None) cs ∙ child_is F h at m (F.digit key at.level) (laws.in_width key at.level) in
             onward_finds (within F at (F.digit key at.level) m) (text F h (child F at (F.digit key at.level)) (within F at (F.digit key at.level) m)) (λ d. find F h (child F at (F.digit key at.level)) d key) r.between t r.second key o
             (subst (λ q. Ends does (onward None (λ d. find F h (child F at (F.digit key at.level)) d key) q) r.between r.second (Ok o) t) name r.went_on)
-            (λ e. below r.second r.between t (apart_child F h at m (F.digit key at.level) (laws.in_width key at.level) r.second (apart_right F (suc h) at m r.first r.second both)) e)
+            (λ some e. below r.second r.between t (apart_child F h at m (F.digit key at.level) (laws.in_width key at.level) some r.second (apart_right F (suc h) at m r.first r.second both)) e)
             ∙ sym (lookup_within F at key m)
 
     -- the entry that a get returns is the one of every map that stands under the top record

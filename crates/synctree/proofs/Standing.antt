@@ -11,7 +11,7 @@ use Rattle.tree_maps.specs.Entries.{Ascends, IsMap, put}
 use Rattle.tree_maps.specs.Forms.{Form, Laws, IsPlace, child, root}
 use Rattle.tree_maps.specs.Maps.{within, named, text, children, AreApart, Stands}
 use Rattle.tree_maps.proofs.Parts.{each-none, set-each, put-part, put-other, named-put, map_part, map_put}
-use Rattle.tree_maps.proofs.Unique.{root_place, child_place, child_is}
+use Rattle.tree_maps.proofs.Unique.{has_entries, root_place, child_place, child_is}
 use Rattle.synctree.specs.declared.error.TreeError.{TreeError}
 use Rattle.synctree.specs.Meanings.{Inserts}
 use Rattle.synctree.specs.Plans.{Call, AnswerOf, ◌>>=◌, Ends, Did}
@@ -29,6 +29,25 @@ names_child F h at [] None e = refl
 names_child F h at [] (Some d) e = absurd cc
 names_child F h at (x ∷ l) None e = absurd cc
 names_child F h at (x ∷ l) (Some d) e = cc
+
+-- the strings are apart from the nodes of a part of a map, if it is named
+abbrev NamedApart : List (List ℕ) → Form → ℕ → Position → Option (List ℕ) → List Entry → Type 0
+NamedApart strings F h at None m = Unit {0}
+NamedApart strings F h at (Some d) m = AreApart strings F h at m
+
+named_left : (F : Form) (h : ℕ) (at : Position) (o : Option (List ℕ)) (m : List Entry) (xs ys : List (List ℕ)) → NamedApart (xs ++ ys) F h at o m → NamedApart xs F h at o m
+named_left F h at None m xs ys a = tt
+named_left F h at (Some d) m xs ys a = apart_left F h at m xs ys a
+
+named_right : (F : Form) (h : ℕ) (at : Position) (o : Option (List ℕ)) (m : List Entry) (xs ys : List (List ℕ)) → NamedApart (xs ++ ys) F h at o m → NamedApart ys F h at o m
+named_right F h at None m xs ys a = tt
+named_right F h at (Some d) m xs ys a = apart_right F h at m xs ys a
+
+named_child : (F : Form) (h : ℕ) (at : Position) (o q : Option (List ℕ)) (m : List Entry) (c : ℕ) → c < F.width → Names F (suc h) at o m → q ≡ named (within F at c m) (text F h (child F at c) (within F at c m))
+    → (xs : List (List ℕ)) → NamedApart xs F (suc h) at o m → NamedApart xs F h (child F at c) q (within F at c m)
+named_child F h at o None m c l n is xs a = tt
+named_child F h at None (Some d) m c l n is xs a = absurd (has_entries (within F at c m) (text F h (child F at c) (within F at c m)) d (sym is) (ap (within F at c) n))
+named_child F h at (Some b) (Some d) m c l n is xs a = apart_child F h at m c l (has_entries (within F at c m) (text F h (child F at c) (within F at c m)) d (sym is)) xs a
 
 module _ (F : Form) (laws : Laws F) where
   same_part : (at : Position) (e : Entry) (m : List Entry) → Ascends m → within F at (F.digit e.key at.level) (put e m) ≡ put e (within F at (F.digit e.key at.level) m)
@@ -57,36 +76,36 @@ module _ (F : Form) (laws : Laws F) where
     store_is : (bytes digest : List ℕ) (s t : S) (xs : List (List ℕ)) → Ends does (store bytes) s xs (Ok digest) t → digest ≡ md5 bytes
     store_is bytes digest s t xs (a, u, rest, d, e, (b, v, more, d', e', (n, is, same))) = ok_once digest (md5 bytes) is
 
-    reached_segment : (at : Position) (o : Option (List ℕ)) (m : List Entry) (s t : S) (xs : List (List ℕ)) (es : List Entry) → IsPlace F zero at → IsMap m → Names F zero at o m → AreApart xs F zero at m → Ends does (reach (F.segment_at at) [] at o) s xs (Ok es) t → es ≡ m
+    reached_segment : (at : Position) (o : Option (List ℕ)) (m : List Entry) (s t : S) (xs : List (List ℕ)) (es : List Entry) → IsPlace F zero at → IsMap m → Names F zero at o m → NamedApart xs F zero at o m → Ends does (reach (F.segment_at at) [] at o) s xs (Ok es) t → es ≡ m
     reached_segment at None m s t xs es p ok n apart (e, is, same) = ok_once es [] is ∙ sym n
     reached_segment at (Some d) m s t xs es p ok n apart ends = segment_is does F laws at m d xs es p ok n apart (opened does (F.segment_at at) at d s t xs es ends)
 
-    reached_names : (h : ℕ) (at : Position) (o : Option (List ℕ)) (m : List Entry) (s t : S) (xs : List (List ℕ)) (cs : List (Option (List ℕ))) → IsPlace F (suc h) at → Names F (suc h) at o m → AreApart xs F (suc h) at m → Ends does (reach (F.inner_at at) (replicate F.width None) at o) s xs (Ok cs) t → cs ≡ children F h at m
+    reached_names : (h : ℕ) (at : Position) (o : Option (List ℕ)) (m : List Entry) (s t : S) (xs : List (List ℕ)) (cs : List (Option (List ℕ))) → IsPlace F (suc h) at → Names F (suc h) at o m → NamedApart xs F (suc h) at o m → Ends does (reach (F.inner_at at) (replicate F.width None) at o) s xs (Ok cs) t → cs ≡ children F h at m
     reached_names h at None m s t xs cs p n apart (e, is, same) = ok_once cs (replicate F.width None) is ∙ sym (each-none F.width 0) ∙ ap (children F h at) (sym n)
     reached_names h at (Some d) m s t xs cs p n apart ends = names_are does F laws h at m d xs cs p n apart (opened does (F.inner_at at) at d s t xs cs ends)
 
-    enter_is : (h : ℕ) (at : Position) (o : Option (List ℕ)) (e : Entry) (m : List Entry) (s t : S) (xs : List (List ℕ)) (new : List ℕ) → IsPlace F h at → IsMap m → Names F h at o m → AreApart xs F h at m → Ends does (enter F h at o e) s xs (Ok new) t → new ≡ md5 (text F h at (put e m))
+    enter_is : (h : ℕ) (at : Position) (o : Option (List ℕ)) (e : Entry) (m : List Entry) (s t : S) (xs : List (List ℕ)) (new : List ℕ) → IsPlace F h at → IsMap m → Names F h at o m → NamedApart xs F h at o m → Ends does (enter F h at o e) s xs (Ok new) t → new ≡ md5 (text F h at (put e m))
     enter_is zero at o e m s t xs new p ok n apart ends =
         let r = parted does (reach (F.segment_at at) [] at o) (λ entries. store (F.segment_text at (put e entries))) s t xs new ends in
-        let both : AreApart (r.first ++ r.second) F zero at m = subst (λ zs. AreApart zs F zero at m) r.strings apart in
-        let es : r.value ≡ m = reached_segment at o m s r.between r.first r.value p ok n (apart_left F zero at m r.first r.second both) r.came in
+        let both : NamedApart (r.first ++ r.second) F zero at o m = subst (λ zs. NamedApart zs F zero at o m) r.strings apart in
+        let es : r.value ≡ m = reached_segment at o m s r.between r.first r.value p ok n (named_left F zero at o m r.first r.second both) r.came in
         store_is (F.segment_text at (put e r.value)) new r.between t r.second r.went_on ∙ ap (λ l. md5 (F.segment_text at (put e l))) es
     enter_is (suc h) at o e m s t xs new p ok n apart ends = by (λ q v w zs below a k. enter_is h (child F at (F.digit e.key at.level)) q e (within F at (F.digit e.key at.level) m) v w zs below
         (child_place F h at (F.digit e.key at.level) (laws.in_width e.key at.level) p) (map_part (λ k. F.digit k at.level == F.digit e.key at.level) m ok) a k)
       where
-        by : ((q : Option (List ℕ)) (v w : S) (zs : List (List ℕ)) (below : List ℕ) → Names F h (child F at (F.digit e.key at.level)) q (within F at (F.digit e.key at.level) m) → AreApart zs F h (child F at (F.digit e.key at.level)) (within F at (F.digit e.key at.level) m)
+        by : ((q : Option (List ℕ)) (v w : S) (zs : List (List ℕ)) (below : List ℕ) → Names F h (child F at (F.digit e.key at.level)) q (within F at (F.digit e.key at.level) m) → NamedApart zs F h (child F at (F.digit e.key at.level)) q (within F at (F.digit e.key at.level) m)
             → Ends does (enter F h (child F at (F.digit e.key at.level)) q e) v zs (Ok below) w → below ≡ md5 (text F h (child F at (F.digit e.key at.level)) (put e (within F at (F.digit e.key at.level) m)))) → new ≡ md5 (text F (suc h) at (put e m))
         by lower =
             let r = parted does (reach (F.inner_at at) (replicate F.width None) at o) (λ names. enter F h (child F at (F.digit e.key at.level)) (get_or names (F.digit e.key at.level) None) e >>= (λ below. store (F.inner_text at (set names (F.digit e.key at.level) (Some below))))) s t xs new ends in
-            let both : AreApart (r.first ++ r.second) F (suc h) at m = subst (λ zs. AreApart zs F (suc h) at m) r.strings apart in
-            let cs : r.value ≡ children F h at m = reached_names h at o m s r.between r.first r.value p n (apart_left F (suc h) at m r.first r.second both) r.came in
+            let both : NamedApart (r.first ++ r.second) F (suc h) at o m = subst (λ zs. NamedApart zs F (suc h) at o m) r.strings apart in
+            let cs : r.value ≡ children F h at m = reached_names h at o m s r.between r.first r.value p n (named_left F (suc h) at o m r.first r.second both) r.came in
             let q = parted does (enter F h (child F at (F.digit e.key at.level)) (get_or r.value (F.digit e.key at.level) None) e) (λ below. store (F.inner_text at (set r.value (F.digit e.key at.level) (Some below)))) r.between t r.second new r.went_on in
-            let rest : AreApart (q.first ++ q.second) F (suc h) at m = subst (λ zs. AreApart zs F (suc h) at m) q.strings (apart_right F (suc h) at m r.first r.second both) in
+            let rest : NamedApart (q.first ++ q.second) F (suc h) at o m = subst (λ zs. NamedApart zs F (suc h) at o m) q.strings (named_right F (suc h) at o m r.first r.second both) in
             let name : get_or r.value (F.digit e.key at.level) None ≡ named (within F at (F.digit e.key at.level) m) (text F h (child F at (F.digit e.key at.level)) (within F at (F.digit e.key at.level) m)) =
             ap (λ zs. get_or zs (F.digit e.key at.level) None) cs ∙ child_is F h at m (F.digit e.key at.level) (laws.in_width e.key at.level) in
             let under : q.value ≡ md5 (text F h (child F at (F.digit e.key at.level)) (put e (within F at (F.digit e.key at.level) m))) =
             lower (get_or r.value (F.digit e.key at.level) None) r.between q.between q.first q.value (names_child F h (child F at (F.digit e.key at.level)) (within F at (F.digit e.key at.level) m) (get_or r.value (F.digit e.key at.level) None) name)
-            (apart_child F h at m (F.digit e.key at.level) (laws.in_width e.key at.level) q.first (apart_left F (suc h) at m q.first q.second rest)) q.came in
+            (named_child F h at o (get_or r.value (F.digit e.key at.level) None) m (F.digit e.key at.level) (laws.in_width e.key at.level) n name q.first (named_left F (suc h) at o m q.first q.second rest)) q.came in
             store_is (F.inner_text at (set r.value (F.digit e.key at.level) (Some q.value))) new q.between t q.second q.went_on
             ∙ ap (λ zs. md5 (F.inner_text at zs)) (ap (λ zs. set zs (F.digit e.key at.level) (Some q.value)) cs ∙ children_put h at e m q.value ok.ascends under)
 

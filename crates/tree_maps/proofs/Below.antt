@@ -1,7 +1,7 @@
 -- The part of a map below a position, level by level.
-use Rattle.std.proofs.Common.{◌≡◌, ℕ, zero, suc, ◌+◌, ◌*◌, ◌/◌, ◌%◌, ◌<◌, ◌^◌, Bool, true, false, cond, List, [], ◌∷◌, refl, ap, arith, inr}
+use Rattle.std.proofs.Common.{◌≡◌, ◌≢◌, ℕ, zero, suc, ◌+◌, ◌*◌, ◌/◌, ◌%◌, ◌<◌, ◌^◌, Bool, true, false, cond, List, [], ◌∷◌, refl, ap, sym, ◌∙◌, arith, inr}
 use Rattle.std.specs.Prelude.{◌==◌, ◌&&◌, filter}
-use Rattle.std.proofs.Math.Nat.{div-lt_iff_lt-mul, div-add-mod, mod-lt}
+use Rattle.std.proofs.Math.Nat.{div-lt_iff_lt-mul, div-add-mod, mod-lt, mod-eq_of_lt, div-eq_of_lt, mul-add-div, mul-add-mod_self_left}
 use native.Mathlib.Nat.{pow-suc, pow-zero}
 use Rattle.ens_base.specs.declared.entry.Entry.{Entry}
 use Rattle.tree_node.specs.declared.position.Position.{Position}
@@ -27,6 +27,16 @@ every (x ∷ m) = ap (λ xs. x ∷ xs) (every m)
 abbrev pub place : ℕ → ℕ → Position
 place level index = record { level = level; index = index }
 
+-- a node of this level with these entries below it is there: the root always, and another node only
+-- if it has entries
+abbrev pub IsThere : ℕ → List Entry → Type 0
+IsThere zero es = Unit {0}
+IsThere (suc level) es = es ≢ []
+
+pub there_if_some : (level : ℕ) (es : List Entry) → es ≢ [] → IsThere level es
+there_if_some zero es some = tt
+there_if_some (suc level) es some = some
+
 module _ (F : Form) where
   -- the entries below a child are those of its parent that belong to it
   pub under_child : (l i : ℕ) (m : List Entry) → under F (place (suc l) i) m ≡ within F (place l (i / F.width)) (i % F.width) (under F (place l (i / F.width)) m)
@@ -38,6 +48,20 @@ module _ (F : Form) where
 module _ (F : Form) (laws : Laws F) where
   pub some_width : 0 < F.width
   some_width = omega (arith, laws.in_width [] 0)
+
+  -- the entries of a node that belong to a child are those below the child
+  pub child_under : (at : Position) (c : ℕ) (m : List Entry) → c < F.width → within F at c (under F at m) ≡ under F (child F at c) m
+  child_under at c m l = sym (
+      ap (λ (n : ℕ). under F (place n (F.width * at.index + c)) m) next
+      ∙ under_child F at.level (F.width * at.index + c) m
+      ∙ ap (λ (q : ℕ). within F (place at.level q) ((F.width * at.index + c) % F.width) (under F (place at.level q) m)) quotient
+      ∙ ap (λ (r : ℕ). within F at r (under F at m)) (mul-add-mod_self_left F.width at.index c ∙ mod-eq_of_lt l))
+    where
+      next : at.level + 1 ≡ suc at.level
+      next = omega arith
+
+      quotient : (F.width * at.index + c) / F.width ≡ at.index
+      quotient = let zeros : at.index + 0 ≡ at.index = omega arith in mul-add-div some_width at.index c ∙ ap (λ (n : ℕ). at.index + n) (div-eq_of_lt l) ∙ zeros
 
   pub child_again : (l i : ℕ) → child F (place l (i / F.width)) (i % F.width) ≡ place (suc l) i
   child_again l i =
@@ -56,9 +80,13 @@ module _ (F : Form) (laws : Laws F) where
       wide : i < F.width ^ suc l → i < F.width ^ l * F.width
       wide p = let q = rw (pow-suc F.width l) at p in omega (arith, q)
 
-  -- a node below a position is a node of the map
-  pub node_below : (h l i : ℕ) (m : List Entry) (s : List ℕ) → IsPlace F h (place l i) → IsNode F h (place l i) (under F (place l i) m) s → IsNode F F.depth root m s
-  node_below h zero i m s p n = at_root h i p.level p.index (rw (every m) at n)
+  -- the parent of a node with entries is there
+  parent_there : (l i : ℕ) (m : List Entry) → under F (place (suc l) i) m ≢ [] → IsThere l (under F (place l (i / F.width)) m)
+  parent_there l i m some = there_if_some l (under F (place l (i / F.width)) m) (λ e. some (under_child F l i m ∙ ap (within F (place l (i / F.width)) (i % F.width)) e))
+
+  -- a node below a position that is there is a node of the map
+  pub node_below : (h l i : ℕ) (m : List Entry) (s : List ℕ) → IsPlace F h (place l i) → IsThere l (under F (place l i) m) → IsNode F h (place l i) (under F (place l i) m) s → IsNode F F.depth root m s
+  node_below h zero i m s p there n = at_root h i p.level p.index (rw (every m) at n)
     where
       at_root : (h i : ℕ) → 0 + h ≡ F.depth → i < F.width ^ 0 → IsNode F h (place 0 i) m s → IsNode F F.depth root m s
       at_root h i e l n =
@@ -67,4 +95,5 @@ module _ (F : Form) (laws : Laws F) where
         where
           small : (i : ℕ) → i < F.width ^ 0 → i ≡ 0
           small i l = let one = rw (pow-zero F.width) at l in omega (arith, one)
-  node_below h (suc l) i m s p n = node_below (suc h) l (i / F.width) m s (parent_place h l i p) (inr (i % F.width, mod-lt i some_width, rw (under_child F l i m, ← child_again l i) at n))
+  node_below h (suc l) i m s p there n = node_below (suc h) l (i / F.width) m s (parent_place h l i p) (parent_there l i m there)
+      (inr (i % F.width, mod-lt i some_width, λ e. there (under_child F l i m ∙ e), rw (under_child F l i m, ← child_again l i) at n))

@@ -1,6 +1,6 @@
 -- At most one map stands under a digest, unless two different nodes of the two maps have the same
 -- digest.
-use Rattle.std.proofs.Common.{◌≡◌, ◌⊎◌, ℕ, zero, suc, ◌+◌, ◌*◌, ◌<◌, ◌^◌, List, [], ◌∷◌, Option, None, Some, length, get_or, refl, ap, sym, ◌∙◌, arith, inl, inr}
+use Rattle.std.proofs.Common.{◌≡◌, ◌≢◌, ◌⊎◌, ℕ, zero, suc, ◌+◌, ◌*◌, ◌<◌, ◌^◌, List, [], ◌∷◌, Option, None, Some, length, get_or, refl, ap, sym, ◌∙◌, arith, inl, inr}
 use Rattle.std.specs.Prelude.{◌==◌}
 use Rattle.std.proofs.lemmas.Bool.Decides.{nat_tests}
 use Rattle.std.proofs.lemmas.Nat.{mul-add-lt}
@@ -17,11 +17,16 @@ use Rattle.tree_maps.proofs.Names.{md5_run}
 pub some_once : {A : Type 0} (x : Option A) (a b : A) → x ≡ Some a → x ≡ Some b → a ≡ b
 some_once x a b e f = cc
 
-named_same : (l k : List Entry) (t u : List ℕ) → named l t ≡ named k u → ((l ≡ []) × (k ≡ [])) ⊎ (md5 t ≡ md5 u)
+named_same : (l k : List Entry) (t u : List ℕ) → named l t ≡ named k u → ((l ≡ []) × (k ≡ [])) ⊎ ((l ≢ []) × (k ≢ []) × (md5 t ≡ md5 u))
 named_same [] [] t u e = inl (refl, refl)
 named_same [] (y ∷ k) t u e = absurd cc
 named_same (x ∷ l) [] t u e = absurd cc
-named_same (x ∷ l) (y ∷ k) t u e = inr cc
+named_same (x ∷ l) (y ∷ k) t u e = inr (λ i. cc, λ i. cc, cc)
+
+-- a part that is named has entries
+pub has_entries : (l : List Entry) (t d : List ℕ) → named l t ≡ Some d → l ≢ []
+has_entries [] t d e = absurd cc
+has_entries (x ∷ l) t d e = λ i. cc
 
 each_names : (f : ℕ → Option (List ℕ)) → ((j : ℕ) → AreNames (f j ∷ [])) → (n i : ℕ) → AreNames (each_of f n i)
 each_names f ok zero i = tt
@@ -89,9 +94,9 @@ module _ (F : Form) (laws : Laws F) where
       part c l below = by (named_same (within F at c m) (within F at c n) (text F h (child F at c) (within F at c m)) (text F h (child F at c) (within F at c n))
           (sym (child_is F h at m c l) ∙ ap (λ cs. get_or cs c None) cs_same ∙ child_is F h at n c l))
         where
-          by : ((within F at c m ≡ []) × (within F at c n ≡ [])) ⊎ (md5 (text F h (child F at c) (within F at c m)) ≡ md5 (text F h (child F at c) (within F at c n))) → within F at c m ≡ within F at c n
+          by : ((within F at c m ≡ []) × (within F at c n ≡ [])) ⊎ ((within F at c m ≢ []) × (within F at c n ≢ []) × (md5 (text F h (child F at c) (within F at c m)) ≡ md5 (text F h (child F at c) (within F at c n)))) → within F at c m ≡ within F at c n
           by (inl (q, r)) = q ∙ sym r
-          by (inr d) = below (map_part (λ key. F.digit key at.level == c) m a) (map_part (λ key. F.digit key at.level == c) n b) d (λ s t x y z. apart s t (inr (c, l, x)) (inr (c, l, y)) z)
+          by (inr (q, r, d)) = below (map_part (λ key. F.digit key at.level == c) m a) (map_part (λ key. F.digit key at.level == c) n b) d (λ s t x y z. apart s t (inr (c, l, q, x)) (inr (c, l, r, y)) z)
 
   pub one_stands : (d : List ℕ) (m n : List Entry) → Stands F d m → Stands F d n → NodesApart F F.depth root m n → m ≡ n
   one_stands d m n a b apart = one_map F.depth root m n (root_place F) a.is_map b.is_map (sym a.root_is ∙ b.root_is) apart

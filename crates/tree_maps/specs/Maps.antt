@@ -1,6 +1,6 @@
 -- When a map stands under a digest: the tree of the map, in which each node is named by its MD5,
 -- has this digest at its root.
-use Rattle.std.specs.Prelude.{◌≡◌, ◌⊎◌, ℕ, zero, suc, ◌+◌, ◌<◌, ◌==◌, List, [], ◌∷◌, Option, None, Some, filter}
+use Rattle.std.specs.Prelude.{◌≡◌, ◌≢◌, ◌⊎◌, ℕ, zero, suc, ◌+◌, ◌<◌, ◌==◌, List, [], ◌∷◌, Option, None, Some, filter}
 use Rattle.md5.specs.Md5.{md5}
 use Rattle.ens_base.specs.declared.entry.Entry.{Entry}
 use Rattle.ens_base.specs.Lists.{◌∈◌}
@@ -31,10 +31,10 @@ text F (suc h) at m = F.inner_text at (each_of (λ c. named (within F at c m) (t
 abbrev pub children : Form → ℕ → Position → List Entry → List (Option (List ℕ))
 children F h at m = each_of (λ c. named (within F at c m) (text F h (child F at c) (within F at c m))) F.width 0
 
--- the string is the text of a node of the map
+-- the string is the text of a node of the map; a child without entries is missing, and so no node
 abbrev pub IsNode : Form → ℕ → Position → List Entry → List ℕ → Type 0
 IsNode F zero at m s = s ≡ F.segment_text at m
-IsNode F (suc h) at m s = (s ≡ text F (suc h) at m) ⊎ ((c : ℕ) × (c < F.width) × IsNode F h (child F at c) (within F at c m) s)
+IsNode F (suc h) at m s = (s ≡ text F (suc h) at m) ⊎ ((c : ℕ) × (c < F.width) × (within F at c m ≢ []) × IsNode F h (child F at c) (within F at c m) s)
 
 -- the map stands under the digest
 pub record Stands (F : Form) (d : List ℕ) (m : List Entry) : Type 0 where

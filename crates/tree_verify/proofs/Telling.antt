@@ -14,9 +14,9 @@ use Rattle.tree_maps.specs.Entries.{IsBelowAll, Ascends, IsMap}
 use Rattle.tree_maps.specs.Forms.{Form, Laws, IsPlace, child, root}
 use Rattle.tree_maps.specs.Maps.{each_of, within, named, text, children, AreApart}
 use Rattle.tree_maps.specs.Paths.{passes, under}
-use Rattle.tree_maps.proofs.Below.{place as position, every, under_child, under_map, node_below, some_width}
+use Rattle.tree_maps.proofs.Below.{IsThere, there_if_some, place as position, every, under_child, under_map, node_below, some_width}
 use Rattle.tree_maps.proofs.Orders.{same_is, cmp_back}
-use Rattle.tree_maps.proofs.Unique.{some_once, root_is_node, root_place, child_place, children_again}
+use Rattle.tree_maps.proofs.Unique.{some_once, has_entries, root_is_node, root_place, child_place, children_again}
 use Rattle.synctree.specs.declared.error.TreeError.{TreeError}
 use Rattle.synctree.specs.Plans.{Call, AnswerOf, Plan, Done, ◌>>=◌, Ends, Did}
 use Rattle.synctree.proofs.Meaning.{ok_once, apart_left, apart_right, parted}
@@ -148,7 +148,7 @@ named_none (x ∷ l) t e = absurd cc
 module _ (F : Form) (laws : Laws F) (m : List Entry) where
   abbrev NamesOne : ℕ → Position → Option (List ℕ) → Type 0
   NamesOne h at None = Unit {0}
-  NamesOne h at (Some d) = IsPlace F h at × (d ≡ md5 (text F h at (under F at m)))
+  NamesOne h at (Some d) = IsPlace F h at × IsThere at.level (under F at m) × (d ≡ md5 (text F h at (under F at m)))
 
   abbrev Names : ℕ → List Slot → Type 0
   Names h [] = Unit {0}
@@ -192,7 +192,11 @@ module _ (F : Form) (laws : Laws F) (m : List Entry) where
           → Names h (child_slots F at i (o ∷ each_of (λ c. named (within F at c (under F at m)) (text F h (child F at c) (within F at c (under F at m)))) n (i + 1)))
       by None e rest = rest
       by (Some d) e rest = (
-        (child_place F h at i (omega (arith, few)) p, named_some (within F at i (under F at m)) (text F h (child F at i) (within F at i (under F at m))) d e ∙ ap (λ (es : List Entry). md5 (text F h (child F at i) es)) (child_under at i (omega (arith, few)))),
+        (
+          child_place F h at i (omega (arith, few)) p,
+          there_if_some (at.level + 1) (under F (child F at i) m) (λ none. has_entries (within F at i (under F at m)) (text F h (child F at i) (within F at i (under F at m))) d e (child_under at i (omega (arith, few)) ∙ none)),
+          named_some (within F at i (under F at m)) (text F h (child F at i) (within F at i (under F at m))) d e ∙ ap (λ (es : List Entry). md5 (text F h (child F at i) es)) (child_under at i (omega (arith, few))),
+        ),
         rest,
       )
 
@@ -237,7 +241,7 @@ module _ (F : Form) (laws : Laws F) (m : List Entry) where
   opened_text h at node_at (Some d) (Some b) node n apart e = (n.0, by (same_bytes (md5 b) d) refl e)
     where
       by : (t : Bool) → same_bytes (md5 b) d ≡ t → cond t (node_at b) None ≡ Some node → node_at (text F h at (under F at m)) ≡ Some node
-      by true is e = ap node_at (sym (apart b (text F h at (under F at m)) (inl refl) (node_below F laws h at.level at.index m (text F h at (under F at m)) n.0 (root_is_node F h at (under F at m))) (same_is (md5 b) d is ∙ n.1))) ∙ e
+      by true is e = ap node_at (sym (apart b (text F h at (under F at m)) (inl refl) (node_below F laws h at.level at.index m (text F h at (under F at m)) n.0 n.1 (root_is_node F h at (under F at m))) (same_is (md5 b) d is ∙ n.2))) ∙ e
       by false is e = absurd cc
 
   names_are : (h : ℕ) (at : Position) (named_by read : Option (List ℕ)) (names : List (Option (List ℕ))) → NamesOne (suc h) at named_by → AreApart (strings_of (read ∷ [])) F F.depth root m → verified (F.inner_at at) named_by read ≡ Some names
@@ -393,7 +397,7 @@ module _ (F : Form) (laws : Laws F) {S : Type 0} (does : S → (call : Call) →
     strings = xs;
     ends = ends;
     finds = λ digest m is stands apart. scan_is F laws m does stands.is_map F.depth (slot root (Some digest) ∷ []) s t xs scan
-        ((root_place F, stands.root_is ∙ ap (λ (es : List Entry). md5 (text F F.depth root es)) (sym (every m))), tt) (λ e i. refl) apart
+        ((root_place F, tt, stands.root_is ∙ ap (λ (es : List Entry). md5 (text F F.depth root es)) (sym (every m))), tt) (λ e i. refl) apart
         (subst (λ (q : Option (List ℕ)). Ends does (scan_plan F q) s xs (Ok scan) t) is ends);
   }
   scans_of refuses top s t (Err e) d = tt
