@@ -7,7 +7,8 @@ use Rattle.tree_maps.specs.Maps.{text}
 use Rattle.tree_maps.specs.Sixteen.{sixteen}
 use Rattle.synctree.specs.declared.stored_node.StoredNode.{StoredNode}
 use Rattle.synctree.proofs.Places.{depth_is}
-use Rattle.tree_repair.specs.Builds.{somes, digest_if, level_of, nodes_down, build_nodes, stored, names_of}
+use Rattle.tree_verify.specs.Hashers.{digest_if}
+use Rattle.tree_repair.specs.Builds.{somes, level_of, nodes_down, build_nodes, stored, names_of}
 use Rattle.tree_repair.proofs.Lists.{map_append, somes_cons, get_map_or}
 use Rattle.tree_repair.specs.Admitting.{Admitted, Rejected, AdmitsAll}
 use Rattle.tree_repair.proofs.Admissions.{admits_then, memory_after, rejected_on}

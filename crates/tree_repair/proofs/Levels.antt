@@ -14,7 +14,8 @@ use Rattle.tree_maps.proofs.Parts.{length-each}
 use Rattle.tree_maps.proofs.Below.{under_child, every}
 use Rattle.tree_maps.proofs.Formats.{sixteen_laws}
 use Rattle.synctree.proofs.Places.{width_is, depth_is, child_is}
-use Rattle.tree_repair.specs.Builds.{place, level_of, digest_if, names_of}
+use Rattle.tree_verify.specs.Hashers.{digest_if}
+use Rattle.tree_repair.specs.Builds.{place, level_of, names_of}
 use Rattle.tree_repair.specs.Levels.{has_any, inner_slot}
 use Rattle.tree_repair.proofs.Lists.{each_from, slice_each, map_each, no_any, some_any}
 

@@ -4,18 +4,18 @@ ghost use Rattle.tree_maps.specs.Entries.{IsMap};
 ghost use Rattle.tree_maps.specs.Maps.{Stands};
 ghost use Rattle.tree_maps.specs.Sixteen.{sixteen};
 ghost use Rattle.tree_repair.specs.Admitting.{AdmitsAll};
-ghost use Rattle.tree_repair.specs.Builds.{somes, digest_if, names_of, nodes_down, stored, build_nodes, build_of};
+ghost use Rattle.tree_verify.specs.Hashers.{digest_if};
+ghost use Rattle.tree_repair.specs.Builds.{somes, names_of, nodes_down, stored, build_nodes, build_of};
 
 use crate::built::Built;
-use crate::gate::Gate;
-use crate::hashing::{digests, digests_whole};
 use crate::inner::inner_texts;
 use crate::segments::segment_texts;
 use ens_base::{Bytes, Digest, Entry, Seq};
 use ens_hashing::{HashError, Hasher16};
-use std::alloc::{AllocError, Global};
+use std::alloc::Global;
 use std::thread::Threads;
 use synctree::StoredNode;
+use tree_verify::{Gate, digests};
 
 /// The level of the root.
 const ROOT_LEVEL: u8 = 0;
@@ -66,78 +66,49 @@ fn keep_all<H: Hasher16>(
     Ok(())
 }
 
-/// Hashes the texts of a level by a call of `by`, admits them and appends them to the nodes. Returns
-/// their digests.
-fn keep_level<
-    H: Hasher16,
-    D: Fn(Global, &[Option<Bytes>]) -> Result<Vec<Option<Digest>>, AllocError>,
->(
-    by: &D,
+/// Hashes the texts of a level by threads, admits them and appends them to the nodes. Returns their
+/// digests.
+fn keep_level<H: Hasher16, R: Threads + Sync, G: Gate + Sync>(
+    rt: &R,
     alloc: Global,
     hasher: &mut H,
+    gate: &G,
     texts: Vec<Option<Bytes>>,
     nodes: &mut Vec<StoredNode>,
 ) -> Result<Vec<Option<Digest>>, HashError>
-    requires callable { D.IsAlwaysCallable by.now }
-    requires digests { (a all r : _) → D.post by.now a all r → IfOk r (λ v. v.items ≡ map digest_if all.now) }
     ensures names { IfOk result (λ v. v.items ≡ map digest_if texts.items) }
     ensures nodes { OnOk result (nodes.new.items ≡ nodes.old.items ++ map stored (somes texts.items)) }
     ensures admits { AdmitsAll H.kept H.clashes H.fulls (somes texts.items) hasher.old result hasher.new }
 {
-    let names = by(alloc, texts.as_slice())?;
+    let names = digests(rt, alloc, texts.as_slice(), gate)?;
     keep_all(alloc, hasher, texts, names.as_slice(), nodes)?;
     Ok(names)
 }
 
 /// Builds the nodes of a level and of all levels below it, the lowest level first. Returns the
 /// digests of the level.
-fn build_level<
-    H: Hasher16,
-    D: Fn(Global, &[Option<Bytes>]) -> Result<Vec<Option<Digest>>, AllocError>,
->(
-    by: &D,
+fn build_level<H: Hasher16, R: Threads + Sync, G: Gate + Sync>(
+    rt: &R,
     alloc: Global,
     hasher: &mut H,
+    gate: &G,
     level: u8,
     entries: &[Entry],
     nodes: &mut Vec<StoredNode>,
 ) -> Result<Vec<Option<Digest>>, HashError>
     requires level { level ≤ 3 }
     requires ascending { AreAbove [] entries.now }
-    requires callable { D.IsAlwaysCallable by.now }
-    requires digests { (a all r : _) → D.post by.now a all r → IfOk r (λ v. v.items ≡ map digest_if all.now) }
     ensures names { IfOk result (λ v. v.items ≡ names_of sixteen level entries.now) }
     ensures nodes { OnOk result (nodes.new.items ≡ nodes.old.items ++ map stored (nodes_down sixteen (3 - level) level entries.now)) }
     ensures admits { AdmitsAll H.kept H.clashes H.fulls (nodes_down sixteen (3 - level) level entries.now) hasher.old result hasher.new }
 {
     if level == LAST_LEVEL {
         let texts = segment_texts(alloc, entries)?;
-        return keep_level(by, alloc, hasher, texts, nodes);
+        return keep_level(rt, alloc, hasher, gate, texts, nodes);
     }
-    let names = build_level(by, alloc, hasher, level + 1, entries, nodes)?;
+    let names = build_level(rt, alloc, hasher, gate, level + 1, entries, nodes)?;
     let texts = inner_texts(alloc, level, names.as_slice())?;
-    keep_level(by, alloc, hasher, texts, nodes)
-}
-
-/// Returns the plain build of a map, given as its entries in ascending order of keys. `by` hashes the
-/// texts of a level.
-fn build_by<
-    H: Hasher16,
-    D: Fn(Global, &[Option<Bytes>]) -> Result<Vec<Option<Digest>>, AllocError>,
->(by: &D, alloc: Global, hasher: &mut H, entries: &[Entry]) -> Result<Built, HashError>
-    requires ascending { AreAbove [] entries.now }
-    requires callable { D.IsAlwaysCallable by.now }
-    requires digests { (a all r : _) → D.post by.now a all r → IfOk r (λ v. v.items ≡ map digest_if all.now) }
-    ensures built { IfOk result (λ b. b ≡ build_of sixteen entries.now) }
-    ensures stands { IfOk result (λ b. IsMap entries.now → Stands sixteen b.top entries.now) }
-    ensures admits { AdmitsAll H.kept H.clashes H.fulls (build_nodes sixteen entries.now) hasher.old result hasher.new }
-{
-    let mut nodes = Vec::new(alloc);
-    let names = build_level(by, alloc, hasher, ROOT_LEVEL, entries, &mut nodes)?;
-    Ok(Built {
-        nodes: Seq::new(nodes),
-        top: names[0].unwrap(),
-    })
+    keep_level(rt, alloc, hasher, gate, texts, nodes)
 }
 
 /// Returns the plain build of a map, given as its entries in ascending order of keys. The nodes of a
@@ -156,23 +127,10 @@ pub fn build<H: Hasher16, R: Threads + Sync, G: Gate + Sync>(
     ensures stands { IfOk result (λ b. IsMap entries.now → Stands sixteen b.top entries.now) }
     ensures admits { AdmitsAll H.kept H.clashes H.fulls (build_nodes sixteen entries.now) hasher.old result hasher.new }
 {
-    let by = |alloc: Global, texts: &[Option<Bytes>]| -> Result<Vec<Option<Digest>>, AllocError>
-        ensures { IfOk result (λ v. v.items ≡ map digest_if texts.now) }
-    { digests(rt, alloc, texts, gate) };
-    build_by(&by, alloc, hasher, entries)
-}
-
-/// Returns the plain build of a map, given as its entries in ascending order of keys, as [`build`]
-/// does, by one thread.
-pub fn build_alone<H: Hasher16>(
-    alloc: Global,
-    hasher: &mut H,
-    entries: &[Entry],
-) -> Result<Built, HashError>
-    requires { AreAbove [] entries.now }
-    ensures built { IfOk result (λ b. b ≡ build_of sixteen entries.now) }
-    ensures stands { IfOk result (λ b. IsMap entries.now → Stands sixteen b.top entries.now) }
-    ensures admits { AdmitsAll H.kept H.clashes H.fulls (build_nodes sixteen entries.now) hasher.old result hasher.new }
-{
-    build_by(&digests_whole, alloc, hasher, entries)
+    let mut nodes = Vec::new(alloc);
+    let names = build_level(rt, alloc, hasher, gate, ROOT_LEVEL, entries, &mut nodes)?;
+    Ok(Built {
+        nodes: Seq::new(nodes),
+        top: names[0].unwrap(),
+    })
 }

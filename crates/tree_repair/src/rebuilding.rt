@@ -11,13 +11,15 @@ ghost use Rattle.tree_node.specs.Entries.{AreAbove};
 ghost use Rattle.tree_repair.specs.Builds.{build_of};
 ghost use Rattle.tree_repair.specs.Rebuilds.{rebuild_plan};
 
-use crate::building::build_alone;
+use crate::building::build;
 use crate::installing::install;
 use ens_base::Entry;
 use ens_hashing::{HashError, Hasher16};
 use ens_outside::NodeStore;
 use std::alloc::Global;
+use std::thread::Threads;
 use synctree::{Tree, TreeError};
+use tree_verify::NoGate;
 
 /// Returns the error of a tree for this error of a hasher.
 fn tree_error(error: HashError) -> TreeError
@@ -31,13 +33,14 @@ fn tree_error(error: HashError) -> TreeError
 }
 
 /// Makes the map of these entries, given in ascending order of keys, the map of the tree: builds its
-/// nodes by one thread, which the hasher admits in the order of the build, writes them, and writes
-/// the top record last. Fails only if the hasher rejects a node, if the store does, or when out of
+/// nodes, whose levels are hashed by threads and which the hasher admits in the order of the build,
+/// writes them, and writes the top record last. Fails only if the hasher rejects a node, if the store does, or when out of
 /// memory, which a segment of 2^32 entries or more counts as; never with `Damaged`.
 ///
 /// After an error the tree still has its old root. If the store failed while it wrote the top
 /// record, the stored record is the old one or the new one.
-pub fn rebuild<N: NodeStore, H: Hasher16>(
+pub fn rebuild<N: NodeStore, H: Hasher16, R: Threads + Sync>(
+    rt: &R,
     alloc: Global,
     tree: &mut Tree<N>,
     hasher: &mut H,
@@ -49,7 +52,7 @@ pub fn rebuild<N: NodeStore, H: Hasher16>(
     ensures top { OnOk result (tree.new.top ≡ Some (build_of sixteen entries.now).top) }
     ensures stands { OnOk result (IsMap entries.now → IsSomeAnd tree.new.top (λ top. Stands sixteen top entries.now)) }
 {
-    let built = match build_alone(alloc, hasher, entries) {
+    let built = match build(rt, alloc, hasher, &NoGate, entries) {
         Ok(built) => built,
         Err(error) => return Err(tree_error(error)),
     };

@@ -7,7 +7,7 @@ use std::alloc::Global;
 use std::test::Fail;
 use synctree::Tree;
 use tree_node::{Position, Scan, TreeBody};
-use tree_verify::scan;
+use tree_verify::{NoGate, scan};
 
 /// 33 keys whose MD5s begin with 900, in ascending order: one more than a page holds. Found with
 /// another program.
@@ -49,7 +49,7 @@ fn an_ask_receives_what_the_own_tree_lacks(rt: HostRuntime) -> Result<(), Fail> 
     let alloc = rt.alloc();
     let mut own = numbers(alloc, 60)?;
     let mut other = numbers(alloc, 100)?;
-    let found = scan(alloc, &mut own, &mut PlainHasher)?;
+    let found = scan(&rt, alloc, &mut own, &mut PlainHasher, &NoGate)?;
     let mut ask = Ask::start(alloc);
     let mut questions = 0u32;
     for _ in 0..200u32 {
@@ -72,7 +72,7 @@ fn equal_trees_ask_for_the_root_alone(rt: HostRuntime) -> Result<(), Fail> {
     let alloc = rt.alloc();
     let mut own = numbers(alloc, 20)?;
     let mut other = numbers(alloc, 20)?;
-    let found = scan(alloc, &mut own, &mut PlainHasher)?;
+    let found = scan(&rt, alloc, &mut own, &mut PlainHasher, &NoGate)?;
     let mut ask = Ask::start(alloc);
     let step = answer(alloc, &mut ask, &mut own, &found, &mut other)?;
     assert_eq!(rt; step, Step::Done);
@@ -88,7 +88,7 @@ fn a_segment_comes_in_pages(rt: HostRuntime) -> Result<(), Fail> {
     for key in KEYS {
         other.insert(alloc, &mut PlainHasher, &entry(alloc, key.as_bytes(), 1)?)?;
     }
-    let found = scan(alloc, &mut own, &mut PlainHasher)?;
+    let found = scan(&rt, alloc, &mut own, &mut PlainHasher, &NoGate)?;
     let mut ask = Ask::start(alloc);
     for _ in 0..4u32 {
         let step = answer(alloc, &mut ask, &mut own, &found, &mut other)?;
@@ -109,7 +109,7 @@ fn a_segment_comes_in_pages(rt: HostRuntime) -> Result<(), Fail> {
 fn damage_a_wrong_form_and_an_endless_page_drop_an_ask(rt: HostRuntime) -> Result<(), Fail> {
     let alloc = rt.alloc();
     let mut own = fresh(alloc)?;
-    let found = scan(alloc, &mut own, &mut PlainHasher)?;
+    let found = scan(&rt, alloc, &mut own, &mut PlainHasher, &NoGate)?;
     let mut ask = Ask::start(alloc);
     let root = Position { level: 0, index: 0 };
     let question = Question {

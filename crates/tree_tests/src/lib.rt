@@ -6,6 +6,8 @@ mod ask_tests;
 #[cfg(test)]
 mod exchange_tests;
 #[cfg(test)]
+mod gate_tests;
+#[cfg(test)]
 mod synctree_tests;
 #[cfg(test)]
 mod tree_repair_tests;

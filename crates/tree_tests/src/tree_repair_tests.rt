@@ -2,10 +2,10 @@ use ens_base::{Digest, Entry, Epoch, Key, Version};
 use ens_hashing::PlainHasher;
 use ens_outside::MemNodes;
 use std::alloc::Global;
-use std::sync::atomic::{AtomicU64, Ordering};
 use std::test::Fail;
 use synctree::{Tree, TreeError};
-use tree_repair::{Gate, NoGate, ascends, build, build_alone, install, rebuild};
+use tree_repair::{ascends, build, install, rebuild};
+use tree_verify::NoGate;
 
 /// The MD5 of the eight bytes of a root without children, `01 00 00000000 0000`, taken with another
 /// program.
@@ -100,63 +100,11 @@ fn a_rebuild_has_the_entries_given(rt: HostRuntime) -> Result<(), Fail> {
     tree.insert(alloc, &mut PlainHasher, &gone)?;
     let entries = [entry(alloc, b"abc")?];
     assert!(rt; ascends(&entries));
-    rebuild(alloc, &mut tree, &mut PlainHasher, &entries)?;
+    rebuild(&rt, alloc, &mut tree, &mut PlainHasher, &entries)?;
     assert_eq!(rt; tree.top(), Some(ABC));
     let found = tree.get(alloc, &mut PlainHasher, &entries[0].key)?;
     assert_eq!(rt; found.as_ref(), Some(&entries[0]));
     let none = tree.get(alloc, &mut PlainHasher, &gone.key)?;
     assert_eq!(rt; none, None);
-    Ok(())
-}
-
-/// How often piece 0 looks whether piece 1 has begun.
-const MOST_TURNS: u64 = 100_000_000;
-
-/// Holds piece 0 of a level until piece 1 has begun, and counts how often that did not come.
-#[derive(Drop)]
-struct TwoHalves {
-    firsts: AtomicU64,
-    seconds: AtomicU64,
-    late: AtomicU64,
-}
-
-impl Gate for TwoHalves {
-    fn enter(&self, piece: u32) {
-        if piece == 1 {
-            self.seconds.fetch_add(1, Ordering::SeqCst);
-        }
-        if piece != 0 {
-            return;
-        }
-        let level = self.firsts.fetch_add(1, Ordering::SeqCst);
-        for _ in 0..MOST_TURNS {
-            if self.seconds.load(Ordering::SeqCst) > level {
-                return;
-            }
-        }
-        self.late.fetch_add(1, Ordering::SeqCst);
-    }
-}
-
-#[test]
-fn gate_two_halves(rt: HostRuntime) -> Result<(), Fail> {
-    let alloc = rt.alloc();
-    let gate = TwoHalves {
-        firsts: AtomicU64::new(0),
-        seconds: AtomicU64::new(0),
-        late: AtomicU64::new(0),
-    };
-    let mut entries = Vec::new(alloc);
-    for key in 0..20_000u32 {
-        entries.push(entry(alloc, &[(key / 256) as u8, (key % 256) as u8])?)?;
-    }
-    assert!(rt; ascends(entries.as_slice()));
-    let plain = build_alone(alloc, &mut PlainHasher, entries.as_slice())?;
-    let built = build(&rt, alloc, &mut PlainHasher, &gate, entries.as_slice())?;
-    assert_eq!(rt; built.top, plain.top);
-    // 4,096 segments, 256 and 16 inner nodes are hashed in halves, the root is not.
-    assert_eq!(rt; gate.firsts.load(Ordering::SeqCst), 3);
-    assert_eq!(rt; gate.seconds.load(Ordering::SeqCst), 3);
-    assert_eq!(rt; gate.late.load(Ordering::SeqCst), 0);
     Ok(())
 }

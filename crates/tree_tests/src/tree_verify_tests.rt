@@ -4,7 +4,7 @@ use ens_outside::NodeStore;
 use std::test::Fail;
 use synctree::Tree;
 use tree_node::Position;
-use tree_verify::scan;
+use tree_verify::{NoGate, scan};
 
 #[test]
 fn a_scan_finds_the_newest_entry_of_each_key(rt: HostRuntime) -> Result<(), Fail> {
@@ -14,7 +14,7 @@ fn a_scan_finds_the_newest_entry_of_each_key(rt: HostRuntime) -> Result<(), Fail
         let key = [(seq % 100) as u8];
         tree.insert(alloc, &mut PlainHasher, &entry(alloc, &key, seq)?)?;
     }
-    let found = scan(alloc, &mut tree, &mut PlainHasher)?;
+    let found = scan(&rt, alloc, &mut tree, &mut PlainHasher, &NoGate)?;
     assert_eq!(rt; found.damaged.as_slice().len(), 0);
     let entries = found.entries.as_slice();
     assert!(rt; entries.len() == 100);
@@ -36,7 +36,7 @@ fn a_root_with_other_bytes_is_damaged(rt: HostRuntime) -> Result<(), Fail> {
         Ok(tree) => tree,
         Err(refused) => return Err(refused.error.into()),
     };
-    let found = scan(alloc, &mut tree, &mut PlainHasher)?;
+    let found = scan(&rt, alloc, &mut tree, &mut PlainHasher, &NoGate)?;
     let root = Position { level: 0, index: 0 };
     assert_eq!(rt; found.damaged.as_slice(), [root].as_slice());
     assert_eq!(rt; found.entries.as_slice().len(), 0);

@@ -5,12 +5,15 @@ ghost use Rattle.synctree.specs.Plans.{Did};
 ghost use Rattle.tree_verify.specs.Levels.{read_named, read_all as read_all_plan, read_level as read_level_plan};
 ghost use Rattle.tree_verify.specs.Slots.{Reads};
 
-use crate::hashing::{admit_level, digests_of_level};
+use crate::admitting::admit_level;
+use crate::gate::Gate;
+use crate::hashing::digests_of_level;
 use crate::slot::Slot;
 use ens_base::{Bytes, Digest, Seq};
 use ens_hashing::Hasher16;
 use ens_outside::NodeStore;
 use std::alloc::Global;
+use std::thread::Threads;
 use synctree::{Tree, TreeError};
 
 /// What was read for the slots of a level, and the digest of each.
@@ -53,11 +56,14 @@ fn read_all<N: NodeStore>(
     Ok(Seq::new(reads))
 }
 
-/// Reads the nodes of a level, hashes what was read, and then admits it to the hasher.
-pub(crate) fn read_level<N: NodeStore, H: Hasher16>(
+/// Reads the nodes of a level, hashes what was read by threads, and then admits it to the hasher, in
+/// order.
+pub(crate) fn read_level<N: NodeStore, H: Hasher16, R: Threads + Sync, G: Gate + Sync>(
+    rt: &R,
     alloc: Global,
     tree: &mut Tree<N>,
     hasher: &mut H,
+    gate: &G,
     slots: &[Slot],
 ) -> Result<Level, TreeError>
     ensures did { Reads (λ r. Did (outside_does N.may_answer N.top_record N.fault_count H.kept H.clashes H.fulls) (outside_refuses N.may_refuse N.top_record N.fault_count H.kept H.clashes H.fulls)
@@ -66,7 +72,7 @@ pub(crate) fn read_level<N: NodeStore, H: Hasher16>(
     ensures top { tree.new.top ≡ tree.old.top }
 {
     let reads = read_all(alloc, tree, slots)?;
-    let found = digests_of_level(alloc, reads.as_slice())?;
+    let found = digests_of_level(rt, alloc, reads.as_slice(), gate)?;
     admit_level(alloc, hasher, reads.as_slice(), found.as_slice())?;
     Ok(Level { reads, found })
 }

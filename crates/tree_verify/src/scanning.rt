@@ -6,6 +6,7 @@ ghost use Rattle.tree_verify.specs.Levels.{scan_from as scan_from_plan, scan_pla
 ghost use Rattle.tree_verify.specs.Scans.{Scans};
 ghost use Rattle.tree_verify.specs.Slots.{AreSlots};
 
+use crate::gate::Gate;
 use crate::last::last_level;
 use crate::level::read_level;
 use crate::slot::Slot;
@@ -14,14 +15,17 @@ use ens_base::Seq;
 use ens_hashing::Hasher16;
 use ens_outside::NodeStore;
 use std::alloc::Global;
+use std::thread::Threads;
 use synctree::{DEPTH, ROOT, Tree, TreeError};
 use tree_node::Scan;
 
 /// Scans the nodes of a level with `height` levels below it, and all below them.
-fn scan_from<N: NodeStore, H: Hasher16>(
+fn scan_from<N: NodeStore, H: Hasher16, R: Threads + Sync, G: Gate + Sync>(
+    rt: &R,
     alloc: Global,
     tree: &mut Tree<N>,
     hasher: &mut H,
+    gate: &G,
     height: u8,
     slots: &[Slot],
 ) -> Result<Scan, TreeError>
@@ -30,22 +34,27 @@ fn scan_from<N: NodeStore, H: Hasher16>(
         (scan_from_plan sixteen height slots.now) (tree.old.store, hasher.old) result (tree.new.store, hasher.new) }
     ensures top { tree.new.top ≡ tree.old.top }
 {
-    let level = read_level(alloc, tree, hasher, slots)?;
+    let level = read_level(rt, alloc, tree, hasher, gate, slots)?;
     if height == 0 {
         return last_level(alloc, slots, &level);
     }
     let next = next_level(alloc, slots, &level, height - 1)?;
-    scan_from(alloc, tree, hasher, height - 1, next.as_slice())
+    scan_from(rt, alloc, tree, hasher, gate, height - 1, next.as_slice())
 }
 
 /// Returns the entries of all segments that verify, in the order of their keys, and the positions
 /// nearest the root that do not, in the order of the tree. A damaged tree is no error. If a map
 /// stands under the top record, the entries are those of the map whose paths go through no damaged
 /// position, unless a string that was hashed has the digest of a different node of the map.
-pub fn scan<N: NodeStore, H: Hasher16>(
+///
+/// The nodes of a level are hashed by threads, in pieces that the gate sees begin, and then admitted
+/// to the hasher from left to right. What is found is the same for every gate.
+pub fn scan<N: NodeStore, H: Hasher16, R: Threads + Sync, G: Gate + Sync>(
+    rt: &R,
     alloc: Global,
     tree: &mut Tree<N>,
     hasher: &mut H,
+    gate: &G,
 ) -> Result<Scan, TreeError>
     ensures did { Did (outside_does N.may_answer N.top_record N.fault_count H.kept H.clashes H.fulls) (outside_refuses N.may_refuse N.top_record N.fault_count H.kept H.clashes H.fulls)
         (scan_plan sixteen tree.old.top) (tree.old.store, hasher.old) result (tree.new.store, hasher.new) }
@@ -56,5 +65,5 @@ pub fn scan<N: NodeStore, H: Hasher16>(
         at: ROOT,
         digest: tree.top(),
     }];
-    scan_from(alloc, tree, hasher, DEPTH, first.as_slice())
+    scan_from(rt, alloc, tree, hasher, gate, DEPTH, first.as_slice())
 }

@@ -1,7 +1,8 @@
 use Rattle.std.proofs.Common.{◌≡◌, ◌∙◌, ◌-◌, ◌+◌, ap, length, map, arith}
 use Rattle.std.proofs.lemmas.Result.{IfOk-weaker, on_ok_weaker}
 use Rattle.tree_maps.specs.Sixteen.{sixteen}
-use Rattle.tree_repair.specs.Builds.{somes, digest_if, level_of, nodes_down}
+use Rattle.tree_verify.specs.Hashers.{digest_if}
+use Rattle.tree_repair.specs.Builds.{somes, level_of, nodes_down}
 use Rattle.tree_repair.proofs.Levels.{level_up, names_count}
 use Rattle.tree_repair.proofs.Admissions.{memory_at_once}
 use Rattle.tree_repair.proofs.Climbing.{down_step, nodes_more, names_next, level_err, level_memory, level_ok}

@@ -8,7 +8,7 @@ use Rattle.tree_repair.specs.Admitting.{AdmitsAll}
 use Rattle.tree_repair.specs.Builds.{stored, nodes_down, build_nodes}
 use Rattle.tree_repair.proofs.Admissions.{passed_on}
 use Rattle.tree_repair.proofs.Climbing.{all_nodes, first_name, some_same, build_admits, build_rejects}
-use Rattle.tree_repair.proofs.building.build_by.Goals as goal
+use Rattle.tree_repair.proofs.building.build.Goals as goal
 
 pub returns-in_err-names-clause-admits : goal.returns-in_err-names-clause-admits
 returns-in_err-names-clause-admits g c = passed_on c.from_residual.result c.in_err-names.field-0.0 _

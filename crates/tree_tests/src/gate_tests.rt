@@ -1,0 +1,87 @@
+use crate::synctree_tests::{entry, fresh};
+use ens_base::Entry;
+use ens_hashing::PlainHasher;
+use std::alloc::Global;
+use std::sync::atomic::{AtomicU64, Ordering};
+use std::test::Fail;
+use tree_repair::{ascends, build, install};
+use tree_verify::{Gate, NoGate, scan};
+
+/// How often piece 0 looks whether piece 1 has begun.
+const MOST_TURNS: u64 = 100_000_000;
+
+/// Holds piece 0 of a level until piece 1 has begun, and counts how often that did not come.
+#[derive(Drop)]
+struct TwoHalves {
+    firsts: AtomicU64,
+    seconds: AtomicU64,
+    late: AtomicU64,
+}
+
+impl TwoHalves {
+    fn new() -> TwoHalves {
+        TwoHalves {
+            firsts: AtomicU64::new(0),
+            seconds: AtomicU64::new(0),
+            late: AtomicU64::new(0),
+        }
+    }
+
+    /// How often piece 0 began, piece 1 began, and piece 1 did not begin while piece 0 was held.
+    fn counts(&self) -> [u64; 3] {
+        [
+            self.firsts.load(Ordering::SeqCst),
+            self.seconds.load(Ordering::SeqCst),
+            self.late.load(Ordering::SeqCst),
+        ]
+    }
+}
+
+impl Gate for TwoHalves {
+    fn enter(&self, piece: u32) {
+        if piece == 1 {
+            self.seconds.fetch_add(1, Ordering::SeqCst);
+        }
+        if piece != 0 {
+            return;
+        }
+        let level = self.firsts.fetch_add(1, Ordering::SeqCst);
+        for _ in 0..MOST_TURNS {
+            if self.seconds.load(Ordering::SeqCst) > level {
+                return;
+            }
+        }
+        self.late.fetch_add(1, Ordering::SeqCst);
+    }
+}
+
+/// 20,000 entries in the order of their keys, enough that no segment is empty.
+fn many(alloc: Global) -> Result<Vec<Entry>, Fail> {
+    let mut entries = Vec::new(alloc);
+    for key in 0..20_000u32 {
+        entries.push(entry(alloc, &[(key / 256) as u8, (key % 256) as u8], 1)?)?;
+    }
+    Ok(entries)
+}
+
+/// The 16 and 256 inner nodes below the root and the 4,096 segments are hashed in halves, which run at
+/// once; the root is hashed whole.
+#[test]
+fn gate_two_halves(rt: HostRuntime) -> Result<(), Fail> {
+    let alloc = rt.alloc();
+    let entries = many(alloc)?;
+    assert!(rt; ascends(entries.as_slice()));
+    let plain = build(&rt, alloc, &mut PlainHasher, &NoGate, entries.as_slice())?;
+    let gate = TwoHalves::new();
+    let built = build(&rt, alloc, &mut PlainHasher, &gate, entries.as_slice())?;
+    assert_eq!(rt; gate.counts(), [3, 3, 0]);
+    assert_eq!(rt; built.top, plain.top);
+    let mut tree = fresh(alloc)?;
+    install(alloc, &mut tree, &built)?;
+    let gate = TwoHalves::new();
+    let found = scan(&rt, alloc, &mut tree, &mut PlainHasher, &gate)?;
+    assert_eq!(rt; gate.counts(), [3, 3, 0]);
+    assert_eq!(rt; found.damaged.as_slice().len(), 0);
+    assert!(rt; found.entries.as_slice() == entries.as_slice());
+    Ok(())
+}
