@@ -14,16 +14,16 @@ use Rattle.tree_maps.specs.Maps.{within, named, text, IsNode}
 use Rattle.tree_maps.specs.Paths.{under, present}
 use Rattle.tree_maps.proofs.Formats.{sixteen_laws}
 use Rattle.tree_maps.proofs.Unique.{root_is_node, child_is, children_again}
-use Rattle.tree_maps.proofs.Below.{place, every, under_child, child_again, parent_place, node_below, some_width}
+use Rattle.tree_maps.proofs.Below.{IsThere, place, every, under_child, child_again, parent_place, node_below, some_width}
 use Rattle.synctree.proofs.Places.{place_of}
 use Rattle.world_stores.specs.Nodes.{Nodes}
 use Rattle.node_faults.specs.Laws.{HoldsMap, digest_of_node}
 use Rattle.node_faults.specs.Naming.{child_in, child_under, named_in, named_at}
 
-present_is : (l : ℕ) (es : List Entry) (t : List ℕ) → ((present l es t ≡ None) × (es ≡ [])) ⊎ (present l es t ≡ Some t)
-present_is zero es t = inr refl
+present_is : (l : ℕ) (es : List Entry) (t : List ℕ) → ((present l es t ≡ None) × (es ≡ [])) ⊎ (IsThere l es × (present l es t ≡ Some t))
+present_is zero es t = inr (tt, refl)
 present_is (suc l) [] t = inl (refl, refl)
-present_is (suc l) (e ∷ es) t = inr refl
+present_is (suc l) (e ∷ es) t = inr (λ is. cc, refl)
 
 named_is : (l : ℕ) (es : List Entry) (t : List ℕ) → named es t ≡ option_map md5 (present (suc l) es t)
 named_is l [] t = refl
@@ -31,13 +31,13 @@ named_is l (e ∷ es) t = refl
 
 module _ (F : Form) (laws : Laws F) where
   -- a stored inner node of the map names its children
-  child_named : (h l i : ℕ) (m : List Entry) (entries : Entries) → IsPlace F h (place (suc l) i) → ((node : List ℕ) → IsNode F F.depth root m node → value_at (md5 node) entries ≡ Some node)
+  child_named : (h l i : ℕ) (m : List Entry) (entries : Entries) → IsPlace F h (place (suc l) i) → IsThere l (under F (place l (i / F.width)) m) → ((node : List ℕ) → IsNode F F.depth root m node → value_at (md5 node) entries ≡ Some node)
       → child_under F entries (place l (i / F.width)) (i % F.width) (md5 (text F (suc h) (place l (i / F.width)) (under F (place l (i / F.width)) m)))
       ≡ named (under F (place (suc l) i) m) (text F h (place (suc l) i) (under F (place (suc l) i) m))
-  child_named h l i m entries p stored =
+  child_named h l i m entries p there stored =
       let up = parent_place F laws h l i p in
       ap (option_and_then (child_in F (place l (i / F.width)) (i % F.width))) (stored (text F (suc h) (place l (i / F.width)) (under F (place l (i / F.width)) m))
-      (node_below F laws (suc h) l (i / F.width) m (text F (suc h) (place l (i / F.width)) (under F (place l (i / F.width)) m)) up (root_is_node F (suc h) (place l (i / F.width)) (under F (place l (i / F.width)) m))))
+      (node_below F laws (suc h) l (i / F.width) m (text F (suc h) (place l (i / F.width)) (under F (place l (i / F.width)) m)) up there (root_is_node F (suc h) (place l (i / F.width)) (under F (place l (i / F.width)) m))))
       ∙ ap (option_and_then (λ (names : List (Option (List ℕ))). get_or names (i % F.width) None)) (children_again F laws h (place l (i / F.width)) (under F (place l (i / F.width)) m) up)
       ∙ child_is F h (place l (i / F.width)) (under F (place l (i / F.width)) m) (i % F.width) (mod-lt i (some_width F laws))
       ∙ ap (λ (q : Position). named (within F (place l (i / F.width)) (i % F.width) (under F (place l (i / F.width)) m)) (text F h q (within F (place l (i / F.width)) (i % F.width) (under F (place l (i / F.width)) m)))) (child_again F laws l i)
@@ -59,15 +59,15 @@ module _ (F : Form) (laws : Laws F) where
       none_below e = under_child F l i m ∙ ap (within F (place l (i / F.width)) (i % F.width)) e
 
       by : ((present l (under F (place l (i / F.width)) m) (text F (suc h) (place l (i / F.width)) (under F (place l (i / F.width)) m)) ≡ None) × (under F (place l (i / F.width)) m ≡ []))
-          ⊎ (present l (under F (place l (i / F.width)) m) (text F (suc h) (place l (i / F.width)) (under F (place l (i / F.width)) m)) ≡ Some (text F (suc h) (place l (i / F.width)) (under F (place l (i / F.width)) m)))
+          ⊎ (IsThere l (under F (place l (i / F.width)) m) × (present l (under F (place l (i / F.width)) m) (text F (suc h) (place l (i / F.width)) (under F (place l (i / F.width)) m)) ≡ Some (text F (suc h) (place l (i / F.width)) (under F (place l (i / F.width)) m))))
           → option_and_then (child_under F s.entries (place l (i / F.width)) (i % F.width)) (option_map md5 (present l (under F (place l (i / F.width)) m) (text F (suc h) (place l (i / F.width)) (under F (place l (i / F.width)) m))))
           ≡ option_map md5 (present (suc l) (under F (place (suc l) i) m) (text F h (place (suc l) i) (under F (place (suc l) i) m)))
       by (inl (none, empty)) =
           ap (λ (o : Option (List ℕ)). option_and_then (child_under F s.entries (place l (i / F.width)) (i % F.width)) (option_map md5 o)) none
           ∙ ap (λ (es : List Entry). option_map md5 (present (suc l) es (text F h (place (suc l) i) es))) (sym (none_below empty))
-      by (inr some) =
+      by (inr (there, some)) =
           ap (λ (o : Option (List ℕ)). option_and_then (child_under F s.entries (place l (i / F.width)) (i % F.width)) (option_map md5 o)) some
-          ∙ child_named h l i m s.entries p holds.stored
+          ∙ child_named h l i m s.entries p there holds.stored
           ∙ named_is l (under F (place (suc l) i) m) (text F h (place (suc l) i) (under F (place (suc l) i) m))
 
   digest_is : (h : ℕ) (s : Nodes) (m : List Entry) (at : Position) → IsPlace F h at → HoldsMap F s m → named_at F s at ≡ digest_of_node F at m

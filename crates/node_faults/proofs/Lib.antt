@@ -1,3 +1,4 @@
 pub mod Segments
 pub mod Digests
 pub mod Stepping
+pub mod Builds

@@ -1,9 +1,9 @@
 -- When the stored nodes are those of a map.
-use Rattle.std.specs.Prelude.{◌≡◌, ℕ, List, Option, Some}
+use Rattle.std.specs.Prelude.{◌≡◌, ℕ, List, [], ◌∷◌, Option, Some}
 use Rattle.std.specs.Option.{option_map}
 use Rattle.md5.specs.Md5.{md5}
 use Rattle.ens_base.specs.declared.entry.Entry.{Entry}
-use Rattle.ens_outside.specs.Maps.{value_at}
+use Rattle.ens_outside.specs.Maps.{Entries, value_at, with_value}
 use Rattle.tree_node.specs.declared.position.Position.{Position}
 use Rattle.tree_maps.specs.Forms.{Form, root}
 use Rattle.tree_maps.specs.Maps.{IsNode, Stands}
@@ -16,6 +16,11 @@ pub record HoldsMap (F : Form) (s : Nodes) (m : List Entry) : Type 0 where
   pub top_is : top_of s.tops ≡ Some top
   pub stands : Stands F top m
   pub stored : (node : List ℕ) → IsNode F F.depth root m node → value_at (md5 node) s.entries ≡ Some node
+
+-- a store of these texts, each under its MD5
+abbrev pub stored_all : List (List ℕ) → Entries
+stored_all [] = []
+stored_all (t ∷ ts) = with_value (md5 t) t (stored_all ts)
 
 -- the MD5 of the node at a position of the tree of a map, or none if the position is empty
 abbrev pub digest_of_node : Form → Position → List Entry → Option (List ℕ)

@@ -13,4 +13,7 @@ mod laws;
 mod naming;
 
 pub use faults::{damage, inner};
-pub use laws::{keys_lie_in_their_segments, names_are_digests};
+pub use laws::{
+    a_build_has_the_nodes, a_stored_build_holds_its_map, keys_lie_in_their_segments,
+    names_are_digests,
+};
