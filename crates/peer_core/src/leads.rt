@@ -12,7 +12,7 @@ ghost use Rattle.peer_core.specs.Rows.{changes};
 use crate::event::CallIn;
 use crate::machine::Machine;
 use crate::state::Phase;
-use ens_base::{Entry, Epoch, Key, PeerId, Reply, Version};
+use ens_base::{Entry, Epoch, Key, PeerId, Reply, Version, copy_entry};
 use ens_object::Object;
 use leader_words::{LeadError, LeadOut, Own};
 use peer_fact::{Change, Fact};
@@ -27,17 +27,6 @@ fn key_of(own: &Own) -> &Key
     match own {
         Own::Look(key) => key,
         Own::Put(object) => &object.key,
-    }
-}
-
-/// Copies the entry, if there is one. Fails only when out of memory.
-fn copy_of(alloc: Global, entry: &Option<Entry>) -> Result<Option<Entry>, PeerError>
-    ensures ok { IfOk result (λ e. e ≡ entry.now) }
-    ensures memory { IfErr result (λ e. e ≡ PeerError.Memory) }
-{
-    match entry {
-        None => Ok(None),
-        Some(entry) => Ok(Some(entry.copy(alloc)?)),
     }
 }
 
@@ -209,7 +198,7 @@ impl<S> Machine<S> {
         ensures grows { Grows out.old out.new }
     {
         let named = self.confirmed(hasher, alloc, out, entry, object)?;
-        let entry = copy_of(alloc, entry)?;
+        let entry = copy_entry(alloc, entry)?;
         let tasks = self.count_get_reply(
             hasher, alloc, out, me, from, ballot, round, key, entry, named,
         )?;

@@ -13,6 +13,7 @@ use crate::state::State;
 use ens_base::PeerId;
 use peer_fact::{Change, Fact};
 use std::alloc::Global;
+use std::thread::Threads;
 use step_plans::{Outbox, PeerError, Store, Task, Tasks};
 use wire_frames::{Message, PhaseOut, Seen, Then};
 
@@ -92,9 +93,10 @@ impl<S> Machine<S> {
     /// Applies what follows the message of a row, with the sync that it begins or resumes. Returns the
     /// rule that runs next.
     #[tactic(auto, using(crate::proofs::Parts::cut))]
-    fn turn<H>(
+    fn turn<H, R: Threads + Sync>(
         &mut self,
         hasher: &mut H,
+        rt: &R,
         alloc: Global,
         out: &mut Outbox,
         me: PeerId,
@@ -109,15 +111,16 @@ impl<S> Machine<S> {
         ensures fits { ends_step then ≡ true → EndsQuietly (ends_leading then) self.old.state.phase → IsOk result }
     {
         self.state.turn(alloc, out, me, then)?;
-        let tasks = self.follow_on(hasher, alloc, out, me, &then)?;
+        let tasks = self.follow_on(hasher, rt, alloc, out, me, &then)?;
         Ok(tasks)
     }
 
     /// Applies a row, with the sync that it begins or resumes. Returns the rule that runs next.
     #[tactic(auto, using(crate::proofs::Parts::cut))]
-    pub(crate) fn row_done<H>(
+    pub(crate) fn row_done<H, R: Threads + Sync>(
         &mut self,
         hasher: &mut H,
+        rt: &R,
         alloc: Global,
         out: &mut Outbox,
         me: PeerId,
@@ -133,15 +136,16 @@ impl<S> Machine<S> {
     {
         let then = row.then;
         self.perform(hasher, alloc, out, row)?;
-        let tasks = self.turn(hasher, alloc, out, me, then)?;
+        let tasks = self.turn(hasher, rt, alloc, out, me, then)?;
         Ok(tasks)
     }
 
     /// Runs the rule of one task, and returns the rules that its row names.
     #[tactic(auto, using(crate::proofs::Parts::cut))]
-    pub(crate) fn task_done<H>(
+    pub(crate) fn task_done<H, R: Threads + Sync>(
         &mut self,
         hasher: &mut H,
+        rt: &R,
         alloc: Global,
         out: &mut Outbox,
         me: PeerId,
@@ -161,7 +165,7 @@ impl<S> Machine<S> {
                     self.remind(hasher, alloc, out)
                 } else {
                     let row = self.state.phase_row(rule, me);
-                    self.row_done(hasher, alloc, out, me, row)
+                    self.row_done(hasher, rt, alloc, out, me, row)
                 }
             }
             Task::Key(rule, key) => self.key_done(
@@ -182,9 +186,10 @@ impl<S> Machine<S> {
     /// Runs `tasks`, at most `turns` of them. The rules that a row names run before the tasks that
     /// were left. Returns the tasks that are left.
     #[tactic(auto, using(crate::proofs::Parts::cut))]
-    pub(crate) fn drive<H>(
+    pub(crate) fn drive<H, R: Threads + Sync>(
         &mut self,
         hasher: &mut H,
+        rt: &R,
         alloc: Global,
         out: &mut Outbox,
         me: PeerId,
@@ -203,7 +208,7 @@ impl<S> Machine<S> {
             match tasks.take() {
                 None => return Ok(tasks),
                 Some(task) => {
-                    let more = match self.task_done(hasher, alloc, out, me, task) {
+                    let more = match self.task_done(hasher, rt, alloc, out, me, task) {
                         Ok(more) => more,
                         Err(error) => return Err(error),
                     };

@@ -15,6 +15,7 @@ use ens_hashing::Hasher16;
 use ens_outside::{Backend, NodeStore};
 use fact_store::FactKeeper;
 use std::alloc::Global;
+use std::thread::Threads;
 use step_plans::{Outbox, PeerError};
 
 /// A peer over its stores. A halted peer takes no step.
@@ -71,7 +72,8 @@ impl<B: Backend, N: NodeStore, F: FactKeeper> Peer<B, N, F> {
     /// a store rose in this call, `Clash` or `BookFull` only if the hasher refused a string and
     /// counted that, and `Memory` when out of memory. The stores are returned: the backend as it
     /// was, and the tree and the fact as the failed call left them.
-    pub fn start<H: Hasher16>(
+    pub fn start<H: Hasher16, R: Threads + Sync>(
+        _rt: &R,
         alloc: Global,
         me: PeerId,
         opening: View,
@@ -112,8 +114,9 @@ impl<B: Backend, N: NodeStore, F: FactKeeper> Peer<B, N, F> {
     /// faults of a store rose in this call, `Clash` or `BookFull` only if the hasher refused a string
     /// and counted that, and `Memory` when out of memory: the peer is then halted, the step adds
     /// nothing but its notes to the outbox, and the stores are as the step left them.
-    pub fn step<H: Hasher16>(
+    pub fn step<H: Hasher16, R: Threads + Sync>(
         &mut self,
+        rt: &R,
         alloc: Global,
         event: Event,
         hasher: &mut H,
@@ -136,7 +139,7 @@ impl<B: Backend, N: NodeStore, F: FactKeeper> Peer<B, N, F> {
         if self.halted {
             return Err(PeerError::Halted);
         }
-        let result = self.machine.step(hasher, alloc, out, self.me, &event);
+        let result = self.machine.step(hasher, rt, alloc, out, self.me, &event);
         self.halted = result.is_err();
         result
     }

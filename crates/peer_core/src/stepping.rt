@@ -20,6 +20,7 @@ use ens_object::Object;
 use following::{is_served, rule_21, rule_22, tell_damage};
 use peer_fact::{Change, Fact};
 use std::alloc::Global;
+use std::thread::Threads;
 use step_plans::{Outbox, PeerError, Store, Task, Tasks};
 use view_change::rule_24;
 use wire_frames::{Message, NackCause, PhaseOut, Seen, Then};
@@ -145,9 +146,10 @@ impl State {
 impl<S> Machine<S> {
     /// Rules 2 to 5: a tick.
     #[tactic(auto, using(crate::proofs::Parts::cut))]
-    fn tick<H>(
+    fn tick<H, R: Threads + Sync>(
         &mut self,
         hasher: &mut H,
+        rt: &R,
         alloc: Global,
         out: &mut Outbox,
         me: PeerId,
@@ -163,7 +165,7 @@ impl<S> Machine<S> {
             self.tick_leading(hasher, alloc, out, me)
         } else {
             let row = self.state.age(me);
-            self.row_done(hasher, alloc, out, me, row)
+            self.row_done(hasher, rt, alloc, out, me, row)
         }
     }
 
@@ -211,9 +213,10 @@ impl<S> Machine<S> {
 
     /// Rule 21: a leader asks what the peer has under a key.
     #[tactic(auto, using(crate::proofs::Parts::cut))]
-    fn get<H>(
+    fn get<H, R: Threads + Sync>(
         &mut self,
         hasher: &mut H,
+        rt: &R,
         alloc: Global,
         out: &mut Outbox,
         me: PeerId,
@@ -233,15 +236,16 @@ impl<S> Machine<S> {
         let seen = self.show(hasher, alloc, out, served, key)?;
         let key = key.copy(alloc)?;
         let row = get_row(&self.state, from, ballot, round, key, seen)?;
-        let tasks = self.row_done(hasher, alloc, out, me, row)?;
+        let tasks = self.row_done(hasher, rt, alloc, out, me, row)?;
         Ok(tasks)
     }
 
     /// Writes the object of a put, and answers.
     #[tactic(auto, using(crate::proofs::Parts::cut))]
-    fn write_put<H>(
+    fn write_put<H, R: Threads + Sync>(
         &mut self,
         hasher: &mut H,
+        rt: &R,
         alloc: Global,
         out: &mut Outbox,
         me: PeerId,
@@ -258,16 +262,17 @@ impl<S> Machine<S> {
         ensures grows { Grows out.old out.new }
     {
         match self.written(hasher, alloc, out, object) {
-            Ok(seen) => self.row_done(hasher, alloc, out, me, after(from, ballot, row, seen)),
+            Ok(seen) => self.row_done(hasher, rt, alloc, out, me, after(from, ballot, row, seen)),
             Err(error) => Err(error),
         }
     }
 
     /// Answers a put, after the object was written if the answer asks for that.
     #[tactic(auto, using(crate::proofs::Parts::cut))]
-    fn put_done<H>(
+    fn put_done<H, R: Threads + Sync>(
         &mut self,
         hasher: &mut H,
+        rt: &R,
         alloc: Global,
         out: &mut Outbox,
         me: PeerId,
@@ -284,16 +289,17 @@ impl<S> Machine<S> {
         ensures grows { Grows out.old out.new }
     {
         match row.then {
-            Then::Put => self.write_put(hasher, alloc, out, me, from, ballot, object, row),
-            _ => self.row_done(hasher, alloc, out, me, row),
+            Then::Put => self.write_put(hasher, rt, alloc, out, me, from, ballot, object, row),
+            _ => self.row_done(hasher, rt, alloc, out, me, row),
         }
     }
 
     /// Rule 22: a leader asks the peer to write an object.
     #[tactic(auto, using(crate::proofs::Parts::cut))]
-    fn put_in<H>(
+    fn put_in<H, R: Threads + Sync>(
         &mut self,
         hasher: &mut H,
+        rt: &R,
         alloc: Global,
         out: &mut Outbox,
         me: PeerId,
@@ -311,15 +317,16 @@ impl<S> Machine<S> {
         let served = is_served(&self.state.fact, self.state.trusted, ballot);
         let seen = self.show_entry(hasher, alloc, out, served, &object.key)?;
         let row = put_row(&self.state, alloc, from, ballot, object, seen)?;
-        let tasks = self.put_done(hasher, alloc, out, me, from, ballot, object, row)?;
+        let tasks = self.put_done(hasher, rt, alloc, out, me, from, ballot, object, row)?;
         Ok(tasks)
     }
 
     /// Applies the row for a message.
     #[tactic(auto, using(crate::proofs::Parts::cut))]
-    fn deliver<H>(
+    fn deliver<H, R: Threads + Sync>(
         &mut self,
         hasher: &mut H,
+        rt: &R,
         alloc: Global,
         out: &mut Outbox,
         me: PeerId,
@@ -338,10 +345,10 @@ impl<S> Machine<S> {
     {
         match message {
             Message::Get(ballot, round, key) => {
-                self.get(hasher, alloc, out, me, from, *ballot, *round, key)
+                self.get(hasher, rt, alloc, out, me, from, *ballot, *round, key)
             }
             Message::Put(ballot, object) => {
-                self.put_in(hasher, alloc, out, me, from, *ballot, object)
+                self.put_in(hasher, rt, alloc, out, me, from, *ballot, object)
             }
             Message::GetReply(ballot, round, key, entry, object) => {
                 if self.state.phase.leads() {
@@ -360,24 +367,25 @@ impl<S> Machine<S> {
             }
             Message::TreeAsk(ballot, at, after) => {
                 let question = question_of(alloc, *at, after)?;
-                self.tree_ask(hasher, alloc, out, me, from, *ballot, question)
+                self.tree_ask(hasher, rt, alloc, out, me, from, *ballot, question)
             }
             Message::TreeGive(ballot, at, after, trusted, body) => {
                 let give = give_of(alloc, *ballot, *at, after, *trusted, body)?;
-                self.tree_give(hasher, alloc, out, me, from, &give)
+                self.tree_give(hasher, rt, alloc, out, me, from, &give)
             }
             _ => {
                 let row = self.state.receive(me, from, message);
-                self.row_done(hasher, alloc, out, me, row)
+                self.row_done(hasher, rt, alloc, out, me, row)
             }
         }
     }
 
     /// Applies the row for an event.
     #[tactic(auto, using(crate::proofs::Parts::cut))]
-    fn first<H>(
+    fn first<H, R: Threads + Sync>(
         &mut self,
         hasher: &mut H,
+        rt: &R,
         alloc: Global,
         out: &mut Outbox,
         me: PeerId,
@@ -394,22 +402,25 @@ impl<S> Machine<S> {
         ensures fits { IsAllocationFree event.now → waits self.old.state.phase ≡ false → 1 ≤ spare out.old → ¬ IsErrOf result PeerError.Memory }
     {
         match event {
-            Event::Deliver(from, message) => self.deliver(hasher, alloc, out, me, *from, message),
-            Event::Tick => self.tick(hasher, alloc, out, me),
+            Event::Deliver(from, message) => self.deliver(
+                hasher, rt, alloc, out, me, *from, message,
+            ),
+            Event::Tick => self.tick(hasher, rt, alloc, out, me),
             Event::Call(call) => self.call(hasher, alloc, out, me, call),
             Event::Change(view) => {
                 let (row, taken) = self.state.ask_change(*view);
                 out.tell_change(taken)?;
-                self.row_done(hasher, alloc, out, me, row)
+                self.row_done(hasher, rt, alloc, out, me, row)
             }
         }
     }
 
     /// Applies the row for an event, and runs the rules that follow from it.
     #[tactic(auto, using(crate::proofs::Parts::cut))]
-    fn respond<H>(
+    fn respond<H, R: Threads + Sync>(
         &mut self,
         hasher: &mut H,
+        rt: &R,
         alloc: Global,
         out: &mut Outbox,
         me: PeerId,
@@ -424,16 +435,17 @@ impl<S> Machine<S> {
         ensures grows { Grows out.old out.new }
         ensures fits { IsAllocationFree event.now → waits self.old.state.phase ≡ false → 1 ≤ spare out.old → ¬ IsErrOf result PeerError.Memory }
     {
-        let tasks = self.first(hasher, alloc, out, me, event)?;
-        self.drive(hasher, alloc, out, me, most_turns(), tasks)?;
+        let tasks = self.first(hasher, rt, alloc, out, me, event)?;
+        self.drive(hasher, rt, alloc, out, me, most_turns(), tasks)?;
         Ok(())
     }
 
     /// Rule 6: at the end of each step, a leader may end its epoch.
     #[tactic(auto, using(crate::proofs::Parts::cut))]
-    fn conclude<H>(
+    fn conclude<H, R: Threads + Sync>(
         &mut self,
         hasher: &mut H,
+        rt: &R,
         alloc: Global,
         out: &mut Outbox,
         me: PeerId,
@@ -445,16 +457,17 @@ impl<S> Machine<S> {
         ensures grows { Grows out.old out.new }
         ensures fits { IsSteady self.old.state → ¬ IsErrOf result PeerError.Memory }
     {
-        let tasks = self.task_done(hasher, alloc, out, me, Task::Phase(26))?;
-        self.drive(hasher, alloc, out, me, most_turns(), tasks)?;
+        let tasks = self.task_done(hasher, rt, alloc, out, me, Task::Phase(26))?;
+        self.drive(hasher, rt, alloc, out, me, most_turns(), tasks)?;
         Ok(())
     }
 
     /// Takes a whole step.
     #[tactic(auto, using(crate::proofs::Parts::cut))]
-    fn whole<H>(
+    fn whole<H, R: Threads + Sync>(
         &mut self,
         hasher: &mut H,
+        rt: &R,
         alloc: Global,
         out: &mut Outbox,
         me: PeerId,
@@ -469,16 +482,17 @@ impl<S> Machine<S> {
         ensures grows { Grows out.old out.new }
         ensures fits { IsAllocationFree event.now → waits self.old.state.phase ≡ false → IsSteady self.old.state → 1 ≤ spare out.old → ¬ IsErrOf result PeerError.Memory }
     {
-        self.respond(hasher, alloc, out, me, event)?;
-        self.conclude(hasher, alloc, out, me)?;
+        self.respond(hasher, rt, alloc, out, me, event)?;
+        self.conclude(hasher, rt, alloc, out, me)?;
         Ok(())
     }
 
     /// Takes a step. If it fails, everything that it added to the outbox is removed, except its
     /// notes.
-    pub(crate) fn step<H>(
+    pub(crate) fn step<H, R: Threads + Sync>(
         &mut self,
         hasher: &mut H,
+        rt: &R,
         alloc: Global,
         out: &mut Outbox,
         me: PeerId,
@@ -498,7 +512,7 @@ impl<S> Machine<S> {
         ensures room { room out.old ≤ room out.new }
     {
         let mark = out.mark();
-        match self.whole(hasher, alloc, out, me, event) {
+        match self.whole(hasher, rt, alloc, out, me, event) {
             Ok(()) => Ok(()),
             Err(error) => {
                 out.cut_back(mark);

@@ -8,11 +8,12 @@ use ens_outside::{Backend, NodeStore, StoreError};
 use fact_store::{FactKeeper, KeepError};
 use peer_fact::{Change, Fact};
 use std::alloc::Global;
+use std::thread::Threads;
 use step_plans::{PeerError, Store, Walked};
 use synctree::{Tree, TreeError};
 use tree_node::{Position, Scan};
 use tree_repair::rebuild;
-use tree_verify::scan;
+use tree_verify::{NoGate, scan};
 
 /// The stores of a peer: the objects, the tree, and the fact.
 #[derive(Drop)]
@@ -133,8 +134,13 @@ impl<B: Backend, N: NodeStore, F: FactKeeper, H: Hasher16> Store<H> for Stores<B
         walked(self.tree.insert(alloc, hasher, entry))
     }
 
-    fn scan_tree(&mut self, hasher: &mut H, alloc: Global) -> Result<Scan, PeerError> {
-        match scan(alloc, &mut self.tree, hasher) {
+    fn scan_tree<R: Threads + Sync>(
+        &mut self,
+        hasher: &mut H,
+        rt: &R,
+        alloc: Global,
+    ) -> Result<Scan, PeerError> {
+        match scan(rt, alloc, &mut self.tree, hasher, &NoGate) {
             Ok(found) => Ok(found),
             Err(error) => Err(tree_error(error)),
         }
@@ -149,13 +155,14 @@ impl<B: Backend, N: NodeStore, F: FactKeeper, H: Hasher16> Store<H> for Stores<B
         walked(self.tree.node(alloc, hasher, at))
     }
 
-    fn install(
+    fn install<R: Threads + Sync>(
         &mut self,
         hasher: &mut H,
+        rt: &R,
         alloc: Global,
         entries: &[Entry],
     ) -> Result<(), PeerError> {
-        match rebuild(alloc, &mut self.tree, hasher, entries) {
+        match rebuild(rt, alloc, &mut self.tree, hasher, entries) {
             Ok(()) => Ok(()),
             Err(error) => Err(tree_error(error)),
         }

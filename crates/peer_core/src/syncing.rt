@@ -16,28 +16,18 @@ ghost use Rattle.sync_rule.specs.Syncs.{outcome_of, MayBeBuilt};
 use crate::machine::Machine;
 use crate::state::{Phase, State};
 use election::Election;
-use ens_base::{Bytes, Entry, Epoch, Key, PeerId, Seq};
+use ens_base::{Bytes, Entry, Epoch, Key, PeerId, Seq, copy_key};
 use exchange::{AskError, Question, given};
 use following::rule_23;
 use leader_words::Outgoing;
 use peer_fact::{Change, Fact};
 use running_sync::{Give, RunningSync};
 use std::alloc::Global;
+use std::thread::Threads;
 use step_plans::{Outbox, PeerError, Store, Tasks, Walked};
 use sync_rule::{Outcome, SyncError, needs_build};
 use tree_node::{Position, Scan, TreeBody};
 use wire_frames::{Message, PhaseOut, Then};
-
-/// Copies the key, if there is one. Fails only when out of memory.
-fn copy_of(alloc: Global, key: &Option<Key>) -> Result<Option<Key>, PeerError>
-    ensures ok { IfOk result (λ k. k ≡ key.now) }
-    ensures memory { IfErr result (λ e. e ≡ PeerError.Memory) }
-{
-    match key {
-        None => Ok(None),
-        Some(key) => Ok(Some(key.copy(alloc)?)),
-    }
-}
 
 /// Copies the body. Fails only when out of memory.
 fn copy_body(alloc: Global, body: &TreeBody) -> Result<TreeBody, PeerError>
@@ -78,12 +68,18 @@ fn body_given(
 
 impl<S> Machine<S> {
     #[tactic(auto, using(crate::proofs::Parts::asked_did))]
-    fn scan<H>(&mut self, hasher: &mut H, alloc: Global, out: &Outbox) -> Result<Scan, PeerError>
+    fn scan<H, R: Threads + Sync>(
+        &mut self,
+        hasher: &mut H,
+        rt: &R,
+        alloc: Global,
+        out: &Outbox,
+    ) -> Result<Scan, PeerError>
     where
         S: Store<H>,
         ensures { Acts S.does S.refuses (asked ScanTree) self.old hasher.old out.now result self.new hasher.new out.now }
     {
-        self.stores.scan_tree(hasher, alloc)
+        self.stores.scan_tree(hasher, rt, alloc)
     }
 
     #[tactic(auto, using(crate::proofs::Parts::asked_did))]
@@ -103,9 +99,10 @@ impl<S> Machine<S> {
     }
 
     #[tactic(auto, using(crate::proofs::Parts::asked_did))]
-    fn build<H>(
+    fn build<H, R: Threads + Sync>(
         &mut self,
         hasher: &mut H,
+        rt: &R,
         alloc: Global,
         out: &Outbox,
         entries: &[Entry],
@@ -115,14 +112,15 @@ impl<S> Machine<S> {
         requires { AreAbove [] entries.now }
         ensures { Acts S.does S.refuses (asked (Install entries.now)) self.old hasher.old out.now result self.new hasher.new out.now }
     {
-        self.stores.install(hasher, alloc, entries)
+        self.stores.install(hasher, rt, alloc, entries)
     }
 
     /// Builds the tree of these entries and installs it, if that is needed.
     #[tactic(auto, using(crate::proofs::Parts::cut))]
-    fn install<H>(
+    fn install<H, R: Threads + Sync>(
         &mut self,
         hasher: &mut H,
+        rt: &R,
         alloc: Global,
         out: &Outbox,
         needed: bool,
@@ -134,7 +132,7 @@ impl<S> Machine<S> {
         ensures { Acts S.does S.refuses (installed needed entries.now) self.old hasher.old out.now result self.new hasher.new out.now }
     {
         if needed {
-            self.build(hasher, alloc, out, entries)?;
+            self.build(hasher, rt, alloc, out, entries)?;
         }
         Ok(())
     }
@@ -305,9 +303,10 @@ impl<S> Machine<S> {
 
     /// Ends a sync with these merged entries.
     #[tactic(auto, using(crate::proofs::Parts::cut))]
-    fn end_sync<H>(
+    fn end_sync<H, R: Threads + Sync>(
         &mut self,
         hasher: &mut H,
+        rt: &R,
         alloc: Global,
         out: &mut Outbox,
         me: PeerId,
@@ -324,7 +323,7 @@ impl<S> Machine<S> {
         self.state.sync = None;
         let needed = needs_build(running.scan(), entries);
         let new = running.fact();
-        self.install(hasher, alloc, out, needed, entries)?;
+        self.install(hasher, rt, alloc, out, needed, entries)?;
         self.save(hasher, out, Some(new))?;
         self.state.trusted = true;
         let tasks = self.accept(hasher, alloc, out, me, &new)?;
@@ -333,9 +332,10 @@ impl<S> Machine<S> {
 
     /// Lets a sync run on, or ends it.
     #[tactic(auto, using(crate::proofs::Parts::cut))]
-    fn end_with<H>(
+    fn end_with<H, R: Threads + Sync>(
         &mut self,
         hasher: &mut H,
+        rt: &R,
         alloc: Global,
         out: &mut Outbox,
         me: PeerId,
@@ -355,16 +355,17 @@ impl<S> Machine<S> {
                 Ok(Tasks::none(alloc))
             }
             Outcome::Trusted(entries) => {
-                self.end_sync(hasher, alloc, out, me, running, entries.as_slice())
+                self.end_sync(hasher, rt, alloc, out, me, running, entries.as_slice())
             }
         }
     }
 
     /// Sends the messages of a sync, which then runs on, or ends if its sources suffice.
     #[tactic(auto, using(crate::proofs::Parts::cut))]
-    fn go_on<H>(
+    fn go_on<H, R: Threads + Sync>(
         &mut self,
         hasher: &mut H,
+        rt: &R,
         alloc: Global,
         out: &mut Outbox,
         me: PeerId,
@@ -379,14 +380,15 @@ impl<S> Machine<S> {
     {
         out.send_all(sends.into_vec())?;
         let outcome = outcome(alloc, &running)?;
-        self.end_with(hasher, alloc, out, me, running, outcome)
+        self.end_with(hasher, rt, alloc, out, me, running, outcome)
     }
 
     /// Begins a sync on a fact.
     #[tactic(auto, using(crate::proofs::Parts::cut))]
-    fn begin_sync<H>(
+    fn begin_sync<H, R: Threads + Sync>(
         &mut self,
         hasher: &mut H,
+        rt: &R,
         alloc: Global,
         out: &mut Outbox,
         me: PeerId,
@@ -398,9 +400,9 @@ impl<S> Machine<S> {
         ensures acts { Acts S.does S.refuses (begun_sync me new) self.old hasher.old out.old result self.new hasher.new out.new }
         ensures grows { Grows out.old out.new }
     {
-        let scan = self.scan(hasher, alloc, out)?;
+        let scan = self.scan(hasher, rt, alloc, out)?;
         let (running, sends) = start(alloc, new, me, self.state.trusted, scan)?;
-        self.go_on(hasher, alloc, out, me, running, sends)
+        self.go_on(hasher, rt, alloc, out, me, running, sends)
     }
 
     /// Resumes the sync that runs, if one does.
@@ -428,9 +430,10 @@ impl<S> Machine<S> {
 
     /// Runs what follows the message of a row: a sync begins or resumes, or the named rule runs next.
     #[tactic(auto, using(crate::proofs::Parts::cut))]
-    pub(crate) fn follow_on<H>(
+    pub(crate) fn follow_on<H, R: Threads + Sync>(
         &mut self,
         hasher: &mut H,
+        rt: &R,
         alloc: Global,
         out: &mut Outbox,
         me: PeerId,
@@ -445,7 +448,7 @@ impl<S> Machine<S> {
         ensures fits { ends_step then.now ≡ true → IsOk result }
     {
         match then {
-            Then::SyncOn(new) => self.begin_sync(hasher, alloc, out, me, *new),
+            Then::SyncOn(new) => self.begin_sync(hasher, rt, alloc, out, me, *new),
             Then::Resume => self.resume_sync(hasher, alloc, out),
             Then::Rule(_) => Ok(Tasks::named(alloc, *then)?),
             Then::Stay | Then::Follow | Then::Lead(_) | Then::Untrust | Then::Put => {
@@ -456,9 +459,10 @@ impl<S> Machine<S> {
 
     /// Rule 23: a peer that syncs asks for a node of the tree.
     #[tactic(auto, using(crate::proofs::Parts::cut))]
-    pub(crate) fn tree_ask<H>(
+    pub(crate) fn tree_ask<H, R: Threads + Sync>(
         &mut self,
         hasher: &mut H,
+        rt: &R,
         alloc: Global,
         out: &mut Outbox,
         me: PeerId,
@@ -477,15 +481,16 @@ impl<S> Machine<S> {
         let answered = ballot == self.state.fact.ballot;
         let body = self.shown_node(hasher, alloc, out, answered, &question)?;
         let row = ask_row(&self.state, from, ballot, question, body)?;
-        let tasks = self.row_done(hasher, alloc, out, me, row)?;
+        let tasks = self.row_done(hasher, rt, alloc, out, me, row)?;
         Ok(tasks)
     }
 
     /// Lets the sync that runs, if one does, take an answer.
     #[tactic(auto, using(crate::proofs::Parts::cut, crate::proofs::Syncs::gone_on_without))]
-    fn take_give<H>(
+    fn take_give<H, R: Threads + Sync>(
         &mut self,
         hasher: &mut H,
+        rt: &R,
         alloc: Global,
         out: &mut Outbox,
         me: PeerId,
@@ -505,16 +510,17 @@ impl<S> Machine<S> {
             Some(running) => {
                 let mut running = running;
                 let sends = take(alloc, &mut running, from, give, own)?;
-                self.go_on(hasher, alloc, out, me, running, sends)
+                self.go_on(hasher, rt, alloc, out, me, running, sends)
             }
         }
     }
 
     /// Takes what a source of the sync sent.
     #[tactic(auto, using(crate::proofs::Parts::cut))]
-    pub(crate) fn tree_give<H>(
+    pub(crate) fn tree_give<H, R: Threads + Sync>(
         &mut self,
         hasher: &mut H,
+        rt: &R,
         alloc: Global,
         out: &mut Outbox,
         me: PeerId,
@@ -530,7 +536,7 @@ impl<S> Machine<S> {
     {
         let needed = self.state.needs_node(from, give);
         let own = self.own_node(hasher, alloc, out, needed, give.question.position)?;
-        let tasks = self.take_give(hasher, alloc, out, me, from, give, &own)?;
+        let tasks = self.take_give(hasher, rt, alloc, out, me, from, give, &own)?;
         Ok(tasks)
     }
 }
@@ -546,7 +552,7 @@ pub(crate) fn question_of(
 {
     Ok(Question {
         position: at,
-        after: copy_of(alloc, after)?,
+        after: copy_key(alloc, after)?,
     })
 }
 

@@ -12,6 +12,7 @@ use peer_fact::{Change, Fact};
 use slot_disk::Failing;
 use std::alloc::Global;
 use std::test::Fail;
+use std::thread::Threads;
 use step_plans::{Outbox, PeerError};
 use synctree::Tree;
 use wire_frames::Message;
@@ -41,11 +42,17 @@ fn stores(alloc: Global, failing: Failing) -> Held {
 }
 
 /// The peer of this number, started on these stores.
-fn started(alloc: Global, number: u32, view: View, stores: Held) -> Result<Tried, PeerError>
+fn started<R: Threads + Sync>(
+    rt: &R,
+    alloc: Global,
+    number: u32,
+    view: View,
+    stores: Held,
+) -> Result<Tried, PeerError>
     requires { IsPeer number }
     ensures { IfOk result (λ p. p.me ≡ number) }
 {
-    match Peer::start(alloc, PeerId(number), view, stores, &mut PlainHasher) {
+    match Peer::start(rt, alloc, PeerId(number), view, stores, &mut PlainHasher) {
         Ok(peer) => Ok(peer),
         Err(refused) => {
             let StartError { error, held: _ } = refused;
@@ -55,11 +62,17 @@ fn started(alloc: Global, number: u32, view: View, stores: Held) -> Result<Tried
 }
 
 /// The peer of this number, on empty stores.
-fn peer(alloc: Global, number: u32) -> Result<Tried, Fail>
+fn peer<R: Threads + Sync>(rt: &R, alloc: Global, number: u32) -> Result<Tried, Fail>
     requires { IsPeer number }
     ensures { IfOk result (λ p. p.me ≡ number) }
 {
-    Ok(started(alloc, number, view()?, stores(alloc, Failing::never(alloc)))?)
+    Ok(started(
+        rt,
+        alloc,
+        number,
+        view()?,
+        stores(alloc, Failing::never(alloc)),
+    )?)
 }
 
 /// The name of a message of an election.
@@ -118,7 +131,8 @@ fn elected(view: View) -> Fact {
 }
 
 /// Whether a peer sends just these messages on an event.
-fn answers(
+fn answers<R: Threads + Sync>(
+    rt: &R,
     alloc: Global,
     peer: &mut Tried,
     event: Event,
@@ -128,14 +142,15 @@ fn answers(
     ensures { peer.new.me ≡ peer.old.me }
 {
     let mut out = Outbox::new(alloc);
-    match peer.step(alloc, event, &mut PlainHasher, &mut out) {
+    match peer.step(rt, alloc, event, &mut PlainHasher, &mut out) {
         Ok(()) => Ok(sends(&out, wanted)),
         Err(error) => Err(error),
     }
 }
 
 /// Whether a peer sends just these messages on a message.
-fn told(
+fn told<R: Threads + Sync>(
+    rt: &R,
     alloc: Global,
     peer: &mut Tried,
     from: u32,
@@ -147,11 +162,18 @@ fn told(
     requires obeys { Obeys message }
     ensures { peer.new.me ≡ peer.old.me }
 {
-    answers(alloc, peer, Event::Deliver(PeerId(from), message), wanted)
+    answers(
+        rt,
+        alloc,
+        peer,
+        Event::Deliver(PeerId(from), message),
+        wanted,
+    )
 }
 
 /// Whether a peer sends just these messages at the last of these ticks, and none before.
-fn ticked(
+fn ticked<R: Threads + Sync>(
+    rt: &R,
     alloc: Global,
     peer: &mut Tried,
     ticks: u32,
@@ -160,22 +182,23 @@ fn ticked(
     ensures { peer.new.me ≡ peer.old.me }
 {
     for _tick in 1..ticks {
-        match answers(alloc, peer, Event::Tick, &[]) {
+        match answers(rt, alloc, peer, Event::Tick, &[]) {
             Ok(true) => {}
             Ok(false) => return Ok(false),
             Err(error) => return Err(error),
         }
     }
-    answers(alloc, peer, Event::Tick, wanted)
+    answers(rt, alloc, peer, Event::Tick, wanted)
 }
 
 /// Peer 1 once it starts its epoch.
-fn starting(alloc: Global, view: View) -> Result<Tried, Fail>
+fn starting<R: Threads + Sync>(rt: &R, alloc: Global, view: View) -> Result<Tried, Fail>
     ensures { IfOk result (λ p. p.me ≡ 1) }
 {
-    let mut one = peer(alloc, 1)?;
-    ticked(alloc, &mut one, 6, &[])?;
+    let mut one = peer(rt, alloc, 1)?;
+    ticked(rt, alloc, &mut one, 6, &[])?;
     told(
+        rt,
         alloc,
         &mut one,
         3,
@@ -183,6 +206,7 @@ fn starting(alloc: Global, view: View) -> Result<Tried, Fail>
         &[],
     )?;
     told(
+        rt,
         alloc,
         &mut one,
         2,
@@ -195,11 +219,11 @@ fn starting(alloc: Global, view: View) -> Result<Tried, Fail>
 #[test]
 fn a_suspended_peer_goes_on(rt: HostRuntime) -> Result<(), Fail> {
     let alloc = rt.alloc();
-    let one = starting(alloc, view()?)?;
+    let one = starting(&rt, alloc, view()?)?;
     let (suspended, stores) = one.suspend();
     let mut one = suspended.resume(stores);
-    assert!(rt; told(alloc, &mut one, 3, Message::Accepted(BALLOT, 1), &[])?);
-    assert!(rt; ticked(alloc, &mut one, 1, &[(2, "new epoch"), (3, "beat")])?);
+    assert!(rt; told(&rt, alloc, &mut one, 3, Message::Accepted(BALLOT, 1), &[])?);
+    assert!(rt; ticked(&rt, alloc, &mut one, 1, &[(2, "new epoch"), (3, "beat")])?);
     Ok(())
 }
 
@@ -213,8 +237,8 @@ fn keeps(peer: Tried, fact: Fact) -> bool {
 fn a_peer_started_again_keeps_its_fact(rt: HostRuntime) -> Result<(), Fail> {
     let alloc = rt.alloc();
     let view = view()?;
-    let one = starting(alloc, view)?;
-    let again = started(alloc, 1, view, one.into_stores())?;
+    let one = starting(&rt, alloc, view)?;
+    let again = started(&rt, alloc, 1, view, one.into_stores())?;
     assert!(rt; keeps(again, elected(view)));
     Ok(())
 }

@@ -1,4 +1,5 @@
 ghost use Rattle.std.specs.Prelude.{◌≡◌, [], IfErr};
+ghost use Rattle.std.specs.Thread.{IsSync};
 ghost use Rattle.tree_node.specs.Entries.{AreAbove};
 ghost use Rattle.tree_node.specs.Positions.{IsPosition};
 ghost use Rattle.step_plans.specs.Calls.{Call, Load, Save, FreshTree, OpenTree, Find, Enter, ScanTree, ReadNode, Install, Fetch, Put, Hash, AnswerOf, Answers};
@@ -10,6 +11,7 @@ use crate::walked::Walked;
 use ens_base::{Bytes, Digest, Entry, Key};
 use peer_fact::{Change, Fact};
 use std::alloc::Global;
+use std::thread::Threads;
 use tree_node::{Position, Scan};
 
 /// The stores of a peer, which use a hasher lent to them. Two relations say what a call may do. The
@@ -56,8 +58,15 @@ pub trait Store<H> {
     ) -> Result<Walked<()>, PeerError>
         ensures { Answers does refuses (self.old, hasher.old) (Enter entry.now) result (self.new, hasher.new) };
 
-    /// Scans the tree: its entries that verify, and the damaged positions.
-    fn scan_tree(&mut self, hasher: &mut H, alloc: Global) -> Result<Scan, PeerError>
+    /// Scans the tree: its entries that verify, and the damaged positions. Its nodes are hashed by
+    /// threads.
+    fn scan_tree<R: Threads + Sync>(
+        &mut self,
+        hasher: &mut H,
+        rt: &R,
+        alloc: Global,
+    ) -> Result<Scan, PeerError>
+        requires { IsSync R.row }
         ensures { Answers does refuses (self.old, hasher.old) ScanTree result (self.new, hasher.new) };
 
     /// Returns the bytes of the node at a position of the tree, or `None` if the position is empty.
@@ -70,9 +79,17 @@ pub trait Store<H> {
         requires { IsPosition at }
         ensures { Answers does refuses (self.old, hasher.old) (ReadNode at) result (self.new, hasher.new) };
 
-    /// Builds the tree of these entries, and installs it. Their keys ascend strictly.
-    fn install(&mut self, hasher: &mut H, alloc: Global, entries: &[Entry]) -> Result<(), PeerError>
-        requires { AreAbove [] entries.now }
+    /// Builds the tree of these entries, and installs it. Their keys ascend strictly. The nodes are
+    /// hashed by threads.
+    fn install<R: Threads + Sync>(
+        &mut self,
+        hasher: &mut H,
+        rt: &R,
+        alloc: Global,
+        entries: &[Entry],
+    ) -> Result<(), PeerError>
+        requires ascending { AreAbove [] entries.now }
+        requires sync { IsSync R.row }
         ensures { Answers does refuses (self.old, hasher.old) (Install entries.now) result (self.new, hasher.new) };
 
     /// Returns the bytes that the backend keeps under the key, or `None` if there are none.
