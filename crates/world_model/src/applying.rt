@@ -14,6 +14,7 @@ use ens_hashing::Hasher16;
 use peer_core::{CallIn, Event};
 use schedule_text::ScheduleEvent;
 use std::alloc::Global;
+use std::thread::Threads;
 
 /// The client that makes every call of a schedule.
 const CLIENT: u32 = 32;
@@ -51,8 +52,9 @@ fn set_of_members(members: &[PeerId]) -> PeerSet
 
 impl World {
     /// Calls `peer`.
-    fn call<H: Hasher16>(
+    fn call<H: Hasher16, R: Threads + Sync>(
         &mut self,
+        rt: &R,
         alloc: Global,
         hasher: &mut H,
         peer: PeerId,
@@ -70,12 +72,13 @@ impl World {
             key: key.copy(alloc)?,
             command: command.copy(alloc)?,
         };
-        self.step_peer(alloc, hasher, peer, Event::Call(call))
+        self.step_peer(rt, alloc, hasher, peer, Event::Call(call))
     }
 
     /// Applies the effect of a line, without counting it.
-    fn effect<H: Hasher16>(
+    fn effect<H: Hasher16, R: Threads + Sync>(
         &mut self,
+        rt: &R,
         alloc: Global,
         hasher: &mut H,
         event: &ScheduleEvent,
@@ -90,30 +93,30 @@ impl World {
                 id,
                 key,
                 command,
-            } => self.call(alloc, hasher, *peer, *id, key, command),
-            ScheduleEvent::Tick { peer, ticks } => self.tick(alloc, hasher, *peer, *ticks),
+            } => self.call(rt, alloc, hasher, *peer, *id, key, command),
+            ScheduleEvent::Tick { peer, ticks } => self.tick(rt, alloc, hasher, *peer, *ticks),
             ScheduleEvent::Deliver { message } => {
-                self.deliver(alloc, hasher, (*message - 1) as usize)
+                self.deliver(rt, alloc, hasher, (*message - 1) as usize)
             }
             ScheduleEvent::Pass { sender, receiver } => {
-                self.pass(alloc, hasher, *sender, *receiver)
+                self.pass(rt, alloc, hasher, *sender, *receiver)
             }
             ScheduleEvent::Lose { sender, receiver } => {
                 self.network.lose(*sender, *receiver);
                 Ok(())
             }
-            ScheduleEvent::Calm => self.calm(alloc, hasher, &all_peers()),
+            ScheduleEvent::Calm => self.calm(rt, alloc, hasher, &all_peers()),
             ScheduleEvent::CalmAmong { members } => {
-                self.calm(alloc, hasher, &set_of_members(members.as_slice()))
+                self.calm(rt, alloc, hasher, &set_of_members(members.as_slice()))
             }
             ScheduleEvent::Change { peer, view } => {
-                self.step_peer(alloc, hasher, *peer, Event::Change(*view))
+                self.step_peer(rt, alloc, hasher, *peer, Event::Change(*view))
             }
             ScheduleEvent::Stop { peer } => {
                 self.stop(*peer);
                 Ok(())
             }
-            ScheduleEvent::Start { peer } => self.start(alloc, hasher, *peer),
+            ScheduleEvent::Start { peer } => self.start(rt, alloc, hasher, *peer),
             _ => self.effect_on_stores(alloc, event),
         }
     }
@@ -157,8 +160,9 @@ impl World {
     /// first: `Memory` when out of memory, `Clash` or `BookFull` only if the hasher refused a string.
     /// Whatever was sent and printed before the call stays, and may be
     /// followed by a part of what the line sends and prints.
-    pub fn apply<H: Hasher16>(
+    pub fn apply<H: Hasher16, R: Threads + Sync>(
         &mut self,
+        rt: &R,
         alloc: Global,
         event: &ScheduleEvent,
         hasher: &mut H,
@@ -167,7 +171,7 @@ impl World {
         ensures reaches { Reaches H.clashes H.fulls (applied event.now (run_of self.old)) result (run_of self.new) }
         ensures begins { Begins self.old self.new }
     {
-        self.effect(alloc, hasher, event)?;
+        self.effect(rt, alloc, hasher, event)?;
         if let ScheduleEvent::Call { key, .. } = event {
             self.called.push(key.copy(alloc)?)?;
         }

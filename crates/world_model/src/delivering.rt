@@ -10,11 +10,13 @@ use ens_hashing::Hasher16;
 use network::Network;
 use peer_core::Event;
 use std::alloc::Global;
+use std::thread::Threads;
 
 impl World {
     /// Ticks `peer` `ticks` times.
-    pub(crate) fn tick<H: Hasher16>(
+    pub(crate) fn tick<H: Hasher16, R: Threads + Sync>(
         &mut self,
+        rt: &R,
         alloc: Global,
         hasher: &mut H,
         peer: PeerId,
@@ -25,15 +27,16 @@ impl World {
         ensures begins { Begins self.old self.new }
     {
         for _tick in 0..ticks {
-            self.step_peer(alloc, hasher, peer, Event::Tick)?;
+            self.step_peer(rt, alloc, hasher, peer, Event::Tick)?;
         }
         Ok(())
     }
 
     /// Delivers the message `number`, counted from 0, whether or not it still waits. Does nothing
     /// if there is no such message.
-    pub(crate) fn deliver<H: Hasher16>(
+    pub(crate) fn deliver<H: Hasher16, R: Threads + Sync>(
         &mut self,
+        rt: &R,
         alloc: Global,
         hasher: &mut H,
         number: usize,
@@ -47,12 +50,13 @@ impl World {
         let (from, to) = (PeerId(frame.from), PeerId(frame.to));
         let message = frame.message.copy(alloc)?;
         self.network.settle(number);
-        self.step_peer(alloc, hasher, to, Event::Deliver(from, message))
+        self.step_peer(rt, alloc, hasher, to, Event::Deliver(from, message))
     }
 
     /// Delivers the oldest message waiting from `sender` to `receiver`. Does nothing if none waits.
-    pub(crate) fn pass<H: Hasher16>(
+    pub(crate) fn pass<H: Hasher16, R: Threads + Sync>(
         &mut self,
+        rt: &R,
         alloc: Global,
         hasher: &mut H,
         sender: PeerId,
@@ -64,14 +68,15 @@ impl World {
     {
         match self.network.oldest_between(sender, receiver) {
             None => Ok(()),
-            Some(number) => self.deliver(alloc, hasher, number),
+            Some(number) => self.deliver(rt, alloc, hasher, number),
         }
     }
 
     /// Delivers the messages waiting among `peers`, oldest first, including those sent meanwhile,
     /// until none waits or 500,000 were delivered.
-    pub(crate) fn calm<H: Hasher16>(
+    pub(crate) fn calm<H: Hasher16, R: Threads + Sync>(
         &mut self,
+        rt: &R,
         alloc: Global,
         hasher: &mut H,
         peers: &PeerSet,
@@ -82,7 +87,7 @@ impl World {
         for _turn in 0..Network::MOST {
             match self.network.oldest_among(peers) {
                 None => return Ok(()),
-                Some(number) => self.deliver(alloc, hasher, number)?,
+                Some(number) => self.deliver(rt, alloc, hasher, number)?,
             }
         }
         Ok(())

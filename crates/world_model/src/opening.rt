@@ -15,9 +15,11 @@ use history_scribe::Scribe;
 use network::Network;
 use schedule_text::Schedule;
 use std::alloc::Global;
+use std::thread::Threads;
 
 /// Starts the peer `me` on empty stores.
-fn started_peer<H: Hasher16>(
+fn started_peer<H: Hasher16, R: Threads + Sync>(
+    rt: &R,
     alloc: Global,
     me: PeerId,
     view: View,
@@ -29,12 +31,13 @@ fn started_peer<H: Hasher16>(
     ensures error { IfErr result (IsCutOff H.clashes H.fulls) }
 {
     let mut peer = WorldPeer::empty(alloc, me);
-    peer.start(alloc, view, hasher)?;
+    peer.start(rt, alloc, view, hasher)?;
     Ok(peer)
 }
 
 /// Starts the peers 1 to `count` on empty stores.
-fn started_peers<H: Hasher16>(
+fn started_peers<H: Hasher16, R: Threads + Sync>(
+    rt: &R,
     alloc: Global,
     count: u32,
     view: View,
@@ -48,7 +51,7 @@ fn started_peers<H: Hasher16>(
 {
     let mut peers = Vec::new(alloc);
     for below in 0..count {
-        let peer = started_peer(alloc, PeerId(below + 1), view, hasher)?;
+        let peer = started_peer(rt, alloc, PeerId(below + 1), view, hasher)?;
         peers.push(peer)?;
     }
     Ok(peers)
@@ -62,7 +65,8 @@ impl World {
     ///
     /// `Memory` when out of memory, `Clash` or `BookFull` only if the hasher refused a string, and no
     /// other error.
-    pub fn open<H: Hasher16>(
+    pub fn open<H: Hasher16, R: Threads + Sync>(
+        rt: &R,
         alloc: Global,
         schedule: &Schedule,
         hasher: &mut H,
@@ -73,7 +77,7 @@ impl World {
     {
         Ok(World {
             opening: schedule.view,
-            peers: started_peers(alloc, schedule.peers, schedule.view, hasher)?,
+            peers: started_peers(rt, alloc, schedule.peers, schedule.view, hasher)?,
             network: Network::new(alloc)?,
             printed: Vec::new(alloc),
             scribe: Scribe::new(alloc),

@@ -8,6 +8,7 @@ use ens_hashing::Hasher16;
 use register_model::{History, Printed};
 use schedule_text::Schedule;
 use std::alloc::{AllocError, Global};
+use std::thread::Threads;
 use wire_frames::Frame;
 
 impl World {
@@ -17,7 +18,8 @@ impl World {
     ///
     /// `MessageLimit` exactly if the run would send more than 500,000 messages, unless it is cut off
     /// first: `Memory` when out of memory, `Clash` or `BookFull` only if the hasher refused a string.
-    pub fn run<H: Hasher16>(
+    pub fn run<H: Hasher16, R: Threads + Sync>(
+        rt: &R,
         alloc: Global,
         schedule: &Schedule,
         hasher: &mut H,
@@ -25,10 +27,10 @@ impl World {
         requires { IsSchedule schedule.now }
         ensures { RunReaches H.clashes H.fulls (run_of_schedule schedule.now.peers schedule.now.view schedule.now.events) result }
     {
-        let mut world = World::open(alloc, schedule, hasher)?;
+        let mut world = World::open(rt, alloc, schedule, hasher)?;
         let events = schedule.events.as_slice();
         for place in 0..events.len() {
-            world.apply(alloc, &events[place], hasher)?;
+            world.apply(rt, alloc, &events[place], hasher)?;
         }
         Ok(world)
     }

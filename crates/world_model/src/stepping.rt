@@ -13,6 +13,7 @@ use ens_base::PeerId;
 use ens_hashing::Hasher16;
 use peer_core::Event;
 use std::alloc::Global;
+use std::thread::Threads;
 use step_plans::Outbox;
 
 /// Drops an event for which there is no peer.
@@ -40,8 +41,9 @@ impl World {
     }
 
     /// Steps `peer` on `event`. Does nothing if there is no such peer.
-    pub(crate) fn step_peer<H: Hasher16>(
+    pub(crate) fn step_peer<H: Hasher16, R: Threads + Sync>(
         &mut self,
+        rt: &R,
         alloc: Global,
         hasher: &mut H,
         peer: PeerId,
@@ -57,7 +59,7 @@ impl World {
             ignore(event);
             return Ok(());
         }
-        let out = self.peers[place].step(alloc, hasher, event)?;
+        let out = self.peers[place].step(rt, alloc, hasher, event)?;
         self.report(alloc, peer, out)
     }
 }

@@ -14,6 +14,7 @@ use ens_base::{PeerId, View};
 use ens_hashing::Hasher16;
 use peer_core::{Event, Peer, StartError, Stores};
 use std::alloc::Global;
+use std::thread::Threads;
 use step_plans::{Outbox, PeerError};
 use synctree::Tree;
 use world_stores::{HeldFact, HeldNodes, HeldObjects};
@@ -69,8 +70,9 @@ impl WorldPeer {
     }
 
     /// Starts the peer if it is down. If the start is refused, the peer stays down.
-    pub(crate) fn start<H: Hasher16>(
+    pub(crate) fn start<H: Hasher16, R: Threads + Sync>(
         &mut self,
+        rt: &R,
         alloc: Global,
         opening: View,
         hasher: &mut H,
@@ -83,7 +85,7 @@ impl WorldPeer {
             return Ok(());
         }
         let stores = std::mem::replace(&mut self.stores, empty_stores(alloc));
-        match Peer::start(alloc, self.me, opening, stores, hasher) {
+        match Peer::start(rt, alloc, self.me, opening, stores, hasher) {
             Ok(peer) => {
                 self.wait(peer);
                 Ok(())
@@ -100,8 +102,9 @@ impl WorldPeer {
     }
 
     /// Steps the peer, and returns its output. A peer that is down does nothing.
-    pub(crate) fn step<H: Hasher16>(
+    pub(crate) fn step<H: Hasher16, R: Threads + Sync>(
         &mut self,
+        rt: &R,
         alloc: Global,
         hasher: &mut H,
         event: Event,
@@ -118,7 +121,7 @@ impl WorldPeer {
         };
         let stores = std::mem::replace(&mut self.stores, empty_stores(alloc));
         let mut peer = running.resume(stores);
-        match peer.step(alloc, event, hasher, &mut out) {
+        match peer.step(rt, alloc, event, hasher, &mut out) {
             Ok(()) => {
                 self.wait(peer);
                 Ok(out)

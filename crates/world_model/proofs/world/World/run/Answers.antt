@@ -1,4 +1,4 @@
-use Rattle.std.proofs.Common.{arith, ◌≡◌, ◌∙◌, Some, sym, slice_get}
+use Rattle.std.proofs.Common.{arith, rules, ◌≡◌, ◌∙◌, Some, sym, slice_get}
 use Rattle.std.proofs.lemmas.Grind.{common_steps}
 use Rattle.std.proofs.lemmas.List.{length-map}
 use Rattle.std.proofs.lemmas.Option.{slice_get_read}
@@ -12,7 +12,7 @@ use Rattle.world_model.proofs.world.World.run.Goals as goal
 pub apply-requires : goal.apply-requires
 apply-requires g c =
     let here : slice_get c.args.schedule.now.events c.loop-place.place ≡ Some c.index-events-place.result = grind (arith, common_steps, slice_get_read, c.as_slice-events.ensures) in
-    record { line = rw (sym (length-map c.loop-place.world.peers.items node_of) ∙ c.loop-place.invariant.many) (stands_at c.args.schedule.now.peers c.args.schedule.now.events c.loop-place.place c.index-events-place.result c.requires.events here) }
+    (search rules, rw (sym (length-map c.loop-place.world.peers.items node_of) ∙ c.loop-place.invariant.many) (stands_at c.args.schedule.now.peers c.args.schedule.now.events c.loop-place.place c.index-events-place.result c.requires.events here))
 
 pub returns-in_err-apply : goal.returns-in_err-apply
 returns-in_err-apply g c =
