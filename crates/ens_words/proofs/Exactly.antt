@@ -3,26 +3,80 @@ use Rattle.std.proofs.Common.{◌≡◌, ℕ, ◌-◌, ◌^◌, Bool, true, fals
 use Rattle.std.specs.Fmt.{decimal}
 use Rattle.ens_base.specs.Lists.{same_bytes}
 use Rattle.ens_base.specs.Results.{◌>>=◌}
+use Rattle.schedule_words.proofs.Ascending.{view_of-ok, view_of-words}
 use Rattle.schedule_words.proofs.Dotted.{number_of-ok, number_of-decimal}
-use Rattle.schedule_words.proofs.Fields.{same_bytes-same}
+use Rattle.schedule_words.proofs.Fields.{peer_of-ok, peer_of-decimal, same_bytes-same}
 use Rattle.schedule_words.proofs.Results.{bind_ok, ok_same}
-use Rattle.schedule_words.specs.Words.{number_of}
+use Rattle.schedule_words.specs.Spelling.{member_words}
+use Rattle.schedule_words.specs.Words.{number_of, peer_of, view_of}
 use Rattle.schedule_words.specs.declared.cause.Cause.{Cause}
 use Rattle.schedule_words.specs.declared.cause.Cause.TheVariants.{Unknown}
-use Rattle.ens_words.specs.Forms.{AreForm, IsJob, output_word, words_of}
-use Rattle.ens_words.specs.Reading.{generator_of, generate_of, job_of, replay_of, summary_of}
+use Rattle.ens_words.specs.Forms.{AskFor, IsJob, output_word, words_of}
+use Rattle.ens_words.specs.Reading.{cluster_form_of, cluster_of, generate_of, generator_of, job_of, peer_form_of, peer_of_words, replay_of, summary_of}
 use Rattle.ens_words.specs.declared.job.Job.{Job}
-use Rattle.ens_words.specs.declared.job.Job.TheVariants.{Replay, Generate}
+use Rattle.ens_words.specs.declared.job.Job.TheVariants.{Replay, Peer, Cluster, Generate}
+use Rattle.ens_words.specs.declared.job.PeerWords.{PeerWords}
+use Rattle.ens_words.specs.declared.job.ClusterWords.{ClusterWords}
 
--- the words ask for the job, and it may be asked for
-abbrev pub AsksFor : List (List ℕ) → Job → Type 0
-AsksFor words job = IsJob job × (words ≡ words_of job)
+-- ---- what is read as a job asks for it
 
-replay_read : (verb : List ℕ) (job : Job) → replay_of verb ≡ Ok job → AsksFor (verb ∷ []) job
-replay_read verb job h = one (same_bytes verb (codes "replay")) refl h where
-  one : (b : Bool) → same_bytes verb (codes "replay") ≡ b → (if b then Ok Replay else Err Unknown) ≡ Ok job → AsksFor (verb ∷ []) job
-  one true same h = let is : Replay ≡ job = ok_same h in subst (AsksFor (verb ∷ [])) is (tt, ap (λ (w : List ℕ). w ∷ []) (same_bytes-same verb (codes "replay") same))
-  one false same h = cc h
+asks_same : (words : List (List ℕ)) (one other : Job) → one ≡ other → AskFor words one → AskFor words other
+asks_same words one other same asks = subst (AskFor words) same asks
+
+replay_read : (verb : List ℕ) (rest : List (List ℕ)) (job : Job) → verb ≡ codes "replay" → replay_of rest ≡ Ok job → AskFor (verb ∷ rest) job
+replay_read verb [] job is h = asks_same (verb ∷ []) Replay job (ok_same h) (tt, ap (λ (w : List ℕ). w ∷ []) is)
+replay_read verb (w ∷ ws) job is h = cc h
+
+peer_same : (a b c d e f g i j k : List ℕ) (xs ys : List (List ℕ)) → a ≡ f → b ≡ g → c ≡ i → d ≡ j → e ≡ k → xs ≡ ys → a ∷ b ∷ c ∷ d ∷ e ∷ xs ≡ f ∷ g ∷ i ∷ j ∷ k ∷ ys
+peer_same a b c d e f g i j k xs ys p q r s t u = λ n. p n ∷ q n ∷ r n ∷ s n ∷ t n ∷ u n
+
+peer_form_read : (verb i n p t : List ℕ) (ms : List (List ℕ)) (job : Job) → verb ≡ codes "peer" → peer_form_of i n p t ms ≡ Ok job → AskFor (verb ∷ i ∷ n ∷ p ∷ t ∷ ms) job
+unfolding peer_form_of
+peer_form_read verb i n p t ms job is h =
+    let a = bind_ok (number_of 1 31 n) _ job h in
+    let b = bind_ok (peer_of a.0 i) _ job a.2 in
+    let c = bind_ok (number_of 1 65000 p) _ job b.2 in
+    let d = bind_ok (number_of 1 1000000000 t) _ job c.2 in
+    let e = bind_ok (view_of a.0 ms) _ job d.2 in
+    let peers = number_of-ok 1 31 n a.0 (lit< tt) a.1 in
+    let me = peer_of-ok a.0 i b.0 peers.2 b.1 in
+    let port = number_of-ok 1 65000 p c.0 (lit< tt) c.1 in
+    let turns = number_of-ok 1 1000000000 t d.0 (lit< tt) d.1 in
+    let view = view_of-ok a.0 ms e.0 peers.2 e.1 in
+    let read : PeerWords = record { me = b.0; peers = a.0; port = c.0; turns = d.0; view = e.0 } in
+    asks_same (verb ∷ i ∷ n ∷ p ∷ t ∷ ms) (Peer read) job (ok_same e.2) (
+      (record { count = (peers.1, peers.2); base = (port.1, port.2); members = (view.0, view.1) }, me.1, turns.1, turns.2),
+      peer_same verb i n p t (codes "peer") (decimal b.0) (decimal a.0) (decimal c.0) (decimal d.0) ms (member_words e.0) is me.0 peers.0 port.0 turns.0 view.2,
+    )
+
+peer_read : (verb : List ℕ) (rest : List (List ℕ)) (job : Job) → verb ≡ codes "peer" → peer_of_words rest ≡ Ok job → AskFor (verb ∷ rest) job
+peer_read verb (i ∷ n ∷ p ∷ t ∷ ms) job is h = peer_form_read verb i n p t ms job is h
+peer_read verb [] job is h = cc h
+peer_read verb (a ∷ []) job is h = cc h
+peer_read verb (a ∷ b ∷ []) job is h = cc h
+peer_read verb (a ∷ b ∷ c ∷ []) job is h = cc h
+
+cluster_same : (a b c f g i : List ℕ) (xs ys : List (List ℕ)) → a ≡ f → b ≡ g → c ≡ i → xs ≡ ys → a ∷ b ∷ c ∷ xs ≡ f ∷ g ∷ i ∷ ys
+cluster_same a b c f g i xs ys p q r u = λ n. p n ∷ q n ∷ r n ∷ u n
+
+cluster_form_read : (verb n p : List ℕ) (ms : List (List ℕ)) (job : Job) → verb ≡ codes "cluster" → cluster_form_of n p ms ≡ Ok job → AskFor (verb ∷ n ∷ p ∷ ms) job
+cluster_form_read verb n p ms job is h =
+    let a = bind_ok (number_of 1 31 n) _ job h in
+    let b = bind_ok (number_of 1 65000 p) _ job a.2 in
+    let c = bind_ok (view_of a.0 ms) _ job b.2 in
+    let peers = number_of-ok 1 31 n a.0 (lit< tt) a.1 in
+    let port = number_of-ok 1 65000 p b.0 (lit< tt) b.1 in
+    let view = view_of-ok a.0 ms c.0 peers.2 c.1 in
+    let read : ClusterWords = record { peers = a.0; port = b.0; view = c.0 } in
+    asks_same (verb ∷ n ∷ p ∷ ms) (Cluster read) job (ok_same c.2) (
+      record { count = (peers.1, peers.2); base = (port.1, port.2); members = (view.0, view.1) },
+      cluster_same verb n p (codes "cluster") (decimal a.0) (decimal b.0) ms (member_words c.0) is peers.0 port.0 view.2,
+    )
+
+cluster_read : (verb : List ℕ) (rest : List (List ℕ)) (job : Job) → verb ≡ codes "cluster" → cluster_of rest ≡ Ok job → AskFor (verb ∷ rest) job
+cluster_read verb (n ∷ p ∷ ms) job is h = cluster_form_read verb n p ms job is h
+cluster_read verb [] job is h = cc h
+cluster_read verb (a ∷ []) job is h = cc h
 
 summary_read : (word : List ℕ) (summary : Bool) → summary_of word ≡ Ok summary → word ≡ output_word summary
 summary_read word summary h = one (same_bytes word (codes "schedule")) refl h where
@@ -37,42 +91,68 @@ summary_read word summary h = one (same_bytes word (codes "schedule")) refl h wh
 four_same : (a b c d e f g i : List ℕ) → a ≡ e → b ≡ f → c ≡ g → d ≡ i → a ∷ b ∷ c ∷ d ∷ [] ≡ e ∷ f ∷ g ∷ i ∷ []
 four_same a b c d e f g i p q r s = λ k. p k ∷ q k ∷ r k ∷ s k ∷ []
 
-generator_read : (verb n c o : List ℕ) (job : Job) → verb ≡ codes "generate" → generator_of n c o ≡ Ok job → AsksFor (verb ∷ n ∷ c ∷ o ∷ []) job
+generator_read : (verb n c o : List ℕ) (job : Job) → verb ≡ codes "generate" → generator_of n c o ≡ Ok job → AskFor (verb ∷ n ∷ c ∷ o ∷ []) job
 generator_read verb n c o job is h =
     let a = bind_ok (number_of 0 (2 ^ 64 - 1) n) (λ number. number_of 1 20000 c >>= λ calls. summary_of o >>= λ summary. Ok (Generate number calls summary)) job h in
     let b = bind_ok (number_of 1 20000 c) (λ calls. summary_of o >>= λ summary. Ok (Generate a.0 calls summary)) job a.2 in
     let d = bind_ok (summary_of o) (λ summary. Ok (Generate a.0 b.0 summary)) job b.2 in
     let number = number_of-ok 0 (2 ^ 64 - 1) n a.0 (lit< tt) a.1 in
     let calls = number_of-ok 1 20000 c b.0 (lit< tt) b.1 in
-    let same : Generate a.0 b.0 d.0 ≡ job = ok_same d.2 in
-    subst (AsksFor (verb ∷ n ∷ c ∷ o ∷ [])) same
+    asks_same (verb ∷ n ∷ c ∷ o ∷ []) (Generate a.0 b.0 d.0) job (ok_same d.2)
     ((omega (arith, number.2), calls.1, calls.2), four_same verb n c o (codes "generate") (decimal a.0) (decimal b.0) (output_word d.0) is number.0 calls.0 (summary_read o d.0 d.1))
 
-generate_read : (verb n c o : List ℕ) (job : Job) → generate_of verb n c o ≡ Ok job → AsksFor (verb ∷ n ∷ c ∷ o ∷ []) job
-generate_read verb n c o job h = one (same_bytes verb (codes "generate")) refl h where
-  one : (b : Bool) → same_bytes verb (codes "generate") ≡ b → (if b then generator_of n c o else Err Unknown) ≡ Ok job → AsksFor (verb ∷ n ∷ c ∷ o ∷ []) job
-  one true same h = generator_read verb n c o job (same_bytes-same verb (codes "generate") same) h
-  one false same h = cc h
+generate_read : (verb : List ℕ) (rest : List (List ℕ)) (job : Job) → verb ≡ codes "generate" → generate_of rest ≡ Ok job → AskFor (verb ∷ rest) job
+generate_read verb (n ∷ c ∷ o ∷ []) job is h = generator_read verb n c o job is h
+generate_read verb [] job is h = cc h
+generate_read verb (a ∷ []) job is h = cc h
+generate_read verb (a ∷ b ∷ []) job is h = cc h
+generate_read verb (a ∷ b ∷ c ∷ d ∷ more) job is h = cc h
 
-pub job_read : (words : List (List ℕ)) (job : Job) → job_of words ≡ Ok job → AsksFor words job
-job_read (verb ∷ []) job h = replay_read verb job h
-job_read (verb ∷ n ∷ c ∷ o ∷ []) job h = generate_read verb n c o job h
+verb_read : (verb : List ℕ) (rest : List (List ℕ)) (job : Job) → job_of (verb ∷ rest) ≡ Ok job → AskFor (verb ∷ rest) job
+verb_read verb rest job h = one (same_bytes verb (codes "replay")) refl (same_bytes verb (codes "peer")) refl (same_bytes verb (codes "cluster")) refl (same_bytes verb (codes "generate")) refl h where
+  one : (a : Bool) → same_bytes verb (codes "replay") ≡ a → (b : Bool) → same_bytes verb (codes "peer") ≡ b → (c : Bool) → same_bytes verb (codes "cluster") ≡ c → (d : Bool) → same_bytes verb (codes "generate") ≡ d
+      → (if a then replay_of rest else if b then peer_of_words rest else if c then cluster_of rest else if d then generate_of rest else Err Unknown) ≡ Ok job → AskFor (verb ∷ rest) job
+  one true p b q c r d s h = replay_read verb rest job (same_bytes-same verb (codes "replay") p) h
+  one false p true q c r d s h = peer_read verb rest job (same_bytes-same verb (codes "peer") q) h
+  one false p false q true r d s h = cluster_read verb rest job (same_bytes-same verb (codes "cluster") r) h
+  one false p false q false r true s h = generate_read verb rest job (same_bytes-same verb (codes "generate") s) h
+  one false p false q false r false s h = cc h
+
+pub job_read : (words : List (List ℕ)) (job : Job) → job_of words ≡ Ok job → AskFor words job
 job_read [] job h = cc h
-job_read (a ∷ b ∷ []) job h = cc h
-job_read (a ∷ b ∷ c ∷ []) job h = cc h
-job_read (a ∷ b ∷ c ∷ d ∷ e ∷ more) job h = cc h
+job_read (verb ∷ rest) job h = verb_read verb rest job h
+
+-- ---- what asks for a job is read as it
 
 output_back : (summary : Bool) → summary_of (output_word summary) ≡ Ok summary
 output_back true = refl
 output_back false = refl
 
+peer_back : (w : PeerWords) → IsJob (Peer w) → peer_form_of (decimal w.me) (decimal w.peers) (decimal w.port) (decimal w.turns) (member_words w.view) ≡ Ok (Peer w)
+unfolding peer_form_of
+peer_back w is =
+    rw (
+      number_of-decimal 1 31 w.peers is.0.count.0 is.0.count.1 (omega (arith, is.0.count)),
+      peer_of-decimal w.peers w.me is.0.count.1 is.1,
+      number_of-decimal 1 65000 w.port is.0.base.0 is.0.base.1 (omega (arith, is.0.base)),
+      number_of-decimal 1 1000000000 w.turns is.2 is.3 (omega (arith, is.3)),
+      view_of-words w.peers w.view is.0.count.1 is.0.members.0 is.0.members.1,
+    ) refl
+
 pub job_back : (job : Job) → IsJob job → job_of (words_of job) ≡ Ok job
 job_back Replay is = refl
+job_back (Peer w) is = peer_back w is
+job_back (Cluster w) is =
+    rw (
+      number_of-decimal 1 31 w.peers is.count.0 is.count.1 (omega (arith, is.count)),
+      number_of-decimal 1 65000 w.port is.base.0 is.base.1 (omega (arith, is.base)),
+      view_of-words w.peers w.view is.count.1 is.members.0 is.members.1,
+    ) refl
 job_back (Generate number calls summary) is =
     rw (number_of-decimal 0 (2 ^ 64 - 1) number (omega arith) (omega (arith, is.0)) is.0, number_of-decimal 1 20000 calls is.1 is.2 (omega (arith, is.2)), output_back summary) refl
 
 not_both : (job : Job) (cause : Cause) → ◌≡◌ {A = Result Job Cause} (Ok job) (Err cause) → ⊥
 not_both job cause h = cc h
 
-pub job_refused : (words : List (List ℕ)) (cause : Cause) → job_of words ≡ Err cause → ¬ AreForm words
-job_refused words cause h form = not_both form.0 cause (sym (job_back form.0 form.1) ∙ ap job_of (sym form.2) ∙ h)
+pub job_refused : (words : List (List ℕ)) (cause : Cause) → job_of words ≡ Err cause → (job : Job) → ¬ AskFor words job
+job_refused words cause h job asks = not_both job cause (sym (job_back job asks.0) ∙ ap job_of (sym asks.1) ∙ h)

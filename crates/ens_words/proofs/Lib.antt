@@ -1,1 +1,3 @@
 pub mod Exactly
+pub mod Plain
+pub mod Walk

@@ -1,21 +1,104 @@
-ghost use Rattle.std.specs.Prelude.{◌≡◌, map};
+ghost use Rattle.std.specs.Prelude.{◌≡◌, ℕ, List, ◌∷◌, IfOk, false, map};
+ghost use Rattle.clap.specs.Words.{kind_of};
+ghost use Rattle.schedule_words.specs.Causes.{Gives};
+ghost use Rattle.schedule_words.specs.Words.{view_of};
 ghost use Rattle.ens_words.specs.Forms.{Reads};
-ghost use Rattle.ens_words.specs.Reading.{generate_of, generator_of, job_of, replay_of, summary_of};
+ghost use Rattle.ens_words.specs.Reading.{cluster_of, generate_of, generator_of, job_of, peer_form_of, peer_of_words, replay_of, summary_of};
+ghost use Rattle.ens_words.specs.Split.{Splits, has_option};
 
-use crate::job::{Job, WordsError};
-use schedule_words::{Cause, number};
+use crate::command::{has_option, matches_of};
+use crate::job::{ClusterWords, Job, PeerWords, WordsError};
+use clap::error::ErrorKind;
+use clap::{ArgMatches, Error};
+use ens_base::View;
+use schedule_words::{Cause, WordError, number, peer, view};
+use std::alloc::{AllocError, Global};
+
+/// The greatest number of peers.
+const MOST_PEERS: u64 = 31;
+
+/// The greatest port below that of peer 1.
+const MOST_PORT: u64 = 65000;
+
+/// The greatest number of turns of a peer.
+const MOST_TURNS: u64 = 1_000_000_000;
 
 /// The greatest number of calls of a generated schedule.
 const MOST_CALLS: u64 = 20000;
 
-fn replay_job(verb: &str) -> Result<Job, Cause>
-    ensures { result ≡ replay_of verb.now }
+fn replay_job(words: &[&str]) -> Result<Job, WordError>
+    ensures { Gives (replay_of (map (λ w. w.now) words.now)) result }
 {
-    if verb == "replay" {
+    if words.is_empty() {
         Ok(Job::Replay)
     } else {
-        Err(Cause::Unknown)
+        Err(WordError::Bad(Cause::Words))
     }
+}
+
+/// Returns the bytes of each word.
+fn bytes_of<'a>(alloc: Global, words: &[&'a str]) -> Result<Vec<&'a [u8]>, AllocError>
+    ensures { IfOk result (λ v. map (λ w. w.now) v.items ≡ map (λ w. w.now) words.now) }
+{
+    let mut bytes = Vec::new(alloc);
+    for word in words {
+        bytes.push(word.as_bytes())?;
+    }
+    Ok(bytes)
+}
+
+/// Returns the view that the words name, of so many peers.
+fn opening(alloc: Global, words: &[&str], peers: u32) -> Result<View, WordError>
+    ensures { Gives (view_of peers (map (λ w. w.now) words.now)) result }
+{
+    let bytes = bytes_of(alloc, words)?;
+    view(alloc, bytes.as_slice(), peers)
+}
+
+#[tactic(auto, unfolding(crate::specs::Reading::peer_form_of))]
+fn peer_form(
+    alloc: Global,
+    id: &str,
+    count: &str,
+    base: &str,
+    limit: &str,
+    members: &[&str],
+) -> Result<Job, WordError>
+    ensures { Gives (peer_form_of id.now count.now base.now limit.now (map (λ w. w.now) members.now)) result }
+{
+    let peers = number(count.as_bytes(), 1, MOST_PEERS)? as u32;
+    let me = peer(id.as_bytes(), peers)?;
+    let port = number(base.as_bytes(), 1, MOST_PORT)? as u16;
+    let turns = number(limit.as_bytes(), 1, MOST_TURNS)?;
+    let view = opening(alloc, members, peers)?;
+    Ok(Job::Peer(PeerWords {
+        me,
+        peers,
+        port,
+        turns,
+        view,
+    }))
+}
+
+fn peer_job(alloc: Global, words: &[&str]) -> Result<Job, WordError>
+    ensures { Gives (peer_of_words (map (λ w. w.now) words.now)) result }
+{
+    let [id, count, base, limit, members @ ..] = words else {
+        return Err(WordError::Bad(Cause::Words));
+    };
+    peer_form(alloc, id, count, base, limit, members)
+}
+
+fn cluster_job(alloc: Global, words: &[&str]) -> Result<Job, WordError>
+    ensures { Gives (cluster_of (map (λ w. w.now) words.now)) result }
+{
+    let [count, base, members @ ..] = words else {
+        return Err(WordError::Bad(Cause::Words));
+    };
+    let peers = number(count.as_bytes(), 1, MOST_PEERS)? as u32;
+    let port = number(base.as_bytes(), 1, MOST_PORT)? as u16;
+    let view = opening(alloc, members, peers)?;
+    Ok(Job::Cluster(ClusterWords { peers, port, view }))
 }
 
 fn is_summary(word: &str) -> Result<bool, Cause>
@@ -43,33 +126,76 @@ fn generator_job(n: &str, c: &str, output: &str) -> Result<Job, Cause>
     })
 }
 
-fn generate_job(verb: &str, n: &str, c: &str, output: &str) -> Result<Job, Cause>
-    ensures { result ≡ generate_of verb.now n.now c.now output.now }
+fn generate_job(words: &[&str]) -> Result<Job, WordError>
+    ensures { Gives (generate_of (map (λ w. w.now) words.now)) result }
 {
-    if verb == "generate" {
-        generator_job(n, c, output)
+    let [n, c, output] = words else {
+        return Err(WordError::Bad(Cause::Words));
+    };
+    Ok(generator_job(n, c, output)?)
+}
+
+fn job(alloc: Global, verb: &str, rest: &[&str]) -> Result<Job, WordError>
+    ensures { Gives (job_of (verb.now ∷ map (λ w. w.now) rest.now)) result }
+{
+    if verb == "replay" {
+        replay_job(rest)
+    } else if verb == "peer" {
+        peer_job(alloc, rest)
+    } else if verb == "cluster" {
+        cluster_job(alloc, rest)
+    } else if verb == "generate" {
+        generate_job(rest)
     } else {
-        Err(Cause::Unknown)
+        Err(WordError::Bad(Cause::Unknown))
     }
 }
 
-fn job(words: &[&str]) -> Result<Job, Cause>
-    ensures { result ≡ job_of (map (λ w. w.now) words.now) }
+/// Returns the job that the words of the matches ask for.
+fn job_of_matches(alloc: Global, matches: &ArgMatches<'_>) -> Result<Job, WordError>
+    ensures { (words : List (List ℕ)) → Splits matches.now words → Gives (job_of words) result }
 {
-    match words {
-        [verb] => replay_job(verb),
-        [verb, n, c, output] => generate_job(verb, n, c, output),
-        _ => Err(Cause::Words),
+    let Some(verb) = matches.get_str("verb") else {
+        return Err(WordError::Bad(Cause::Words));
+    };
+    match matches.get_strs("rest") {
+        Some(rest) => job(alloc, verb, rest),
+        None => job(alloc, verb, &[]),
+    }
+}
+
+fn parse_error(error: &Error) -> WordError
+    ensures { kind_of error.now ≡ ErrorKind.OutOfMemory → result ≡ WordError.Memory }
+{
+    match error.kind() {
+        ErrorKind::OutOfMemory => WordError::Memory,
+        _ => WordError::Bad(Cause::Words),
+    }
+}
+
+fn read(alloc: Global, words: &[&str]) -> Result<Job, WordError>
+    ensures { has_option (map (λ w. w.now) words.now) ≡ false
+        → Gives (job_of (map (λ w. w.now) words.now)) result }
+{
+    match matches_of(alloc, words) {
+        Ok(matches) => job_of_matches(alloc, &matches),
+        Err(error) => Err(parse_error(&error)),
     }
 }
 
 /// Returns the job that the words ask for, or `Usage` exactly if they ask for none. Numbers are in
-/// decimal digits, with no sign, and with no zero in front of another digit.
-pub fn read_words(words: &[&str]) -> Result<Job, WordsError>
+/// decimal digits, with no sign, and with no zero in front of another digit. The members of a view
+/// ascend.
+pub fn read_words(alloc: Global, words: &[&str]) -> Result<Job, WordsError>
     ensures { Reads (map (λ w. w.now) words.now) result }
 {
-    match job(words) {
+    // No form has a word that begins with `-`, and a parse takes it for an option.
+    if has_option(words) {
+        return Err(WordsError::Usage);
+    }
+    match read(alloc, words) {
         Ok(job) => Ok(job),
-        Err(_) => Err(WordsError::Usage),
+        Err(WordError::Bad(_)) => Err(WordsError::Usage),
+        Err(WordError::Memory) => Err(WordsError::Memory),
     }
 }

@@ -1,9 +1,13 @@
-use Rattle.std.proofs.Common.{sym, ◌∙◌}
+use Rattle.std.proofs.Common.{sym}
 use Rattle.ens_words.proofs.Exactly.{job_read, job_refused}
+use Rattle.ens_words.proofs.Plain.{option_refused}
 use Rattle.ens_words.proofs.reading.read_words.Goals as goal
 
-pub returns-in-Ok : goal.returns-in-Ok
-returns-in-Ok c = job_read _ c.in-Ok.job (sym c.job.ensures ∙ c.in-Ok.is)
+pub returns-then-has_option : goal.returns-then-has_option
+returns-then-has_option c = option_refused _ (sym c.if-has_option.ensures)
 
-pub returns-in-Err : goal.returns-in-Err
-returns-in-Err c = job_refused _ c.in-Err.field-0 (sym c.job.ensures ∙ c.in-Err.is)
+pub returns-in-Ok : goal.returns-in-Ok
+returns-in-Ok c = job_read _ c.in-Ok.job (c.in-Ok.ensures (sym c.if-has_option.ensures))
+
+pub returns-in-Err-Bad : goal.returns-in-Err-Bad
+returns-in-Err-Bad c = job_refused _ c.in-Err-Bad.field-0-0 (rw c.in-Err-Bad.field-0-is at (c.in-Err-Bad.ensures (sym c.if-has_option.ensures)))
