@@ -78,8 +78,12 @@ reverts_none (l ∷ ls) peer changes all (inl same) =
     false≢true (ap is_machine_line same ∙ tests.0)
 reverts_none (l ∷ ls) peer changes all (inr at) = reverts_none ls peer changes (both (is_machine_line l) (list_all is_machine_line ls) all).1 at
 
+-- a schedule without a line that reverts a peer is sound
+pub forward_sound : (s : Schedule) → schedule.IsSchedule s → ((peer changes : ℕ) → line.Revert peer changes ∈ s.events → ⊥) → first_unsound s ≡ None
+forward_sound s of none = unreverted_is_none s of (λ p reverted. none p reverted.0 reverted.1)
+
 pub machine_sound : (s : Schedule) → schedule.IsSchedule s → is_machine s ≡ true → first_unsound s ≡ None
-machine_sound s of form = unreverted_is_none s of (λ p reverted. reverts_none s.events p reverted.0 (both (s.peers == 1) (list_all is_machine_line s.events) form).1 reverted.1)
+machine_sound s of form = forward_sound s of (λ peer changes. reverts_none s.events peer changes (both (s.peers == 1) (list_all is_machine_line s.events) form).1)
 
 -- what the machine's run of a schedule prints
 pub machine_done : (s : Schedule) (text : List ℕ) → schedule.IsSchedule s → first_unsound s ≡ None → is_machine s ≡ true → IsMachineText s text → EndsSo s Status.Done text

@@ -7,3 +7,5 @@ pub mod Legal
 pub mod FormSteps
 pub mod Forms
 pub mod Unread
+pub mod Summaries
+pub mod Texts

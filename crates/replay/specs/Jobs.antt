@@ -64,3 +64,11 @@ Prints source status text = ⊥
 -- a job that read this schedule ends with this status and text, whatever its source
 abbrev pub EndsSo : Schedule → Status → List ℕ → Type 0
 EndsSo s status text = (source : Option (List ℕ)) → IfSome source (λ bytes. schedule_of bytes ≡ Ok s) → Prints source status text
+
+-- how a job that read this schedule ends if it runs in a world
+abbrev pub EndsInRun : Schedule → Status → List ℕ → Type 0
+EndsInRun s Status.Done text = IsWorldText s text
+EndsInRun s Status.Limit text = IsPastMessages (schedule_run s) × (text ≡ codes "limit messages 500000" ++ 10 ∷ [])
+EndsInRun s Status.ReadFault text = text ≡ codes "read fault" ++ 10 ∷ []
+EndsInRun s Status.Memory text = text ≡ codes "memory" ++ 10 ∷ []
+EndsInRun s status text = ⊥

@@ -15,7 +15,7 @@ use Rattle.replay.specs.Text.{IsTextOfRun}
 use Rattle.replay.specs.Worlds.{schedule_run}
 use Rattle.world_spec.specs.Messages.{IsPastMessages, IsWithinMessages}
 
--- whether the call was completed
+-- whether the call was completed, as a test of IsDone of register_model
 abbrev pub is_done : Reply → Bool
 is_done (Reply.Value stamp bytes) = true
 is_done Reply.NotFound = true
@@ -23,7 +23,7 @@ is_done (Reply.Ok stamp) = true
 is_done Reply.Failed = true
 is_done reply = false
 
--- whether the call was refused, and had no effect
+-- whether the call was refused, and had no effect, as a test of IsRefused
 abbrev pub is_refused : Reply → Bool
 is_refused Reply.Unavailable = true
 is_refused Reply.Busy = true
@@ -48,7 +48,8 @@ call_count s = count_by is_call s.events
 abbrev pub reply_count : (Reply → Bool) → List Printed → ℕ
 reply_count test printed = count_by (answers_with test) printed
 
--- how many calls were neither completed nor refused
+-- how many calls are left if each answer that completes or refuses a call is that of another one:
+-- those that timed out, and those that were not answered
 abbrev pub unknown_count : Schedule → List Printed → ℕ
 unknown_count s printed = call_count s - (reply_count is_done printed + reply_count is_refused printed)
 

@@ -17,6 +17,7 @@ use ens_outside::{Sink, Source, finish};
 use schedule_input::{Ending, read_schedule};
 use schedule_text::Schedule;
 use std::alloc::{AllocError, Global};
+use std::thread::Threads;
 
 /// Returns the text of the machine's run of a schedule, or `None` if it has another form.
 fn machine_text(alloc: Global, schedule: Schedule) -> Result<Option<String>, AllocError>
@@ -30,14 +31,18 @@ fn machine_text(alloc: Global, schedule: Schedule) -> Result<Option<String>, All
 }
 
 /// Runs a schedule in a world. Ends with `limit` if it would send too many messages.
-fn world_ending(alloc: Global, schedule: &Schedule) -> Result<Ending, AllocError>
+fn world_ending<R: Threads + Sync>(
+    rt: &R,
+    alloc: Global,
+    schedule: &Schedule,
+) -> Result<Ending, AllocError>
     requires valid { IsSchedule schedule.now }
     requires sound { first_unsound schedule.now ≡ None }
     requires form { has_machine_form schedule.now ≡ false }
     ensures ends { IfOk result (λ e. EndsSo schedule.now e.status (string_bytes e.text)) }
     ensures status { IfOk result (λ e. e.status ≢ Status.ReadFault) }
 {
-    match world_text(alloc, schedule)? {
+    match world_text(rt, alloc, schedule)? {
         Some(text) => Ok(Ending {
             status: Status::Done,
             text,
@@ -64,7 +69,11 @@ fn machine_ending(alloc: Global, schedule: Schedule) -> Result<Ending, AllocErro
 }
 
 /// Runs a sound schedule: on the machine if it has its form, and otherwise in a world.
-fn sound_ending(alloc: Global, schedule: Schedule) -> Result<Ending, AllocError>
+fn sound_ending<R: Threads + Sync>(
+    rt: &R,
+    alloc: Global,
+    schedule: Schedule,
+) -> Result<Ending, AllocError>
     requires valid { IsSchedule schedule }
     requires sound { first_unsound schedule ≡ None }
     ensures ends { IfOk result (λ e. EndsSo schedule e.status (string_bytes e.text)) }
@@ -73,32 +82,40 @@ fn sound_ending(alloc: Global, schedule: Schedule) -> Result<Ending, AllocError>
     if is_machine(&schedule) {
         machine_ending(alloc, schedule)
     } else {
-        world_ending(alloc, &schedule)
+        world_ending(rt, alloc, &schedule)
     }
 }
 
 /// Returns how the job ends that read this schedule: with the first view that fails the premise if
 /// there is one, and otherwise with its run.
-fn run_ending(alloc: Global, schedule: Schedule) -> Result<Ending, AllocError>
+fn run_ending<R: Threads + Sync>(
+    rt: &R,
+    alloc: Global,
+    schedule: Schedule,
+) -> Result<Ending, AllocError>
     requires { IsSchedule schedule }
     ensures ends { IfOk result (λ e. EndsSo schedule e.status (string_bytes e.text)) }
     ensures status { IfOk result (λ e. e.status ≢ Status.ReadFault) }
 {
     match Ending::unsound(alloc, &schedule)? {
         Some(ending) => Ok(ending),
-        None => sound_ending(alloc, schedule),
+        None => sound_ending(rt, alloc, schedule),
     }
 }
 
 /// Returns the ending of a replay of the input. Fails when out of memory.
 #[tactic(auto, using(crate::proofs::Unread::unread_prints))]
-fn replay_ending<S: Source>(alloc: Global, input: &mut S) -> Result<Ending, AllocError>
+fn replay_ending<S: Source, R: Threads + Sync>(
+    rt: &R,
+    alloc: Global,
+    input: &mut S,
+) -> Result<Ending, AllocError>
     ensures printed { IfOk result (λ e. Prints (S.left input.old) e.status (string_bytes e.text)) }
     ensures end { IfOk result (λ e. e.status ≡ Status.Done → IsAtEnd (S.left input.new)) }
     ensures read { IfOk result (λ e. e.status ≡ Status.ReadFault → Rose (S.fault_count input.old) (S.fault_count input.new)) }
 {
     match read_schedule(alloc, input) {
-        Ok(schedule) => run_ending(alloc, schedule),
+        Ok(schedule) => run_ending(rt, alloc, schedule),
         Err(error) => Ending::unread(alloc, error),
     }
 }
@@ -111,14 +128,19 @@ fn replay_ending<S: Source>(alloc: Global, input: &mut S) -> Result<Ending, Allo
 /// `premise VIEW reverted MEMBERS` if at least half of the members of a view are reverted, `limit
 /// messages 500000` if its run would send more messages, and `memory` when out of memory. If the
 /// output fails, a prefix of the text was written.
-pub fn replay<S: Source, O: Sink>(alloc: Global, input: &mut S, output: &mut O) -> Status
+pub fn replay<S: Source, O: Sink, R: Threads + Sync>(
+    rt: &R,
+    alloc: Global,
+    input: &mut S,
+    output: &mut O,
+) -> Status
     ensures printed { result ≢ Status.WriteFault → (text : List ℕ) × Prints (S.left input.old) result text × Appends (O.written output.old) (O.written output.new) text }
     ensures front { result ≡ Status.WriteFault → (status : Status) × (text : List ℕ) × Prints (S.left input.old) status text × AppendsFront (O.written output.old) (O.written output.new) text }
     ensures end { result ≡ Status.Done → IsAtEnd (S.left input.new) }
     ensures read { result ≡ Status.ReadFault → Rose (S.fault_count input.old) (S.fault_count input.new) }
     ensures write { result ≡ Status.WriteFault → Rose (O.fault_count output.old) (O.fault_count output.new) }
 {
-    match replay_ending(alloc, input) {
+    match replay_ending(rt, alloc, input) {
         Ok(ending) => finish(output, ending.text.as_str(), ending.status),
         Err(_) => finish(output, "memory\n", Status::Memory),
     }

@@ -21,5 +21,7 @@ mod worlds;
 
 pub use event::Event;
 pub use job::replay;
-pub use laws::machines_are_sound;
+pub use laws::{
+    a_run_has_one_text, a_text_is_replayed, machines_are_sound, summaries_count_by_histories,
+};
 pub use worlds::summarize;

@@ -1,6 +1,7 @@
 ghost use Rattle.std.specs.Prelude.{◌≡◌, IfOk, MatchOption, string_bytes};
 ghost use Rattle.schedule_text.specs.Spelling.{IsSchedule};
 ghost use Rattle.replay.specs.Text.{IsTextOfRun};
+ghost use Rattle.world_model.specs.Worlds.{run_of};
 ghost use Rattle.world_spec.specs.Messages.{IsPastMessages, IsWithinMessages};
 ghost use Rattle.replay.specs.Worlds.{schedule_run};
 ghost use Rattle.replay.specs.Summary.{EndsInSummary, IsSummary};
@@ -12,16 +13,29 @@ use ens_hashing::PlainHasher;
 use schedule_input::Ending;
 use schedule_text::Schedule;
 use std::alloc::{AllocError, Global};
+use std::thread::Threads;
 use world_model::{World, WorldError};
+
+/// Returns the text that the run of a world prints, followed by a history for each key.
+fn run_text(alloc: Global, world: &World) -> Result<String, AllocError>
+    ensures { IfOk result (λ text. IsTextOfRun (run_of world.now) (string_bytes text)) }
+{
+    let histories = world.histories(alloc)?;
+    write_run(alloc, world.printed(), &histories)
+}
 
 /// Returns the text that the run of a schedule prints, followed by a history for each key, or
 /// `None` if the run would send more than 500,000 messages.
-pub fn world_text(alloc: Global, schedule: &Schedule) -> Result<Option<String>, AllocError>
+pub fn world_text<R: Threads + Sync>(
+    rt: &R,
+    alloc: Global,
+    schedule: &Schedule,
+) -> Result<Option<String>, AllocError>
     requires { IsSchedule schedule.now }
     ensures { IfOk result (λ o. MatchOption o (IsPastMessages (schedule_run schedule.now)) (λ text. IsWithinMessages (schedule_run schedule.now) × IsTextOfRun (schedule_run schedule.now) (string_bytes text))) }
 {
     let mut hasher = PlainHasher;
-    match World::run(alloc, schedule, &mut hasher) {
+    match World::run(rt, alloc, schedule, &mut hasher) {
         Ok(world) => {
             let histories = world.histories(alloc)?;
             Ok(Some(write_run(alloc, world.printed(), &histories)?))
@@ -34,15 +48,18 @@ pub fn world_text(alloc: Global, schedule: &Schedule) -> Result<Option<String>, 
 
 /// Returns the summary of the run of a schedule, or `None` if the run would send more than 500,000
 /// messages.
-fn world_summary(alloc: Global, schedule: &Schedule) -> Result<Option<String>, AllocError>
+fn world_summary<R: Threads + Sync>(
+    rt: &R,
+    alloc: Global,
+    schedule: &Schedule,
+) -> Result<Option<String>, AllocError>
     requires { IsSchedule schedule.now }
     ensures { IfOk result (λ o. MatchOption o (IsPastMessages (schedule_run schedule.now)) (λ text. IsSummary schedule.now (string_bytes text))) }
 {
     let mut hasher = PlainHasher;
-    match World::run(alloc, schedule, &mut hasher) {
+    match World::run(rt, alloc, schedule, &mut hasher) {
         Ok(world) => {
-            let histories = world.histories(alloc)?;
-            let text = write_run(alloc, world.printed(), &histories)?;
+            let text = run_text(alloc, &world)?;
             Ok(Some(write_summary(alloc, schedule, world.printed(), text.as_str())?))
         }
         Err(WorldError::MessageLimit) => Ok(None),
@@ -55,11 +72,15 @@ fn world_summary(alloc: Global, schedule: &Schedule) -> Result<Option<String>, A
 /// and the events of the schedule, the calls that were completed, those that were refused and the
 /// rest, and the MD5 of the text that the run prints. Ends with `limit messages 500000` if the run
 /// would send more messages. Fails when out of memory.
-pub fn summarize(alloc: Global, schedule: &Schedule) -> Result<Ending, AllocError>
+pub fn summarize<R: Threads + Sync>(
+    rt: &R,
+    alloc: Global,
+    schedule: &Schedule,
+) -> Result<Ending, AllocError>
     requires { IsSchedule schedule.now }
     ensures { IfOk result (λ e. EndsInSummary schedule.now e.status (string_bytes e.text)) }
 {
-    match world_summary(alloc, schedule)? {
+    match world_summary(rt, alloc, schedule)? {
         Some(text) => Ok(Ending {
             status: Status::Done,
             text,
