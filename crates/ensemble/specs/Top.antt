@@ -1,13 +1,27 @@
 -- The jobs, and what the program prints.
 use Rattle.std.specs.Prelude.{◌≡◌, ℕ, true, false, List, [], ◌∷◌, ◌++◌, codes, Option}
 use Rattle.ens_base.specs.declared.status.Status.{Status}
-use Rattle.ens_words.specs.Forms.{AreForm, IsJob, words_of}
+use Rattle.ens_words.specs.Forms.{AskFor}
 use Rattle.ens_words.specs.declared.job.Job.{Job}
-use Rattle.ens_words.specs.declared.job.Job.TheVariants.{Replay, Generate}
+use Rattle.ens_words.specs.declared.job.Job.TheVariants.{Replay, Peer, Cluster, Generate}
 use Rattle.replay.specs.Jobs.{Prints}
 use Rattle.replay.specs.Summary.{EndsInSummary}
 use Rattle.schedule_generator.specs.Generated.{generate}
 use Rattle.schedule_text.specs.Spelling.{schedule_text}
+
+-- the jobs that the program runs: a peer of its own, and peers over a network, are not built yet
+abbrev pub IsBuilt : Job → Type 0
+IsBuilt (Peer words) = ⊥
+IsBuilt (Cluster words) = ⊥
+IsBuilt job = Unit {0}
+
+-- the words ask for none of these jobs
+abbrev pub AskForNone : List (List ℕ) → Type 0
+AskForNone words = (job : Job) → AskFor words job → ¬ IsBuilt job
+
+-- the text reports that the words ask for none of these jobs
+abbrev pub IsUsageText : List ℕ → Type 0
+IsUsageText text = text ≡ codes "usage" ++ 10 ∷ []
 
 -- the text reports that memory ran out
 abbrev pub IsMemoryText : List ℕ → Type 0
@@ -24,14 +38,22 @@ abbrev pub PrintsSummary : ℕ → ℕ → Status → List ℕ → Type 0
 PrintsSummary number calls Status.Memory text = IsMemoryText text
 PrintsSummary number calls status text = EndsInSummary (generate number calls) status text
 
+-- a job that is not built ends with the usage line
+abbrev pub DoesNothing : Status → List ℕ → Type 0
+DoesNothing Status.Usage text = IsUsageText text
+DoesNothing status text = ⊥
+
 -- the text that a job prints, for each status; only a replay reads the source
 abbrev pub Does : Job → Option (List ℕ) → Status → List ℕ → Type 0
 Does Replay source status text = Prints source status text
+Does (Peer words) source status text = DoesNothing status text
+Does (Cluster words) source status text = DoesNothing status text
 Does (Generate number calls false) source status text = PrintsSchedule number calls status text
 Does (Generate number calls true) source status text = PrintsSummary number calls status text
 
--- the text that the program prints, for each status: a usage line if the words ask for no job, and
--- otherwise what the job prints
+-- the text that the program prints, for each status: a usage line if the words ask for no job that
+-- it runs, and otherwise what the job prints, unless memory runs out
 abbrev pub Ends : List (List ℕ) → Option (List ℕ) → Status → List ℕ → Type 0
-Ends words source Status.Usage text = ¬ AreForm words × (text ≡ codes "usage" ++ 10 ∷ [])
-Ends words source status text = (job : Job) × IsJob job × (words ≡ words_of job) × Does job source status text
+Ends words source Status.Usage text = AskForNone words × IsUsageText text
+Ends words source Status.Memory text = IsMemoryText text
+Ends words source status text = (job : Job) × AskFor words job × Does job source status text

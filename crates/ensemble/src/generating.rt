@@ -15,6 +15,7 @@ use schedule_generator::generate;
 use schedule_input::Ending;
 use schedule_text::write_schedule;
 use std::alloc::{AllocError, Global};
+use std::thread::Threads;
 
 /// Returns the text of the schedule that is generated.
 fn generated_text(alloc: Global, number: u64, calls: u64) -> Result<Vec<u8>, AllocError>
@@ -45,23 +46,34 @@ pub fn print_generated<O: Sink>(alloc: Global, number: u64, calls: u64, output: 
 }
 
 /// Returns how a summary of the run of the generated schedule ends.
-fn summary_ending(alloc: Global, number: u64, calls: u64) -> Result<Ending, AllocError>
+fn summary_ending<R: Threads + Sync>(
+    rt: &R,
+    alloc: Global,
+    number: u64,
+    calls: u64,
+) -> Result<Ending, AllocError>
     requires { calls ≤ 20000 }
     ensures { IfOk result (λ e. EndsInSummary (generated number calls) e.status (string_bytes e.text)) }
 {
     let schedule = generate(alloc, number, calls)?;
-    summarize(alloc, &schedule)
+    summarize(rt, alloc, &schedule)
 }
 
 /// Writes the summary of the run of the schedule of 1 to 20,000 calls that is generated from a
 /// number.
-pub fn print_summary<O: Sink>(alloc: Global, number: u64, calls: u64, output: &mut O) -> Status
+pub fn print_summary<O: Sink, R: Threads + Sync>(
+    rt: &R,
+    alloc: Global,
+    number: u64,
+    calls: u64,
+    output: &mut O,
+) -> Status
     requires { calls ≤ 20000 }
     ensures printed { result ≢ Status.WriteFault → (text : List ℕ) × PrintsSummary number calls result text × Appends (O.written output.old) (O.written output.new) text }
     ensures front { result ≡ Status.WriteFault → (status : Status) × (text : List ℕ) × PrintsSummary number calls status text × AppendsFront (O.written output.old) (O.written output.new) text }
     ensures write { result ≡ Status.WriteFault → Rose (O.fault_count output.old) (O.fault_count output.new) }
 {
-    match summary_ending(alloc, number, calls) {
+    match summary_ending(rt, alloc, number, calls) {
         Ok(ending) => finish(output, ending.text.as_str(), ending.status),
         Err(_) => finish(output, "memory\n", Status::Memory),
     }

@@ -7,6 +7,7 @@
 #![tactic(auto)]
 
 mod generating;
+mod laws;
 mod top;
 
 use ens_base::Status;
@@ -37,7 +38,7 @@ fn main(rt: HostRuntime) -> ExitCode {
     let mut output = WriterSink::new(rt.stdout());
     let Ok(args) = env::args(&rt) else {
         // An argument that is not valid text makes the command line invalid.
-        let status = ensemble_main(alloc, &[], &mut input, &mut output);
+        let status = ensemble_main(&rt, alloc, &[], &mut input, &mut output);
         return ExitCode::from(status.number());
     };
     let Ok(all) = args.collect::<Vec<String>>(alloc) else {
@@ -46,9 +47,11 @@ fn main(rt: HostRuntime) -> ExitCode {
     let Ok(words) = words_of(alloc, &all) else {
         return out_of_memory(&mut output);
     };
-    ExitCode::from(ensemble_main(alloc, &words, &mut input, &mut output).number())
+    ExitCode::from(ensemble_main(&rt, alloc, &words, &mut input, &mut output).number())
 }
 
+#[cfg(test)]
+mod generate_tests;
 #[cfg(test)]
 mod replay_tests;
 #[cfg(test)]

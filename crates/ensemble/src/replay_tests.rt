@@ -3,6 +3,7 @@ use ens_outside::{MemSink, MemSource};
 use replay::replay;
 use std::alloc::Global;
 use std::test::Fail;
+use std::thread::Threads;
 
 /// The event lines of a schedule of one peer, and what a replay of it has to print, with the status.
 #[derive(Clone, Copy)]
@@ -37,10 +38,14 @@ const fn unsound(lines: &'static str, text: &'static str) -> Case {
 }
 
 /// The status of a replay of the schedule, and what it wrote.
-fn replayed(alloc: Global, schedule: &str) -> Result<(Status, MemSink), Fail> {
+fn replayed<R: Threads + Sync>(
+    rt: &R,
+    alloc: Global,
+    schedule: &str,
+) -> Result<(Status, MemSink), Fail> {
     let mut input = MemSource::new(schedule.as_bytes().to_vec(alloc)?, Vec::new(alloc));
     let mut output = MemSink::new(alloc, 500, Vec::new(alloc))?;
-    let status = replay(alloc, &mut input, &mut output);
+    let status = replay(rt, alloc, &mut input, &mut output);
     Ok((status, output))
 }
 
@@ -83,7 +88,7 @@ fn schedules_print_their_text(rt: HostRuntime) -> Result<(), Fail> {
     ];
     for case in cases {
         let schedule = format!(in alloc; "ensemble 1\npeers 1\nview 1\n{}", case.lines)?;
-        let (status, output) = replayed(alloc, &schedule)?;
+        let (status, output) = replayed(&rt, alloc, &schedule)?;
         assert_eq!(rt; status, case.status, "{schedule}");
         assert_eq!(rt; output.bytes(), case.text.as_bytes(), "{schedule}");
     }
@@ -94,7 +99,7 @@ fn schedules_print_their_text(rt: HostRuntime) -> Result<(), Fail> {
 fn an_election_prints_nothing(rt: HostRuntime) -> Result<(), Fail> {
     let schedule =
         "ensemble 1\npeers 3\nview 1 2 3\ntick 1 6\npass 1 2\nlose 1 3\ndeliver 1\ncalm 1 2\ntick 3 6\ncalm\n";
-    let (status, output) = replayed(rt.alloc(), schedule)?;
+    let (status, output) = replayed(&rt, rt.alloc(), schedule)?;
     assert_eq!(rt; status, Status::Done);
     assert_eq!(rt; output.bytes(), b"".as_slice());
     Ok(())
@@ -111,7 +116,7 @@ fn a_leader_of_nine_comes_to_the_limit_of_messages(rt: HostRuntime) -> Result<()
     for _line in 0..625 {
         schedule.push_str("tick 1 100\n")?;
     }
-    let (status, output) = replayed(alloc, &schedule)?;
+    let (status, output) = replayed(&rt, alloc, &schedule)?;
     assert_eq!(rt; status, Status::Limit);
     assert_eq!(rt; output.bytes(), b"limit messages 500000\n".as_slice());
     Ok(())

@@ -40,7 +40,7 @@ fn each_status_has_its_case(rt: HostRuntime) -> Result<(), Fail> {
         let mut input = MemSource::new(schedule.as_bytes().to_vec(alloc)?, vec![in alloc; read]?);
         let mut output = MemSink::new(alloc, 200, vec![in alloc; write]?)?;
         assert_eq!(rt;
-            ensemble_main(alloc, words, &mut input, &mut output),
+            ensemble_main(&rt, alloc, words, &mut input, &mut output),
             status
         );
         assert_eq!(rt; output.bytes(), text.as_bytes());
@@ -55,7 +55,7 @@ fn a_front_is_written_where_the_output_fails_on_the_way(rt: HostRuntime) -> Resu
     let alloc = rt.alloc();
     let mut input = MemSource::new(SCHEDULE.as_bytes().to_vec(alloc)?, Vec::new(alloc));
     let mut output = MemSink::new(alloc, 8, Vec::new(alloc))?;
-    let status = ensemble_main(alloc, &["replay"], &mut input, &mut output);
+    let status = ensemble_main(&rt, alloc, &["replay"], &mut input, &mut output);
     assert_eq!(rt; status, Status::WriteFault);
     assert_eq!(rt; output.bytes(), b"answer 1".as_slice());
     Ok(())

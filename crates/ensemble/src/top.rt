@@ -13,25 +13,34 @@ use ens_outside::{Sink, Source, finish};
 use ens_words::{Job, WordsError, read_words};
 use replay::replay;
 use std::alloc::Global;
+use std::thread::Threads;
 
 /// Runs a job on this input and output. Returns the status.
-fn run_job<S: Source, O: Sink>(alloc: Global, job: Job, input: &mut S, output: &mut O) -> Status
+fn run_job<S: Source, O: Sink, R: Threads + Sync>(
+    rt: &R,
+    alloc: Global,
+    job: Job,
+    input: &mut S,
+    output: &mut O,
+) -> Status
     requires { IsJob job }
     ensures printed { result ≢ Status.WriteFault → (text : List ℕ) × Does job (S.left input.old) result text × Appends (O.written output.old) (O.written output.new) text }
     ensures front { result ≡ Status.WriteFault → (status : Status) × (text : List ℕ) × Does job (S.left input.old) status text × AppendsFront (O.written output.old) (O.written output.new) text }
     ensures end { job ≡ Replay → result ≡ Status.Done → IsAtEnd (S.left input.new) }
+    ensures untouched { job ≢ Replay → input.new ≡ input.old }
     ensures read { result ≡ Status.ReadFault → Rose (S.fault_count input.old) (S.fault_count input.new) }
     ensures write { result ≡ Status.WriteFault → Rose (O.fault_count output.old) (O.fault_count output.new) }
 {
     match job {
-        Job::Replay => replay(alloc, input, output),
+        Job::Replay => replay(rt, alloc, input, output),
+        Job::Peer(_) | Job::Cluster(_) => finish(output, "usage\n", Status::Usage),
         Job::Generate {
             number,
             calls,
             summary,
         } => {
             if summary {
-                print_summary(alloc, number, calls, output)
+                print_summary(rt, alloc, number, calls, output)
             } else {
                 print_generated(alloc, number, calls, output)
             }
@@ -44,8 +53,9 @@ fn run_job<S: Source, O: Sink>(alloc: Global, job: Job, input: &mut S, output: &
 /// The argument `replay` reads a schedule, and writes what its run prints and one history for each
 /// key. `generate NUMBER CALLS schedule` writes the schedule of 1 to 20,000 calls that is generated
 /// from a number, and `generate NUMBER CALLS summary` the six lines that sum up its run. Any other
-/// arguments are a usage error.
-pub fn ensemble_main<S: Source, O: Sink>(
+/// arguments are a usage error, and so far the forms of `peer` and `cluster` are one too.
+pub fn ensemble_main<S: Source, O: Sink, R: Threads + Sync>(
+    rt: &R,
     alloc: Global,
     words: &[&str],
     input: &mut S,
@@ -57,11 +67,14 @@ pub fn ensemble_main<S: Source, O: Sink>(
     // A prefix of that text, if the output failed.
     ensures front { result ≡ Status.WriteFault → (status : Status) × (text : List ℕ) × Ends (map (λ w. w.now) words.now) (S.left input.old) status text × AppendsFront (O.written output.old) (O.written output.new) text }
     ensures end { map (λ w. w.now) words.now ≡ codes "replay" ∷ [] → result ≡ Status.Done → IsAtEnd (S.left input.new) }
+    // Only a replay reads the input.
+    ensures untouched { map (λ w. w.now) words.now ≢ codes "replay" ∷ [] → input.new ≡ input.old }
     ensures read { result ≡ Status.ReadFault → Rose (S.fault_count input.old) (S.fault_count input.new) }
     ensures write { result ≡ Status.WriteFault → Rose (O.fault_count output.old) (O.fault_count output.new) }
 {
-    match read_words(words) {
-        Ok(job) => run_job(alloc, job, input, output),
+    match read_words(alloc, words) {
+        Ok(job) => run_job(rt, alloc, job, input, output),
         Err(WordsError::Usage) => finish(output, "usage\n", Status::Usage),
+        Err(WordsError::Memory) => finish(output, "memory\n", Status::Memory),
     }
 }
