@@ -18,16 +18,21 @@ use ens_outside::{Sink, Source, finish};
 use schedule_input::{Ending, read_schedule};
 use schedule_text::Schedule;
 use std::alloc::{AllocError, Global};
+use std::thread::Threads;
 use world_model::{World, WorldError};
 
 /// Returns the lines of all messages that the run of a schedule sends, or `None` if it would send
 /// more than 500,000.
-fn run_text(alloc: Global, schedule: &Schedule) -> Result<Option<String>, AllocError>
+fn run_text<R: Threads + Sync>(
+    rt: &R,
+    alloc: Global,
+    schedule: &Schedule,
+) -> Result<Option<String>, AllocError>
     requires { IsSchedule schedule.now }
     ensures { IfOk result (λ o. MatchOption o (IsPastMessages (schedule_run schedule.now)) (λ text. IsWithinMessages (schedule_run schedule.now) × (string_bytes text ≡ trace_text (schedule_run schedule.now).mail.sent))) }
 {
     let mut hasher = PlainHasher;
-    match World::run(alloc, schedule, &mut hasher) {
+    match World::run(rt, alloc, schedule, &mut hasher) {
         Ok(world) => Ok(Some(write_trace(alloc, world.sent())?)),
         Err(WorldError::MessageLimit) => Ok(None),
         Err(WorldError::Memory) => Err(AllocError),
@@ -36,13 +41,17 @@ fn run_text(alloc: Global, schedule: &Schedule) -> Result<Option<String>, AllocE
 }
 
 /// Returns the ending with the messages of a sound schedule, or with the limit that its run exceeds.
-fn sound_ending(alloc: Global, schedule: &Schedule) -> Result<Ending, AllocError>
+fn sound_ending<R: Threads + Sync>(
+    rt: &R,
+    alloc: Global,
+    schedule: &Schedule,
+) -> Result<Ending, AllocError>
     requires valid { IsSchedule schedule.now }
     requires sound { first_unsound schedule.now ≡ None }
     ensures printed { IfOk result (λ e. (source : Option (List ℕ)) → IfSome source (λ bytes. schedule_of bytes ≡ Ok schedule.now) → Traces source e.status (string_bytes e.text)) }
     ensures status { IfOk result (λ e. e.status ≢ Status.ReadFault) }
 {
-    match run_text(alloc, schedule)? {
+    match run_text(rt, alloc, schedule)? {
         Some(text) => Ok(Ending {
             status: Status::Done,
             text,
@@ -52,26 +61,34 @@ fn sound_ending(alloc: Global, schedule: &Schedule) -> Result<Ending, AllocError
 }
 
 /// Returns the ending with the messages of a schedule, or with the reason why there are none.
-fn run_ending(alloc: Global, schedule: &Schedule) -> Result<Ending, AllocError>
+fn run_ending<R: Threads + Sync>(
+    rt: &R,
+    alloc: Global,
+    schedule: &Schedule,
+) -> Result<Ending, AllocError>
     requires { IsSchedule schedule.now }
     ensures printed { IfOk result (λ e. (source : Option (List ℕ)) → IfSome source (λ bytes. schedule_of bytes ≡ Ok schedule.now) → Traces source e.status (string_bytes e.text)) }
     ensures status { IfOk result (λ e. e.status ≢ Status.ReadFault) }
 {
     match Ending::unsound(alloc, schedule)? {
         Some(ending) => Ok(ending),
-        None => sound_ending(alloc, schedule),
+        None => sound_ending(rt, alloc, schedule),
     }
 }
 
 /// Returns the ending of a trace of the input. Fails when out of memory.
 #[tactic(auto, using(crate::proofs::Unread::unread_traces))]
-fn trace_ending<S: Source>(alloc: Global, input: &mut S) -> Result<Ending, AllocError>
+fn trace_ending<S: Source, R: Threads + Sync>(
+    rt: &R,
+    alloc: Global,
+    input: &mut S,
+) -> Result<Ending, AllocError>
     ensures printed { IfOk result (λ e. Traces (S.left input.old) e.status (string_bytes e.text)) }
     ensures end { IfOk result (λ e. e.status ≡ Status.Done → IsAtEnd (S.left input.new)) }
     ensures read { IfOk result (λ e. e.status ≡ Status.ReadFault → Rose (S.fault_count input.old) (S.fault_count input.new)) }
 {
     match read_schedule(alloc, input) {
-        Ok(schedule) => run_ending(alloc, &schedule),
+        Ok(schedule) => run_ending(rt, alloc, &schedule),
         Err(error) => Ending::unread(alloc, error),
     }
 }
@@ -85,14 +102,19 @@ fn trace_ending<S: Source>(alloc: Global, input: &mut S) -> Result<Ending, Alloc
 /// `premise VIEW reverted MEMBERS` if at least half of the members of a view are reverted, `limit
 /// messages 500000` if its run would send more messages, and `memory` when out of memory. If the
 /// output fails, a prefix of the text was written.
-pub fn trace<S: Source, O: Sink>(alloc: Global, input: &mut S, output: &mut O) -> Status
+pub fn trace<S: Source, O: Sink, R: Threads + Sync>(
+    rt: &R,
+    alloc: Global,
+    input: &mut S,
+    output: &mut O,
+) -> Status
     ensures printed { result ≢ Status.WriteFault → (text : List ℕ) × Traces (S.left input.old) result text × Appends (O.written output.old) (O.written output.new) text }
     ensures front { result ≡ Status.WriteFault → (status : Status) × (text : List ℕ) × Traces (S.left input.old) status text × AppendsFront (O.written output.old) (O.written output.new) text }
     ensures end { result ≡ Status.Done → IsAtEnd (S.left input.new) }
     ensures read { result ≡ Status.ReadFault → Rose (S.fault_count input.old) (S.fault_count input.new) }
     ensures write { result ≡ Status.WriteFault → Rose (O.fault_count output.old) (O.fault_count output.new) }
 {
-    match trace_ending(alloc, input) {
+    match trace_ending(rt, alloc, input) {
         Ok(ending) => finish(output, ending.text.as_str(), ending.status),
         Err(_) => finish(output, "memory\n", Status::Memory),
     }

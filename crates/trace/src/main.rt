@@ -17,7 +17,7 @@ fn main(rt: HostRuntime) -> ExitCode {
     let alloc = rt.alloc();
     let mut input = ReaderSource::new(rt.stdin());
     let mut output = WriterSink::new(rt.stdout());
-    ExitCode::from(trace(alloc, &mut input, &mut output).number())
+    ExitCode::from(trace(&rt, alloc, &mut input, &mut output).number())
 }
 
 #[cfg(test)]

@@ -31,7 +31,11 @@ fn each_status_has_its_case(rt: HostRuntime) -> Result<(), Fail> {
         let schedule = format!(in alloc; "ensemble 1\npeers 3\nview 1 2 3\n{lines}")?;
         let mut input = MemSource::new(schedule.as_bytes().to_vec(alloc)?, vec![in alloc; read]?);
         let mut output = MemSink::new(alloc, 200, Vec::new(alloc))?;
-        assert_eq!(rt; trace(alloc, &mut input, &mut output), status, "{schedule}");
+        assert_eq!(rt;
+            trace(&rt, alloc, &mut input, &mut output),
+            status,
+            "{schedule}"
+        );
         assert_eq!(rt; output.bytes(), text.as_bytes(), "{schedule}");
     }
     Ok(())
@@ -43,7 +47,10 @@ fn a_front_is_written_where_the_output_fails_on_the_way(rt: HostRuntime) -> Resu
     let schedule = "ensemble 1\npeers 3\nview 1 2 3\ntick 1 6\n";
     let mut input = MemSource::new(schedule.as_bytes().to_vec(alloc)?, Vec::new(alloc));
     let mut output = MemSink::new(alloc, 8, Vec::new(alloc))?;
-    assert_eq!(rt; trace(alloc, &mut input, &mut output), Status::WriteFault);
+    assert_eq!(rt;
+        trace(&rt, alloc, &mut input, &mut output),
+        Status::WriteFault
+    );
     assert_eq!(rt; output.bytes(), b"1 1 2 52".as_slice());
     Ok(())
 }
