@@ -1,6 +1,6 @@
 -- Rule 29 and the replies to a read are moves of the theory.
 use Rattle.std.specs.Prelude.{All, max}
-use Rattle.std.proofs.Common.{◌≡◌, inl, inr, ℕ, suc, ◌+◌, ◌==◌, Bool, true, false, if◌then◌else◌, List, [], Option, Some, None, eqb-true, refl, sym, subst, ◌∙◌}
+use Rattle.std.proofs.Common.{◌≡◌, ◌⊎◌, inl, inr, ℕ, suc, ◌+◌, ◌==◌, Bool, true, false, if◌then◌else◌, List, [], Option, Some, None, eqb-true, refl, sym, subst, ◌∙◌}
 use Rattle.std.proofs.lemmas.Bool.{and_parts}
 use Rattle.std.proofs.lemmas.List.{append-nil}
 use Rattle.std.proofs.lemmas.List.Elements.{All-nil}
@@ -32,6 +32,7 @@ use Rattle.leader_words.specs.declared.out.Own.TheVariants.{Look}
 use Rattle.leading.specs.Leaders.{stands, is_spent}
 use Rattle.leading.specs.Rounds.{counts, asked, asked_for, heard}
 use Rattle.leading.specs.declared.leader.Leader.{Leader}
+use Rattle.leading.proofs.Steps.{free as ready_free}
 use Rattle.leading.specs.declared.pending.Pending.{Pending}
 use Rattle.leading.specs.declared.pending.Pending.TheVariants as tasks
 use Rattle.leader_laws.proofs.Moves.{reply_counts}
@@ -43,20 +44,20 @@ use Rattle.leader_laws.specs.Messages.{GetSays, GetReplySays}
 use Rattle.leader_laws.specs.Moves.{IsLeaderMove}
 use Rattle.leader_laws.specs.Tables as theory
 use Rattle.leader_laws.specs.Tables.{Ghosts, Owed, Seat}
-use Rattle.leader_refinement.proofs.Base.{AreElsewhere, row_of_work, finish, no_move, rests_so, stands_elsewhere, stage_row, staged_fits, set_here, off_same}
+use Rattle.leader_refinement.proofs.Base.{AreElsewhere, row_of_work, finish, no_move, rests_so, stands_elsewhere, stage_row, staged_fits, calm_staged, set_here, off_same}
 use Rattle.leader_refinement.proofs.Numbers.{plus_one, same_epochs}
-use Rattle.leader_refinement.proofs.Orders.{better_seen, better_fits}
+use Rattle.leader_refinement.proofs.Orders.{IsBetter, better_seen, better_fits, better_names}
 use Rattle.leader_refinement.proofs.Votes.{answered_fewer, begun_fewer, answered_on, begun_on, sent_say}
 use Rattle.leader_refinement.specs.Seen.{known_of, voters, best_rank, best_object, entry_rank, shown, waiting_behind, row_parts, row_seen, table_of}
-use Rattle.leader_refinement.specs.Follows.{StageFits, FoundFits, IsOn, TaskHolds, IsAtWork, LeaderFits, Follows, GoesOn, SentSays}
-use Rattle.leader_refinement.specs.Laws.{EntryFits, IsOneEntry, LookSays, looked_next, ReadsStart, ReadsCount}
+use Rattle.leader_refinement.specs.Follows.{StageFits, FoundFits, FoundNames, IsOn, TaskHolds, IsAtWork, LeaderFits, Follows, GoesOn, SentSays}
+use Rattle.leader_refinement.specs.Laws.{EntryFits, LookSays, LookNames, looked_next, ReadsStart, ReadsCount}
 
 -- ## Rows
 
--- what fewer replies say holds too
-read_fewer : (g : Ghosts) (s : State) (p : Seat) (d : ℕ) (key : List ℕ) (known : theory.Known) (rest : List ℕ) (i r : ℕ) (replied fewer : ℕ → Bool) (best : ℕ) (object : Option theory.Object) → ((q : ℕ) → fewer q ≡ true → replied q ≡ true)
-    → RowHolds g s p d key (theory.row_of known (theory.Reading i r replied best object) rest) → RowHolds g s p d key (theory.row_of known (theory.Reading i r fewer best object) rest)
-read_fewer g s p d key known rest i r replied fewer best object less a = record {
+-- what fewer replies say holds too, and so does any object of the best entry
+read_fewer : (g : Ghosts) (s : State) (p : Seat) (d : ℕ) (key : List ℕ) (known : theory.Known) (rest : List ℕ) (i r : ℕ) (replied fewer : ℕ → Bool) (best : ℕ) (object other : Option theory.Object) → ((q : ℕ) → fewer q ≡ true → replied q ≡ true) → ((x : theory.Object) → other ≡ Some x → IsObjectOf s best x)
+    → RowHolds g s p d key (theory.row_of known (theory.Reading i r replied best object) rest) → RowHolds g s p d key (theory.row_of known (theory.Reading i r fewer best other) rest)
+read_fewer g s p d key known rest i r replied fewer best object other less holds a = record {
   known = λ n. a.known refl;
   stage = record {
     turn = a.stage.turn;
@@ -66,7 +67,7 @@ read_fewer g s p d key known rest i r replied fewer best object less a = record 
     given = λ q t. a.stage.given q (less q t);
     stood = λ q t. a.stage.stood q (less q t);
     settled = λ q t. a.stage.settled q (less q t);
-    holds = a.stage.holds;
+    holds = holds;
   };
   calls = a.calls;
   waiting = a.waiting;
@@ -74,21 +75,27 @@ read_fewer g s p d key known rest i r replied fewer best object less a = record 
 }
 
 -- a reply is counted, as the program counts it
-read_counts : (g : Ghosts) (s : State) (p : Seat) (d : ℕ) (key : List ℕ) (known : theory.Known) (rest : List ℕ) (i r : ℕ) (replied fewer : ℕ → Bool) (best : Option Found) (from : ℕ) (entry : Option Entry) (object : Option Object) → ((q : ℕ) → fewer q ≡ true → put replied from true q ≡ true) → FoundFits best → EntryFits entry → IsOneEntry best entry
+read_counts : (g : Ghosts) (s : State) (p : Seat) (d : ℕ) (key : List ℕ) (known : theory.Known) (rest : List ℕ) (i r : ℕ) (replied fewer : ℕ → Bool) (best : Option Found) (from : ℕ) (entry : Option Entry) (object : Option Object) → ((q : ℕ) → fewer q ≡ true → put replied from true q ≡ true) → FoundFits best → EntryFits entry
     → GetReplySays g s from d r key (entry_rank entry) (shown entry object) → RowHolds g s p d key (theory.row_of known (theory.Reading i r replied (best_rank best) (best_object best)) rest) → RowHolds g s p d key (theory.row_of known (theory.Reading i r fewer (best_rank (better best entry object)) (best_object (better best entry object))) rest)
-read_counts g s p d key known rest i r replied fewer best from entry object less fits entry_fits one says row = let same = better_seen best entry object fits entry_fits one in
-    subst (λ (x : Option theory.Object). RowHolds g s p d key (theory.row_of known (theory.Reading i r fewer (best_rank (better best entry object)) x) rest)) same.object_is
-    (subst (λ (n : ℕ). RowHolds g s p d key (theory.row_of known (theory.Reading i r fewer n (theory.better_object (best_rank best) (best_object best) (entry_rank entry) (shown entry object))) rest)) same.rank_is
-    (read_fewer g s p d key known rest i r (put replied from true) fewer (max (best_rank best) (entry_rank entry)) (theory.better_object (best_rank best) (best_object best) (entry_rank entry) (shown entry object)) less
-    (reply_counts g s p d key known rest i r replied (best_rank best) (best_object best) from (entry_rank entry) (shown entry object) says row)))
+read_counts g s p d key known rest i r replied fewer best from entry object less fits entry_fits says row = subst (λ (n : ℕ). RowHolds g s p d key (theory.row_of known (theory.Reading i r fewer n (best_object (better best entry object))) rest)) same.rank_is
+    (read_fewer g s p d key known rest i r (put replied from true) fewer (max (best_rank best) (entry_rank entry)) (theory.better_object (best_rank best) (best_object best) (entry_rank entry) (shown entry object)) (best_object (better best entry object)) less
+    (λ x e. subst (λ (n : ℕ). IsObjectOf s n x) (sym same.rank_is) (by_reply x (same.object_of x e)))
+    (reply_counts g s p d key known rest i r replied (best_rank best) (best_object best) from (entry_rank entry) (shown entry object) says row))
+  where
+    same : IsBetter best entry object (better best entry object)
+    same = better_seen best entry object fits entry_fits
+
+    by_reply : (x : theory.Object) → ((best_rank best ≡ best_rank (better best entry object)) × (best_object best ≡ Some x)) ⊎ ((entry_rank entry ≡ best_rank (better best entry object)) × (shown entry object ≡ Some x)) → IsObjectOf s (best_rank (better best entry object)) x
+    by_reply x (inl is) = subst (λ (n : ℕ). IsObjectOf s n x) is.0 (row.stage.holds x is.1)
+    by_reply x (inr is) = subst (λ (n : ℕ). IsObjectOf s n x) is.0 (says.holds x is.1)
 
 -- the leader m reads the key, and rule 30 comes next
 module _ (g : Ghosts) (s : State) (key : List ℕ) (owed : List Owed) (w : Waiting) where
   reads_on : (h : Ghosts) (m : Leader) (rows : List ℕ → theory.KeyRow) (round : ℕ) (votes : Round) (best : Option Found) → m.task ≡ tasks.Nothing → running key m.table.calls ≡ Some w
       → IsLeaderMove g s [] h (record { epoch = epoch_number m.fact.epoch; seat = record { peer = m.me; owed = owed }; seq = m.seq; round = m.round; rows = rows }) → AreElsewhere key rows m.table
       → RowHolds h s (record { peer = m.me; owed = owed }) (epoch_number m.fact.epoch) key (theory.row_of (known_of (row_at key m.table.rows).known) (theory.Reading w.id round (voters votes) (best_rank best) (best_object best)) (waiting_behind key m.table.calls))
-      → TurnsHold h s → LeaderFits s m → IsOn m.fact.views votes → FoundFits best → (sends : List Outgoing) → All (SentSays h s) sends
-      → Follows g s key owed (stands key (stages.Reading round votes best) m, record (leads_on 30 key) { sends = sends })
+      → TurnsHold h s → LeaderFits h.hash s m → IsOn m.fact.views votes → FoundFits best × FoundNames h.hash key best → (sends : List Outgoing) → All (SentSays h s) sends
+      → Follows g s key owed m (stands key (stages.Reading round votes best) m, record (leads_on 30 key) { sends = sends })
   reads_on h m rows round votes best free is first others row turns fits on found sends say = record {
     steps = [];
     ghosts = h;
@@ -96,12 +103,15 @@ module _ (g : Ghosts) (s : State) (key : List ℕ) (owed : List Owed) (w : Waiti
         (subst (λ (task : Pending). RowHolds h s (record { peer = m.me; owed = owed }) (epoch_number m.fact.epoch) key (row_seen task key t)) (sym free)
         (subst (λ (r : KeyRow). RowHolds h s (record { peer = m.me; owed = owed }) (epoch_number m.fact.epoch) key (row_parts r.known (running key m.table.calls) tasks.Nothing r.stage (waiting_behind key m.table.calls))) (sym (stage_row key stage m.table.rows))
         (subst (λ (call : Option Waiting). RowHolds h s (record { peer = m.me; owed = owed }) (epoch_number m.fact.epoch) key (row_parts (row_at key m.table.rows).known call tasks.Nothing stage (waiting_behind key m.table.calls))) (sym is) row)));
+    kinds = tt;
     turns = turns;
-    fits = record { epoch = fits.epoch; seq = fits.seq; views = fits.views; rows = staged_fits m.fact.views key stage m.table.rows (on, found) fits.rows; calls = fits.calls };
+    fits = record { epoch = fits.epoch; seq = fits.seq; views = fits.views; rows = staged_fits h.hash m.fact.views key stage m.table.rows (on, found) fits.rows; calls = fits.calls; calm = calm_staged key stage m.table w is fits.calm };
+    same = (refl, (refl, refl));
     task = subst (λ (task : Pending). TaskHolds s (record m { table = t }) key (row_at key t.rows).known (running key t.calls) task) (sym free) tt;
     notes = sym (append-nil s.book.notes);
     sends = say;
     ready = λ e. absurd cc;
+    next = (refl, ready_free 30 key (record m { table = t }) refl free);
   }
     where
       stage : Stage
@@ -116,7 +126,7 @@ module _ (g : Ghosts) (s : State) (key : List ℕ) (owed : List Owed) (w : Waiti
 -- ## Rule 29
 
 module _ (g : Ghosts) (s : State) (laws : LeadersMove s) (key : List ℕ) (owed : List Owed) (l : Leader) (peers : PeersReply s l.me (epoch_number l.fact.epoch)) (work : IsAtWork g s key owed l) (free : l.task ≡ tasks.Nothing) (idle : (row_at key l.table.rows).stage ≡ stages.Idle) (trusted : s.objects.trusted l.me ≡ true) where
-  module _ (w : Waiting) (is : running key l.table.calls ≡ Some w) (entry : Option Entry) (object : Option Object) (entry_fits : EntryFits entry) (shows : s.objects.visible l.me key ≡ entry_rank entry) (objects : (x : theory.Object) → shown entry object ≡ Some x → IsObjectOf s (entry_rank entry) x) where
+  module _ (w : Waiting) (is : running key l.table.calls ≡ Some w) (entry : Option Entry) (object : Option Object) (entry_fits : EntryFits entry) (shows : s.objects.visible l.me key ≡ entry_rank entry) (objects : (x : theory.Object) → shown entry object ≡ Some x → IsObjectOf s (entry_rank entry) x) (names : FoundNames g.hash key (better None entry object)) where
     abbrev D : ℕ
     D = epoch_number l.fact.epoch
 
@@ -156,71 +166,67 @@ module _ (g : Ghosts) (s : State) (laws : LeadersMove s) (key : List ℕ) (owed 
     own_reply = subst (λ (v : ℕ). GetReplySays after_start s l.me D (suc l.round) key v (shown entry object)) shows
         (peers.get_reply after_start (suc l.round) key (shown entry object) turns_start says trusted (λ x e. subst (λ (v : ℕ). IsObjectOf s v x) (sym shows) (objects x e)))
 
-    none_before : IsOneEntry None entry
-    none_before f e none some same = absurd cc
-
     own_row : RowHolds after_start s P D key (theory.row_of K (theory.Reading w.id (suc l.round) (voters (begun l.fact.views l.me)) (best_rank (better None entry object)) (best_object (better None entry object))) Rest)
-    own_row = read_counts after_start s P D key K Rest w.id (suc l.round) (λ q. false) (voters (begun l.fact.views l.me)) None l.me entry object (begun_fewer l.fact.views l.me) tt entry_fits none_before own_reply
+    own_row = read_counts after_start s P D key K Rest w.id (suc l.round) (λ q. false) (voters (begun l.fact.views l.me)) None l.me entry object (begun_fewer l.fact.views l.me) tt entry_fits own_reply
         (subst (λ (r : theory.KeyRow). RowHolds after_start s P D key r) (set_here (table_of key owed l).rows key first_row) (starts.holds.rows key))
 
     -- in the round of this number
     abbrev in_round : ℕ → Leader
     in_round n = record l { round = n }
 
-    started_so : Follows g s key owed (asked (seens.Held entry object) key (in_round (suc l.round)))
+    started_so : Follows g s key owed l (asked (seens.Held entry object) key (in_round (suc l.round)))
     started_so = reads_on g s key owed w after_start (in_round (suc l.round)) (theory.set_row (table_of key owed l).rows key first_row) (suc l.round) (begun l.fact.views l.me) (better None entry object) free is starts (λ j off. rw off refl) own_row turns_start
-        (record { epoch = work.fits.epoch; seq = work.fits.seq; views = work.fits.views; rows = work.fits.rows; calls = work.fits.calls }) (begun_on l.fact.views l.me) (better_fits None entry object tt entry_fits)
+        (record { epoch = work.fits.epoch; seq = work.fits.seq; views = work.fits.views; rows = work.fits.rows; calls = work.fits.calls; calm = work.fits.calm }) (begun_on l.fact.views l.me) (better_fits None entry object tt entry_fits, names)
         (sent_up_to (is_other l.me l.fact.views) (Get l.fact.epoch (suc l.round) key) 31) (sent_say after_start s (is_other l.me l.fact.views) (Get l.fact.epoch (suc l.round) key) says 31)
 
-    looked_so : Follows g s key owed (asked (seens.Held entry object) key (record l { round = l.round + 1 }))
-    looked_so = subst (λ (n : ℕ). Follows g s key owed (asked (seens.Held entry object) key (record l { round = n }))) (plus_one l.round) started_so
+    looked_so : Follows g s key owed l (asked (seens.Held entry object) key (record l { round = l.round + 1 }))
+    looked_so = subst (λ (n : ℕ). Follows g s key owed l (asked (seens.Held entry object) key (record l { round = n }))) (plus_one l.round) started_so
 
-  by_seen : (w : Waiting) → running key l.table.calls ≡ Some w → (seen : Seen) → LookSays s l.me key seen → GoesOn g s key owed l (asked seen key (record l { round = l.round + 1 }))
-  by_seen w is (seens.Held entry object) look = inr (looked_so w is entry object look.0 look.1 look.2)
-  by_seen w is (seens.Damaged at) look = inl (record { why = inr refl; calls = refl; answers = refl; notes = refl; sends = refl })
-  by_seen w is seen look = absurd look
+  by_seen : (w : Waiting) → running key l.table.calls ≡ Some w → (seen : Seen) → LookSays s l.me key seen → LookNames g key seen → GoesOn g s key owed l (asked seen key (record l { round = l.round + 1 }))
+  by_seen w is (seens.Held entry object) look names = inr (looked_so w is entry object look.0 look.1 look.2 names)
+  by_seen w is (seens.Damaged at) look names = inl (record { why = inr refl; calls = refl; same = (refl, (refl, refl)) })
+  by_seen w is seen look names = absurd look
 
-  by_spent : (w : Waiting) → running key l.table.calls ≡ Some w → (seen : Seen) → LookSays s l.me key seen → (b : Bool) → GoesOn g s key owed l (looked_next key seen (if b then (l, leaves) else (record l { round = l.round + 1 }, and_own (Look key) rests)))
-  by_spent w is seen look true = inl (record { why = inl refl; calls = refl; answers = refl; notes = refl; sends = refl })
-  by_spent w is seen look false = subst (λ (call : Option Waiting). GoesOn g s key owed l (asked_for call seen key (record l { round = l.round + 1 }))) (sym is) (by_seen w is seen look)
+  by_spent : (w : Waiting) → running key l.table.calls ≡ Some w → (seen : Seen) → LookSays s l.me key seen → LookNames g key seen → (b : Bool) → GoesOn g s key owed l (looked_next key seen (if b then (l, leaves) else (record l { round = l.round + 1 }, and_own (Look key) rests)))
+  by_spent w is seen look names true = inl (record { why = inl refl; calls = refl; same = (refl, (refl, refl)) })
+  by_spent w is seen look names false = subst (λ (call : Option Waiting). GoesOn g s key owed l (asked_for call seen key (record l { round = l.round + 1 }))) (sym is) (by_seen w is seen look names)
 
-  by_call : (seen : Seen) → LookSays s l.me key seen → (call : Option Waiting) → running key l.table.calls ≡ call → GoesOn g s key owed l (looked_next key seen (asked_for call seens.Nothing key l))
-  by_call seen look None is = subst (λ (call : Option Waiting). GoesOn g s key owed l (asked_for call seen key l)) (sym is) (inr (rests_so g s key owed l work))
-  by_call seen look (Some w) is = by_spent w is seen look (is_spent l.round)
+  by_call : (seen : Seen) → LookSays s l.me key seen → LookNames g key seen → (call : Option Waiting) → running key l.table.calls ≡ call → GoesOn g s key owed l (looked_next key seen (asked_for call seens.Nothing key l))
+  by_call seen look names None is = subst (λ (call : Option Waiting). GoesOn g s key owed l (asked_for call seen key l)) (sym is) (inr (rests_so g s key owed l work free))
+  by_call seen look names (Some w) is = by_spent w is seen look names (is_spent l.round)
 
 pub run_asks : (view : List ℕ) (steps : List Step) → IsRun view steps → ReadsStart (state_after view steps)
-run_asks view steps run g key owed l seen work free idle stands_at trusted look = by_call g (state_after view steps) (run_leaders view steps run) key owed l (run_peers view steps l.me (epoch_number l.fact.epoch) run stands_at) work free idle trusted seen look (running key l.table.calls) refl
+run_asks view steps run g key owed l seen work free idle stands_at trusted look names = by_call g (state_after view steps) (run_leaders view steps run) key owed l (run_peers view steps l.me (epoch_number l.fact.epoch) run stands_at) work free idle trusted seen look names (running key l.table.calls) refl
 
 -- ## Replies
 
-module _ (g : Ghosts) (s : State) (key : List ℕ) (owed : List Owed) (l : Leader) (work : IsAtWork g s key owed l) (free : l.task ≡ tasks.Nothing) (from : ℕ) (ballot : Epoch) (round : ℕ) (entry : Option Entry) (object : Option Object) (says : GetReplySays g s from (epoch_number ballot) round key (entry_rank entry) (shown entry object)) (entry_fits : EntryFits entry) where
-  module _ (w : Waiting) (is : running key l.table.calls ≡ Some w) (asked_in : ℕ) (votes : Round) (best : Option Found) (stage : (row_at key l.table.rows).stage ≡ stages.Reading asked_in votes best) (one : IsOneEntry best entry) where
+module _ (g : Ghosts) (s : State) (key : List ℕ) (owed : List Owed) (l : Leader) (work : IsAtWork g s key owed l) (free : l.task ≡ tasks.Nothing) (from : ℕ) (ballot : Epoch) (round : ℕ) (entry : Option Entry) (object : Option Object) (says : GetReplySays g s from (epoch_number ballot) round key (entry_rank entry) (shown entry object)) (entry_fits : EntryFits entry) (names : FoundNames g.hash key (better None entry object)) where
+  module _ (w : Waiting) (is : running key l.table.calls ≡ Some w) (asked_in : ℕ) (votes : Round) (best : Option Found) (stage : (row_at key l.table.rows).stage ≡ stages.Reading asked_in votes best) where
     reading_row : RowHolds g s (record { peer = l.me; owed = owed }) (epoch_number l.fact.epoch) key (theory.row_of (known_of (row_at key l.table.rows).known) (theory.Reading w.id asked_in (voters votes) (best_rank best) (best_object best)) (waiting_behind key l.table.calls))
     reading_row = subst (λ (st : Stage). RowHolds g s (record { peer = l.me; owed = owed }) (epoch_number l.fact.epoch) key (row_parts (row_at key l.table.rows).known (Some w) tasks.Nothing st (waiting_behind key l.table.calls))) stage
         (subst (λ (call : Option Waiting). RowHolds g s (record { peer = l.me; owed = owed }) (epoch_number l.fact.epoch) key (row_parts (row_at key l.table.rows).known call tasks.Nothing (row_at key l.table.rows).stage (waiting_behind key l.table.calls))) is
         (subst (λ (t : Pending). RowHolds g s (record { peer = l.me; owed = owed }) (epoch_number l.fact.epoch) key (row_parts (row_at key l.table.rows).known (running key l.table.calls) t (row_at key l.table.rows).stage (waiting_behind key l.table.calls))) free (row_of_work g s key owed l work.holds)))
 
-    fits_here : IsOn l.fact.views votes × FoundFits best
-    fits_here = subst (λ (st : Stage). StageFits l.fact.views st) stage (work.fits.rows key).1
+    fits_here : IsOn l.fact.views votes × (FoundFits best × FoundNames g.hash key best)
+    fits_here = subst (λ (st : Stage). StageFits g.hash key l.fact.views st) stage (work.fits.rows key).1
 
-    heard_so : ballot ≡ l.fact.epoch → round ≡ asked_in → Follows g s key owed (stands key (stages.Reading asked_in (heard_from from votes) (better best entry object)) l, leads_on 30 key)
+    heard_so : ballot ≡ l.fact.epoch → round ≡ asked_in → Follows g s key owed l (stands key (stages.Reading asked_in (heard_from from votes) (better best entry object)) l, leads_on 30 key)
     heard_so same here = reads_on g s key owed w g l (table_of key owed l).rows asked_in (heard_from from votes) (better best entry object) free is (no_move g s (table_of key owed l) work.holds) (off_same key owed l)
-        (read_counts g s (record { peer = l.me; owed = owed }) (epoch_number l.fact.epoch) key (known_of (row_at key l.table.rows).known) (waiting_behind key l.table.calls) w.id asked_in (voters votes) (voters (heard_from from votes)) best from entry object (answered_fewer votes from) fits_here.1 entry_fits one
+        (read_counts g s (record { peer = l.me; owed = owed }) (epoch_number l.fact.epoch) key (known_of (row_at key l.table.rows).known) (waiting_behind key l.table.calls) w.id asked_in (voters votes) (voters (heard_from from votes)) best from entry object (answered_fewer votes from) fits_here.1.0 entry_fits
         (subst (λ (r : ℕ). GetReplySays g s from (epoch_number l.fact.epoch) r key (entry_rank entry) (shown entry object)) here (subst (λ (e : Epoch). GetReplySays g s from (epoch_number e) round key (entry_rank entry) (shown entry object)) same says)) reading_row)
-        work.turns work.fits (answered_on votes from ∙ fits_here.0) (better_fits best entry object fits_here.1 entry_fits) [] (All-nil (SentSays g s))
+        work.turns work.fits (answered_on votes from ∙ fits_here.0) (better_fits best entry object fits_here.1.0 entry_fits, better_names g.hash key best entry object fits_here.1.0 entry_fits fits_here.1.1 names) [] (All-nil (SentSays g s))
 
-    by_counts : (b : Bool) → counts ballot round asked_in l ≡ b → Follows g s key owed (if b then (stands key (stages.Reading asked_in (heard_from from votes) (better best entry object)) l, leads_on 30 key) else (l, rests))
+    by_counts : (b : Bool) → counts ballot round asked_in l ≡ b → Follows g s key owed l (if b then (stands key (stages.Reading asked_in (heard_from from votes) (better best entry object)) l, leads_on 30 key) else (l, rests))
     by_counts true own = let parts = and_parts (is_same ballot l.fact.epoch) (round == asked_in) own in heard_so (same_epochs ballot l.fact.epoch parts.0) (eqb-true round asked_in parts.1)
-    by_counts false other = rests_so g s key owed l work
+    by_counts false other = rests_so g s key owed l work free
 
-  got_so : (running key l.table.calls ≡ None → (row_at key l.table.rows).stage ≡ stages.Idle) → ((r : ℕ) (votes : Round) (best : Option Found) → (row_at key l.table.rows).stage ≡ stages.Reading r votes best → IsOneEntry best entry)
-      → (call : Option Waiting) → running key l.table.calls ≡ call → (stage : Stage) → (row_at key l.table.rows).stage ≡ stage → Follows g s key owed (heard stage from ballot round key entry object l)
-  got_so calm one (Some w) is (stages.Reading asked_in votes best) e = by_counts w is asked_in votes best e (one asked_in votes best e) (counts ballot round asked_in l) refl
-  got_so calm one None is (stages.Reading asked_in votes best) e = absurd (not_idle (sym (calm is) ∙ e))
+  got_so : (call : Option Waiting) → running key l.table.calls ≡ call → (stage : Stage) → (row_at key l.table.rows).stage ≡ stage → Follows g s key owed l (heard stage from ballot round key entry object l)
+  got_so (Some w) is (stages.Reading asked_in votes best) e = by_counts w is asked_in votes best e (counts ballot round asked_in l) refl
+  got_so None is (stages.Reading asked_in votes best) e = absurd (not_idle (sym (work.fits.calm key is) ∙ e))
     where
       not_idle : stages.Idle ≡ stages.Reading asked_in votes best → ⊥
       not_idle e = cc
-  got_so calm one call is stage e = rests_so g s key owed l work
+  got_so call is stage e = rests_so g s key owed l work free
 
 pub run_got : (view : List ℕ) (steps : List Step) → IsRun view steps → ReadsCount (state_after view steps)
-run_got view steps run g key owed l from ballot round entry object work free calm says entry_fits one = inr (got_so g (state_after view steps) key owed l work free from ballot round entry object says entry_fits calm one (running key l.table.calls) refl (row_at key l.table.rows).stage refl)
+run_got view steps run g key owed l from ballot round entry object work free says entry_fits names = inr (got_so g (state_after view steps) key owed l work free from ballot round entry object says entry_fits names (running key l.table.calls) refl (row_at key l.table.rows).stage refl)

@@ -1,5 +1,5 @@
 -- How a change of one key of the program's leader is a change of one row of the theory's leader.
-use Rattle.std.specs.Prelude.{All}
+use Rattle.std.specs.Prelude.{All, IsSome}
 use Rattle.std.proofs.Common.{◌≡◌, ℕ, Bool, true, false, if◌then◌else◌, cond, List, [], ◌∷◌, ◌++◌, Option, Some, None, refl, sym, ap, subst, ◌∙◌}
 use Rattle.std.proofs.lemmas.List.{append-nil}
 use Rattle.std.proofs.lemmas.List.Elements.{All-nil}
@@ -23,6 +23,7 @@ use Rattle.leading.specs.declared.pending.Pending.{Pending}
 use Rattle.leading.specs.declared.pending.Pending.TheVariants as tasks
 use Rattle.leader_words.specs.Outs.{rests, leads_on}
 use Rattle.leading.specs.Leaders.{with_task}
+use Rattle.leading.specs.Steps.{Fits, IsCalm}
 use Rattle.wire_frames.specs.declared.phase.Then.TheVariants.{Rule}
 use Rattle.leader_words.specs.declared.out.AnswerOut.{AnswerOut}
 use Rattle.leader_words.specs.declared.out.LeadOut.{LeadOut}
@@ -36,7 +37,7 @@ use Rattle.leader_laws.specs.Moves.{IsLeaderMove}
 use Rattle.leader_laws.specs.Tables as theory
 use Rattle.leader_laws.specs.Tables.{Ghosts, Owed, Seat}
 use Rattle.leader_refinement.specs.Seen.{ids_on, waiting_behind, row_parts, row_seen, task_on, table_of, owed_after, known_of}
-use Rattle.leader_refinement.specs.Follows.{IsAtWork, CallsAgree, TaskHolds, IsReadyFor, Follows, SentSays, RowFits, StageFits}
+use Rattle.leader_refinement.specs.Follows.{IsAtWork, CallsAgree, TaskHolds, IsReadyFor, NextFits, Follows, SentSays, Hash, RowFits, StageFits}
 
 -- ## One row
 
@@ -182,54 +183,94 @@ agree_without b key (v ∷ calls) agree = by_key (same_bytes v.key key) (agree_w
     by_key false later = (agree.0, later)
 
 -- what fits of each row still does after a change at one key
-pub rows_fit : (views : List (List ℕ)) (key : List ℕ) (old new : Rows) → ((j : List ℕ) → same_bytes key j ≡ false → row_at j new ≡ row_at j old) → RowFits views (row_at key new) → ((j : List ℕ) → RowFits views (row_at j old)) → (j : List ℕ) → RowFits views (row_at j new)
-rows_fit views key old new others here fits j = by_key (same_bytes key j) refl
+pub rows_fit : (hash : Hash) (views : List (List ℕ)) (key : List ℕ) (old new : Rows) → ((j : List ℕ) → same_bytes key j ≡ false → row_at j new ≡ row_at j old) → RowFits hash views key (row_at key new) → ((j : List ℕ) → RowFits hash views j (row_at j old)) → (j : List ℕ) → RowFits hash views j (row_at j new)
+rows_fit hash views key old new others here fits j = by_key (same_bytes key j) refl
   where
-    by_key : (b : Bool) → same_bytes key j ≡ b → RowFits views (row_at j new)
-    by_key true on = subst (λ (k : List ℕ). RowFits views (row_at k new)) (bytes_same key j on) here
-    by_key false off = subst (λ (row : KeyRow). RowFits views row) (sym (others j off)) (fits j)
+    by_key : (b : Bool) → same_bytes key j ≡ b → RowFits hash views j (row_at j new)
+    by_key true on = subst (λ (k : List ℕ). RowFits hash views k (row_at k new)) (bytes_same key j on) here
+    by_key false off = subst (λ (row : KeyRow). RowFits hash views j row) (sym (others j off)) (fits j)
 
-pub staged_fits : (views : List (List ℕ)) (key : List ℕ) (stage : Stage) (rows : Rows) → StageFits views stage → ((j : List ℕ) → RowFits views (row_at j rows)) → (j : List ℕ) → RowFits views (row_at j (with_stage key stage rows))
-staged_fits views key stage rows new fits = rows_fit views key rows (with_stage key stage rows) (λ j off. stage_other key j stage rows off)
-    (subst (λ (row : KeyRow). RowFits views row) (sym (stage_row key stage rows)) ((fits key).0, new)) fits
+pub staged_fits : (hash : Hash) (views : List (List ℕ)) (key : List ℕ) (stage : Stage) (rows : Rows) → StageFits hash key views stage → ((j : List ℕ) → RowFits hash views j (row_at j rows)) → (j : List ℕ) → RowFits hash views j (row_at j (with_stage key stage rows))
+staged_fits hash views key stage rows new fits = rows_fit hash views key rows (with_stage key stage rows) (λ j off. stage_other key j stage rows off)
+    (subst (λ (row : KeyRow). RowFits hash views key row) (sym (stage_row key stage rows)) ((fits key).0, new)) fits
 
-pub ended_fits : (views : List (List ℕ)) (key : List ℕ) (t : CallTable) → ((j : List ℕ) → RowFits views (row_at j t.rows)) → (j : List ℕ) → RowFits views (row_at j (ended key t).rows)
+pub ended_fits : (hash : Hash) (views : List (List ℕ)) (key : List ℕ) (t : CallTable) → ((j : List ℕ) → RowFits hash views j (row_at j t.rows)) → (j : List ℕ) → RowFits hash views j (row_at j (ended key t).rows)
 unfolding ended rested
-ended_fits views key t fits = staged_fits views key stages.Idle t.rows tt fits
+ended_fits hash views key t fits = staged_fits hash views key stages.Idle t.rows tt fits
+
+-- ## A key without a call is idle
+
+-- after a change of the stage of a key that has one
+pub calm_staged : (key : List ℕ) (stage : Stage) (t : CallTable) (w : Waiting) → running key t.calls ≡ Some w → IsCalm t → IsCalm (record t { rows = with_stage key stage t.rows })
+calm_staged key stage t w is calm k none = by_key (same_bytes key k) refl
+  where
+    some_call : Some w ≡ None → ⊥
+    some_call e = cc
+
+    by_key : (b : Bool) → same_bytes key k ≡ b → (row_at k (with_stage key stage t.rows)).stage ≡ stages.Idle
+    by_key true on = absurd (some_call (sym is ∙ ap (λ (j : List ℕ). running j t.calls) (bytes_same key k on) ∙ none))
+    by_key false off = ap (λ (row : KeyRow). row.stage) (stage_other key k stage t.rows off) ∙ calm k none
+
+pub calm_known : (key : List ℕ) (known : Known) (t : CallTable) → IsCalm t → IsCalm (record t { rows = with_known key known t.rows })
+calm_known key known t calm k none = by_key (same_bytes key k) refl
+  where
+    by_key : (b : Bool) → same_bytes key k ≡ b → (row_at k (with_known key known t.rows)).stage ≡ stages.Idle
+    by_key true on = subst (λ (j : List ℕ). (row_at j (with_known key known t.rows)).stage ≡ stages.Idle) (bytes_same key k on)
+        (ap (λ (row : KeyRow). row.stage) (known_row key known t.rows) ∙ calm key (ap (λ (j : List ℕ). running j t.calls) (bytes_same key k on) ∙ none))
+    by_key false off = ap (λ (row : KeyRow). row.stage) (known_other key k known t.rows off) ∙ calm k none
+
+pub calm_ended : (key : List ℕ) (t : CallTable) → IsCalm t → IsCalm (ended key t)
+unfolding ended rested
+calm_ended key t calm k none = by_key (same_bytes key k) refl none
+  where
+    by_key : (b : Bool) → same_bytes key k ≡ b → running k (without_running key t.calls) ≡ None → (row_at k (with_stage key stages.Idle t.rows)).stage ≡ stages.Idle
+    by_key true on none = subst (λ (j : List ℕ). (row_at j (with_stage key stages.Idle t.rows)).stage ≡ stages.Idle) (bytes_same key k on) (ap (λ (row : KeyRow). row.stage) (stage_row key stages.Idle t.rows))
+    by_key false off none = ap (λ (row : KeyRow). row.stage) (stage_other key k stages.Idle t.rows off) ∙ calm k (sym (running_other key k t.calls off) ∙ none)
 
 -- ## Nothing changes
 
+-- the key has a call
+pub runs_now : (key : List ℕ) (calls : List Waiting) (w : Waiting) → running key calls ≡ Some w → IsSome (running key calls)
+runs_now key calls w is = subst (λ (call : Option Waiting). IsSome call) (sym is) refl
+
 module _ (g : Ghosts) (s : State) (key : List ℕ) (owed : List Owed) (l : Leader) (work : IsAtWork g s key owed l) where
   -- the leader stays as it is, and owes and notes nothing
-  pub stays : (out : LeadOut) → out.answers ≡ [] → out.notes ≡ [] → out.sends ≡ [] → IsReadyFor out.then key l → Follows g s key owed (l, out)
-  stays out answers notes sends ready = record {
+  pub stays : (out : LeadOut) → out.answers ≡ [] → out.notes ≡ [] → out.sends ≡ [] → IsReadyFor out.then key l → NextFits key l out.own out.then out.keys → Follows g s key owed l (l, out)
+  stays out answers notes sends ready next = record {
     steps = [];
     ghosts = g;
     move = subst (λ (given : List AnswerOut). IsLeaderMove g s [] g (table_of key (owed_after owed given) l)) (sym answers) (no_move g s (table_of key owed l) work.holds);
+    kinds = tt;
     turns = work.turns;
     fits = work.fits;
+    same = (refl, (refl, refl));
     task = work.task;
     notes = sym (ap (λ (told : List Note). s.book.notes ++ told) notes ∙ append-nil s.book.notes);
     sends = subst (λ (sent : List Outgoing). All (SentSays g s) sent) (sym sends) (All-nil (SentSays g s));
     ready = ready;
+    next = next;
   }
 
-  pub rests_so : Follows g s key owed (l, rests)
-  rests_so = stays rests refl refl refl tt
+  pub rests_so : l.task ≡ tasks.Nothing → Follows g s key owed l (l, rests)
+  rests_so free = stays rests refl refl refl tt (refl, free)
 
   -- the leader has a task for the running call of the key, on whose row what leads to it holds
   pub tasked_so : (w : Waiting) → running key l.table.calls ≡ Some w → (n : ℕ) (task : Pending)
       → RowHolds g s (record { peer = l.me; owed = owed }) (epoch_number l.fact.epoch) key (row_parts (row_at key l.table.rows).known (Some w) task (row_at key l.table.rows).stage (waiting_behind key l.table.calls))
-      → TaskHolds s (with_task task l) key (row_at key l.table.rows).known (Some w) task → IsReadyFor (Rule n) key l → Follows g s key owed (with_task task l, leads_on n key)
-  tasked_so w is n task row holds ready = record {
+      → TaskHolds s (with_task task l) key (row_at key l.table.rows).known (Some w) task → IsReadyFor (Rule n) key l → (IsSome (running key l.table.calls) → Fits n key (with_task task l) task)
+      → Follows g s key owed l (with_task task l, leads_on n key)
+  tasked_so w is n task row holds ready suits = record {
     steps = [];
     ghosts = g;
     move = finish g g s [] (table_of key owed l) key task l.table (no_move g s (table_of key owed l) work.holds) (off_same key owed l)
         (subst (λ (call : Option Waiting). RowHolds g s (record { peer = l.me; owed = owed }) (epoch_number l.fact.epoch) key (row_parts (row_at key l.table.rows).known call task (row_at key l.table.rows).stage (waiting_behind key l.table.calls))) (sym is) row);
+    kinds = tt;
     turns = work.turns;
-    fits = record { epoch = work.fits.epoch; seq = work.fits.seq; views = work.fits.views; rows = work.fits.rows; calls = work.fits.calls };
+    fits = record { epoch = work.fits.epoch; seq = work.fits.seq; views = work.fits.views; rows = work.fits.rows; calls = work.fits.calls; calm = work.fits.calm };
+    same = (refl, (refl, refl));
     task = subst (λ (call : Option Waiting). TaskHolds s (with_task task l) key (row_at key l.table.rows).known call task) (sym is) holds;
     notes = sym (append-nil s.book.notes);
     sends = All-nil (SentSays g s);
     ready = ready;
+    next = (refl, suits (runs_now key l.table.calls w is));
   }

@@ -46,7 +46,7 @@ use Rattle.leader_laws.specs.Moves.{IsLeaderMove}
 use Rattle.leader_laws.specs.Tables as theory
 use Rattle.leader_laws.specs.Tables.{Ghosts, Owed, Seat}
 use Rattle.leader_refinement.proofs.Answers.{answered_so, seat_owing, noted_base}
-use Rattle.leader_refinement.proofs.Base.{AreElsewhere, row_of_work, finish, with_row_too, no_move, rests_so, stands_elsewhere, stage_row, agree_running, staged_fits, set_here, off_same}
+use Rattle.leader_refinement.proofs.Base.{AreElsewhere, row_of_work, finish, with_row_too, no_move, rests_so, stands_elsewhere, stage_row, agree_running, staged_fits, calm_staged, set_here, off_same}
 use Rattle.leader_refinement.proofs.Numbers.{plus_one, same_epochs}
 use Rattle.leader_refinement.proofs.Votes.{answered_fewer, begun_fewer, answered_on, begun_on, IsClosed, closed_quorum, sent_say}
 use Rattle.leader_refinement.specs.Seen.{known_of, voters, waiting_behind, row_parts, row_seen, table_of}
@@ -73,13 +73,13 @@ module _ (g : Ghosts) (s : State) (laws : LeadersMove s) (tables : TablesStay s)
   noted_so : (h : Ghosts) (m : Leader) (rows : List ℕ → theory.KeyRow) (round : ℕ) (votes : Round) (reply : Reply) → m.task ≡ tasks.Nothing → running key m.table.calls ≡ Some w
       → IsLeaderMove g s [] h (record { epoch = epoch_number m.fact.epoch; seat = record { peer = m.me; owed = owed }; seq = m.seq; round = m.round; rows = rows }) → AreElsewhere key rows m.table
       → RowHolds h s (record { peer = m.me; owed = owed }) (epoch_number m.fact.epoch) key (theory.row_of (known_of (row_at key m.table.rows).known) (theory.Checking w.id round (voters votes) reply) (waiting_behind key m.table.calls))
-      → TurnsHold h s → LeaderFits s m → IsOn m.fact.views votes → IsClosed (state_of votes)
+      → TurnsHold h s → LeaderFits h.hash s m → IsOn m.fact.views votes → IsClosed (state_of votes)
       → (sends : List Outgoing) → All (SentSays h (after s (Note w.id key (settled_rank (row_at key m.table.rows).known) (epoch_number m.fact.epoch) ∷ []))) sends
-      → Follows g s key owed (read_answered w reply key (record { leave = false; sends = sends; answers = []; notes = []; own = None; then = Stay; keys = [] }) m)
+      → Follows g s key owed m (read_answered w reply key (record { leave = false; sends = sends; answers = []; notes = []; own = None; then = Stay; keys = [] }) m)
   noted_so h m rows round votes reply free is first others row turns fits on closed sends say =
       answered_so g h s steps key owed m w reply (owing.rows) free is both (λ j off. rw off (others j off)) (subst (λ (r : theory.KeyRow). RowHolds h (after s steps) (seat_owing m owed w.id reply) (epoch_number m.fact.epoch) key r) (set_here with_checking.rows key idle_row) (both.holds.rows key))
-      (tables.turns h steps second.may turns) (record { epoch = fits.epoch; seq = fits.seq; views = fits.views; rows = fits.rows; calls = fits.calls })
-      sends (Read w.id key (base key m) ∷ []) None Stay [] (noted_base s key w.id (epoch_number m.fact.epoch) m fits) say
+      (tables.turns h steps second.may turns) (record { epoch = fits.epoch; seq = fits.seq; views = fits.views; rows = fits.rows; calls = fits.calls; calm = fits.calm })
+      (tt, tt) sends (Read w.id key (base key m) ∷ []) (noted_base h s key w.id (epoch_number m.fact.epoch) m fits) say
     where
       known : theory.Known
       known = known_of (row_at key m.table.rows).known
@@ -118,8 +118,8 @@ module _ (g : Ghosts) (s : State) (laws : LeadersMove s) (tables : TablesStay s)
   waits_so : (h : Ghosts) (m : Leader) (rows : List ℕ → theory.KeyRow) (round : ℕ) (votes : Round) (reply : Reply) (checks : Checks) → m.task ≡ tasks.Nothing → running key m.table.calls ≡ Some w
       → IsLeaderMove g s [] h (record { epoch = epoch_number m.fact.epoch; seat = record { peer = m.me; owed = owed }; seq = m.seq; round = m.round; rows = rows }) → AreElsewhere key rows m.table
       → RowHolds h s (record { peer = m.me; owed = owed }) (epoch_number m.fact.epoch) key (theory.row_of (known_of (row_at key m.table.rows).known) (theory.Checking w.id round (voters votes) reply) (waiting_behind key m.table.calls))
-      → TurnsHold h s → LeaderFits s m → IsOn m.fact.views votes → (sends : List Outgoing) → All (SentSays h s) sends
-      → Follows g s key owed (record m { table = record m.table { rows = with_stage key (stages.Checking round votes reply) m.table.rows; checks = checks } }, record rests { sends = sends })
+      → TurnsHold h s → LeaderFits h.hash s m → IsOn m.fact.views votes → (sends : List Outgoing) → All (SentSays h s) sends
+      → Follows g s key owed m (record m { table = record m.table { rows = with_stage key (stages.Checking round votes reply) m.table.rows; checks = checks } }, record rests { sends = sends })
   waits_so h m rows round votes reply checks free is first others row turns fits on sends say = record {
     steps = [];
     ghosts = h;
@@ -127,12 +127,15 @@ module _ (g : Ghosts) (s : State) (laws : LeadersMove s) (tables : TablesStay s)
         (subst (λ (task : Pending). RowHolds h s (record { peer = m.me; owed = owed }) (epoch_number m.fact.epoch) key (row_seen task key t)) (sym free)
         (subst (λ (r : KeyRow). RowHolds h s (record { peer = m.me; owed = owed }) (epoch_number m.fact.epoch) key (row_parts r.known (running key m.table.calls) tasks.Nothing r.stage (waiting_behind key m.table.calls))) (sym (stage_row key stage m.table.rows))
         (subst (λ (call : Option Waiting). RowHolds h s (record { peer = m.me; owed = owed }) (epoch_number m.fact.epoch) key (row_parts (row_at key m.table.rows).known call tasks.Nothing stage (waiting_behind key m.table.calls))) (sym is) row)));
+    kinds = tt;
     turns = turns;
-    fits = record { epoch = fits.epoch; seq = fits.seq; views = fits.views; rows = staged_fits m.fact.views key stage m.table.rows on fits.rows; calls = fits.calls };
+    fits = record { epoch = fits.epoch; seq = fits.seq; views = fits.views; rows = staged_fits h.hash m.fact.views key stage m.table.rows on fits.rows; calls = fits.calls; calm = calm_staged key stage m.table w is fits.calm };
+    same = (refl, (refl, refl));
     task = subst (λ (task : Pending). TaskHolds s (record m { table = t }) key (row_at key t.rows).known (running key t.calls) task) (sym free) tt;
     notes = sym (append-nil s.book.notes);
     sends = say;
     ready = tt;
+    next = (refl, free);
   }
     where
       stage : Stage
@@ -182,13 +185,13 @@ module _ (g : Ghosts) (s : State) (laws : LeadersMove s) (tables : TablesStay s)
     abbrev in_round : Leader
     in_round = record (with_task tasks.Nothing l) { round = suc l.round }
 
-    in_round_fits : LeaderFits s (record (with_task tasks.Nothing l) { round = suc l.round })
-    in_round_fits = record { epoch = work.fits.epoch; seq = work.fits.seq; views = work.fits.views; rows = work.fits.rows; calls = work.fits.calls }
+    in_round_fits : LeaderFits g.hash s (record (with_task tasks.Nothing l) { round = suc l.round })
+    in_round_fits = record { epoch = work.fits.epoch; seq = work.fits.seq; views = work.fits.views; rows = work.fits.rows; calls = work.fits.calls; calm = work.fits.calm }
 
     abbrev sent : List Outgoing
     sent = sent_up_to (is_other l.me l.fact.views) (Check l.fact.epoch (suc l.round)) 31
 
-    begins_so : (state : RoundState) → state_of (begun l.fact.views l.me) ≡ state → Follows g s key owed (begins_check state (begun l.fact.views l.me) reply w key (tells_all l.me l.fact.views (Check l.fact.epoch (suc l.round)) rests) (record (with_task tasks.Nothing l) { round = suc l.round }))
+    begins_so : (state : RoundState) → state_of (begun l.fact.views l.me) ≡ state → Follows g s key owed l (begins_check state (begun l.fact.views l.me) reply w key (tells_all l.me l.fact.views (Check l.fact.epoch (suc l.round)) rests) (record (with_task tasks.Nothing l) { round = suc l.round }))
     begins_so Open e = waits_so g s laws tables key owed w after_start in_round (theory.set_row (table_of key owed l).rows key first_row) (suc l.round) (begun l.fact.views l.me) reply (with_check (suc l.round) key l.table.checks) refl is starts (λ j off. rw off refl) own_row turns_start in_round_fits (begun_on l.fact.views l.me)
         sent (sent_say after_start s (is_other l.me l.fact.views) (Check l.fact.epoch (suc l.round)) says 31)
     begins_so Met e = noted_so g s laws tables key owed w after_start in_round (theory.set_row (table_of key owed l).rows key first_row) (suc l.round) (begun l.fact.views l.me) reply refl is starts (λ j off. rw off refl) own_row turns_start in_round_fits (begun_on l.fact.views l.me) (subst IsClosed (sym e) tt)
@@ -197,8 +200,8 @@ module _ (g : Ghosts) (s : State) (laws : LeadersMove s) (tables : TablesStay s)
         sent (sent_say after_start _ (is_other l.me l.fact.views) (Check l.fact.epoch (suc l.round)) says 31)
 
     spent_or_not : (b : Bool) → GoesOn g s key owed l (if b then (with_task tasks.Nothing l, leaves) else check_now reply w key (record (with_task tasks.Nothing l) { round = l.round + 1 }))
-    spent_or_not true = inl (record { why = inl refl; calls = refl; answers = refl; notes = refl; sends = refl })
-    spent_or_not false = inr (subst (λ (n : ℕ). Follows g s key owed (check_now reply w key (record (with_task tasks.Nothing l) { round = n }))) (plus_one l.round) (begins_so (state_of (begun l.fact.views l.me)) refl))
+    spent_or_not true = inl (record { why = inl refl; calls = refl; same = (refl, (refl, refl)) })
+    spent_or_not false = inr (subst (λ (n : ℕ). Follows g s key owed l (check_now reply w key (record (with_task tasks.Nothing l) { round = n }))) (plus_one l.round) (begins_so (state_of (begun l.fact.views l.me)) refl))
 
   checked_so : (reply : Reply) → l.task ≡ tasks.Check reply → (call : Option Waiting) → running key l.table.calls ≡ call → GoesOn g s key owed l (checked_for call (tasks.Check reply) key (with_task tasks.Nothing l))
   checked_so reply task None is = absurd (subst (λ (call : Option Waiting). TaskHolds s l key (row_at key l.table.rows).known call (tasks.Check reply)) is (subst (λ (t : Pending). TaskHolds s l key (row_at key l.table.rows).known (running key l.table.calls) t) task work.task))
@@ -219,26 +222,26 @@ module _ (g : Ghosts) (s : State) (laws : LeadersMove s) (tables : TablesStay s)
         (subst (λ (t : Pending). RowHolds g s (record { peer = l.me; owed = owed }) (epoch_number l.fact.epoch) key (row_parts (row_at key l.table.rows).known (running key l.table.calls) t (row_at key l.table.rows).stage (waiting_behind key l.table.calls))) free (row_of_work g s key owed l work.holds)))
 
     on : IsOn l.fact.views (heard_from from votes)
-    on = answered_on votes from ∙ subst (λ (st : Stage). StageFits l.fact.views st) stage (work.fits.rows key).1
+    on = answered_on votes from ∙ subst (λ (st : Stage). StageFits g.hash key l.fact.views st) stage (work.fits.rows key).1
 
     counted_row : ballot ≡ l.fact.epoch → round ≡ asked → RowHolds g s (record { peer = l.me; owed = owed }) (epoch_number l.fact.epoch) key (theory.row_of (known_of (row_at key l.table.rows).known) (theory.Checking w.id asked (voters (heard_from from votes)) reply) (waiting_behind key l.table.calls))
     counted_row same here = check_fewer g s (record { peer = l.me; owed = owed }) (epoch_number l.fact.epoch) key (known_of (row_at key l.table.rows).known) (waiting_behind key l.table.calls) w.id asked (put (voters votes) from true) (voters (heard_from from votes)) reply (answered_fewer votes from)
         (check_counts g s (record { peer = l.me; owed = owed }) (epoch_number l.fact.epoch) key (known_of (row_at key l.table.rows).known) (waiting_behind key l.table.calls) w.id asked (voters votes) reply from
         (subst (λ (r : ℕ). CheckReplySays g s from (epoch_number l.fact.epoch) r) here (subst (λ (e : Epoch). CheckReplySays g s from (epoch_number e) round) same says)) checking_row)
 
-    goes_on_so : ballot ≡ l.fact.epoch → round ≡ asked → (state : RoundState) → state_of (heard_from from votes) ≡ state → Follows g s key owed (goes_on_checking state asked (heard_from from votes) reply w key l)
+    goes_on_so : ballot ≡ l.fact.epoch → round ≡ asked → (state : RoundState) → state_of (heard_from from votes) ≡ state → Follows g s key owed l (goes_on_checking state asked (heard_from from votes) reply w key l)
     goes_on_so same here Open e = waits_so g s laws tables key owed w g l (table_of key owed l).rows asked (heard_from from votes) reply l.table.checks free is (no_move g s (table_of key owed l) work.holds) (off_same key owed l) (counted_row same here) work.turns work.fits on [] (All-nil (SentSays g s))
     goes_on_so same here Met e = noted_so g s laws tables key owed w g l (table_of key owed l).rows asked (heard_from from votes) reply free is (no_move g s (table_of key owed l) work.holds) (off_same key owed l) (counted_row same here) work.turns work.fits on (subst IsClosed (sym e) tt) [] (All-nil (SentSays g _))
     goes_on_so same here AllAnswered e = noted_so g s laws tables key owed w g l (table_of key owed l).rows asked (heard_from from votes) reply free is (no_move g s (table_of key owed l) work.holds) (off_same key owed l) (counted_row same here) work.turns work.fits on (subst IsClosed (sym e) tt) [] (All-nil (SentSays g _))
 
-    by_counts : (b : Bool) → counts ballot round asked l ≡ b → Follows g s key owed (if b then goes_on_checking (state_of (heard_from from votes)) asked (heard_from from votes) reply w key l else (l, rests))
+    by_counts : (b : Bool) → counts ballot round asked l ≡ b → Follows g s key owed l (if b then goes_on_checking (state_of (heard_from from votes)) asked (heard_from from votes) reply w key l else (l, rests))
     by_counts true own = let parts = and_parts (is_same ballot l.fact.epoch) (round == asked) own in goes_on_so (same_epochs ballot l.fact.epoch parts.0) (eqb-true round asked parts.1) (state_of (heard_from from votes)) refl
-    by_counts false other = rests_so g s key owed l work
+    by_counts false other = rests_so g s key owed l work free
 
-  stood_so : (call : Option Waiting) → running key l.table.calls ≡ call → (stage : Stage) → (row_at key l.table.rows).stage ≡ stage → Follows g s key owed (stood call stage from ballot round key l)
-  stood_so None is stage e = rests_so g s key owed l work
+  stood_so : (call : Option Waiting) → running key l.table.calls ≡ call → (stage : Stage) → (row_at key l.table.rows).stage ≡ stage → Follows g s key owed l (stood call stage from ballot round key l)
+  stood_so None is stage e = rests_so g s key owed l work free
   stood_so (Some w) is (stages.Checking asked votes reply) e = by_counts w is asked votes reply e (counts ballot round asked l) refl
-  stood_so (Some w) is stage e = rests_so g s key owed l work
+  stood_so (Some w) is stage e = rests_so g s key owed l work free
 
 pub run_counts : (view : List ℕ) (steps : List Step) → IsRun view steps → ChecksCount (state_after view steps)
 run_counts view steps run g key owed l from ballot round work free found says = let s = state_after view steps in

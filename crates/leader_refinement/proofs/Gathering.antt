@@ -19,7 +19,6 @@ use Rattle.quorum_round.specs.declared.round.RoundState.{RoundState}
 use Rattle.quorum_round.specs.declared.round.RoundState.TheVariants.{Open, Met, AllAnswered}
 use Rattle.register_model.specs.Registers.{outcome, Writes}
 use Rattle.register_model.specs.declared.register.Register.{Register}
-use Rattle.wire_frames.specs.declared.phase.Then.TheVariants.{Stay}
 use Rattle.abstract_protocol.specs.Objects.{epoch_of}
 use Rattle.abstract_protocol.specs.Book.{register_at, version_of}
 use Rattle.abstract_protocol.specs.Numbers.{epoch_number, IsVersion}
@@ -50,13 +49,13 @@ use Rattle.leader_laws.specs.Leaders.{RowHolds, IsObjectOf, IsParent}
 use Rattle.leader_laws.specs.Tables as theory
 use Rattle.leader_laws.specs.Tables.{Ghosts, Owed, Seat}
 use Rattle.leader_refinement.proofs.Answers.{answered_so, seat_owing}
-use Rattle.leader_refinement.proofs.Base.{row_of_work, finish, no_move, rests_so, tasked_so, knows_elsewhere, known_row, rows_fit, set_here, set_off, same_elsewhere, off_same}
+use Rattle.leader_refinement.proofs.Base.{row_of_work, finish, no_move, rests_so, tasked_so, runs_now, knows_elsewhere, known_row, rows_fit, calm_known, set_here, set_off, same_elsewhere, off_same}
 use Rattle.leader_refinement.proofs.Numbers.{rank_back, same_epochs}
 use Rattle.leader_refinement.proofs.Puts.{gone_same}
 use Rattle.leader_refinement.proofs.Votes.{IsClosed, closed_quorum}
 use Rattle.leader_refinement.specs.Seen.{rank, content_of, content_or_none, known_of, best_rank, best_object, voters, waiting_behind, row_parts, table_of}
-use Rattle.leader_refinement.specs.Follows.{settled_rank, KnownFits, FoundFits, StageFits, RowFits, IsOn, TaskHolds, IsAtWork, Follows, SentSays}
-use Rattle.leader_refinement.specs.Laws.{FoundSays, RepliesAreRead}
+use Rattle.leader_refinement.specs.Follows.{settled_rank, KnownFits, FoundFits, FoundNames, StageFits, RowFits, IsOn, TaskHolds, IsAtWork, Follows, SentSays}
+use Rattle.leader_refinement.specs.Laws.{RepliesAreRead}
 
 -- ## What a quorum showed
 
@@ -93,19 +92,22 @@ module _ (g : Ghosts) (s : State) (laws : LeadersMove s) (key : List ℕ) (owed 
   K = known_of (row_at key l.table.rows).known
 
   -- the command is applied, now that this is known of the key
-  applies_so : (known : Known) (current : Option Object) → RowHolds g s P D key (theory.row_of (known_of known) (theory.Sure w.id) Rest) → KnownFits known → object_register current ≡ register_at s.book (settled_rank known) → Follows g s key owed (with_task (tasks.Apply current) (knows key known l), leads_on 34 key)
+  applies_so : (known : Known) (current : Option Object) → RowHolds g s P D key (theory.row_of (known_of known) (theory.Sure w.id) Rest) → KnownFits known → object_register current ≡ register_at s.book (settled_rank known) → Follows g s key owed l (with_task (tasks.Apply current) (knows key known l), leads_on 34 key)
   applies_so known current row fits register = record {
     steps = [];
     ghosts = g;
     move = finish g g s [] (table_of key owed l) key (tasks.Apply current) new_table (no_move g s (table_of key owed l) work.holds) (λ j off. off_same key owed l j off ∙ knows_elsewhere key known l.table j off)
         (subst (λ (r : KeyRow). RowHolds g s P D key (row_parts r.known (running key l.table.calls) (tasks.Apply current) r.stage Rest)) (sym (known_row key known l.table.rows))
         (subst (λ (call : Option Waiting). RowHolds g s P D key (row_parts known call (tasks.Apply current) (row_at key l.table.rows).stage Rest)) (sym is) row));
+    kinds = tt;
     turns = work.turns;
-    fits = record { epoch = work.fits.epoch; seq = work.fits.seq; views = work.fits.views; rows = rows_fit l.fact.views key l.table.rows (with_known key known l.table.rows) (λ j off. known_other key j known l.table.rows off) (subst (λ (r : KeyRow). RowFits l.fact.views r) (sym (known_row key known l.table.rows)) (fits, (work.fits.rows key).1)) work.fits.rows; calls = work.fits.calls };
+    fits = record { epoch = work.fits.epoch; seq = work.fits.seq; views = work.fits.views; rows = rows_fit g.hash l.fact.views key l.table.rows (with_known key known l.table.rows) (λ j off. known_other key j known l.table.rows off) (subst (λ (r : KeyRow). RowFits g.hash l.fact.views key r) (sym (known_row key known l.table.rows)) (fits, (work.fits.rows key).1)) work.fits.rows; calls = work.fits.calls; calm = calm_known key known l.table work.fits.calm };
+    same = (refl, (refl, refl));
     task = subst (λ (call : Option Waiting). TaskHolds s (with_task (tasks.Apply current) (knows key known l)) key (row_at key new_table.rows).known call (tasks.Apply current)) (sym is) (record { register = register ∙ ap (λ (r : KeyRow). register_at s.book (settled_rank r.known)) (sym (known_row key known l.table.rows)) });
     notes = sym (append-nil s.book.notes);
     sends = All-nil (SentSays g s);
     ready = λ e. absurd cc;
+    next = (refl, (refl, runs_now key l.table.calls w is));
   }
     where
       new_table : CallTable
@@ -113,14 +115,14 @@ module _ (g : Ghosts) (s : State) (laws : LeadersMove s) (key : List ℕ) (owed 
 
   -- ## The replies of a round
 
-  module _ (round : ℕ) (votes : Round) (best : Option Found) (stage : (row_at key l.table.rows).stage ≡ stages.Reading round votes best) (says : FoundSays g key best) (rows : RowMoves s g P D key K Rest) where
+  module _ (round : ℕ) (votes : Round) (best : Option Found) (stage : (row_at key l.table.rows).stage ≡ stages.Reading round votes best) (rows : RowMoves s g P D key K Rest) where
     reading_row : RowHolds g s P D key (theory.row_of K (theory.Reading w.id round (voters votes) (best_rank best) (best_object best)) Rest)
     reading_row = subst (λ (st : Stage). RowHolds g s P D key (row_parts (row_at key l.table.rows).known (Some w) tasks.Nothing st Rest)) stage
         (subst (λ (call : Option Waiting). RowHolds g s P D key (row_parts (row_at key l.table.rows).known call tasks.Nothing (row_at key l.table.rows).stage Rest)) is
         (subst (λ (t : Pending). RowHolds g s P D key (row_parts (row_at key l.table.rows).known (running key l.table.calls) t (row_at key l.table.rows).stage Rest)) free (row_of_work g s key owed l work.holds)))
 
-    fits_here : IsOn l.fact.views votes × FoundFits best
-    fits_here = subst (λ (st : Stage). StageFits l.fact.views st) stage (work.fits.rows key).1
+    fits_here : IsOn l.fact.views votes × (FoundFits best × FoundNames g.hash key best)
+    fits_here = subst (λ (st : Stage). StageFits g.hash key l.fact.views st) stage (work.fits.rows key).1
 
     began_row : RowHolds g s P D key (theory.row_of K (theory.Begun w.id) Rest)
     began_row = reading_began g s P D key K Rest w.id round (voters votes) (best_rank best) (best_object best) reading_row
@@ -131,12 +133,12 @@ module _ (g : Ghosts) (s : State) (laws : LeadersMove s) (key : List ℕ) (owed 
     parent : IsClosed (state_of votes) → IsParent s D key (best_rank best)
     parent closed = keys.read_parent K w.id round (voters votes) (best_rank best) (best_object best) work.holds.elected (reading_row.known refl) reading_row.stage (quorum closed)
 
-    nothing_so : best ≡ None → IsClosed (state_of votes) → Follows g s key owed (with_task (tasks.Apply None) (knows key knowns.Absent l), leads_on 34 key)
+    nothing_so : best ≡ None → IsClosed (state_of votes) → Follows g s key owed l (with_task (tasks.Apply None) (knows key knowns.Absent l), leads_on 34 key)
     nothing_so none closed = applies_so knowns.Absent None (rows.finds_nothing w.id round (voters votes) (best_rank best) (best_object best) work.holds.elected (quorum closed) (ap best_rank none) reading_row) tt refl
 
     module _ (u : Found) (some : best ≡ Some u) (closed : IsClosed (state_of votes)) where
       u_fits : IsVersion u.entry.version
-      u_fits = subst FoundFits some fits_here.1
+      u_fits = subst FoundFits some fits_here.1.0
 
       u_parent : IsParent s D key (rank u.entry.version)
       u_parent = subst (λ (b : Option Found). IsParent s D key (best_rank b)) some (parent closed)
@@ -144,25 +146,25 @@ module _ (g : Ghosts) (s : State) (laws : LeadersMove s) (key : List ℕ) (owed 
       u_row : RowHolds g s P D key (theory.row_of K (theory.Reading w.id round (voters votes) (rank u.entry.version) (content_or_none u.object)) Rest)
       u_row = subst (λ (b : Option Found). RowHolds g s P D key (theory.row_of K (theory.Reading w.id round (voters votes) (best_rank b) (best_object b)) Rest)) some reading_row
 
-      blind_so : (verdict : Verdict) → blind_verdict w.command ≡ Some verdict → Follows g s key owed (decided (Some u.entry.version) verdict key l)
+      blind_so : (verdict : Verdict) → blind_verdict w.command ≡ Some verdict → Follows g s key owed l (decided (Some u.entry.version) verdict key l)
       blind_so verdict e = let is_blind = blind w.command verdict e in
-          subst (λ (v : Verdict). Follows g s key owed (decided (Some u.entry.version) v key l)) is_blind.verdict_is
-          (tasked_so g s key owed l work w is 31 (tasks.Write is_blind.content (Some u.entry.version)) began_row (record { parent_holds = u_parent; applies = is_blind.writes (register_at s.book (rank u.entry.version)); fits = u_fits }) (λ n. absurd cc))
+          subst (λ (v : Verdict). Follows g s key owed l (decided (Some u.entry.version) v key l)) is_blind.verdict_is
+          (tasked_so g s key owed l work w is 31 (tasks.Write is_blind.content (Some u.entry.version)) began_row (record { parent_holds = u_parent; applies = is_blind.writes (register_at s.book (rank u.entry.version)); fits = u_fits }) (λ n. absurd cc) (λ runs. (refl, runs)))
 
-      lost_so : Follows g s key owed (without_object AllAnswered w key l)
+      lost_so : Follows g s key owed l (without_object AllAnswered w key l)
       lost_so = let move = (laws.rows g (table_of key owed l) key K Rest work.holds).is_lost w.id began_row in
           answered_so g g s [] key owed l w replies.Lost (theory.set_row (table_of key owed l).rows key (theory.row_of K theory.Idle Rest)) free is move (set_off key l.task l.table l.table (theory.row_of K theory.Idle Rest) (same_elsewhere key l.table))
           (subst (λ (r : theory.KeyRow). RowHolds g s (seat_owing l owed w.id replies.Lost) D key r) (set_here (table_of key owed l).rows key (theory.row_of K theory.Idle Rest)) (move.holds.rows key))
-          work.turns work.fits [] [] None Stay [] (sym (append-nil s.book.notes)) (All-nil (SentSays g s))
+          work.turns work.fits tt [] [] (sym (append-nil s.book.notes)) (All-nil (SentSays g s))
 
-      without_so : (state : RoundState) → Follows g s key owed (without_object state w key l)
+      without_so : (state : RoundState) → Follows g s key owed l (without_object state w key l)
       without_so AllAnswered = lost_so
-      without_so Open = rests_so g s key owed l work
-      without_so Met = rests_so g s key owed l work
+      without_so Open = rests_so g s key owed l work free
+      without_so Met = rests_so g s key owed l work free
 
       module _ (o : Object) (object : u.object ≡ Some o) where
         o_says : (o.version ≡ u.entry.version) × (u.entry.digest ≡ g.hash u.entry.version key o.stamp o.value)
-        o_says = (subst (FoundSays g key) some says) o object
+        o_says = (subst (FoundNames g.hash key) some fits_here.1.1) o object
 
         o_row : RowHolds g s P D key (theory.row_of K (theory.Reading w.id round (voters votes) (rank u.entry.version) (Some (content_of o))) Rest)
         o_row = subst (λ (x : Option Object). RowHolds g s P D key (theory.row_of K (theory.Reading w.id round (voters votes) (rank u.entry.version) (content_or_none x)) Rest)) object u_row
@@ -176,7 +178,7 @@ module _ (g : Ghosts) (s : State) (laws : LeadersMove s) (key : List ℕ) (owed 
             parts : (d : List ℕ) (gone : Bool) → d ≡ u.entry.digest → gone ≡ is_none o.value → theory.Held (rank u.entry.version) o.stamp d gone ≡ theory.Held (rank u.entry.version) o.stamp u.entry.digest (is_none o.value)
             parts d gone e f = rw (e, f) refl
 
-        own_so : is_same u.entry.version.epoch l.fact.epoch ≡ true → Follows g s key owed (with_task (tasks.Apply (Some o)) (knows key (settled_as u.entry.version o u.entry.digest) l), leads_on 34 key)
+        own_so : is_same u.entry.version.epoch l.fact.epoch ≡ true → Follows g s key owed l (with_task (tasks.Apply (Some o)) (knows key (settled_as u.entry.version o u.entry.digest) l), leads_on 34 key)
         own_so same = applies_so (settled_as u.entry.version o u.entry.digest) (Some o)
             (subst (λ (known : theory.Known). RowHolds g s P D key (theory.row_of known (theory.Sure w.id) Rest)) held_same (rows.finds_settled w.id round (voters votes) (rank u.entry.version) (content_of o) work.holds.elected (quorum closed) epoch_is o_row))
             u_fits (register_of_object s (rank u.entry.version) (content_of o) o_is)
@@ -184,44 +186,44 @@ module _ (g : Ghosts) (s : State) (laws : LeadersMove s) (key : List ℕ) (owed 
             epoch_is : epoch_of (rank u.entry.version) ≡ D
             epoch_is = version_epoch (epoch_number u.entry.version.epoch) u.entry.version.seq u_fits.1 ∙ ap epoch_number (same_epochs u.entry.version.epoch l.fact.epoch same)
 
-        earlier_so : Follows g s key owed (with_task (tasks.Rewrite o) l, leads_on 32 key)
+        earlier_so : Follows g s key owed l (with_task (tasks.Rewrite o) l, leads_on 32 key)
         earlier_so = tasked_so g s key owed l work w is 32 (tasks.Rewrite o) began_row (record {
           parent_holds = subst (λ (v : Version). IsParent s D key (rank v)) (sym o_says.0) u_parent;
           object = subst (λ (v : Version). IsObjectOf s (rank v) (content_of o)) (sym o_says.0) o_is;
           fresh = fresh_of_replies s D w.id (voters votes) reading_row.stage.stood (quorum closed);
           fits = subst IsVersion (sym o_says.0) u_fits;
-        }) (λ n. absurd cc)
+        }) (λ n. absurd cc) (λ runs. (refl, runs))
 
-        by_epoch : (b : Bool) → is_same u.entry.version.epoch l.fact.epoch ≡ b → Follows g s key owed (if b then (with_task (tasks.Apply (Some o)) (knows key (settled_as u.entry.version o u.entry.digest) l), leads_on 34 key) else (with_task (tasks.Rewrite o) l, leads_on 32 key))
+        by_epoch : (b : Bool) → is_same u.entry.version.epoch l.fact.epoch ≡ b → Follows g s key owed l (if b then (with_task (tasks.Apply (Some o)) (knows key (settled_as u.entry.version o u.entry.digest) l), leads_on 34 key) else (with_task (tasks.Rewrite o) l, leads_on 32 key))
         by_epoch true same = own_so same
         by_epoch false other = earlier_so
 
-      found_so : (state : RoundState) (o : Option Object) → u.object ≡ o → Follows g s key owed (on_found o state u.entry w key l)
+      found_so : (state : RoundState) (o : Option Object) → u.object ≡ o → Follows g s key owed l (on_found o state u.entry w key l)
       found_so state None e = without_so state
       found_so state (Some o) e = by_epoch o e (is_same u.entry.version.epoch l.fact.epoch) refl
 
-      greatest_so : (state : RoundState) (verdict : Option Verdict) → blind_verdict w.command ≡ verdict → Follows g s key owed (on_greatest verdict state u w key l)
+      greatest_so : (state : RoundState) (verdict : Option Verdict) → blind_verdict w.command ≡ verdict → Follows g s key owed l (on_greatest verdict state u w key l)
       greatest_so state None e = found_so state u.object refl
       greatest_so state (Some verdict) e = blind_so verdict e
 
-    best_so : (state : RoundState) (b : Option Found) → best ≡ b → IsClosed (state_of votes) → Follows g s key owed (on_best b state w key l)
+    best_so : (state : RoundState) (b : Option Found) → best ≡ b → IsClosed (state_of votes) → Follows g s key owed l (on_best b state w key l)
     best_so state None e closed = nothing_so e closed
     best_so state (Some u) e closed = greatest_so u e closed state (blind_verdict w.command) refl
 
-    by_state_so : (state : RoundState) → state_of votes ≡ state → Follows g s key owed (by_state state best w key l)
-    by_state_so Open e = rests_so g s key owed l work
+    by_state_so : (state : RoundState) → state_of votes ≡ state → Follows g s key owed l (by_state state best w key l)
+    by_state_so Open e = rests_so g s key owed l work free
     by_state_so Met e = best_so Met best refl (subst IsClosed (sym e) tt)
     by_state_so AllAnswered e = best_so AllAnswered best refl (subst IsClosed (sym e) tt)
 
-  gathered_so : ((round : ℕ) (votes : Round) (best : Option Found) → (row_at key l.table.rows).stage ≡ stages.Reading round votes best → FoundSays g key best) → RowMoves s g P D key K Rest → (stage : Stage) → (row_at key l.table.rows).stage ≡ stage → Follows g s key owed (gathered stage w key l)
-  gathered_so says rows (stages.Reading round votes best) e = by_state_so round votes best e (says round votes best e) rows (state_of votes) refl
-  gathered_so says rows stage e = rests_so g s key owed l work
+  gathered_so : RowMoves s g P D key K Rest → (stage : Stage) → (row_at key l.table.rows).stage ≡ stage → Follows g s key owed l (gathered stage w key l)
+  gathered_so rows (stages.Reading round votes best) e = by_state_so round votes best e rows (state_of votes) refl
+  gathered_so rows stage e = rests_so g s key owed l work free
 
-gathered_for_so : (view : List ℕ) (steps : List Step) (run : IsRun view steps) (g : Ghosts) (key : List ℕ) (owed : List Owed) (l : Leader) → IsAtWork g (state_after view steps) key owed l → l.task ≡ tasks.Nothing → ((round : ℕ) (votes : Round) (best : Option Found) → (row_at key l.table.rows).stage ≡ stages.Reading round votes best → FoundSays g key best)
-    → (call : Option Waiting) → running key l.table.calls ≡ call → Follows g (state_after view steps) key owed (gathered_for call key l)
-gathered_for_so view steps run g key owed l work free says None is = rests_so g (state_after view steps) key owed l work
-gathered_for_so view steps run g key owed l work free says (Some w) is = gathered_so g (state_after view steps) (run_leaders view steps run) key owed l (run_keys view steps g (epoch_number l.fact.epoch) key run) work free w is says
+gathered_for_so : (view : List ℕ) (steps : List Step) (run : IsRun view steps) (g : Ghosts) (key : List ℕ) (owed : List Owed) (l : Leader) → IsAtWork g (state_after view steps) key owed l → l.task ≡ tasks.Nothing
+    → (call : Option Waiting) → running key l.table.calls ≡ call → Follows g (state_after view steps) key owed l (gathered_for call key l)
+gathered_for_so view steps run g key owed l work free None is = rests_so g (state_after view steps) key owed l work free
+gathered_for_so view steps run g key owed l work free (Some w) is = gathered_so g (state_after view steps) (run_leaders view steps run) key owed l (run_keys view steps g (epoch_number l.fact.epoch) key run) work free w is
     (run_rows view steps g (record { peer = l.me; owed = owed }) (epoch_number l.fact.epoch) key (known_of (row_at key l.table.rows).known) (waiting_behind key l.table.calls) run) (row_at key l.table.rows).stage refl
 
 pub run_reads : (view : List ℕ) (steps : List Step) → IsRun view steps → RepliesAreRead (state_after view steps)
-run_reads view steps run g key owed l work free says = inr (gathered_for_so view steps run g key owed l work free says (running key l.table.calls) refl)
+run_reads view steps run g key owed l work free = inr (gathered_for_so view steps run g key owed l work free (running key l.table.calls) refl)

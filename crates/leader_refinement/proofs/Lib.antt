@@ -11,3 +11,8 @@ pub mod Gathering
 pub mod Writes
 pub mod Checks
 pub mod Puts
+pub mod Leaving
+pub mod Staying
+pub mod Resting
+pub mod Ticks
+pub mod Steps

@@ -20,7 +20,7 @@ use Rattle.register_model.specs.declared.register.Register.TheVariants.{Absent, 
 use Rattle.wire_frames.specs.declared.phase.Seen.{Seen}
 use Rattle.wire_frames.specs.declared.phase.Seen.TheVariants as seens
 use Rattle.abstract_protocol.specs.Book.{register_at, version_of}
-use Rattle.abstract_protocol.specs.Numbers.{epoch_number, IsVersion}
+use Rattle.abstract_protocol.specs.Numbers.{epoch_number}
 use Rattle.abstract_protocol.specs.Protocol.{State, Step, IsRun, state_after}
 use Rattle.call_table.specs.Calls.{running}
 use Rattle.call_table.specs.Rows.{row_at}
@@ -34,19 +34,20 @@ use Rattle.leader_words.specs.declared.out.Own.TheVariants.{Look}
 use Rattle.leading.specs.Leaders.{base, decided}
 use Rattle.leading.specs.Starts.{on_object, by_value, by_stamp, on_present, by_known, started, next_call}
 use Rattle.leading.specs.declared.leader.Leader.{Leader}
+use Rattle.leading.proofs.Steps.{free as ready_free}
 use Rattle.leading.specs.declared.pending.Pending.{Pending}
 use Rattle.leading.specs.declared.pending.Pending.TheVariants as tasks
 use Rattle.leader_laws.proofs.Guards.{settled_parent}
 use Rattle.leader_laws.proofs.Runs.{run_keys}
 use Rattle.leader_laws.specs.Laws.{KeyLaws}
-use Rattle.leader_laws.specs.Leaders.{RowHolds, KnownHolds, HeldHolds, IsSettledKey, IsNoClash, IsObjectOf, IsParent}
+use Rattle.leader_laws.specs.Leaders.{RowHolds, KnownHolds, HeldHolds, IsSettledKey, IsObjectOf, IsParent}
 use Rattle.leader_laws.specs.Rows.{needs_bytes}
 use Rattle.leader_laws.specs.Tables as theory
 use Rattle.leader_laws.specs.Tables.{Ghosts, Owed}
 use Rattle.leader_refinement.proofs.Base.{row_of_work, stays, rests_so, tasked_so, agree_running}
-use Rattle.leader_refinement.proofs.Numbers.{rank_back, base_rank, base_fits, same_versions}
+use Rattle.leader_refinement.proofs.Numbers.{base_rank, base_fits, same_versions}
 use Rattle.leader_refinement.specs.Seen.{rank, content_of, known_of, waiting_behind, row_parts}
-use Rattle.leader_refinement.specs.Follows.{settled_rank, KnownFits, IsAtWork, Follows}
+use Rattle.leader_refinement.specs.Follows.{settled_rank, IsAtWork, Follows}
 use Rattle.leader_refinement.specs.Laws.{KeptSays, BackendSays, CallsStart, NextIsSought}
 
 -- ## Tasks
@@ -69,16 +70,16 @@ module _ (g : Ghosts) (s : State) (key : List ℕ) (owed : List Owed) (l : Leade
   asked_command = agree_running s.book key l.table.calls w work.fits.calls is
 
   -- the outcome of the command on the settled register: a write, or a check
-  pub decided_so : IsSettledKey (known_of K) → (o : Outcome) → outcome w.command (register_at s.book (settled_rank K)) ≡ o → Follows g s key owed (decided (base key l) (verdict_of o) key l)
+  pub decided_so : IsSettledKey (known_of K) → (o : Outcome) → outcome w.command (register_at s.book (settled_rank K)) ≡ o → Follows g s key owed l (decided (base key l) (verdict_of o) key l)
   decided_so settled (Writes content) e = tasked_so g s key owed l work w is 31 (tasks.Write content (base key l)) begun_row (record {
     parent_holds = subst (λ (u : ℕ). IsParent s (epoch_number l.fact.epoch) key u) (sym (base_rank K)) (settled_parent g s (epoch_number l.fact.epoch) key (known_of K) settled known_holds);
     applies = ap (λ (u : ℕ). outcome w.command (register_at s.book u)) (base_rank K) ∙ e;
     fits = base_fits K (work.fits.rows key).0;
-  }) (λ n. idle)
-  decided_so settled (Keeps reply) e = tasked_so g s key owed l work w is 33 (tasks.Check reply) begun_row (record { settled = settled; keeps = e }) (λ n. idle)
+  }) (λ n. idle) (λ runs. (refl, runs))
+  decided_so settled (Keeps reply) e = tasked_so g s key owed l work w is 33 (tasks.Check reply) begun_row (record { settled = settled; keeps = e }) (λ n. idle) (λ runs. (refl, runs))
 
-  pub reads_so : Follows g s key owed (l, leads_on 29 key)
-  reads_so = stays g s key owed l work (leads_on 29 key) refl refl refl (λ e. idle)
+  pub reads_so : Follows g s key owed l (l, leads_on 29 key)
+  reads_so = stays g s key owed l work (leads_on 29 key) refl refl refl (λ e. idle) (refl, ready_free 29 key l refl free)
 
 -- ## Commands
 
@@ -132,7 +133,7 @@ matched key version digest kept o e = by_name (is_named (record { key = key; ver
 -- ## Rule 28
 
 module _ (g : Ghosts) (s : State) (key : List ℕ) (owed : List Owed) (l : Leader) (laws : KeyLaws s g (epoch_number l.fact.epoch) key) (work : IsAtWork g s key owed l) (free : l.task ≡ tasks.Nothing) (idle : (row_at key l.table.rows).stage ≡ stages.Idle) where
-  on_nothing : (w : Waiting) → running key l.table.calls ≡ Some w → (row_at key l.table.rows).known ≡ knowns.Absent → Follows g s key owed (decided (base key l) (verdict_of (outcome w.command Absent)) key l)
+  on_nothing : (w : Waiting) → running key l.table.calls ≡ Some w → (row_at key l.table.rows).known ≡ knowns.Absent → Follows g s key owed l (decided (base key l) (verdict_of (outcome w.command Absent)) key l)
   on_nothing w is k = decided_so g s key owed l work free idle w is (subst (λ (known : Known). IsSettledKey (known_of known)) (sym k) tt) (outcome w.command Absent) (ap (λ (known : Known). outcome w.command (register_at s.book (settled_rank known))) k)
 
   module _ (w : Waiting) (is : running key l.table.calls ≡ Some w) (version stamp : Version) (digest : List ℕ) where
@@ -145,54 +146,49 @@ module _ (g : Ghosts) (s : State) (key : List ℕ) (owed : List Owed) (l : Leade
     held_so : (gone : Bool) → (row_at key l.table.rows).known ≡ knowns.Present version stamp digest gone → HeldHolds g s (epoch_number l.fact.epoch) key (rank version) stamp digest gone
     held_so gone k = subst (λ (known : Known). KnownHolds g s (epoch_number l.fact.epoch) key (known_of known)) k (known_holds g s key owed l work free idle w is)
 
-    fits_so : (gone : Bool) → (row_at key l.table.rows).known ≡ knowns.Present version stamp digest gone → IsVersion version
-    fits_so gone k = subst (λ (known : Known). KnownFits known) k (work.fits.rows key).0
-
     -- a command that is applied to a register that is the settled one
-    applied_so : (gone : Bool) → (row_at key l.table.rows).known ≡ knowns.Present version stamp digest gone → (register : Register) → outcome w.command register ≡ outcome w.command (register_at s.book (rank version)) → Follows g s key owed (decided (base key l) (verdict_of (outcome w.command register)) key l)
+    applied_so : (gone : Bool) → (row_at key l.table.rows).known ≡ knowns.Present version stamp digest gone → (register : Register) → outcome w.command register ≡ outcome w.command (register_at s.book (rank version)) → Follows g s key owed l (decided (base key l) (verdict_of (outcome w.command register)) key l)
     applied_so gone k register e = decided_so g s key owed l work free idle w is (settled_so gone k) (outcome w.command register) (ap (λ (known : Known). outcome w.command (register_at s.book (settled_rank known))) k ∙ sym e)
 
-    on_kept : (kept : Object × List ℕ) → KeptSays g s key kept → (row_at key l.table.rows).known ≡ knowns.Present version stamp digest false → (o : Option Object) → matching (record { key = key; version = version; digest = digest }) (Some kept) ≡ o → Follows g s key owed (on_object o w.command key l)
+    on_kept : (kept : Object × List ℕ) → KeptSays g s key kept → (row_at key l.table.rows).known ≡ knowns.Present version stamp digest false → (o : Option Object) → matching (record { key = key; version = version; digest = digest }) (Some kept) ≡ o → Follows g s key owed l (on_object o w.command key l)
     on_kept kept says k None e = reads_so g s key owed l work free idle w is
     on_kept kept says k (Some o) e = applied_so false k (register_of o) (ap (λ (register : Register). outcome w.command register) (laws.object_register (rank version) (content_of o) object))
       where
         named : IsNamed key version digest kept o
         named = matched key version digest kept o e
 
-        apart : IsNoClash g s (rank version) key (content_of o)
-        apart = subst (λ (x : Object). IsNoClash g s (rank version) key (content_of x)) named.object (subst (λ (v : Version). IsNoClash g s (rank v) key (content_of kept.0)) named.version_is says.apart)
+        holds : HeldHolds g s (epoch_number l.fact.epoch) key (rank version) stamp digest false
+        holds = held_so false k
 
-        hashed : g.hash (version_of (rank version)) key o.stamp o.value ≡ digest
-        hashed = subst (λ (x : Object). g.hash (version_of (rank version)) key x.stamp x.value ≡ digest) named.object
-            (subst (λ (v : Version). g.hash v key kept.0.stamp kept.0.value ≡ digest) (named.version_is ∙ sym (rank_back version (fits_so false k)))
-            (subst (λ (j : List ℕ). g.hash kept.0.version j kept.0.stamp kept.0.value ≡ digest) named.on_key (sym says.digest ∙ named.digest_is)))
+        there : s.objects.settled (rank version) ≡ true → s.objects.key (rank version) ≡ key → kept.1 ≡ g.hash (version_of (rank version)) key (s.book.stamp (rank version)) (s.book.content (rank version)) → IsObjectOf s (rank version) (content_of kept.0)
+        there = subst (λ (v : Version). s.objects.settled (rank v) ≡ true → s.objects.key (rank v) ≡ key → kept.1 ≡ g.hash (version_of (rank v)) key (s.book.stamp (rank v)) (s.book.content (rank v)) → IsObjectOf s (rank v) (content_of kept.0)) named.version_is (says named.on_key)
 
         object : IsObjectOf s (rank version) (content_of o)
-        object = laws.matched_object (rank version) stamp digest false (content_of o) apart (held_so false k) hashed
+        object = subst (λ (x : Object). IsObjectOf s (rank version) (content_of x)) named.object (there holds.newest.settled holds.newest.key (named.digest_is ∙ holds.same_digest))
 
-    by_value_so : (seen : Seen) → BackendSays g s key seen → (row_at key l.table.rows).known ≡ knowns.Present version stamp digest false → Follows g s key owed (by_value seen version digest w.command key l)
-    by_value_so seens.Nothing says k = stays g s key owed l work (and_own (Look key) rests) refl refl refl tt
+    by_value_so : (seen : Seen) → BackendSays g s key seen → (row_at key l.table.rows).known ≡ knowns.Present version stamp digest false → Follows g s key owed l (by_value seen version digest w.command key l)
+    by_value_so seens.Nothing says k = stays g s key owed l work (and_own (Look key) rests) refl refl refl tt (refl, free)
     by_value_so (seens.Kept None) says k = reads_so g s key owed l work free idle w is
     by_value_so (seens.Kept (Some kept)) says k = on_kept kept says k (matching (record { key = key; version = version; digest = digest }) (Some kept)) refl
-    by_value_so seen says k = rests_so g s key owed l work
+    by_value_so seen says k = rests_so g s key owed l work free
 
-    by_stamp_so : (seen : Seen) → BackendSays g s key seen → (row_at key l.table.rows).known ≡ knowns.Present version stamp digest false → (verdict : Option Verdict) → stamp_verdict w.command stamp ≡ verdict → Follows g s key owed (by_stamp verdict seen version digest w.command key l)
+    by_stamp_so : (seen : Seen) → BackendSays g s key seen → (row_at key l.table.rows).known ≡ knowns.Present version stamp digest false → (verdict : Option Verdict) → stamp_verdict w.command stamp ≡ verdict → Follows g s key owed l (by_stamp verdict seen version digest w.command key l)
     by_stamp_so seen says k None e = by_value_so seen says k
     by_stamp_so seen says k (Some verdict) e = let decides = stamp_decides w.command stamp verdict e in
-        subst (λ (v : Verdict). Follows g s key owed (decided (base key l) v key l)) (sym decides.1)
+        subst (λ (v : Verdict). Follows g s key owed l (decided (base key l) v key l)) (sym decides.1)
         (applied_so false k (Present stamp []) (laws.stamp_outcome (rank version) stamp digest [] w.command (held_so false k) decides.0))
 
-    on_present_so : (seen : Seen) → BackendSays g s key seen → (gone : Bool) → (row_at key l.table.rows).known ≡ knowns.Present version stamp digest gone → Follows g s key owed (on_present gone version stamp digest seen w.command key l)
+    on_present_so : (seen : Seen) → BackendSays g s key seen → (gone : Bool) → (row_at key l.table.rows).known ≡ knowns.Present version stamp digest gone → Follows g s key owed l (on_present gone version stamp digest seen w.command key l)
     on_present_so seen says true k = applied_so true k Absent (ap (λ (register : Register). outcome w.command register) (laws.gone_register (rank version) stamp digest (held_so true k)))
     on_present_so seen says false k = by_stamp_so seen says k (stamp_verdict w.command stamp) refl
 
-  by_known_so : (w : Waiting) → running key l.table.calls ≡ Some w → (seen : Seen) → BackendSays g s key seen → (known : Known) → (row_at key l.table.rows).known ≡ known → Follows g s key owed (by_known known seen w.command key l)
+  by_known_so : (w : Waiting) → running key l.table.calls ≡ Some w → (seen : Seen) → BackendSays g s key seen → (known : Known) → (row_at key l.table.rows).known ≡ known → Follows g s key owed l (by_known known seen w.command key l)
   by_known_so w is seen says knowns.Unknown k = reads_so g s key owed l work free idle w is
   by_known_so w is seen says knowns.Absent k = on_nothing w is k
   by_known_so w is seen says (knowns.Present version stamp digest gone) k = on_present_so w is version stamp digest seen says gone k
 
-  started_so : (seen : Seen) → BackendSays g s key seen → (call : Option Waiting) → running key l.table.calls ≡ call → Follows g s key owed (started call seen key l)
-  started_so seen says None is = rests_so g s key owed l work
+  started_so : (seen : Seen) → BackendSays g s key seen → (call : Option Waiting) → running key l.table.calls ≡ call → Follows g s key owed l (started call seen key l)
+  started_so seen says None is = rests_so g s key owed l work free
   started_so seen says (Some w) is = by_known_so w is seen says (row_at key l.table.rows).known refl
 
 pub run_starts : (view : List ℕ) (steps : List Step) → IsRun view steps → CallsStart (state_after view steps)
@@ -200,9 +196,9 @@ run_starts view steps run g key owed l seen work free idle says = inr (started_s
 
 -- ## Rule 36
 
-next_so : (g : Ghosts) (s : State) (key : List ℕ) (owed : List Owed) (l : Leader) → IsAtWork g s key owed l → (row_at key l.table.rows).stage ≡ stages.Idle → (call : Option Waiting) → Follows g s key owed (l, next_call call key)
-next_so g s key owed l work idle None = rests_so g s key owed l work
-next_so g s key owed l work idle (Some w) = stays g s key owed l work (leads_on 28 key) refl refl refl (λ e. idle)
+next_so : (g : Ghosts) (s : State) (key : List ℕ) (owed : List Owed) (l : Leader) → IsAtWork g s key owed l → l.task ≡ tasks.Nothing → (row_at key l.table.rows).stage ≡ stages.Idle → (call : Option Waiting) → Follows g s key owed l (l, next_call call key)
+next_so g s key owed l work free idle None = rests_so g s key owed l work free
+next_so g s key owed l work free idle (Some w) = stays g s key owed l work (leads_on 28 key) refl refl refl (λ e. idle) (refl, ready_free 28 key l refl free)
 
 pub run_next : (view : List ℕ) (steps : List Step) → IsRun view steps → NextIsSought (state_after view steps)
-run_next view steps run g key owed l work idle = inr (next_so g (state_after view steps) key owed l work idle (running key l.table.calls))
+run_next view steps run g key owed l work free idle = inr (next_so g (state_after view steps) key owed l work free idle (running key l.table.calls))

@@ -59,19 +59,22 @@ module _ (g : Ghosts) (s : State) (tables : TablesStay s) (key : List ℕ) (owed
   proposed_so : (o : Object) (parent : Option Version) (call : Option ℕ) (row : theory.KeyRow) → o.key ≡ key → o.version ≡ numbered l (suc l.seq) → IsVersion o.version → MayBeVersion parent → ((i : ℕ) → call ≡ Some i → i ≡ w.id) → ((i : ℕ) → call ≡ Some i → o.stamp ≡ o.version)
       → IsLeaderMove g s (Propose (rank o.version) key (rank_or_none parent) o.stamp o.value call ∷ []) g (record { epoch = epoch_number l.fact.epoch; seat = record { peer = l.me; owed = owed }; seq = suc l.seq; round = l.round; rows = theory.set_row (table_of key owed l).rows key row })
       → row ≡ row_parts (row_at key l.table.rows).known (Some w) (tasks.Propose o parent call) (row_at key l.table.rows).stage (waiting_behind key l.table.calls) → suc l.seq < 2 ^ 64
-      → Follows g s key owed (proposing l key (suc l.seq) o parent call)
+      → Follows g s key owed l (proposing l key (suc l.seq) o parent call)
   proposed_so o parent call row on_key version fits parent_fits for_call own_stamp move row_is below = record {
     steps = steps;
     ghosts = g;
     move = finish g g s steps leader key (tasks.Propose o parent call) l.table move (λ j off. rw off refl)
         (subst (λ (c : Option Waiting). RowHolds g (after s steps) (record { peer = l.me; owed = owed }) (epoch_number l.fact.epoch) key (row_parts (row_at key l.table.rows).known c (tasks.Propose o parent call) (row_at key l.table.rows).stage (waiting_behind key l.table.calls))) (sym is)
         (subst (λ (r : theory.KeyRow). RowHolds g (after s steps) (record { peer = l.me; owed = owed }) (epoch_number l.fact.epoch) key r) (set_here (table_of key owed l).rows key row ∙ row_is) (move.holds.rows key)));
+    kinds = (tt, tt);
     turns = tables.turns g steps move.may work.turns;
-    fits = record { epoch = work.fits.epoch; seq = below; views = work.fits.views; rows = work.fits.rows; calls = work.fits.calls };
+    fits = record { epoch = work.fits.epoch; seq = below; views = work.fits.views; rows = work.fits.rows; calls = work.fits.calls; calm = work.fits.calm };
+    same = (refl, (refl, refl));
     task = subst (λ (c : Option Waiting). TaskHolds (after s steps) (record l { seq = suc l.seq; task = tasks.Propose o parent call }) key (row_at key l.table.rows).known c (tasks.Propose o parent call)) (sym is) (record { on_key = on_key; version = version; fits = fits; for_call = for_call; own_stamp = own_stamp });
     notes = noted (version_of (rank o.version)) (version_or_none (rank_or_none parent)) (rank_back o.version fits) (option_back parent parent_fits);
     sends = All-nil (SentSays g (after s steps));
     ready = tt;
+    next = (on_key, parent, call, refl);
   }
     where
       steps : List Step
@@ -97,7 +100,7 @@ module _ (g : Ghosts) (s : State) (tables : TablesStay s) (key : List ℕ) (owed
     writes_now laws unspent = (laws.rows g (table_of key owed l) key (known_of (row_at key l.table.rows).known) (waiting_behind key l.table.calls) work.holds).writes w.id (rank_or_none parent) content (next_fits l.seq work.fits.seq unspent) write_row write_holds.parent_holds
         (ap (λ (c : Command). outcome c (register_at s.book (rank_or_none parent))) (agree_running s.book key l.table.calls w work.fits.calls is) ∙ write_holds.applies)
 
-    written_so : LeadersMove s → is_spent l.seq ≡ false → Follows g s key owed (proposing l key (suc l.seq) (written_at l key content (suc l.seq)) parent (Some w.id))
+    written_so : LeadersMove s → is_spent l.seq ≡ false → Follows g s key owed l (proposing l key (suc l.seq) (written_at l key content (suc l.seq)) parent (Some w.id))
     written_so laws unspent = proposed_so (written_at l key content (suc l.seq)) parent (Some w.id) (row_with (version_of (theory.next_version (table_of key owed l)))) refl refl (next_is_version unspent) write_holds.fits (λ i e. some_same i w.id e) (λ i e. refl)
         (subst (λ (v : Version). IsLeaderMove g s (Propose (rank (numbered l (suc l.seq))) key (rank_or_none parent) v content (Some w.id) ∷ []) g (put_write (table_of key owed l) key (known_of (row_at key l.table.rows).known) w.id (waiting_behind key l.table.calls) content)) (rank_back (numbered l (suc l.seq)) (next_is_version unspent)) (writes_now laws unspent))
         (ap row_with (rank_back (numbered l (suc l.seq)) (next_is_version unspent))) (next_fits l.seq work.fits.seq unspent)
@@ -109,8 +112,8 @@ module _ (g : Ghosts) (s : State) (tables : TablesStay s) (key : List ℕ) (owed
         some_same i j e = cc
 
     by_spent : LeadersMove s → (b : Bool) → is_spent l.seq ≡ b → GoesOn g s key owed l (noted_next key (if b then (with_task tasks.Nothing l, leaves) else (record l { seq = l.seq + 1; task = tasks.Propose (written_at l key content (l.seq + 1)) parent (Some w.id) }, leads_on 35 key)))
-    by_spent laws true spent = inl (record { why = inl refl; calls = refl; answers = refl; notes = refl; sends = refl })
-    by_spent laws false unspent = inr (subst (λ (n : ℕ). Follows g s key owed (proposing l key n (written_at l key content n) parent (Some w.id))) (plus_one l.seq) (written_so laws unspent))
+    by_spent laws true spent = inl (record { why = inl refl; calls = refl; same = (refl, (refl, refl)) })
+    by_spent laws false unspent = inr (subst (λ (n : ℕ). Follows g s key owed l (proposing l key n (written_at l key content n) parent (Some w.id))) (plus_one l.seq) (written_so laws unspent))
 
   -- ## Rule 32
 
@@ -122,14 +125,14 @@ module _ (g : Ghosts) (s : State) (tables : TablesStay s) (key : List ℕ) (owed
     rewrite_row = subst (λ (call : Option Waiting). RowHolds g s (record { peer = l.me; owed = owed }) (epoch_number l.fact.epoch) key (row_parts (row_at key l.table.rows).known call (tasks.Rewrite o) (row_at key l.table.rows).stage (waiting_behind key l.table.calls))) is
         (subst (λ (t : Pending). RowHolds g s (record { peer = l.me; owed = owed }) (epoch_number l.fact.epoch) key (row_parts (row_at key l.table.rows).known (running key l.table.calls) t (row_at key l.table.rows).stage (waiting_behind key l.table.calls))) task (row_of_work g s key owed l work.holds))
 
-    again_so : LeadersMove s → is_spent l.seq ≡ false → Follows g s key owed (proposing l key (suc l.seq) (again_at l key o (suc l.seq)) (Some o.version) None)
+    again_so : LeadersMove s → is_spent l.seq ≡ false → Follows g s key owed l (proposing l key (suc l.seq) (again_at l key o (suc l.seq)) (Some o.version) None)
     again_so laws unspent = proposed_so (again_at l key o (suc l.seq)) (Some o.version) None (theory.row_of (known_of (row_at key l.table.rows).known) (theory.Rewriting w.id (theory.next_version (table_of key owed l)) (content_of o) (λ q. false)) (waiting_behind key l.table.calls)) refl refl (next_is_version unspent) rewrite_holds.fits (λ i e. absurd cc) (λ i e. absurd cc)
         ((laws.rows g (table_of key owed l) key (known_of (row_at key l.table.rows).known) (waiting_behind key l.table.calls) work.holds).rewrites w.id (rank o.version) (content_of o) (next_fits l.seq work.fits.seq unspent) rewrite_row rewrite_holds.parent_holds rewrite_holds.object rewrite_holds.fresh)
         refl (next_fits l.seq work.fits.seq unspent)
 
     again_by_spent : LeadersMove s → (b : Bool) → is_spent l.seq ≡ b → GoesOn g s key owed l (noted_next key (if b then (with_task tasks.Nothing l, leaves) else (record l { seq = l.seq + 1; task = tasks.Propose (again_at l key o (l.seq + 1)) (Some o.version) None }, leads_on 35 key)))
-    again_by_spent laws true spent = inl (record { why = inl refl; calls = refl; answers = refl; notes = refl; sends = refl })
-    again_by_spent laws false unspent = inr (subst (λ (n : ℕ). Follows g s key owed (proposing l key n (again_at l key o n) (Some o.version) None)) (plus_one l.seq) (again_so laws unspent))
+    again_by_spent laws true spent = inl (record { why = inl refl; calls = refl; same = (refl, (refl, refl)) })
+    again_by_spent laws false unspent = inr (subst (λ (n : ℕ). Follows g s key owed l (proposing l key n (again_at l key o n) (Some o.version) None)) (plus_one l.seq) (again_so laws unspent))
 
 module _ (g : Ghosts) (s : State) (laws : LeadersMove s) (tables : TablesStay s) (key : List ℕ) (owed : List Owed) (l : Leader) (work : IsAtWork g s key owed l) where
   -- a task needs a running call

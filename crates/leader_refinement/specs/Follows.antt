@@ -1,5 +1,6 @@
 -- What the answer of a rule of a leader has to agree with in the theory.
-use Rattle.std.specs.Prelude.{◌≡◌, ◌⊎◌, ◌<◌, ◌^◌, ℕ, ◌==◌, ◌||◌, Bool, true, All, List, [], ◌∷◌, ◌++◌, Option, None, Some}
+use Rattle.std.specs.Prelude.{◌≡◌, ◌⊎◌, ◌<◌, ◌^◌, ℕ, ◌==◌, ◌||◌, Bool, true, false, All, List, [], ◌∷◌, ◌++◌, map, Option, None, Some}
+use Rattle.ens_base.specs.Lists.{◌∈◌, AreDistinct}
 use Rattle.ens_base.specs.declared.epoch.Version.{Version}
 use Rattle.ens_base.specs.declared.reply.Reply.{Reply}
 use Rattle.ens_object.specs.declared.object.Object.{Object}
@@ -8,7 +9,8 @@ use Rattle.register_model.specs.Registers.{outcome, Keeps, Writes}
 use Rattle.register_model.specs.declared.call.Call.{Call}
 use Rattle.abstract_protocol.specs.Numbers.{epoch_number, IsEpoch, IsVersion}
 use Rattle.abstract_protocol.specs.Book.{Book, register_at}
-use Rattle.abstract_protocol.specs.Protocol.{State, Step, after}
+use Rattle.peer_fact.specs.declared.fact.Fact.{Fact}
+use Rattle.abstract_protocol.specs.Protocol.{State, Step, Acknowledge, Ask, Propose, Settle, Note, happens, after}
 use Rattle.quorum_round.specs.declared.round.Round.{Round}
 use Rattle.wire_frames.specs.declared.message.Message.{Message}
 use Rattle.wire_frames.specs.declared.message.Message.TheVariants as messages
@@ -23,16 +25,21 @@ use Rattle.call_table.specs.declared.row.Stage.{Stage}
 use Rattle.call_table.specs.declared.row.Stage.TheVariants as stages
 use Rattle.call_table.specs.declared.row.KeyRow.{KeyRow}
 use Rattle.call_table.specs.declared.waiting.Waiting.{Waiting}
+use Rattle.leader_words.specs.Outs.{comes, leaves}
 use Rattle.leader_words.specs.declared.out.LeadOut.{LeadOut}
 use Rattle.leader_words.specs.declared.out.Outgoing.{Outgoing}
+use Rattle.leader_words.specs.declared.out.Own.{Own}
+use Rattle.leader_words.specs.declared.out.Own.TheVariants as owns
+use Rattle.leading.specs.Steps.{IsCalm, IsReady}
+use Rattle.leading.specs.Ticks.{left_answer}
 use Rattle.leading.specs.declared.leader.Leader.{Leader}
 use Rattle.leading.specs.declared.pending.Pending.{Pending}
 use Rattle.leading.specs.declared.pending.Pending.TheVariants as tasks
-use Rattle.leader_laws.specs.Tables.{Ghosts, Owed, base_of}
-use Rattle.leader_laws.specs.Leaders.{LeaderHolds, TurnsHold, IsParent, IsObjectOf, IsSettledKey, IsFresh}
+use Rattle.leader_laws.specs.Tables.{Ghosts, Owed, base_of, calls_of, timeouts, with_home}
+use Rattle.leader_laws.specs.Leaders.{LeaderHolds, TurnsHold, OwesHold, IsParent, IsObjectOf, IsSettledKey, IsFresh}
 use Rattle.leader_laws.specs.Messages.{GetSays, CheckSays, PutSays}
 use Rattle.leader_laws.specs.Moves.{IsLeaderMove}
-use Rattle.leader_refinement.specs.Seen.{rank, rank_or_none, content_of, known_of, table_of, owed_after}
+use Rattle.leader_refinement.specs.Seen.{rank, rank_or_none, content_of, known_of, ids_of, table_of, owed_after}
 
 -- ## Numbers and rounds of a row
 
@@ -54,15 +61,31 @@ FoundFits (Some f) = IsVersion f.entry.version
 abbrev pub IsOn : List (List ℕ) → Round → Type 0
 IsOn views round = round.tally.views ≡ views
 
--- the round of a stage asks these views, and its versions are in range
-abbrev pub StageFits : List (List ℕ) → Stage → Type 0
-StageFits views stages.Idle = Unit {0}
-StageFits views (stages.Reading round heard best) = IsOn views heard × FoundFits best
-StageFits views (stages.Checking round heard reply) = IsOn views heard
-StageFits views (stages.Putting o digest acks rewrite) = IsOn views acks × IsVersion o.version
+-- the digest of an object, by its version, key, stamp and value
+abbrev pub Hash : Type 0
+Hash = Version → List ℕ → Version → Option (List ℕ) → List ℕ
 
-abbrev pub RowFits : List (List ℕ) → KeyRow → Type 0
-RowFits views row = KnownFits row.known × StageFits views row.stage
+-- the object of the best reply has the version of its entry, and the entry its digest
+abbrev pub FoundNames : Hash → List ℕ → Option Found → Type 0
+FoundNames hash key None = Unit {0}
+FoundNames hash key (Some u) = (o : Object) → u.object ≡ Some o → (o.version ≡ u.entry.version) × (u.entry.digest ≡ hash u.entry.version key o.stamp o.value)
+
+-- what is said of an object that is out: its key, its digest, and the stamp of a write
+pub record PutFits (hash : Hash) (key : List ℕ) (rewrite : Bool) (o : Object) (digest : List ℕ) : Type 0 where
+  pub on_key : o.key ≡ key
+  pub hashed : digest ≡ hash o.version key o.stamp o.value
+  pub stamp : rewrite ≡ false → o.stamp ≡ o.version
+
+-- the round of a stage asks these views, its versions are in range, and its digests are those of its
+-- objects
+abbrev pub StageFits : Hash → List ℕ → List (List ℕ) → Stage → Type 0
+StageFits hash key views stages.Idle = Unit {0}
+StageFits hash key views (stages.Reading round heard best) = IsOn views heard × (FoundFits best × FoundNames hash key best)
+StageFits hash key views (stages.Checking round heard reply) = IsOn views heard
+StageFits hash key views (stages.Putting o digest acks rewrite) = IsOn views acks × (IsVersion o.version × PutFits hash key rewrite o digest)
+
+abbrev pub RowFits : Hash → List (List ℕ) → List ℕ → KeyRow → Type 0
+RowFits hash views key row = KnownFits row.known × StageFits hash key views row.stage
 
 -- ## Tasks
 
@@ -121,19 +144,20 @@ AreCalled called asked (w ∷ ws) = ((called w.id ≡ true) × ((asked w.id).com
 abbrev pub CallsAgree : Book → List Waiting → Type 0
 CallsAgree b calls = AreCalled b.called b.asked calls
 
--- numbers, views, rounds and calls of the program's leader
-pub record LeaderFits (s : State) (l : Leader) : Type 0 where
+-- numbers, views, rounds, digests and calls of the program's leader; a key without a call is idle
+pub record LeaderFits (hash : Hash) (s : State) (l : Leader) : Type 0 where
   pub epoch : IsEpoch l.fact.epoch
   pub seq : l.seq < 2 ^ 64
   pub views : s.objects.ledger.views (epoch_number l.fact.epoch) ≡ l.fact.views
-  pub rows : (key : List ℕ) → RowFits l.fact.views (row_at key l.table.rows)
+  pub rows : (key : List ℕ) → RowFits hash l.fact.views key (row_at key l.table.rows)
   pub calls : CallsAgree s.book l.table.calls
+  pub calm : IsCalm l.table
 
 -- between two rules on the key the leader, who owes these answers, is seen as a leader of the theory
 pub record IsAtWork (g : Ghosts) (s : State) (key : List ℕ) (owed : List Owed) (l : Leader) : Type 0 where
   pub holds : LeaderHolds g s (table_of key owed l)
   pub turns : TurnsHold g s
-  pub fits : LeaderFits s l
+  pub fits : LeaderFits g.hash s l
   pub task : TaskHolds s l key (row_at key l.table.rows).known (running key l.table.calls) l.task
 
 -- ## The answer of a rule
@@ -153,27 +177,97 @@ abbrev pub IsReadyFor : Then → List ℕ → Leader → Type 0
 IsReadyFor (Rule n) key l = ((n == 28) || ((n == 29) || (n == 36))) ≡ true → (row_at key l.table.rows).stage ≡ stages.Idle
 IsReadyFor next key l = Unit {0}
 
--- the leader makes moves of the theory: the answers are owed, the notes are those of the book, and
--- the messages say what holds
-pub record Follows (g : Ghosts) (s : State) (key : List ℕ) (owed : List Owed) (r : Leader × LeadOut) : Type 0 where
+-- what comes next finds the task that it takes: the stores are asked about the key without a task, or
+-- to take the object that is to be proposed; a rule that is named runs on the key; and without one no
+-- task is left
+abbrev pub NextFits : List ℕ → Leader → Option Own → Then → List (List ℕ) → Type 0
+NextFits key l (Some (owns.Look k)) next keys = (k ≡ key) × (l.task ≡ tasks.Nothing)
+NextFits key l (Some (owns.Put o)) next keys = (o.key ≡ key) × (parent : Option Version) × (call : Option ℕ) × (l.task ≡ tasks.Propose o parent call)
+NextFits key l None (Rule n) keys = (keys ≡ key ∷ []) × IsReady n key l
+NextFits key l None next keys = (keys ≡ []) × (l.task ≡ tasks.Nothing)
+
+-- a leader proposes, settles and notes reads, and its own peer acknowledges
+abbrev pub IsLeaderStep : ℕ → Step → Type 0
+IsLeaderStep me (Propose v k u stamp content call) = Unit {0}
+IsLeaderStep me (Settle v) = Unit {0}
+IsLeaderStep me (Note i k u d) = Unit {0}
+IsLeaderStep me (Acknowledge p v) = p ≡ me
+IsLeaderStep me step = ⊥
+
+abbrev pub AreLeaderSteps : ℕ → List Step → Type 0
+AreLeaderSteps me [] = Unit {0}
+AreLeaderSteps me (step ∷ steps) = IsLeaderStep me step × AreLeaderSteps me steps
+
+-- such steps keep the ledger, the trees of the peers with their trust, and what is recorded of calls,
+-- answers and times
+pub record IsKept (s t : State) : Type 0 where
+  pub ledger : t.objects.ledger ≡ s.objects.ledger
+  pub map : t.objects.map ≡ s.objects.map
+  pub visible : t.objects.visible ≡ s.objects.visible
+  pub floor : t.objects.floor ≡ s.objects.floor
+  pub trusted : t.objects.trusted ≡ s.objects.trusted
+  pub reverted : t.objects.reverted ≡ s.objects.reverted
+  pub calls : t.book.calls ≡ s.book.calls
+  pub called : t.book.called ≡ s.book.called
+  pub asked : t.book.asked ≡ s.book.asked
+  pub stood : t.book.stood ≡ s.book.stood
+  pub answers : t.book.answers ≡ s.book.answers
+  pub answered : t.book.answered ≡ s.book.answered
+  pub now : t.book.now ≡ s.book.now
+  pub elected_at : t.book.elected_at ≡ s.book.elected_at
+
+-- the leader of this fact at this peer makes moves of the theory: the answers are owed, the notes are
+-- those of the book, and the messages say what holds
+pub record FollowsAs (g : Ghosts) (s : State) (key : List ℕ) (owed : List Owed) (fact : Fact) (me : ℕ) (accepts : List Bool) (r : Leader × LeadOut) : Type 0 where
   pub steps : List Step
   pub ghosts : Ghosts
   pub move : IsLeaderMove g s steps ghosts (table_of key (owed_after owed r.1.answers) r.0)
+  pub kinds : AreLeaderSteps me steps
   pub turns : TurnsHold ghosts (after s steps)
-  pub fits : LeaderFits (after s steps) r.0
+  pub fits : LeaderFits ghosts.hash (after s steps) r.0
+  pub same : (r.0.fact ≡ fact) × ((r.0.me ≡ me) × (r.0.accepts ≡ accepts))
   pub task : TaskHolds (after s steps) r.0 key (row_at key r.0.table.rows).known (running key r.0.table.calls) r.0.task
   pub notes : (after s steps).book.notes ≡ s.book.notes ++ r.1.notes
   pub sends : All (SentSays ghosts (after s steps)) r.1.sends
   pub ready : IsReadyFor r.1.then key r.0
+  pub next : NextFits key r.0 r.1.own r.1.then r.1.keys
+
+-- after the leader l
+abbrev pub Follows : Ghosts → State → List ℕ → List Owed → Leader → Leader × LeadOut → Type 0
+Follows g s key owed l r = FollowsAs g s key owed l.fact l.me l.accepts r
+
+-- a call comes, and the leader goes on from there: both together are a move of the theory
+pub record TakesCall (g : Ghosts) (s : State) (key : List ℕ) (owed : List Owed) (l : Leader) (c : Call) (r : Leader × LeadOut) : Type 0 where
+  pub follows : Follows (with_home g c.id l.me) (happens s (Ask c)) key owed l r
+  pub move : IsLeaderMove g s (Ask c ∷ follows.steps) follows.ghosts (table_of key (owed_after owed r.1.answers) r.0)
 
 -- the leader steps down, or its peer no longer trusts its tree: nothing is answered, noted or sent,
--- and its calls are as they were, so that each is answered `timeout` when it leaves
+-- and its calls are the same, up to their ages, so that each is answered `timeout` when it leaves
 pub record Ends (l : Leader) (r : Leader × LeadOut) : Type 0 where
-  pub why : (r.1.leave ≡ true) ⊎ (r.1.then ≡ Untrust)
-  pub calls : r.0.table.calls ≡ l.table.calls
-  pub answers : r.1.answers ≡ []
-  pub notes : r.1.notes ≡ []
-  pub sends : r.1.sends ≡ []
+  pub why : (r.1 ≡ leaves) ⊎ (r.1 ≡ comes Untrust)
+  pub calls : map left_answer r.0.table.calls ≡ map left_answer l.table.calls
+  pub same : (r.0.fact ≡ l.fact) × ((r.0.me ≡ l.me) × (r.0.accepts ≡ l.accepts))
 
 abbrev pub GoesOn : Ghosts → State → List ℕ → List Owed → Leader → Leader × LeadOut → Type 0
-GoesOn g s key owed l r = Ends l r ⊎ Follows g s key owed r
+GoesOn g s key owed l r = Ends l r ⊎ Follows g s key owed l r
+
+-- time has passed at a leader without a task: the answers are owed, nothing is noted or sent, and
+-- rule 36 comes next on each key that is named, which is idle, so that its next call starts
+pub record TimesOut (g : Ghosts) (s : State) (owed : List Owed) (l : Leader) (r : Leader × LeadOut) : Type 0 where
+  pub move : (key : List ℕ) → IsLeaderMove g s [] g (table_of key (owed_after owed r.1.answers) r.0)
+  pub fits : LeaderFits g.hash s r.0
+  pub same : (r.0.fact ≡ l.fact) × ((r.0.me ≡ l.me) × (r.0.accepts ≡ l.accepts))
+  pub task : r.0.task ≡ tasks.Nothing
+  pub notes : r.1.notes ≡ []
+  pub sends : r.1.sends ≡ []
+  pub own : r.1.own ≡ None
+  pub next : r.1.then ≡ Rule 36
+  pub ready : (key : List ℕ) → key ∈ r.1.keys → (row_at key r.0.table.rows).stage ≡ stages.Idle
+
+-- the leader leaves: its unanswered calls are calls of its table, each once, and for each a timeout
+-- is owed, in order of arrival
+pub record Leaves (g : Ghosts) (s : State) (key : List ℕ) (owed : List Owed) (l : Leader) : Type 0 where
+  pub distinct : AreDistinct (ids_of l.table.calls)
+  pub among : (i : ℕ) → i ∈ ids_of l.table.calls → (k : List ℕ) × (i ∈ calls_of ((table_of key owed l).rows k))
+  pub answers : owed_after owed (map left_answer l.table.calls) ≡ owed ++ timeouts (ids_of l.table.calls)
+  pub owes : OwesHold g s l.me (owed_after owed (map left_answer l.table.calls))

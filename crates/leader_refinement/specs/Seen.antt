@@ -101,6 +101,11 @@ abbrev pub ids_on : List ℕ → List Waiting → List ℕ
 ids_on key [] = []
 ids_on key (w ∷ ws) = if same_bytes w.key key then w.id ∷ ids_on key ws else ids_on key ws
 
+-- the unanswered calls, in order of arrival
+abbrev pub ids_of : List Waiting → List ℕ
+ids_of [] = []
+ids_of (w ∷ ws) = w.id ∷ ids_of ws
+
 -- those that wait behind the running one
 abbrev pub waiting_behind : List ℕ → List Waiting → List ℕ
 waiting_behind key [] = []

@@ -1,4 +1,5 @@
 use Rattle.leader_refinement.proofs.Openings.{run_begins}
+use Rattle.leader_refinement.proofs.Ticks.{run_ticks}
 use Rattle.leader_refinement.proofs.Joins.{run_joins}
 use Rattle.leader_refinement.proofs.Starts.{run_starts, run_next}
 use Rattle.leader_refinement.proofs.Asking.{run_asks, run_got}
@@ -6,11 +7,14 @@ use Rattle.leader_refinement.proofs.Gathering.{run_reads}
 use Rattle.leader_refinement.proofs.Writes.{run_writes, run_rewrites}
 use Rattle.leader_refinement.proofs.Checks.{run_checks, run_counts}
 use Rattle.leader_refinement.proofs.Answers.{run_applies}
-use Rattle.leader_refinement.proofs.Puts.{run_stored, run_acknowledged}
+use Rattle.leader_refinement.proofs.Puts.{run_goes_in, run_stored, run_acknowledged}
 use Rattle.leader_refinement.proofs.laws.rules_are_moves.Goals as goal
 
 pub returns-clause-begins : goal.returns-clause-begins
 returns-clause-begins c = run_begins
+
+pub returns-clause-ticks : goal.returns-clause-ticks
+returns-clause-ticks c = run_ticks
 
 pub returns-clause-joins : goal.returns-clause-joins
 returns-clause-joins c = run_joins
@@ -41,6 +45,9 @@ returns-clause-checks_count c = run_counts
 
 pub returns-clause-applies : goal.returns-clause-applies
 returns-clause-applies c = run_applies
+
+pub returns-clause-goes_in : goal.returns-clause-goes_in
+returns-clause-goes_in c = run_goes_in
 
 pub returns-clause-puts : goal.returns-clause-puts
 returns-clause-puts c = run_stored
