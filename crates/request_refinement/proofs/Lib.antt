@@ -1,0 +1,6 @@
+pub mod Numbers
+pub mod Lookups
+pub mod Names
+pub mod Looks
+pub mod Staying
+pub mod Replying

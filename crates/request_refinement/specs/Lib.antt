@@ -1,0 +1,3 @@
+pub mod Naming
+pub mod Replies
+pub mod Laws
