@@ -76,7 +76,7 @@ not_new trusted me new may is_new = by_views new.views is_new (part trusted (not
         false_of false h = refl
 
 -- a peer that starts an epoch accepts it at once, or waits for a sync
-starts_either : (P : Election × PhaseOut → Type 0) (trusted : Bool) (me : ℕ) (new : Fact)
+pub starts_either : (P : Election × PhaseOut → Type 0) (trusted : Bool) (me : ℕ) (new : Fact)
     → (may_accept trusted me new ≡ true → P (Starting new (alone me) 0, saves_and_sends new (others_of me (members new.views)) (messages.NewEpoch new) (thens.Rule 14)))
     → P (Starting new nobody 0, sends (others_of me (members new.views)) (messages.NewEpoch new) (thens.SyncOn new)) → P (starts trusted me new)
 unfolding starts

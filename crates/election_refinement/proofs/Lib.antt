@@ -16,6 +16,8 @@ pub mod Announcements
 pub mod Changes
 pub mod Ticks
 pub mod Rules
+pub mod Whole
+pub mod Parts
 pub mod Syncing
 pub mod Loops
 pub mod Worlds

@@ -1,5 +1,5 @@
 -- The runs of the abstract protocol that extend a run by steps of one peer.
-use Rattle.std.proofs.Common.{◌≡◌, ℕ, ◌<◌, ◌≤◌, Bool, true, false, ◌==◌, ◌||◌, eqb-true, List, ◌∷◌, ◌++◌, length, ◌⊎◌, inl, inr, arith, refl, ap, le_trans, ◌∙◌, sym, subst}
+use Rattle.std.proofs.Common.{◌≡◌, ℕ, ◌<◌, ◌≤◌, Bool, true, false, ◌==◌, ◌||◌, eqb-true, List, [], ◌∷◌, ◌++◌, length, ◌⊎◌, inl, inr, arith, refl, ap, le_trans, ◌∙◌, sym, subst}
 use Rattle.std.specs.Prelude.{nat_le}
 use Rattle.std.proofs.lemmas.Bool.Decides.{nat_tests}
 use Rattle.joint_views.proofs.Majorities.{meet_of_quorums, shares_itself}
@@ -25,9 +25,26 @@ pub record Course : Type 0 where
   pub peer : ℕ
   pub is_peer : IsPeer peer
 
--- an extension of the run leads to this ledger
+-- a step that belongs to a rule of this peer's elections: a step of the peer itself, or of the leader
+-- of an epoch that the peer proposes
+abbrev pub IsRowStep : ℕ → Step → Type 0
+IsRowStep p (Raise q d) = q ≡ p
+IsRowStep p (Elect d base) = proposer_of d ≡ p
+IsRowStep p (Accept q d) = q ≡ p
+IsRowStep p (Commit d change) = proposer_of d ≡ p
+IsRowStep p (Adopt q d) = q ≡ p
+IsRowStep p (Install q d merged) = q ≡ p
+IsRowStep p (EndSync q d) = q ≡ p
+IsRowStep p other = ⊥
+
+abbrev pub AreRowSteps : ℕ → List Step → Type 0
+AreRowSteps p [] = Unit {0}
+AreRowSteps p (step ∷ steps) = IsRowStep p step × AreRowSteps p steps
+
+-- an extension of the run, by such steps of the peer, leads to this ledger
 pub record Reaches (c : Course) (l : Ledger) : Type 0 where
   pub more : List Step
+  pub kinds : AreRowSteps c.peer more
   pub run : IsRun c.view (more ++ c.steps)
   pub same : ledger_after c.view (more ++ c.steps) ≡ l
   pub orderly : IsOrderly l
@@ -98,6 +115,7 @@ module _ (c : Course) (l : Ledger) (r : Reaches c l) where
   pub raise_reaches : (d : ℕ) → l.ballot p ≤ d → Reaches c (raise l p d)
   raise_reaches d may = record {
     more = Raise p d ∷ r.more;
+    kinds = (refl, r.kinds);
     run = (r.run, (subst (λ m. m.ballot p ≤ d) (sym r.same) may, tt));
     same = ap (λ m. raise m p d) r.same;
     orderly = raise_orderly d may;
@@ -122,6 +140,7 @@ module _ (c : Course) (l : Ledger) (r : Reaches c l) where
   pub elect_reaches : (d : ℕ) (b : Place) → p ≡ proposer_of d → d ≤ l.ballot p → (may : MayElect l d b) → ((q : ℕ) → may.voters q ≡ true → l.adopted b.epoch q ≡ true → IsAtMost (second_of b.epoch) b) → Reaches c (elect l d b)
   elect_reaches d b own stands may told = record {
     more = Elect d b ∷ r.more;
+    kinds = (sym own, r.kinds);
     run = (r.run, (subst (λ m. MayElect m d b) (sym r.same) may, tt));
     same = ap (λ m. elect m d b) r.same;
     orderly = elect_orderly d b own stands may told;
@@ -131,6 +150,7 @@ module _ (c : Course) (l : Ledger) (r : Reaches c l) where
   pub accept_reaches : (d : ℕ) → l.elected d ≡ true → l.ballot p ≡ d → (l.fact p).epoch < d → ¬ IsNew (l.views d) p → Reaches c (accept l p d)
   accept_reaches d elected stands newer old = record {
     more = Accept p d ∷ r.more;
+    kinds = (refl, r.kinds);
     run = (r.run, (subst (λ m. MayAccept m p d) (sym r.same) may, tt));
     same = ap (λ m. accept m p d) r.same;
     orderly = record { reached = r.orderly.reached; fits = r.orderly.fits; adopted = adopted_below d newer; left = left_stays (accept l p d) (accept_keeps l p d stands) };
@@ -145,6 +165,7 @@ module _ (c : Course) (l : Ledger) (r : Reaches c l) where
       let joined = joins_after view (r.more ++ c.steps) r.run p d later (subst (λ m. m.elected d ≡ true) (sym r.same) elected) (subst (λ m. m.ballot p ≡ d) (sym r.same) stands) (subst (λ m. (m.fact p).epoch < d) (sym r.same) newer) in
       record {
         more = EndSync p d ∷ Install p d joined.merged ∷ r.more;
+        kinds = (refl, (refl, r.kinds));
         run = joined.run;
         same = ap (λ m. join m p d) r.same;
         orderly = record { reached = r.orderly.reached; fits = r.orderly.fits; adopted = adopted_below d newer; left = left_stays (join l p d) (join_keeps l p d stands) };
@@ -162,6 +183,7 @@ module _ (c : Course) (l : Ledger) (r : Reaches c l) where
   pub commit_reaches : (d : ℕ) (change : Change) → p ≡ proposer_of d → MayCommit l d → IsFitting change (l.views d) → Reaches c (commit l d change)
   commit_reaches d change own may fits = record {
     more = Commit d change ∷ r.more;
+    kinds = (sym own, r.kinds);
     run = (r.run, (subst (λ m. MayCommit m d) (sym r.same) may, tt));
     same = ap (λ m. commit m d change) r.same;
     orderly = commit_orderly d change own may.fresh fits;
@@ -171,6 +193,7 @@ module _ (c : Course) (l : Ledger) (r : Reaches c l) where
   pub adopt_reaches : (d : ℕ) → MayAdopt l p d → Reaches c (adopt l p d)
   adopt_reaches d may = record {
     more = Adopt p d ∷ r.more;
+    kinds = (refl, r.kinds);
     run = (r.run, (subst (λ m. MayAdopt m p d) (sym r.same) may, tt));
     same = ap (λ m. adopt m p d) r.same;
     orderly = record { reached = r.orderly.reached; fits = r.orderly.fits; adopted = adopted; left = left_stays (adopt l p d) (adopt_keeps l p d may.stands) };

@@ -1,5 +1,5 @@
 -- A world and a run of the abstract protocol advance together.
-use Rattle.std.proofs.Common.{◌≡◌, ◌≢◌, ℕ, zero, suc, ◌<◌, ◌≤◌, ◌-◌, Bool, true, false, ◌==◌, eqb-true, ◌⊎◌, inl, inr, List, [], ◌∷◌, ◌++◌, map, length, Option, Some, None, Result, Ok, Err, slice_get, slice_set, get_or, arith, refl, ap, le_trans, ◌∙◌, sym, subst}
+use Rattle.std.proofs.Common.{◌≡◌, ◌≢◌, ℕ, zero, suc, ◌<◌, ◌≤◌, ◌-◌, Bool, true, false, ◌==◌, eqb-true, ◌⊎◌, inl, inr, List, [], ◌∷◌, ◌++◌, map, length, Option, Some, None, Result, Ok, Err, slice_get, slice_set, get_or, append_assoc, arith, refl, ap, le_trans, ◌∙◌, sym, subst}
 use Rattle.std.specs.Prelude.{All}
 use Rattle.std.proofs.lemmas.Bool.{eqb-false}
 use Rattle.std.proofs.lemmas.List.{get_or-set_same, get_or-set_other, length-set}
@@ -47,7 +47,7 @@ use Rattle.election_refinement.proofs.Keeps.{Keeps, keeps_none, node_keeps, fram
 use Rattle.election_refinement.proofs.Loops.{EventHolds, Here, Rests, Good, LeavesFact, step_good, start_good}
 use Rattle.election_refinement.proofs.Reaching.{Course, Reaches}
 use Rattle.election_refinement.specs.Refinement.{PeerHolds, IsKept, NodeHolds, SendHolds, FrameHolds}
-use Rattle.election_refinement.specs.Worlds.{Spares, Refines, ledger_after, GoesOn}
+use Rattle.election_refinement.specs.Worlds.{Spares, Refines, ledger_after, IsRefinement, GoesOn}
 
 -- the element at a place after an element was set
 get_put : {A : Type 0} (xs : List A) (p q : ℕ) (y m : A) → slice_get (slice_set xs p y) q ≡ Some m → ((p ≡ q) × (m ≡ y)) ⊎ ((p ≡ q → ⊥) × (slice_get xs q ≡ Some m))
@@ -185,13 +185,16 @@ module _ (view : List ℕ) (steps : List Step) (spared : ℕ → Type 0) where
   abbrev ledger_of : (w : Run) → GoesOn view steps w → Ledger
   ledger_of w g = ledger_after view (g.more ++ steps)
 
-  -- the beginning of a step of a peer
-  abbrev course : (p : ℕ) → IsPeer p → Course
-  course p peer = record { view = view; steps = steps; peer = p; is_peer = peer }
+  -- the beginning of a step of a peer: the run has all steps so far
+  abbrev course : (p : ℕ) → IsPeer p → (w : Run) → GoesOn view steps w → Course
+  course p peer w g = record { view = view; steps = g.more ++ steps; peer = p; is_peer = peer }
 
   -- ## A step of a peer
 
   module _ (p : ℕ) (peer : IsPeer p) (w : Run) (g : GoesOn view steps w) where
+    begins : Reaches (course p peer w g) (ledger_of w g)
+    begins = record { more = []; kinds = tt; run = g.refinement.run; same = refl; orderly = g.refinement.refines.orderly }
+
     apart : (place : ℕ) → (place_of p ≡ place → ⊥) → p ≡ suc place → ⊥
     apart place other same = other (omega (arith, same))
 
@@ -199,11 +202,8 @@ module _ (view : List ℕ) (steps : List Step) (spared : ℕ → Type 0) where
     number place same = omega (arith, same, peer.0)
 
     -- the world with this node of the peer
-    put_goes_on : (t : Taken) (v : Run) → (h : Agrees (course p peer) (ledger_of w g) t) → v.nodes ≡ slice_set w.nodes (place_of p) t.node → All (FrameHolds h.ledger) v.mail.sent → GoesOn view steps v
-    put_goes_on t v h set sent = record {
-      more = h.reaches.more;
-      refinement = record { run = h.reaches.run; refines = subst (λ l. Refines l v) (sym h.reaches.same) (record { orderly = h.reaches.orderly; nodes = nodes; sent = sent }) };
-    }
+    put_goes_on : (t : Taken) (v : Run) → (h : Agrees (course p peer w g) (ledger_of w g) t) → v.nodes ≡ slice_set w.nodes (place_of p) t.node → All (FrameHolds h.ledger) v.mail.sent → GoesOn view steps v
+    put_goes_on t v h set sent = record { more = h.reaches.more ++ g.more; refinement = subst (λ all. IsRefinement view all v) (sym (append_assoc h.reaches.more g.more steps)) extended }
       where
         put : (place : ℕ) (node : Node) → slice_get (slice_set w.nodes (place_of p) t.node) place ≡ Some node → NodeHolds h.ledger (suc place) node
         put place node is = elim (get_put w.nodes (place_of p) place t.node node is) [
@@ -214,43 +214,46 @@ module _ (view : List ℕ) (steps : List Step) (spared : ℕ → Type 0) where
         nodes : (place : ℕ) (node : Node) → slice_get v.nodes place ≡ Some node → NodeHolds h.ledger (suc place) node
         nodes place node is = put place node (ap (λ ns. slice_get ns place) (sym set) ∙ is)
 
+        extended : IsRefinement view (h.reaches.more ++ (g.more ++ steps)) v
+        extended = record { run = h.reaches.run; refines = subst (λ l. Refines l v) (sym h.reaches.same) (record { orderly = h.reaches.orderly; nodes = nodes; sent = sent }) }
+
     -- what was sent before still holds
-    sent_before : (t : Taken) → (h : Agrees (course p peer) (ledger_of w g) t) → All (FrameHolds h.ledger) w.mail.sent
+    sent_before : (t : Taken) → (h : Agrees (course p peer w g) (ledger_of w g) t) → All (FrameHolds h.ledger) w.mail.sent
     sent_before t h = frames_keep (ledger_of w g) h.ledger p h.keeps w.mail.sent g.refinement.refines.sent
 
-    taken_goes_on : (t : Taken) → Agrees (course p peer) (ledger_of w g) t → GoesOn view steps (with_taken p t w)
+    taken_goes_on : (t : Taken) → Agrees (course p peer w g) (ledger_of w g) t → GoesOn view steps (with_taken p t w)
     taken_goes_on t h = put_goes_on t (with_taken p t w) h refl (posted_all_hold (FrameHolds h.ledger) (map (frame_from p) t.out.sends) w.mail (sent_before t h) (frames_hold h.ledger p peer t.out.sends h.sends))
 
-    changed_goes_on : (node : Node) → Agrees (course p peer) (ledger_of w g) (silent node) → GoesOn view steps (record w { nodes = slice_set w.nodes (place_of p) node })
+    changed_goes_on : (node : Node) → Agrees (course p peer w g) (ledger_of w g) (silent node) → GoesOn view steps (record w { nodes = slice_set w.nodes (place_of p) node })
     changed_goes_on node h = put_goes_on (silent node) (record w { nodes = slice_set w.nodes (place_of p) node }) h refl (sent_before (silent node) h)
 
     -- a node that agrees with the ledger as it is
-    still : (node : Node) → NodeHolds (ledger_of w g) p node → Agrees (course p peer) (ledger_of w g) (silent node)
+    still : (node : Node) → NodeHolds (ledger_of w g) p node → Agrees (course p peer w g) (ledger_of w g) (silent node)
     still node holds = record {
       ledger = ledger_of w g;
       keeps = keeps_none (ledger_of w g) p;
-      reaches = record { more = g.more; run = g.refinement.run; same = refl; orderly = g.refinement.refines.orderly };
+      reaches = begins;
       node = holds;
       sends = All-nil (SendHolds (ledger_of w g) p);
     }
 
     -- the plan of a step from this state
-    step_is_good : (event : Event) (x : State) (stored : Option Fact) → PeerHolds (ledger_of w g) p x stored → EventHolds (ledger_of w g) event → Good (course p peer) (ledger_of w g) (step_of p event x) stored
-    step_is_good event x stored holds event_holds = step_good (course p peer) (ledger_of w g) event x stored here event_holds
+    step_is_good : (event : Event) (x : State) (stored : Option Fact) → PeerHolds (ledger_of w g) p x stored → EventHolds (ledger_of w g) event → Good (course p peer w g) (ledger_of w g) (step_of p event x) stored
+    step_is_good event x stored holds event_holds = step_good (course p peer w g) (ledger_of w g) event x stored here event_holds
       where
-        here : Here (course p peer) (ledger_of w g) x stored nothing
+        here : Here (course p peer w g) (ledger_of w g) x stored nothing
         here = record {
           ledger = ledger_of w g;
           keeps = keeps_none (ledger_of w g) p;
           fits = record {
-            reaches = record { more = g.more; run = g.refinement.run; same = refl; orderly = g.refinement.refines.orderly };
+            reaches = begins;
             peer = holds;
           };
           sends = All-nil (SendHolds (ledger_of w g) p);
         }
 
-    taken_agrees : (event : Event) (node : Node) → NodeHolds (ledger_of w g) p node → EventHolds (ledger_of w g) event → Agrees (course p peer) (ledger_of w g) (taken p event node)
-    taken_agrees event (Up x st) holds event_holds = every_end (course p peer) (ledger_of w g) (step_of p event x) (held_with st []) [] (step_is_good event x st.facts.kept holds event_holds)
+    taken_agrees : (event : Event) (node : Node) → NodeHolds (ledger_of w g) p node → EventHolds (ledger_of w g) event → Agrees (course p peer w g) (ledger_of w g) (taken p event node)
+    taken_agrees event (Up x st) holds event_holds = every_end (course p peer w g) (ledger_of w g) (step_of p event x) (held_with st []) [] (step_is_good event x st.facts.kept holds event_holds)
     taken_agrees event (Down st) holds event_holds = still (Down st) holds
 
     -- a spared peer stays one
@@ -262,28 +265,28 @@ module _ (view : List ℕ) (steps : List Step) (spared : ℕ → Type 0) where
     taken_spared event (Down st) come spare = absurd spare
 
     -- a start from the kept fact
-    started_agrees : (opening : List ℕ) (node : Node) → NodeHolds (ledger_of w g) p node → Agrees (course p peer) (ledger_of w g) (silent (started opening node))
+    started_agrees : (opening : List ℕ) (node : Node) → NodeHolds (ledger_of w g) p node → Agrees (course p peer w g) (ledger_of w g) (silent (started opening node))
     started_agrees opening (Up x st) holds = still (Up x st) holds
     started_agrees opening (Down st) holds =
-        silenced (course p peer) (ledger_of w g) (taken_of (run_over (start_of opening) st)) (every_end (course p peer) (ledger_of w g) (start_of opening) (held_with st []) []
-        (start_good (course p peer) (ledger_of w g) opening st.facts.kept (record {
+        silenced (course p peer w g) (ledger_of w g) (taken_of (run_over (start_of opening) st)) (every_end (course p peer w g) (ledger_of w g) (start_of opening) (held_with st []) []
+        (start_good (course p peer w g) (ledger_of w g) opening st.facts.kept (record {
           ledger = ledger_of w g;
           keeps = keeps_none (ledger_of w g) p;
-          reaches = record { more = g.more; run = g.refinement.run; same = refl; orderly = g.refinement.refines.orderly };
+          reaches = begins;
           kept = holds;
         })))
 
     -- a stop
-    stopped_agrees : (node : Node) → NodeHolds (ledger_of w g) p node → Agrees (course p peer) (ledger_of w g) (silent (stopped node))
+    stopped_agrees : (node : Node) → NodeHolds (ledger_of w g) p node → Agrees (course p peer w g) (ledger_of w g) (silent (stopped node))
     stopped_agrees (Up x st) holds = still (Down st) (record { fact = x.fact; kept = holds.kept; saved = holds.saved })
     stopped_agrees (Down st) holds = still (Down st) holds
 
     -- a change of the stores that keeps the fact
-    over_agrees : (f : HeldStores → HeldStores) → ((st : HeldStores) → (f st).facts.kept ≡ st.facts.kept) → (node : Node) → NodeHolds (ledger_of w g) p node → Agrees (course p peer) (ledger_of w g) (silent (over_stores f node))
+    over_agrees : (f : HeldStores → HeldStores) → ((st : HeldStores) → (f st).facts.kept ≡ st.facts.kept) → (node : Node) → NodeHolds (ledger_of w g) p node → Agrees (course p peer w g) (ledger_of w g) (silent (over_stores f node))
     over_agrees f kept (Up x st) holds = still (Up x (f st)) (subst (PeerHolds (ledger_of w g) p x) (sym (kept st)) holds)
     over_agrees f kept (Down st) holds = still (Down (f st)) (subst (IsKept (ledger_of w g) p) (sym (kept st)) holds)
 
-    while_agrees : (f : HeldStores → HeldStores) → ((st : HeldStores) → (f st).facts.kept ≡ st.facts.kept) → (node : Node) → NodeHolds (ledger_of w g) p node → Agrees (course p peer) (ledger_of w g) (silent (while_down f node))
+    while_agrees : (f : HeldStores → HeldStores) → ((st : HeldStores) → (f st).facts.kept ≡ st.facts.kept) → (node : Node) → NodeHolds (ledger_of w g) p node → Agrees (course p peer w g) (ledger_of w g) (silent (while_down f node))
     while_agrees f kept (Up x st) holds = still (Up x st) holds
     while_agrees f kept (Down st) holds = over_agrees f kept (Down st) holds
 
@@ -312,7 +315,7 @@ module _ (view : List ℕ) (steps : List Step) (spared : ℕ → Type 0) where
 
   -- a change of the node of a peer
   changed_refines : (p : ℕ) → (peer : IsPeer p) → (change : Node → Node) (w : Run) → (a : Advances w)
-      → ((node : Node) → NodeHolds (ledger_of w a.on) p node → Agrees (course p peer) (ledger_of w a.on) (silent (change node)))
+      → ((node : Node) → NodeHolds (ledger_of w a.on) p node → Agrees (course p peer w a.on) (ledger_of w a.on) (silent (change node)))
       → (spared (place_of p) → (node : Node) → IsSpared node → IsSpared (change node)) → ((node : Node) → IsOwnNode p node → IsOwnNode p (change node)) → Advances (changed p change w)
   changed_refines p peer change w a agrees spares own = by_node (slice_get w.nodes (place_of p)) refl
     where

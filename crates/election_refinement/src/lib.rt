@@ -20,6 +20,10 @@
 //! `proofs/Requests` those of a peer that is asked; `proofs/Changes` has those of a change of views,
 //! and `proofs/Syncing` the end of a sync. `proofs/Loops` takes them all through a step, and
 //! `proofs/Worlds` takes steps through the lines of a schedule.
+//!
+//! A crate that follows the whole state of the abstract protocol takes the rows of a phase from two
+//! further files: `proofs/Whole` has the steps that a peer takes on a row, and `proofs/Parts` has what
+//! the row does to the peer's part in leading: whether it begins an epoch, leads it, or neither.
 #![tactic(auto)]
 
 mod laws;
