@@ -1,3 +1,4 @@
+pub mod Taken
 pub mod Walking
 pub mod Answering
 pub mod Determined

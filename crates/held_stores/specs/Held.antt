@@ -1,7 +1,8 @@
 -- The stores of a peer in memory, and the strings that were hashed.
-use Rattle.std.specs.Prelude.{◌≡◌, ℕ, List, [], ◌∷◌, ◌++◌, Option, None, Some}
+use Rattle.std.specs.Prelude.{◌≡◌, ◌≤◌, ℕ, List, [], ◌∷◌, ◌++◌, Option, None, Some, Contains}
 use Rattle.ens_hashing.specs.Hashing.{Takes}
 use Rattle.ens_outside.specs.declared.memory.failing_call.Leaves.{Leaves}
+use Rattle.md5.specs.Md5.{md5}
 use Rattle.peer_core.specs.declared.stores.Stores.{Stores}
 use Rattle.world_stores.specs.Faults.{no_faults}
 use Rattle.world_stores.specs.Nodes.{Nodes}
@@ -38,3 +39,28 @@ unless_failing (Some leaves) goes fails = fails leaves
 abbrev pub HasTaken : List (List ℕ) → Option (List (List ℕ)) → Option (List (List ℕ)) → Type 0
 HasTaken [] first kept = kept ≡ first
 HasTaken (x ∷ xs) first kept = (next : Option (List (List ℕ))) × Takes x first next × HasTaken xs next kept
+
+-- what is known of a hasher: the strings that it keeps, if it tells them, and how often it found a
+-- clash and a full book
+pub record Account : Type 0 where
+  pub kept : Option (List (List ℕ))
+  pub clashes : ℕ
+  pub fulls : ℕ
+
+-- what is known of this hasher
+abbrev pub account : {H : Type 0} → (H → Option (List (List ℕ))) → (H → ℕ) → (H → ℕ) → H → Account
+account kept clashes fulls h = record { kept = kept h; clashes = clashes h; fulls = fulls h }
+
+-- a hasher took these strings, one after another, and no count fell
+pub record HasHashed (strings : List (List ℕ)) (first now : Account) : Type 0 where
+  pub taken : HasTaken strings first.kept now.kept
+  pub clashes : first.clashes ≤ now.clashes
+  pub fulls : first.fulls ≤ now.fulls
+
+-- no two different strings of these have the same MD5
+abbrev pub HasNoClash : List (List ℕ) → Type 0
+HasNoClash strings = (first second : List ℕ) → Contains strings first → Contains strings second → md5 first ≡ md5 second → first ≡ second
+
+-- the first list is a prefix of the second
+abbrev pub StartsWith : {A : Type 0} → List A → List A → Type 0
+StartsWith {A} first whole = (more : List A) × (whole ≡ first ++ more)

@@ -1,15 +1,17 @@
 -- The only run of a plan.
-use Rattle.std.specs.Prelude.{◌≡◌, ◌⊎◌, ℕ, List, Option, Some}
+use Rattle.std.specs.Prelude.{◌≡◌, ◌⊎◌, ℕ, List, [], ◌∷◌, ◌++◌, Option, Some}
+use Rattle.ens_base.specs.Causes.{Rose}
+use Rattle.ens_hashing.specs.Hashing.{IsClash, IsKept, AreClashFree}
 use Rattle.register_model.specs.declared.note.Note.{Note}
 use Rattle.step_plans.specs.Calls.{Call, AnswerOf}
 use Rattle.step_plans.specs.Plans.{Plan, Ending, Finished, Stopped, Runs}
 use Rattle.step_plans.specs.declared.error.PeerError.{PeerError}
-use Rattle.step_plans.specs.declared.error.PeerError.TheVariants.{Memory, Clash, BookFull}
+use Rattle.step_plans.specs.declared.error.PeerError.TheVariants.{Memory, Clash, BookFull, StoreFault}
 use Rattle.peer_core.specs.Stores.{stores_do, stores_refuse}
 use Rattle.world_stores.specs.Facts.{FactDoes, FactRefuses, kept_of}
 use Rattle.world_stores.specs.Nodes.{NodesDo, NodesRefuse, top_of}
 use Rattle.world_stores.specs.Objects.{ObjectsDo, ObjectsRefuse}
-use Rattle.held_stores.specs.Held.{HeldStores, Held, HasTaken}
+use Rattle.held_stores.specs.Held.{HeldStores, Held, Account, account, HasTaken, HasHashed, HasNoClash}
 use Rattle.held_stores.specs.Runs.{run}
 
 -- what stores in memory and a hasher may answer to a call
@@ -22,31 +24,62 @@ abbrev pub HeldRefuse : {H : Type 0} → (H → Option (List (List ℕ))) → (H
 HeldRefuse strings clashes fulls s call e t =
     stores_refuse ObjectsRefuse (λ b. b.faults.count) NodesDo NodesRefuse (λ n. Some (top_of n.tops)) (λ n. n.faults.count) FactRefuses (λ f. kept_of f.kept) (λ f. f.faults.count) strings clashes fulls s call e t
 
--- out of memory, or the hasher refused a string
-abbrev pub IsUnplanned : PeerError → Type 0
-IsUnplanned Memory = Unit {0}
-IsUnplanned (Clash first second) = Unit {0}
-IsUnplanned (BookFull kept) = Unit {0}
-IsUnplanned e = ⊥
+-- A hasher rejected `bytes`. Of these strings, which were to be hashed in this order, it took those
+-- before `bytes`.
+pub record HasRejected (strings : List (List ℕ)) (first : Account) (bytes : List ℕ) (now : Account) : Type 0 where
+  pub before : List (List ℕ)
+  pub later : List (List ℕ)
+  pub are : strings ≡ before ++ bytes ∷ later
+  pub taken : HasTaken before first.kept now.kept
 
--- such an error ended the run
-abbrev pub IsCutOff : {X : Type 0} → Ending X → Type 0
-IsCutOff (Finished x out) = ⊥
-IsCutOff (Stopped e) = IsUnplanned e
+-- the next string has the MD5 of a different one that the hasher keeps, and it counted the clash
+abbrev pub HasClashed : List (List ℕ) → Account → List ℕ → List ℕ → Account → Type 0
+HasClashed strings first kept new now = HasRejected strings first new now × IsClash kept new × IsKept now.kept kept × Rose first.clashes now.clashes
+
+-- the hasher rejected the next string, and counted that its book was full
+abbrev pub HasFilled : List (List ℕ) → Account → Account → Type 0
+HasFilled strings first now = (bytes : List ℕ) × HasRejected strings first bytes now × Rose first.fulls now.fulls
+
+-- out of memory, or the hasher rejected the next of these strings
+abbrev pub IsUnplanned : List (List ℕ) → Account → Account → PeerError → Type 0
+IsUnplanned strings first now Memory = Unit {0}
+IsUnplanned strings first now (Clash kept new) = HasClashed strings first kept new now
+IsUnplanned strings first now (BookFull kept) = HasFilled strings first now
+IsUnplanned strings first now e = ⊥
+
+-- such an error ended the run, which was to hash these strings
+abbrev pub IsCutOff : {X : Type 0} → List (List ℕ) → Account → Account → Ending X → Type 0
+IsCutOff strings first now (Finished x out) = ⊥
+IsCutOff strings first now (Stopped e) = IsUnplanned strings first now e
+
+-- a run that was not cut off finished, or a store stopped it
+abbrev pub IsPlanned : {X : Type 0} → Ending X → Type 0
+IsPlanned (Finished x out) = Unit {0}
+IsPlanned (Stopped e) = e ≡ StoreFault
 
 -- the stores and the hashed strings together
 abbrev pub held_with : HeldStores → List (List ℕ) → Held
 held_with stores hashed = record { stores = stores; hashed = hashed }
 
--- This is the run of the plan. The hasher took the strings that the run hashed after those before;
--- `first` is what it kept before it took any.
-pub record IsRun {X H : Type 0} (strings : H → Option (List (List ℕ))) (first : Option (List (List ℕ))) (p : Plan X) (s : HeldStores × H) (hashed : List (List ℕ)) (ns : List Note)
+-- This is the run of the plan. The hasher took the strings that the run hashed after those before.
+pub record IsRun {X H : Type 0} (tells : H → Account) (first : Account) (p : Plan X) (s : HeldStores × H) (hashed : List (List ℕ)) (ns : List Note)
     (e : Ending X) (t : HeldStores × H) (ms : List Note) : Type 0 where
   pub hashed_now : List (List ℕ)
   pub is : run p (held_with s.0 hashed) ns ≡ record { ending = e; held = held_with t.0 hashed_now; notes = ms }
-  pub taken : HasTaken hashed_now first (strings t.1)
+  pub has : HasHashed hashed_now first (tells t.1)
+  pub planned : IsPlanned e
 
--- Each run of the plan over stores in memory is its run, unless it was cut off.
+-- the strings hashed by the end of the run of a plan, after those hashed before
+abbrev pub strings_by : {X : Type 0} → Plan X → HeldStores → List (List ℕ) → List Note → List (List ℕ)
+strings_by p s hashed ns = (run p (held_with s hashed) ns).held.hashed
+
+-- Each run of the plan over stores in memory is its run, unless it was cut off. `first` is the account
+-- of the hasher before it took any of the strings.
 abbrev pub AreDetermined : Type 0 → Type 0 → Type 0
-AreDetermined X H = (strings : H → Option (List (List ℕ))) (clashes fulls : H → ℕ) (first : Option (List (List ℕ))) (p : Plan X) (s t : HeldStores × H) (hashed : List (List ℕ)) (ns ms : List Note) (e : Ending X)
-    → HasTaken hashed first (strings s.1) → Runs (HeldDo strings clashes fulls) (HeldRefuse strings clashes fulls) p s ns e t ms → IsCutOff e ⊎ IsRun strings first p s hashed ns e t ms
+AreDetermined X H = (strings : H → Option (List (List ℕ))) (clashes fulls : H → ℕ) (first : Account) (p : Plan X) (s t : HeldStores × H) (hashed : List (List ℕ)) (ns ms : List Note) (e : Ending X)
+    → HasHashed hashed first (account strings clashes fulls s.1) → Runs (HeldDo strings clashes fulls) (HeldRefuse strings clashes fulls) p s ns e t ms
+    → IsCutOff (strings_by p s.0 hashed ns) first (account strings clashes fulls t.1) e ⊎ IsRun (account strings clashes fulls) first p s hashed ns e t ms
+
+-- if a hasher that kept nothing took these strings, none of them clashes with another
+abbrev pub AreApart : Type 0
+AreApart = (strings : List (List ℕ)) (kept : Option (List (List ℕ))) → HasTaken strings (Some []) kept → AreClashFree kept → HasNoClash strings

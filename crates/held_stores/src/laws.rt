@@ -1,11 +1,17 @@
-ghost use Rattle.held_stores.specs.Laws.{AreDetermined};
+ghost use Rattle.held_stores.specs.Laws.{AreApart, AreDetermined};
 ghost use Rattle.peer_core.specs.declared.state.State.{State};
 
 use ens_hashing::Hasher16;
 
 /// Over stores in memory a plan has one run, which is the function `run`: however a call was
-/// answered or refused, the ending, the stores and the notes are those of `run`, unless the run was
-/// out of memory or the hasher refused a string.
+/// answered or refused, the ending, the stores and the notes are those of `run`, and the hasher took
+/// the strings of `run`, unless the run was out of memory or the hasher rejected the next of them.
 pub fn runs_are_determined<H: Hasher16>()
     ensures { AreDetermined State H }
+{}
+
+/// If a hasher that kept nothing has taken some strings, and it says what it keeps, no two different
+/// strings of these have the same MD5.
+pub fn taken_strings_are_apart()
+    ensures { AreApart }
 {}

@@ -11,4 +11,4 @@
 
 mod laws;
 
-pub use laws::runs_are_determined;
+pub use laws::{runs_are_determined, taken_strings_are_apart};
