@@ -5,12 +5,12 @@ use Rattle.network.specs.declared.error.SendError.TheVariants as sends
 use Rattle.std.proofs.Common.{◌≡◌, ◌≤◌, ◌<◌, ◌+◌, ℕ, List, [], ◌∷◌, ◌++◌, length, refl, sym, arith}
 use Rattle.std.proofs.lemmas.List.{append-nil, append_assoc, length-append}
 use Rattle.std.proofs.lemmas.List.Elements.{All-tail}
+use Rattle.held_stores.specs.Held.{StartsWith}
 use Rattle.network.specs.Mail.{Mail, posted, most_messages}
 use Rattle.peer_core.specs.Kept.{MaySend}
 use Rattle.leader_words.specs.declared.out.Outgoing.{Outgoing}
 use Rattle.wire_frames.specs.declared.frame.Frame.{Frame}
 use Rattle.world_spec.specs.Runs.{frame_from, posted_all}
-use Rattle.world_model.specs.Messages.{StartsWith}
 
 -- some of the messages have been sent, and the rest lead from here to the same mail
 pub record Posting (me : ℕ) (first : Mail) (all : List Outgoing) (now : Mail) (left : List Outgoing) : Type 0 where

@@ -1,5 +1,5 @@
 -- One peer of a world takes a step, or changes.
-use Rattle.std.proofs.Common.{◌≡◌, ◌<◌, ◌≤◌, ◌+◌, ℕ, zero, suc, Some, List, [], ◌∷◌, length, map, slice_get, slice_set, refl, ap, ◌∙◌, arith}
+use Rattle.std.proofs.Common.{◌≡◌, ◌<◌, ◌≤◌, ◌+◌, ℕ, zero, suc, Option, Some, List, [], ◌∷◌, ◌++◌, length, map, slice_get, slice_set, refl, ap, ◌∙◌, arith}
 use Rattle.std.proofs.lemmas.List.{map-set, length-map, length-set}
 use Rattle.std.proofs.lemmas.Option.{slice_get-map, same_Some, none-some}
 use Rattle.std.specs.Prelude.{option_map}
@@ -7,10 +7,11 @@ use Rattle.network.specs.Mail.{most_messages}
 use Rattle.peer_core.specs.declared.event.Event.{Event}
 use Rattle.register_model.specs.declared.note.Note.{Note}
 use Rattle.step_plans.specs.Plans.{Out}
-use Rattle.world_spec.proofs.Growth.{length_posted_all}
+use Rattle.world_spec.proofs.Growth.{length_posted_all, changed_hashed}
 use Rattle.world_spec.specs.Messages.{IsPastMessages}
-use Rattle.world_spec.specs.Nodes.{Node, Taken, taken}
-use Rattle.world_spec.specs.Runs.{Run, frame_from, place_of, stepped, changed}
+use Rattle.world_spec.specs.Nodes.{Node, taken, started, hashed_by_start}
+use Rattle.world_spec.specs.Runs.{Run, unhashed, frame_from, place_of, stepped, changed, start_strings, with_start}
+use Rattle.world_spec.specs.Steps.{outcome}
 use Rattle.world_model.proofs.Numbers.{shifted, shifted_back}
 use Rattle.world_model.specs.Peers.{node_of, AreNumbered}
 use Rattle.world_model.specs.Worlds.{reported}
@@ -24,12 +25,26 @@ pub past_limit : (peer : ℕ) (out : Out) (notes : List Note) (w : Run) → most
 past_limit peer out notes w over = rw (length_posted_all (map (frame_from peer) out.sends) w.mail) (rw (length-map out.sends (frame_from peer)) over)
 
 module _ (peers : List WorldPeer) (w : Run) (peer : ℕ) (x new : WorldPeer) (nodes : w.nodes ≡ map node_of peers) (here : slice_get peers (place_of peer) ≡ Some x) where
-  pub took : (event : Event) (out : Out) (notes : List Note) → x.me ≡ peer → ◌≡◌ {A = Taken} (record { node = node_of new; out = out; notes = notes }) (taken x.me event (node_of x))
-      → reported peer out notes (record w { nodes = map node_of (slice_set peers (place_of peer) new) }) ≡ stepped peer event w
-  took event out notes me did = rw nodes (rw (node_at peers (place_of peer) x here) (rw (← me) (rw (← did) (rw me (rw (map-set node_of peers (place_of peer) new) (rw (← nodes) refl))))))
+  pub took : (event : Event) (out : Out) (notes : List Note) (strings : List (List ℕ)) → x.me ≡ peer → outcome (node_of new) out notes strings ≡ taken x.me event (node_of x)
+      → reported peer out notes (record w { nodes = map node_of (slice_set peers (place_of peer) new); hashed = [] }) ≡ unhashed (stepped peer event w)
+  took event out notes strings me did = rw nodes (rw (node_at peers (place_of peer) x here) (rw (← me) (rw (← did) (rw me (rw (map-set node_of peers (place_of peer) new) (rw (← nodes) refl))))))
+
+  -- the strings that a step hashed
+  pub took_strings : (event : Event) → x.me ≡ peer → (stepped peer event w).hashed ≡ w.hashed ++ (taken x.me event (node_of x)).hashed
+  took_strings event me = rw nodes (rw (node_at peers (place_of peer) x here) (rw me refl))
+
+  -- the strings that a start hashed
+  pub start_strings_at : (with_start peer w).hashed ≡ w.hashed ++ hashed_by_start w.view (node_of x)
+  start_strings_at =
+      let found : slice_get w.nodes (place_of peer) ≡ Some (node_of x) = ap (λ (ns : List Node). slice_get ns (place_of peer)) nodes ∙ node_at peers (place_of peer) x here in
+      ap (λ h. h ++ start_strings w.view (slice_get w.nodes (place_of peer))) (changed_hashed peer (started w.view) w) ∙ ap (λ (o : Option Node). w.hashed ++ start_strings w.view o) found
 
   pub did_change : (change : Node → Node) → node_of new ≡ change (node_of x) → record w { nodes = map node_of (slice_set peers (place_of peer) new) } ≡ changed peer change w
   did_change change did = rw nodes (rw (node_at peers (place_of peer) x here) (rw (← did) (rw (map-set node_of peers (place_of peer) new) (rw (← nodes) refl))))
+
+  -- a peer that was started, in a world that keeps no hashed strings
+  pub did_start : node_of new ≡ started w.view (node_of x) → unhashed (record w { nodes = map node_of (slice_set peers (place_of peer) new) }) ≡ unhashed (with_start peer w)
+  did_start did = ap unhashed (did_change (started w.view) did)
 
 same_number : (x new p : WorldPeer) (n : ℕ) → Some new ≡ Some p → new.me ≡ x.me → x.me ≡ n → p.me ≡ n
 same_number x new p n is same numbered = rw (← same_Some new p is) (same ∙ numbered)

@@ -6,7 +6,10 @@ use Rattle.schedule_text.specs.declared.event.ScheduleEvent.TheVariants.{Call, T
 use Rattle.schedule_text.specs.declared.keyword.StoreName.{StoreName}
 use Rattle.schedule_text.specs.declared.keyword.Survivor.{Survivor}
 use Rattle.world_spec.specs.Lines.{effect, stores_effect}
+use Rattle.world_spec.proofs.Growth.{changed_hashed}
+use Rattle.world_spec.specs.Nodes.{over_stores, while_down}
 use Rattle.world_spec.specs.Runs.{Run}
+use Rattle.world_spec.specs.Stores.{failing, leaves_of, spoiled, segment_spoiled, inner_spoiled, taken_back}
 
 -- a line that is none of these has its effect on stores alone
 pub stores_line : (event : ScheduleEvent) (w : Run)
@@ -32,6 +35,15 @@ stores_line (Change peer view) w call tick deliver pass lose calm among change s
 stores_line (Stop peer) w call tick deliver pass lose calm among change stop start = absurd (stop peer refl)
 stores_line (Start peer) w call tick deliver pass lose calm among change stop start = absurd (start peer refl)
 stores_line other w call tick deliver pass lose calm among change stop start = refl
+
+-- the lines on stores hash no string
+pub stores_hashed : (event : ScheduleEvent) (w : Run) → (stores_effect event w).hashed ≡ w.hashed
+stores_hashed (Spoil peer key bytes) w = changed_hashed peer (over_stores (spoiled key bytes)) w
+stores_hashed (Damage peer key bytes) w = changed_hashed peer (over_stores (segment_spoiled key bytes)) w
+stores_hashed (Inner peer level index bytes) w = changed_hashed peer (over_stores (inner_spoiled level index bytes)) w
+stores_hashed (Revert peer changes) w = changed_hashed peer (while_down (taken_back changes)) w
+stores_hashed (Fail peer store survivor) w = changed_hashed peer (over_stores (failing store (leaves_of survivor))) w
+stores_hashed other w = refl
 
 -- a line that is none of these leaves all stores alone
 pub other_line : (event : ScheduleEvent) (w : Run)

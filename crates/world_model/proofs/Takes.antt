@@ -9,21 +9,22 @@ use Rattle.step_plans.specs.declared.outbox.Outbox.{Outbox}
 use Rattle.peer_core.specs.Drives.{MayCome, step_of}
 use Rattle.peer_core.specs.Kept.{AllMayGo, MaySend}
 use Rattle.peer_core.specs.Starts.{start_of}
-use Rattle.peer_core.specs.Stores.{IsCause}
 use Rattle.peer_core.specs.declared.peer.Suspended.{Suspended}
-use Rattle.peer_core.specs.declared.stores.Stores.{Stores}
 use Rattle.peer_core.specs.declared.state.State.{State}
 use Rattle.step_plans.specs.Calls.{Call, AnswerOf}
-use Rattle.step_plans.specs.Plans.{Plan, Finished, Stopped, Runs, nothing}
+use Rattle.step_plans.specs.Plans.{Plan, Out, Finished, Stopped, Runs, nothing}
 use Rattle.std.proofs.lemmas.Option.{none-some, same_Some}
 use Rattle.std.specs.Option.{is_some}
 use Rattle.std.proofs.lemmas.Bool.{false≢true}
 use Rattle.std.proofs.lemmas.List.Elements.{All-nil}
 use Rattle.peer_core.specs.declared.event.Event.{Event}
 use Rattle.world_spec.proofs.Determined.{step_taken, step_stopped, start_taken, start_stopped}
-use Rattle.held_stores.specs.Held.{HeldStores}
+use Rattle.held_stores.proofs.Taken.{hashed_none}
+use Rattle.held_stores.specs.Held.{Account, account, HeldStores}
 use Rattle.held_stores.specs.Laws.{HeldDo, HeldRefuse, IsUnplanned}
-use Rattle.world_spec.specs.Nodes.{Node, Up, Down, Taken, taken, started}
+use Rattle.register_model.specs.declared.note.Note.{Note}
+use Rattle.world_spec.specs.Nodes.{Node, Up, Down, Taken, taken, hashed_by_start}
+use Rattle.world_spec.specs.Steps.{ComesTo, StartsAs}
 use Rattle.world_model.specs.Peers.{MemPeer, node_by}
 use Rattle.world_model.specs.Refusals.{world_error, IsCutOff}
 use Rattle.world_model.specs.declared.error.WorldError.{WorldError}
@@ -34,23 +35,26 @@ pub as_error : {T : Type 0} (e x : PeerError) → e ≡ x → IsErrOf {T = T} (E
 as_error e x is = rw is refl
 
 -- an error after which the run goes on cut nothing off
-planned : (e : PeerError) → world_error e ≡ None → IsUnplanned e → ⊥
-planned errors.Memory goes_on cut = grind (arith, goes_on)
-planned (errors.Clash first second) goes_on cut = grind (arith, goes_on)
-planned (errors.BookFull kept) goes_on cut = grind (arith, goes_on)
-planned errors.StoreFault goes_on cut = cut
-planned errors.Halted goes_on cut = cut
-planned (errors.BadFact why) goes_on cut = cut
+planned : (strings : List (List ℕ)) (first now : Account) (e : PeerError) → world_error e ≡ None → IsUnplanned strings first now e → ⊥
+planned strings first now errors.Memory goes_on cut = grind (arith, goes_on)
+planned strings first now (errors.Clash kept new) goes_on cut = grind (arith, goes_on)
+planned strings first now (errors.BookFull kept) goes_on cut = grind (arith, goes_on)
+planned strings first now errors.StoreFault goes_on cut = cut
+planned strings first now errors.Halted goes_on cut = cut
+planned strings first now (errors.BadFact why) goes_on cut = cut
 
-module _ {B N F H : Type 0} (b : B → ℕ) (n : N → ℕ) (f : F → ℕ) (c d : H → ℕ) (s t : Stores B N F × H) where
-  -- an error that ends the run, from its cause
-  pub cut_off : (e : PeerError) (w : WorldError) → world_error e ≡ Some w → IsCause b n f c d s t e → IsCutOff c d w
-  cut_off errors.Memory w is cause = subst (IsCutOff c d) (same_Some worlds.Memory w is) tt
-  cut_off (errors.Clash first second) w is cause = subst (IsCutOff c d) (same_Some (worlds.Clash first second) w is) (s.1, t.1, cause)
-  cut_off (errors.BookFull kept) w is cause = subst (IsCutOff c d) (same_Some (worlds.BookFull kept) w is) (s.1, t.1, cause)
-  cut_off errors.StoreFault w is cause = absurd (none-some w is)
-  cut_off errors.Halted w is cause = absurd (none-some w is)
-  cut_off (errors.BadFact why) w is cause = absurd (none-some w is)
+-- an error that ends the run cut it off
+cut_off : (strings : List (List ℕ)) (first now : Account) (e : PeerError) (w : WorldError) → world_error e ≡ Some w → IsUnplanned strings first now e → IsCutOff strings first now w
+cut_off strings first now errors.Memory w is cut = subst (IsCutOff strings first now) (same_Some worlds.Memory w is) tt
+cut_off strings first now (errors.Clash kept new) w is cut = subst (IsCutOff strings first now) (same_Some (worlds.Clash kept new) w is) cut
+cut_off strings first now (errors.BookFull kept) w is cut = subst (IsCutOff strings first now) (same_Some (worlds.BookFull kept) w is) cut
+cut_off strings first now errors.StoreFault w is cut = absurd cut
+cut_off strings first now errors.Halted w is cut = absurd cut
+cut_off strings first now (errors.BadFact why) w is cut = absurd cut
+
+-- a store fault ends no run
+no_fault : (e : PeerError) (w : WorldError) → e ≡ errors.StoreFault → world_error e ≡ Some w → ⊥
+no_fault e w fault is = none-some w (sym (ap world_error fault) ∙ is)
 
 -- a peer that was not halted did not fail as one
 pub not_halted : (peer : MemPeer) → peer.halted ≡ false → {T : Type 0} (r : Result T PeerError) → (IsErrOf r errors.Halted ↔ (peer.halted ≡ true)) → IsErrOf r errors.Halted → ⊥
@@ -62,9 +66,16 @@ module _ (peer : MemPeer) (event : Event) (come : MayCome peer.me event) (up : p
   running = Up peer.machine.state peer.machine.stores
 
   module _ (new : MemPeer) (before after : Outbox) (none : HasNotesAlone before) (quiet : before.notes.items ≡ []) {H : Type 0} (strings : H → Option (List (List ℕ))) (c d : H → ℕ) (h k : H) where
-    -- the outcome of a step that left this node
-    abbrev left_by : Node → Taken
-    left_by node = record { node = node; out = out_of after; notes = after.notes.items }
+    -- what is known of the hasher before and after
+    abbrev before_it : Account
+    before_it = account strings c d h
+
+    abbrev after_it : Account
+    after_it = account strings c d k
+
+    -- the step is that of the node, and left this node
+    abbrev Left : Node → Type 0
+    Left node = ComesTo before_it after_it (taken peer.me event running) node (out_of after) after.notes.items
 
     abbrev HasDone : Type 0
     HasDone = HasFinished (HeldDo strings c d) (HeldRefuse strings c d) (step_of peer.me event peer.machine.state) (peer.machine.stores, h) before new.machine.state (new.machine.stores, k) after
@@ -72,27 +83,44 @@ module _ (peer : MemPeer) (event : Event) (come : MayCome peer.me event) (up : p
     abbrev HasFailed : PeerError → Type 0
     HasFailed e = HasStopped (HeldDo strings c d) (HeldRefuse strings c d) (step_of peer.me event peer.machine.state) e (peer.machine.stores, h) before (new.machine.stores, k) after
 
+    -- the outcome is the same with an equal output
+    with_out : (node : Node) (out : Out) → ComesTo before_it after_it (taken peer.me event running) node out after.notes.items → out_of after ≡ out → Left node
+    with_out node out came same = subst (λ o. ComesTo before_it after_it (taken peer.me event running) node o after.notes.items) (sym same) came
+
     -- a step that ended well is that of the node
-    pub ok_taken : {T : Type 0} (x : T) → (IsErrOf {T = T} (Ok x) errors.Halted ↔ (peer.halted ≡ true)) → ((IsErrOf {T = T} (Ok x) errors.Halted → ⊥) → HasDone)
-        → left_by (Up new.machine.state new.machine.stores) ≡ taken peer.me event running
+    pub ok_taken : {T : Type 0} (x : T) → (IsErrOf {T = T} (Ok x) errors.Halted ↔ (peer.halted ≡ true)) → ((IsErrOf {T = T} (Ok x) errors.Halted → ⊥) → HasDone) → Left (Up new.machine.state new.machine.stores)
     ok_taken x halted took =
         let did = took (not_halted peer up (Ok x) halted) in
         let ran = rw quiet at did.ran in
-        let is = step_taken strings c d peer.me event peer.machine.state (peer.machine.stores, h) (new.machine.stores, k) after.notes.items new.machine.state did.out ran in
-        rw is (rw did.sends (rw did.answers (rw did.changes (rw none.sends (rw none.answers (rw none.changes refl))))))
+        let came = step_taken strings c d peer.me event peer.machine.state (peer.machine.stores, h) (new.machine.stores, k) after.notes.items new.machine.state did.out ran in
+        let same : out_of after ≡ did.out = rw did.sends (rw did.answers (rw did.changes (rw none.sends (rw none.answers (rw none.changes refl))))) in
+        with_out (Up new.machine.state new.machine.stores) did.out came same
 
     -- a step that a store stopped is that of a node that is then down
-    stopped_taken : (e : PeerError) → world_error e ≡ None → HasFailed e → left_by (Down new.machine.stores) ≡ taken peer.me event running
+    stopped_taken : (e : PeerError) → world_error e ≡ None → HasFailed e → Left (Down new.machine.stores)
     stopped_taken e goes_on did =
         let ran = rw quiet at did.ran in
+        let same : out_of after ≡ nothing = rw did.still (rw none.sends (rw none.answers (rw none.changes refl))) in
         elim (step_stopped strings c d peer.me event peer.machine.state (peer.machine.stores, h) (new.machine.stores, k) after.notes.items e ran) [
-          | inl cut ↦ absurd (planned e goes_on cut)
-          | inr is ↦ rw is (rw did.still (rw none.sends (rw none.answers (rw none.changes refl))))
+          | inl cut ↦ absurd (planned (taken peer.me event running).hashed before_it after_it e goes_on cut)
+          | inr is ↦ with_out (Down new.machine.stores) nothing is.1 same
         ]
 
-    pub refused_taken : {T : Type 0} (e : PeerError) → world_error e ≡ None → (IsErrOf {T = T} (Err e) errors.Halted ↔ (peer.halted ≡ true)) → ((IsErrOf {T = T} (Err e) errors.Halted → ⊥) → HasFailed e)
-        → left_by (Down new.machine.stores) ≡ taken peer.me event running
+    pub refused_taken : {T : Type 0} (e : PeerError) → world_error e ≡ None → (IsErrOf {T = T} (Err e) errors.Halted ↔ (peer.halted ≡ true)) → ((IsErrOf {T = T} (Err e) errors.Halted → ⊥) → HasFailed e) → Left (Down new.machine.stores)
     refused_taken {T} e goes_on halted took = stopped_taken e goes_on (took (not_halted peer up {T = T} (Err e) halted))
+
+    stopped_cut : (e : PeerError) (w : WorldError) → world_error e ≡ Some w → HasFailed e → IsCutOff (taken peer.me event running).hashed before_it after_it w
+    stopped_cut e w is did =
+        let ran = rw quiet at did.ran in
+        elim (step_stopped strings c d peer.me event peer.machine.state (peer.machine.stores, h) (new.machine.stores, k) after.notes.items e ran) [
+          | inl cut ↦ cut_off (taken peer.me event running).hashed before_it after_it e w is cut
+          | inr fault ↦ absurd (no_fault e w fault.0 is)
+        ]
+
+    -- a step that ends the run was cut off
+    pub refused_cut : {T : Type 0} (e : PeerError) (w : WorldError) → world_error e ≡ Some w → (IsErrOf {T = T} (Err e) errors.Halted ↔ (peer.halted ≡ true)) → ((IsErrOf {T = T} (Err e) errors.Halted → ⊥) → HasFailed e)
+        → IsCutOff (taken peer.me event running).hashed before_it after_it w
+    refused_cut {T} e w is halted took = stopped_cut e w is (took (not_halted peer up {T = T} (Err e) halted))
 
 -- ## A peer between its steps
 
@@ -103,20 +131,30 @@ pub down_node : (running : Option Suspended) (s : HeldStores) → running ≡ No
 down_node running s is = rw is refl
 
 -- a running peer goes on when it is started
-pub started_up : (view : List ℕ) (running : Option Suspended) (s : HeldStores) → is_some running ≡ true → node_by running s ≡ started view (node_by running s)
-started_up view None s is = absurd (false≢true is)
-started_up view (Some waiting) s is = refl
+pub started_up : (first : Account) (view : List ℕ) (running : Option Suspended) (s : HeldStores) → is_some running ≡ true → StartsAs first first view (node_by running s) (node_by running s)
+started_up first view None s is = absurd (false≢true is)
+started_up first view (Some waiting) s is = record { is = refl; has = hashed_none first }
 
 module _ {H : Type 0} (strings : H → Option (List (List ℕ))) (c d : H → ℕ) (view : List ℕ) (running : Option Suspended) (s : HeldStores) (h k : H) (down : running ≡ None) where
   -- a start that ended well is that of the node
-  pub start_ok : (state : State) (t : HeldStores) → Runs (HeldDo strings c d) (HeldRefuse strings c d) (start_of view) (s, h) [] (Finished state nothing) (t, k) [] → Up state t ≡ started view (node_by running s)
-  start_ok state t ran = rw down (sym (start_taken strings c d view (s, h) (t, k) [] state nothing ran))
+  pub start_ok : (state : State) (t : HeldStores) → Runs (HeldDo strings c d) (HeldRefuse strings c d) (start_of view) (s, h) [] (Finished state nothing) (t, k) []
+      → StartsAs (account strings c d h) (account strings c d k) view (node_by running s) (Up state t)
+  start_ok state t ran = rw down (start_taken strings c d view (s, h) (t, k) [] state nothing ran)
 
   -- a start that a store refused leaves the node down
-  pub start_refused : (e : PeerError) (t : HeldStores) → world_error e ≡ None → Runs (HeldDo strings c d) (HeldRefuse strings c d) (start_of view) (s, h) [] (Stopped e) (t, k) [] → node_by running t ≡ started view (node_by running s)
+  pub start_refused : (e : PeerError) (t : HeldStores) → world_error e ≡ None → Runs (HeldDo strings c d) (HeldRefuse strings c d) (start_of view) (s, h) [] (Stopped e) (t, k) []
+      → StartsAs (account strings c d h) (account strings c d k) view (node_by running s) (node_by running t)
   start_refused e t goes_on ran = elim (start_stopped strings c d view (s, h) (t, k) [] e ran) [
-    | inl cut ↦ absurd (planned e goes_on cut)
-    | inr is ↦ rw down (sym is)
+    | inl cut ↦ absurd (planned (hashed_by_start view (Down s)) (account strings c d h) (account strings c d k) e goes_on cut)
+    | inr is ↦ rw down is.1
+  ]
+
+  -- a start that ends the run was cut off
+  pub start_cut : (e : PeerError) (t : HeldStores) (w : WorldError) → world_error e ≡ Some w → Runs (HeldDo strings c d) (HeldRefuse strings c d) (start_of view) (s, h) [] (Stopped e) (t, k) []
+      → IsCutOff (hashed_by_start view (node_by running s)) (account strings c d h) (account strings c d k) w
+  start_cut e t w is ran = elim (start_stopped strings c d view (s, h) (t, k) [] e ran) [
+    | inl cut ↦ rw down (cut_off (hashed_by_start view (Down s)) (account strings c d h) (account strings c d k) e w is cut)
+    | inr fault ↦ absurd (no_fault e w fault.0 is)
   ]
 
 module _ (me : ℕ) (event : Event) (come : MayCome me event) (running : Option Suspended) (waiting : Suspended) (s : HeldStores) (peer : MemPeer) (here : running ≡ Some waiting) (named : peer.me ≡ me)
@@ -132,8 +170,15 @@ module _ (me : ℕ) (event : Event) (come : MayCome me event) (running : Option 
   resumed_taken = ap (taken peer.me event) resumed_node ∙ ap (λ (m : ℕ). taken m event (node_by running s)) named
 
   -- a step of the peer is the step of the node that waited
-  pub waited_taken : (t : Taken) → t ≡ taken peer.me event (Up peer.machine.state peer.machine.stores) → t ≡ taken me event (node_by running s)
-  waited_taken t is = is ∙ resumed_taken
+  pub waited_taken : (first now : Account) (node : Node) (out : Out) (notes : List Note) → ComesTo first now (taken peer.me event (Up peer.machine.state peer.machine.stores)) node out notes → ComesTo first now (taken me event (node_by running s)) node out notes
+  waited_taken first now node out notes came = subst (λ (due : Taken). ComesTo first now due node out notes) resumed_taken came
+
+  pub waited_cut : (first now : Account) (w : WorldError) → IsCutOff (taken peer.me event (Up peer.machine.state peer.machine.stores)).hashed first now w → IsCutOff (taken me event (node_by running s)).hashed first now w
+  waited_cut first now w cut = subst (λ (due : Taken). IsCutOff due.hashed first now w) resumed_taken cut
+
+-- a peer that is down takes no step
+pub down_taken : (first : Account) (me : ℕ) (event : Event) (s : HeldStores) (out : Out) (notes : List Note) → out ≡ nothing → notes ≡ [] → ComesTo first first (taken me event (Down s)) (Down s) out notes
+down_taken first me event s out notes none quiet = rw none (rw quiet (record { is = refl; has = hashed_none first }))
 
 -- an outbox with notes alone sends nothing, so what it sends may go
 pub none_goes : (me : ℕ) (o : Outbox) → HasNotesAlone o → AllMayGo me (out_of o)

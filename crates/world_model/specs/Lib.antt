@@ -1,4 +1,3 @@
 pub mod Peers
 pub mod Worlds
 pub mod Refusals
-pub mod Messages

@@ -1,6 +1,7 @@
 -- How the error of a peer's step ends the run of a world.
-use Rattle.std.specs.Prelude.{ℕ, Option, Some, None}
-use Rattle.ens_base.specs.Causes.{Rose}
+use Rattle.std.specs.Prelude.{ℕ, List, Option, Some, None}
+use Rattle.held_stores.specs.Held.{Account}
+use Rattle.held_stores.specs.Laws.{HasClashed, HasFilled}
 use Rattle.network.specs.declared.error.SendError.{SendError}
 use Rattle.network.specs.declared.error.SendError.TheVariants as sends
 use Rattle.step_plans.specs.declared.error.PeerError.{PeerError}
@@ -18,17 +19,13 @@ world_error errors.Memory = Some worlds.Memory
 world_error (errors.Clash first second) = Some (worlds.Clash first second)
 world_error (errors.BookFull bytes) = Some (worlds.BookFull bytes)
 
--- a count that may rise: it did between some two states
-abbrev pub MayRise : {H : Type 0} → (H → ℕ) → Type 0
-MayRise {H} count = (before : H) × (now : H) × Rose (count before) (count now)
-
--- why a peer ended the run of a world: out of memory, or a hasher refused a string, which only a
--- hasher does that counts such refusals
-abbrev pub IsCutOff : {H : Type 0} → (H → ℕ) → (H → ℕ) → WorldError → Type 0
-IsCutOff clashes fulls worlds.Memory = Unit {0}
-IsCutOff clashes fulls (worlds.Clash first second) = MayRise clashes
-IsCutOff clashes fulls (worlds.BookFull bytes) = MayRise fulls
-IsCutOff clashes fulls worlds.MessageLimit = ⊥
+-- why a peer ended the run of a world: out of memory, or the hasher rejected the next of these
+-- strings
+abbrev pub IsCutOff : List (List ℕ) → Account → Account → WorldError → Type 0
+IsCutOff strings first now worlds.Memory = Unit {0}
+IsCutOff strings first now (worlds.Clash kept new) = HasClashed strings first kept new now
+IsCutOff strings first now (worlds.BookFull bytes) = HasFilled strings first now
+IsCutOff strings first now worlds.MessageLimit = ⊥
 
 -- the world's error for a message that was not sent
 abbrev pub of_send : SendError → WorldError

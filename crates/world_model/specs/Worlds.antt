@@ -1,20 +1,22 @@
 -- A world as the run of the lines applied so far.
-use Rattle.std.specs.Prelude.{◌≡◌, ◌++◌, ℕ, List, map, Result, Ok, Err}
+use Rattle.std.specs.Prelude.{◌≡◌, ◌++◌, ℕ, List, [], map, Result, Ok, Err}
+use Rattle.held_stores.specs.Held.{Account, HasHashed}
 use Rattle.register_model.specs.declared.note.Note.{Note}
 use Rattle.register_model.specs.declared.printed.Printed.{Printed}
 use Rattle.step_plans.specs.Plans.{Out}
 use Rattle.wire_frames.specs.declared.frame.Frame.{Frame}
 use Rattle.world_spec.specs.Messages.{IsWithinMessages, IsPastMessages}
-use Rattle.world_spec.specs.Runs.{Run, next_event, posted_all, frame_from, printed_by}
+use Rattle.world_spec.specs.Runs.{Run, unhashed, next_event, posted_all, frame_from, printed_by}
 use Rattle.world_model.specs.Peers.{node_of}
-use Rattle.world_model.specs.Refusals.{MayRise}
+use Rattle.world_model.specs.Refusals.{IsCutOff}
 use Rattle.world_model.specs.declared.error.WorldError.{WorldError}
 use Rattle.world_model.specs.declared.error.WorldError.TheVariants.{Clash, BookFull, MessageLimit, Memory}
 use Rattle.world_model.specs.declared.world.World.{World}
 
--- the run that a world represents
+-- The run that a world represents. A world forgets which strings were hashed, so the run goes on from
+-- it with none.
 abbrev pub run_of : World → Run
-run_of w = record { view = w.opening; nodes = map node_of w.peers.items; mail = w.network; printed = w.printed.items; notes = w.scribe.notes.items; events = w.events; called = w.called.items }
+run_of w = record { view = w.opening; nodes = map node_of w.peers.items; mail = w.network; printed = w.printed.items; notes = w.scribe.notes.items; hashed = []; events = w.events; called = w.called.items }
 
 -- this error may refuse a call that needs no hasher
 abbrev pub MayStop : Run → WorldError → Type 0
@@ -24,22 +26,21 @@ MayStop due (Clash first second) = ⊥
 MayStop due (BookFull bytes) = ⊥
 
 -- this error may refuse a call that is to lead to the run `due`: the limit on messages only if `due`
--- is past it, and otherwise an error that cuts off a step of a peer
-abbrev pub MayRefuse : {H : Type 0} → (H → ℕ) → (H → ℕ) → Run → WorldError → Type 0
-MayRefuse clashes fulls due MessageLimit = IsPastMessages due
-MayRefuse clashes fulls due Memory = Unit {0}
-MayRefuse clashes fulls due (Clash first second) = MayRise clashes
-MayRefuse clashes fulls due (BookFull bytes) = MayRise fulls
+-- is past it, and otherwise out of memory, or the hasher rejected the next string that `due` hashes
+abbrev pub MayRefuse : Account → Run → Account → WorldError → Type 0
+MayRefuse first due now MessageLimit = IsPastMessages due
+MayRefuse first due now e = IsCutOff due.hashed first now e
 
--- a call that is to lead to the run `due` led to it, within the limit on messages, or was refused
-abbrev pub Reaches : {T H : Type 0} → (H → ℕ) → (H → ℕ) → Run → Result T WorldError → Run → Type 0
-Reaches clashes fulls due (Ok x) now = (now ≡ due) × IsWithinMessages due
-Reaches clashes fulls due (Err e) now = MayRefuse clashes fulls due e
+-- a call that is to lead to the run `due` led to it, within the limit on messages, and the hasher took
+-- the strings that `due` hashes; or it was refused
+abbrev pub Reaches : {T : Type 0} → Account → Run → Result T WorldError → Run → Account → Type 0
+Reaches first due (Ok x) reached now = (reached ≡ unhashed due) × IsWithinMessages due × HasHashed due.hashed first now
+Reaches first due (Err e) reached now = MayRefuse first due now e
 
 -- the same of a call that returns the world
-abbrev pub RunReaches : {H : Type 0} → (H → ℕ) → (H → ℕ) → Run → Result World WorldError → Type 0
-RunReaches clashes fulls due (Ok w) = (run_of w ≡ due) × IsWithinMessages due
-RunReaches clashes fulls due (Err e) = MayRefuse clashes fulls due e
+abbrev pub RunReaches : Account → Run → Result World WorldError → Account → Type 0
+RunReaches first due (Ok w) now = (run_of w ≡ unhashed due) × IsWithinMessages due × HasHashed due.hashed first now
+RunReaches first due (Err e) now = MayRefuse first due now e
 
 -- the same of a call that needs no hasher, and so is refused only at the limit or out of memory
 abbrev pub Adds : {T : Type 0} → Run → Result T WorldError → Run → Type 0

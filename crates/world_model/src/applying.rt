@@ -1,5 +1,6 @@
 ghost use Rattle.std.specs.Prelude.{◌≡◌, length};
 ghost use Rattle.ens_base.specs.View.{IsPeer};
+ghost use Rattle.held_stores.specs.Held.{account};
 ghost use Rattle.joint_views.specs.Quorums.{is_in};
 ghost use Rattle.peer_core.specs.declared.event.Event.TheVariants.{Call};
 ghost use Rattle.schedule_text.specs.Spelling.{MayStand};
@@ -63,7 +64,7 @@ impl World {
         command: &Command,
     ) -> Result<(), WorldError>
         requires { IsPeer peer }
-        ensures reaches { Reaches H.clashes H.fulls (stepped peer (Call (call_of id key.now command.now)) (run_of self.old)) result (run_of self.new) }
+        ensures reaches { Reaches (account H.kept H.clashes H.fulls hasher.old) (stepped peer (Call (call_of id key.now command.now)) (run_of self.old)) result (run_of self.new) (account H.kept H.clashes H.fulls hasher.new) }
         ensures begins { Begins self.old self.new }
     {
         let call = CallIn {
@@ -84,7 +85,7 @@ impl World {
         event: &ScheduleEvent,
     ) -> Result<(), WorldError>
         requires { MayStand (length self.old.peers.items) event.now }
-        ensures reaches { Reaches H.clashes H.fulls (effect event.now (run_of self.old)) result (run_of self.new) }
+        ensures reaches { Reaches (account H.kept H.clashes H.fulls hasher.old) (effect event.now (run_of self.old)) result (run_of self.new) (account H.kept H.clashes H.fulls hasher.new) }
         ensures begins { Begins self.old self.new }
     {
         match event {
@@ -152,14 +153,16 @@ impl World {
         }
     }
 
-    /// Applies one line of a schedule. The world is then the run of all lines applied so far.
+    /// Applies one line of a schedule. The world is then the run of all lines applied so far, and
+    /// the hasher took the strings that the line hashes, in order.
     ///
     /// # Errors
     ///
     /// `MessageLimit` exactly if the line would send message 500,001, unless the call is cut off
-    /// first: `Memory` when out of memory, `Clash` or `BookFull` only if the hasher refused a string.
-    /// Whatever was sent and printed before the call stays, and may be
-    /// followed by a part of what the line sends and prints.
+    /// first: `Memory` when out of memory, `Clash` or `BookFull` if the hasher rejected one of the
+    /// strings of the line and counted that in this call, after it took those before. Whatever was
+    /// sent and printed before the call stays, and may be followed by a part of what the line sends
+    /// and prints.
     pub fn apply<H: Hasher16, R: Threads + Sync>(
         &mut self,
         rt: &R,
@@ -168,7 +171,7 @@ impl World {
         hasher: &mut H,
     ) -> Result<(), WorldError>
         requires line { MayStand (length self.old.peers.items) event.now }
-        ensures reaches { Reaches H.clashes H.fulls (applied event.now (run_of self.old)) result (run_of self.new) }
+        ensures reaches { Reaches (account H.kept H.clashes H.fulls hasher.old) (applied event.now (run_of self.old)) result (run_of self.new) (account H.kept H.clashes H.fulls hasher.new) }
         ensures begins { Begins self.old self.new }
     {
         self.effect(rt, alloc, hasher, event)?;

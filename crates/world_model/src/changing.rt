@@ -1,6 +1,7 @@
 ghost use Rattle.std.specs.Prelude.{◌≡◌, ◌≤◌, ◌<◌, ◌^◌, length};
-ghost use Rattle.world_spec.specs.Nodes.{over_stores, started, stopped, while_down};
-ghost use Rattle.world_spec.specs.Runs.{changed};
+ghost use Rattle.held_stores.specs.Held.{account};
+ghost use Rattle.world_spec.specs.Nodes.{over_stores, stopped, while_down};
+ghost use Rattle.world_spec.specs.Runs.{changed, with_start};
 ghost use Rattle.world_spec.specs.Stores.{failing, inner_spoiled, leaves_of, segment_spoiled, spoiled, taken_back};
 ghost use Rattle.world_model.specs.Worlds.{run_of, Adds, Begins, Reaches};
 
@@ -30,7 +31,7 @@ impl World {
         peer: PeerId,
     ) -> Result<(), WorldError>
         requires { (1 ≤ peer) × (peer ≤ length self.old.peers.items) }
-        ensures reaches { Reaches H.clashes H.fulls (changed peer (started self.old.opening) (run_of self.old)) result (run_of self.new) }
+        ensures reaches { Reaches (account H.kept H.clashes H.fulls hasher.old) (with_start peer (run_of self.old)) result (run_of self.new) (account H.kept H.clashes H.fulls hasher.new) }
         ensures begins { Begins self.old self.new }
     {
         let opening = self.opening;

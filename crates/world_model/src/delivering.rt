@@ -1,4 +1,5 @@
 ghost use Rattle.ens_base.specs.View.{IsPeer};
+ghost use Rattle.held_stores.specs.Held.{account};
 ghost use Rattle.network.specs.Mail.{goes, oldest, most_messages};
 ghost use Rattle.world_spec.specs.Runs.{delivered, delivered_if, ticked, calmed};
 ghost use Rattle.world_model.specs.Worlds.{run_of, Begins, Reaches};
@@ -23,7 +24,7 @@ impl World {
         ticks: u32,
     ) -> Result<(), WorldError>
         requires { IsPeer peer }
-        ensures reaches { Reaches H.clashes H.fulls (ticked peer ticks (run_of self.old)) result (run_of self.new) }
+        ensures reaches { Reaches (account H.kept H.clashes H.fulls hasher.old) (ticked peer ticks (run_of self.old)) result (run_of self.new) (account H.kept H.clashes H.fulls hasher.new) }
         ensures begins { Begins self.old self.new }
     {
         for _tick in 0..ticks {
@@ -41,7 +42,7 @@ impl World {
         hasher: &mut H,
         number: usize,
     ) -> Result<(), WorldError>
-        ensures reaches { Reaches H.clashes H.fulls (delivered number (run_of self.old)) result (run_of self.new) }
+        ensures reaches { Reaches (account H.kept H.clashes H.fulls hasher.old) (delivered number (run_of self.old)) result (run_of self.new) (account H.kept H.clashes H.fulls hasher.new) }
         ensures begins { Begins self.old self.new }
     {
         let Some(frame) = self.network.sent().get(number) else {
@@ -63,7 +64,7 @@ impl World {
         receiver: PeerId,
     ) -> Result<(), WorldError>
         requires { IsPeer sender × IsPeer receiver }
-        ensures reaches { Reaches H.clashes H.fulls (delivered_if (oldest (goes sender receiver) (run_of self.old).mail) (run_of self.old)) result (run_of self.new) }
+        ensures reaches { Reaches (account H.kept H.clashes H.fulls hasher.old) (delivered_if (oldest (goes sender receiver) (run_of self.old).mail) (run_of self.old)) result (run_of self.new) (account H.kept H.clashes H.fulls hasher.new) }
         ensures begins { Begins self.old self.new }
     {
         match self.network.oldest_between(sender, receiver) {
@@ -81,7 +82,7 @@ impl World {
         hasher: &mut H,
         peers: &PeerSet,
     ) -> Result<(), WorldError>
-        ensures reaches { Reaches H.clashes H.fulls (calmed peers.now most_messages (run_of self.old)) result (run_of self.new) }
+        ensures reaches { Reaches (account H.kept H.clashes H.fulls hasher.old) (calmed peers.now most_messages (run_of self.old)) result (run_of self.new) (account H.kept H.clashes H.fulls hasher.new) }
         ensures begins { Begins self.old self.new }
     {
         for _turn in 0..Network::MOST {

@@ -1,7 +1,9 @@
-ghost use Rattle.std.specs.Prelude.{◌≡◌, ◌≤◌, length, map, replicate, IfOk, IfErr};
+ghost use Rattle.std.specs.Prelude.{◌≡◌, ◌≤◌, length, map, replicate, IfOk, IfErr, OnOk};
 ghost use Rattle.ens_base.specs.View.{IsPeer};
-ghost use Rattle.world_spec.specs.Nodes.{opening_node};
-ghost use Rattle.world_spec.specs.Runs.{opening_run};
+ghost use Rattle.held_stores.specs.Held.{account, empty_stores, HasHashed};
+ghost use Rattle.world_spec.specs.Nodes.{opening_node, opening_strings, Down};
+ghost use Rattle.world_spec.specs.Runs.{opening_run, repeated, unhashed};
+ghost use Rattle.world_spec.specs.Steps.{StartsAs};
 ghost use Rattle.world_model.specs.Peers.{AreNumbered, node_of};
 ghost use Rattle.world_model.specs.Refusals.{IsCutOff};
 ghost use Rattle.world_model.specs.Worlds.{run_of};
@@ -27,8 +29,8 @@ fn started_peer<H: Hasher16, R: Threads + Sync>(
 ) -> Result<WorldPeer, WorldError>
     requires { IsPeer me }
     ensures me { IfOk result (λ p. p.me ≡ me) }
-    ensures node { IfOk result (λ p. node_of p ≡ opening_node view) }
-    ensures error { IfErr result (IsCutOff H.clashes H.fulls) }
+    ensures node { IfOk result (λ p. StartsAs (account H.kept H.clashes H.fulls hasher.old) (account H.kept H.clashes H.fulls hasher.new) view (Down empty_stores) (node_of p)) }
+    ensures error { IfErr result (IsCutOff (opening_strings view) (account H.kept H.clashes H.fulls hasher.old) (account H.kept H.clashes H.fulls hasher.new)) }
 {
     let mut peer = WorldPeer::empty(alloc, me);
     peer.start(rt, alloc, view, hasher)?;
@@ -47,7 +49,8 @@ fn started_peers<H: Hasher16, R: Threads + Sync>(
     ensures nodes { IfOk result (λ v. map node_of v.items ≡ replicate count (opening_node view)) }
     ensures numbered { IfOk result (λ v. AreNumbered v.items) }
     ensures count { IfOk result (λ v. length v.items ≡ count) }
-    ensures error { IfErr result (IsCutOff H.clashes H.fulls) }
+    ensures hashed { OnOk result (HasHashed (repeated count (opening_strings view)) (account H.kept H.clashes H.fulls hasher.old) (account H.kept H.clashes H.fulls hasher.new)) }
+    ensures error { IfErr result (IsCutOff (repeated count (opening_strings view)) (account H.kept H.clashes H.fulls hasher.old) (account H.kept H.clashes H.fulls hasher.new)) }
 {
     let mut peers = Vec::new(alloc);
     for below in 0..count {
@@ -59,12 +62,13 @@ fn started_peers<H: Hasher16, R: Threads + Sync>(
 
 impl World {
     /// Opens a world: starts `schedule.peers` peers on empty stores, in an ensemble that opens in
-    /// the view of the schedule. Applies no event.
+    /// the view of the schedule. Applies no event. The hasher took the strings that the starts hash,
+    /// in order.
     ///
     /// # Errors
     ///
-    /// `Memory` when out of memory, `Clash` or `BookFull` only if the hasher refused a string, and no
-    /// other error.
+    /// `Memory` when out of memory, `Clash` or `BookFull` if the hasher rejected one of these strings
+    /// and counted that in this call, after it took those before, and no other error.
     pub fn open<H: Hasher16, R: Threads + Sync>(
         rt: &R,
         alloc: Global,
@@ -72,8 +76,9 @@ impl World {
         hasher: &mut H,
     ) -> Result<World, WorldError>
         requires { schedule.now.peers ≤ 31 }
-        ensures ok { IfOk result (λ w. run_of w ≡ opening_run schedule.now.peers schedule.now.view) }
-        ensures error { IfErr result (IsCutOff H.clashes H.fulls) }
+        ensures ok { IfOk result (λ w. run_of w ≡ unhashed (opening_run schedule.now.peers schedule.now.view)) }
+        ensures hashed { OnOk result (HasHashed (opening_run schedule.now.peers schedule.now.view).hashed (account H.kept H.clashes H.fulls hasher.old) (account H.kept H.clashes H.fulls hasher.new)) }
+        ensures error { IfErr result (IsCutOff (opening_run schedule.now.peers schedule.now.view).hashed (account H.kept H.clashes H.fulls hasher.old) (account H.kept H.clashes H.fulls hasher.new)) }
     {
         Ok(World {
             opening: schedule.view,

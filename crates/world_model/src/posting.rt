@@ -1,9 +1,9 @@
 ghost use Rattle.std.specs.Prelude.{◌≡◌, ◌⊎◌, ◌<◌, ◌≤◌, ◌+◌, map, length, All, OnOk, IfErr, IsErrOf};
 ghost use Rattle.ens_base.specs.View.{IsPeer};
+ghost use Rattle.held_stores.specs.Held.{StartsWith};
 ghost use Rattle.network.specs.Mail.{most_messages};
 ghost use Rattle.peer_core.specs.Kept.{MaySend};
 ghost use Rattle.world_spec.specs.Runs.{frame_from, posted_all};
-ghost use Rattle.world_model.specs.Messages.{StartsWith};
 
 use crate::error::WorldError;
 use ens_base::PeerId;

@@ -1,3 +1,5 @@
+ghost use Rattle.std.specs.Prelude.{◌≡◌, [], OnOk, Some};
+ghost use Rattle.held_stores.specs.Held.{account, HasNoClash};
 ghost use Rattle.schedule_text.specs.Spelling.{IsSchedule};
 ghost use Rattle.world_spec.specs.Lines.{run_of_schedule};
 ghost use Rattle.world_model.specs.Worlds.{RunReaches};
@@ -12,12 +14,15 @@ use std::thread::Threads;
 use wire_frames::Frame;
 
 impl World {
-    /// Opens a world and applies every event of the schedule.
+    /// Opens a world and applies every event of the schedule. The hasher took the strings that the
+    /// run hashes, in order. If it kept none before and says what it keeps, no two different strings
+    /// of the run have the same MD5.
     ///
     /// # Errors
     ///
     /// `MessageLimit` exactly if the run would send more than 500,000 messages, unless it is cut off
-    /// first: `Memory` when out of memory, `Clash` or `BookFull` only if the hasher refused a string.
+    /// first: `Memory` when out of memory, `Clash` or `BookFull` if the hasher rejected one of the
+    /// strings of the run and counted that in this call, after it took those before.
     pub fn run<H: Hasher16, R: Threads + Sync>(
         rt: &R,
         alloc: Global,
@@ -25,7 +30,8 @@ impl World {
         hasher: &mut H,
     ) -> Result<World, WorldError>
         requires { IsSchedule schedule.now }
-        ensures { RunReaches H.clashes H.fulls (run_of_schedule schedule.now.peers schedule.now.view schedule.now.events) result }
+        ensures reaches { RunReaches (account H.kept H.clashes H.fulls hasher.old) (run_of_schedule schedule.now.peers schedule.now.view schedule.now.events) result (account H.kept H.clashes H.fulls hasher.new) }
+        ensures apart { H.kept hasher.old ≡ Some [] → OnOk result (HasNoClash (run_of_schedule schedule.now.peers schedule.now.view schedule.now.events).hashed) }
     {
         let mut world = World::open(rt, alloc, schedule, hasher)?;
         let events = schedule.events.as_slice();

@@ -1,4 +1,5 @@
 ghost use Rattle.ens_base.specs.View.{IsPeer};
+ghost use Rattle.held_stores.specs.Held.{account};
 ghost use Rattle.step_plans.specs.Outboxes.{out_of};
 ghost use Rattle.peer_core.specs.Drives.{MayCome};
 ghost use Rattle.peer_core.specs.Kept.{AllMayGo};
@@ -51,7 +52,7 @@ impl World {
     ) -> Result<(), WorldError>
         requires peer { IsPeer peer }
         requires event { MayCome peer event }
-        ensures reaches { Reaches H.clashes H.fulls (stepped peer event (run_of self.old)) result (run_of self.new) }
+        ensures reaches { Reaches (account H.kept H.clashes H.fulls hasher.old) (stepped peer event (run_of self.old)) result (run_of self.new) (account H.kept H.clashes H.fulls hasher.new) }
         ensures begins { Begins self.old self.new }
     {
         let place = (peer.0 - 1) as usize;

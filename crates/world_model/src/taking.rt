@@ -1,10 +1,11 @@
 ghost use Rattle.std.specs.Prelude.{◌≡◌, false, IfOk, IfErr, OnOk};
 ghost use Rattle.ens_base.specs.View.{IsPeer};
-ghost use Rattle.held_stores.specs.Held.{empty_stores as no_stores};
+ghost use Rattle.held_stores.specs.Held.{account, empty_stores as no_stores};
 ghost use Rattle.step_plans.specs.Outboxes.{out_of};
 ghost use Rattle.peer_core.specs.Drives.{MayCome};
 ghost use Rattle.peer_core.specs.Kept.{AllMayGo};
-ghost use Rattle.world_spec.specs.Nodes.{Taken, taken, started, Up, Down};
+ghost use Rattle.world_spec.specs.Nodes.{hashed_by_start, taken, Up, Down};
+ghost use Rattle.world_spec.specs.Steps.{ComesTo, StartsAs};
 ghost use Rattle.world_model.specs.Peers.{node_of};
 ghost use Rattle.world_model.specs.Refusals.{world_error as error_of, IsCutOff};
 
@@ -77,9 +78,9 @@ impl WorldPeer {
         opening: View,
         hasher: &mut H,
     ) -> Result<(), WorldError>
-        ensures ok { OnOk result (node_of self.new ≡ started opening (node_of self.old)) }
+        ensures ok { OnOk result (StartsAs (account H.kept H.clashes H.fulls hasher.old) (account H.kept H.clashes H.fulls hasher.new) opening (node_of self.old) (node_of self.new)) }
         ensures me { self.new.me ≡ self.old.me }
-        ensures error { IfErr result (IsCutOff H.clashes H.fulls) }
+        ensures error { IfErr result (IsCutOff (hashed_by_start opening (node_of self.old)) (account H.kept H.clashes H.fulls hasher.old) (account H.kept H.clashes H.fulls hasher.new)) }
     {
         if self.running.is_some() {
             return Ok(());
@@ -110,10 +111,10 @@ impl WorldPeer {
         event: Event,
     ) -> Result<Outbox, WorldError>
         requires { MayCome self.old.me event }
-        ensures taken { IfOk result (λ out. record { node = node_of self.new; out = out_of out; notes = out.notes.items } ≡ taken self.old.me event (node_of self.old)) }
+        ensures taken { IfOk result (λ out. ComesTo (account H.kept H.clashes H.fulls hasher.old) (account H.kept H.clashes H.fulls hasher.new) (taken self.old.me event (node_of self.old)) (node_of self.new) (out_of out) out.notes.items) }
         ensures may_go { IfOk result (λ out. AllMayGo self.old.me (out_of out)) }
         ensures me { self.new.me ≡ self.old.me }
-        ensures error { IfErr result (IsCutOff H.clashes H.fulls) }
+        ensures error { IfErr result (IsCutOff (taken self.old.me event (node_of self.old)).hashed (account H.kept H.clashes H.fulls hasher.old) (account H.kept H.clashes H.fulls hasher.new)) }
     {
         let mut out = Outbox::new(alloc);
         let Some(running) = self.running.take() else {

@@ -4,7 +4,7 @@ use Rattle.std.specs.Prelude.{All, IfSome, slice_get, slice_set}
 use Rattle.std.proofs.lemmas.List.Elements.{All-nil, All-cons, All-head, All-tail, All-push}
 use Rattle.std.proofs.lemmas.Option.{none-some, same_Some}
 use Rattle.ens_base.specs.View.{IsPeer}
-use Rattle.held_stores.specs.Held.{HeldStores, empty_stores}
+use Rattle.held_stores.specs.Held.{Held, HeldStores, empty_stores}
 use Rattle.held_stores.specs.Laws.{held_with}
 use Rattle.held_stores.specs.Runs.{Ended}
 use Rattle.leader_words.specs.declared.out.Outgoing.{Outgoing}
@@ -44,14 +44,14 @@ pub record IsFine (w : Run) : Type 0 where
   pub mail : All MayBeSent w.mail.sent
   pub nodes : (place : ℕ) (node : Node) → slice_get w.nodes place ≡ Some node → IsOwnNode (suc place) node
 
-ended_fine : (me : ℕ) (e : Ending State) (s : HeldStores) (ns : List Note) → EndsIn (λ y out. IsOwn me y × AllMayGo me out) e → IsFineTaken me (taken_by e s ns)
-ended_fine me (Finished x out) s ns ends = record { node = ends.0; out = ends.1 }
-ended_fine me (Stopped error) s ns ends = record { node = tt; out = All-nil (MaySend me) }
+ended_fine : (me : ℕ) (e : Ending State) (h : Held) (ns : List Note) → EndsIn (λ y out. IsOwn me y × AllMayGo me out) e → IsFineTaken me (taken_by e h ns)
+ended_fine me (Finished x out) h ns ends = record { node = ends.0; out = ends.1 }
+ended_fine me (Stopped error) h ns ends = record { node = tt; out = All-nil (MaySend me) }
 
 run_fine : (me : ℕ) (p : Plan State) (s : HeldStores) → Reaches (λ y out. IsOwn me y × AllMayGo me out) p → IsFineTaken me (taken_of (run_over p s))
 run_fine me p s reaches =
     let e : Ended State = run_over p s in
-    ended_fine me e.ending e.held.stores e.notes (run_reaches (λ y out. IsOwn me y × AllMayGo me out) p (held_with s []) [] reaches)
+    ended_fine me e.ending e.held e.notes (run_reaches (λ y out. IsOwn me y × AllMayGo me out) p (held_with s []) [] reaches)
 
 -- all messages that a node sends in a step may be sent, and it sends as itself
 pub taken_fine : (me : ℕ) (event : Event) (node : Node) → IsPeer me → MayCome me event → IsOwnNode me node → IsFineTaken me (taken me event node)
@@ -178,7 +178,9 @@ effect_fine peers Calm w few stand old = calmed_fine everyone most_messages w ol
 effect_fine peers (CalmAmong members) w few stand old = calmed_fine (set_of members) most_messages w old
 effect_fine peers (Change peer view) w few stand old = stepped_fine peer (events.Change view) w (stand.0.first, omega (arith, few, stand.0.last)) tt old
 effect_fine peers (Stop peer) w few stand old = changed_fine peer stopped w (stand.first, omega (arith, few, stand.last)) (stopped_own peer) old
-effect_fine peers (Start peer) w few stand old = changed_fine peer (started w.view) w (stand.first, omega (arith, few, stand.last)) (started_own peer w.view) old
+effect_fine peers (Start peer) w few stand old =
+    let now = changed_fine peer (started w.view) w (stand.first, omega (arith, few, stand.last)) (started_own peer w.view) old in
+    record { mail = now.mail; nodes = now.nodes }
 effect_fine peers (Spoil peer key bytes) w few stand old = changed_fine peer (over_stores (spoiled key bytes)) w (stand.0.first, omega (arith, few, stand.0.last)) (over_stores_own (spoiled key bytes) peer) old
 effect_fine peers (Damage peer key bytes) w few stand old = changed_fine peer (over_stores (segment_spoiled key bytes)) w (stand.0.first, omega (arith, few, stand.0.last)) (over_stores_own (segment_spoiled key bytes) peer) old
 effect_fine peers (Inner peer level index bytes) w few stand old = changed_fine peer (over_stores (inner_spoiled level index bytes)) w (stand.0.first, omega (arith, few, stand.0.last)) (over_stores_own (inner_spoiled level index bytes) peer) old

@@ -8,8 +8,8 @@ use Rattle.peer_core.specs.declared.event.Event.TheVariants as events
 use Rattle.phase_rows.specs.Peers.{those}
 use Rattle.schedule_text.specs.declared.event.ScheduleEvent.{ScheduleEvent}
 use Rattle.schedule_text.specs.declared.event.ScheduleEvent.TheVariants.{Call, Tick, Deliver, Pass, Lose, Calm, CalmAmong, Change, Stop, Start, Spoil, Damage, Inner, Revert, Fail}
-use Rattle.world_spec.specs.Nodes.{started, stopped, over_stores, while_down}
-use Rattle.world_spec.specs.Runs.{Run, next_event, opening_run, stepped, changed, ticked, delivered, delivered_if, calmed}
+use Rattle.world_spec.specs.Nodes.{stopped, over_stores, while_down}
+use Rattle.world_spec.specs.Runs.{Run, next_event, opening_run, stepped, changed, with_start, ticked, delivered, delivered_if, calmed}
 use Rattle.world_spec.specs.Stores.{failing, leaves_of, spoiled, segment_spoiled, inner_spoiled, taken_back}
 
 -- the set of these peers
@@ -53,7 +53,7 @@ effect Calm w = calmed everyone most_messages w
 effect (CalmAmong members) w = calmed (set_of members) most_messages w
 effect (Change peer view) w = stepped peer (events.Change view) w
 effect (Stop peer) w = changed peer stopped w
-effect (Start peer) w = changed peer (started w.view) w
+effect (Start peer) w = with_start peer w
 effect other w = stores_effect other w
 
 -- the key that a call line names

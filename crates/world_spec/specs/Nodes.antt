@@ -1,6 +1,6 @@
 -- A peer of a world over its stores in memory: its steps, and how it stops and starts.
 use Rattle.std.specs.Prelude.{ℕ, List, []}
-use Rattle.held_stores.specs.Held.{HeldStores, empty_stores}
+use Rattle.held_stores.specs.Held.{Held, HeldStores, empty_stores}
 use Rattle.held_stores.specs.Laws.{held_with}
 use Rattle.held_stores.specs.Runs.{Ended, run}
 use Rattle.peer_core.specs.Drives.{step_of}
@@ -15,20 +15,22 @@ pub data Node : Type 0 where
   Up : (state : State) (stores : HeldStores) → Node
   Down : (stores : HeldStores) → Node
 
--- the outcome of a step: the peer after it, its output, and its notes
+-- the outcome of a step: the peer after it, its output, its notes, and the strings that it hashed, in
+-- order
 pub record Taken : Type 0 where
   pub node : Node
   pub out : Out
   pub notes : List Note
+  pub hashed : List (List ℕ)
 
 -- the outcome of a step, from the ending of its plan; a peer whose plan stopped is down
-abbrev pub taken_by : Ending State → HeldStores → List Note → Taken
-taken_by (Finished x out) s ns = record { node = Up x s; out = out; notes = ns }
-taken_by (Stopped error) s ns = record { node = Down s; out = nothing; notes = ns }
+abbrev pub taken_by : Ending State → Held → List Note → Taken
+taken_by (Finished x out) h ns = record { node = Up x h.stores; out = out; notes = ns; hashed = h.hashed }
+taken_by (Stopped error) h ns = record { node = Down h.stores; out = nothing; notes = ns; hashed = h.hashed }
 
 -- the outcome of a step, from the run of its plan
 abbrev pub taken_of : Ended State → Taken
-taken_of e = taken_by e.ending e.held.stores e.notes
+taken_of e = taken_by e.ending e.held e.notes
 
 -- the run of a plan over these stores
 abbrev pub run_over : Plan State → HeldStores → Ended State
@@ -37,13 +39,18 @@ run_over p s = run p (held_with s []) []
 -- the outcome of a step of peer `me` on an event; a peer that is down takes no step
 abbrev pub taken : ℕ → Event → Node → Taken
 taken me event (Up x s) = taken_of (run_over (step_of me event x) s)
-taken me event (Down s) = record { node = Down s; out = nothing; notes = [] }
+taken me event (Down s) = record { node = Down s; out = nothing; notes = []; hashed = [] }
 
 -- a peer that is down starts over what it keeps, in an ensemble that opens in this view; if the
 -- start is refused it stays down, and a running peer goes on
 abbrev pub started : List ℕ → Node → Node
 started view (Up x s) = Up x s
 started view (Down s) = (taken_of (run_over (start_of view) s)).node
+
+-- the strings that this start hashes, in order
+abbrev pub hashed_by_start : List ℕ → Node → List (List ℕ)
+hashed_by_start view (Up x s) = []
+hashed_by_start view (Down s) = (taken_of (run_over (start_of view) s)).hashed
 
 -- the peer is down, and keeps its stores
 abbrev pub stopped : Node → Node
@@ -63,3 +70,7 @@ while_down f (Down s) = Down (f s)
 -- a peer started on empty stores, in an ensemble that opens in this view
 abbrev pub opening_node : List ℕ → Node
 opening_node view = started view (Down empty_stores)
+
+-- the strings that this start hashed
+abbrev pub opening_strings : List ℕ → List (List ℕ)
+opening_strings view = hashed_by_start view (Down empty_stores)

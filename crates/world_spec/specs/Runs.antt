@@ -10,23 +10,46 @@ use Rattle.step_plans.specs.Plans.{Out}
 use Rattle.leader_words.specs.declared.out.AnswerOut.{AnswerOut}
 use Rattle.leader_words.specs.declared.out.Outgoing.{Outgoing}
 use Rattle.wire_frames.specs.declared.frame.Frame.{Frame}
-use Rattle.world_spec.specs.Nodes.{Node, Taken, taken, opening_node}
+use Rattle.world_spec.specs.Nodes.{Node, Taken, taken, started, hashed_by_start, opening_node, opening_strings}
 
 -- the view in which the ensemble opens, the peers 1, 2, .. in this order, the messages, the lines
--- printed, the notes of leaders, the number of events applied, and the keys of the call lines in
--- order
+-- printed, the notes of leaders, the strings hashed by any peer in order, the number of events
+-- applied, and the keys of the call lines in order
 pub record Run : Type 0 where
   pub view : List ℕ
   pub nodes : List Node
   pub mail : Mail
   pub printed : List Printed
   pub notes : List Note
+  pub hashed : List (List ℕ)
   pub events : ℕ
   pub called : List (List ℕ)
 
+-- these strings, so many times
+abbrev pub repeated : ℕ → List (List ℕ) → List (List ℕ)
+repeated zero strings = []
+repeated (suc n) strings = repeated n strings ++ strings
+
 -- the state before the first event: the peers 1 to `peers` have started on empty stores
 abbrev pub opening_run : ℕ → List ℕ → Run
-opening_run peers view = record { view = view; nodes = replicate peers (opening_node view); mail = no_mail; printed = []; notes = []; events = 0; called = [] }
+opening_run peers view = record {
+  view = view;
+  nodes = replicate peers (opening_node view);
+  mail = no_mail;
+  printed = [];
+  notes = [];
+  hashed = repeated peers (opening_strings view);
+  events = 0;
+  called = [];
+}
+
+-- the run in which these strings were hashed first
+abbrev pub in_front : List (List ℕ) → Run → Run
+in_front strings w = record w { hashed = strings ++ w.hashed }
+
+-- the run from here on, in which no string was hashed yet
+abbrev pub unhashed : Run → Run
+unhashed w = record w { hashed = [] }
 
 -- the number of the next event; it stays at the greatest u64
 abbrev pub next_event : ℕ → ℕ
@@ -64,6 +87,7 @@ with_taken peer t w = record w {
   mail = posted_all (map (frame_from peer) t.out.sends) w.mail;
   printed = w.printed ++ printed_by (next_event w.events) peer t.out;
   notes = w.notes ++ t.notes;
+  hashed = w.hashed ++ t.hashed;
 }
 
 -- the world after a step, if there is such a peer
@@ -83,6 +107,19 @@ changed_at (Some node) peer change w = record w { nodes = slice_set w.nodes (pla
 -- the world after this change of the node of a peer; nothing is sent or printed
 abbrev pub changed : ℕ → (Node → Node) → Run → Run
 changed peer change w = changed_at (slice_get w.nodes (place_of peer)) peer change w
+
+-- the strings that a peer hashes when it is started, if there is such a peer
+abbrev pub start_strings : List ℕ → Option Node → List (List ℕ)
+start_strings view None = []
+start_strings view (Some node) = hashed_by_start view node
+
+-- the world after these strings were hashed
+abbrev pub hashing : List (List ℕ) → Run → Run
+hashing strings w = record w { hashed = w.hashed ++ strings }
+
+-- the world after a start of a peer; a running peer goes on
+abbrev pub with_start : ℕ → Run → Run
+with_start peer w = hashing (start_strings w.view (slice_get w.nodes (place_of peer))) (changed peer (started w.view) w)
 
 -- the world after so many ticks of a peer
 unfoldable pub ticked : ℕ → ℕ → Run → Run

@@ -10,9 +10,10 @@ ghost use Rattle.schedule_text.specs.Spelling.{AllMayStand};
 ghost use Rattle.schedule_text.specs.declared.event.ScheduleEvent.{ScheduleEvent};
 ghost use Rattle.schedule_text.specs.declared.event.ScheduleEvent.TheVariants.{Calm, CalmAmong};
 ghost use Rattle.world_spec.specs.Laws.{IsFinished, NoneWaits};
-ghost use Rattle.world_spec.specs.Lines.{everyone, set_of, run_of_schedule};
+ghost use Rattle.world_spec.specs.Lines.{applied, everyone, set_of, run_of_schedule};
 ghost use Rattle.world_spec.specs.Messages.{IsCalm};
 ghost use Rattle.world_spec.specs.Nodes.{run_over};
+ghost use Rattle.world_spec.specs.Runs.{Run, in_front};
 
 /// The step of a peer ends well if no write of its stores is to fail, and none is to fail after it.
 pub fn steps_end_well()
@@ -29,4 +30,9 @@ pub fn messages_obey()
 pub fn a_calm_leaves_none_waiting()
     ensures all { (peers : ℕ) (view : List ℕ) (events : List ScheduleEvent) → IsCalm everyone (run_of_schedule peers view (events ++ Calm ∷ [])) }
     ensures some { (peers : ℕ) (view : List ℕ) (events : List ScheduleEvent) (members : List ℕ) → IsCalm (set_of members) (run_of_schedule peers view (events ++ CalmAmong members ∷ [])) }
+{}
+
+/// The strings hashed before a line make no difference to it: it hashes its own after them.
+pub fn hashed_strings_are_forgotten()
+    ensures { (event : ScheduleEvent) (strings : List (List ℕ)) (w : Run) → applied event (in_front strings w) ≡ in_front strings (applied event w) }
 {}

@@ -1,5 +1,6 @@
 //! Specification only: the run of a schedule as a pure function of its lines. It covers the peers
-//! over stores in memory, the messages between them, and the effect of each line.
+//! over stores in memory, the messages between them, the effect of each line, and the strings that
+//! it hashes.
 //!
 //! The stores of a peer are those of held_stores: a line can make the next write of one fail, and
 //! change what it holds (`specs/Stores`). A plan over them has exactly one run unless it is out of
@@ -12,4 +13,6 @@
 
 mod laws;
 
-pub use laws::{a_calm_leaves_none_waiting, messages_obey, steps_end_well};
+pub use laws::{
+    a_calm_leaves_none_waiting, hashed_strings_are_forgotten, messages_obey, steps_end_well,
+};

@@ -1,5 +1,7 @@
+use Rattle.held_stores.specs.Held.{account}
 use Rattle.world_model.proofs.Starting.{Started}
 use Rattle.world_model.proofs.opening.started_peers.Given as goal
 
 abbrev pub invariant-loop-below : goal.invariant-loop-below
-invariant-loop-below g l = Started l.fn.view l.below l.peers.items
+invariant-loop-below g l =
+    Started l.fn.view l.below l.peers.items (account g.H.Hasher16.kept g.H.Hasher16.clashes g.H.Hasher16.fulls l.initial.hasher) (account g.H.Hasher16.kept g.H.Hasher16.clashes g.H.Hasher16.fulls l.hasher)

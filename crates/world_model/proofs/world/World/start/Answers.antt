@@ -1,11 +1,11 @@
 use Rattle.std.proofs.Common.{rules, ◌≡◌, ◌-◌, Some, refl, map, slice_get, slice_set}
 use Rattle.std.proofs.lemmas.Option.{slice_get_read}
-use Rattle.world_spec.specs.Nodes.{started}
+use Rattle.world_spec.specs.Nodes.{hashed_by_start}
 use Rattle.world_model.specs.Peers.{node_of}
 use Rattle.world_model.specs.Worlds.{run_of}
 use Rattle.world_model.proofs.Begins.{begins_by}
-use Rattle.world_model.proofs.Placed.{did_change, still_numbered, still_few}
-use Rattle.world_model.proofs.Reached.{reaches_changed}
+use Rattle.world_model.proofs.Placed.{did_start, start_strings_at, still_numbered, still_few}
+use Rattle.world_model.proofs.Reached.{reaches_started}
 use Rattle.world_model.proofs.world.World.start.Goals as goal
 
 pub invariant_of-self : goal.invariant_of-self
@@ -21,8 +21,10 @@ pub returns-clause-reaches : goal.returns-clause-reaches
 returns-clause-reaches g c =
     let at : slice_get c.args.self.now.peers.items (c.peer.inside.0 - 1) ≡ Some c.index_mut.result.now = search (rules, slice_get_read) in
     let here : slice_get c.args.self.now.peers.items (c.args.peer - 1) ≡ Some c.index_mut.result.now = rw c.peer.view_is at at in
-    reaches_changed g.H.Hasher16.clashes g.H.Hasher16.fulls c.args.peer (started c.args.self.now.opening) (run_of c.args.self.now) c.start.result (record (run_of c.args.self.now) { nodes = map node_of (slice_set c.args.self.now.peers.items (c.peer.inside.0 - 1) c.start.new.self) }) _ c.args.self.now.within c.start.ensures.ok
-    (λ did. rw c.peer.view_is (did_change c.args.self.now.peers.items (run_of c.args.self.now) c.args.peer c.index_mut.result.now c.start.new.self refl here (started c.args.self.now.opening) did)) c.start.ensures.error
+    reaches_started _ _ c.args.peer (run_of c.args.self.now) (hashed_by_start c.args.self.now.opening (node_of c.index_mut.result.now)) c.start.result
+    (record (run_of c.args.self.now) { nodes = map node_of (slice_set c.args.self.now.peers.items (c.peer.inside.0 - 1) c.start.new.self) }) _
+    (start_strings_at c.args.self.now.peers.items (run_of c.args.self.now) c.args.peer c.index_mut.result.now c.start.new.self refl here) c.args.self.now.within c.start.ensures.ok
+    (λ did. rw c.peer.view_is (did_start c.args.self.now.peers.items (run_of c.args.self.now) c.args.peer c.index_mut.result.now c.start.new.self refl here did.is)) (λ did. did.has) c.start.ensures.error
 
 pub returns-clause-begins : goal.returns-clause-begins
 returns-clause-begins g c = begins_by c.args.self.now _ refl refl

@@ -1,11 +1,17 @@
-use Rattle.std.proofs.Common.{arith, rules, ◌≡◌, ◌-◌, Some, refl, slice_get}
+use Rattle.std.proofs.Common.{rules, ◌≡◌, ◌-◌, ℕ, Some, List, [], refl, sym, subst, slice_get}
 use Rattle.std.proofs.lemmas.Option.{slice_get_read}
+use Rattle.held_stores.proofs.Taken.{hashed_none}
+use Rattle.held_stores.specs.Held.{account, HasHashed}
 use Rattle.step_plans.specs.Outboxes.{out_of}
+use Rattle.world_spec.proofs.Growth.{further_same}
+use Rattle.world_spec.specs.Nodes.{taken}
 use Rattle.world_spec.specs.Runs.{stepped}
+use Rattle.world_model.specs.Peers.{node_of}
+use Rattle.world_model.specs.Refusals.{IsCutOff}
 use Rattle.world_model.specs.Worlds.{run_of}
 use Rattle.world_model.proofs.Begins.{begins_by}
-use Rattle.world_model.proofs.Placed.{took, still_numbered, still_few, has_number}
-use Rattle.world_model.proofs.Reached.{reaches_same, refused_further, cut_off_refuses, adds_reaches}
+use Rattle.world_model.proofs.Placed.{took, took_strings, still_numbered, still_few, has_number}
+use Rattle.world_model.proofs.Reached.{refused_further, cut_off_refuses, adds_reaches}
 use Rattle.world_model.proofs.world.World.step_peer.Goals as goal
 
 pub returns-then-place-len-clause-begins : goal.returns-then-place-len-clause-begins
@@ -25,12 +31,26 @@ returns-in_err-out-clause-begins g c = begins_by c.args.self.now _ refl refl
 
 pub returns-in_err-out-clause-reaches : goal.returns-in_err-out-clause-reaches
 returns-in_err-out-clause-reaches g c =
+    let first = account g.H.Hasher16.kept g.H.Hasher16.clashes g.H.Hasher16.fulls c.args.hasher.now in
+    let now = account g.H.Hasher16.kept g.H.Hasher16.clashes g.H.Hasher16.fulls c.step.new.hasher in
+    let at : slice_get c.args.self.now.peers.items (c.peer.inside.0 - 1) ≡ Some c.index_mut.result.now = search (rules, slice_get_read) in
+    let here : slice_get c.args.self.now.peers.items (c.args.peer - 1) ≡ Some c.index_mut.result.now = rw c.peer.view_is at at in
     let due = stepped c.args.peer c.args.event (run_of c.args.self.now) in
-    refused_further g.H.Hasher16.clashes g.H.Hasher16.fulls due due c.in_err-out.field-0.0 _ c.from_residual.result _ (omega arith) c.from_residual.ensures.1 (λ d h. h) (cut_off_refuses g.H.Hasher16.clashes g.H.Hasher16.fulls due c.in_err-out.field-0.0 c.in_err-out.ensures.error)
+    let own = has_number c.args.self.now.peers.items c.args.peer c.index_mut.result.now c.requires.peer.0 here c.args.self.now.numbered in
+    let strings = took_strings c.args.self.now.peers.items (run_of c.args.self.now) c.args.peer c.index_mut.result.now c.step.new.self refl here c.args.event own in
+    refused_further [] due due first first now c.in_err-out.field-0.0 (hashed_none first) (further_same due)
+    (cut_off_refuses first due now c.in_err-out.field-0.0 (subst (λ (h : List (List ℕ)). IsCutOff h first now c.in_err-out.field-0.0) (sym strings) c.in_err-out.ensures.error)) _ c.from_residual.result _ c.from_residual.ensures.1 (λ d h. h)
 
 pub returns-clause-reaches : goal.returns-clause-reaches
 returns-clause-reaches g c =
+    let first = account g.H.Hasher16.kept g.H.Hasher16.clashes g.H.Hasher16.fulls c.args.hasher.now in
+    let now = account g.H.Hasher16.kept g.H.Hasher16.clashes g.H.Hasher16.fulls c.step.new.hasher in
     let at : slice_get c.args.self.now.peers.items (c.peer.inside.0 - 1) ≡ Some c.index_mut.result.now = search (rules, slice_get_read) in
     let here : slice_get c.args.self.now.peers.items (c.args.peer - 1) ≡ Some c.index_mut.result.now = rw c.peer.view_is at at in
-    reaches_same g.H.Hasher16.clashes g.H.Hasher16.fulls _ _ c.report.result _ (rw c.peer.view_is (took c.args.self.now.peers.items (run_of c.args.self.now) c.args.peer c.index_mut.result.now c.step.new.self refl here c.args.event
-    (out_of c.in_ok-out.out) c.in_ok-out.out.notes.items (has_number c.args.self.now.peers.items c.args.peer c.index_mut.result.now c.requires.peer.0 here c.args.self.now.numbered) c.in_ok-out.ensures.taken)) (adds_reaches g.H.Hasher16.clashes g.H.Hasher16.fulls _ c.report.result _ c.report.ensures.reaches)
+    let due = stepped c.args.peer c.args.event (run_of c.args.self.now) in
+    let own = has_number c.args.self.now.peers.items c.args.peer c.index_mut.result.now c.requires.peer.0 here c.args.self.now.numbered in
+    let strings = took_strings c.args.self.now.peers.items (run_of c.args.self.now) c.args.peer c.index_mut.result.now c.step.new.self refl here c.args.event own in
+    adds_reaches first due now c.report.result _ _ c.report.ensures.reaches
+    (rw c.peer.view_is (took c.args.self.now.peers.items (run_of c.args.self.now) c.args.peer c.index_mut.result.now c.step.new.self refl here c.args.event
+    (out_of c.in_ok-out.out) c.in_ok-out.out.notes.items (taken c.index_mut.result.now.me c.args.event (node_of c.index_mut.result.now)).hashed own c.in_ok-out.ensures.taken.is))
+    (subst (λ (h : List (List ℕ)). HasHashed h first now) (sym strings) c.in_ok-out.ensures.taken.has)

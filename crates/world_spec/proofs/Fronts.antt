@@ -1,0 +1,106 @@
+-- The strings hashed before make no difference to a run.
+use Rattle.std.proofs.Common.{◌≡◌, ◌-◌, ◌∙◌, ℕ, zero, suc, Option, None, Some, List, [], ◌∷◌, ◌++◌, refl, sym, ap}
+use Rattle.std.specs.Prelude.{Bool, slice_get}
+use Rattle.std.proofs.lemmas.List.{append-nil, append_assoc}
+use Rattle.network.specs.Mail.{settled, goes, is_among, oldest, most_messages}
+use Rattle.peer_core.specs.declared.event.Event.{Event}
+use Rattle.peer_core.specs.declared.event.Event.TheVariants as events
+use Rattle.schedule_text.specs.declared.event.ScheduleEvent.{ScheduleEvent}
+use Rattle.schedule_text.specs.declared.event.ScheduleEvent.TheVariants.{Call, Tick, Deliver, Pass, Lose, Calm, CalmAmong, Change, Stop, Start, Spoil, Damage, Inner, Revert, Fail}
+use Rattle.wire_frames.specs.declared.frame.Frame.{Frame}
+use Rattle.world_spec.specs.Lines.{call_of, everyone, set_of, effect, counted, applied, run_from}
+use Rattle.world_spec.specs.Nodes.{Node, Taken, taken, started, stopped, over_stores, while_down}
+use Rattle.world_spec.specs.Runs.{Run, in_front, unhashed, place_of, with_taken, stepped_at, stepped, changed_at, changed, start_strings, hashing, with_start, ticked, received_if, delivered, delivered_if, going_on, calmed}
+use Rattle.world_spec.specs.Stores.{failing, leaves_of, spoiled, segment_spoiled, inner_spoiled, taken_back}
+
+taken_front : (xs : List (List ℕ)) (peer : ℕ) (t : Taken) (w : Run) → with_taken peer t (in_front xs w) ≡ in_front xs (with_taken peer t w)
+taken_front xs peer t w = ap (λ h. record (with_taken peer t w) { hashed = h }) (append_assoc xs w.hashed t.hashed)
+
+stepped_at_front : (xs : List (List ℕ)) (node : Option Node) (peer : ℕ) (event : Event) (w : Run) → stepped_at node peer event (in_front xs w) ≡ in_front xs (stepped_at node peer event w)
+stepped_at_front xs None peer event w = refl
+stepped_at_front xs (Some node) peer event w = taken_front xs peer (taken peer event node) w
+
+stepped_front : (xs : List (List ℕ)) (peer : ℕ) (event : Event) (w : Run) → stepped peer event (in_front xs w) ≡ in_front xs (stepped peer event w)
+stepped_front xs peer event w = stepped_at_front xs (slice_get w.nodes (place_of peer)) peer event w
+
+pub ticked_front : (peer n : ℕ) (xs : List (List ℕ)) (w : Run) → ticked peer n (in_front xs w) ≡ in_front xs (ticked peer n w)
+unfolding ticked
+ticked_front peer zero xs w = refl
+ticked_front peer (suc n) xs w = ap (λ v. ticked peer n v) (stepped_front xs peer events.Tick w) ∙ ticked_front peer n xs (stepped peer events.Tick w)
+
+received_front : (xs : List (List ℕ)) (f : Option Frame) (n : ℕ) (w : Run) → received_if f n (in_front xs w) ≡ in_front xs (received_if f n w)
+received_front xs None n w = refl
+received_front xs (Some f) n w = stepped_front xs f.to (events.Deliver f.from f.message) (record w { mail = settled w.mail n })
+
+delivered_front : (xs : List (List ℕ)) (n : ℕ) (w : Run) → delivered n (in_front xs w) ≡ in_front xs (delivered n w)
+delivered_front xs n w = received_front xs (slice_get w.mail.sent n) n w
+
+passed_front : (xs : List (List ℕ)) (n : Option ℕ) (w : Run) → delivered_if n (in_front xs w) ≡ in_front xs (delivered_if n w)
+passed_front xs None w = refl
+passed_front xs (Some n) w = delivered_front xs n w
+
+pub calmed_front : (peers : List Bool) (n : ℕ) (xs : List (List ℕ)) (w : Run) → calmed peers n (in_front xs w) ≡ in_front xs (calmed peers n w)
+unfolding calmed
+calmed_front peers zero xs w = refl
+calmed_front peers (suc n) xs w = going (oldest (is_among peers) w.mail) (λ v. calmed_front peers n xs v) where
+  going : (k : Option ℕ) → ((v : Run) → calmed peers n (in_front xs v) ≡ in_front xs (calmed peers n v))
+      → going_on k (λ v. calmed peers n v) (in_front xs w) ≡ in_front xs (going_on k (λ v. calmed peers n v) w)
+  going None later = refl
+  going (Some k) later = ap (λ v. calmed peers n v) (delivered_front xs k w) ∙ later (delivered k w)
+
+changed_at_front : (xs : List (List ℕ)) (node : Option Node) (peer : ℕ) (change : Node → Node) (w : Run) → changed_at node peer change (in_front xs w) ≡ in_front xs (changed_at node peer change w)
+changed_at_front xs None peer change w = refl
+changed_at_front xs (Some node) peer change w = refl
+
+changed_front : (xs : List (List ℕ)) (peer : ℕ) (change : Node → Node) (w : Run) → changed peer change (in_front xs w) ≡ in_front xs (changed peer change w)
+changed_front xs peer change w = changed_at_front xs (slice_get w.nodes (place_of peer)) peer change w
+
+start_front : (xs : List (List ℕ)) (peer : ℕ) (w : Run) → with_start peer (in_front xs w) ≡ in_front xs (with_start peer w)
+start_front xs peer w =
+    let strings = start_strings w.view (slice_get w.nodes (place_of peer)) in
+    let v = changed peer (started w.view) w in
+    ap (hashing strings) (changed_front xs peer (started w.view) w) ∙ ap (λ h. record v { hashed = h }) (append_assoc xs v.hashed strings)
+
+effect_front : (event : ScheduleEvent) (xs : List (List ℕ)) (w : Run) → effect event (in_front xs w) ≡ in_front xs (effect event w)
+effect_front (Call peer id key command) xs w = stepped_front xs peer (events.Call (call_of id key command)) w
+effect_front (Tick peer ticks) xs w = ticked_front peer ticks xs w
+effect_front (Deliver message) xs w = delivered_front xs (message - 1) w
+effect_front (Pass sender receiver) xs w = passed_front xs (oldest (goes sender receiver) w.mail) w
+effect_front (Lose sender receiver) xs w = refl
+effect_front Calm xs w = calmed_front everyone most_messages xs w
+effect_front (CalmAmong members) xs w = calmed_front (set_of members) most_messages xs w
+effect_front (Change peer view) xs w = stepped_front xs peer (events.Change view) w
+effect_front (Stop peer) xs w = changed_front xs peer stopped w
+effect_front (Start peer) xs w = start_front xs peer w
+effect_front (Spoil peer key bytes) xs w = changed_front xs peer (over_stores (spoiled key bytes)) w
+effect_front (Damage peer key bytes) xs w = changed_front xs peer (over_stores (segment_spoiled key bytes)) w
+effect_front (Inner peer level index bytes) xs w = changed_front xs peer (over_stores (inner_spoiled level index bytes)) w
+effect_front (Revert peer changes) xs w = changed_front xs peer (while_down (taken_back changes)) w
+effect_front (Fail peer store survivor) xs w = changed_front xs peer (over_stores (failing store (leaves_of survivor))) w
+
+-- a line after these strings is the line with these strings in front
+pub applied_front : (event : ScheduleEvent) (xs : List (List ℕ)) (w : Run) → applied event (in_front xs w) ≡ in_front xs (applied event w)
+applied_front event xs w = ap (counted event) (effect_front event xs w)
+
+pub run_front : (events : List ScheduleEvent) (xs : List (List ℕ)) (w : Run) → run_from events (in_front xs w) ≡ in_front xs (run_from events w)
+run_front [] xs w = refl
+run_front (event ∷ more) xs w = ap (run_from more) (applied_front event xs w) ∙ run_front more xs (applied event w)
+
+-- ## Runs that go on from a world, which keeps no hashed strings
+
+-- nothing in front makes no difference
+pub in_front_none : (w : Run) → in_front [] w ≡ w
+in_front_none w = refl
+
+in_front_again : (xs ys : List (List ℕ)) (w : Run) → in_front xs (in_front ys w) ≡ in_front (xs ++ ys) w
+in_front_again xs ys w = ap (λ h. record w { hashed = h }) (sym (append_assoc xs ys w.hashed))
+
+begun_anew : (w : Run) → w ≡ in_front w.hashed (unhashed w)
+begun_anew w = ap (λ h. record w { hashed = h }) (sym (append-nil w.hashed))
+
+-- a run that goes on from `due` goes on from the world that `due` led to, with the strings of `due` in
+-- front
+pub onward : (f : Run → Run) → ((xs : List (List ℕ)) (w : Run) → f (in_front xs w) ≡ in_front xs (f w)) → (xs : List (List ℕ)) (due next whole : Run)
+    → in_front xs (f due) ≡ whole → next ≡ unhashed due → in_front (xs ++ due.hashed) (f next) ≡ whole
+onward f front xs due next whole old is =
+    rw is (sym (in_front_again xs due.hashed (f (unhashed due))) ∙ ap (in_front xs) (sym (ap f (begun_anew due) ∙ front due.hashed (unhashed due))) ∙ old)

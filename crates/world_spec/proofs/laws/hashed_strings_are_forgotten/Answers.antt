@@ -1,0 +1,5 @@
+use Rattle.world_spec.proofs.Fronts.{applied_front}
+use Rattle.world_spec.proofs.laws.hashed_strings_are_forgotten.Goals as goal
+
+pub returns : goal.returns
+returns c = applied_front
