@@ -1,11 +1,16 @@
 -- What a job prints, and why it ends as it does.
 use Rattle.std.specs.Prelude.{◌≡◌, ◌⊎◌, ℕ, Bool, true, false, List, [], ◌∷◌, ◌++◌, codes, Option, None, Some, Ok, IfSome}
+use Rattle.held_stores.specs.Held.{Account, HasHashed, HasNoClash}
+use Rattle.held_stores.specs.Laws.{HasClashed, HasFilled}
 use Rattle.schedule_premise.specs.Premise.{first_unsound}
 use Rattle.schedule_text.specs.Reading.{schedule_of}
 use Rattle.schedule_text.specs.Spelling.{IsSchedule}
 use Rattle.schedule_text.specs.declared.schedule.Schedule.{Schedule}
+use Rattle.ens_base.specs.Causes.{Rose}
 use Rattle.ens_base.specs.Lists.{◌∈◌}
+use Rattle.ens_base.specs.Words.{bytes_word}
 use Rattle.ens_base.specs.declared.status.Status.{Status}
+use Rattle.ens_hashing.specs.Hashing.{IsClash}
 use Rattle.register_model.specs.Histories.{IsLegal}
 use Rattle.register_model.specs.declared.history.History.{History}
 use Rattle.schedule_input.specs.Endings.{IsBadLine, IsLineLimit, IsUnsound}
@@ -38,9 +43,38 @@ abbrev pub IsRunText : Bool → Schedule → List ℕ → Type 0
 IsRunText true s text = IsMachineText s text
 IsRunText false s text = IsWorldText s text
 
--- the bytes are a sound schedule, and the text is that of its run
-abbrev pub IsReplay : List ℕ → List ℕ → Type 0
-IsReplay bytes text = (s : Schedule) × (schedule_of bytes ≡ Ok s) × IsSchedule s × (first_unsound s ≡ None) × IsRunText (is_machine s) s text
+-- the strings that a replay of the schedule hashes, in order: those of its run in a world; the machine
+-- hashes none
+abbrev pub hashed_if : Bool → Schedule → List (List ℕ)
+hashed_if true s = []
+hashed_if false s = (schedule_run s).hashed
+
+abbrev pub hashed_by : Schedule → List (List ℕ)
+hashed_by s = hashed_if (is_machine s) s
+
+-- a hasher took all these strings; so if it kept none before, and says what it keeps, no two different
+-- ones have the same MD5
+pub record HasAdmitted (strings : List (List ℕ)) (first now : Account) : Type 0 where
+  pub has : HasHashed strings first now
+  pub apart : first.kept ≡ Some [] → HasNoClash strings
+
+-- the bytes are a sound schedule, the text is that of its run, and the hasher took the strings of the
+-- run
+abbrev pub IsReplay : Account → Account → List ℕ → List ℕ → Type 0
+IsReplay first now bytes text = (s : Schedule) × (schedule_of bytes ≡ Ok s) × IsSchedule s × (first_unsound s ≡ None) × IsRunText (is_machine s) s text × HasAdmitted (hashed_by s) first now
+
+-- the bytes are a sound schedule, and the hasher rejected the next string of its run, which clashes
+-- with one that it keeps
+abbrev pub IsClashing : Account → Account → List ℕ → List ℕ → List ℕ → Type 0
+IsClashing first now kept new bytes = (s : Schedule) × (schedule_of bytes ≡ Ok s) × (first_unsound s ≡ None) × HasClashed (hashed_by s) first kept new now
+
+-- clash HEX HEX, with two different strings that have the same MD5: the one kept, and the new one
+abbrev pub clash_line : List ℕ → List ℕ → List ℕ
+clash_line kept new = codes "clash " ++ bytes_word kept ++ codes " " ++ bytes_word new ++ 10 ∷ []
+
+-- a clash was found and counted, and the text reports it
+abbrev pub IsClashText : Account → Account → Option (List ℕ) → List ℕ → Type 0
+IsClashText first now source text = (kept : List ℕ) × (new : List ℕ) × IsClash kept new × Rose first.clashes now.clashes × (text ≡ clash_line kept new) × IfSome source (IsClashing first now kept new)
 
 -- the bytes are a sound schedule that runs in a world, and its run exceeds the limit on messages
 abbrev pub IsPastLimit : List ℕ → Type 0
@@ -50,25 +84,44 @@ IsPastLimit bytes = (s : Schedule) × (schedule_of bytes ≡ Ok s) × (first_uns
 abbrev pub IsMessageLimit : Option (List ℕ) → List ℕ → Type 0
 IsMessageLimit source text = IfSome source IsPastLimit × (text ≡ codes "limit messages 500000" ++ 10 ∷ [])
 
--- the text that a replay of these bytes prints, for each status; it ends with no other status,
--- unless the output fails
+-- the bytes are a sound schedule, and the hasher rejected the next string of its run, since its book
+-- was full
+abbrev pub IsFilling : Account → Account → List ℕ → Type 0
+IsFilling first now bytes = (s : Schedule) × (schedule_of bytes ≡ Ok s) × (first_unsound s ≡ None) × HasFilled (hashed_by s) first now
+
+-- a full book was found and counted, and the text reports the limit of the book of `replay`
+abbrev pub IsBookLimit : Account → Account → Option (List ℕ) → List ℕ → Type 0
+IsBookLimit first now source text = Rose first.fulls now.fulls × IfSome source (IsFilling first now) × (text ≡ codes "limit book 1073741824" ++ 10 ∷ [])
+
+-- The text that a replay of these bytes prints, for each status, with a hasher that it leads from one
+-- account to the other. It ends with no other status, unless the output fails.
+abbrev pub PrintsWith : Account → Account → Option (List ℕ) → Status → List ℕ → Type 0
+PrintsWith first now source Status.Done text = IfSome source (λ bytes. IsReplay first now bytes text)
+PrintsWith first now source Status.Schedule text = IsBadLine source text
+PrintsWith first now source Status.Premise text = IsUnsound source text
+PrintsWith first now source Status.Clash text = IsClashText first now source text
+PrintsWith first now source Status.Limit text = IsLineLimit source text ⊎ (IsMessageLimit source text ⊎ IsBookLimit first now source text)
+PrintsWith first now source Status.ReadFault text = text ≡ codes "read fault" ++ 10 ∷ []
+PrintsWith first now source Status.Memory text = text ≡ codes "memory" ++ 10 ∷ []
+PrintsWith first now source status text = ⊥
+
+-- the account of a book that has met no string
+abbrev pub nothing_hashed : Account
+nothing_hashed = record { kept = Some []; clashes = 0; fulls = 0 }
+
+-- the text that a replay prints over such a book
 abbrev pub Prints : Option (List ℕ) → Status → List ℕ → Type 0
-Prints source Status.Done text = IfSome source (λ bytes. IsReplay bytes text)
-Prints source Status.Schedule text = IsBadLine source text
-Prints source Status.Premise text = IsUnsound source text
-Prints source Status.Limit text = IsLineLimit source text ⊎ IsMessageLimit source text
-Prints source Status.ReadFault text = text ≡ codes "read fault" ++ 10 ∷ []
-Prints source Status.Memory text = text ≡ codes "memory" ++ 10 ∷ []
-Prints source status text = ⊥
+Prints source status text = (now : Account) × PrintsWith nothing_hashed now source status text
 
 -- a job that read this schedule ends with this status and text, whatever its source
-abbrev pub EndsSo : Schedule → Status → List ℕ → Type 0
-EndsSo s status text = (source : Option (List ℕ)) → IfSome source (λ bytes. schedule_of bytes ≡ Ok s) → Prints source status text
+abbrev pub EndsSo : Account → Account → Schedule → Status → List ℕ → Type 0
+EndsSo first now s status text = (source : Option (List ℕ)) → IfSome source (λ bytes. schedule_of bytes ≡ Ok s) → PrintsWith first now source status text
 
--- how a job that read this schedule ends if it runs in a world
+-- how a replay over such a book ends if it reads this schedule and runs it in a world
 abbrev pub EndsInRun : Schedule → Status → List ℕ → Type 0
-EndsInRun s Status.Done text = IsWorldText s text
-EndsInRun s Status.Limit text = IsPastMessages (schedule_run s) × (text ≡ codes "limit messages 500000" ++ 10 ∷ [])
+EndsInRun s Status.Done text = IsWorldText s text × HasNoClash (schedule_run s).hashed
+EndsInRun s Status.Clash text = (now : Account) × (kept : List ℕ) × (new : List ℕ) × HasClashed (schedule_run s).hashed nothing_hashed kept new now × IsClash kept new × (text ≡ clash_line kept new)
+EndsInRun s Status.Limit text = (IsPastMessages (schedule_run s) × (text ≡ codes "limit messages 500000" ++ 10 ∷ [])) ⊎ ((now : Account) × HasFilled (schedule_run s).hashed nothing_hashed now × (text ≡ codes "limit book 1073741824" ++ 10 ∷ []))
 EndsInRun s Status.ReadFault text = text ≡ codes "read fault" ++ 10 ∷ []
 EndsInRun s Status.Memory text = text ≡ codes "memory" ++ 10 ∷ []
 EndsInRun s status text = ⊥

@@ -1,23 +1,28 @@
-ghost use Rattle.std.specs.Prelude.{◌≡◌, ◌≢◌, List, ℕ, IfOk, MatchOption, None, true, false, string_bytes};
+ghost use Rattle.std.specs.Prelude.{◌≡◌, ◌≢◌, List, ℕ, IfOk, MatchOption, None, true, string_bytes};
 ghost use Rattle.std.specs.Io.KnownBytes.{Appends, IsAtEnd};
 ghost use Rattle.ens_base.specs.Causes.{Rose};
 ghost use Rattle.ens_base.specs.declared.status.Status.{Status};
 ghost use Rattle.ens_outside.specs.Written.{AppendsFront};
+ghost use Rattle.held_stores.specs.Held.{Account, account};
 ghost use Rattle.schedule_premise.specs.Premise.{first_unsound};
 ghost use Rattle.schedule_text.specs.Spelling.{IsSchedule};
 ghost use Rattle.replay.specs.Form.{form_of, is_machine as has_machine_form};
-ghost use Rattle.replay.specs.Jobs.{EndsSo, IsMachineText, Prints};
+ghost use Rattle.replay.specs.Jobs.{EndsSo, IsMachineText, Prints, PrintsWith};
 
 use crate::form::{form_of, is_machine};
 use crate::run::run;
 use crate::text::write_text;
-use crate::worlds::world_text;
+use crate::worlds::run_world;
 use ens_base::Status;
+use ens_hashing::{HashBook, Hasher16};
 use ens_outside::{Sink, Source, finish};
 use schedule_input::{Ending, read_schedule};
 use schedule_text::Schedule;
 use std::alloc::{AllocError, Global};
 use std::thread::Threads;
+
+/// The number of bytes that the book of a replay keeps.
+const BOOK_LIMIT: u64 = 1_073_741_824;
 
 /// Returns the text of the machine's run of a schedule, or `None` if it has another form.
 fn machine_text(alloc: Global, schedule: Schedule) -> Result<Option<String>, AllocError>
@@ -30,33 +35,12 @@ fn machine_text(alloc: Global, schedule: Schedule) -> Result<Option<String>, All
     Ok(Some(write_text(alloc, &record.answers, &record.histories)?))
 }
 
-/// Runs a schedule in a world. Ends with `limit` if it would send too many messages.
-fn world_ending<R: Threads + Sync>(
-    rt: &R,
-    alloc: Global,
-    schedule: &Schedule,
-) -> Result<Ending, AllocError>
-    requires valid { IsSchedule schedule.now }
-    requires sound { first_unsound schedule.now ≡ None }
-    requires form { has_machine_form schedule.now ≡ false }
-    ensures ends { IfOk result (λ e. EndsSo schedule.now e.status (string_bytes e.text)) }
-    ensures status { IfOk result (λ e. e.status ≢ Status.ReadFault) }
-{
-    match world_text(rt, alloc, schedule)? {
-        Some(text) => Ok(Ending {
-            status: Status::Done,
-            text,
-        }),
-        None => Ending::new(alloc, Status::Limit, "limit messages 500000\n"),
-    }
-}
-
 /// Runs a schedule on the machine.
 fn machine_ending(alloc: Global, schedule: Schedule) -> Result<Ending, AllocError>
     requires valid { IsSchedule schedule }
     requires sound { first_unsound schedule ≡ None }
     requires form { has_machine_form schedule ≡ true }
-    ensures ends { IfOk result (λ e. EndsSo schedule e.status (string_bytes e.text)) }
+    ensures ends { IfOk result (λ e. (any : Account) → EndsSo any any schedule e.status (string_bytes e.text)) }
     ensures status { IfOk result (λ e. e.status ≢ Status.ReadFault) }
 {
     match machine_text(alloc, schedule)? {
@@ -69,65 +53,90 @@ fn machine_ending(alloc: Global, schedule: Schedule) -> Result<Ending, AllocErro
 }
 
 /// Runs a sound schedule: on the machine if it has its form, and otherwise in a world.
-fn sound_ending<R: Threads + Sync>(
+fn sound_ending<H: Hasher16, R: Threads + Sync>(
     rt: &R,
     alloc: Global,
     schedule: Schedule,
+    hasher: &mut H,
 ) -> Result<Ending, AllocError>
     requires valid { IsSchedule schedule }
     requires sound { first_unsound schedule ≡ None }
-    ensures ends { IfOk result (λ e. EndsSo schedule e.status (string_bytes e.text)) }
+    ensures ends { IfOk result (λ e. EndsSo (account H.kept H.clashes H.fulls hasher.old) (account H.kept H.clashes H.fulls hasher.new) schedule e.status (string_bytes e.text)) }
     ensures status { IfOk result (λ e. e.status ≢ Status.ReadFault) }
 {
     if is_machine(&schedule) {
         machine_ending(alloc, schedule)
     } else {
-        world_ending(rt, alloc, &schedule)
+        run_world(rt, alloc, &schedule, hasher)
     }
 }
 
 /// Returns how the job ends that read this schedule: with the first view that fails the premise if
 /// there is one, and otherwise with its run.
-fn run_ending<R: Threads + Sync>(
+fn run_ending<H: Hasher16, R: Threads + Sync>(
     rt: &R,
     alloc: Global,
     schedule: Schedule,
+    hasher: &mut H,
 ) -> Result<Ending, AllocError>
     requires { IsSchedule schedule }
-    ensures ends { IfOk result (λ e. EndsSo schedule e.status (string_bytes e.text)) }
+    ensures ends { IfOk result (λ e. EndsSo (account H.kept H.clashes H.fulls hasher.old) (account H.kept H.clashes H.fulls hasher.new) schedule e.status (string_bytes e.text)) }
     ensures status { IfOk result (λ e. e.status ≢ Status.ReadFault) }
 {
     match Ending::unsound(alloc, &schedule)? {
         Some(ending) => Ok(ending),
-        None => sound_ending(rt, alloc, schedule),
+        None => sound_ending(rt, alloc, schedule, hasher),
     }
 }
 
 /// Returns the ending of a replay of the input. Fails when out of memory.
 #[tactic(auto, using(crate::proofs::Unread::unread_prints))]
-fn replay_ending<S: Source, R: Threads + Sync>(
+fn replay_ending<S: Source, H: Hasher16, R: Threads + Sync>(
     rt: &R,
     alloc: Global,
     input: &mut S,
+    hasher: &mut H,
 ) -> Result<Ending, AllocError>
-    ensures printed { IfOk result (λ e. Prints (S.left input.old) e.status (string_bytes e.text)) }
+    ensures printed { IfOk result (λ e. PrintsWith (account H.kept H.clashes H.fulls hasher.old) (account H.kept H.clashes H.fulls hasher.new) (S.left input.old) e.status (string_bytes e.text)) }
     ensures end { IfOk result (λ e. e.status ≡ Status.Done → IsAtEnd (S.left input.new)) }
     ensures read { IfOk result (λ e. e.status ≡ Status.ReadFault → Rose (S.fault_count input.old) (S.fault_count input.new)) }
 {
     match read_schedule(alloc, input) {
-        Ok(schedule) => run_ending(rt, alloc, schedule),
+        Ok(schedule) => run_ending(rt, alloc, schedule, hasher),
         Err(error) => Ending::unread(alloc, error),
     }
 }
 
-/// Reads a schedule from the input, runs it, and writes what the run prints, followed by the
-/// histories, to the output. Returns the status.
+/// Reads a schedule from the input, runs it with this hasher, and writes what the run prints, followed
+/// by the histories, to the output. Returns the status.
 ///
 /// A job that ends in any other way writes one line: `read fault` if the input failed, `schedule
 /// LINE CAUSE` if the input is not a schedule, `limit lines 200000` if it has too many lines,
-/// `premise VIEW reverted MEMBERS` if at least half of the members of a view are reverted, `limit
-/// messages 500000` if its run would send more messages, and `memory` when out of memory. If the
-/// output fails, a prefix of the text was written.
+/// `premise VIEW reverted MEMBERS` if at least half of the members of a view are reverted, `clash KEPT
+/// NEW` if the hasher finds two different strings of the run with the same MD5, `limit book 1073741824`
+/// if its book is full, `limit messages 500000` if the run would send more messages, and `memory` when
+/// out of memory. If the output fails, a prefix of the text was written.
+pub fn replay_with<S: Source, O: Sink, H: Hasher16, R: Threads + Sync>(
+    rt: &R,
+    alloc: Global,
+    input: &mut S,
+    output: &mut O,
+    hasher: &mut H,
+) -> Status
+    ensures printed { result ≢ Status.WriteFault → (text : List ℕ) × PrintsWith (account H.kept H.clashes H.fulls hasher.old) (account H.kept H.clashes H.fulls hasher.new) (S.left input.old) result text × Appends (O.written output.old) (O.written output.new) text }
+    ensures front { result ≡ Status.WriteFault → (status : Status) × (text : List ℕ) × PrintsWith (account H.kept H.clashes H.fulls hasher.old) (account H.kept H.clashes H.fulls hasher.new) (S.left input.old) status text × AppendsFront (O.written output.old) (O.written output.new) text }
+    ensures end { result ≡ Status.Done → IsAtEnd (S.left input.new) }
+    ensures read { result ≡ Status.ReadFault → Rose (S.fault_count input.old) (S.fault_count input.new) }
+    ensures write { result ≡ Status.WriteFault → Rose (O.fault_count output.old) (O.fault_count output.new) }
+{
+    match replay_ending(rt, alloc, input, hasher) {
+        Ok(ending) => finish(output, ending.text.as_str(), ending.status),
+        Err(_) => finish(output, "memory\n", Status::Memory),
+    }
+}
+
+/// Replays a schedule as `replay_with` does, with a book of the hashed strings that keeps at most
+/// 1,073,741,824 bytes.
 pub fn replay<S: Source, O: Sink, R: Threads + Sync>(
     rt: &R,
     alloc: Global,
@@ -140,8 +149,6 @@ pub fn replay<S: Source, O: Sink, R: Threads + Sync>(
     ensures read { result ≡ Status.ReadFault → Rose (S.fault_count input.old) (S.fault_count input.new) }
     ensures write { result ≡ Status.WriteFault → Rose (O.fault_count output.old) (O.fault_count output.new) }
 {
-    match replay_ending(rt, alloc, input) {
-        Ok(ending) => finish(output, ending.text.as_str(), ending.status),
-        Err(_) => finish(output, "memory\n", Status::Memory),
-    }
+    let mut book = HashBook::new(alloc, BOOK_LIMIT);
+    replay_with(rt, alloc, input, output, &mut book)
 }

@@ -28,8 +28,8 @@ pub fn a_run_has_one_text()
 {}
 
 /// The text of a schedule is read as the schedule. So a replay of the text of a sound schedule that
-/// runs in a world prints the text of its run or ends at the limit on messages, unless the input
-/// fails or memory runs out.
+/// runs in a world prints the text of its run, or ends with a clash of its strings or at a limit,
+/// unless the input fails or memory runs out.
 pub fn a_text_is_replayed()
     ensures { (s : Schedule) (status : Status) (text : List ℕ) → IsSchedule s → first_unsound s ≡ None → is_machine s ≡ false → Prints (Some (schedule_text s)) status text → EndsInRun s status text }
 {}

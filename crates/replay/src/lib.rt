@@ -6,6 +6,8 @@
 //! what is printed for each status (`specs/Jobs`): for a world, what its run prints, and the histories
 //! that follow from the notes of its leaders (`specs/Text`); for the machine, its answers
 //! (`specs/Machine`), and histories that are legal for their keys by the definition of register_model.
+//! `replay_with` takes the hasher of the run, and `replay` a book that finds two different strings
+//! with the same MD5.
 #![tactic(auto)]
 
 mod event;
@@ -20,7 +22,7 @@ mod text;
 mod worlds;
 
 pub use event::Event;
-pub use job::replay;
+pub use job::{replay, replay_with};
 pub use laws::{
     a_run_has_one_text, a_text_is_replayed, machines_are_sound, summaries_count_by_histories,
 };

@@ -1,20 +1,38 @@
-ghost use Rattle.std.specs.Prelude.{◌≡◌, IfOk, MatchOption, string_bytes};
+ghost use Rattle.std.specs.Prelude.{◌≡◌, ◌≢◌, IfOk, MatchOption, None, false, string_bytes};
+ghost use Rattle.ens_base.specs.declared.status.Status.{Status};
+ghost use Rattle.held_stores.specs.Held.{account};
+ghost use Rattle.schedule_premise.specs.Premise.{first_unsound};
 ghost use Rattle.schedule_text.specs.Spelling.{IsSchedule};
+ghost use Rattle.replay.specs.Form.{is_machine as has_machine_form};
+ghost use Rattle.replay.specs.Jobs.{EndsSo, clash_line};
 ghost use Rattle.replay.specs.Text.{IsTextOfRun};
 ghost use Rattle.world_model.specs.Worlds.{run_of};
-ghost use Rattle.world_spec.specs.Messages.{IsPastMessages, IsWithinMessages};
+ghost use Rattle.world_spec.specs.Messages.{IsPastMessages};
 ghost use Rattle.replay.specs.Worlds.{schedule_run};
 ghost use Rattle.replay.specs.Summary.{EndsInSummary, IsSummary};
 
 use crate::summary::write_summary;
 use crate::text::write_run;
-use ens_base::Status;
-use ens_hashing::PlainHasher;
+use ens_base::{Bytes, Status, push_bytes};
+use ens_hashing::{Hasher16, PlainHasher};
 use schedule_input::Ending;
 use schedule_text::Schedule;
 use std::alloc::{AllocError, Global};
 use std::thread::Threads;
 use world_model::{World, WorldError};
+
+/// Returns the line that reports two different strings with the same MD5.
+fn clash_text(alloc: Global, kept: &Bytes, new: &Bytes) -> Result<String, AllocError>
+    ensures { IfOk result (λ text. string_bytes text ≡ clash_line kept.now new.now) }
+{
+    let mut text = String::new(alloc);
+    text.push_str("clash ")?;
+    push_bytes(alloc, &mut text, kept.as_slice())?;
+    text.push_str(" ")?;
+    push_bytes(alloc, &mut text, new.as_slice())?;
+    text.push_str("\n")?;
+    Ok(text)
+}
 
 /// Returns the text that the run of a world prints, followed by a history for each key.
 fn run_text(alloc: Global, world: &World) -> Result<String, AllocError>
@@ -24,25 +42,36 @@ fn run_text(alloc: Global, world: &World) -> Result<String, AllocError>
     write_run(alloc, world.printed(), &histories)
 }
 
-/// Returns the text that the run of a schedule prints, followed by a history for each key, or
-/// `None` if the run would send more than 500,000 messages.
-pub fn world_text<R: Threads + Sync>(
+/// Runs a schedule in a world, and returns how its replay ends: with the text of the run, with a
+/// clash, or at the limit on messages or on the book. Fails when out of memory.
+pub fn run_world<H: Hasher16, R: Threads + Sync>(
     rt: &R,
     alloc: Global,
     schedule: &Schedule,
-) -> Result<Option<String>, AllocError>
-    requires { IsSchedule schedule.now }
-    ensures { IfOk result (λ o. MatchOption o (IsPastMessages (schedule_run schedule.now)) (λ text. IsWithinMessages (schedule_run schedule.now) × IsTextOfRun (schedule_run schedule.now) (string_bytes text))) }
+    hasher: &mut H,
+) -> Result<Ending, AllocError>
+    requires valid { IsSchedule schedule.now }
+    requires sound { first_unsound schedule.now ≡ None }
+    requires form { has_machine_form schedule.now ≡ false }
+    ensures ends { IfOk result (λ e. EndsSo (account H.kept H.clashes H.fulls hasher.old) (account H.kept H.clashes H.fulls hasher.new) schedule.now e.status (string_bytes e.text)) }
+    ensures status { IfOk result (λ e. e.status ≢ Status.ReadFault) }
 {
-    let mut hasher = PlainHasher;
-    match World::run(rt, alloc, schedule, &mut hasher) {
-        Ok(world) => {
-            let histories = world.histories(alloc)?;
-            Ok(Some(write_run(alloc, world.printed(), &histories)?))
+    match World::run(rt, alloc, schedule, hasher) {
+        Ok(world) => Ok(Ending {
+            status: Status::Done,
+            text: run_text(alloc, &world)?,
+        }),
+        Err(WorldError::Clash { first, second }) => Ok(Ending {
+            status: Status::Clash,
+            text: clash_text(alloc, &first, &second)?,
+        }),
+        Err(WorldError::BookFull(_)) => {
+            Ending::new(alloc, Status::Limit, "limit book 1073741824\n")
         }
-        Err(WorldError::MessageLimit) => Ok(None),
+        Err(WorldError::MessageLimit) => {
+            Ending::new(alloc, Status::Limit, "limit messages 500000\n")
+        }
         Err(WorldError::Memory) => Err(AllocError),
-        Err(WorldError::Clash { .. } | WorldError::BookFull(_)) => unreachable!(),
     }
 }
 

@@ -1,6 +1,16 @@
-use Rattle.std.proofs.Common.{refl}
-use Rattle.ens_base.specs.declared.status.Status.TheVariants as Status
+use Rattle.ens_hashing.specs.Kept.{strings_of}
+use Rattle.replay.specs.Jobs.{nothing_hashed}
+use Rattle.replay.proofs.Forms.{empty_account, prints_from}
 use Rattle.replay.proofs.job.replay.Goals as goal
 
-pub returns-in-Err-clause-front : goal.returns-in-Err-clause-front
-returns-in-Err-clause-front g c = λ fault. (Status.Memory, _, refl, c.finish-in-Err.ensures.front fault)
+pub returns-clause-printed : goal.returns-clause-printed
+returns-clause-printed g c = λ wrote.
+    let p = c.replay_with.ensures.printed wrote in
+    let same = empty_account (strings_of c.new-book.result.kept.entries) c.new-book.result.clashes c.new-book.result.fulls c.new-book.ensures.empty c.new-book.ensures.counts.0 c.new-book.ensures.counts.1 in
+    (p.0, (_, prints_from _ nothing_hashed _ _ _ p.0 same p.1), p.2)
+
+pub returns-clause-front : goal.returns-clause-front
+returns-clause-front g c = λ fault.
+    let p = c.replay_with.ensures.front fault in
+    let same = empty_account (strings_of c.new-book.result.kept.entries) c.new-book.result.clashes c.new-book.result.fulls c.new-book.ensures.empty c.new-book.ensures.counts.0 c.new-book.ensures.counts.1 in
+    (p.0, p.1, (_, prints_from _ nothing_hashed _ _ p.0 p.1 same p.2), p.3)
