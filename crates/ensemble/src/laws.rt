@@ -7,8 +7,8 @@ ghost use Rattle.replay.specs.Summary.{summary_text};
 ghost use Rattle.replay.specs.Worlds.{schedule_run};
 ghost use Rattle.ensemble.specs.Top.{PrintsSummary};
 
-/// A replay of the text of a generated schedule prints the text of its run or ends at the limit on
-/// messages, unless the input fails or memory runs out. The summary of the schedule is that of this
+/// A replay of the text of a generated schedule prints the text of its run, or ends with a clash of
+/// its strings or at a limit, unless the input fails or memory runs out. The summary of the schedule is that of this
 /// run, with the MD5 of this text.
 pub fn a_generated_text_is_replayed()
     ensures replay { (number calls : ℕ) (status : Status) (text : List ℕ) → calls ≤ 20000 → Prints (Some (schedule_text (generate number calls))) status text → EndsInRun (generate number calls) status text }

@@ -1,6 +1,7 @@
 use ens_base::Status;
+use ens_hashing::HashBook;
 use ens_outside::{MemSink, MemSource};
-use replay::replay;
+use replay::{replay, replay_with};
 use std::alloc::Global;
 use std::test::Fail;
 use std::thread::Threads;
@@ -119,5 +120,19 @@ fn a_leader_of_nine_comes_to_the_limit_of_messages(rt: HostRuntime) -> Result<()
     let (status, output) = replayed(&rt, alloc, &schedule)?;
     assert_eq!(rt; status, Status::Limit);
     assert_eq!(rt; output.bytes(), b"limit messages 500000\n".as_slice());
+    Ok(())
+}
+
+#[test]
+fn a_full_book_ends_the_run(rt: HostRuntime) -> Result<(), Fail> {
+    let alloc = rt.alloc();
+    let schedule = "ensemble 1\npeers 3\nview 1 2 3\n";
+    let mut input = MemSource::new(schedule.as_bytes().to_vec(alloc)?, Vec::new(alloc));
+    let mut output = MemSink::new(alloc, 200, Vec::new(alloc))?;
+    // A start hashes the root of an empty tree.
+    let mut book = HashBook::new(alloc, 0);
+    let status = replay_with(&rt, alloc, &mut input, &mut output, &mut book);
+    assert_eq!(rt; status, Status::Limit);
+    assert_eq!(rt; output.bytes(), b"limit book 1073741824\n".as_slice());
     Ok(())
 }
