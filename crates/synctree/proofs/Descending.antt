@@ -166,7 +166,7 @@ module _ {S : Type 0} (does : S → (call : Call) → AnswerOf call → S → Ty
         by q u zs e a (inl (none, empty)) w = onward_none q u zs (e ∙ ap digested none) w ∙ ap (λ (es : List Entry). digested (present (suc l) es (text F h (place (suc l) i) es))) (sym (none_below empty))
         by q u zs e a (inr (there, some)) w = onward_is q u zs there a (e ∙ ap digested some) w
 
-    node_is : (h : ℕ) (at : Position) (m : List Entry) (digest : List ℕ) (s t : S) (xs : List (List ℕ)) (o : Option (List ℕ)) → IsPlace F h at → AreApart xs F F.depth root m → Stands F digest m → Ends does (node_plan F (Some digest) at) s xs (Ok o) t → o ≡ node_of F at m
+    pub node_is : (h : ℕ) (at : Position) (m : List Entry) (digest : List ℕ) (s t : S) (xs : List (List ℕ)) (o : Option (List ℕ)) → IsPlace F h at → AreApart xs F F.depth root m → Stands F digest m → Ends does (node_plan F (Some digest) at) s xs (Ok o) t → o ≡ node_of F at m
     node_is h at m digest s t xs o p apart stands ends =
         let r = parted does (name_at F digest at.level at.index) (onward None (node_bytes F at)) s t xs o ends in
         let both : AreApart (r.first ++ r.second) F F.depth root m = subst (λ zs. AreApart zs F F.depth root m) r.strings apart in

@@ -20,41 +20,41 @@ use Rattle.synctree.specs.Trees.{insert_plan}
 use Rattle.synctree.proofs.Meaning.{ok_once, apart_left, apart_right, apart_child, parted, opened, segment_is, names_are}
 
 -- the digest of the node of a part of a map, or none if the part is empty
-abbrev Names : Form → ℕ → Position → Option (List ℕ) → List Entry → Type 0
+abbrev pub Names : Form → ℕ → Position → Option (List ℕ) → List Entry → Type 0
 Names F h at None m = m ≡ []
 Names F h at (Some d) m = d ≡ md5 (text F h at m)
 
-names_child : (F : Form) (h : ℕ) (at : Position) (l : List Entry) (o : Option (List ℕ)) → o ≡ named l (text F h at l) → Names F h at o l
+pub names_child : (F : Form) (h : ℕ) (at : Position) (l : List Entry) (o : Option (List ℕ)) → o ≡ named l (text F h at l) → Names F h at o l
 names_child F h at [] None e = refl
 names_child F h at [] (Some d) e = absurd cc
 names_child F h at (x ∷ l) None e = absurd cc
 names_child F h at (x ∷ l) (Some d) e = cc
 
 -- the strings are apart from the nodes of a part of a map, if it is named
-abbrev NamedApart : List (List ℕ) → Form → ℕ → Position → Option (List ℕ) → List Entry → Type 0
+abbrev pub NamedApart : List (List ℕ) → Form → ℕ → Position → Option (List ℕ) → List Entry → Type 0
 NamedApart strings F h at None m = Unit {0}
 NamedApart strings F h at (Some d) m = AreApart strings F h at m
 
-named_left : (F : Form) (h : ℕ) (at : Position) (o : Option (List ℕ)) (m : List Entry) (xs ys : List (List ℕ)) → NamedApart (xs ++ ys) F h at o m → NamedApart xs F h at o m
+pub named_left : (F : Form) (h : ℕ) (at : Position) (o : Option (List ℕ)) (m : List Entry) (xs ys : List (List ℕ)) → NamedApart (xs ++ ys) F h at o m → NamedApart xs F h at o m
 named_left F h at None m xs ys a = tt
 named_left F h at (Some d) m xs ys a = apart_left F h at m xs ys a
 
-named_right : (F : Form) (h : ℕ) (at : Position) (o : Option (List ℕ)) (m : List Entry) (xs ys : List (List ℕ)) → NamedApart (xs ++ ys) F h at o m → NamedApart ys F h at o m
+pub named_right : (F : Form) (h : ℕ) (at : Position) (o : Option (List ℕ)) (m : List Entry) (xs ys : List (List ℕ)) → NamedApart (xs ++ ys) F h at o m → NamedApart ys F h at o m
 named_right F h at None m xs ys a = tt
 named_right F h at (Some d) m xs ys a = apart_right F h at m xs ys a
 
-named_child : (F : Form) (h : ℕ) (at : Position) (o q : Option (List ℕ)) (m : List Entry) (c : ℕ) → c < F.width → Names F (suc h) at o m → q ≡ named (within F at c m) (text F h (child F at c) (within F at c m))
+pub named_child : (F : Form) (h : ℕ) (at : Position) (o q : Option (List ℕ)) (m : List Entry) (c : ℕ) → c < F.width → Names F (suc h) at o m → q ≡ named (within F at c m) (text F h (child F at c) (within F at c m))
     → (xs : List (List ℕ)) → NamedApart xs F (suc h) at o m → NamedApart xs F h (child F at c) q (within F at c m)
 named_child F h at o None m c l n is xs a = tt
 named_child F h at None (Some d) m c l n is xs a = absurd (has_entries (within F at c m) (text F h (child F at c) (within F at c m)) d (sym is) (ap (within F at c) n))
 named_child F h at (Some b) (Some d) m c l n is xs a = apart_child F h at m c l (has_entries (within F at c m) (text F h (child F at c) (within F at c m)) d (sym is)) xs a
 
 module _ (F : Form) (laws : Laws F) where
-  same_part : (at : Position) (e : Entry) (m : List Entry) → Ascends m → within F at (F.digit e.key at.level) (put e m) ≡ put e (within F at (F.digit e.key at.level) m)
+  pub same_part : (at : Position) (e : Entry) (m : List Entry) → Ascends m → within F at (F.digit e.key at.level) (put e m) ≡ put e (within F at (F.digit e.key at.level) m)
   same_part at e m a = put-part (λ key. F.digit key at.level == F.digit e.key at.level) e (grind (arith, nat_tests)) m a
 
   -- the children of a map with one more entry
-  children_put : (h : ℕ) (at : Position) (e : Entry) (m : List Entry) (below : List ℕ) → Ascends m → below ≡ md5 (text F h (child F at (F.digit e.key at.level)) (put e (within F at (F.digit e.key at.level) m)))
+  pub children_put : (h : ℕ) (at : Position) (e : Entry) (m : List Entry) (below : List ℕ) → Ascends m → below ≡ md5 (text F h (child F at (F.digit e.key at.level)) (put e (within F at (F.digit e.key at.level) m)))
       → set (children F h at m) (F.digit e.key at.level) (Some below) ≡ children F h at (put e m)
   children_put h at e m below sorted is = set-each
       (λ j. named (within F at j m) (text F h (child F at j) (within F at j m)))
@@ -76,15 +76,15 @@ module _ (F : Form) (laws : Laws F) where
     store_is : (bytes digest : List ℕ) (s t : S) (xs : List (List ℕ)) → Ends does (store bytes) s xs (Ok digest) t → digest ≡ md5 bytes
     store_is bytes digest s t xs (a, u, rest, d, e, (b, v, more, d', e', (n, is, same))) = ok_once digest (md5 bytes) is
 
-    reached_segment : (at : Position) (o : Option (List ℕ)) (m : List Entry) (s t : S) (xs : List (List ℕ)) (es : List Entry) → IsPlace F zero at → IsMap m → Names F zero at o m → NamedApart xs F zero at o m → Ends does (reach (F.segment_at at) [] at o) s xs (Ok es) t → es ≡ m
+    pub reached_segment : (at : Position) (o : Option (List ℕ)) (m : List Entry) (s t : S) (xs : List (List ℕ)) (es : List Entry) → IsPlace F zero at → IsMap m → Names F zero at o m → NamedApart xs F zero at o m → Ends does (reach (F.segment_at at) [] at o) s xs (Ok es) t → es ≡ m
     reached_segment at None m s t xs es p ok n apart (e, is, same) = ok_once es [] is ∙ sym n
     reached_segment at (Some d) m s t xs es p ok n apart ends = segment_is does F laws at m d xs es p ok n apart (opened does (F.segment_at at) at d s t xs es ends)
 
-    reached_names : (h : ℕ) (at : Position) (o : Option (List ℕ)) (m : List Entry) (s t : S) (xs : List (List ℕ)) (cs : List (Option (List ℕ))) → IsPlace F (suc h) at → Names F (suc h) at o m → NamedApart xs F (suc h) at o m → Ends does (reach (F.inner_at at) (replicate F.width None) at o) s xs (Ok cs) t → cs ≡ children F h at m
+    pub reached_names : (h : ℕ) (at : Position) (o : Option (List ℕ)) (m : List Entry) (s t : S) (xs : List (List ℕ)) (cs : List (Option (List ℕ))) → IsPlace F (suc h) at → Names F (suc h) at o m → NamedApart xs F (suc h) at o m → Ends does (reach (F.inner_at at) (replicate F.width None) at o) s xs (Ok cs) t → cs ≡ children F h at m
     reached_names h at None m s t xs cs p n apart (e, is, same) = ok_once cs (replicate F.width None) is ∙ sym (each-none F.width 0) ∙ ap (children F h at) (sym n)
     reached_names h at (Some d) m s t xs cs p n apart ends = names_are does F laws h at m d xs cs p n apart (opened does (F.inner_at at) at d s t xs cs ends)
 
-    enter_is : (h : ℕ) (at : Position) (o : Option (List ℕ)) (e : Entry) (m : List Entry) (s t : S) (xs : List (List ℕ)) (new : List ℕ) → IsPlace F h at → IsMap m → Names F h at o m → NamedApart xs F h at o m → Ends does (enter F h at o e) s xs (Ok new) t → new ≡ md5 (text F h at (put e m))
+    pub enter_is : (h : ℕ) (at : Position) (o : Option (List ℕ)) (e : Entry) (m : List Entry) (s t : S) (xs : List (List ℕ)) (new : List ℕ) → IsPlace F h at → IsMap m → Names F h at o m → NamedApart xs F h at o m → Ends does (enter F h at o e) s xs (Ok new) t → new ≡ md5 (text F h at (put e m))
     enter_is zero at o e m s t xs new p ok n apart ends =
         let r = parted does (reach (F.segment_at at) [] at o) (λ entries. store (F.segment_text at (put e entries))) s t xs new ends in
         let both : NamedApart (r.first ++ r.second) F zero at o m = subst (λ zs. NamedApart zs F zero at o m) r.strings apart in
@@ -112,7 +112,7 @@ module _ (F : Form) (laws : Laws F) where
     set_is : (digest new : List ℕ) (s t : S) (xs : List (List ℕ)) → Ends does (set_top digest) s xs (Ok new) t → new ≡ digest
     set_is digest new s t xs (a, u, rest, d, e, (n, is, same)) = ok_once new digest is
 
-    insert_stands : (digest : List ℕ) (e : Entry) (m : List Entry) (s t : S) (xs : List (List ℕ)) (new : List ℕ) → Stands F digest m → IsEntry e → length (put e m) < 2 ^ 32 → AreApart xs F F.depth root m → Ends does (insert_plan F (Some digest) e) s xs (Ok new) t → Stands F new (put e m)
+    pub insert_stands : (digest : List ℕ) (e : Entry) (m : List Entry) (s t : S) (xs : List (List ℕ)) (new : List ℕ) → Stands F digest m → IsEntry e → length (put e m) < 2 ^ 32 → AreApart xs F F.depth root m → Ends does (insert_plan F (Some digest) e) s xs (Ok new) t → Stands F new (put e m)
     insert_stands digest e m s t xs new stands fits few apart (a, u, rest, d, eq, more) =
         let r = parted does (enter F F.depth root (Some digest) e) set_top u t rest new more in
         let here : AreApart rest F F.depth root m = λ x y i n. apart x y (subst (λ zs. x ∈ zs) (sym eq) (inr i)) n in

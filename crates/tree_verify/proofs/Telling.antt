@@ -12,7 +12,7 @@ use Rattle.tree_node.specs.declared.body.Scan.{Scan}
 use Rattle.tree_node.specs.declared.position.Position.{Position}
 use Rattle.tree_maps.specs.Entries.{IsBelowAll, Ascends, IsMap}
 use Rattle.tree_maps.specs.Forms.{Form, Laws, IsPlace, child, root}
-use Rattle.tree_maps.specs.Maps.{each_of, within, named, text, children, AreApart}
+use Rattle.tree_maps.specs.Maps.{each_of, within, named, text, children, AreApart, Stands}
 use Rattle.tree_maps.specs.Paths.{passes, under}
 use Rattle.tree_maps.proofs.Below.{IsThere, there_if_some, place as position, every, under_child, under_map, node_below, some_width}
 use Rattle.tree_maps.proofs.Orders.{same_is, cmp_back}
@@ -392,12 +392,14 @@ module _ (F : Form) (laws : Laws F) (m : List Entry) where
         (apart_right F F.depth root m r.first r.second both) r.went_on
 
 module _ (F : Form) (laws : Laws F) {S : Type 0} (does : S → (call : Call) → AnswerOf call → S → Type 0) where
+  pub scan_answers : (digest : List ℕ) (m : List Entry) (s t : S) (xs : List (List ℕ)) (scan : Scan) → Stands F digest m → AreApart xs F F.depth root m → Ends does (scan_plan F (Some digest)) s xs (Ok scan) t → scan.entries ≡ filter (λ e. not (lost F scan.damaged e.key)) m
+  scan_answers digest m s t xs scan stands apart ends = scan_is F laws m does stands.is_map F.depth (slot root (Some digest) ∷ []) s t xs scan
+      ((root_place F, tt, stands.root_is ∙ ap (λ (es : List Entry). md5 (text F F.depth root es)) (sym (every m))), tt) (λ e i. refl) apart ends
+
   pub scans_of : (refuses : S → Call → TreeError → S → Type 0) (top : Option (List ℕ)) (s t : S) (r : Result Scan TreeError) → Did does refuses (scan_plan F top) s r t → IfOk r (λ scan. Scans does F top s scan t)
   scans_of refuses top s t (Ok scan) (xs, ends) = record {
     strings = xs;
     ends = ends;
-    finds = λ digest m is stands apart. scan_is F laws m does stands.is_map F.depth (slot root (Some digest) ∷ []) s t xs scan
-        ((root_place F, tt, stands.root_is ∙ ap (λ (es : List Entry). md5 (text F F.depth root es)) (sym (every m))), tt) (λ e i. refl) apart
-        (subst (λ (q : Option (List ℕ)). Ends does (scan_plan F q) s xs (Ok scan) t) is ends);
+    finds = λ digest m is stands apart. scan_answers digest m s t xs scan stands apart (subst (λ (q : Option (List ℕ)). Ends does (scan_plan F q) s xs (Ok scan) t) is ends);
   }
   scans_of refuses top s t (Err e) d = tt

@@ -1,0 +1,10 @@
+pub mod Walking
+pub mod Entering
+pub mod Installing
+pub mod Keeping
+pub mod Arriving
+pub mod Reading
+pub mod Scanning
+pub mod Storing
+pub mod Recording
+pub mod Whole

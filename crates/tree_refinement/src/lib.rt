@@ -1,0 +1,20 @@
+//! The tree of a peer over stores in memory is a map.
+//!
+//! A tree shows a map if the map stands under the digest of its root, and the text of each node of
+//! the map was hashed. `specs/Trees` defines that, and `specs/Laws` has what each call of a step
+//! answers and does then, if no two different strings that were hashed have one MD5: a find returns
+//! the entry that the map has, a read the text of the node, and a scan the entries; an entering
+//! puts its entry into the map, and after a fresh start or an installing the tree shows the new
+//! map. A call that meets a position that does not verify says so and leaves the map.
+//!
+//! Nothing is asked there of the nodes in the store, which may be missing or wrong.
+//!
+//! `specs/Whole` has what holds where nobody damages a store: the text of each node of the map is
+//! stored under its MD5, and no failure waits in the stores of the peer. Then no call meets damage
+//! or is refused, and the tree stays so. The top record names the root, and an opening takes it from
+//! there.
+#![tactic(auto)]
+
+mod laws;
+
+pub use laws::{calls_keep_the_map, whole_trees_have_no_damage};
