@@ -73,7 +73,7 @@ module _ (g h : Ghosts) (s : State) (steps : List Step) (key : List ℕ) (owed :
 
   pub answered_so : IsLeaderMove g s steps h (record { epoch = epoch_number l.fact.epoch; seat = seat_owing l owed w.id reply; seq = l.seq; round = l.round; rows = rows }) → AreElsewhere key rows l.table
       → RowHolds h (after s steps) (seat_owing l owed w.id reply) (epoch_number l.fact.epoch) key (theory.row_of (known_of (row_at key l.table.rows).known) theory.Idle (waiting_behind key l.table.calls))
-      → TurnsHold h (after s steps) → LeaderFits h.hash (after s steps) l → AreLeaderSteps l.me steps → (sends : List Outgoing) (notes : List Told) → (after s steps).book.notes ≡ s.book.notes ++ notes → All (SentSays h (after s steps)) sends
+      → TurnsHold h (after s steps) → LeaderFits h.hash (after s steps) l → AreLeaderSteps s l.me steps → (sends : List Outgoing) (notes : List Told) → (after s steps).book.notes ≡ s.book.notes ++ notes → All (SentSays h (after s steps)) sends
       → Follows g s key owed l (answered w reply key (record { leave = false; sends = sends; answers = []; notes = notes; own = None; then = Stay; keys = [] }) l)
   answered_so move others row turns fits kinds sends notes noted say = record {
     steps = steps;

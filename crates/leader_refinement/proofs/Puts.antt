@@ -23,7 +23,7 @@ use Rattle.abstract_protocol.specs.Ledger.{put, mark}
 use Rattle.abstract_protocol.specs.Book.{register_at, version_of}
 use Rattle.abstract_protocol.specs.Numbers.{epoch_number, IsVersion}
 use Rattle.abstract_protocol.specs.Objects.{set_entry}
-use Rattle.abstract_protocol.specs.Protocol.{State, Step, Settle, Write, Acknowledge, IsRun, state_after, after, happens, MayCome, MayAll}
+use Rattle.abstract_protocol.specs.Protocol.{State, Step, Propose, Settle, Note, Write, Acknowledge, IsRun, state_after, after, happens, MayCome, MayAll}
 use Rattle.call_table.specs.Calls.{running}
 use Rattle.call_table.specs.Rows.{row_at, with_stage, with_known}
 use Rattle.call_table.specs.declared.row.KeyRow.{KeyRow}
@@ -58,7 +58,7 @@ use Rattle.leader_refinement.proofs.Base.{AreElsewhere, row_of_work, finish, no_
 use Rattle.leader_refinement.proofs.Numbers.{rank_back, same_versions}
 use Rattle.leader_refinement.proofs.Votes.{answered_fewer, begun_fewer, answered_on, begun_on, IsClosed, closed_quorum, sent_say}
 use Rattle.leader_refinement.specs.Seen.{rank, content_of, known_of, voters, put_of, waiting_behind, row_parts, row_seen, table_of}
-use Rattle.leader_refinement.specs.Follows.{IsOn, PutFits, StageFits, RowFits, ProposeHolds, TaskHolds, IsAtWork, LeaderFits, Follows, GoesOn, SentSays}
+use Rattle.leader_refinement.specs.Follows.{IsOn, PutFits, StageFits, RowFits, ProposeHolds, TaskHolds, IsAtWork, LeaderFits, IsLeaderStep, AreLeaderSteps, Follows, GoesOn, SentSays}
 use Rattle.leader_refinement.specs.Laws.{PutGoesIn, PutsGoIn, StoredSays, PutsAreStored, PutsCount}
 use Rattle.wire_frames.specs.declared.phase.Seen.{Seen}
 use Rattle.wire_frames.specs.declared.phase.Seen.TheVariants as seens
@@ -284,6 +284,18 @@ as_out g s p d key known w stage rest o parent (Some i) row = row
 entry_here : (m : List ℕ → ℕ) (key : List ℕ) (v : ℕ) → set_entry m key v key ≡ v
 entry_here m key v = rw (bytes_itself key) refl
 
+-- steps of a leader after an acknowledgement were its steps before
+same_kind : (s : State) (me p v : ℕ) (step : Step) → IsLeaderStep (happens s (Acknowledge p v)) me step → IsLeaderStep s me step
+same_kind s me p v (Propose u k parent stamp content call) own = tt
+same_kind s me p v (Settle u) own = tt
+same_kind s me p v (Note i k u d) own = tt
+same_kind s me p v (Acknowledge q u) own = own
+same_kind s me p v step own = absurd own
+
+same_kinds : (s : State) (me p v : ℕ) (steps : List Step) → AreLeaderSteps (happens s (Acknowledge p v)) me steps → AreLeaderSteps s me steps
+same_kinds s me p v [] own = tt
+same_kinds s me p v (step ∷ steps) own = (same_kind s me p v step own.0, same_kinds s me p v steps own.1)
+
 -- a tree shows the version that it took
 shown_after : (s : State) (p v : ℕ) (key : List ℕ) → s.objects.key v ≡ key → (happens s (Write p v)).objects.visible p key ≡ v
 shown_after s p v key on_key = ap (λ (m : List ℕ → ℕ). m key) (put_here s.objects.visible p (set_entry (s.objects.visible p) (s.objects.key v) v))
@@ -373,7 +385,7 @@ module _ (view : List ℕ) (events : List Step) (run : IsRun view events) (g : G
           steps = Acknowledge l.me (rank o.version) ∷ f.steps;
           ghosts = f.ghosts;
           move = record { may = (may_own.0, f.move.may); holds = f.move.holds; own = (tt, f.move.own); ghosts = record { turn = f.move.ghosts.turn; home = f.move.ghosts.home; hash = f.move.ghosts.hash }; turns = f.move.turns };
-          kinds = (refl, f.kinds);
+          kinds = ((refl, ap (λ (k : List ℕ). S.objects.visible l.me k) put_now.key ∙ shows), same_kinds S l.me l.me (rank o.version) f.steps f.kinds);
           turns = f.turns;
           fits = f.fits;
           same = f.same;

@@ -186,17 +186,18 @@ NextFits key l (Some (owns.Put o)) next keys = (o.key ≡ key) × (parent : Opti
 NextFits key l None (Rule n) keys = (keys ≡ key ∷ []) × IsReady n key l
 NextFits key l None next keys = (keys ≡ []) × (l.task ≡ tasks.Nothing)
 
--- a leader proposes, settles and notes reads, and its own peer acknowledges
-abbrev pub IsLeaderStep : ℕ → Step → Type 0
-IsLeaderStep me (Propose v k u stamp content call) = Unit {0}
-IsLeaderStep me (Settle v) = Unit {0}
-IsLeaderStep me (Note i k u d) = Unit {0}
-IsLeaderStep me (Acknowledge p v) = p ≡ me
-IsLeaderStep me step = ⊥
+-- a leader proposes, settles and notes reads, and its own peer acknowledges what its tree shows; s is
+-- the state in which the rule begins
+abbrev pub IsLeaderStep : State → ℕ → Step → Type 0
+IsLeaderStep s me (Propose v k u stamp content call) = Unit {0}
+IsLeaderStep s me (Settle v) = Unit {0}
+IsLeaderStep s me (Note i k u d) = Unit {0}
+IsLeaderStep s me (Acknowledge p v) = (p ≡ me) × (s.objects.visible me (s.objects.key v) ≡ v)
+IsLeaderStep s me step = ⊥
 
-abbrev pub AreLeaderSteps : ℕ → List Step → Type 0
-AreLeaderSteps me [] = Unit {0}
-AreLeaderSteps me (step ∷ steps) = IsLeaderStep me step × AreLeaderSteps me steps
+abbrev pub AreLeaderSteps : State → ℕ → List Step → Type 0
+AreLeaderSteps s me [] = Unit {0}
+AreLeaderSteps s me (step ∷ steps) = IsLeaderStep s me step × AreLeaderSteps s me steps
 
 -- such steps keep the ledger, the trees of the peers with their trust, and what is recorded of calls,
 -- answers and times
@@ -222,7 +223,7 @@ pub record FollowsAs (g : Ghosts) (s : State) (key : List ℕ) (owed : List Owed
   pub steps : List Step
   pub ghosts : Ghosts
   pub move : IsLeaderMove g s steps ghosts (table_of key (owed_after owed r.1.answers) r.0)
-  pub kinds : AreLeaderSteps me steps
+  pub kinds : AreLeaderSteps s me steps
   pub turns : TurnsHold ghosts (after s steps)
   pub fits : LeaderFits ghosts.hash (after s steps) r.0
   pub same : (r.0.fact ≡ fact) × ((r.0.me ≡ me) × (r.0.accepts ≡ accepts))

@@ -180,7 +180,11 @@ pub record KeysChange (s : State) : Type 0 where
 
 -- the steps of a leader keep the ledger, the trees, and what is recorded of calls, answers and times
 abbrev pub StepsKeep : Type 0
-StepsKeep = (s : State) (me : ℕ) (steps : List Step) → AreLeaderSteps me steps → IsKept s (after s steps)
+StepsKeep = (s : State) (me : ℕ) (steps : List Step) → AreLeaderSteps s me steps → IsKept s (after s steps)
+
+-- each acknowledgement that the steps of a leader add is of its own peer, whose tree showed the version
+abbrev pub AcksAreShown : Type 0
+AcksAreShown = (s : State) (me : ℕ) (steps : List Step) → AreLeaderSteps s me steps → (v q : ℕ) → (after s steps).objects.acked v q ≡ true → (s.objects.acked v q ≡ true) ⊎ ((q ≡ me) × (s.objects.visible me (s.objects.key v) ≡ v))
 
 -- what fits of a leader stays so, if the views of its epoch do
 abbrev pub FitsStay : Type 0

@@ -1,6 +1,6 @@
 ghost use Rattle.std.specs.Prelude.{ℕ, List};
 ghost use Rattle.abstract_protocol.specs.Protocol.{Step, IsRun, state_after};
-ghost use Rattle.leader_refinement.specs.Laws.{LeadersBegin, LeadersLeave, LeadersAreSeen, KeysChange, TicksPass, CallsJoin, CallsStart, ReadsStart, ReadsCount, RepliesAreRead, WritesGoOut, RewritesGoOut, ChecksBegin, ChecksCount, TasksApply, PutsGoIn, PutsAreStored, PutsCount, NextIsSought, StepsKeep, FitsStay};
+ghost use Rattle.leader_refinement.specs.Laws.{LeadersBegin, LeadersLeave, LeadersAreSeen, KeysChange, TicksPass, CallsJoin, CallsStart, ReadsStart, ReadsCount, RepliesAreRead, WritesGoOut, RewritesGoOut, ChecksBegin, ChecksCount, TasksApply, PutsGoIn, PutsAreStored, PutsCount, NextIsSought, StepsKeep, AcksAreShown, FitsStay};
 
 /// In each state of a run a leader that begins is a leader of the theory, and each of these rules is a
 /// list of moves of the theory, or the leader steps down. The clauses are in the order of the rules 5
@@ -41,8 +41,10 @@ pub fn leaders_leave()
 
 /// The steps that a leader takes propose, settle and acknowledge versions, and note reads. So they
 /// keep the ledger, the trees of the peers and their trust, and what is recorded of calls, answers
-/// and times. And what fits of a leader stays so through each step that keeps the views of its epoch.
+/// and times. The leader's own peer alone acknowledges, and only what its tree showed when the rule
+/// began. And what fits of a leader stays so through each step that keeps the views of its epoch.
 pub fn leader_steps_keep()
     ensures steps { StepsKeep }
+    ensures acks { AcksAreShown }
     ensures fits { FitsStay }
 {}

@@ -16,10 +16,10 @@
 //! rules without a task it is seen the same on each key, so the next rule may run on another one
 //! (`leaders_are_seen`).
 //!
-//! The steps of a leader propose and settle versions and note reads, and its own peer acknowledges;
-//! they keep the ledger, the trees, and what is recorded of calls (`leader_steps_keep`). Two other
-//! steps come before a rule: the call of rule 27, and the write of a put into the tree of the
-//! leader's own peer, before rule 35 sees that the object is stored.
+//! The steps of a leader propose and settle versions and note reads, and its own peer acknowledges
+//! what its tree showed when the rule began; they keep the ledger, the trees, and what is recorded of
+//! calls (`leader_steps_keep`). Two other steps come before a rule: the call of rule 27, and the write
+//! of a put into the tree of the leader's own peer, before rule 35 sees that the object is stored.
 //!
 //! Premises of the laws are what messages say, what the tree and the backend of the leader's own peer
 //! show, and that this peer stands at the leader's epoch, trusts its tree and accepted the epoch; that
