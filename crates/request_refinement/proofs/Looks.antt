@@ -17,10 +17,11 @@ use Rattle.leader_laws.specs.Tables.{Ghosts}
 use Rattle.leader_refinement.proofs.Numbers.{rank_back, rank_some}
 use Rattle.leader_refinement.specs.Seen.{rank, content_of, entry_rank, shown}
 use Rattle.leader_refinement.specs.Laws.{EntryFits, FoundSays, LookSays}
+use Rattle.tree_refinement.specs.Trees.{AreFree}
 use Rattle.request_refinement.proofs.Lookups.{lookup_in, lookup_key}
 use Rattle.request_refinement.proofs.Names.{version_decoded, decoded_named, spelled_named, named_found}
 use Rattle.request_refinement.proofs.Numbers.{version_fits}
-use Rattle.request_refinement.specs.Naming.{hash_of, AreFree, object_of_version, version_string, VersionSays, EntrySays, EntryMaySay, Names, MayBeDecoded, IsMatched, IsConfirmed}
+use Rattle.request_refinement.specs.Naming.{hash_of, object_of_version, version_string, VersionSays, EntrySays, EntryMaySay, Names, MayBeDecoded, IsMatched, IsConfirmed}
 use Rattle.request_refinement.specs.Replies.{MapSays, found_in}
 use Rattle.request_refinement.specs.Laws.{LooksSay, KeptAreNamed, RepliesAreNamed}
 

@@ -18,7 +18,8 @@ use Rattle.abstract_protocol.specs.Protocol.{State}
 use Rattle.leader_laws.specs.Tables.{Ghosts}
 use Rattle.leader_refinement.proofs.Numbers.{rank_some}
 use Rattle.leader_refinement.specs.Seen.{rank}
-use Rattle.request_refinement.specs.Naming.{hash_of, AreFree, object_of_version, version_string, VersionSays, EntrySays, Names}
+use Rattle.tree_refinement.specs.Trees.{AreFree}
+use Rattle.request_refinement.specs.Naming.{hash_of, object_of_version, version_string, VersionSays, EntrySays, Names}
 use Rattle.request_refinement.specs.Laws.{DecodedAreNamed, SpelledAreNamed, EntriesAreOne}
 
 -- an object that matches an entry

@@ -19,8 +19,9 @@ use Rattle.leader_laws.proofs.Runs.{run_tables}
 use Rattle.leader_laws.specs.Laws.{TablesStay}
 use Rattle.leader_laws.specs.Messages.{PutSays}
 use Rattle.leader_refinement.specs.Seen.{rank, content_of, entry_rank, shown}
+use Rattle.tree_refinement.specs.Trees.{AreAmong}
 use Rattle.request_refinement.proofs.Lookups.{lookup_put, in_put}
-use Rattle.request_refinement.specs.Naming.{AreAmong, object_of_version, EntrySays, EntryMaySay}
+use Rattle.request_refinement.specs.Naming.{object_of_version, EntrySays, EntryMaySay}
 use Rattle.request_refinement.specs.Replies.{SparesTree, AllSpareTree}
 use Rattle.request_refinement.specs.Laws.{PutsAreEntries, WritesShow, EntriesStaySo, MapsStaySo, RepliesStaySo}
 

@@ -20,7 +20,8 @@ use Rattle.leader_laws.specs.Moves.{GhostsGrow}
 use Rattle.leader_laws.specs.Tables.{Ghosts}
 use Rattle.leader_refinement.specs.Seen.{rank, content_of, entry_rank, shown}
 use Rattle.leader_refinement.specs.Laws.{FoundSays, LookSays}
-use Rattle.request_refinement.specs.Naming.{hash_of, AreFree, AreAmong, VersionSays, EntrySays, EntryMaySay, Names, IsDecoded, IsConfirmed, KeptIs}
+use Rattle.tree_refinement.specs.Trees.{AreFree, AreAmong}
+use Rattle.request_refinement.specs.Naming.{hash_of, VersionSays, EntrySays, EntryMaySay, Names, IsDecoded, IsConfirmed, KeptIs}
 use Rattle.request_refinement.specs.Replies.{Serves, MapSays, AllSpareTree, found_in, LookSees, FindSees, SeenSays, ReplySays, Replies, IsReplyToPut}
 
 -- ## Which object an entry names

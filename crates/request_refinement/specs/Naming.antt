@@ -23,14 +23,6 @@ object_string version key stamp value = object_spelling (record { version = vers
 abbrev pub hash_of : Version → List ℕ → Version → Option (List ℕ) → List ℕ
 hash_of version key stamp value = md5 (object_string version key stamp value)
 
--- no two different strings of the list have one MD5
-abbrev pub AreFree : List (List ℕ) → Type 0
-AreFree strings = (a b : List ℕ) → a ∈ strings → b ∈ strings → md5 a ≡ md5 b → a ≡ b
-
--- each string of the first list is in the second
-abbrev pub AreAmong : List (List ℕ) → List (List ℕ) → Type 0
-AreAmong strings more = (a : List ℕ) → a ∈ strings → a ∈ more
-
 -- ## Versions and entries
 
 -- the object of a version: its key, with the stamp and the content that the book has

@@ -26,7 +26,8 @@ use Rattle.leader_laws.specs.Messages.{GetReplySays, CheckReplySays}
 use Rattle.leader_laws.specs.Tables.{Ghosts}
 use Rattle.leader_refinement.specs.Seen.{rank, entry_rank, shown}
 use Rattle.leader_refinement.specs.Laws.{EntryFits, FoundSays, LookSays}
-use Rattle.request_refinement.specs.Naming.{AreAmong, EntrySays, EntryMaySay, IsMatched}
+use Rattle.tree_refinement.specs.Trees.{AreAmong}
+use Rattle.request_refinement.specs.Naming.{EntrySays, EntryMaySay, IsMatched}
 
 -- ## A peer that is asked
 
