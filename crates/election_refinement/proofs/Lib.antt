@@ -18,6 +18,7 @@ pub mod Ticks
 pub mod Rules
 pub mod Whole
 pub mod Parts
+pub mod Plain
 pub mod Syncing
 pub mod Loops
 pub mod Worlds

@@ -195,334 +195,336 @@ module _ (c : Course) (before : Ledger) where
   accepted_good (phases.Probing b) x stored out next h old own_ballot go = go [] (without_sync x) stored out h
   accepted_good (phases.Leading l) x stored out next h old own_ballot go = go [] (without_sync x) stored out h
 
-  -- at the end of a sync the peer accepts the epoch that it promised
-  synced_good : (r : Running) (entries : List Entry) (x : State) (stored : Option Fact) (out : Out) (next : Rest State (List Task)) → (h : Here (without_sync x) stored out) → MaySync h.ledger x.fact (may_wait x.phase) r.fact → Onward next
-      → Good (synced p r entries x out next) stored
-  synced_good r entries x stored out next h may go =
-      installed_good (needs_build r.sync.scan entries) entries (without_sync x) stored out _ (rests (without_sync x) stored out h)
-      (λ u. saved_good (Some r.fact) (without_sync x) stored out (λ v z o. accepted_in p r.fact z.phase (record z { trusted = true }) o next)
-      (rests (without_sync x) stored out h)
-      (rests (without_sync now) (Some r.fact) out there)
-      (accepted_good x.phase now (Some r.fact) out next there there.fits.peer.phase may.first.own_ballot go))
-    where
-      now : State
-      now = record x { fact = r.fact; trusted = true }
+  -- syncs may end in the step
+  module _ (joins : c.joins) where
+    -- at the end of a sync the peer accepts the epoch that it promised
+    synced_good : (r : Running) (entries : List Entry) (x : State) (stored : Option Fact) (out : Out) (next : Rest State (List Task)) → (h : Here (without_sync x) stored out) → MaySync h.ledger x.fact (may_wait x.phase) r.fact → Onward next
+        → Good (synced p r entries x out next) stored
+    synced_good r entries x stored out next h may go =
+        installed_good (needs_build r.sync.scan entries) entries (without_sync x) stored out _ (rests (without_sync x) stored out h)
+        (λ u. saved_good (Some r.fact) (without_sync x) stored out (λ v z o. accepted_in p r.fact z.phase (record z { trusted = true }) o next)
+        (rests (without_sync x) stored out h)
+        (rests (without_sync now) (Some r.fact) out there)
+        (accepted_good x.phase now (Some r.fact) out next there there.fits.peer.phase may.first.own_ballot go))
+      where
+        now : State
+        now = record x { fact = r.fact; trusted = true }
 
-      there : Here (without_sync now) (Some r.fact) out
-      there =
-          let k = join_keeps h.ledger p (epoch_number r.fact.epoch) (stands_at h.fits r.fact may) in
-          let m = join h.ledger p (epoch_number r.fact.epoch) in
-          record { ledger = m; keeps = keeps_both before h.ledger m p h.keeps k; fits = synced_fits h.fits r.fact may; sends = sends_keep h.ledger m p k p out.sends h.sends }
+        there : Here (without_sync now) (Some r.fact) out
+        there =
+            let k = join_keeps h.ledger p (epoch_number r.fact.epoch) (stands_at h.fits r.fact may) in
+            let m = join h.ledger p (epoch_number r.fact.epoch) in
+            record { ledger = m; keeps = keeps_both before h.ledger m p h.keeps k; fits = synced_fits h.fits r.fact may joins; sends = sends_keep h.ledger m p k p out.sends h.sends }
 
-  ended_good : (r : Running) (outcome : Outcome) (x : State) (stored : Option Fact) (out : Out) (next : Rest State (List Task)) → (h : Here (without_sync x) stored out) → IsSyncing h.ledger p x.fact (may_wait x.phase) r → Onward next
-      → Good (ended_with p r outcome x out next) stored
-  ended_good r Pending x stored out next h syncing go = go [] (with_sync r x) stored out (runs r x stored out h syncing)
-  ended_good r (Trusted entries) x stored out next h syncing go = synced_good r entries x stored out next h syncing.may go
+    ended_good : (r : Running) (outcome : Outcome) (x : State) (stored : Option Fact) (out : Out) (next : Rest State (List Task)) → (h : Here (without_sync x) stored out) → IsSyncing h.ledger p x.fact (may_wait x.phase) r → Onward next
+        → Good (ended_with p r outcome x out next) stored
+    ended_good r Pending x stored out next h syncing go = go [] (with_sync r x) stored out (runs r x stored out h syncing)
+    ended_good r (Trusted entries) x stored out next h syncing go = synced_good r entries x stored out next h syncing.may go
 
-  gone_on_good : (r : Running × List Outgoing) (x : State) (stored : Option Fact) (out : Out) (next : Rest State (List Task)) → (h : Here (without_sync x) stored out) → IsSyncing h.ledger p x.fact (may_wait x.phase) r.0 → All (SendHolds h.ledger p) r.1 → Onward next
-      → Good (gone_on p r x out next) stored
-  gone_on_good r x stored out next h syncing hold go = ended_good r.0 (outcome_of r.0.sync) x stored (and_sends out r.1) next (tells (without_sync x) stored out r.1 h hold) syncing go
+    gone_on_good : (r : Running × List Outgoing) (x : State) (stored : Option Fact) (out : Out) (next : Rest State (List Task)) → (h : Here (without_sync x) stored out) → IsSyncing h.ledger p x.fact (may_wait x.phase) r.0 → All (SendHolds h.ledger p) r.1 → Onward next
+        → Good (gone_on p r x out next) stored
+    gone_on_good r x stored out next h syncing hold go = ended_good r.0 (outcome_of r.0.sync) x stored (and_sends out r.1) next (tells (without_sync x) stored out r.1 h hold) syncing go
 
-  begun_good : (new : Fact) (x : State) (stored : Option Fact) (out : Out) (next : Rest State (List Task)) → (h : Here (without_sync x) stored out) → MaySync h.ledger x.fact (may_wait x.phase) new → Onward next → Good (begun_sync p new x out next) stored
-  unfolding asked
-  begun_good new x stored out next h may go = (
-    rests (without_sync x) stored out h,
-    λ scan. gone_on_good (row_start new p x.trusted scan) x stored out next h (record { may = may; asks = asks_are p (last_view new.views) })
-        (questions_hold h.ledger p (row_start new p x.trusted scan).0 (row_start new p x.trusted scan).1 (start_go new p x.trusted scan) (start_ask new p x.trusted scan)) go,
-  )
+    begun_good : (new : Fact) (x : State) (stored : Option Fact) (out : Out) (next : Rest State (List Task)) → (h : Here (without_sync x) stored out) → MaySync h.ledger x.fact (may_wait x.phase) new → Onward next → Good (begun_sync p new x out next) stored
+    unfolding asked
+    begun_good new x stored out next h may go = (
+      rests (without_sync x) stored out h,
+      λ scan. gone_on_good (row_start new p x.trusted scan) x stored out next h (record { may = may; asks = asks_are p (last_view new.views) })
+          (questions_hold h.ledger p (row_start new p x.trusted scan).0 (row_start new p x.trusted scan).1 (start_go new p x.trusted scan) (start_ask new p x.trusted scan)) go,
+    )
 
-  resumed_good : (sync : Option Running) (x : State) (stored : Option Fact) (out : Out) (next : Rest State (List Task)) → (h : Here x stored out) → SyncHolds h.ledger p x.fact (may_wait x.phase) sync → Onward next → Good (resumed_sync sync x out next) stored
-  resumed_good None x stored out next h holds go = go [] x stored out h
-  resumed_good (Some r) x stored out next h holds go =
-      go [] (with_sync (row_resume r).0 x) stored (and_sends out (row_resume r).1)
-      (runs (row_resume r).0 x stored (and_sends out (row_resume r).1)
-      (tells (without_sync x) stored out (row_resume r).1 (without x stored out h) (questions_hold h.ledger p r (row_resume r).1 (resume_go p r holds.asks) (resume_ask p r holds.asks)))
-      (record { may = holds.may; asks = resumed_are p r holds.asks }))
+    resumed_good : (sync : Option Running) (x : State) (stored : Option Fact) (out : Out) (next : Rest State (List Task)) → (h : Here x stored out) → SyncHolds h.ledger p x.fact (may_wait x.phase) sync → Onward next → Good (resumed_sync sync x out next) stored
+    resumed_good None x stored out next h holds go = go [] x stored out h
+    resumed_good (Some r) x stored out next h holds go =
+        go [] (with_sync (row_resume r).0 x) stored (and_sends out (row_resume r).1)
+        (runs (row_resume r).0 x stored (and_sends out (row_resume r).1)
+        (tells (without_sync x) stored out (row_resume r).1 (without x stored out h) (questions_hold h.ledger p r (row_resume r).1 (resume_go p r holds.asks) (resume_ask p r holds.asks)))
+        (record { may = holds.may; asks = resumed_are p r holds.asks }))
 
-  taken_good : (from : ℕ) (give : Give) (own : Option (List ℕ)) (sync : Option Running) (x : State) (stored : Option Fact) (out : Out) (next : Rest State (List Task)) → (h : Here x stored out) → SyncHolds h.ledger p x.fact (may_wait x.phase) sync → Onward next
-      → Good (taken_give p from give own sync x out next) stored
-  taken_good from give own None x stored out next h holds go = go [] x stored out h
-  taken_good from give own (Some r) x stored out next h holds go =
-      gone_on_good (row_take from give own r) x stored out next (without x stored out h)
-      (record { may = subst (MaySync h.ledger x.fact (may_wait x.phase)) (sym (fact_stays from give own r)) holds.may; asks = taken_are p from give own r holds.asks })
-      (questions_hold h.ledger p r (row_take from give own r).1 (take_go p from give own r holds.asks) (take_ask p from give own r holds.asks)) go
+    taken_good : (from : ℕ) (give : Give) (own : Option (List ℕ)) (sync : Option Running) (x : State) (stored : Option Fact) (out : Out) (next : Rest State (List Task)) → (h : Here x stored out) → SyncHolds h.ledger p x.fact (may_wait x.phase) sync → Onward next
+        → Good (taken_give p from give own sync x out next) stored
+    taken_good from give own None x stored out next h holds go = go [] x stored out h
+    taken_good from give own (Some r) x stored out next h holds go =
+        gone_on_good (row_take from give own r) x stored out next (without x stored out h)
+        (record { may = subst (MaySync h.ledger x.fact (may_wait x.phase)) (sym (fact_stays from give own r)) holds.may; asks = taken_are p from give own r holds.asks })
+        (questions_hold h.ledger p r (row_take from give own r).1 (take_go p from give own r holds.asks) (take_ask p from give own r holds.asks)) go
 
-  -- what follows the message of a row
-  followed_on_good : (then : Then) (x : State) (stored : Option Fact) (out : Out) (next : Rest State (List Task)) → (h : Here (made_way then x) stored out) → ThenHolds h.ledger (made_way then x) then → Onward next → Good (followed_on p then x out next) stored
-  followed_on_good (thens.SyncOn new) x stored out next h syncs go = begun_good new x stored out next h syncs go
-  followed_on_good thens.Resume x stored out next h syncs go = resumed_good x.sync x stored out next h h.fits.peer.sync go
-  followed_on_good (thens.Rule n) x stored out next h syncs go = go (named (thens.Rule n)) x stored out h
-  followed_on_good thens.Stay x stored out next h syncs go = go [] x stored out h
-  followed_on_good thens.Follow x stored out next h syncs go = go [] x stored out h
-  followed_on_good (thens.Lead fact) x stored out next h syncs go = go [] x stored out h
-  followed_on_good thens.Untrust x stored out next h syncs go = go [] x stored out h
-  followed_on_good thens.Put x stored out next h syncs go = go [] x stored out h
+    -- what follows the message of a row
+    followed_on_good : (then : Then) (x : State) (stored : Option Fact) (out : Out) (next : Rest State (List Task)) → (h : Here (made_way then x) stored out) → ThenHolds h.ledger (made_way then x) then → Onward next → Good (followed_on p then x out next) stored
+    followed_on_good (thens.SyncOn new) x stored out next h syncs go = begun_good new x stored out next h syncs go
+    followed_on_good thens.Resume x stored out next h syncs go = resumed_good x.sync x stored out next h h.fits.peer.sync go
+    followed_on_good (thens.Rule n) x stored out next h syncs go = go (named (thens.Rule n)) x stored out h
+    followed_on_good thens.Stay x stored out next h syncs go = go [] x stored out h
+    followed_on_good thens.Follow x stored out next h syncs go = go [] x stored out h
+    followed_on_good (thens.Lead fact) x stored out next h syncs go = go [] x stored out h
+    followed_on_good thens.Untrust x stored out next h syncs go = go [] x stored out h
+    followed_on_good thens.Put x stored out next h syncs go = go [] x stored out h
 
-  -- ## Rows of phases
+    -- ## Rows of phases
 
-  -- the output after a row
-  abbrev put_out : PhaseOut → State → Out → Out
-  put_out row x out = turned_answers row.then (saved_in row.save (left row.leave x)) (and_sends (left_answers row.leave x out) (posted_to row.to row.message))
+    -- the output after a row
+    abbrev put_out : PhaseOut → State → Out → Out
+    put_out row x out = turned_answers row.then (saved_in row.save (left row.leave x)) (and_sends (left_answers row.leave x out) (posted_to row.to row.message))
 
-  put_out_sends : (row : PhaseOut) (x : State) (out : Out) → (put_out row x out).sends ≡ out.sends ++ posted_to row.to row.message
-  put_out_sends row x out =
-      answers_send_nothing (ends_leading row.then) (saved_in row.save (left row.leave x)) (and_sends (left_answers row.leave x out) (posted_to row.to row.message))
-      ∙ ap (λ sends. sends ++ posted_to row.to row.message) (answers_send_nothing row.leave x out)
+    put_out_sends : (row : PhaseOut) (x : State) (out : Out) → (put_out row x out).sends ≡ out.sends ++ posted_to row.to row.message
+    put_out_sends row x out =
+        answers_send_nothing (ends_leading row.then) (saved_in row.save (left row.leave x)) (and_sends (left_answers row.leave x out) (posted_to row.to row.message))
+        ∙ ap (λ sends. sends ++ posted_to row.to row.message) (answers_send_nothing row.leave x out)
 
-  row_good : (r : State × PhaseOut) (x : State) (stored : Option Fact) (out : Out) (next : Rest State (List Task)) → (h : Here x stored out) → Goes c h.ledger stored r → Onward next → Good (row_done p r.1 r.0 out next) stored
-  row_good r x stored out next h goes go =
-      saved_good r.1.save (left r.1.leave r.0) stored (left_answers r.1.leave r.0 out)
-      (λ u y o. followed_on p r.1.then (turned p r.1.then y) (turned_answers r.1.then y (and_sends o (posted_to r.1.to r.1.message))) next)
-      (rests x stored out h)
-      (rests (settled p r.1 r.0) (stored_in r.1.save stored) (put_out r.1 r.0 out) there)
-      (followed_on_good r.1.then (turned p r.1.then (saved_in r.1.save (left r.1.leave r.0))) (stored_in r.1.save stored) (put_out r.1 r.0 out) next there goes.syncs go)
-    where
-      there : Here (settled p r.1 r.0) (stored_in r.1.save stored) (put_out r.1 r.0 out)
-      there = record {
-        ledger = goes.ledger;
-        keeps = keeps_both before h.ledger goes.ledger p h.keeps goes.keeps;
-        fits = goes.fits;
-        sends = subst (All (SendHolds goes.ledger p)) (sym (put_out_sends r.1 r.0 out))
-            (All-append (SendHolds goes.ledger p) out.sends (posted_to r.1.to r.1.message) (sends_keep h.ledger goes.ledger p goes.keeps p out.sends h.sends) (posted_to_hold goes.ledger p r.1.to r.1.message goes.says));
-      }
+    row_good : (r : State × PhaseOut) (x : State) (stored : Option Fact) (out : Out) (next : Rest State (List Task)) → (h : Here x stored out) → Goes c h.ledger stored r → Onward next → Good (row_done p r.1 r.0 out next) stored
+    row_good r x stored out next h goes go =
+        saved_good r.1.save (left r.1.leave r.0) stored (left_answers r.1.leave r.0 out)
+        (λ u y o. followed_on p r.1.then (turned p r.1.then y) (turned_answers r.1.then y (and_sends o (posted_to r.1.to r.1.message))) next)
+        (rests x stored out h)
+        (rests (settled p r.1 r.0) (stored_in r.1.save stored) (put_out r.1 r.0 out) there)
+        (followed_on_good r.1.then (turned p r.1.then (saved_in r.1.save (left r.1.leave r.0))) (stored_in r.1.save stored) (put_out r.1 r.0 out) next there goes.syncs go)
+      where
+        there : Here (settled p r.1 r.0) (stored_in r.1.save stored) (put_out r.1 r.0 out)
+        there = record {
+          ledger = goes.ledger;
+          keeps = keeps_both before h.ledger goes.ledger p h.keeps goes.keeps;
+          fits = goes.fits;
+          sends = subst (All (SendHolds goes.ledger p)) (sym (put_out_sends r.1 r.0 out))
+              (All-append (SendHolds goes.ledger p) out.sends (posted_to r.1.to r.1.message) (sends_keep h.ledger goes.ledger p goes.keeps p out.sends h.sends) (posted_to_hold goes.ledger p r.1.to r.1.message goes.says));
+        }
 
-  harmless_good : (row : PhaseOut) → IsHarmless row → Passes (row_done p row)
-  harmless_good row harmless x stored out next h go = row_good (x, row) x stored out next h (harmless_goes h.fits row harmless) go
+    harmless_good : (row : PhaseOut) → IsHarmless row → Passes (row_done p row)
+    harmless_good row harmless x stored out next h go = row_good (x, row) x stored out next h (harmless_goes h.fits row harmless) go
 
-  -- ## What a rule asks of the tree and the backend
+    -- ## What a rule asks of the tree and the backend
 
-  asked_good : (call : Call) → LeavesFact call → Passes (asked call)
-  unfolding asked
-  asked_good Load leaves x stored out next h go = absurd leaves
-  asked_good (Save fact) leaves x stored out next h go = absurd leaves
-  asked_good call leaves x stored out next h go = (rests x stored out h, λ answer. go answer x stored out h)
+    asked_good : (call : Call) → LeavesFact call → Passes (asked call)
+    unfolding asked
+    asked_good Load leaves x stored out next h go = absurd leaves
+    asked_good (Save fact) leaves x stored out next h go = absurd leaves
+    asked_good call leaves x stored out next h go = (rests x stored out h, λ answer. go answer x stored out h)
 
-  digested_good : (o : Option Object) (bytes : List ℕ) → Passes (digested o bytes)
-  digested_good None bytes x stored out next h go = go None x stored out h
-  digested_good (Some o) bytes x stored out next h go = asked_good (Hash bytes) tt x stored out _ h (λ digest y s q there. go (Some (o, digest)) y s q there)
+    digested_good : (o : Option Object) (bytes : List ℕ) → Passes (digested o bytes)
+    digested_good None bytes x stored out next h go = go None x stored out h
+    digested_good (Some o) bytes x stored out next h go = asked_good (Hash bytes) tt x stored out _ h (λ digest y s q there. go (Some (o, digest)) y s q there)
 
-  read_good : (bytes : Option (List ℕ)) → Passes (read bytes)
-  read_good None x stored out next h go = go None x stored out h
-  read_good (Some bytes) x stored out next h go = digested_good (object_in bytes) bytes x stored out next h go
+    read_good : (bytes : Option (List ℕ)) → Passes (read bytes)
+    read_good None x stored out next h go = go None x stored out h
+    read_good (Some bytes) x stored out next h go = digested_good (object_in bytes) bytes x stored out next h go
 
-  kept_good : (key : List ℕ) → Passes (kept key)
-  kept_good key x stored out next h go = asked_good (Fetch key) tt x stored out _ h (λ bytes y s q there. read_good bytes y s q next there go)
+    kept_good : (key : List ℕ) → Passes (kept key)
+    kept_good key x stored out next h go = asked_good (Fetch key) tt x stored out _ h (λ bytes y s q there. read_good bytes y s q next there go)
 
-  fetched_good : (key : List ℕ) → Passes (fetched key)
-  fetched_good key x stored out next h go = kept_good key x stored out _ h (λ o y s q there. go (seens.Kept o) y s q there)
+    fetched_good : (key : List ℕ) → Passes (fetched key)
+    fetched_good key x stored out next h go = kept_good key x stored out _ h (λ o y s q there. go (seens.Kept o) y s q there)
 
-  held_good : (key : List ℕ) (entry : Option Entry) → Passes (held key entry)
-  held_good key None x stored out next h go = go (seens.Held None None) x stored out h
-  held_good key (Some entry) x stored out next h go = kept_good key x stored out _ h (λ o y s q there. go (seens.Held (Some entry) (matching entry o)) y s q there)
+    held_good : (key : List ℕ) (entry : Option Entry) → Passes (held key entry)
+    held_good key None x stored out next h go = go (seens.Held None None) x stored out h
+    held_good key (Some entry) x stored out next h go = kept_good key x stored out _ h (λ o y s q there. go (seens.Held (Some entry) (matching entry o)) y s q there)
 
-  looked_at_good : (key : List ℕ) (walked : Walked (Option Entry)) → Passes (looked_at key walked)
-  looked_at_good key (Broken at) x stored out next h go = go (seens.Damaged at) x stored out h
-  looked_at_good key (Reached entry) x stored out next h go = held_good key entry x stored out next h go
+    looked_at_good : (key : List ℕ) (walked : Walked (Option Entry)) → Passes (looked_at key walked)
+    looked_at_good key (Broken at) x stored out next h go = go (seens.Damaged at) x stored out h
+    looked_at_good key (Reached entry) x stored out next h go = held_good key entry x stored out next h go
 
-  looked_good : (key : List ℕ) → Passes (looked key)
-  looked_good key x stored out next h go = asked_good (Find key) tt x stored out _ h (λ walked y s q there. looked_at_good key walked y s q next there go)
+    looked_good : (key : List ℕ) → Passes (looked key)
+    looked_good key x stored out next h go = asked_good (Find key) tt x stored out _ h (λ walked y s q there. looked_at_good key walked y s q next there go)
 
-  found_good : (key : List ℕ) → Passes (found key)
-  found_good key x stored out next h go = asked_good (Find key) tt x stored out _ h (λ walked y s q there. go (found_at walked) y s q there)
+    found_good : (key : List ℕ) → Passes (found key)
+    found_good key x stored out next h go = asked_good (Find key) tt x stored out _ h (λ walked y s q there. go (found_at walked) y s q there)
 
-  entered_good : (o : Object) (bytes digest : List ℕ) (walked : Walked (Unit {0})) → Passes (entered o bytes digest walked)
-  entered_good o bytes digest (Broken at) x stored out next h go = go (seens.Damaged at) x stored out h
-  entered_good o bytes digest (Reached u) x stored out next h go = asked_good (Put o.key bytes) tt x stored out _ h (λ v y s q there. go (seens.Stored digest) y s q there)
+    entered_good : (o : Object) (bytes digest : List ℕ) (walked : Walked (Unit {0})) → Passes (entered o bytes digest walked)
+    entered_good o bytes digest (Broken at) x stored out next h go = go (seens.Damaged at) x stored out h
+    entered_good o bytes digest (Reached u) x stored out next h go = asked_good (Put o.key bytes) tt x stored out _ h (λ v y s q there. go (seens.Stored digest) y s q there)
 
-  written_good : (o : Object) → Passes (written o)
-  written_good o x stored out next h go =
-      asked_good (Hash (object_spelling o)) tt x stored out _ h
-      (λ digest y s q there. asked_good (Enter (entry_of o digest)) tt y s q _ there (λ walked z t r end. entered_good o (object_spelling o) digest walked z t r next end go))
+    written_good : (o : Object) → Passes (written o)
+    written_good o x stored out next h go =
+        asked_good (Hash (object_spelling o)) tt x stored out _ h
+        (λ digest y s q there. asked_good (Enter (entry_of o digest)) tt y s q _ there (λ walked z t r end. entered_good o (object_spelling o) digest walked z t r next end go))
 
-  confirmed_good : (entry : Option Entry) (object : Option Object) → Passes (confirmed entry object)
-  confirmed_good None object x stored out next h go = go None x stored out h
-  confirmed_good (Some entry) None x stored out next h go = go None x stored out h
-  confirmed_good (Some entry) (Some o) x stored out next h go =
-      asked_good (Hash (object_spelling o)) tt x stored out _ h (λ digest y s q there. go (matching entry (Some (o, digest))) y s q there)
+    confirmed_good : (entry : Option Entry) (object : Option Object) → Passes (confirmed entry object)
+    confirmed_good None object x stored out next h go = go None x stored out h
+    confirmed_good (Some entry) None x stored out next h go = go None x stored out h
+    confirmed_good (Some entry) (Some o) x stored out next h go =
+        asked_good (Hash (object_spelling o)) tt x stored out _ h (λ digest y s q there. go (matching entry (Some (o, digest))) y s q there)
 
-  owned_good : (n : ℕ) (own : Own) → Passes (owned n own)
-  owned_good n (owns.Look key) x stored out next h go =
-      by_test (λ (plan : Plan State). Good plan stored) (n == 28) _ _ (λ is. fetched_good key x stored out next h go) (λ not. looked_good key x stored out next h go)
-  owned_good n (owns.Put o) x stored out next h go = written_good o x stored out next h go
+    owned_good : (n : ℕ) (own : Own) → Passes (owned n own)
+    owned_good n (owns.Look key) x stored out next h go =
+        by_test (λ (plan : Plan State). Good plan stored) (n == 28) _ _ (λ is. fetched_good key x stored out next h go) (λ not. looked_good key x stored out next h go)
+    owned_good n (owns.Put o) x stored out next h go = written_good o x stored out next h go
 
-  own_node_good : (needed : Bool) (at : Position) → Passes (own_node needed at)
-  own_node_good true at x stored out next h go = asked_good (ReadNode at) tt x stored out _ h (λ walked y s q there. go (reached walked) y s q there)
-  own_node_good false at x stored out next h go = go None x stored out h
+    own_node_good : (needed : Bool) (at : Position) → Passes (own_node needed at)
+    own_node_good true at x stored out next h go = asked_good (ReadNode at) tt x stored out _ h (λ walked y s q there. go (reached walked) y s q there)
+    own_node_good false at x stored out next h go = go None x stored out h
 
-  shown_node_good : (answers : Bool) (q : Question) → Passes (shown_node answers q)
-  shown_node_good true q x stored out next h go = asked_good (ReadNode q.position) tt x stored out _ h (λ walked y s o there. go (Some (body_of q walked)) y s o there)
-  shown_node_good false q x stored out next h go = go None x stored out h
+    shown_node_good : (answers : Bool) (q : Question) → Passes (shown_node answers q)
+    shown_node_good true q x stored out next h go = asked_good (ReadNode q.position) tt x stored out _ h (λ walked y s o there. go (Some (body_of q walked)) y s o there)
+    shown_node_good false q x stored out next h go = go None x stored out h
 
-  -- ## Rows of leaders
+    -- ## Rows of leaders
 
-  followed_good : (n : ℕ) (own : Option Own) (then : Then) (keys : List (List ℕ)) → BeginsNothing then → Passes (followed_up p n own then keys)
-  followed_good n None then keys leads x stored out next h go =
-      go (keyed then keys) (turned p then x) stored (turned_answers then x out) (moved x (turned p then x) stored out (turned_answers then x out) h (turned_fits then x leads h.fits) (answers_send_nothing (ends_leading then) x out))
-  followed_good n (Some own) then keys leads x stored out next h go = owned_good n own x stored out _ h (λ seen y s q there. go _ y s q there)
+    followed_good : (n : ℕ) (own : Option Own) (then : Then) (keys : List (List ℕ)) → BeginsNothing then → Passes (followed_up p n own then keys)
+    followed_good n None then keys leads x stored out next h go =
+        go (keyed then keys) (turned p then x) stored (turned_answers then x out) (moved x (turned p then x) stored out (turned_answers then x out) h (turned_fits then x leads h.fits) (answers_send_nothing (ends_leading then) x out))
+    followed_good n (Some own) then keys leads x stored out next h go = owned_good n own x stored out _ h (λ seen y s q there. go _ y s q there)
 
-  asks_hold : (l : Ledger) (sends : List Outgoing) → All AsksPeer sends → All (SendHolds l p) sends
-  asks_hold l sends ask = All-weaker AsksPeer (SendHolds l p) (λ o h. (h.0, of_calls o.message h.1)) sends ask
-    where
-      of_calls : (message : Message) → IsOfCalls message → MessageHolds l p message
-      of_calls (messages.Check ballot round) is = tt
-      of_calls (messages.Get ballot round key) is = tt
-      of_calls (messages.Put ballot object) is = tt
-      of_calls other is = absurd is
+    asks_hold : (l : Ledger) (sends : List Outgoing) → All AsksPeer sends → All (SendHolds l p) sends
+    asks_hold l sends ask = All-weaker AsksPeer (SendHolds l p) (λ o h. (h.0, of_calls o.message h.1)) sends ask
+      where
+        of_calls : (message : Message) → IsOfCalls message → MessageHolds l p message
+        of_calls (messages.Check ballot round) is = tt
+        of_calls (messages.Get ballot round key) is = tt
+        of_calls (messages.Put ballot object) is = tt
+        of_calls other is = absurd is
 
-  lead_done_good : (n : ℕ) (row : LeadOut) → All AsksPeer row.sends → BeginsNothing row.then → Passes (lead_done p n row)
-  lead_done_good n row sends leads x stored out next h go =
-      noted_good row.notes (followed_up p n row.own row.then row.keys (left row.leave x) (and_row row x out) next) stored
-      (followed_good n row.own row.then row.keys leads (left row.leave x) stored (and_row row x out) next (record {
-        ledger = h.ledger;
-        keeps = h.keeps;
-        fits = left_fits row.leave x h.fits;
-        sends = All-append (SendHolds h.ledger p) (left_answers row.leave x out).sends row.sends
-            (subst (All (SendHolds h.ledger p)) (sym (answers_send_nothing row.leave x out)) h.sends) (asks_hold h.ledger row.sends sends);
-      }) go)
+    lead_done_good : (n : ℕ) (row : LeadOut) → All AsksPeer row.sends → BeginsNothing row.then → Passes (lead_done p n row)
+    lead_done_good n row sends leads x stored out next h go =
+        noted_good row.notes (followed_up p n row.own row.then row.keys (left row.leave x) (and_row row x out) next) stored
+        (followed_good n row.own row.then row.keys leads (left row.leave x) stored (and_row row x out) next (record {
+          ledger = h.ledger;
+          keeps = h.keeps;
+          fits = left_fits row.leave x h.fits;
+          sends = All-append (SendHolds h.ledger p) (left_answers row.leave x out).sends row.sends
+              (subst (All (SendHolds h.ledger p)) (sym (answers_send_nothing row.leave x out)) h.sends) (asks_hold h.ledger row.sends sends);
+        }) go)
 
-  still_leads : (l : Ledger) (fact : Fact) (leadership : Leadership) (leader : Leader) → leader.fact ≡ leadership.leader.fact → leader.accepts ≡ leadership.leader.accepts → IsLeading l p fact leadership → IsLeading l p fact (with_leader leader leadership)
-  still_leads l fact leadership leader same accepts old = record {
-    started = subst (λ f. IsStarted l p fact f leader.accepts) (sym same) (subst (λ set. IsStarted l p fact leadership.leader.fact set) (sym accepts) old.started);
-    established = subst (λ (f : Fact). is_established l (epoch_number f.epoch) ≡ true) (sym same) old.established;
-    has = subst (λ (f : Fact). fact.epoch ≡ f.epoch) (sym same) old.has;
-    change = old.change;
-  }
+    still_leads : (l : Ledger) (fact : Fact) (leadership : Leadership) (leader : Leader) → leader.fact ≡ leadership.leader.fact → leader.accepts ≡ leadership.leader.accepts → IsLeading l p fact leadership → IsLeading l p fact (with_leader leader leadership)
+    still_leads l fact leadership leader same accepts old = record {
+      started = subst (λ f. IsStarted l p fact f leader.accepts) (sym same) (subst (λ set. IsStarted l p fact leadership.leader.fact set) (sym accepts) old.started);
+      established = subst (λ (f : Fact). is_established l (epoch_number f.epoch) ≡ true) (sym same) old.established;
+      has = subst (λ (f : Fact). fact.epoch ≡ f.epoch) (sym same) old.has;
+      change = old.change;
+    }
 
-  -- a rule of a leader, whatever the phase
-  lead_good : (row : Leader → Leader × LeadOut) → ((leader : Leader) → StillLeads leader.fact leader.accepts (row leader)) → (n : ℕ) (phase : Phase) (x : State) (stored : Option Fact) (out : Out) (next : Rest State (List Task))
-      → (h : Here x stored out) → PhaseHolds h.ledger p x.fact phase → SyncHolds h.ledger p x.fact (may_wait phase) x.sync → Onward next → Good (lead row p n phase x out next) stored
-  lead_good row stays n (phases.Leading l) x stored out next h old syncing go =
-      let led = stays l.leader in
-      lead_done_good n (row l.leader).1 led.sends led.next (leading (with_leader (row l.leader).0 l) x) stored out next (record {
-        ledger = h.ledger;
-        keeps = h.keeps;
-        fits = enters h.fits (phases.Leading (with_leader (row l.leader).0 l)) (still_leads h.ledger x.fact l (row l.leader).0 led.fact led.accepts old) syncing;
-        sends = h.sends;
-      }) go
-  lead_good row stays n (phases.Following f) x stored out next h old syncing go = go [] x stored out h
-  lead_good row stays n (phases.Probing b) x stored out next h old syncing go = go [] x stored out h
-  lead_good row stays n (phases.Electing e) x stored out next h old syncing go = go [] x stored out h
+    -- a rule of a leader, whatever the phase
+    lead_good : (row : Leader → Leader × LeadOut) → ((leader : Leader) → StillLeads leader.fact leader.accepts (row leader)) → (n : ℕ) (phase : Phase) (x : State) (stored : Option Fact) (out : Out) (next : Rest State (List Task))
+        → (h : Here x stored out) → PhaseHolds h.ledger p x.fact phase → SyncHolds h.ledger p x.fact (may_wait phase) x.sync → Onward next → Good (lead row p n phase x out next) stored
+    lead_good row stays n (phases.Leading l) x stored out next h old syncing go =
+        let led = stays l.leader in
+        lead_done_good n (row l.leader).1 led.sends led.next (leading (with_leader (row l.leader).0 l) x) stored out next (record {
+          ledger = h.ledger;
+          keeps = h.keeps;
+          fits = enters h.fits (phases.Leading (with_leader (row l.leader).0 l)) (still_leads h.ledger x.fact l (row l.leader).0 led.fact led.accepts old) syncing;
+          sends = h.sends;
+        }) go
+    lead_good row stays n (phases.Following f) x stored out next h old syncing go = go [] x stored out h
+    lead_good row stays n (phases.Probing b) x stored out next h old syncing go = go [] x stored out h
+    lead_good row stays n (phases.Electing e) x stored out next h old syncing go = go [] x stored out h
 
-  -- rule 5 (d) and (e): the other members of the views are sent one message each, and a change that
-  -- is wanted begins
-  reminded_good : (phase : Phase) (x : State) (stored : Option Fact) (out : Out) (next : Rest State (List Task)) → (h : Here x stored out) → PhaseHolds h.ledger p x.fact phase → SyncHolds h.ledger p x.fact (may_wait phase) x.sync → Onward next → Good (reminded phase x out next) stored
-  reminded_good (phases.Leading l) x stored out next h old syncing go = go (named (begins wants.change)) (leading wants x) stored (and_sends out (ticks x.fact l)) (record {
-    ledger = h.ledger;
-    keeps = h.keeps;
-    fits = enters h.fits (phases.Leading wants) (record { started = old.started; established = old.established; has = old.has; change = wished_holds h.ledger x.fact l.leader.fact l.change old.change }) syncing;
-    sends = All-append (SendHolds h.ledger p) out.sends (ticks x.fact l) h.sends (ticks_hold h.ledger p x.fact l old (is_second h.fits l old) 31 (omega arith));
-  })
-    where
-      wants : Leadership
-      wants = record l { change = wished l.leader.fact l.change }
-  reminded_good (phases.Following f) x stored out next h old syncing go = go [] x stored out h
-  reminded_good (phases.Probing b) x stored out next h old syncing go = go [] x stored out h
-  reminded_good (phases.Electing e) x stored out next h old syncing go = go [] x stored out h
+    -- rule 5 (d) and (e): the other members of the views are sent one message each, and a change that
+    -- is wanted begins
+    reminded_good : (phase : Phase) (x : State) (stored : Option Fact) (out : Out) (next : Rest State (List Task)) → (h : Here x stored out) → PhaseHolds h.ledger p x.fact phase → SyncHolds h.ledger p x.fact (may_wait phase) x.sync → Onward next → Good (reminded phase x out next) stored
+    reminded_good (phases.Leading l) x stored out next h old syncing go = go (named (begins wants.change)) (leading wants x) stored (and_sends out (ticks x.fact l)) (record {
+      ledger = h.ledger;
+      keeps = h.keeps;
+      fits = enters h.fits (phases.Leading wants) (record { started = old.started; established = old.established; has = old.has; change = wished_holds h.ledger x.fact l.leader.fact l.change old.change }) syncing;
+      sends = All-append (SendHolds h.ledger p) out.sends (ticks x.fact l) h.sends (ticks_hold h.ledger p x.fact l old (is_second h.fits l old) 31 (omega arith));
+    })
+      where
+        wants : Leadership
+        wants = record l { change = wished l.leader.fact l.change }
+    reminded_good (phases.Following f) x stored out next h old syncing go = go [] x stored out h
+    reminded_good (phases.Probing b) x stored out next h old syncing go = go [] x stored out h
+    reminded_good (phases.Electing e) x stored out next h old syncing go = go [] x stored out h
 
-  -- ## Tasks
+    -- ## Tasks
 
-  task_good : (task : Task) → Passes (task_done p task)
-  task_good (tasks.Phase n) x stored out next h go =
-      by_test (λ (plan : Plan State). Good plan stored) (n == 5) _ _
-      (λ is. reminded_good x.phase x stored out next h h.fits.peer.phase h.fits.peer.sync go)
-      (λ not. row_good (phase_row n p x) x stored out next h (phase_goes h.fits n) go)
-  task_good (tasks.Key n key) x stored out next h go = lead_good (lead_row n key seens.Nothing) (lead_stays n key seens.Nothing) n x.phase x stored out next h h.fits.peer.phase h.fits.peer.sync go
-  task_good (tasks.Again n key seen) x stored out next h go = lead_good (lead_row n key seen) (lead_stays n key seen) n x.phase x stored out next h h.fits.peer.phase h.fits.peer.sync go
+    task_good : (task : Task) → Passes (task_done p task)
+    task_good (tasks.Phase n) x stored out next h go =
+        by_test (λ (plan : Plan State). Good plan stored) (n == 5) _ _
+        (λ is. reminded_good x.phase x stored out next h h.fits.peer.phase h.fits.peer.sync go)
+        (λ not. row_good (phase_row n p x) x stored out next h (phase_goes h.fits n) go)
+    task_good (tasks.Key n key) x stored out next h go = lead_good (lead_row n key seens.Nothing) (lead_stays n key seens.Nothing) n x.phase x stored out next h h.fits.peer.phase h.fits.peer.sync go
+    task_good (tasks.Again n key seen) x stored out next h go = lead_good (lead_row n key seen) (lead_stays n key seen) n x.phase x stored out next h h.fits.peer.phase h.fits.peer.sync go
 
-  drive_good : (n : ℕ) (ts : List Task) → Passes (driven p n ts)
-  unfolding driven
-  drive_good zero ts x stored out next h go = go ts x stored out h
-  drive_good (suc n) [] x stored out next h go = go [] x stored out h
-  drive_good (suc n) (task ∷ ts) x stored out next h go =
-      task_good task x stored out (λ more y o. driven p n (more ++ ts) y o next) h (λ more y s o there. drive_good n (more ++ ts) y s o next there go)
+    drive_good : (n : ℕ) (ts : List Task) → Passes (driven p n ts)
+    unfolding driven
+    drive_good zero ts x stored out next h go = go ts x stored out h
+    drive_good (suc n) [] x stored out next h go = go [] x stored out h
+    drive_good (suc n) (task ∷ ts) x stored out next h go =
+        task_good task x stored out (λ more y o. driven p n (more ++ ts) y o next) h (λ more y s o there. drive_good n (more ++ ts) y s o next there go)
 
-  -- ## Events
+    -- ## Events
 
-  -- rule 5 (a) to (c), of a leader
-  led_good : (l : Leadership) (x : State) (stored : Option Fact) (out : Out) (next : Rest State (List Task)) → (h : Here x stored out) → IsLeading h.ledger p x.fact l → SyncHolds h.ledger p x.fact false x.sync → Onward next → Good (led_in p (phases.Leading l) x out next) stored
-  led_good l x stored out next h old syncing go =
-      lead_done_good 5 (row_5_calls x.fact l).1 led.sends led.next (leading (row_5_calls x.fact l).0 x) stored out (λ ts y o. next (ts ++ tasks.Phase 5 ∷ []) y o) (record {
-        ledger = h.ledger;
-        keeps = h.keeps;
-        fits = enters h.fits (phases.Leading (row_5_calls x.fact l).0) (still_leads h.ledger x.fact (record l { change = older l.change }) (row_5_calls x.fact l).0.leader led.fact led.accepts one_older) syncing;
-        sends = h.sends;
-      }) (λ ts y s o there. go (ts ++ tasks.Phase 5 ∷ []) y s o there)
-    where
-      led : StillLeads l.leader.fact l.leader.accepts (calls_of_tick (end_of (older l.change)) l.leader)
-      led = tick_stays (end_of (older l.change)) l.leader
+    -- rule 5 (a) to (c), of a leader
+    led_good : (l : Leadership) (x : State) (stored : Option Fact) (out : Out) (next : Rest State (List Task)) → (h : Here x stored out) → IsLeading h.ledger p x.fact l → SyncHolds h.ledger p x.fact false x.sync → Onward next → Good (led_in p (phases.Leading l) x out next) stored
+    led_good l x stored out next h old syncing go =
+        lead_done_good 5 (row_5_calls x.fact l).1 led.sends led.next (leading (row_5_calls x.fact l).0 x) stored out (λ ts y o. next (ts ++ tasks.Phase 5 ∷ []) y o) (record {
+          ledger = h.ledger;
+          keeps = h.keeps;
+          fits = enters h.fits (phases.Leading (row_5_calls x.fact l).0) (still_leads h.ledger x.fact (record l { change = older l.change }) (row_5_calls x.fact l).0.leader led.fact led.accepts one_older) syncing;
+          sends = h.sends;
+        }) (λ ts y s o there. go (ts ++ tasks.Phase 5 ∷ []) y s o there)
+      where
+        led : StillLeads l.leader.fact l.leader.accepts (calls_of_tick (end_of (older l.change)) l.leader)
+        led = tick_stays (end_of (older l.change)) l.leader
 
-      one_older : IsLeading h.ledger p x.fact (record l { change = older l.change })
-      one_older = record { started = old.started; established = old.established; has = old.has; change = older_holds h.ledger x.fact l.change old.change }
+        one_older : IsLeading h.ledger p x.fact (record l { change = older l.change })
+        one_older = record { started = old.started; established = old.established; has = old.has; change = older_holds h.ledger x.fact l.change old.change }
 
-  tick_good : (phase : Phase) (x : State) (stored : Option Fact) (out : Out) (next : Rest State (List Task)) → (h : Here x stored out) → PhaseHolds h.ledger p x.fact phase → SyncHolds h.ledger p x.fact (may_wait phase) x.sync → Onward next → Good (ticked p phase x out next) stored
-  tick_good (phases.Leading l) x stored out next h old syncing go = led_good l x stored out next h old syncing go
-  tick_good phase x stored out next h old syncing go = row_good (aged phase p x) x stored out next h (aged_goes h.fits phase old syncing) go
+    tick_good : (phase : Phase) (x : State) (stored : Option Fact) (out : Out) (next : Rest State (List Task)) → (h : Here x stored out) → PhaseHolds h.ledger p x.fact phase → SyncHolds h.ledger p x.fact (may_wait phase) x.sync → Onward next → Good (ticked p phase x out next) stored
+    tick_good (phases.Leading l) x stored out next h old syncing go = led_good l x stored out next h old syncing go
+    tick_good phase x stored out next h old syncing go = row_good (aged phase p x) x stored out next h (aged_goes h.fits phase old syncing) go
 
-  shown_good : (b : Bool) (part : Part State Seen) → Passes part → Passes (shown b part)
-  shown_good true part good x stored out next h go = good x stored out next h go
-  shown_good false part good x stored out next h go = go seens.Nothing x stored out h
+    shown_good : (b : Bool) (part : Part State Seen) → Passes part → Passes (shown b part)
+    shown_good true part good x stored out next h go = good x stored out next h go
+    shown_good false part good x stored out next h go = go seens.Nothing x stored out h
 
-  put_done_good : (then : Then) (from : ℕ) (ballot : Epoch) (o : Object) (row : PhaseOut) → IsHarmless row → Passes (put_done then p from ballot o row)
-  put_done_good thens.Put from ballot o row harmless x stored out next h go =
-      written_good o x stored out _ h (λ seen y s q there. harmless_good (after_put from ballot row seen) (after_put_harmless from ballot row seen harmless) y s q next there go)
-  put_done_good other from ballot o row harmless x stored out next h go = harmless_good row harmless x stored out next h go
+    put_done_good : (then : Then) (from : ℕ) (ballot : Epoch) (o : Object) (row : PhaseOut) → IsHarmless row → Passes (put_done then p from ballot o row)
+    put_done_good thens.Put from ballot o row harmless x stored out next h go =
+        written_good o x stored out _ h (λ seen y s q there. harmless_good (after_put from ballot row seen) (after_put_harmless from ballot row seen harmless) y s q next there go)
+    put_done_good other from ballot o row harmless x stored out next h go = harmless_good row harmless x stored out next h go
 
-  delivered_good : (from : ℕ) (message : Message) (x : State) (stored : Option Fact) (out : Out) (next : Rest State (List Task)) → (h : Here x stored out) → MessageHolds h.ledger from message → Onward next → Good (delivered p from message x out next) stored
-  delivered_good from (messages.Get ballot round key) x stored out next h says go =
-      shown_good (is_served x.fact x.trusted ballot) (looked key) (looked_good key) x stored out _ h
-      (λ seen y s q there. harmless_good (row_21 y.fact y.trusted from ballot round key seen) (row_21_harmless y.fact y.trusted from ballot round key seen) y s q next there go)
-  delivered_good from (messages.Put ballot o) x stored out next h says go =
-      shown_good (is_served x.fact x.trusted ballot) (found o.key) (found_good o.key) x stored out _ h
-      (λ seen y s q there. put_done_good (row_22 y.fact y.trusted from ballot o seen).then from ballot o (row_22 y.fact y.trusted from ballot o seen) (row_22_harmless y.fact y.trusted from ballot o seen) y s q next there go)
-  delivered_good from (messages.GetReply ballot round key entry object) x stored out next h says go =
-      by_test (λ (plan : Plan State). Good plan stored) (leads x.phase) _ _
-      (λ is. confirmed_good entry object x stored out _ h
-      (λ sent y s q there. lead_good (row_29_reply from ballot round key entry sent) (got_stays from ballot round key entry sent) 29 y.phase y s q next there there.fits.peer.phase there.fits.peer.sync go))
-      (λ not. go [] x stored out h)
-  delivered_good from (messages.PutReply ballot key version) x stored out next h says go =
-      lead_good (row_35_reply from ballot key version) (put_heard_stays from ballot key version) 35 x.phase x stored out next h h.fits.peer.phase h.fits.peer.sync go
-  delivered_good from (messages.CheckReply ballot round) x stored out next h says go = lead_good (row_33_reply from ballot round) (stands_stays from ballot round) 33 x.phase x stored out next h h.fits.peer.phase h.fits.peer.sync go
-  delivered_good from (messages.TreeAsk ballot at after) x stored out next h says go =
-      shown_node_good (is_same ballot x.fact.ballot) (record { position = at; after = after }) x stored out _ h
-      (λ body y s q there. harmless_good (row_23 y.fact y.trusted from ballot at after body) (row_23_harmless y.fact y.trusted from ballot at after body) y s q next there go)
-  delivered_good from (messages.TreeGive ballot at after trusted body) x stored out next h says go =
-      let give : Give = record { ballot = ballot; question = record { position = at; after = after }; trusted = trusted; body = body } in
-      own_node_good (needs_node from give x.sync) at x stored out _ h (λ own y s q there. taken_good from give own y.sync y s q next there there.fits.peer.sync go)
-  delivered_good from message x stored out next h says go = row_good (received p from message x) x stored out next h (received_goes h.fits from message says) go
+    delivered_good : (from : ℕ) (message : Message) (x : State) (stored : Option Fact) (out : Out) (next : Rest State (List Task)) → (h : Here x stored out) → MessageHolds h.ledger from message → Onward next → Good (delivered p from message x out next) stored
+    delivered_good from (messages.Get ballot round key) x stored out next h says go =
+        shown_good (is_served x.fact x.trusted ballot) (looked key) (looked_good key) x stored out _ h
+        (λ seen y s q there. harmless_good (row_21 y.fact y.trusted from ballot round key seen) (row_21_harmless y.fact y.trusted from ballot round key seen) y s q next there go)
+    delivered_good from (messages.Put ballot o) x stored out next h says go =
+        shown_good (is_served x.fact x.trusted ballot) (found o.key) (found_good o.key) x stored out _ h
+        (λ seen y s q there. put_done_good (row_22 y.fact y.trusted from ballot o seen).then from ballot o (row_22 y.fact y.trusted from ballot o seen) (row_22_harmless y.fact y.trusted from ballot o seen) y s q next there go)
+    delivered_good from (messages.GetReply ballot round key entry object) x stored out next h says go =
+        by_test (λ (plan : Plan State). Good plan stored) (leads x.phase) _ _
+        (λ is. confirmed_good entry object x stored out _ h
+        (λ sent y s q there. lead_good (row_29_reply from ballot round key entry sent) (got_stays from ballot round key entry sent) 29 y.phase y s q next there there.fits.peer.phase there.fits.peer.sync go))
+        (λ not. go [] x stored out h)
+    delivered_good from (messages.PutReply ballot key version) x stored out next h says go =
+        lead_good (row_35_reply from ballot key version) (put_heard_stays from ballot key version) 35 x.phase x stored out next h h.fits.peer.phase h.fits.peer.sync go
+    delivered_good from (messages.CheckReply ballot round) x stored out next h says go = lead_good (row_33_reply from ballot round) (stands_stays from ballot round) 33 x.phase x stored out next h h.fits.peer.phase h.fits.peer.sync go
+    delivered_good from (messages.TreeAsk ballot at after) x stored out next h says go =
+        shown_node_good (is_same ballot x.fact.ballot) (record { position = at; after = after }) x stored out _ h
+        (λ body y s q there. harmless_good (row_23 y.fact y.trusted from ballot at after body) (row_23_harmless y.fact y.trusted from ballot at after body) y s q next there go)
+    delivered_good from (messages.TreeGive ballot at after trusted body) x stored out next h says go =
+        let give : Give = record { ballot = ballot; question = record { position = at; after = after }; trusted = trusted; body = body } in
+        own_node_good (needs_node from give x.sync) at x stored out _ h (λ own y s q there. taken_good from give own y.sync y s q next there there.fits.peer.sync go)
+    delivered_good from message x stored out next h says go = row_good (received p from message x) x stored out next h (received_goes h.fits from message says) go
 
-  -- rule 27
-  called_good : (call : CallIn) → Passes (called p call)
-  called_good call x stored out next h go =
-      by_test (λ (plan : Plan State). Good plan stored) (leads x.phase) _ _
-      (λ is. lead_good (row_27 call.from call.id call.key call.command (changes x.phase)) (joined_stays call.from call.id call.key call.command (changes x.phase)) 27 x.phase x stored out next h h.fits.peer.phase h.fits.peer.sync go)
-      (λ not. go [] x stored (and_answers out (unavailable call ∷ [])) (moved x x stored out (and_answers out (unavailable call ∷ [])) h h.fits refl))
+    -- rule 27
+    called_good : (call : CallIn) → Passes (called p call)
+    called_good call x stored out next h go =
+        by_test (λ (plan : Plan State). Good plan stored) (leads x.phase) _ _
+        (λ is. lead_good (row_27 call.from call.id call.key call.command (changes x.phase)) (joined_stays call.from call.id call.key call.command (changes x.phase)) 27 x.phase x stored out next h h.fits.peer.phase h.fits.peer.sync go)
+        (λ not. go [] x stored (and_answers out (unavailable call ∷ [])) (moved x x stored out (and_answers out (unavailable call ∷ [])) h h.fits refl))
 
-  -- rule 24
-  changed_good : (view : List ℕ) → Passes (λ x out next. row_done p (asked_change view x).1.0 (asked_change view x).0 (and_change out (asked_change view x).1.1) next)
-  changed_good view x stored out next h go =
-      let told = and_change out (asked_change view x).1.1 in
-      let same : Here x stored told = moved x x stored out told h h.fits refl in
-      row_good ((asked_change view x).0, (asked_change view x).1.0) x stored told next same (rule_24 same.fits x.phase view same.fits.peer.phase same.fits.peer.sync) go
+    -- rule 24
+    changed_good : (view : List ℕ) → Passes (λ x out next. row_done p (asked_change view x).1.0 (asked_change view x).0 (and_change out (asked_change view x).1.1) next)
+    changed_good view x stored out next h go =
+        let told = and_change out (asked_change view x).1.1 in
+        let same : Here x stored told = moved x x stored out told h h.fits refl in
+        row_good ((asked_change view x).0, (asked_change view x).1.0) x stored told next same (rule_24 same.fits x.phase view same.fits.peer.phase same.fits.peer.sync) go
 
-  event_good : (event : Event) (x : State) (stored : Option Fact) (out : Out) (next : Rest State (List Task)) → (h : Here x stored out) → EventHolds h.ledger event → Onward next → Good (first p event x out next) stored
-  event_good (events.Deliver from message) x stored out next h says go = delivered_good from message x stored out next h says go
-  event_good events.Tick x stored out next h says go = tick_good x.phase x stored out next h h.fits.peer.phase h.fits.peer.sync go
-  event_good (events.Call call) x stored out next h says go = called_good call x stored out next h go
-  event_good (events.Change view) x stored out next h says go = changed_good view x stored out next h go
+    event_good : (event : Event) (x : State) (stored : Option Fact) (out : Out) (next : Rest State (List Task)) → (h : Here x stored out) → EventHolds h.ledger event → Onward next → Good (first p event x out next) stored
+    event_good (events.Deliver from message) x stored out next h says go = delivered_good from message x stored out next h says go
+    event_good events.Tick x stored out next h says go = tick_good x.phase x stored out next h h.fits.peer.phase h.fits.peer.sync go
+    event_good (events.Call call) x stored out next h says go = called_good call x stored out next h go
+    event_good (events.Change view) x stored out next h says go = changed_good view x stored out next h go
 
-  -- the tasks that a row names, and what follows once no task is left
-  abbrev driving : Rest State (Unit {0}) → Rest State (List Task)
-  driving next ts x out = driven p most_turns ts x out (λ rest y o. next tt y o)
+    -- the tasks that a row names, and what follows once no task is left
+    abbrev driving : Rest State (Unit {0}) → Rest State (List Task)
+    driving next ts x out = driven p most_turns ts x out (λ rest y o. next tt y o)
 
-  driving_goes : (next : Rest State (Unit {0})) → Onward next → Onward (driving next)
-  driving_goes next go ts x stored out h = drive_good most_turns ts x stored out (λ rest y o. next tt y o) h (λ rest y s o there. go tt y s o there)
+    driving_goes : (next : Rest State (Unit {0})) → Onward next → Onward (driving next)
+    driving_goes next go ts x stored out h = drive_good most_turns ts x stored out (λ rest y o. next tt y o) h (λ rest y s o there. go tt y s o there)
 
-  -- a whole step
-  pub step_good : (event : Event) (x : State) (stored : Option Fact) → (h : Here x stored nothing) → EventHolds h.ledger event → Good (step_of p event x) stored
-  step_good event x stored h says =
-      event_good event x stored nothing (driving (λ u y o. concluded p y o (λ v z q. Done z q))) h says
-      (driving_goes (λ u y o. concluded p y o (λ v z q. Done z q)) (λ u y s o there.
-      task_good (tasks.Phase 26) y s o (driving (λ v z q. Done z q)) there (driving_goes (λ v z q. Done z q) (λ v z t q end. end))))
+    -- a whole step
+    pub step_good : (event : Event) (x : State) (stored : Option Fact) → (h : Here x stored nothing) → EventHolds h.ledger event → Good (step_of p event x) stored
+    step_good event x stored h says =
+        event_good event x stored nothing (driving (λ u y o. concluded p y o (λ v z q. Done z q))) h says
+        (driving_goes (λ u y o. concluded p y o (λ v z q. Done z q)) (λ u y s o there.
+        task_good (tasks.Phase 26) y s o (driving (λ v z q. Done z q)) there (driving_goes (λ v z q. Done z q) (λ v z t q end. end))))
 
   -- rule 1, a start from a kept fact: the peer follows, and does not trust its tree
   pub start_good : (view : List ℕ) (stored : Option Fact) → Rests stored → Good (start_of view) stored

@@ -18,33 +18,36 @@ use Rattle.election_refinement.proofs.Keeps.{Keeps, closed_keeps, raise_keeps, e
 use Rattle.election_refinement.specs.Refinement.{IsFitting, may_take, IsFactClosed, second_of, IsOrderly}
 use Rattle.election_refinement.specs.Worlds.{ledger_after}
 
--- the beginning of a peer's step: the steps of the run so far, and the peer
-pub record Course : Type 0 where
+-- the beginning of a peer's step: the steps of the run so far, the peer, and whether syncs may end in
+-- this step
+pub record Course : Type 1 where
   pub view : List ℕ
   pub steps : List Step
   pub peer : ℕ
   pub is_peer : IsPeer peer
+  pub joins : Type 0
 
 -- a step that belongs to a rule of this peer's elections: a step of the peer itself, or of the leader
--- of an epoch that the peer proposes
-abbrev pub IsRowStep : ℕ → Step → Type 0
-IsRowStep p (Raise q d) = q ≡ p
-IsRowStep p (Elect d base) = proposer_of d ≡ p
-IsRowStep p (Accept q d) = q ≡ p
-IsRowStep p (Commit d change) = proposer_of d ≡ p
-IsRowStep p (Adopt q d) = q ≡ p
-IsRowStep p (Install q d merged) = q ≡ p
-IsRowStep p (EndSync q d) = q ≡ p
-IsRowStep p other = ⊥
+-- of an epoch that the peer proposes; the steps of the end of a sync belong to one only if syncs may
+-- end
+abbrev pub IsRowStep : Type 0 → ℕ → Step → Type 0
+IsRowStep joins p (Raise q d) = q ≡ p
+IsRowStep joins p (Elect d base) = proposer_of d ≡ p
+IsRowStep joins p (Accept q d) = q ≡ p
+IsRowStep joins p (Commit d change) = proposer_of d ≡ p
+IsRowStep joins p (Adopt q d) = q ≡ p
+IsRowStep joins p (Install q d merged) = joins × (q ≡ p)
+IsRowStep joins p (EndSync q d) = joins × (q ≡ p)
+IsRowStep joins p other = ⊥
 
-abbrev pub AreRowSteps : ℕ → List Step → Type 0
-AreRowSteps p [] = Unit {0}
-AreRowSteps p (step ∷ steps) = IsRowStep p step × AreRowSteps p steps
+abbrev pub AreRowSteps : Type 0 → ℕ → List Step → Type 0
+AreRowSteps joins p [] = Unit {0}
+AreRowSteps joins p (step ∷ steps) = IsRowStep joins p step × AreRowSteps joins p steps
 
 -- an extension of the run, by such steps of the peer, leads to this ledger
 pub record Reaches (c : Course) (l : Ledger) : Type 0 where
   pub more : List Step
-  pub kinds : AreRowSteps c.peer more
+  pub kinds : AreRowSteps c.joins c.peer more
   pub run : IsRun c.view (more ++ c.steps)
   pub same : ledger_after c.view (more ++ c.steps) ≡ l
   pub orderly : IsOrderly l
@@ -159,13 +162,13 @@ module _ (c : Course) (l : Ledger) (r : Reaches c l) where
       may : MayAccept l p d
       may = record { elected = elected; stands = stands; newer = newer; old = old }
 
-  -- the peer accepts the elected epoch of its ballot by ending a sync
-  pub join_reaches : (d : ℕ) → 0 < d → l.elected d ≡ true → l.ballot p ≡ d → (l.fact p).epoch < d → Reaches c (join l p d)
-  join_reaches d later elected stands newer =
+  -- the peer accepts the elected epoch of its ballot by ending a sync, where syncs may end
+  pub join_reaches : c.joins → (d : ℕ) → 0 < d → l.elected d ≡ true → l.ballot p ≡ d → (l.fact p).epoch < d → Reaches c (join l p d)
+  join_reaches may d later elected stands newer =
       let joined = joins_after view (r.more ++ c.steps) r.run p d later (subst (λ m. m.elected d ≡ true) (sym r.same) elected) (subst (λ m. m.ballot p ≡ d) (sym r.same) stands) (subst (λ m. (m.fact p).epoch < d) (sym r.same) newer) in
       record {
         more = EndSync p d ∷ Install p d joined.merged ∷ r.more;
-        kinds = (refl, (refl, r.kinds));
+        kinds = ((may, refl), ((may, refl), r.kinds));
         run = joined.run;
         same = ap (λ m. join m p d) r.same;
         orderly = record { reached = r.orderly.reached; fits = r.orderly.fits; adopted = adopted_below d newer; left = left_stays (join l p d) (join_keeps l p d stands) };

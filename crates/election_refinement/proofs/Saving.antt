@@ -95,11 +95,11 @@ module _ {c : Course} {l : Ledger} {x : State} {stored : Option Fact} (h : Fits 
     };
   }
 
-  -- the same by the end of a sync, after which no sync runs
-  abbrev pub joined_fits : (new : Fact) → IsFirst l new → l.ballot p ≡ epoch_number new.epoch → (l.fact p).epoch < epoch_number new.epoch
+  -- the same by the end of a sync, where syncs may end, after which no sync runs
+  abbrev pub joined_fits : c.joins → (new : Fact) → IsFirst l new → l.ballot p ≡ epoch_number new.epoch → (l.fact p).epoch < epoch_number new.epoch
       → (phase : Phase) → PhaseHolds (join l p (epoch_number new.epoch)) p new phase → Fits c (join l p (epoch_number new.epoch)) (record x { fact = new; phase = phase; sync = None }) (Some new)
-  joined_fits new is_first stands newer phase holds = record {
-    reaches = join_reaches c l h.reaches (epoch_number new.epoch) is_first.later is_first.known.elected stands newer;
+  joined_fits may new is_first stands newer phase holds = record {
+    reaches = join_reaches c l h.reaches may (epoch_number new.epoch) is_first.later is_first.known.elected stands newer;
     peer = record {
       saved = first_saved l (join l p (epoch_number new.epoch)) p new (join_keeps l p (epoch_number new.epoch) stands) is_first stands (put_here l.fact p (record { epoch = epoch_number new.epoch; seq = 1 }));
       kept = refl;

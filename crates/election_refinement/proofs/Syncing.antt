@@ -80,9 +80,9 @@ module _ {c : Course} {l : Ledger} {x : State} {stored : Option Fact} (h : Fits 
   pub stands_at : l.ballot p ≡ epoch_number new.epoch
   stands_at = h.peer.saved.ballot ∙ ap epoch_number (sym may.promised)
 
-  -- the peer accepts the fact of the sync, and trusts its tree
-  abbrev pub synced_fits : Fits c (join l p (epoch_number new.epoch)) (record x { fact = new; trusted = true; sync = None }) (Some new)
-  synced_fits = joined_fits (trusts h) new may.first stands_at (rw (ap (λ (place : Place). place.epoch) h.peer.saved.place) may.newer) x.phase
+  -- the peer accepts the fact of the sync, where syncs may end, and trusts its tree
+  abbrev pub synced_fits : c.joins → Fits c (join l p (epoch_number new.epoch)) (record x { fact = new; trusted = true; sync = None }) (Some new)
+  synced_fits joins = joined_fits (trusts h) joins new may.first stands_at (rw (ap (λ (place : Place). place.epoch) h.peer.saved.place) may.newer) x.phase
       (phase_joins l p x.fact new x.phase stands_at may h.peer.phase)
 
 -- a starting peer counts itself once it accepted its epoch

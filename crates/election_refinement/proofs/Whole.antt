@@ -17,13 +17,13 @@ use Rattle.election_refinement.proofs.Ticks.{aged_goes as tick_goes}
 use Rattle.election_refinement.specs.Refinement.{MessageHolds, PeerHolds, IsOrderly}
 use Rattle.election_refinement.specs.Worlds.{ledger_after}
 
--- Peer p takes steps `es`, newest first, on the row, and the run with them is a run. After them the
--- peer agrees with the ledger as the row leaves it, the row's message asserts what holds, and the peer
--- may sync on the fact on which a sync begins, if one does.
+-- Peer p takes steps `es`, newest first, on the row, and none of them ends a sync; the run with them is
+-- a run. After them the peer agrees with the ledger as the row leaves it, the row's message asserts what
+-- holds, and the peer may sync on the fact on which a sync begins, if one does.
 pub record RowGoes (view : List ℕ) (steps : List Step) (p : ℕ) (x : State) (stored : Option Fact) (r : State × PhaseOut) : Type 0 where
   pub es : List Step
   pub run : IsRun view (es ++ steps)
-  pub kinds : AreRowSteps p es
+  pub kinds : AreRowSteps ⊥ p es
   pub keeps : Keeps (ledger_after view steps) (ledger_after view (es ++ steps)) p
   pub orderly : IsOrderly (ledger_after view (es ++ steps))
   pub peer : PeerHolds (ledger_after view (es ++ steps)) p (settled p r.1 r.0) (stored_in r.1.save stored)
@@ -33,9 +33,9 @@ pub record RowGoes (view : List ℕ) (steps : List Step) (p : ℕ) (x : State) (
 -- the peer after a run
 module _ (view : List ℕ) (steps : List Step) (p : ℕ) (is_peer : IsPeer p) (run : IsRun view steps) (orderly : IsOrderly (ledger_after view steps))
     {x : State} {stored : Option Fact} (holds : PeerHolds (ledger_after view steps) p x stored) where
-  -- the beginning of a row: the run has all steps so far
+  -- the beginning of a row: the run has all steps so far, and no sync ends
   abbrev pub course : Course
-  course = record { view = view; steps = steps; peer = p; is_peer = is_peer }
+  course = record { view = view; steps = steps; peer = p; is_peer = is_peer; joins = ⊥ }
 
   pub here : Fits course (ledger_after view steps) x stored
   here = record { reaches = record { more = []; kinds = tt; run = run; same = refl; orderly = orderly }; peer = holds }

@@ -42,7 +42,7 @@ use Rattle.world_stores.specs.Objects.{Objects}
 use Rattle.world_spec.specs.Lines.{call_of, set_of, everyone, with_loss, effect, counted, applied}
 use Rattle.world_spec.specs.Nodes.{Node, Up, Down, Taken, taken, taken_by, taken_of, run_over, started, stopped, over_stores, while_down}
 use Rattle.world_spec.specs.Stores.{failing, leaves_of, spoiled, segment_spoiled, inner_spoiled, taken_back}
-use Rattle.world_spec.specs.Runs.{Run, place_of, frame_from, posted_all, with_taken, stepped, stepped_at, changed, changed_at, ticked, received_if, delivered, delivered_if, going_on, calmed}
+use Rattle.world_spec.specs.Runs.{Run, place_of, frame_from, posted_all, with_taken, stepped, stepped_at, changed, changed_at, with_start, ticked, received_if, delivered, delivered_if, going_on, calmed}
 use Rattle.election_refinement.proofs.Keeps.{Keeps, keeps_none, node_keeps, frames_keep}
 use Rattle.election_refinement.proofs.Loops.{EventHolds, Here, Rests, Good, LeavesFact, step_good, start_good}
 use Rattle.election_refinement.proofs.Reaching.{Course, Reaches}
@@ -103,15 +103,15 @@ record Agrees (c : Course) (before : Ledger) (t : Taken) : Type 0 where
 
 -- nothing is put out
 abbrev silent : Node → Taken
-silent node = record { node = node; out = nothing; notes = [] }
+silent node = record { node = node; out = nothing; notes = []; hashed = [] }
 
 module _ (c : Course) (before : Ledger) where
   silenced : (t : Taken) → Agrees c before t → Agrees c before (silent t.node)
   silenced t h = record { ledger = h.ledger; keeps = h.keeps; reaches = h.reaches; node = h.node; sends = All-nil (SendHolds h.ledger c.peer) }
 
   -- the node is down, and its stores keep a fact that agrees with the run
-  down : (st : HeldStores) (ns : List Note) → Rests c before st.facts.kept → Agrees c before (record { node = Down st; out = nothing; notes = ns })
-  down st ns r = record { ledger = r.ledger; keeps = r.keeps; reaches = r.reaches; node = r.kept; sends = All-nil (SendHolds r.ledger c.peer) }
+  down : (st : HeldStores) (ns : List Note) (strings : List (List ℕ)) → Rests c before st.facts.kept → Agrees c before (record { node = Down st; out = nothing; notes = ns; hashed = strings })
+  down st ns strings r = record { ledger = r.ledger; keeps = r.keeps; reaches = r.reaches; node = r.kept; sends = All-nil (SendHolds r.ledger c.peer) }
 
   -- a put keeps the fact, whether it fails or not
   put_keeps : (o : Option Leaves) (key bytes : List ℕ) (new : Objects) (h : Held)
@@ -142,7 +142,7 @@ module _ (c : Course) (before : Ledger) where
   other_end : (call : StoreCall) (next : AnswerOf call → Plan State) (h : Held) (ns : List Note) (r : Result (AnswerOf call) PeerError) → Rests c before (answered call h).held.stores.facts.kept
       → ((a : AnswerOf call) → Agrees c before (taken_of (run (next a) (answered call h).held ns))) → Agrees c before (taken_of (goes_on_from call next (answered call h).held ns r))
   other_end call next h ns (Ok a) rests goes = goes a
-  other_end call next h ns (Err error) rests goes = down (answered call h).held.stores ns rests
+  other_end call next h ns (Err error) rests goes = down (answered call h).held.stores ns (answered call h).held.hashed rests
 
   asked_end : (call : StoreCall) (next : AnswerOf call → Plan State) (h : Held) (ns : List Note) → LeavesFact call → Rests c before h.stores.facts.kept
       → ((a : AnswerOf call) → Agrees c before (taken_of (run (next a) (answered call h).held ns))) → Agrees c before (taken_of (run (Ask call next) h ns))
@@ -153,8 +153,8 @@ module _ (c : Course) (before : Ledger) where
       → Agrees c before (taken_of (run (next tt) (with_facts (record h.stores.facts { kept = Some fact }) h) ns))
       → Agrees c before (taken_of (let r : Answered (Save fact) = unless_failing o (record { result = Ok tt; held = with_facts (record h.stores.facts { kept = Some fact }) h }) (λ leaves. record { result = Err StoreFault; held = with_facts (facts_failed h.stores.facts (record h.stores.facts { kept = Some fact }) leaves) h }) in goes_on_from (Save fact) next r.held ns r.result))
   saved_end None fact next h ns old new done = done
-  saved_end (Some left.Old) fact next h ns old new done = down _ ns old
-  saved_end (Some left.New) fact next h ns old new done = down _ ns new
+  saved_end (Some left.Old) fact next h ns old new done = down _ ns _ old
+  saved_end (Some left.New) fact next h ns old new done = down _ ns _ new
 
   -- a plan leaves the peer in agreement with the run, however it ends
   every_end : (plan : Plan State) (h : Held) (ns : List Note) → Good c before plan h.stores.facts.kept → Agrees c before (taken_of (run plan h ns))
@@ -185,9 +185,9 @@ module _ (view : List ℕ) (steps : List Step) (spared : ℕ → Type 0) where
   abbrev ledger_of : (w : Run) → GoesOn view steps w → Ledger
   ledger_of w g = ledger_after view (g.more ++ steps)
 
-  -- the beginning of a step of a peer: the run has all steps so far
+  -- the beginning of a step of a peer: the run has all steps so far, and syncs may end
   abbrev course : (p : ℕ) → IsPeer p → (w : Run) → GoesOn view steps w → Course
-  course p peer w g = record { view = view; steps = g.more ++ steps; peer = p; is_peer = peer }
+  course p peer w g = record { view = view; steps = g.more ++ steps; peer = p; is_peer = peer; joins = Unit {0} }
 
   -- ## A step of a peer
 
@@ -239,7 +239,7 @@ module _ (view : List ℕ) (steps : List Step) (spared : ℕ → Type 0) where
 
     -- the plan of a step from this state
     step_is_good : (event : Event) (x : State) (stored : Option Fact) → PeerHolds (ledger_of w g) p x stored → EventHolds (ledger_of w g) event → Good (course p peer w g) (ledger_of w g) (step_of p event x) stored
-    step_is_good event x stored holds event_holds = step_good (course p peer w g) (ledger_of w g) event x stored here event_holds
+    step_is_good event x stored holds event_holds = step_good (course p peer w g) (ledger_of w g) tt event x stored here event_holds
       where
         here : Here (course p peer w g) (ledger_of w g) x stored nothing
         here = record {
@@ -258,7 +258,7 @@ module _ (view : List ℕ) (steps : List Step) (spared : ℕ → Type 0) where
 
     -- a spared peer stays one
     finished_spared : (e : Ended State) → Finishes (λ y out. IsYoung y.phase) e → IsSpared (taken_of e).node
-    finished_spared e f = subst (λ (k : Ending State). IsSpared (taken_by k e.held.stores e.notes).node) (sym f.finished.ending) (f.finished.none, f.holds)
+    finished_spared e f = subst (λ (k : Ending State). IsSpared (taken_by k e.held e.notes).node) (sym f.finished.ending) (f.finished.none, f.holds)
 
     taken_spared : (event : Event) (node : Node) → MayCome p event → IsSpared node → IsSpared (taken p event node).node
     taken_spared event (Up x st) come spare = finished_spared (run_over (step_of p event x) st) (run_finishes (λ y out. IsYoung y.phase) (step_of p event x) (held_with st []) [] (steps_young p event x peer come spare.1) spare.0)
@@ -420,7 +420,8 @@ module _ (view : List ℕ) (steps : List Step) (spared : ℕ → Type 0) where
     effect_refines (Stop peer) w may spares a =
         changed_refines peer (is_peer peer may.first may.last) stopped w a (stopped_agrees peer (is_peer peer may.first may.last) w a.on) (λ is_spared node up. absurd (not_spared peer (is_peer peer may.first may.last) (spares (place_of peer) is_spared))) (stopped_own peer)
     effect_refines (Start peer) w may spares a =
-        changed_refines peer (is_peer peer may.first may.last) (started w.view) w a (started_agrees peer (is_peer peer may.first may.last) w a.on w.view) (λ is_spared. started_spared w.view) (started_own peer w.view)
+        resent (changed peer (started w.view) w) (with_start peer w) refl refl
+        (changed_refines peer (is_peer peer may.first may.last) (started w.view) w a (started_agrees peer (is_peer peer may.first may.last) w a.on w.view) (λ is_spared. started_spared w.view) (started_own peer w.view))
     effect_refines (Spoil peer key bytes) w may spares a = over_refines peer (is_peer peer may.0.first may.0.last) (spoiled key bytes) (λ st. refl) (λ is_spared st none. record { facts = none.facts; tree = none.tree; backend = none.backend }) w a
     effect_refines (Damage peer key bytes) w may spares a =
         over_refines peer (is_peer peer may.0.first may.0.last) (segment_spoiled key bytes) (λ st. refl) (λ is_spared st none. record { facts = none.facts; tree = none.tree; backend = none.backend }) w a

@@ -1,2 +1,3 @@
 pub mod Refinement
 pub mod Worlds
+pub mod Plain

@@ -21,9 +21,11 @@
 //! and `proofs/Syncing` the end of a sync. `proofs/Loops` takes them all through a step, and
 //! `proofs/Worlds` takes steps through the lines of a schedule.
 //!
-//! A crate that follows the whole state of the abstract protocol takes the rows of a phase from two
+//! A crate that follows the whole state of the abstract protocol takes the rows of a phase from three
 //! further files: `proofs/Whole` has the steps that a peer takes on a row, and `proofs/Parts` has what
 //! the row does to the peer's part in leading: whether it begins an epoch, leads it, or neither.
+//! `proofs/Plain` shows of a schedule without changes of the view, starts and damage that no row begins
+//! a sync; `specs/Plain` says what peers and messages are then like.
 #![tactic(auto)]
 
 mod laws;
