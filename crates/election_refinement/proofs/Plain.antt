@@ -1,9 +1,10 @@
 -- In a schedule without changes of the view, without starts and without damage no peer ever begins a
 -- sync: the row of a plain peer, for a plain message if it is one for a message, leaves the peer plain,
 -- sends a plain message, and is followed by no sync.
-use Rattle.std.specs.Prelude.{All}
-use Rattle.std.proofs.Common.{◌≡◌, ℕ, zero, suc, ◌+◌, ◌-◌, ◌^◌, Bool, true, not, ◌&&◌, ◌||◌, ◌==◌, if◌then◌else◌, List, [], ◌∷◌, Option, None, refl, ap, ◌∙◌, sym, subst}
+use Rattle.std.specs.Prelude.{All, max}
+use Rattle.std.proofs.Common.{◌≡◌, ◌<◌, ◌≤◌, ℕ, zero, suc, ◌+◌, ◌-◌, ◌^◌, Bool, true, false, not, ◌&&◌, ◌||◌, ◌==◌, if◌then◌else◌, List, [], ◌∷◌, Option, None, lit<, arith, refl, ap, ◌∙◌, sym, subst}
 use Rattle.std.proofs.lemmas.Bool.{false≢true}
+use Rattle.std.proofs.lemmas.Bool.Decides.{nat_tests}
 use Rattle.std.proofs.lemmas.List.Elements.{All-nil, All-cons, All-append}
 use Rattle.call_table.specs.Calls.{has_calls}
 use Rattle.ens_base.specs.PeerSet.{holds}
@@ -49,6 +50,7 @@ use Rattle.wire_frames.specs.declared.phase.PhaseOut.{PhaseOut}
 use Rattle.wire_frames.specs.declared.phase.Then.{Then}
 use Rattle.wire_frames.specs.declared.phase.Then.TheVariants as thens
 use Rattle.election_refinement.proofs.Calls.{IsOfCalls, tick_stays}
+use Rattle.election_refinement.proofs.Numbers.{same_epochs}
 use Rattle.election_refinement.proofs.Rows.{settled}
 use Rattle.election_refinement.proofs.Tests.{by_test}
 use Rattle.election_refinement.specs.Plain.{IsPlainFact, IsPlainLeadership, IsPlainPhase, IsPlainPeer, IsPlainMessage, SaysPlain, IsPlainThen}
@@ -63,16 +65,16 @@ pub record GoesPlain (view : List ℕ) (p : ℕ) (r : State × PhaseOut) : Type 
 
 module _ {view : List ℕ} where
   -- a plain fact at another ballot
-  raised : (f : Fact) (ballot : Epoch) → IsPlainFact view f → IsPlainFact view (at_ballot f ballot)
-  raised f ballot plain = record { views = plain.views; change = plain.change }
+  raised : (f : Fact) (ballot : Epoch) → IsPlainFact view f → ballot.count < 2 ^ 64 → IsPlainFact view (at_ballot f ballot)
+  raised f ballot plain low = record { views = plain.views; change = plain.change; count = low }
 
   -- the opening view alone follows a plain fact
   pub views_after_plain : (f : Fact) → IsPlainFact view f → views_after f ≡ view ∷ []
   views_after_plain f plain = ap (λ (change : Change). changed_views change f.views) plain.change ∙ plain.views
 
   -- the first fact of an epoch that is based on a plain one
-  first_plain : (fact base : Fact) (me : ℕ) → IsPlainFact view base → IsPlainFact view (first_fact fact me (views_after base))
-  first_plain fact base me plain = record { views = views_after_plain base plain; change = refl }
+  first_plain : (fact base : Fact) (me : ℕ) → IsPlainFact view base → IsPlainFact view fact → IsPlainFact view (first_fact fact me (views_after base))
+  first_plain fact base me plain own = record { views = views_after_plain base plain; change = refl; count = own.count }
 
   -- a peer that trusts its tree may accept a plain fact at once
   pub may_accept_plain : (trusted : Bool) (me : ℕ) (new : Fact) → trusted ≡ true → IsPlainFact view new → may_accept trusted me new ≡ true
@@ -85,6 +87,24 @@ starts_now : (P : Election × PhaseOut → Type 0) (trusted : Bool) (me : ℕ) (
     → P (Starting new (alone me) 0, saves_and_sends new (others_of me (members new.views)) (messages.NewEpoch new) (thens.Rule 14)) → P (starts trusted me new)
 unfolding starts
 starts_now P trusted me new may now = by_test P (may_accept trusted me new) _ _ (λ is. now) (λ may_not. absurd (false≢true (sym may_not ∙ may)))
+
+-- the greater of two counts
+greater : (a b : ℕ) → a < 2 ^ 64 → b < 2 ^ 64 → max a b < 2 ^ 64
+greater a b low small = omega (arith, low, small)
+
+-- a count that is not the last one has a next one
+one_more : (other : Bool) (count : ℕ) → (other || count == 2 ^ 64 - 1) ≡ false → count < 2 ^ 64 → count + 1 < 2 ^ 64
+one_more other count not_last low = less_one
+  where
+    last_is : (b c : Bool) → (b || c) ≡ false → c ≡ false
+    last_is false c e = e
+    last_is true c e = absurd (false≢true (sym e))
+
+    not_equal : (n last : ℕ) → (n == last) ≡ false → n ≤ last → n < last
+    not_equal n last other le = grind (arith, nat_tests)
+
+    less_one : count + 1 < 2 ^ 64
+    less_one = let less = not_equal count (2 ^ 64 - 1) (last_is other (count == 2 ^ 64 - 1) not_last) (omega (arith, low)) in omega (arith, less)
 
 -- ## The rows of a plain peer
 
@@ -104,8 +124,8 @@ module _ {view : List ℕ} {x : State} (h : IsPlainPeer view x) (p : ℕ) where
   rule_8 : (phase : Phase) (from : ℕ) (reply : Fact) → IsPlainPhase view phase → IsPlainFact view reply → G (while_8 phase p from reply x)
   rule_8 (phases.Probing b) from reply old told =
       by_test (λ (r : Probing × PhaseOut). G (probing r.0 x, r.1)) (is_newer reply b.best) _ _
-      (λ newer. goes h.fact told h.trusted h.sync tt tt)
-      (λ older. goes h.fact old h.trusted h.sync tt tt)
+      (λ newer. goes h.fact (record { best = told; count = greater b.count reply.ballot.count old.count told.count }) h.trusted h.sync tt tt)
+      (λ older. goes h.fact (record { best = old.best; count = greater b.count reply.ballot.count old.count told.count }) h.trusted h.sync tt tt)
   rule_8 other from reply old told = quiet
 
   rule_9 : (phase : Phase) → IsPlainPhase view phase → G (while_9 phase x)
@@ -117,15 +137,15 @@ module _ {view : List ℕ} {x : State} (h : IsPlainPeer view x) (p : ℕ) where
 
   -- ## Preparing
 
-  prepares : (best : Fact) (count : ℕ) → IsPlainFact view best → G (prepared p best count x)
-  prepares best count plain =
+  prepares : (best : Fact) (count : ℕ) → IsPlainFact view best → count < 2 ^ 64 → G (prepared p best count x)
+  prepares best count plain low =
       by_test (λ (r : PhaseOut × Option Election). G (stood r.1 x, r.0)) (not (is_member (views_after best) p) || count == 2 ^ 64 - 1) _ _
       (λ stranger. goes h.fact tt h.trusted refl tt tt)
-      (λ member. goes (raised x.fact (record { count = count + 1; proposer = p }) h.fact) plain h.trusted refl tt tt)
+      (λ member. let more = one_more (not (is_member (views_after best) p)) count member low in goes (raised x.fact (record { count = count + 1; proposer = p }) h.fact more) plain h.trusted refl more tt)
 
   rule_10 : (phase : Phase) → IsPlainPhase view phase → G (while_10 phase p x)
-  rule_10 (phases.Probing b) old = prepares b.best b.count old
-  rule_10 (phases.Leading leadership) old = prepares x.fact x.fact.ballot.count h.fact
+  rule_10 (phases.Probing b) old = prepares b.best b.count old.best old.count
+  rule_10 (phases.Leading leadership) old = prepares x.fact x.fact.ballot.count h.fact h.fact.count
   rule_10 other old = quiet
 
   abbrev Elects : Election × PhaseOut → Type 0
@@ -134,7 +154,7 @@ module _ {view : List ℕ} {x : State} (h : IsPlainPeer view x) (p : ℕ) where
   rule_12 : (phase : Phase) (from : ℕ) (ballot : Epoch) (promised : Fact) → IsPlainPhase view phase → IsPlainFact view promised → G (while_12 phase p from ballot promised x)
   rule_12 (phases.Electing (Preparing base promises asked age)) from ballot promised old told =
       by_test Elects (is_same ballot x.fact.ballot) _ _
-      (λ own. by_test Elects (is_newer promised base) _ _ (λ newer. goes h.fact told h.trusted h.sync tt tt) (λ older. goes h.fact old h.trusted h.sync tt tt))
+      (λ own. by_test Elects (is_newer promised base) _ _ (λ newer. goes h.fact told h.trusted h.sync (subst (λ (e : Epoch). e.count < 2 ^ 64) (sym (same_epochs ballot x.fact.ballot own)) h.fact.count) tt) (λ older. goes h.fact old h.trusted h.sync tt tt))
       (λ other. goes h.fact old h.trusted h.sync tt tt)
   rule_12 (phases.Electing (Starting new accepts age)) from ballot promised old told = goes h.fact old h.trusted h.sync tt tt
   rule_12 other from ballot promised old told = quiet
@@ -147,7 +167,7 @@ module _ {view : List ℕ} {x : State} (h : IsPlainPeer view x) (p : ℕ) where
   rule_13 (phases.Electing (Preparing base promises asked age)) old =
       by_test Elects (is_quorum (holds promises) base.views) _ _
       (λ quorum. by_test Elects (is_member (views_after base) p) _ _
-      (λ member. begins_epoch (first_fact x.fact p (views_after base)) (first_plain x.fact base p old))
+      (λ member. begins_epoch (first_fact x.fact p (views_after base)) (first_plain x.fact base p old h.fact))
       (λ stranger. goes h.fact tt h.trusted refl tt tt))
       (λ few. goes h.fact old h.trusted h.sync tt tt)
   rule_13 (phases.Electing (Starting new accepts age)) old = goes h.fact old h.trusted h.sync tt tt
@@ -210,10 +230,10 @@ module _ {view : List ℕ} {x : State} (h : IsPlainPeer view x) (p : ℕ) where
   abbrev Answers : PhaseOut → Type 0
   Answers row = G (x, row)
 
-  rule_11 : (from : ℕ) (ballot : Epoch) → Answers (row_11 x.fact from ballot)
-  rule_11 from ballot =
+  rule_11 : (from : ℕ) (ballot : Epoch) → ballot.count < 2 ^ 64 → Answers (row_11 x.fact from ballot)
+  rule_11 from ballot low =
       by_test Answers (is_below x.fact.ballot ballot) _ _
-      (λ below. goes (raised x.fact ballot h.fact) tt h.trusted refl (raised x.fact ballot h.fact) tt)
+      (λ below. goes (raised x.fact ballot h.fact low) tt h.trusted refl (raised x.fact ballot h.fact low) tt)
       (λ not_below. by_test Answers (is_same ballot x.fact.ballot) _ _
       (λ same. quiet)
       (λ other. goes h.fact h.phase h.trusted h.sync tt tt))
@@ -263,7 +283,7 @@ module _ {view : List ℕ} {x : State} (h : IsPlainPeer view x) (p : ℕ) where
 
   rules_2_to_4 : (phase : Phase) → IsPlainPhase view phase → G (aged phase p x)
   rules_2_to_4 (phases.Following f) old = rule_2 f
-  rules_2_to_4 (phases.Probing b) old = anew (phases.Probing (record b { age = b.age + 1 })) (b.age + 1 == 6) old
+  rules_2_to_4 (phases.Probing b) old = anew (phases.Probing (record b { age = b.age + 1 })) (b.age + 1 == 6) (record { best = old.best; count = old.count })
   rules_2_to_4 (phases.Electing (Preparing base promises asked age)) old = anew (phases.Electing (Preparing base promises asked (age + 1))) (age + 1 == 6) old
   rules_2_to_4 (phases.Electing (Starting new accepts age)) old =
       by_test (λ (row : PhaseOut). G (electing (Starting new accepts (age + 1)) x, row)) (age + 1 == 8) _ _
@@ -278,7 +298,7 @@ module _ {view : List ℕ} {x : State} (h : IsPlainPeer view x) (p : ℕ) where
   -- the row of a rule that a row names
   pub plain_phase_row : (n : ℕ) → GoesPlain view p (phase_row n p x)
   plain_phase_row n =
-      by_test G (n == 7) _ _ (λ is. goes h.fact h.fact h.trusted refl tt tt) (λ not.
+      by_test G (n == 7) _ _ (λ is. goes h.fact (record { best = h.fact; count = h.fact.count }) h.trusted refl tt tt) (λ not.
       by_test G (n == 9) _ _ (λ is. rule_9 x.phase h.phase) (λ not.
       by_test G (n == 10) _ _ (λ is. rule_10 x.phase h.phase) (λ not.
       by_test G (n == 13) _ _ (λ is. rule_13 x.phase h.phase) (λ not.
@@ -290,7 +310,7 @@ module _ {view : List ℕ} {x : State} (h : IsPlainPeer view x) (p : ℕ) where
   pub plain_received : (from : ℕ) (message : Message) → IsPlainMessage view message → GoesPlain view p (received p from message x)
   plain_received from messages.Probe told = goes h.fact h.phase h.trusted h.sync h.fact tt
   plain_received from (messages.ProbeReply fact) told = rule_8 x.phase from fact h.phase told
-  plain_received from (messages.Prepare ballot) told = rule_11 from ballot
+  plain_received from (messages.Prepare ballot) told = rule_11 from ballot told
   plain_received from (messages.Promise ballot fact) told = rule_12 x.phase from ballot fact h.phase told
   plain_received from (messages.Nack ballot cause) told = rule_15 x.phase ballot cause
   plain_received from (messages.NewEpoch fact) told = rule_16 from fact told
@@ -367,7 +387,7 @@ module _ {view : List ℕ} {l : Leadership} (h : IsPlainLeadership view l) where
 
 -- the state in which the peer starts
 pub plain_opening : (view : List ℕ) → IsPlainPeer view (first_state (opening_fact view) true)
-plain_opening view = record { fact = record { views = refl; change = refl }; phase = tt; trusted = refl; sync = refl }
+plain_opening view = record { fact = record { views = refl; change = refl; count = lit< tt }; phase = tt; trusted = refl; sync = refl }
 
 -- the start, whatever the stores answer
 pub plain_start : (view : List ℕ) → Reaches (λ x out. IsPlainPeer view x) (opened view None)

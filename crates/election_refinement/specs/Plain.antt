@@ -1,7 +1,7 @@
 -- Plain peers and plain messages: what a schedule has without changes of the view, without starts and
 -- without damage. Every fact has the opening view alone and no change, every peer trusts its tree, and
 -- no sync runs.
-use Rattle.std.specs.Prelude.{◌≡◌, ℕ, true, List, [], ◌∷◌, Option, Some, None}
+use Rattle.std.specs.Prelude.{◌≡◌, ◌<◌, ◌^◌, ℕ, true, List, [], ◌∷◌, Option, Some, None}
 use Rattle.election.specs.declared.election.Election.{Election}
 use Rattle.election.specs.declared.election.Election.TheVariants.{Preparing, Starting}
 use Rattle.peer_core.specs.declared.state.ChangeState.TheVariants.{Settled}
@@ -11,15 +11,22 @@ use Rattle.peer_core.specs.declared.state.Phase.TheVariants as phases
 use Rattle.peer_core.specs.declared.state.State.{State}
 use Rattle.peer_fact.specs.declared.fact.Change.TheVariants as changes
 use Rattle.peer_fact.specs.declared.fact.Fact.{Fact}
+use Rattle.probe.specs.declared.probing.Probing.{Probing}
 use Rattle.wire_frames.specs.declared.message.Message.{Message}
 use Rattle.wire_frames.specs.declared.message.Message.TheVariants as messages
 use Rattle.wire_frames.specs.declared.phase.Then.{Then}
 use Rattle.wire_frames.specs.declared.phase.Then.TheVariants as thens
 
--- a fact of the opening view alone, without a change
+-- a fact of the opening view alone, without a change; the count of its ballot has 64 bits
 pub record IsPlainFact (view : List ℕ) (f : Fact) : Type 0 where
   pub views : f.views ≡ view ∷ []
   pub change : f.change ≡ changes.None
+  pub count : f.ballot.count < 2 ^ 64
+
+-- a probing peer, whose best fact is plain and whose count has 64 bits
+pub record IsPlainProbing (view : List ℕ) (probing : Probing) : Type 0 where
+  pub best : IsPlainFact view probing.best
+  pub count : probing.count < 2 ^ 64
 
 -- a leader of a plain fact that has begun no change
 pub record IsPlainLeadership (view : List ℕ) (l : Leadership) : Type 0 where
@@ -33,7 +40,7 @@ IsPlainElection view (Starting new accepts age) = IsPlainFact view new
 -- the facts in the phase are plain
 abbrev pub IsPlainPhase : List ℕ → Phase → Type 0
 IsPlainPhase view (phases.Following follower) = Unit {0}
-IsPlainPhase view (phases.Probing probing) = IsPlainFact view probing.best
+IsPlainPhase view (phases.Probing probing) = IsPlainProbing view probing
 IsPlainPhase view (phases.Electing election) = IsPlainElection view election
 IsPlainPhase view (phases.Leading leadership) = IsPlainLeadership view leadership
 
@@ -44,10 +51,11 @@ pub record IsPlainPeer (view : List ℕ) (x : State) : Type 0 where
   pub trusted : x.trusted ≡ true
   pub sync : x.sync ≡ None
 
--- the fact in the message is plain; messages of changes and of syncs are none, nor are the frames of
--- clients
+-- the fact in the message is plain, and the count of a ballot that is prepared has 64 bits; messages of
+-- changes and of syncs are none, nor are the frames of clients
 abbrev pub IsPlainMessage : List ℕ → Message → Type 0
 IsPlainMessage view (messages.ProbeReply fact) = IsPlainFact view fact
+IsPlainMessage view (messages.Prepare ballot) = ballot.count < 2 ^ 64
 IsPlainMessage view (messages.Promise ballot fact) = IsPlainFact view fact
 IsPlainMessage view (messages.NewEpoch fact) = IsPlainFact view fact
 IsPlainMessage view (messages.Commit fact) = ⊥
