@@ -1,0 +1,69 @@
+-- What the step of a peer stands on is proved: its tasks of phases, the messages that come to it, and its ticks end well.
+use Rattle.std.proofs.Common.{inl, ℕ, List, [], ◌∷◌}
+use Rattle.held_stores.specs.Held.{Held}
+use Rattle.peer_core.specs.Drives.{delivered}
+use Rattle.peer_core.specs.declared.state.Phase.{Phase}
+use Rattle.peer_core.specs.declared.state.Phase.TheVariants as phases
+use Rattle.peer_core.specs.declared.state.State.{State as PeerState}
+use Rattle.step_plans.specs.Plans.{Out, nothing, Rest}
+use Rattle.step_plans.specs.declared.tasks.Task.{Task}
+use Rattle.step_plans.specs.declared.tasks.Task.TheVariants as tasks
+use Rattle.wire_frames.specs.declared.message.Message.{Message}
+use Rattle.wire_frames.specs.declared.message.Message.TheVariants as messages
+use Rattle.call_refinement.proofs.Driving.{PhasesGood}
+use Rattle.call_refinement.proofs.Frame.{Scene, now, AtRest, MessageComes, Ends, Onward}
+use Rattle.call_refinement.proofs.Keys.{run_keys_few, run_ids_few}
+use Rattle.call_refinement.proofs.Looking.{stores_answer}
+use Rattle.call_refinement.proofs.PhaseTasks as elections
+use Rattle.call_refinement.proofs.Requests.{check_good, got_good, put_in_good}
+use Rattle.call_refinement.proofs.Stepping.{IsElse, OthersGood, StepGrounds}
+use Rattle.call_refinement.proofs.Tasks.{Wait, phases_wait, PhasesNext, TasksFit}
+
+-- no task waits
+none_waits : (phase : Phase) → Wait phase []
+none_waits (phases.Leading l) = tt
+none_waits (phases.Following f) = tt
+none_waits (phases.Probing b) = tt
+none_waits (phases.Electing e) = tt
+
+module _ (c : Scene) where
+  open c use {peer as p}
+
+  phases_good : PhasesGood c
+  phases_good = elections.phases_good c
+
+  module _ (x : PeerState) (h : Held) (rest : AtRest c [] x h nothing []) (next mark : Rest PeerState (List Task)) (go : Onward c (TasksFit c) next mark) where
+    -- after a rule that names rules of phases
+    names_phases : Onward c (PhasesNext c) next mark
+    names_phases ts k y g o ns there = go ts k y g o ns (inl ((there.1, phases_wait y.phase ts there.0)))
+
+    -- after a reply
+    replies : (t : Held) (o : Out) → AtRest c [] x t o [] → Ends c (next [] x o) (mark [] x o) t []
+    replies t o there = go [] [] x t o [] (inl ((there, none_waits x.phase)))
+
+    message_good : (from : ℕ) (message : Message) → IsElse message → MessageComes c from message (now c rest.0.reached) → Ends c (delivered p from message x nothing next) (delivered p from message x nothing mark) h []
+    message_good from (messages.Check ballot round) is comes = check_good c rest.0 rest.1 next mark replies from ballot round comes
+    message_good from (messages.Get ballot round key) is comes = got_good c rest.0 rest.1 next mark replies stores_answer from ballot round key comes
+    message_good from (messages.Put ballot o) is comes = put_in_good c rest.0 rest.1 next mark replies stores_answer run_keys_few from ballot o comes
+    message_good from messages.Probe is comes = elections.received_good c [] x h nothing [] rest next mark names_phases from messages.Probe tt comes.holds comes.plain
+    message_good from (messages.ProbeReply fact) is comes = elections.received_good c [] x h nothing [] rest next mark names_phases from (messages.ProbeReply fact) tt comes.holds comes.plain
+    message_good from (messages.Prepare ballot) is comes = elections.received_good c [] x h nothing [] rest next mark names_phases from (messages.Prepare ballot) tt comes.holds comes.plain
+    message_good from (messages.Promise ballot fact) is comes = elections.received_good c [] x h nothing [] rest next mark names_phases from (messages.Promise ballot fact) tt comes.holds comes.plain
+    message_good from (messages.Nack ballot cause) is comes = elections.received_good c [] x h nothing [] rest next mark names_phases from (messages.Nack ballot cause) tt comes.holds comes.plain
+    message_good from (messages.NewEpoch fact) is comes = elections.received_good c [] x h nothing [] rest next mark names_phases from (messages.NewEpoch fact) tt comes.holds comes.plain
+    message_good from (messages.Accepted ballot seq) is comes = elections.received_good c [] x h nothing [] rest next mark names_phases from (messages.Accepted ballot seq) tt comes.holds comes.plain
+    message_good from (messages.Beat ballot) is comes = elections.received_good c [] x h nothing [] rest next mark names_phases from (messages.Beat ballot) tt comes.holds comes.plain
+    message_good from (messages.GetReply ballot round key entry object) is comes = absurd is
+    message_good from (messages.PutReply ballot key version) is comes = absurd is
+    message_good from (messages.CheckReply ballot round) is comes = absurd is
+    message_good from other is comes = absurd comes.plain
+
+  others_good : OthersGood c
+  others_good = record {
+    messages_good = λ from message is x h rest comes next mark go. message_good x h rest next mark go from message is comes;
+    ticks_good = λ x h rest follows next mark go. elections.tick_good c [] x h nothing [] rest next mark (names_phases x h rest next mark go) follows;
+  }
+
+-- all of it is there
+pub step_grounds : StepGrounds
+step_grounds = record { keys = run_keys_few; ids = run_ids_few; phases_good = phases_good; others = others_good }

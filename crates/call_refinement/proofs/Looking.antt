@@ -1,0 +1,618 @@
+-- What a rule asks of the peer's own tree and backend. Over a whole tree the entry of a key is
+-- found; an object of the backend comes with the digest of its bytes; and an object that is written
+-- is stored. The steps of the abstract protocol that belong to this are those of the peer's own
+-- tree: a write, and an acknowledgement.
+use Rattle.std.proofs.Common.{◌≡◌, ◌⊎◌, inl, inr, ◌<◌, ◌≤◌, ◌^◌, ℕ, Bool, true, false, ◌&&◌, if◌then◌else◌, List, [], ◌∷◌, ◌++◌, length, map, Option, None, Some, Ok, suc, arith, refl, sym, ap, subst, le_trans, ◌∙◌}
+use Rattle.std.specs.declared.cmp.Ordering.TheVariants.{Less, Equal}
+use Rattle.std.proofs.lemmas.Bool.{and_parts, cases_order}
+use Rattle.std.proofs.lemmas.Bool.Decides.{nat_tests}
+use Rattle.std.proofs.lemmas.Option.{none-some, same_Some}
+use Rattle.std.proofs.lemmas.List.Elements.{All-weaker}
+use Rattle.md5.specs.Md5.{md5}
+use Rattle.ens_base.proofs.Lists.{bytes_same}
+use Rattle.ens_base.specs.Epochs.{same_version}
+use Rattle.ens_base.specs.Lists.{◌∈◌, AreDistinct, same_bytes, bytes_cmp}
+use Rattle.ens_base.specs.declared.entry.Entry.{Entry}
+use Rattle.ens_base.specs.declared.epoch.Version.{Version}
+use Rattle.ens_fields.specs.Entries.{IsEntry}
+use Rattle.ens_object.specs.Objects.{IsObject, object_spelling}
+use Rattle.ens_object.specs.declared.object.Object.{Object}
+use Rattle.ens_outside.specs.Maps.{value_at}
+use Rattle.kept_objects.specs.Kept.{object_in, is_named, matching, entry_of}
+use Rattle.joint_views.proofs.Majorities.{meet_of_quorums, shares_itself}
+use Rattle.abstract_protocol.proofs.Ranks.{version_within}
+use Rattle.abstract_protocol.specs.Book.{version_of}
+use Rattle.abstract_protocol.specs.Ledger as ledger
+use Rattle.abstract_protocol.specs.Numbers.{epoch_number, IsVersion}
+use Rattle.abstract_protocol.specs.Objects.{epoch_of, set_entry, IsGenuine, MayAcknowledge}
+use Rattle.abstract_protocol.specs.Protocol.{State, Step, Write, Acknowledge, IsRun, state_after, happens, after, MayCome, MayAll}
+use Rattle.election_laws.proofs.Epochs.{not_empty}
+use Rattle.election_laws.proofs.Sound.{Sound, run_sound}
+use Rattle.version_laws.proofs.Maps.{epoch_mono, put_other}
+use Rattle.version_laws.proofs.Stays.{versions_then}
+use Rattle.version_laws.proofs.Trees.{run_versions}
+use Rattle.version_laws.specs.Versions.{VersionsAreSafe, IsSettled}
+use Rattle.entry_laws.proofs.Later.{stay_step}
+use Rattle.entry_laws.specs.Stays.{EntriesStay}
+use Rattle.call_table.specs.Best.{better}
+use Rattle.call_table.specs.Calls.{running}
+use Rattle.call_table.specs.Rows.{row_at}
+use Rattle.held_stores.specs.Answers.{Answered, answered}
+use Rattle.held_stores.specs.Held.{Held, and_hashed}
+use Rattle.leader_laws.proofs.Roles.{run_roles}
+use Rattle.leader_laws.specs.Leaders.{IsObjectOf}
+use Rattle.leader_laws.specs.Messages.{PutSays, GetReplySays}
+use Rattle.leader_laws.specs.Tables as theory
+use Rattle.leader_refinement.proofs.Numbers.{rank_back, rank_some, same_versions}
+use Rattle.leader_refinement.proofs.Steps.{fits_stay}
+use Rattle.leader_refinement.specs.Follows.{Hash as Digests, TaskHolds}
+use Rattle.leader_refinement.specs.Laws.{BackendSays, FoundSays, LookSays, LookNames}
+use Rattle.leader_refinement.specs.Seen.{rank, content_of, entry_rank, shown, owed_after}
+use Rattle.leader_words.specs.declared.out.Outgoing.{Outgoing}
+use Rattle.leading.specs.declared.pending.Pending.{Pending}
+use Rattle.peer_core.specs.Owns.{digested, read, kept, fetched, held, looked_at, looked, found_at, found, entered, written, confirmed}
+use Rattle.peer_core.specs.declared.state.Phase.{Phase}
+use Rattle.peer_core.specs.declared.state.Phase.TheVariants as phases
+use Rattle.peer_core.specs.declared.state.State.{State as PeerState}
+use Rattle.register_model.specs.declared.note.Note.{Note}
+use Rattle.register_model.specs.declared.call.Call.{Call as BookCall}
+use Rattle.request_refinement.proofs.Looks.{looks_so}
+use Rattle.request_refinement.proofs.Lookups.{in_put, lookup_in, lookup_key}
+use Rattle.request_refinement.proofs.Names.{version_decoded}
+use Rattle.request_refinement.proofs.Numbers.{version_fits}
+use Rattle.request_refinement.proofs.Staying.{put_entry, write_shows, entries_stay, maps_stay}
+use Rattle.request_refinement.specs.Naming.{hash_of, version_string, object_of_version, VersionSays, EntrySays, EntryMaySay, MayBeDecoded}
+use Rattle.request_refinement.specs.Replies.{MapSays, AllSpareTree, LookSees, IsShown, found_in}
+use Rattle.step_plans.specs.Calls.{Call, Find, Enter, Fetch, Put, Hash}
+use Rattle.step_plans.specs.Plans.{Plan, Ask, Out, Rest, asked}
+use Rattle.step_plans.specs.declared.walked.Walked.TheVariants.{Reached as Came}
+use Rattle.tree_maps.proofs.Names.{md5_run}
+use Rattle.tree_maps.proofs.Orders.{cmp_same}
+use Rattle.tree_maps.proofs.Parts.{ascends-put}
+use Rattle.tree_maps.specs.Entries.{lookup, put, IsBelowAll, Ascends}
+use Rattle.tree_refinement.proofs.Keeping.{grows, hashes, spares}
+use Rattle.tree_refinement.proofs.Whole.{finds, enters, keeps, serves}
+use Rattle.tree_refinement.specs.Laws.{KeepsRoot}
+use Rattle.tree_refinement.specs.Trees.{AreAmong, AreFree}
+use Rattle.tree_refinement.specs.Whole.{IsWhole}
+use Rattle.wire_frames.specs.declared.message.Message.{Message}
+use Rattle.wire_frames.specs.declared.message.Message.TheVariants as messages
+use Rattle.wire_frames.specs.declared.phase.Seen.{Seen}
+use Rattle.wire_frames.specs.declared.phase.Seen.TheVariants as seens
+use Rattle.world_stores.specs.declared.fact.HeldFact.{HeldFact}
+use Rattle.call_refinement.proofs.Frame.{Scene, state_before, Reached, now, Here, Ends, ask_ends}
+use Rattle.call_refinement.proofs.Moving.{stays_then}
+use Rattle.call_refinement.proofs.Staying.{version_stays, sends_stay, phase_stays}
+use Rattle.call_refinement.specs.Keys.{KeysAreFew}
+use Rattle.call_refinement.specs.Peers.{TreeHolds, AcksSay, PhaseFits, TaskFits, IsAtRest, MessageFits, SendFits}
+use Rattle.call_refinement.specs.Roles.{role_in, said_in_sends}
+
+-- ## What the stores answer
+
+-- what the stores of a peer answer to the calls of a step, while its tree is whole and no failure
+-- waits
+pub record StoresAnswer : Type 0 where
+  -- a find returns the entry that the map has for the key
+  pub finds : (h : Held) (m : List Entry) (key : List ℕ) → IsWhole h m → (answered (Find key) h).result ≡ Ok (Came (lookup key m))
+  -- an entering puts its entry into the map
+  pub enters : (strings : List (List ℕ)) (h : Held) (m : List Entry) (e : Entry) → AreFree strings → AreAmong (answered (Enter e) h).held.hashed strings → IsEntry e → length (put e m) < 2 ^ 32 → IsWhole h m
+      → ((answered (Enter e) h).result ≡ Ok (Came tt)) × IsWhole (answered (Enter e) h).held (put e m)
+  -- a call that gives the tree no other root leaves it whole
+  pub keeps : (call : Call) (h : Held) (m : List Entry) → KeepsRoot call → IsWhole h m → IsWhole (answered call h).held m
+  -- a put is not refused
+  pub puts : (key bytes : List ℕ) (h : Held) (m : List Entry) → IsWhole h m → (answered (Put key bytes) h).result ≡ Ok tt
+
+-- so they do
+pub stores_answer : StoresAnswer
+stores_answer = record {
+  finds = finds;
+  enters = enters;
+  keeps = keeps;
+  puts = λ key bytes h m whole. ap (λ (a : Answered (Put key bytes)). a.result) (serves (Put key bytes) h whole.no_faults);
+}
+
+-- ## Settled versions
+
+-- some peer acknowledged the version
+abbrev IsAcked : State → ℕ → Type 0
+IsAcked s v = (q : ℕ) × (s.objects.acked v q ≡ true)
+
+settled_acked : (s : State) → Sound s.objects.ledger → VersionsAreSafe s.objects → (v : ℕ) → s.objects.settled v ≡ true → IsAcked s v
+settled_acked s sound safe v settled = by_settled (safe.settled v settled)
+  where
+    by_settled : IsSettled s.objects v → IsAcked s v
+    by_settled is =
+        let views = s.objects.ledger.views (epoch_of v) in
+        let some : 0 < length views = not_empty s.objects.ledger sound (epoch_of v) (safe.epochs v is.proposed).elected in
+        let both = (meet_of_quorums (s.objects.settled_by v) (s.objects.settled_by v) views views (shares_itself views some) is.quorum is.quorum).meet in
+        (both.peer, is.acked both.peer both.in_left)
+
+-- a settled version says what holds, since a quorum had acknowledged it
+pub settled_say : (view : List ℕ) (steps : List Step) (strings : List (List ℕ)) (v : Version) → IsRun view steps → AcksSay (state_after view steps) strings → IsVersion v → (state_after view steps).objects.settled (rank v) ≡ true → VersionSays (state_after view steps) strings v
+settled_say view steps strings v run acks fits settled =
+    let acked = settled_acked (state_after view steps) (run_sound view steps run) (run_versions view steps run) (rank v) settled in
+    acks v acked.0 fits acked.1
+
+-- a version that a peer may acknowledge says what holds: its tree shows that version, or a greater
+-- one of the same epoch, and then the version is settled
+may_acknowledge_says : (view : List ℕ) (steps : List Step) (strings : List (List ℕ)) (p : ℕ) (m : List Entry) (v : Version) → IsRun view steps → AcksSay (state_after view steps) strings → MapSays (state_after view steps) strings p m → IsVersion v
+    → MayAcknowledge (state_after view steps).objects p (rank v) → VersionSays (state_after view steps) strings v
+may_acknowledge_says view steps strings p m v run acks shows fits may = by_entry (lookup k m) refl
+  where
+    s : State
+    s = state_after view steps
+
+    k : List ℕ
+    k = s.objects.key (rank v)
+
+    safe : VersionsAreSafe s.objects
+    safe = run_versions view steps run
+
+    none_there : 0 < rank v → rank v ≤ s.objects.map p k → s.objects.map p k ≡ 0 → ⊥
+    none_there some has none = omega arith
+
+    -- the version in the tree is of the peer's ballot, or of a lower epoch
+    low : (u : ℕ) → 0 < u → IsGenuine s.objects (s.objects.ledger.ballot p) k u → epoch_of u ≤ s.objects.ledger.ballot p
+    low u some (inl none) = absurd (no_version some none)
+      where
+        no_version : 0 < u → u ≡ 0 → ⊥
+        no_version some none = omega arith
+    low u some (inr is) = is.2
+
+    same_epoch : (u : ℕ) → rank v ≤ u → epoch_of u ≤ s.objects.ledger.ballot p → epoch_of (rank v) ≡ epoch_of u
+    same_epoch u above low = equal (epoch_mono (rank v) u above) low may.stands
+      where
+        equal : epoch_of (rank v) ≤ epoch_of u → epoch_of u ≤ s.objects.ledger.ballot p → s.objects.ledger.ballot p ≡ epoch_of (rank v) → epoch_of (rank v) ≡ epoch_of u
+        equal a b e = omega arith
+
+    by_order : (e : Entry) → EntrySays s strings e → e.key ≡ k → s.objects.map p k ≡ rank e.version → (rank v ≡ rank e.version) ⊎ ((rank v < rank e.version) ⊎ (rank e.version < rank v)) → VersionSays s strings v
+    by_order e says on_key shown (inl same) = subst (λ (w : Version). VersionSays s strings w) (sym (rank_back e.version (version_fits e.version says.version.object.version)) ∙ ap version_of (sym same) ∙ rank_back v fits) says.version
+    by_order e says on_key shown (inr (inl less)) = settled_say view steps strings v run acks fits
+        (safe.chain (rank e.version) (rank v) says.version.proposed may.proposed (sym on_key ∙ says.key) (same_epoch (rank e.version) (under less) (low (rank e.version) (rank_some e.version) (subst (λ (u : ℕ). IsGenuine s.objects (s.objects.ledger.ballot p) k u) shown (safe.genuine.written p k)))) less).settled
+      where
+        under : rank v < rank e.version → rank v ≤ rank e.version
+        under h = omega arith
+    by_order e says on_key shown (inr (inr more)) = absurd (too_great more may.has shown)
+      where
+        too_great : rank e.version < rank v → rank v ≤ s.objects.map p k → s.objects.map p k ≡ rank e.version → ⊥
+        too_great more has shown = omega arith
+
+    by_entry : (entry : Option Entry) → lookup k m ≡ entry → VersionSays s strings v
+    by_entry None none = absurd (none_there (rank_some v) may.has (shows.map k ∙ ap entry_rank none))
+    by_entry (Some e) is = by_order e (shows.entries e (lookup_in k m e is)) (lookup_key k m e is) (shows.map k ∙ ap entry_rank is) (cases_order (rank v) (rank e.version))
+
+-- the version of a number has that number
+rank_again : (u : ℕ) → 0 < u → rank (version_of u) ≡ u
+unfolding version_of theory.version_at epoch_number
+rank_again u some = omega (arith, some)
+
+-- ## What stays
+
+-- only peer p acknowledges in the step
+abbrev pub AcksAlone : ℕ → Step → Type 0
+AcksAlone p (Acknowledge q v) = q ≡ p
+AcksAlone p step = Unit {0}
+
+acks_more : (view : List ℕ) (steps : List Step) (strings : List (List ℕ)) (p : ℕ) (m : List Entry) → IsRun view steps → AcksSay (state_after view steps) strings → MapSays (state_after view steps) strings p m
+    → (v : ℕ) → MayCome (state_after view steps) (Acknowledge p v) → AcksSay (happens (state_after view steps) (Acknowledge p v)) strings
+acks_more view steps strings p m run acks shows v may w q fits acked = version_stays (state_after view steps) (happens (state_after view steps) (Acknowledge p v)) strings (stay_step (state_after view steps) (Acknowledge p v) may) w (by_mark (either (state_after view steps).objects.acked v p (rank w) q acked))
+  where
+    either : (old : ℕ → ℕ → Bool) (n p m q : ℕ) → ledger.mark old n p m q ≡ true → (n ≡ m) ⊎ (old m q ≡ true)
+    either old n p m q h = grind (arith, nat_tests)
+
+    by_mark : (v ≡ rank w) ⊎ ((state_after view steps).objects.acked (rank w) q ≡ true) → VersionSays (state_after view steps) strings w
+    by_mark (inl same) = may_acknowledge_says view steps strings p m w run acks shows fits (subst (λ (u : ℕ). MayAcknowledge (state_after view steps).objects p u) same may.0)
+    by_mark (inr old) = acks w q fits old
+
+-- each acknowledged version still says what holds after a step
+pub acks_step : (view : List ℕ) (steps : List Step) (strings : List (List ℕ)) (p : ℕ) (m : List Entry) → IsRun view steps → AcksSay (state_after view steps) strings → MapSays (state_after view steps) strings p m
+    → (e : Step) → MayCome (state_after view steps) e → AcksAlone p e → AcksSay (happens (state_after view steps) e) strings
+acks_step view steps strings p m run acks shows (Acknowledge q v) may alone = subst (λ (r : ℕ). AcksSay (happens (state_after view steps) (Acknowledge r v)) strings) (sym alone)
+    (acks_more view steps strings p m run acks shows v (subst (λ (r : ℕ). MayCome (state_after view steps) (Acknowledge r v)) alone may))
+acks_step view steps strings p m run acks shows e may alone = λ w q fits acked. version_stays (state_after view steps) (happens (state_after view steps) e) strings (stay_step (state_after view steps) e may) w (acks w q fits acked)
+
+-- ## The keys of a map
+
+below_not_in : (k : List ℕ) (m : List Entry) → IsBelowAll k m → k ∈ map (λ (e : Entry). e.key) m → ⊥
+below_not_in k [] below i = i
+below_not_in k (e ∷ m) below (inl same) = let both : Less ≡ Equal = sym below.0 ∙ ap (λ (j : List ℕ). bytes_cmp k j) (sym same) ∙ cmp_same k in absurd cc
+below_not_in k (e ∷ m) below (inr i) = below_not_in k m below.1 i
+
+distinct_keys : (m : List Entry) → Ascends m → AreDistinct (map (λ (e : Entry). e.key) m)
+distinct_keys [] ascends = tt
+distinct_keys (e ∷ m) ascends = (below_not_in e.key m ascends.0, distinct_keys m ascends.1)
+
+length_keys : (m : List Entry) → length (map (λ (e : Entry). e.key) m) ≡ length m
+length_keys [] = refl
+length_keys (e ∷ m) = ap (λ (n : ℕ). suc n) (length_keys m)
+
+key_from : (P : List ℕ → Type 0) (m : List Entry) → ((e : Entry) → e ∈ m → P e.key) → (k : List ℕ) → k ∈ map (λ (e : Entry). e.key) m → P k
+key_from P [] holds k i = absurd i
+key_from P (e ∷ m) holds k (inl same) = subst P (sym same) (holds e (inl refl))
+key_from P (e ∷ m) holds k (inr i) = key_from P m (λ f j. holds f (inr j)) k i
+
+-- ## The object of a reply
+
+-- the object matches the entry, which names it
+record Matches (e : Entry) (o named : Object) : Type 0 where
+  object : named ≡ o
+  key : o.key ≡ e.key
+  version : o.version ≡ e.version
+  digest : e.digest ≡ md5 (object_spelling o)
+
+-- an object that the entry does not name counts as none
+abbrev MayMatch : Entry → Object → Option Object → Type 0
+MayMatch e o None = Unit {0}
+MayMatch e o (Some named) = Matches e o named
+
+matches : (e : Entry) (o : Object) → MayMatch e o (matching e (Some (o, md5 (object_spelling o))))
+matches e o = by_name (is_named e o (md5 (object_spelling o))) refl
+  where
+    by_name : (b : Bool) → is_named e o (md5 (object_spelling o)) ≡ b → MayMatch e o (if b then Some o else None)
+    by_name true is =
+        let parts = and_parts (same_bytes o.key e.key && same_version o.version e.version) (same_bytes (md5 (object_spelling o)) e.digest) is in
+        let both = and_parts (same_bytes o.key e.key) (same_version o.version e.version) parts.0 in
+        record { object = refl; key = bytes_same o.key e.key both.0; version = same_versions o.version e.version both.1; digest = sym (bytes_same (md5 (object_spelling o)) e.digest parts.1) }
+    by_name false other = tt
+
+-- a genuine entry is of the key
+reply_key : (g : theory.Ghosts) (s : State) (strings : List (List ℕ)) (q d r : ℕ) (k : List ℕ) (e : Entry) (object : Option theory.Object) → GetReplySays g s q d r k (rank e.version) object → EntrySays s strings e → e.key ≡ k
+reply_key g s strings q d r k e object reply says = by_genuine reply.genuine
+  where
+    by_genuine : (rank e.version ≡ 0) ⊎ ((s.objects.proposed (rank e.version) ≡ true) × (s.objects.key (rank e.version) ≡ k) × (epoch_of (rank e.version) ≤ d)) → e.key ≡ k
+    by_genuine (inl none) = absurd (no_rank (rank_some e.version))
+      where
+        no_rank : 0 < rank e.version → ⊥
+        no_rank some = omega arith
+    by_genuine (inr there) = says.key ∙ there.1
+
+-- a reply without its object
+without_object : (g : theory.Ghosts) (s : State) (q d r : ℕ) (k : List ℕ) (entry : ℕ) (object : Option theory.Object) → GetReplySays g s q d r k entry object → GetReplySays g s q d r k entry None
+without_object g s q d r k entry object reply = record {
+  turn = reply.turn;
+  started = reply.started;
+  genuine = reply.genuine;
+  reached = reply.reached;
+  given = reply.given;
+  stood = reply.stood;
+  settled = reply.settled;
+  holds = λ x e. absurd (none-some x e);
+}
+
+-- what is known of the object of a reply once it is confirmed
+pub record Confirmed (g : theory.Ghosts) (s : State) (q d r : ℕ) (k : List ℕ) (entry : Option Entry) (named : Option Object) : Type 0 where
+  pub reply : GetReplySays g s q d r k (entry_rank entry) (shown entry named)
+  pub found_says : FoundSays g k (better None entry named)
+
+module _ (g : theory.Ghosts) (s : State) (strings : List (List ℕ)) (q d r : ℕ) (k : List ℕ) (hash : g.hash ≡ hash_of) where
+  none_confirmed : (entry : Option Entry) (object : Option Object) → GetReplySays g s q d r k (entry_rank entry) (shown entry object) → Confirmed g s q d r k entry None
+  none_confirmed None object reply = record { reply = reply; found_says = tt }
+  none_confirmed (Some e) object reply = record { reply = without_object g s q d r k (rank e.version) (shown (Some e) object) reply; found_says = λ o is. absurd (none-some o is) }
+
+  named_confirmed : (e : Entry) (o : Object) (named : Option Object) → MayMatch e o named → GetReplySays g s q d r k (rank e.version) (Some (content_of o)) → EntrySays s strings e → Confirmed g s q d r k (Some e) named
+  named_confirmed e o None match reply says = none_confirmed (Some e) (Some o) reply
+  named_confirmed e o (Some named) match reply says = record {
+    reply = subst (λ (x : Object). GetReplySays g s q d r k (rank e.version) (Some (content_of x))) (sym match.object) reply;
+    found_says = λ x is. subst (λ (y : Object). (y.version ≡ e.version) × (e.digest ≡ g.hash e.version k y.stamp y.value)) (sym match.object ∙ same_Some named x is) own;
+  }
+    where
+      plain : e.digest ≡ hash_of e.version k o.stamp o.value
+      plain = subst (λ (j : List ℕ). e.digest ≡ hash_of e.version j o.stamp o.value) (match.key ∙ reply_key g s strings q d r k e (Some (content_of o)) reply says)
+          (subst (λ (v : Version). e.digest ≡ hash_of v o.key o.stamp o.value) match.version match.digest)
+
+      own : (o.version ≡ e.version) × (e.digest ≡ g.hash e.version k o.stamp o.value)
+      own = (match.version, subst (λ (f : Digests). e.digest ≡ f e.version k o.stamp o.value) (sym hash) plain)
+
+-- ## A scene
+
+module _ (c : Scene) where
+  open c use {view, strings, peer as p}
+
+  -- what rule 28 finds in the backend: if its version is settled, it is that version's object,
+  -- unless two strings clash
+  backend_says : (r : Reached c) (k : List ℕ) (o : Option (Object × List ℕ)) → MayBeDecoded strings o → BackendSays r.ghosts (now c r) k (seens.Kept o)
+  backend_says r k None decoded = tt
+  backend_says r k (Some o) decoded = λ on_key settled key_is digest. is_object settled key_is digest
+    where
+      s : State
+      s = now c r
+
+      u : ℕ
+      u = rank o.0.version
+
+      again : rank (version_of u) ≡ u
+      again = rank_again u (rank_some o.0.version)
+
+      is_object : s.objects.settled u ≡ true → s.objects.key u ≡ k → o.1 ≡ r.ghosts.hash (version_of u) k (s.book.stamp u) (s.book.content u) → IsObjectOf s u (content_of o.0)
+      is_object settled key_is digest =
+          let says : VersionSays s strings (version_of u) = settled_say view r.steps strings (version_of u) r.run r.acks (version_within u) (subst (λ (n : ℕ). s.objects.settled n ≡ true) (sym again) settled) in
+          let plain : o.1 ≡ hash_of (version_of u) k (s.book.stamp u) (s.book.content u) = subst (λ (f : Digests). o.1 ≡ f (version_of u) k (s.book.stamp u) (s.book.content u)) r.hash digest in
+          let on_version : o.1 ≡ hash_of (version_of u) (s.objects.key u) (s.book.stamp u) (s.book.content u) = subst (λ (j : List ℕ). o.1 ≡ hash_of (version_of u) j (s.book.stamp u) (s.book.content u)) (sym key_is) plain in
+          let own : o.1 ≡ md5 (version_string s (version_of u)) = subst (λ (n : ℕ). o.1 ≡ hash_of (version_of u) (s.objects.key n) (s.book.stamp n) (s.book.content n)) (sym again) on_version in
+          let same : o.0 ≡ object_of_version s (version_of u) = version_decoded s strings (version_of u) decoded.bytes o.0 c.free says decoded.hashed decoded.decodes (sym decoded.digest ∙ own) in
+          record {
+            some = rank_some o.0.version;
+            stamp = ap (λ (x : Object). x.stamp) same ∙ ap (λ (n : ℕ). s.book.stamp n) again;
+            content = ap (λ (x : Object). x.value) same ∙ ap (λ (n : ℕ). s.book.content n) again;
+          }
+
+  -- ## Steps of the peer's own tree
+
+  -- the run goes on with a write of the peer
+  abbrev pub wrote : (r : Reached c) (v : ℕ) → MayCome (now c r) (Write p v) → Reached c
+  wrote r v may = record {
+    steps = Write p v ∷ r.steps;
+    run = (r.run, may);
+    ghosts = r.ghosts;
+    hash = r.hash;
+    elsewhere = record {
+      ledger = r.elsewhere.ledger;
+      map = λ q other. put_other (now c r).objects.map p (set_entry ((now c r).objects.map p) ((now c r).objects.key v) v) q other ∙ r.elsewhere.map q other;
+      visible = λ q other. put_other (now c r).objects.visible p (set_entry ((now c r).objects.visible p) ((now c r).objects.key v) v) q other ∙ r.elsewhere.visible q other;
+      trusted = r.elsewhere.trusted;
+      stays = stays_then (state_before c) (now c r) (happens (now c r) (Write p v)) r.elsewhere.stays (stay_step (now c r) (Write p v) may);
+      calls = r.elsewhere.calls;
+      called = r.elsewhere.called;
+      answers = r.elsewhere.answers;
+      answered = r.elsewhere.answered;
+      now = r.elsewhere.now;
+    };
+    orderly = r.orderly;
+    acks = λ w q fits acked. version_stays (now c r) (happens (now c r) (Write p v)) strings (stay_step (now c r) (Write p v) may) w (r.acks w q fits acked);
+  }
+
+  -- the run goes on with an acknowledgement of the peer
+  abbrev pub acknowledged : (r : Reached c) (m : List Entry) (v : ℕ) → MapSays (now c r) strings p m → MayCome (now c r) (Acknowledge p v) → Reached c
+  acknowledged r m v says may = record {
+    steps = Acknowledge p v ∷ r.steps;
+    run = (r.run, may);
+    ghosts = r.ghosts;
+    hash = r.hash;
+    elsewhere = record {
+      ledger = r.elsewhere.ledger;
+      map = r.elsewhere.map;
+      visible = r.elsewhere.visible;
+      trusted = r.elsewhere.trusted;
+      stays = stays_then (state_before c) (now c r) (happens (now c r) (Acknowledge p v)) r.elsewhere.stays (stay_step (now c r) (Acknowledge p v) may);
+      calls = r.elsewhere.calls;
+      called = r.elsewhere.called;
+      answers = r.elsewhere.answers;
+      answered = r.elsewhere.answered;
+      now = r.elsewhere.now;
+    };
+    orderly = r.orderly;
+    acks = acks_step view r.steps strings p m r.run r.acks says (Acknowledge p v) may refl;
+  }
+
+  module _ {key : List ℕ} {x : PeerState} {h : Held} {out : Out} {notes : List Note} (here : Here c key x h out notes) where
+    -- the stores, after calls that only read
+    pub record Over (t : Held) : Type 0 where
+      pub kept_fact : t.stores.facts.kept ≡ h.stores.facts.kept
+      pub whole : IsWhole t here.tree.map
+
+    -- the stores, after the object was written
+    pub record Stored (o : Object) (t : Held) : Type 0 where
+      pub kept_fact : t.stores.facts.kept ≡ h.stores.facts.kept
+      pub hashed : object_spelling o ∈ strings
+      pub whole : IsWhole t (put (entry_of o (md5 (object_spelling o))) here.tree.map)
+
+    -- the peer agrees with the run over other stores too, with the same fact and the same map
+    abbrev pub here_over : (t : Held) → t.stores.facts.kept ≡ h.stores.facts.kept → TreeHolds (now c here.reached) strings p t → Here c key x t out notes
+    here_over t kept_fact tree = record {
+      reached = here.reached;
+      roles = here.roles;
+      peer = record { saved = here.peer.saved; kept = kept_fact ∙ here.peer.kept; phase = here.peer.phase; sync = here.peer.sync };
+      plain = here.plain;
+      trust = here.trust;
+      tree = tree;
+      fits = here.fits;
+      task = here.task;
+      noted = here.noted;
+      sends = here.sends;
+      plain_sends = here.plain_sends;
+      fits_sends = here.fits_sends;
+    }
+
+    -- so it does after calls that only read
+    abbrev pub over_here : (t : Held) → Over t → Here c key x t out notes
+    over_here t over = here_over t over.kept_fact (record { map = here.tree.map; whole = over.whole; says = here.tree.says })
+
+    abbrev pub nothing_read : Over h
+    nothing_read = record { kept_fact = refl; whole = here.tree.whole }
+
+    -- the object was written: its version is in the peer's tree
+    abbrev pub write_here : (o : Object) (d : ℕ) (t : Held) → (may : MayCome (now c here.reached) (Write p (rank o.version))) → PutSays (now c here.reached) d o.key (rank o.version) (content_of o) → IsObject o → Stored o t
+        → TaskFits (happens (now c here.reached) (Write p (rank o.version))) key x.phase → Here c key x t out notes
+    write_here o d t may says obeys stored task = record {
+      reached = wrote here.reached (rank o.version) may;
+      roles = (run_roles view here.reached.steps here.reached.run).silent here.reached.ghosts (ledger.put c.roles p (role_in key x.phase (owed_after [] out.answers))) (said_in_sends p out.sends ++ c.said) (Write p (rank o.version)) may tt here.roles;
+      peer = record { saved = here.peer.saved; kept = stored.kept_fact ∙ here.peer.kept; phase = here.peer.phase; sync = here.peer.sync };
+      plain = here.plain;
+      trust = here.trust;
+      tree = record {
+        map = put (entry_of o (md5 (object_spelling o))) here.tree.map;
+        whole = stored.whole;
+        says = write_shows (now c here.reached) strings strings p here.tree.map (entry_of o (md5 (object_spelling o))) (λ a i. i) here.tree.says (put_entry (now c here.reached) strings d o (md5 (object_spelling o)) says obeys stored.hashed refl);
+      };
+      fits = phase_stays here.reached.ghosts.hash (now c here.reached) (happens (now c here.reached) (Write p (rank o.version))) p x.fact x.phase (stay_step (now c here.reached) (Write p (rank o.version)) may) (λ d elected. refl) here.peer.phase here.fits;
+      task = task;
+      noted = here.noted;
+      sends = here.sends;
+      plain_sends = here.plain_sends;
+      fits_sends = sends_stay (now c here.reached) (happens (now c here.reached) (Write p (rank o.version))) strings (stay_step (now c here.reached) (Write p (rank o.version)) may) out.sends here.fits_sends;
+    }
+
+    -- the peer acknowledges a version
+    abbrev pub acknowledge_here : (v : ℕ) → MayCome (now c here.reached) (Acknowledge p v) → TaskFits (happens (now c here.reached) (Acknowledge p v)) key x.phase → Here c key x h out notes
+    acknowledge_here v may task = record {
+      reached = acknowledged here.reached here.tree.map v here.tree.says may;
+      roles = (run_roles view here.reached.steps here.reached.run).silent here.reached.ghosts (ledger.put c.roles p (role_in key x.phase (owed_after [] out.answers))) (said_in_sends p out.sends ++ c.said) (Acknowledge p v) may tt here.roles;
+      peer = here.peer;
+      plain = here.plain;
+      trust = here.trust;
+      tree = record { map = here.tree.map; whole = here.tree.whole; says = maps_stay (now c here.reached) strings strings (Acknowledge p v ∷ []) p here.tree.map (may, tt) (tt, tt) (λ a i. i) here.tree.says };
+      fits = phase_stays here.reached.ghosts.hash (now c here.reached) (happens (now c here.reached) (Acknowledge p v)) p x.fact x.phase (stay_step (now c here.reached) (Acknowledge p v) may) (λ d elected. refl) here.peer.phase here.fits;
+      task = task;
+      noted = here.noted;
+      sends = here.sends;
+      plain_sends = here.plain_sends;
+      fits_sends = sends_stay (now c here.reached) (happens (now c here.reached) (Acknowledge p v)) strings (stay_step (now c here.reached) (Acknowledge p v) may) out.sends here.fits_sends;
+    }
+
+    -- ## The parts of a step
+
+    -- what a peer sees of a key
+    pub record Sees (k : List ℕ) (entry : Option Entry) (object : Option Object) : Type 0 where
+      pub sees : LookSees strings here.tree.map k (seens.Held entry object)
+      pub look : LookSays (now c here.reached) p k (seens.Held entry object)
+      pub shows : IsShown here.reached.ghosts (now c here.reached) strings p k entry object
+      pub names : LookNames here.reached.ghosts k (seens.Held entry object)
+
+    sees_so : (k : List ℕ) (entry : Option Entry) (object : Option Object) → LookSees strings here.tree.map k (seens.Held entry object) → Sees k entry object
+    sees_so k entry object sees =
+        let both = looks_so (now c here.reached) here.reached.ghosts strings p here.tree.map k (seens.Held entry object) here.reached.hash c.free here.tree.says sees in
+        record { sees = sees; look = both.0; shows = both.1; names = names entry both.1.found }
+      where
+        names : (entry : Option Entry) → FoundSays here.reached.ghosts k (found_in entry object) → FoundSays here.reached.ghosts k (better None entry object)
+        names None says = tt
+        names (Some e) says = says
+
+    module _ (answers : StoresAnswer) where
+      -- ## The backend
+
+      digested_ends : (o : Option Object) (bytes : List ℕ) (t : Held) (next mark : Rest PeerState (Option (Object × List ℕ))) → object_in bytes ≡ o → Over t
+          → ((o : Option (Object × List ℕ)) (u : Held) → Over u → MayBeDecoded strings o → Ends c (next o x out) (mark o x out) u notes) → Ends c (digested o bytes x out next) (digested o bytes x out mark) t notes
+      unfolding asked
+      digested_ends None bytes t next mark is over go = go None t over tt
+      digested_ends (Some o) bytes t next mark is over go = ask_ends grows c (Hash bytes) (λ digest. next (Some (o, digest)) x out) (λ digest. mark (Some (o, digest)) x out) t notes (λ among. record {
+        answer = md5 bytes;
+        is = refl;
+        goes = go (Some (o, md5 bytes)) (and_hashed bytes t) (record { kept_fact = over.kept_fact; whole = answers.keeps (Hash bytes) t here.tree.map tt over.whole })
+            (record { bytes = bytes; hashed = among bytes (hashes bytes t).1; decodes = is; digest = refl });
+      })
+
+      read_ends : (bytes : Option (List ℕ)) (t : Held) (next mark : Rest PeerState (Option (Object × List ℕ))) → Over t
+          → ((o : Option (Object × List ℕ)) (u : Held) → Over u → MayBeDecoded strings o → Ends c (next o x out) (mark o x out) u notes) → Ends c (read bytes x out next) (read bytes x out mark) t notes
+      read_ends None t next mark over go = go None t over tt
+      read_ends (Some bytes) t next mark over go = digested_ends (object_in bytes) bytes t next mark refl over go
+
+      kept_ends : (k : List ℕ) (t : Held) (next mark : Rest PeerState (Option (Object × List ℕ))) → Over t
+          → ((o : Option (Object × List ℕ)) (u : Held) → Over u → MayBeDecoded strings o → Ends c (next o x out) (mark o x out) u notes) → Ends c (kept k x out next) (kept k x out mark) t notes
+      unfolding asked
+      kept_ends k t next mark over go = ask_ends grows c (Fetch k) (λ bytes. read bytes x out next) (λ bytes. read bytes x out mark) t notes (λ among. record {
+        answer = value_at k t.stores.backend.entries;
+        is = refl;
+        goes = read_ends (value_at k t.stores.backend.entries) t next mark over go;
+      })
+
+      -- rule 28: what the backend keeps under the key
+      pub fetched_ends : (k : List ℕ) (next mark : Rest PeerState Seen)
+          → ((o : Option (Object × List ℕ)) (t : Held) → Over t → BackendSays here.reached.ghosts (now c here.reached) k (seens.Kept o) → Ends c (next (seens.Kept o) x out) (mark (seens.Kept o) x out) t notes)
+          → Ends c (fetched k x out next) (fetched k x out mark) h notes
+      fetched_ends k next mark go = kept_ends k h (λ o y q. next (seens.Kept o) y q) (λ o y q. mark (seens.Kept o) y q) nothing_read (λ o t over decoded. go o t over (backend_says here.reached k o decoded))
+
+      -- ## The tree
+
+      held_ends : (k : List ℕ) (entry : Option Entry) (t : Held) (next mark : Rest PeerState Seen) → entry ≡ lookup k here.tree.map → Over t
+          → ((entry : Option Entry) (object : Option Object) (u : Held) → Over u → Sees k entry object → Ends c (next (seens.Held entry object) x out) (mark (seens.Held entry object) x out) u notes)
+          → Ends c (held k entry x out next) (held k entry x out mark) t notes
+      held_ends k None t next mark is over go = go None None t over (sees_so k None None (is, refl))
+      held_ends k (Some entry) t next mark is over go = kept_ends k t (λ o y q. next (seens.Held (Some entry) (matching entry o)) y q) (λ o y q. mark (seens.Held (Some entry) (matching entry o)) y q) over
+          (λ o u still decoded. go (Some entry) (matching entry o) u still (sees_so k (Some entry) (matching entry o) (is, (o, decoded, refl))))
+
+      -- rules 21 and 29: the entry of the key, and the object that it names
+      pub looked_ends : (k : List ℕ) (next mark : Rest PeerState Seen)
+          → ((entry : Option Entry) (object : Option Object) (t : Held) → Over t → Sees k entry object → Ends c (next (seens.Held entry object) x out) (mark (seens.Held entry object) x out) t notes)
+          → Ends c (looked k x out next) (looked k x out mark) h notes
+      unfolding asked
+      looked_ends k next mark go = ask_ends grows c (Find k) (λ end. looked_at k end x out next) (λ end. looked_at k end x out mark) h notes (λ among. record {
+        answer = Came (lookup k here.tree.map);
+        is = answers.finds h here.tree.map k here.tree.whole;
+        goes = held_ends k (lookup k here.tree.map) (answered (Find k) h).held next mark refl (record { kept_fact = refl; whole = answers.keeps (Find k) h here.tree.map tt here.tree.whole }) go;
+      })
+
+      -- rule 22: the entry of the key
+      pub found_ends : (k : List ℕ) (next mark : Rest PeerState Seen)
+          → ((t : Held) → Over t → Ends c (next (seens.Held (lookup k here.tree.map) None) x out) (mark (seens.Held (lookup k here.tree.map) None) x out) t notes)
+          → Ends c (found k x out next) (found k x out mark) h notes
+      unfolding asked
+      found_ends k next mark go = ask_ends grows c (Find k) (λ end. next (found_at end) x out) (λ end. mark (found_at end) x out) h notes (λ among. record {
+        answer = Came (lookup k here.tree.map);
+        is = answers.finds h here.tree.map k here.tree.whole;
+        goes = go (answered (Find k) h).held (record { kept_fact = refl; whole = answers.keeps (Find k) h here.tree.map tt here.tree.whole });
+      })
+
+      -- ## The object of a reply
+
+      -- rule 29, GetReply: the object of the reply, if its entry names it
+      pub confirmed_ends : (q d r : ℕ) (k : List ℕ) (entry : Option Entry) (object : Option Object) (next mark : Rest PeerState (Option Object))
+          → GetReplySays here.reached.ghosts (now c here.reached) q d r k (entry_rank entry) (shown entry object) → EntryMaySay (now c here.reached) strings entry
+          → ((named : Option Object) (t : Held) → Over t → Confirmed here.reached.ghosts (now c here.reached) q d r k entry named → Ends c (next named x out) (mark named x out) t notes)
+          → Ends c (confirmed entry object x out next) (confirmed entry object x out mark) h notes
+      unfolding asked
+      confirmed_ends q d r k None object next mark reply says go = go None h nothing_read (none_confirmed here.reached.ghosts (now c here.reached) strings q d r k here.reached.hash None object reply)
+      confirmed_ends q d r k (Some e) None next mark reply says go = go None h nothing_read (none_confirmed here.reached.ghosts (now c here.reached) strings q d r k here.reached.hash (Some e) None reply)
+      confirmed_ends q d r k (Some e) (Some o) next mark reply says go =
+          ask_ends grows c (Hash (object_spelling o)) (λ digest. next (matching e (Some (o, digest))) x out) (λ digest. mark (matching e (Some (o, digest))) x out) h notes (λ among. record {
+            answer = md5 (object_spelling o);
+            is = refl;
+            goes = go (matching e (Some (o, md5 (object_spelling o)))) (and_hashed (object_spelling o) h) (record { kept_fact = refl; whole = answers.keeps (Hash (object_spelling o)) h here.tree.map tt here.tree.whole })
+                (named_confirmed here.reached.ghosts (now c here.reached) strings q d r k here.reached.hash e o (matching e (Some (o, md5 (object_spelling o)))) (matches e o) reply says);
+          })
+
+      -- ## A write
+
+      module _ (few : (view : List ℕ) (steps : List Step) → IsRun view steps → KeysAreFew (state_after view steps)) where
+        -- with one more version the map has no more entries than calls came
+        few_entries : (o : Object) (d : ℕ) (digest : List ℕ) → PutSays (now c here.reached) d o.key (rank o.version) (content_of o) → length (put (entry_of o digest) here.tree.map) < 2 ^ 32
+        few_entries o d digest says = below
+            (few view here.reached.steps here.reached.run (map (λ (e : Entry). e.key) m) (distinct_keys m (ascends-put (entry_of o digest) here.tree.map here.tree.whole.shows.stands.is_map.ascends)) (key_from IsKeyOf m (λ e i. by_place e (in_put e (entry_of o digest) here.tree.map i))))
+            (length_keys m) (ap (λ (calls : List BookCall). length calls) here.reached.elsewhere.calls) c.few
+          where
+            m : List Entry
+            m = put (entry_of o digest) here.tree.map
+
+            IsKeyOf : List ℕ → Type 0
+            IsKeyOf k = (v : ℕ) × ((now c here.reached).objects.proposed v ≡ true) × ((now c here.reached).objects.key v ≡ k)
+
+            by_place : (e : Entry) → (e ≡ entry_of o digest) ⊎ (e ∈ here.tree.map) → IsKeyOf e.key
+            by_place e (inl same) = (rank o.version, says.proposed, says.key ∙ ap (λ (f : Entry). f.key) (sym same))
+            by_place e (inr old) = let there = here.tree.says.entries e old in (rank e.version, there.version.proposed, sym there.key)
+
+            below : length (map (λ (e : Entry). e.key) m) ≤ length (now c here.reached).book.calls → length (map (λ (e : Entry). e.key) m) ≡ length m → length (now c here.reached).book.calls ≡ length (state_before c).book.calls → length (state_before c).book.calls < 2 ^ 32 → length m < 2 ^ 32
+            below le same calls few = omega (arith, le, same, calls, few)
+
+        -- the object is in the tree; now its bytes go into the backend
+        bytes_end : (o : Object) (bytes : List ℕ) (t : Held) (m : List Entry) (next mark : Rest PeerState Seen) → t.stores.facts.kept ≡ h.stores.facts.kept → IsWhole t m
+            → ((u : Held) → u.stores.facts.kept ≡ h.stores.facts.kept → IsWhole u m → Ends c (next (seens.Stored (md5 bytes)) x out) (mark (seens.Stored (md5 bytes)) x out) u notes)
+            → Ends c (entered o bytes (md5 bytes) (Came tt) x out next) (entered o bytes (md5 bytes) (Came tt) x out mark) t notes
+        unfolding asked
+        bytes_end o bytes t m next mark kept_fact whole go = ask_ends grows c (Put o.key bytes) (λ u. next (seens.Stored (md5 bytes)) x out) (λ u. mark (seens.Stored (md5 bytes)) x out) t notes (λ among. record {
+          answer = tt;
+          is = answers.puts o.key bytes t m whole;
+          goes = go (answered (Put o.key bytes) t).held (ap (λ (f : HeldFact). f.kept) (spares (Put o.key bytes) t).1 ∙ kept_fact) (answers.keeps (Put o.key bytes) t m tt whole);
+        })
+
+        -- rules 22 and 35: the object is written
+        pub written_ends : (o : Object) (d : ℕ) (next mark : Rest PeerState Seen) → PutSays (now c here.reached) d o.key (rank o.version) (content_of o) → IsObject o
+            → ((t : Held) → Stored o t → Ends c (next (seens.Stored (md5 (object_spelling o))) x out) (mark (seens.Stored (md5 (object_spelling o))) x out) t notes)
+            → Ends c (written o x out next) (written o x out mark) h notes
+        unfolding asked
+        written_ends o d next mark says obeys go = ask_ends grows c (Hash bytes) (λ digest. asks digest next) (λ digest. asks digest mark) h notes (λ hashed. record {
+          answer = md5 bytes;
+          is = refl;
+          goes = ask_ends grows c (Enter (entry_of o (md5 bytes))) (λ end. entered o bytes (md5 bytes) end x out next) (λ end. entered o bytes (md5 bytes) end x out mark) (and_hashed bytes h) notes (λ among.
+              let came = answers.enters strings (and_hashed bytes h) here.tree.map (entry_of o (md5 bytes)) c.free among (record { key = obeys.key; version = obeys.version; digest = md5_run bytes }) (few_entries o d (md5 bytes) says)
+              (answers.keeps (Hash bytes) h here.tree.map tt here.tree.whole) in
+              record {
+                answer = Came tt;
+                is = came.0;
+                goes = bytes_end o bytes (answered (Enter (entry_of o (md5 bytes))) (and_hashed bytes h)).held (put (entry_of o (md5 bytes)) here.tree.map) next mark refl came.1 (λ u kept_fact whole. go u (record { kept_fact = kept_fact; hashed = hashed bytes (hashes bytes h).1; whole = whole }));
+              });
+        })
+          where
+            bytes : List ℕ
+            bytes = object_spelling o
+
+            asks : List ℕ → Rest PeerState Seen → Plan PeerState
+            asks digest rest = Ask (Enter (entry_of o digest)) (λ end. entered o bytes digest end x out rest)

@@ -1,0 +1,106 @@
+-- What stays over several stretches of a run: roles that are replaced, answers that are owed, entries, and
+-- what the steps of a peer leave to the others.
+use Rattle.std.proofs.Common.{◌≡◌, ℕ, List, [], ◌∷◌, ◌++◌, ◌⊎◌, inl, inr, Option, None, Some, refl, subst, ◌∙◌, le_trans, true}
+use Rattle.ens_base.specs.Lists.{◌∈◌}
+use Rattle.abstract_protocol.specs.Ledger.{put}
+use Rattle.abstract_protocol.specs.Protocol.{State}
+use Rattle.election_refinement.proofs.Keeps.{keeps_none, keeps_both}
+use Rattle.entry_laws.proofs.Later.{stay_same}
+use Rattle.entry_laws.specs.Stays.{EntriesStay}
+use Rattle.leader_laws.specs.Roles.{Role, Said, Sent, RoleHolds, RolesHold, SaidHolds}
+use Rattle.leader_laws.specs.Tables.{Ghosts, Owed}
+use Rattle.leader_refinement.specs.Seen.{owed_after}
+use Rattle.leader_words.specs.declared.out.AnswerOut.{AnswerOut}
+use Rattle.leader_words.specs.declared.out.Outgoing.{Outgoing}
+use Rattle.version_laws.proofs.Maps.{put_here, put_other, put_then}
+use Rattle.version_laws.proofs.Stays.{versions_then}
+use Rattle.call_refinement.proofs.Frame.{Elsewhere}
+use Rattle.call_refinement.specs.Roles.{said_of, said_by, said_in_sends}
+
+-- ## Roles
+
+module _ (g : Ghosts) (s : State) (p : ℕ) (sent : List Sent) (roles : ℕ → Role) where
+  -- the role that the peer has holds
+  pub role_here : (role : Role) → RolesHold g s (put roles p role) sent → RoleHolds g s p role
+  role_here role a = subst (RoleHolds g s p) (put_here roles p role) (a.roles_hold p)
+
+  -- the peer takes another role that holds
+  pub role_replaced : (old new : Role) → RolesHold g s (put roles p old) sent → RoleHolds g s p new → RolesHold g s (put roles p new) sent
+  role_replaced old new a holds = record {
+    turns = a.turns;
+    roles_hold = put_then roles p new (RoleHolds g s) holds (λ q other. subst (RoleHolds g s q) (put_other roles p old q other) (a.roles_hold q));
+    sent_hold = a.sent_hold;
+  }
+
+  -- of two roles that the peer took one after the other only the later one is left
+  pub role_once : (old new : Role) → RolesHold g s (put (put roles p old) p new) sent → RolesHold g s (put roles p new) sent
+  role_once old new a = record {
+    turns = a.turns;
+    roles_hold = put_then roles p new (RoleHolds g s) (subst (RoleHolds g s p) (put_here (put roles p old) p new) (a.roles_hold p))
+        (λ q other. subst (RoleHolds g s q) (put_other (put roles p old) p new q other ∙ put_other roles p old q other) (a.roles_hold q));
+    sent_hold = a.sent_hold;
+  }
+
+-- ## Answers
+
+-- answers are owed after two lists of them as after one and then the other
+pub owed_both : (owed : List Owed) (a b : List AnswerOut) → owed_after owed (a ++ b) ≡ owed_after (owed_after owed a) b
+owed_both owed [] b = refl
+owed_both owed (x ∷ a) b = owed_both (owed ++ record { call = x.id; reply = x.reply } ∷ []) a b
+
+-- ## Stretches of a run
+
+-- what is preserved from s to t and from t to u is preserved from s to u
+pub stays_then : (s t u : State) → EntriesStay s t → EntriesStay t u → EntriesStay s u
+stays_then s t u a b = record {
+  versions = versions_then s.objects t.objects u.objects a.versions b.versions;
+  now = le_trans a.now b.now;
+  elected_at = λ d h. b.elected_at d (a.versions.ledger.elected d h) ∙ a.elected_at d h;
+  proposed_at = λ v h. b.proposed_at v (a.versions.proposed v h) ∙ a.proposed_at v h;
+  settled_at = λ v h. b.settled_at v (a.versions.settled v h) ∙ a.settled_at v h;
+  call = λ v h. b.call v (a.versions.proposed v h) ∙ a.call v h;
+  stamp = λ v h. b.stamp v (a.versions.proposed v h) ∙ a.stamp v h;
+  content = λ v h. b.content v (a.versions.proposed v h) ∙ a.content v h;
+  register = λ v h. b.register v (old v h) ∙ a.register v h;
+  called = λ i h. b.called i (a.called i h);
+  asked = λ i h. b.asked i (a.called i h) ∙ a.asked i h;
+  stood = λ i q h. b.stood i q (a.called i h) ∙ a.stood i q h;
+  noted = λ i h. b.noted i (a.noted i h);
+  seen = λ i h. b.seen i (a.noted i h) ∙ a.seen i h;
+  answered = λ i h. b.answered i (a.answered i h);
+  answer = λ i h. b.answer i (a.answered i h) ∙ a.answer i h;
+}
+  where
+    old : (v : ℕ) → (v ≡ 0) ⊎ (s.objects.proposed v ≡ true) → (v ≡ 0) ⊎ (t.objects.proposed v ≡ true)
+    old v (inl none) = inl none
+    old v (inr there) = inr (a.versions.proposed v there)
+
+-- no step was taken
+pub elsewhere_none : (p : ℕ) (s : State) → Elsewhere p s s
+elsewhere_none p s = record {
+  ledger = keeps_none s.objects.ledger p;
+  map = λ q other. refl;
+  visible = λ q other. refl;
+  trusted = λ q other. refl;
+  stays = stay_same s;
+  calls = refl;
+  called = refl;
+  answers = refl;
+  answered = refl;
+  now = refl;
+}
+
+-- the steps of one peer after its steps
+pub elsewhere_then : (p : ℕ) (s t u : State) → Elsewhere p s t → Elsewhere p t u → Elsewhere p s u
+elsewhere_then p s t u a b = record {
+  ledger = keeps_both s.objects.ledger t.objects.ledger u.objects.ledger p a.ledger b.ledger;
+  map = λ q other. b.map q other ∙ a.map q other;
+  visible = λ q other. b.visible q other ∙ a.visible q other;
+  trusted = λ q other. b.trusted q other ∙ a.trusted q other;
+  stays = stays_then s t u a.stays b.stays;
+  calls = b.calls ∙ a.calls;
+  called = b.called ∙ a.called;
+  answers = b.answers ∙ a.answers;
+  answered = b.answered ∙ a.answered;
+  now = b.now ∙ a.now;
+}

@@ -1,0 +1,31 @@
+-- Steady schedules: their worlds agree with runs of the abstract protocol, and their histories are legal.
+use Rattle.std.specs.Prelude.{◌<◌, ◌≤◌, ◌^◌, ℕ, List, length}
+use Rattle.ens_base.specs.Lists.{AreDistinct}
+use Rattle.ens_base.specs.View.{IsView}
+use Rattle.held_stores.specs.Held.{HasNoClash}
+use Rattle.history_scribe.specs.Histories.{AreHistories}
+use Rattle.register_model.specs.declared.history.History.{History}
+use Rattle.schedule_text.specs.Spelling.{AllMayStand, call_ids}
+use Rattle.schedule_text.specs.declared.event.ScheduleEvent.{ScheduleEvent}
+use Rattle.world_spec.specs.Lines.{run_of_schedule}
+use Rattle.call_refinement.specs.Lines.{AreSteady, AreLegal}
+use Rattle.call_refinement.specs.Worlds.{HasRun}
+use Rattle.call_refinement.proofs.Carried.{free_of, schedule_holds, schedule_is_legal}
+use Rattle.call_refinement.proofs.Assembled.{step_grounds}
+use Rattle.call_refinement.proofs.Good.{StepGood, CallGood}
+use Rattle.call_refinement.proofs.Stepping.{step_good, call_good}
+
+-- each step ends well
+steps_good : StepGood
+steps_good c event x h epochs rest comes = step_good step_grounds c epochs event x h rest comes
+
+calls_good : CallGood
+calls_good c call few asked x h epochs rest same may = call_good step_grounds c epochs call few asked x h rest same may
+
+module _ (peers : ℕ) (view : List ℕ) (events : List ScheduleEvent) (small : peers ≤ 31) (is_view : IsView view) (few : length events < 2 ^ 32) (steady : AreSteady events) (may : AllMayStand peers events) (distinct : AreDistinct (call_ids events))
+    (apart : HasNoClash (run_of_schedule peers view events).hashed) where
+  pub steady_runs : HasRun view (run_of_schedule peers view events).hashed (run_of_schedule peers view events)
+  steady_runs = schedule_holds steps_good calls_good peers view events small is_view few steady may distinct (free_of (run_of_schedule peers view events).hashed apart)
+
+  pub steady_are_legal : (histories : List History) → AreHistories (run_of_schedule peers view events).notes (run_of_schedule peers view events).called histories → AreLegal events (run_of_schedule peers view events).printed histories
+  steady_are_legal = schedule_is_legal steps_good calls_good peers view events small is_view few steady may distinct (free_of (run_of_schedule peers view events).hashed apart)

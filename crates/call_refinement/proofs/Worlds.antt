@@ -1,0 +1,281 @@
+-- A step of one peer in a world: the world after it agrees with a run that goes on.
+use Rattle.std.proofs.Common.{◌≡◌, ℕ, suc, ◌<◌, ◌^◌, ◌⊎◌, inl, inr, true, List, [], ◌∷◌, ◌++◌, map, length, Some, slice_get, slice_set, append-nil, refl, sym, ap, ◌∙◌, subst}
+use Rattle.std.specs.Prelude.{All, Bool}
+use Rattle.std.proofs.lemmas.List.Elements.{All-nil, All-map, All-weaker}
+use Rattle.ens_base.specs.Limits.{IsKey, IsCommand}
+use Rattle.ens_base.specs.View.{IsPeer}
+use Rattle.abstract_protocol.specs.Ledger.{put}
+use Rattle.abstract_protocol.specs.Book.{MayCall}
+use Rattle.abstract_protocol.specs.Protocol.{State, Step, Ask, IsRun, state_after}
+use Rattle.call_table.specs.Calls.{running}
+use Rattle.call_table.specs.Rows.{row_at}
+use Rattle.election_refinement.proofs.Keeps.{keeps_none}
+use Rattle.election_refinement.specs.Plain.{IsPlainMessage}
+use Rattle.election_refinement.specs.Refinement.{IsKept, SendHolds, FrameHolds, IsOrderly}
+use Rattle.entry_laws.proofs.Later.{stay_same}
+use Rattle.held_stores.specs.Held.{Held, HeldStores}
+use Rattle.held_stores.specs.Laws.{held_with}
+use Rattle.held_stores.specs.Runs.{Ended, run}
+use Rattle.leader_laws.proofs.Roles.{run_roles}
+use Rattle.leader_laws.specs.Roles.{Follows, RoleHolds, RolesHold}
+use Rattle.leader_refinement.specs.Follows.{TaskHolds}
+use Rattle.leader_words.specs.declared.out.Outgoing.{Outgoing}
+use Rattle.leading.specs.declared.pending.Pending.{Pending}
+use Rattle.network.specs.Mail.{MayBeSent}
+use Rattle.peer_core.specs.Drives.{step_of}
+use Rattle.peer_core.specs.declared.event.CallIn.{CallIn}
+use Rattle.peer_core.specs.declared.event.Event.{Event}
+use Rattle.peer_core.specs.declared.event.Event.TheVariants as events
+use Rattle.peer_core.specs.declared.state.Phase.{Phase}
+use Rattle.peer_core.specs.declared.state.Phase.TheVariants as phases
+use Rattle.peer_core.specs.declared.state.State.{State as PeerState}
+use Rattle.register_model.specs.declared.answer.Answer.{Answer}
+use Rattle.register_model.specs.declared.note.Note.{Note}
+use Rattle.safety_laws.proofs.Ordered.{in_left}
+use Rattle.step_plans.specs.Plans.{Ending, Finished, Stopped, Plan, nothing}
+use Rattle.tree_refinement.specs.Trees.{AreAmong, AreFree}
+use Rattle.version_laws.proofs.Maps.{put_then}
+use Rattle.wire_frames.specs.declared.frame.Frame.{Frame}
+use Rattle.world_spec.specs.Nodes.{Node, Up, Down, Taken, taken, taken_by, taken_of, run_over}
+use Rattle.world_spec.specs.Runs.{Run, place_of, frame_from, with_taken}
+use Rattle.call_refinement.proofs.Behind.{behind, run_behind}
+use Rattle.call_refinement.proofs.Frame.{Scene, Elsewhere, Reached, Here, rest_task, EventComes, EndsBy}
+use Rattle.call_refinement.proofs.Giving.{owes, owed_all, AllGiven, all_given}
+use Rattle.call_refinement.proofs.Good.{StepGood, CallGood, asked_in}
+use Rattle.call_refinement.proofs.Obeying.{epochs_here}
+use Rattle.call_refinement.proofs.Lines.{with_answers, answers_in_front, down_agrees}
+use Rattle.call_refinement.proofs.Moving.{elsewhere_none}
+use Rattle.call_refinement.proofs.Places.{get_put, number, apart, role_there, role_put, roles_same, said_posted, posted_all_hold}
+use Rattle.call_refinement.proofs.Staying.{elsewhere_stays, node_fits, messages_elsewhere}
+use Rattle.call_refinement.specs.Lines.{AreSame, given_at, StepAgrees}
+use Rattle.call_refinement.specs.Peers.{AcksSay, AsksFit, EpochsFit, PhaseFits, TaskFits, IsAtRest, SendFits, FrameFits}
+use Rattle.call_refinement.specs.Roles.{role_in, roles_of, said_in, said_in_sends}
+use Rattle.call_refinement.specs.Worlds.{UpFits, NodeFits, MessagesFit, PartsHold, RolesFit, WorldHolds}
+
+-- ## Steps of one peer, for the others
+
+-- the calls keep their limits
+asks_elsewhere : (p : ℕ) (s t : State) → Elsewhere p s t → AsksFit s → AsksFit t
+asks_elsewhere p s t e asked i came = let old : s.book.called i ≡ true = subst (λ (called : ℕ → Bool). called i ≡ true) e.called came in
+    subst (λ c. IsKey c.key × IsCommand c.command) (sym (e.stays.asked i old)) (asked i old)
+
+module _ (view : List ℕ) (strings : List (List ℕ)) (p : ℕ) (peer : IsPeer p) where
+  -- the parts of a world after steps of peer p, with a new node of it and new messages
+  pub parts_replaced : (before after : List Step) (nodes : List Node) (sent more : List Frame) (hashed longer : List (List ℕ)) (notes noted : List Note) (node : Node) → PartsHold view strings before nodes sent hashed notes
+      → IsRun view after → Elsewhere p (state_after view before) (state_after view after) → IsOrderly (state_after view after).objects.ledger → AcksSay (state_after view after) strings → EpochsFit (state_after view after) → AreAmong hashed longer
+      → NodeFits view strings longer (state_after view after) p node → MessagesFit view strings (state_after view after) more → (state_after view after).book.notes ≡ noted
+      → PartsHold view strings after (slice_set nodes (place_of p) node) more longer noted
+  parts_replaced before after nodes sent more hashed longer notes noted node a run elsewhere orderly acks epochs among fits messages notes_are = record {
+    run = run;
+    orderly = orderly;
+    acks = acks;
+    asked = asks_elsewhere p (state_after view before) (state_after view after) elsewhere a.asked;
+    epochs = epochs;
+    nodes_fit = λ place new at. by_place place new (get_put nodes (place_of p) place node new at);
+    messages = messages;
+    noted = notes_are;
+  }
+    where
+      by_place : (place : ℕ) (new : Node) → ((place_of p ≡ place) × (new ≡ node)) ⊎ ((place_of p ≡ place → ⊥) × (slice_get nodes place ≡ Some new)) → NodeFits view strings longer (state_after view after) (suc place) new
+      by_place place new (inl here) = subst (λ (n : Node). NodeFits view strings longer (state_after view after) (suc place) n) (sym here.1)
+          (subst (λ (q : ℕ). NodeFits view strings longer (state_after view after) q node) (sym (number p peer) ∙ ap suc here.0) fits)
+      by_place place new (inr other) = node_fits view strings hashed longer (suc place) (state_after view before) (state_after view after) (elsewhere_stays p (suc place) (state_after view before) (state_after view after) (apart p place other.0) elsewhere) among new
+          (a.nodes_fit place new other.1)
+
+  -- what the node of the peer holds
+  pub own_fits : (steps : List Step) (nodes : List Node) (sent : List Frame) (hashed : List (List ℕ)) (notes : List Note) (node : Node) → PartsHold view strings steps nodes sent hashed notes → slice_get nodes (place_of p) ≡ Some node → NodeFits view strings hashed (state_after view steps) p node
+  own_fits steps nodes sent hashed notes node a at = subst (λ (q : ℕ). NodeFits view strings hashed (state_after view steps) q node) (number p peer) (a.nodes_fit (place_of p) node at)
+
+  -- the messages that the peer sends
+  sends_fit : (s : State) (sends : List Outgoing) → All (SendHolds s.objects.ledger p) sends → All (FrameHolds s.objects.ledger) (map (frame_from p) sends)
+  sends_fit s sends hold = All-map (FrameHolds s.objects.ledger) (frame_from p) sends (All-weaker (SendHolds s.objects.ledger p) (λ o. FrameHolds s.objects.ledger (frame_from p o)) (λ o h. (peer, h)) sends hold)
+
+  -- the peer is down: it follows nobody, and owes nothing
+  pub downed : (steps : List Step) (nodes : List Node) (sent : List Frame) (hashed : List (List ℕ)) (notes : List Note) (node : Node) (stores : HeldStores) → slice_get nodes (place_of p) ≡ Some node → IsKept (state_after view steps).objects.ledger p stores.facts.kept
+      → PartsHold view strings steps nodes sent hashed notes → RolesFit view steps (roles_of nodes) sent
+      → PartsHold view strings steps (slice_set nodes (place_of p) (Down stores)) sent hashed notes × RolesFit view steps (roles_of (slice_set nodes (place_of p) (Down stores))) sent
+  downed steps nodes sent hashed notes node stores at kept parts roles = (
+    parts_replaced steps steps nodes sent sent hashed hashed notes notes (Down stores) parts parts.run (elsewhere_none p (state_after view steps)) parts.orderly parts.acks parts.epochs (λ x i. i) kept parts.messages parts.noted,
+    record {
+      ghosts = roles.ghosts;
+      hash = roles.hash;
+      hold = roles_same roles.ghosts (state_after view steps) (put (roles_of nodes) p (Follows [])) (roles_of (slice_set nodes (place_of p) (Down stores))) (said_in sent) (said_in sent) (λ q. sym (role_put nodes p peer node (Down stores) at q)) (λ m i. i)
+          ((run_roles view steps parts.run).peer roles.ghosts (roles_of nodes) (said_in sent) p roles.hold).stops;
+    },
+  )
+
+-- ## A step in a world
+
+taken_strings : (e : Ending PeerState) (h : Held) (notes : List Note) → (taken_by e h notes).hashed ≡ h.hashed
+taken_strings (Finished x out) h notes = refl
+taken_strings (Stopped error) h notes = refl
+
+module _ (view : List ℕ) (strings : List (List ℕ)) (free : AreFree strings) (p : ℕ) (peer : IsPeer p) (w : Run) where
+  -- the scene of a step of the peer
+  abbrev pub scene : (before : List Step) → length (state_after view before).book.calls < 2 ^ 32 → AsksFit (state_after view before) → Scene
+  scene before few asked = record {
+    view = view;
+    begun = before;
+    peer = p;
+    is_peer = peer;
+    roles = roles_of w.nodes;
+    said = said_in w.mail.sent;
+    strings = strings;
+    free = free;
+    few = few;
+    asked = asked;
+  }
+
+  -- the run goes on from these steps, and the world after the step of the peer agrees with it
+  pub record StepGoes (before : List Step) (t : Taken) : Type 0 where
+    pub steps : List Step
+    pub holds : WorldHolds view strings steps (with_taken p t w)
+    pub agrees : StepAgrees t (state_after view before).book (state_after view steps).book
+
+  -- the peer before its step
+  abbrev pub here : (steps : List Step) (holds : WorldHolds view strings steps w) (few : length (state_after view steps).book.calls < 2 ^ 32) (x : PeerState) (stores : HeldStores) → slice_get w.nodes (place_of p) ≡ Some (Up x stores)
+      → Here (scene steps few holds.parts.asked) [] x (held_with stores w.hashed) nothing [] × IsAtRest x.phase
+  here steps holds few x stores at = (
+    record {
+      reached = record {
+        steps = steps;
+        run = holds.parts.run;
+        ghosts = holds.roles.ghosts;
+        hash = holds.roles.hash;
+        elsewhere = elsewhere_none p s;
+        orderly = holds.parts.orderly;
+        acks = holds.parts.acks;
+      };
+      roles = record {
+        turns = holds.roles.hold.turns;
+        roles_hold = put_then (roles_of w.nodes) p (role_in [] x.phase []) (RoleHolds holds.roles.ghosts s) (subst (RoleHolds holds.roles.ghosts s p) (role_there w.nodes p peer (Up x stores) at) (holds.roles.hold.roles_hold p)) (λ q other. holds.roles.hold.roles_hold q);
+        sent_hold = holds.roles.hold.sent_hold;
+      };
+      peer = fits.holds;
+      plain = fits.plain;
+      trust = fits.trust;
+      tree = fits.tree;
+      fits = subst (λ hash. PhaseFits hash s x.phase) (sym holds.roles.hash) fits.fits;
+      task = rest_task s [] x.phase fits.rests;
+      noted = sym (append-nil s.book.notes);
+      sends = All-nil (SendHolds s.objects.ledger p);
+      plain_sends = All-nil (λ (o : Outgoing). IsPlainMessage view o.message);
+      fits_sends = All-nil (SendFits s strings);
+    },
+    fits.rests,
+  )
+    where
+      s : State
+      s = state_after view steps
+
+      fits : UpFits view strings w.hashed s p x stores
+      fits = own_fits view strings p peer steps w.nodes w.mail.sent w.hashed w.notes (Up x stores) holds.parts at
+
+  module _ (before : List Step) (few : length (state_after view before).book.calls < 2 ^ 32) (parts : PartsHold view strings before w.nodes w.mail.sent w.hashed w.notes) (node : Node) (at : slice_get w.nodes (place_of p) ≡ Some node) where
+    -- the world after a step that ended well
+    ended_goes : (k : Ending PeerState) (held : Held) (ns : List Note) → EndsBy (scene before few parts.asked) k (behind w.hashed held) ns → All MayBeSent (with_taken p (taken_by k held ns) w).mail.sent → StepGoes before (taken_by k held ns)
+    ended_goes (Stopped error) held ns ends may = absurd ends
+    ended_goes (Finished y out) held ns ends may = record {
+      steps = given.steps;
+      holds = record {
+        parts = given.parts;
+        roles = record {
+          ghosts = r.ghosts;
+          hash = r.hash;
+          hold = roles_same r.ghosts (state_after view given.steps) (put (roles_of w.nodes) p (role_in [] y.phase [])) (roles_of v.nodes) (said_in v.mail.sent) (said_in v.mail.sent) (λ q. sym (role_put w.nodes p peer node (Up y held.stores) at q)) (λ m i. i) given.hold;
+        };
+      };
+      agrees = record {
+        now = given.now ∙ r.elsewhere.now;
+        calls = given.calls ∙ r.elsewhere.calls;
+        notes = given.notes ∙ is.noted;
+        answers = subst (λ (all : List Answer). AreSame all (map (given_at s.book.now) out.answers ++ s.book.answers))
+            (sym (given.given ∙ ap (λ (old : List Answer). with_answers t.book.now out.answers old) r.elsewhere.answers ∙ ap (λ (event : ℕ). with_answers event out.answers s.book.answers) r.elsewhere.now)) (answers_in_front s.book.now out.answers s.book.answers);
+      };
+    }
+      where
+        s : State
+        s = state_after view before
+
+        c : Scene
+        c = scene before few parts.asked
+
+        is : Here c [] y (behind w.hashed held) out ns
+        is = ends.0
+
+        r : Reached c
+        r = is.reached
+
+        t : State
+        t = state_after view r.steps
+
+        v : Run
+        v = with_taken p (taken_by (Finished y out) held ns) w
+
+        old : MessagesFit view strings t w.mail.sent
+        old = messages_elsewhere view strings p s t w.mail.sent r.elsewhere parts.messages
+
+        messages : MessagesFit view strings t v.mail.sent
+        messages = record {
+          hold = posted_all_hold (FrameHolds t.objects.ledger) (map (frame_from p) out.sends) w.mail old.hold (sends_fit view strings p peer t out.sends is.sends);
+          plain = posted_all_hold (λ (f : Frame). IsPlainMessage view f.message) (map (frame_from p) out.sends) w.mail old.plain (All-map (λ (f : Frame). IsPlainMessage view f.message) (frame_from p) out.sends is.plain_sends);
+          fit = posted_all_hold (FrameFits t strings) (map (frame_from p) out.sends) w.mail old.fit (All-map (FrameFits t strings) (frame_from p) out.sends is.fits_sends);
+          may = may;
+        }
+
+        own : UpFits view strings (w.hashed ++ held.hashed) t p y held.stores
+        own = record { holds = is.peer; plain = is.plain; trust = is.trust; tree = is.tree; fits = subst (λ hash. PhaseFits hash t y.phase) r.hash is.fits; rests = ends.1 }
+
+        after_step : PartsHold view strings r.steps v.nodes v.mail.sent v.hashed v.notes
+        after_step = parts_replaced view strings p peer before r.steps w.nodes w.mail.sent v.mail.sent w.hashed v.hashed w.notes v.notes (Up y held.stores) parts r.run r.elsewhere r.orderly r.acks (epochs_here c [] y (behind w.hashed held) out ns is parts.epochs) (λ x i. in_left w.hashed held.hashed x i) own messages
+            (is.noted ∙ ap (λ (notes : List Note). notes ++ ns) parts.noted)
+
+        roles : RolesHold r.ghosts t (put (roles_of w.nodes) p (role_in [] y.phase (owes out.answers))) (said_in v.mail.sent)
+        roles = roles_same r.ghosts t (put (roles_of w.nodes) p (role_in [] y.phase (owes out.answers))) (put (roles_of w.nodes) p (role_in [] y.phase (owes out.answers))) (said_in_sends p out.sends ++ said_in w.mail.sent) (said_in v.mail.sent) (λ q. refl)
+            (λ m i. said_posted p out.sends w.mail m i) (subst (λ owed. RolesHold r.ghosts t (put (roles_of w.nodes) p (role_in [] y.phase owed)) (said_in_sends p out.sends ++ said_in w.mail.sent)) (owed_all out.answers) is.roles)
+
+        given : AllGiven view strings v.nodes v.mail.sent v.hashed v.notes r.ghosts (roles_of w.nodes) (said_in v.mail.sent) p y.phase t out.answers
+        given = all_given view strings v.nodes v.mail.sent v.hashed v.notes r.ghosts (roles_of w.nodes) (said_in v.mail.sent) p y.phase r.steps out.answers after_step roles
+
+    -- all that a step hashes is among the strings, if all that the world hashed after it is
+    step_among : (plan : Plan PeerState) (stores : HeldStores) → AreAmong (with_taken p (taken_of (run_over plan stores)) w).hashed strings → AreAmong (run plan (held_with stores w.hashed) []).held.hashed strings
+    step_among plan stores among = let e : Ended PeerState = run_over plan stores in
+        subst (λ (k : Ended PeerState). AreAmong k.held.hashed strings) (sym (run_behind plan stores w.hashed)) (subst (λ (xs : List (List ℕ)). AreAmong (w.hashed ++ xs) strings) (taken_strings e.ending e.held e.notes) among)
+
+    -- the world after the step of a running peer
+    pub ran_goes : (plan : Plan PeerState) (stores : HeldStores) → All MayBeSent (with_taken p (taken_of (run_over plan stores)) w).mail.sent → AreAmong (with_taken p (taken_of (run_over plan stores)) w).hashed strings
+        → (AreAmong (run plan (held_with stores w.hashed) []).held.hashed strings → EndsBy (scene before few parts.asked) (run plan (held_with stores w.hashed) []).ending (run plan (held_with stores w.hashed) []).held (run plan (held_with stores w.hashed) []).notes)
+        → StepGoes before (taken_of (run_over plan stores))
+    ran_goes plan stores may among good = let e : Ended PeerState = run_over plan stores in
+        ended_goes e.ending e.held e.notes (subst (λ (k : Ended PeerState). EndsBy (scene before few parts.asked) k.ending k.held k.notes) (run_behind plan stores w.hashed) (good (step_among plan stores among))) may
+
+  -- a peer that is down takes no step
+  pub down_goes : (steps : List Step) → WorldHolds view strings steps w → (event : Event) (stores : HeldStores) → slice_get w.nodes (place_of p) ≡ Some (Down stores) → StepGoes steps (taken p event (Down stores))
+  down_goes steps holds event stores at = record {
+    steps = steps;
+    holds = record {
+      parts = subst (λ (hashed : List (List ℕ)). PartsHold view strings steps (slice_set w.nodes (place_of p) (Down stores)) w.mail.sent hashed (w.notes ++ [])) (sym (append-nil w.hashed))
+          (subst (λ (notes : List Note). PartsHold view strings steps (slice_set w.nodes (place_of p) (Down stores)) w.mail.sent w.hashed notes) (sym (append-nil w.notes)) now.0);
+      roles = now.1;
+    };
+    agrees = down_agrees p event stores (state_after view steps).book;
+  }
+    where
+      now : PartsHold view strings steps (slice_set w.nodes (place_of p) (Down stores)) w.mail.sent w.hashed w.notes × RolesFit view steps (roles_of (slice_set w.nodes (place_of p) (Down stores))) w.mail.sent
+      now = downed view strings p peer steps w.nodes w.mail.sent w.hashed w.notes (Down stores) stores at (own_fits view strings p peer steps w.nodes w.mail.sent w.hashed w.notes (Down stores) holds.parts at) holds.parts holds.roles
+
+  -- the step of a peer on an event that is no call
+  pub stepped_goes : StepGood → (event : Event) (node : Node) (steps : List Step) (holds : WorldHolds view strings steps w) (few : length (state_after view steps).book.calls < 2 ^ 32) → slice_get w.nodes (place_of p) ≡ Some node
+      → EventComes (scene steps few holds.parts.asked) event (state_after view steps) → All MayBeSent (with_taken p (taken p event node) w).mail.sent → AreAmong (with_taken p (taken p event node) w).hashed strings → StepGoes steps (taken p event node)
+  stepped_goes good event (Down stores) steps holds few at comes may among = down_goes steps holds event stores at
+  stepped_goes good event (Up x stores) steps holds few at comes may among = let begins = here steps holds few x stores at in
+      ran_goes steps few holds.parts (Up x stores) at (step_of p event x) stores may among (λ all. good (scene steps few holds.parts.asked) event x (held_with stores w.hashed) holds.parts.epochs begins comes all)
+
+  -- the step of a peer on a call, which has come
+  pub called_goes : CallGood → (call : CallIn) (node : Node) (steps : List Step) (holds : WorldHolds view strings steps w) → (few : length (state_after view steps).book.calls < 2 ^ 32) → slice_get w.nodes (place_of p) ≡ Some node → MayCall (state_after view steps).book (asked_in (state_after view steps) call)
+      → (come : WorldHolds view strings (Ask (asked_in (state_after view steps) call) ∷ steps) w) → length (state_after view (Ask (asked_in (state_after view steps) call) ∷ steps)).book.calls < 2 ^ 32
+      → All MayBeSent (with_taken p (taken p (events.Call call) node) w).mail.sent → AreAmong (with_taken p (taken p (events.Call call) node) w).hashed strings → StepGoes (Ask (asked_in (state_after view steps) call) ∷ steps) (taken p (events.Call call) node)
+  called_goes good call (Down stores) steps holds few at may_call come fewer may among = down_goes (Ask (asked_in (state_after view steps) call) ∷ steps) come (events.Call call) stores at
+  called_goes good call (Up x stores) steps holds few at may_call come fewer may among = let begins = here steps holds few x stores at in
+      ran_goes (Ask (asked_in (state_after view steps) call) ∷ steps) fewer come.parts (Up x stores) at (step_of p (events.Call call) x) stores may among
+      (λ all. good (scene steps few holds.parts.asked) call fewer come.parts.asked x (held_with stores w.hashed) holds.parts.epochs begins refl may_call all)

@@ -1,0 +1,35 @@
+ghost use Rattle.std.specs.Prelude.{◌<◌, ◌≤◌, ◌^◌, ℕ, List, length};
+ghost use Rattle.abstract_protocol.specs.Protocol.{Step, IsRun, state_after};
+ghost use Rattle.ens_base.specs.Lists.{AreDistinct};
+ghost use Rattle.ens_base.specs.View.{IsView};
+ghost use Rattle.held_stores.specs.Held.{HasNoClash};
+ghost use Rattle.history_scribe.specs.Histories.{AreHistories};
+ghost use Rattle.register_model.specs.declared.history.History.{History};
+ghost use Rattle.schedule_text.specs.Spelling.{AllMayStand, call_ids};
+ghost use Rattle.schedule_text.specs.declared.event.ScheduleEvent.{ScheduleEvent};
+ghost use Rattle.world_spec.specs.Lines.{run_of_schedule};
+ghost use Rattle.call_refinement.specs.Keys.{KeysAreCalled, KeysAreFew, IdsAreFew, CallsAreFew};
+ghost use Rattle.call_refinement.specs.Lines.{AreLegal, AreSteady};
+ghost use Rattle.call_refinement.specs.Worlds.{HasRun};
+
+/// The world after a steady schedule agrees with a run of the abstract protocol, in its peers, its
+/// messages and its notes, if no two different strings that it hashed have the same MD5.
+pub fn steady_worlds_refine_the_protocol()
+    ensures { (peers : ℕ) (view : List ℕ) (events : List ScheduleEvent) → peers ≤ 31 → IsView view → length events < 2 ^ 32 → AreSteady events → AllMayStand peers events → AreDistinct (call_ids events) → HasNoClash (run_of_schedule peers view events).hashed → HasRun view (run_of_schedule peers view events).hashed (run_of_schedule peers view events) }
+{}
+
+/// So the histories that its notes give are legal, for the calls of the schedule and the answers
+/// printed.
+pub fn steady_histories_are_legal()
+    ensures { (peers : ℕ) (view : List ℕ) (events : List ScheduleEvent) → peers ≤ 31 → IsView view → length events < 2 ^ 32 → AreSteady events → AllMayStand peers events → AreDistinct (call_ids events) → HasNoClash (run_of_schedule peers view events).hashed
+        → (histories : List History) → AreHistories (run_of_schedule peers view events).notes (run_of_schedule peers view events).called histories → AreLegal events (run_of_schedule peers view events).printed histories }
+{}
+
+/// In each run of the abstract protocol some call is on the key of each proposed version. So there are
+/// no more keys of versions than calls, no more ids than calls, and no more calls than events.
+pub fn keys_are_called()
+    ensures called { (view : List ℕ) (steps : List Step) → IsRun view steps → KeysAreCalled (state_after view steps) }
+    ensures keys { (view : List ℕ) (steps : List Step) → IsRun view steps → KeysAreFew (state_after view steps) }
+    ensures ids { (view : List ℕ) (steps : List Step) → IsRun view steps → IdsAreFew (state_after view steps) }
+    ensures events { (view : List ℕ) (steps : List Step) → IsRun view steps → CallsAreFew (state_after view steps) }
+{}
