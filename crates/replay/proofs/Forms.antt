@@ -1,8 +1,10 @@
 -- The events that are run have the same calls as their schedule.
-use Rattle.std.proofs.Common.{◌≡◌, ℕ, ◌==◌, Bool, true, false, List, [], ◌∷◌, ◌++◌, Option, None, Some, Result, Ok, Err, refl, sym, ap, subst, ◌∙◌, inl, inr, arith, string_bytes}
+use Rattle.std.proofs.Common.{◌≡◌, ◌<◌, ◌^◌, ℕ, length, ◌==◌, Bool, true, false, List, [], ◌∷◌, ◌++◌, Option, None, Some, Result, Ok, Err, refl, sym, ap, subst, ◌∙◌, inl, inr, arith, string_bytes}
 use Rattle.std.specs.Prelude.{if◌then◌else◌, ◌&&◌, IfOk, codes}
 use Rattle.std.specs.List.{list_all}
 use Rattle.std.proofs.lemmas.Bool.{false≢true}
+use Rattle.call_refinement.proofs.Steady.{steady_are_legal}
+use Rattle.call_refinement.specs.Lines.{AreSteady}
 use Rattle.ens_base.specs.Lists.{◌∈◌, AreDistinct}
 use Rattle.ens_base.specs.declared.command.Command.TheVariants as does
 use Rattle.held_stores.proofs.Taken.{hashed_none}
@@ -20,7 +22,7 @@ use Rattle.replay.specs.declared.event.Event.{Event}
 use Rattle.replay.specs.declared.event.Event.TheVariants.{Tick, Read, Write}
 use Rattle.replay.specs.Events.{call_ids}
 use Rattle.replay.specs.Form.{form_event, form_events, form_of, before, is_machine, is_machine_line}
-use Rattle.replay.specs.Jobs.{EndsSo, HasAdmitted, IsMachineText, IsRunText, IsWorldText, PrintsWith, clash_line, hashed_if, nothing_hashed}
+use Rattle.replay.specs.Jobs.{EndsSo, HasAdmitted, HasLegalHistories, IsMachineText, IsRunText, IsWorldText, PrintsWith, clash_line, hashed_if, nothing_hashed}
 use Rattle.replay.specs.Worlds.{schedule_run}
 use Rattle.schedule_input.specs.declared.ending.Ending.{Ending}
 use Rattle.world_spec.specs.Messages.{IsPastMessages}
@@ -92,12 +94,19 @@ forward_sound s of none = unreverted_is_none s of (λ p reverted. none p reverte
 pub machine_sound : (s : Schedule) → schedule.IsSchedule s → is_machine s ≡ true → first_unsound s ≡ None
 machine_sound s of form = forward_sound s of (λ peer changes. reverts_none s.events peer changes (both (s.peers == 1) (list_all is_machine_line s.events) form).1)
 
+-- a steady schedule of whose strings no two clash has legal histories
+steady_legal : (s : Schedule) → schedule.IsSchedule s → AreSteady s.events → HasNoClash (schedule_run s).hashed → HasLegalHistories s
+steady_legal s of steady apart = steady_are_legal s.peers s.view s.events of.peers.1 of.view.1 few steady of.events of.distinct apart
+  where
+    few : length s.events < 2 ^ 32
+    few = omega (arith, of.lines)
+
 -- what the machine's run of a schedule prints
 pub machine_done : (first : Account) (s : Schedule) (text : List ℕ) → schedule.IsSchedule s → first_unsound s ≡ None → is_machine s ≡ true → IsMachineText s text → EndsSo first first s Status.Done text
 machine_done first s text of sound form ran None read = tt
 machine_done first s text of sound form ran (Some bytes) read =
     let none : HasAdmitted [] first first = record { has = hashed_none first; apart = λ told a b there also same. absurd (omega (arith, there.1)) } in
-    (s, read, of, sound, subst (λ b. IsRunText b s text) (sym form) ran, subst (λ b. HasAdmitted (hashed_if b s) first first) (sym form) none)
+    (s, read, of, sound, subst (λ b. IsRunText b s text) (sym form) ran, subst (λ b. HasAdmitted (hashed_if b s) first first) (sym form) none, λ world steady kept. absurd (false≢true (sym world ∙ form)))
 
 -- how the run of a schedule in a world ends
 module _ (first now : Account) (s : Schedule) (sound : first_unsound s ≡ None) (form : is_machine s ≡ false) where
@@ -105,7 +114,7 @@ module _ (first now : Account) (s : Schedule) (sound : first_unsound s ≡ None)
   world_done text of ran has apart None read = tt
   world_done text of ran has apart (Some bytes) read =
       let all : HasAdmitted (schedule_run s).hashed first now = record { has = has; apart = apart } in
-      (s, read, of, sound, subst (λ b. IsRunText b s text) (sym form) ran, subst (λ b. HasAdmitted (hashed_if b s) first now) (sym form) all)
+      (s, read, of, sound, subst (λ b. IsRunText b s text) (sym form) ran, subst (λ b. HasAdmitted (hashed_if b s) first now) (sym form) all, λ world steady kept. steady_legal s of steady (apart kept))
 
   pub clash_ends : (kept new text : List ℕ) → HasClashed (schedule_run s).hashed first kept new now → text ≡ clash_line kept new → EndsSo first now s Status.Clash text
   clash_ends kept new text has is None read = (kept, new, has.1, has.3, is, tt)

@@ -1,5 +1,6 @@
 -- What a job prints, and why it ends as it does.
 use Rattle.std.specs.Prelude.{◌≡◌, ◌⊎◌, ℕ, Bool, true, false, List, [], ◌∷◌, ◌++◌, codes, Option, None, Some, Ok, IfSome}
+use Rattle.call_refinement.specs.Lines as steady
 use Rattle.held_stores.specs.Held.{Account, HasHashed, HasNoClash}
 use Rattle.held_stores.specs.Laws.{HasClashed, HasFilled}
 use Rattle.schedule_premise.specs.Premise.{first_unsound}
@@ -11,6 +12,7 @@ use Rattle.ens_base.specs.Lists.{◌∈◌}
 use Rattle.ens_base.specs.Words.{bytes_word}
 use Rattle.ens_base.specs.declared.status.Status.{Status}
 use Rattle.ens_hashing.specs.Hashing.{IsClash}
+use Rattle.history_scribe.specs.Histories as scribe
 use Rattle.register_model.specs.Histories.{IsLegal}
 use Rattle.register_model.specs.declared.history.History.{History}
 use Rattle.schedule_input.specs.Endings.{IsBadLine, IsLineLimit, IsUnsound}
@@ -58,10 +60,20 @@ pub record HasAdmitted (strings : List (List ℕ)) (first now : Account) : Type 
   pub has : HasHashed strings first now
   pub apart : first.kept ≡ Some [] → HasNoClash strings
 
--- the bytes are a sound schedule, the text is that of its run, and the hasher took the strings of the
--- run
+-- the histories that the notes of the run give are legal, for the calls of the schedule and the answers
+-- printed
+abbrev pub HasLegalHistories : Schedule → Type 0
+HasLegalHistories s = (histories : List History) → scribe.AreHistories (schedule_run s).notes (schedule_run s).called histories → steady.AreLegal s.events (schedule_run s).printed histories
+
+-- So it is with a schedule that runs in a world, if its lines only call, tick, deliver, pass, lose, calm
+-- and stop, and the hasher kept nothing before.
+abbrev pub IsLegalIfSteady : Account → Schedule → Type 0
+IsLegalIfSteady first s = is_machine s ≡ false → steady.AreSteady s.events → first.kept ≡ Some [] → HasLegalHistories s
+
+-- the bytes are a sound schedule, the text is that of its run, the hasher took the strings of the run,
+-- and the histories are legal
 abbrev pub IsReplay : Account → Account → List ℕ → List ℕ → Type 0
-IsReplay first now bytes text = (s : Schedule) × (schedule_of bytes ≡ Ok s) × IsSchedule s × (first_unsound s ≡ None) × IsRunText (is_machine s) s text × HasAdmitted (hashed_by s) first now
+IsReplay first now bytes text = (s : Schedule) × (schedule_of bytes ≡ Ok s) × IsSchedule s × (first_unsound s ≡ None) × IsRunText (is_machine s) s text × HasAdmitted (hashed_by s) first now × IsLegalIfSteady first s
 
 -- the bytes are a sound schedule, and the hasher rejected the next string of its run, which clashes
 -- with one that it keeps
