@@ -1,13 +1,15 @@
-//! Measures the speed of the decoder of frames, of the reader and writer of schedules, and of the test
-//! whether an order is a run of one register.
+//! Measures the speed of the decoder of frames, of the reader and writer of schedules, of the test
+//! whether an order is a run of one register, and of the hash tree.
 //!
-//! Each word names a part: `frames`, `schedules`, `runs`. Without a word all parts run. The printed
-//! counts are the same on every machine; measure the time from outside.
+//! Each word names a part: `frames`, `schedules`, `runs`, and of the tree `inserts`, `gets`, `scans`
+//! and `builds`. Without a word all parts run. The printed counts are the same on every machine;
+//! measure the time from outside.
 #![tactic(auto)]
 
 mod frames;
 mod runs;
 mod schedules;
+mod trees;
 
 use std::{env, io};
 
@@ -40,6 +42,12 @@ fn main(rt: HostRuntime) -> io::Result<()> {
                 println!(rt; "orders {orders} runs {runs} same {same} long {long}")?
             }
             None => println!(rt; "memory")?,
+        }
+    }
+    for part in trees::PARTS {
+        if is_asked(&words, part) {
+            let count = trees::measure(&rt, alloc, part).unwrap_or(0);
+            println!(rt; "{part} {count}")?;
         }
     }
     Ok(())

@@ -1,0 +1,358 @@
+// The tree of `benchmarks` in plain Rust, with std alone and the MD5 by hand: 20,000 inserts, 20,000
+// gets, 20 scans and 20 builds over nodes in memory, on one thread.
+//
+//     rustc --edition 2021 -O -o /tmp/trees bench/plain/trees.rs && /tmp/trees
+use std::collections::BTreeMap;
+use std::time::Instant;
+type Name = [u8; 16];
+#[derive(Clone, Copy)]
+struct Entry {
+    key: u64,
+    value: u64,
+}
+type Nodes = BTreeMap<Name, Vec<u8>>;
+
+fn table() -> [u32; 64] {
+    let mut k = [0u32; 64];
+    for i in 0..64 {
+        k[i] = ((i as f64 + 1.0).sin().abs() * 4294967296.0) as u32;
+    }
+    k
+}
+const S: [u32; 64] = [
+    7, 12, 17, 22, 7, 12, 17, 22, 7, 12, 17, 22, 7, 12, 17, 22, 5, 9, 14, 20, 5, 9, 14, 20, 5, 9,
+    14, 20, 5, 9, 14, 20, 4, 11, 16, 23, 4, 11, 16, 23, 4, 11, 16, 23, 4, 11, 16, 23, 6, 10, 15,
+    21, 6, 10, 15, 21, 6, 10, 15, 21, 6, 10, 15, 21,
+];
+struct Md5 {
+    k: [u32; 64],
+}
+impl Md5 {
+    fn block(&self, st: &mut [u32; 4], b: &[u8]) {
+        let mut m = [0u32; 16];
+        for i in 0..16 {
+            m[i] = u32::from_le_bytes([b[4 * i], b[4 * i + 1], b[4 * i + 2], b[4 * i + 3]]);
+        }
+        let (mut a, mut bb, mut c, mut d) = (st[0], st[1], st[2], st[3]);
+        for i in 0..64 {
+            let (f, g) = match i / 16 {
+                0 => ((bb & c) | (!bb & d), i),
+                1 => ((d & bb) | (!d & c), (5 * i + 1) % 16),
+                2 => (bb ^ c ^ d, (3 * i + 5) % 16),
+                _ => (c ^ (bb | !d), (7 * i) % 16),
+            };
+            let t = a.wrapping_add(f).wrapping_add(self.k[i]).wrapping_add(m[g]);
+            a = d;
+            d = c;
+            c = bb;
+            bb = bb.wrapping_add(t.rotate_left(S[i]));
+        }
+        st[0] = st[0].wrapping_add(a);
+        st[1] = st[1].wrapping_add(bb);
+        st[2] = st[2].wrapping_add(c);
+        st[3] = st[3].wrapping_add(d);
+    }
+    fn digest(&self, bytes: &[u8]) -> Name {
+        let mut st = [0x67452301u32, 0xefcdab89, 0x98badcfe, 0x10325476];
+        let mut it = bytes.chunks_exact(64);
+        for b in &mut it {
+            self.block(&mut st, b);
+        }
+        let rest = it.remainder();
+        let mut tail = [0u8; 128];
+        tail[..rest.len()].copy_from_slice(rest);
+        tail[rest.len()] = 0x80;
+        let n = if rest.len() < 56 { 64 } else { 128 };
+        tail[n - 8..n].copy_from_slice(&(bytes.len() as u64 * 8).to_le_bytes());
+        for b in tail[..n].chunks_exact(64) {
+            self.block(&mut st, b);
+        }
+        let mut out = [0u8; 16];
+        for i in 0..4 {
+            out[4 * i..4 * i + 4].copy_from_slice(&st[i].to_le_bytes());
+        }
+        out
+    }
+}
+fn digit(h: &Name, level: u32) -> u8 {
+    let b = h[(level / 2) as usize];
+    if level % 2 == 0 {
+        b >> 4
+    } else {
+        b & 15
+    }
+}
+fn header(tag: u8, level: u8, index: u32, room: usize) -> Vec<u8> {
+    let mut o = Vec::with_capacity(room);
+    o.push(tag);
+    o.push(level);
+    o.extend_from_slice(&index.to_be_bytes());
+    o
+}
+fn encode_inner(level: u8, index: u32, cs: &[Option<Name>]) -> Vec<u8> {
+    let mut o = header(1, level, index, 264);
+    let mut mask = 0u16;
+    let mut bit = 1u16;
+    for c in cs {
+        if c.is_some() {
+            mask |= bit;
+        }
+        bit = bit.wrapping_mul(2);
+    }
+    o.extend_from_slice(&mask.to_be_bytes());
+    for c in cs {
+        if let Some(n) = c {
+            o.extend_from_slice(n);
+        }
+    }
+    o
+}
+fn encode_segment(level: u8, index: u32, es: &[Entry]) -> Vec<u8> {
+    let mut o = header(2, level, index, 256);
+    o.extend_from_slice(&(es.len() as u32).to_be_bytes());
+    for e in es {
+        o.push(8);
+        o.extend_from_slice(&e.key.to_be_bytes());
+        o.extend_from_slice(&e.value.to_be_bytes());
+        o.extend_from_slice(&[0u8; 28]);
+    }
+    o
+}
+fn decode_inner(b: &[u8], level: u8, index: u32) -> Option<Vec<Option<Name>>> {
+    if b.len() < 8 || b[0] != 1 || b[1] != level || b[2..6] != index.to_be_bytes() {
+        return None;
+    }
+    let mut mask = u16::from_be_bytes([b[6], b[7]]);
+    let mut rest = 8;
+    let mut cs = Vec::with_capacity(16);
+    for _ in 0..16 {
+        if mask % 2 == 1 {
+            let n = b.get(rest..rest + 16)?;
+            cs.push(Some(n.try_into().ok()?));
+            rest += 16;
+        } else {
+            cs.push(None);
+        }
+        mask /= 2;
+    }
+    if rest != b.len() {
+        return None;
+    }
+    Some(cs)
+}
+fn decode_segment(b: &[u8], level: u8, index: u32) -> Option<Vec<Entry>> {
+    if b.len() < 10 || b[0] != 2 || b[1] != level || b[2..6] != index.to_be_bytes() {
+        return None;
+    }
+    let count = u32::from_be_bytes([b[6], b[7], b[8], b[9]]);
+    let mut at = 10;
+    let mut es = Vec::new();
+    for _ in 0..count {
+        let k = b.get(at + 1..at + 9)?;
+        let v = b.get(at + 9..at + 17)?;
+        es.push(Entry {
+            key: u64::from_be_bytes(k.try_into().ok()?),
+            value: u64::from_be_bytes(v.try_into().ok()?),
+        });
+        at += 45;
+    }
+    if at != b.len() {
+        return None;
+    }
+    Some(es)
+}
+fn fetch(m: &Md5, nodes: &Nodes, n: &Name) -> Option<Vec<u8>> {
+    let b = nodes.get(n)?.clone();
+    if m.digest(&b) == *n {
+        Some(b)
+    } else {
+        None
+    }
+}
+fn store(m: &Md5, nodes: &mut Nodes, b: Vec<u8>) -> Name {
+    let n = m.digest(&b);
+    nodes.insert(n, b);
+    n
+}
+fn put_under(
+    m: &Md5,
+    nodes: &mut Nodes,
+    height: u32,
+    level: u8,
+    index: u32,
+    named: Option<Name>,
+    h: &Name,
+    e: Entry,
+) -> Option<Name> {
+    let bytes = match &named {
+        Some(n) => Some(fetch(m, nodes, n)?),
+        None => None,
+    };
+    if height == 0 {
+        let mut es = match bytes {
+            Some(b) => decode_segment(&b, level, index)?,
+            None => Vec::new(),
+        };
+        match es.iter().position(|x| x.key >= e.key) {
+            Some(i) if es[i].key == e.key => es[i] = e,
+            Some(i) => es.insert(i, e),
+            None => es.push(e),
+        }
+        return Some(store(m, nodes, encode_segment(level, index, &es)));
+    }
+    let mut cs = match bytes {
+        Some(b) => decode_inner(&b, level, index)?,
+        None => vec![None; 16],
+    };
+    let d = digit(h, level as u32);
+    let child = cs[d as usize];
+    let n = put_under(
+        m,
+        nodes,
+        height - 1,
+        level + 1,
+        index * 16 + d as u32,
+        child,
+        h,
+        e,
+    )?;
+    cs[d as usize] = Some(n);
+    Some(store(m, nodes, encode_inner(level, index, &cs)))
+}
+fn find(
+    m: &Md5,
+    nodes: &Nodes,
+    height: u32,
+    level: u8,
+    index: u32,
+    n: &Name,
+    h: &Name,
+    key: u64,
+) -> Option<u64> {
+    let b = fetch(m, nodes, n)?;
+    if height == 0 {
+        return decode_segment(&b, level, index)?
+            .iter()
+            .find(|e| e.key == key)
+            .map(|e| e.value);
+    }
+    let cs = decode_inner(&b, level, index)?;
+    let d = digit(h, level as u32);
+    find(
+        m,
+        nodes,
+        height - 1,
+        level + 1,
+        index * 16 + d as u32,
+        cs[d as usize].as_ref()?,
+        h,
+        key,
+    )
+}
+fn scan(m: &Md5, nodes: &Nodes, top: &Name) -> Vec<Entry> {
+    let mut level = vec![(0u32, *top)];
+    for depth in 0..3u8 {
+        let mut next = Vec::new();
+        for (i, n) in &level {
+            if let Some(b) = fetch(m, nodes, n) {
+                if let Some(cs) = decode_inner(&b, depth, *i) {
+                    for (c, o) in cs.iter().enumerate() {
+                        if let Some(n) = o {
+                            next.push((i * 16 + c as u32, *n));
+                        }
+                    }
+                }
+            }
+        }
+        level = next;
+    }
+    let mut all = Vec::new();
+    for (i, n) in &level {
+        if let Some(b) = fetch(m, nodes, n) {
+            if let Some(es) = decode_segment(&b, 3, *i) {
+                all.extend_from_slice(&es);
+            }
+        }
+    }
+    all.sort_by_key(|e| e.key);
+    all
+}
+fn build(m: &Md5, es: &[Entry]) -> (Name, Vec<(Name, Vec<u8>)>) {
+    let mut buckets: Vec<Vec<Entry>> = (0..4096).map(|_| Vec::new()).collect();
+    for e in es {
+        let h = m.digest(&e.key.to_be_bytes());
+        buckets[digit(&h, 0) as usize * 256 + digit(&h, 1) as usize * 16 + digit(&h, 2) as usize]
+            .push(*e);
+    }
+    let mut nodes = Vec::new();
+    let mut names = Vec::new();
+    for (i, b) in buckets.iter().enumerate() {
+        if b.is_empty() {
+            names.push(None)
+        } else {
+            let t = encode_segment(3, i as u32, b);
+            let n = m.digest(&t);
+            names.push(Some(n));
+            nodes.push((n, t));
+        }
+    }
+    let mut top = [0; 16];
+    for level in (0..3u8).rev() {
+        let mut above = Vec::new();
+        for (i, g) in names.chunks(16).enumerate() {
+            if g.iter().all(|n| n.is_none()) && level > 0 {
+                above.push(None)
+            } else {
+                let t = encode_inner(level, i as u32, g);
+                let n = m.digest(&t);
+                above.push(Some(n));
+                nodes.push((n, t));
+                top = n;
+            }
+        }
+        names = above;
+    }
+    (top, nodes)
+}
+
+const ENTRIES: u64 = 20_000;
+const ROUNDS: u32 = 20;
+
+fn main() {
+    let m = Md5 { k: table() };
+    let hash = |key: u64| m.digest(&key.to_be_bytes());
+    let mut nodes = Nodes::new();
+    let mut top = store(&m, &mut nodes, encode_inner(0, 0, &[]));
+    let start = Instant::now();
+    for i in 0..ENTRIES {
+        let entry = Entry { key: i, value: i };
+        top = put_under(&m, &mut nodes, 3, 0, 0, Some(top), &hash(i), entry).unwrap_or(top);
+    }
+    println!("inserts {ENTRIES}: {} ms", start.elapsed().as_millis());
+    let start = Instant::now();
+    let found = (0..ENTRIES)
+        .filter(|&i| find(&m, &nodes, 3, 0, 0, &top, &hash(i), i) == Some(i))
+        .count();
+    println!("gets {found}: {} ms", start.elapsed().as_millis());
+    let start = Instant::now();
+    let mut entries = Vec::new();
+    for _ in 0..ROUNDS {
+        entries = scan(&m, &nodes, &top);
+    }
+    println!(
+        "scans {}: {} ms",
+        entries.len(),
+        start.elapsed().as_millis()
+    );
+    let start = Instant::now();
+    let mut built = (top, Vec::new());
+    for _ in 0..ROUNDS {
+        built = build(&m, &entries);
+    }
+    println!(
+        "builds {} {}: {} ms",
+        built.1.len(),
+        built.0 == top,
+        start.elapsed().as_millis()
+    );
+}
