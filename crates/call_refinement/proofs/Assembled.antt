@@ -1,13 +1,10 @@
 -- What the step of a peer stands on is proved: its tasks of phases, the messages that come to it, and its ticks end well.
-use Rattle.std.proofs.Common.{inl, ℕ, List, [], ◌∷◌}
+use Rattle.std.proofs.Common.{inl, ℕ, List, []}
 use Rattle.held_stores.specs.Held.{Held}
 use Rattle.peer_core.specs.Drives.{delivered}
-use Rattle.peer_core.specs.declared.state.Phase.{Phase}
-use Rattle.peer_core.specs.declared.state.Phase.TheVariants as phases
 use Rattle.peer_core.specs.declared.state.State.{State as PeerState}
 use Rattle.step_plans.specs.Plans.{Out, nothing, Rest}
 use Rattle.step_plans.specs.declared.tasks.Task.{Task}
-use Rattle.step_plans.specs.declared.tasks.Task.TheVariants as tasks
 use Rattle.wire_frames.specs.declared.message.Message.{Message}
 use Rattle.wire_frames.specs.declared.message.Message.TheVariants as messages
 use Rattle.call_refinement.proofs.Driving.{PhasesGood}
@@ -17,14 +14,7 @@ use Rattle.call_refinement.proofs.Looking.{stores_answer}
 use Rattle.call_refinement.proofs.PhaseTasks as elections
 use Rattle.call_refinement.proofs.Requests.{check_good, got_good, put_in_good}
 use Rattle.call_refinement.proofs.Stepping.{IsElse, OthersGood, StepGrounds}
-use Rattle.call_refinement.proofs.Tasks.{Wait, phases_wait, PhasesNext, TasksFit}
-
--- no task waits
-none_waits : (phase : Phase) → Wait phase []
-none_waits (phases.Leading l) = tt
-none_waits (phases.Following f) = tt
-none_waits (phases.Probing b) = tt
-none_waits (phases.Electing e) = tt
+use Rattle.call_refinement.proofs.Tasks.{phases_wait, PhasesNext, TasksFit}
 
 module _ (c : Scene) where
   open c use {peer as p}
@@ -39,7 +29,7 @@ module _ (c : Scene) where
 
     -- after a reply
     replies : (t : Held) (o : Out) → AtRest c [] x t o [] → Ends c (next [] x o) (mark [] x o) t []
-    replies t o there = go [] [] x t o [] (inl ((there, none_waits x.phase)))
+    replies t o there = go [] [] x t o [] (inl ((there, phases_wait x.phase [] tt)))
 
     message_good : (from : ℕ) (message : Message) → IsElse message → MessageComes c from message (now c rest.0.reached) → Ends c (delivered p from message x nothing next) (delivered p from message x nothing mark) h []
     message_good from (messages.Check ballot round) is comes = check_good c rest.0 rest.1 next mark replies from ballot round comes

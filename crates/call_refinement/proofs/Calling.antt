@@ -1,5 +1,5 @@
 -- What a leader does on a call, and on the replies to what it has asked.
-use Rattle.std.proofs.Common.{◌≡◌, inl, inr, ◌<◌, ◌^◌, ℕ, List, [], ◌∷◌, ◌++◌, append-nil, length, Option, Some, None, refl, sym, subst, ◌∙◌}
+use Rattle.std.proofs.Common.{◌≡◌, inl, ◌<◌, ◌^◌, ℕ, List, [], ◌∷◌, ◌++◌, append-nil, length, Option, Some, None, refl, sym, subst, ◌∙◌}
 use Rattle.std.proofs.lemmas.List.Elements.{All-nil}
 use Rattle.ens_base.specs.Lists.{◌∈◌}
 use Rattle.ens_base.specs.declared.entry.Entry.{Entry}
@@ -14,13 +14,11 @@ use Rattle.abstract_protocol.specs.Protocol.{State, Step, Ask, IsRun, state_afte
 use Rattle.call_table.specs.Rows.{check_at}
 use Rattle.election.specs.declared.election.Election.{Election}
 use Rattle.election.specs.declared.election.Election.TheVariants.{Preparing, Starting}
-use Rattle.election_refinement.proofs.Keeps.{keeps_none}
 use Rattle.election_refinement.specs.Plain.{IsPlainMessage}
 use Rattle.election_refinement.specs.Refinement.{SendHolds}
-use Rattle.entry_laws.proofs.Later.{stay_same}
 use Rattle.held_stores.specs.Held.{Held}
 use Rattle.leader_laws.proofs.Roles.{run_roles}
-use Rattle.leader_laws.specs.Roles.{Role, Said, Sent, Entry as Entries, Acks, Stands as StandsThere, with_owed, owed_by, SaidHolds, RolesHold}
+use Rattle.leader_laws.specs.Roles.{Role, Entry as Entries, Acks, Stands as StandsThere, with_owed, owed_by, RolesHold}
 use Rattle.leader_laws.specs.Tables.{Ghosts, with_home}
 use Rattle.leader_refinement.proofs.Asking.{run_got}
 use Rattle.leader_refinement.proofs.Checks.{run_counts}
@@ -54,31 +52,24 @@ use Rattle.step_plans.specs.Plans.{Out, nothing, Rest}
 use Rattle.step_plans.specs.declared.tasks.Task.{Task}
 use Rattle.version_laws.proofs.Maps.{put_here}
 use Rattle.wire_frames.specs.declared.message.Message.TheVariants as messages
-use Rattle.call_refinement.proofs.Frame.{Scene, state_before, Elsewhere, now, Here, AtRest, Ends, Onward}
+use Rattle.call_refinement.proofs.Frame.{Scene, state_before, now, Here, AtRest, Ends, Onward}
 use Rattle.call_refinement.proofs.Good.{asked_in, with_call}
 use Rattle.call_refinement.proofs.Leaders.{Standing, Stands, standing_of, stands_here, stands_on, steps_stand, move_roles, at_work, own_peer, rekeyed_leader}
 use Rattle.call_refinement.proofs.Leading.{There, told_nothing, calm_plan, tame_ends}
 use Rattle.call_refinement.proofs.Looking.{stores_answer, over_here, Confirmed, confirmed_ends}
 use Rattle.call_refinement.proofs.Moving.{role_once, elsewhere_none}
+use Rattle.call_refinement.proofs.Saying.{says_here}
 use Rattle.call_refinement.proofs.Sayings.{acks_later}
 use Rattle.call_refinement.proofs.Tame.{calm_27, tame_got, tame_stands, tame_put}
 use Rattle.call_refinement.proofs.Tasks.{TasksFit}
 use Rattle.call_refinement.specs.Peers.{AsksFit, IsAtRest, SendFits}
-use Rattle.call_refinement.specs.Roles.{role_in, said_in_sends}
-
-said_before : (xs said : List Sent) (m : Sent) → m ∈ said → m ∈ (xs ++ said)
-said_before [] said m at = at
-said_before (x ∷ xs) said m at = inr (said_before xs said m at)
+use Rattle.call_refinement.specs.Roles.{role_in}
 
 module _ (c : Scene) where
   open c use {view, strings, peer as p}
 
   onward_all : (next mark : Rest PeerState (List Task)) → Onward c (TasksFit c) next mark → Onward c (There c []) next mark
   onward_all next mark go more k y g o ns there = go more k y g o ns (subst (λ ts. TasksFit c ts k y g o ns) (append-nil more) there)
-
-  -- what a message said that came holds
-  says_here : {key : List ℕ} {x : PeerState} {h : Held} {out : Out} {notes : List Note} (here : Here c key x h out notes) (from : ℕ) (m : Said) → record { from = from; said = m } ∈ c.said → SaidHolds here.reached.ghosts (now c here.reached) from m
-  says_here {out = out} here from m at = here.roles.sent_hold (record { from = from; said = m }) (said_before (said_in_sends p out.sends) c.said (record { from = from; said = m }) at)
 
   -- a leader to whom a row says nothing
   idle_ends : (n : ℕ) (key : List ℕ) (l : Leadership) (x : PeerState) (h : Held) (out : Out) (notes : List Note) → AtRest c key (leading l x) h out notes → (next mark : Rest PeerState (List Task)) → Onward c (TasksFit c) next mark
@@ -94,7 +85,7 @@ module _ (c : Scene) where
       → Ends c (delivered p from (messages.PutReply ballot key version) (record x { phase = phase }) out next) (delivered p from (messages.PutReply ballot key version) (record x { phase = phase }) out mark) h notes
   put_heard from ballot key version (phases.Leading l) k x h out notes rest said next mark go = let here = rekeyed_leader c l x rest.0 key rest.1 in
       tame_ends c l x here (row_35_reply from ballot key version l.leader) 35 [] (tame_put from ballot key version l.leader)
-      (run_acknowledged view here.reached.steps here.reached.run here.reached.ghosts key (owed_after [] out.answers) l.leader from ballot version (at_work c l x here) rest.1 (says_here here from (Acks (rank version)) said))
+      (run_acknowledged view here.reached.steps here.reached.run here.reached.ghosts key (owed_after [] out.answers) l.leader from ballot version (at_work c l x here) rest.1 (says_here c here from (Acks (rank version)) said))
       tt tt next mark (onward_all next mark go)
   put_heard from ballot key version (phases.Following f) k x h out notes rest said next mark go = go [] k (record x { phase = phases.Following f }) h out notes (inl (rest, tt))
   put_heard from ballot key version (phases.Probing b) k x h out notes rest said next mark go = go [] k (record x { phase = phases.Probing b }) h out notes (inl (rest, tt))
@@ -114,7 +105,7 @@ module _ (c : Scene) where
       by_check (Some key) is = let here = rekeyed_leader c l x rest.0 key rest.1 in
           subst (λ found. Plans (stood_at found from ballot round l.leader)) is
           (tame_ends c l x here (row_33_reply from ballot round l.leader) 33 [] (tame_stands from ballot round l.leader)
-          (run_counts view here.reached.steps here.reached.run here.reached.ghosts key (owed_after [] out.answers) l.leader from ballot round (at_work c l x here) rest.1 is (says_here here from (StandsThere (epoch_number ballot) round) said))
+          (run_counts view here.reached.steps here.reached.run here.reached.ghosts key (owed_after [] out.answers) l.leader from ballot round (at_work c l x here) rest.1 is (says_here c here from (StandsThere (epoch_number ballot) round) said))
           tt tt next mark (onward_all next mark go))
   check_heard from ballot round (phases.Following f) k x h out notes rest said next mark go = go [] k (record x { phase = phases.Following f }) h out notes (inl (rest, tt))
   check_heard from ballot round (phases.Probing b) k x h out notes rest said next mark go = go [] k (record x { phase = phases.Probing b }) h out notes (inl (rest, tt))
@@ -126,7 +117,7 @@ module _ (c : Scene) where
       → Ends c (delivered p from (messages.GetReply ballot round key entry object) (record x { phase = phase }) out next) (delivered p from (messages.GetReply ballot round key entry object) (record x { phase = phase }) out mark) h notes
   got_heard from ballot round key entry object (phases.Leading l) k x h out notes rest said entry_says fits next mark go =
       confirmed_ends c here stores_answer from (epoch_number ballot) round key entry object (λ named y o. lead (row_29_reply from ballot round key entry named) p 29 y.phase y o next) (λ named y o. lead (row_29_reply from ballot round key entry named) p 29 y.phase y o mark)
-      (says_here here from (Entries (epoch_number ballot) round key (entry_rank entry) (shown entry object)) said) entry_says (λ named t over confirmed. heard named t (over_here c here t over) confirmed)
+      (says_here c here from (Entries (epoch_number ballot) round key (entry_rank entry) (shown entry object)) said) entry_says (λ named t over confirmed. heard named t (over_here c here t over) confirmed)
     where
       here : Here c key (leading l x) h out notes
       here = rekeyed_leader c l x rest.0 key rest.1

@@ -28,6 +28,7 @@ use Rattle.world_spec.proofs.Growth.{IsFurther}
 use Rattle.world_spec.specs.Lines.{call_of, run_of_schedule}
 use Rattle.world_spec.specs.Nodes.{Node, Up, Down, taken, stopped}
 use Rattle.world_spec.specs.Runs.{Run, opening_run, place_of, with_taken}
+use Rattle.call_refinement.proofs.Causes.{causes_of}
 use Rattle.call_refinement.proofs.Frame.{MessageComes}
 use Rattle.call_refinement.proofs.Giving.{parts_same}
 use Rattle.call_refinement.proofs.Good.{StepGood, CallGood}
@@ -38,7 +39,8 @@ use Rattle.safety_laws.proofs.Ordered.{in_left}
 use Rattle.call_refinement.proofs.Places.{frame_at, said_at}
 use Rattle.call_refinement.proofs.Schedules.{IsInRun, AreAlike, TakesStep, GoesAlong, Stops, IsCarried, next_call, IsAfter, schedule_agrees, schedule_legal}
 use Rattle.call_refinement.proofs.Worlds.{downed, own_fits, scene, StepGoes, stepped_goes, called_goes}
-use Rattle.call_refinement.specs.Lines.{AreSteady, AreLegal}
+use Rattle.call_refinement.specs.Causes.{HaveCauses}
+use Rattle.call_refinement.specs.Lines.{AreSteady, AreLegal, BookAgrees}
 use Rattle.call_refinement.specs.Peers.{AsksFit, FrameFits}
 use Rattle.call_refinement.specs.Roles.{roles_of, said_in}
 use Rattle.call_refinement.specs.Worlds.{UpFits, PartsHold, RolesFit, WorldHolds, HasRun}
@@ -225,3 +227,8 @@ module _ (step_good : StepGood) (call_good : CallGood) (peers : ℕ) (view : Lis
   -- its histories are legal
   pub schedule_is_legal : (histories : List History) → AreHistories (run_of_schedule peers view events).notes (run_of_schedule peers view events).called histories → AreLegal events (run_of_schedule peers view events).printed histories
   schedule_is_legal = schedule_legal peers view events (Stands view Strings) (carried view Strings free step_good call_good peers small (run_of_schedule peers view events) (λ x at. at)) opens small few steady may distinct
+
+  -- each answer printed has its cause
+  pub schedule_has_causes : HaveCauses events (run_of_schedule peers view events).printed (run_of_schedule peers view events).notes
+  schedule_has_causes = let a : Stands view Strings (run_of_schedule peers view events) schedule_stands.state = schedule_stands.holds in
+      causes_of view a.steps events (run_of_schedule peers view events) a.holds.parts.run (subst (λ (s : State). BookAgrees events (run_of_schedule peers view events) s.book) (sym a.is) schedule_stands.agrees)

@@ -1,6 +1,8 @@
 -- Distinct items of one list that each come from an item of another are no more than the items of the other.
-use Rattle.std.proofs.Common.{◌≡◌, ℕ, suc, ◌≤◌, ◌⊎◌, List, [], ◌∷◌, length, arith, ap, refl, inl, inr, sym, ◌∙◌, subst}
+use Rattle.std.proofs.Common.{◌≡◌, ℕ, suc, ◌+◌, ◌≤◌, ◌⊎◌, List, [], ◌∷◌, ◌++◌, append_assoc, length, arith, ap, refl, inl, inr, sym, ◌∙◌, subst}
+use Rattle.std.proofs.lemmas.List.{length-append}
 use Rattle.ens_base.specs.Lists.{◌∈◌, AreDistinct}
+use Rattle.safety_laws.proofs.Ordered.{in_append, in_left, in_right}
 
 -- the list without one of its items
 record Without {A : Type 0} (xs : List A) (x : A) : Type 0 where
@@ -51,3 +53,23 @@ images_few {A = A} {B = B} f ys (x ∷ xs) distinct come = by_first (come x (inl
 
     by_first : Comes f ys x → ((zs : List B) → ((z : A) → z ∈ xs → Comes f zs z) → length xs ≤ length zs) → suc (length xs) ≤ length ys
     by_first c later = by_rest c (removed ys c.0 c.1) later
+
+-- a list that has all items of a distinct one, and is no longer, is distinct; so is its end
+pub end_distinct : {A : Type 0} (xs : List A) → AreDistinct xs → (first last : List A) → ((x : A) → x ∈ xs → x ∈ (first ++ last)) → length (first ++ last) ≤ length xs → AreDistinct last
+end_distinct xs distinct first [] all few = tt
+end_distinct {A = A} xs distinct first (y ∷ last) all few = (once, end_distinct xs distinct (first ++ y ∷ []) last (λ x m. subst (λ (l : List A). x ∈ l) (sym moved) (all x m)) (subst (λ (l : List A). length l ≤ length xs) (sym moved) few))
+  where
+    moved : (first ++ y ∷ []) ++ last ≡ first ++ y ∷ last
+    moved = append_assoc first (y ∷ []) last
+
+    without : y ∈ last → (x : A) → (x ∈ first) ⊎ (x ∈ (y ∷ last)) → x ∈ (first ++ last)
+    without again x (inl h) = in_left first last x h
+    without again x (inr (inl e)) = in_right first last x (subst (λ (z : A). z ∈ last) (sym e) again)
+    without again x (inr (inr h)) = in_right first last x h
+
+    longer : (f l b w n : ℕ) → w ≡ f + suc l → b ≡ f + l → w ≤ n → n ≤ b → ⊥
+    longer f l b w n e g h k = omega (arith, e, g, h, k)
+
+    once : y ∈ last → ⊥
+    once again = longer (length first) (length last) (length (first ++ last)) (length (first ++ y ∷ last)) (length xs) (length-append first (y ∷ last)) (length-append first last) few
+        (images_few (λ (x : A). x) (first ++ last) xs distinct (λ x m. (x, without again x (in_append first (y ∷ last) x (all x m)), refl)))

@@ -1,9 +1,7 @@
 -- In a steady schedule every message obeys the grammar, every peer sends as itself, and no write of a
 -- running peer is to fail.
-use Rattle.std.proofs.Common.{◌≡◌, ℕ, zero, suc, ◌≤◌, ◌⊎◌, List, [], ◌∷◌, Option, Some, slice_get, slice_set, replicate, ap, inl, inr, sym, ◌∙◌, subst, lit<, le_trans}
+use Rattle.std.proofs.Common.{◌≡◌, ℕ, ◌≤◌, ◌⊎◌, List, [], Option, Some, slice_get, slice_set, ap, inl, inr, sym, ◌∙◌, subst, lit<, le_trans}
 use Rattle.std.specs.Prelude.{All}
-use Rattle.std.proofs.lemmas.List.Elements.{All-head, All-tail}
-use Rattle.std.proofs.lemmas.Option.{none-some, same_Some}
 use Rattle.ens_base.specs.View.{IsPeer}
 use Rattle.held_stores.specs.Laws.{held_with}
 use Rattle.held_stores.specs.Runs.{Ended}

@@ -3,6 +3,7 @@ pub mod Keys
 pub mod Legal
 pub mod Lines
 pub mod Histories
+pub mod Causes
 pub mod Intact
 pub mod Schedules
 pub mod Frame

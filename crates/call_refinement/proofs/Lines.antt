@@ -1,6 +1,6 @@
 -- The book of the abstract protocol agrees with a world through the steps of a line.
 use Rattle.std.proofs.Common.{◌≡◌, ℕ, suc, ◌+◌, ◌<◌, ◌^◌, ◌⊎◌, Bool, List, [], ◌∷◌, ◌++◌, map, length, arith, ap, refl, inl, inr, sym, ◌∙◌, subst}
-use Rattle.std.proofs.lemmas.List.{append-nil, length-append}
+use Rattle.std.proofs.lemmas.List.{append-nil, length-append, length-map}
 use Rattle.ens_base.specs.Lists.{◌∈◌}
 use Rattle.abstract_protocol.specs.Book.{Book, opening_book}
 use Rattle.abstract_protocol.specs.Protocol.{State, Begin, Ask, happens}
@@ -110,7 +110,7 @@ ask_opens s c = record { now = refl; called = refl; notes = refl; answers = refl
 
 -- before the first line
 pub opening_agrees : (peers : ℕ) (view : List ℕ) → BookAgrees [] (opening_run peers view) opening_book
-opening_agrees peers view = record { counted = refl; now = refl; notes = refl; calls = same_itself []; answers = same_itself [] }
+opening_agrees peers view = record { counted = refl; now = refl; notes = refl; calls = same_itself []; answers = same_itself []; many = refl }
 
 -- a line begins
 pub line_begins : (events : List ScheduleEvent) (event : ScheduleEvent) (w : Run) (b next : Book) → BookAgrees events w b → Opens (call_at event (b.now + 1) []) b next → Within (events ++ event ∷ []) w next
@@ -121,6 +121,7 @@ line_begins events event w b next old opens = record {
   calls = same_equal next.calls (call_at event (b.now + 1) [] ++ b.calls) (calls_from 1 (events ++ event ∷ [])) opens.called
       (subst (λ (cs : List Call). AreSame (call_at event (b.now + 1) [] ++ b.calls) cs) (sym ends) (same_ends (call_at event (b.now + 1) []) b.calls (calls_from 1 events) old.calls));
   answers = subst (λ (given : List Answer). AreSame given (answers_in w.printed)) (sym opens.answers) old.answers;
+  many = ap (λ (given : List Answer). length given) opens.answers ∙ old.many;
 }
   where
     longer : length (events ++ event ∷ []) ≡ length events + 1 → 0 + w.events ≡ length events → 1 + w.events ≡ length (events ++ event ∷ [])
@@ -145,8 +146,13 @@ module _ (events : List ScheduleEvent) (few : length events < 2 ^ 32) where
     calls = subst (λ (cs : List Call). AreSame cs (calls_from 1 events)) (sym agrees.calls) old.calls;
     answers = same_through next.answers (map (given_at b.now) t.out.answers ++ b.answers) (answers_in (with_taken peer t w).printed) agrees.answers
         (subst (λ (given : List Answer). AreSame (map (given_at b.now) t.out.answers ++ b.answers) given) (sym prints) (same_ends (map (given_at b.now) t.out.answers) b.answers (answers_in w.printed) old.answers));
+    many = total (length next.answers) (length t.out.answers) (length b.answers) (length (answers_in w.printed)) (length (map (given_at b.now) t.out.answers)) (length (answers_in (with_taken peer t w).printed)) agrees.many old.many (length-map t.out.answers (given_at b.now))
+        (ap (λ (given : List Answer). length given) prints ∙ length-append (answers_in w.printed) (map (given_at b.now) t.out.answers));
   }
     where
+      total : (all new old printed given both : ℕ) → all ≡ new + old → old ≡ printed → given ≡ new → both ≡ printed + given → all ≡ both
+      total all new old printed given both e f g h = omega (arith, e, f, g, h)
+
       number : next_event w.events ≡ b.now
       number = next_is w.events (length events) old.counted few ∙ sym old.now
 
@@ -156,7 +162,7 @@ module _ (events : List ScheduleEvent) (few : length events < 2 ^ 32) where
 
   -- the world has counted the line
   pub line_ends : (event : ScheduleEvent) (w : Run) (b : Book) → Within events w b → BookAgrees events (counted event w) b
-  line_ends event w b old = record { counted = all_counted w.events (length events) old.counted few; now = old.now; notes = old.notes; calls = old.calls; answers = old.answers }
+  line_ends event w b old = record { counted = all_counted w.events (length events) old.counted few; now = old.now; notes = old.notes; calls = old.calls; answers = old.answers; many = old.many }
 
 -- nothing is printed or noted
 pub alike_agrees : (uncounted : ℕ) (events : List ScheduleEvent) (w v : Run) (b : Book) → v.events ≡ w.events → v.notes ≡ w.notes → v.printed ≡ w.printed → Agrees uncounted events w b → Agrees uncounted events v b
@@ -166,6 +172,7 @@ alike_agrees uncounted events w v b count notes lines old = record {
   notes = old.notes ∙ sym notes;
   calls = old.calls;
   answers = subst (λ (ls : List Printed). AreSame b.answers (answers_in ls)) (sym lines) old.answers;
+  many = old.many ∙ ap (λ (ls : List Printed). length (answers_in ls)) (sym lines);
 }
 
 pub quiet_agrees : (uncounted : ℕ) (events : List ScheduleEvent) (w : Run) (b next : Book) → IsQuiet b next → Agrees uncounted events w b → Agrees uncounted events w next
@@ -175,13 +182,17 @@ quiet_agrees uncounted events w b next quiet old = record {
   notes = quiet.notes ∙ old.notes;
   calls = subst (λ (cs : List Call). AreSame cs (calls_from 1 events)) (sym quiet.calls) old.calls;
   answers = subst (λ (given : List Answer). AreSame given (answers_in w.printed)) (sym quiet.answers) old.answers;
+  many = ap (λ (given : List Answer). length given) quiet.answers ∙ old.many;
 }
 
 -- ## Steps of a peer
 
 -- a peer that is down does nothing
 pub down_agrees : (me : ℕ) (event : Event) (stores : HeldStores) (b : Book) → StepAgrees (taken me event (Down stores)) b b
-down_agrees me event stores b = record { now = refl; calls = refl; notes = sym (append-nil b.notes); answers = same_itself b.answers }
+down_agrees me event stores b = record { now = refl; calls = refl; notes = sym (append-nil b.notes); answers = same_itself b.answers; many = none (length b.answers) }
+  where
+    none : (n : ℕ) → n ≡ 0 + n
+    none n = omega arith
 
 -- a step of the abstract protocol that makes no note and gives no answer may come before
 pub quiet_first : (t : Taken) (b c d : Book) → IsQuiet b c → StepAgrees t c d → StepAgrees t b d
@@ -190,6 +201,7 @@ quiet_first t b c d quiet agrees = record {
   calls = agrees.calls ∙ quiet.calls;
   notes = agrees.notes ∙ ap (λ (ns : List Note). ns ++ t.notes) quiet.notes;
   answers = subst (λ (n : ℕ). AreSame d.answers (map (given_at n) t.out.answers ++ b.answers)) quiet.now (subst (λ (old : List Answer). AreSame d.answers (map (given_at c.now) t.out.answers ++ old)) quiet.answers agrees.answers);
+  many = agrees.many ∙ ap (λ (old : List Answer). length t.out.answers + length old) quiet.answers;
 }
 
 -- and so may one after
@@ -199,12 +211,24 @@ quiet_last t b c d agrees quiet = record {
   calls = quiet.calls ∙ agrees.calls;
   notes = quiet.notes ∙ agrees.notes;
   answers = subst (λ (given : List Answer). AreSame given (map (given_at b.now) t.out.answers ++ b.answers)) (sym quiet.answers) agrees.answers;
+  many = ap (λ (given : List Answer). length given) quiet.answers ∙ agrees.many;
 }
 
 -- the answers, each in front of those before it
 abbrev pub with_answers : ℕ → List AnswerOut → List Answer → List Answer
 with_answers event [] old = old
 with_answers event (a ∷ answers) old = with_answers event answers (given_at event a ∷ old)
+
+-- and as many more
+pub answers_many : (event : ℕ) (answers : List AnswerOut) (old : List Answer) → length (with_answers event answers old) ≡ length answers + length old
+answers_many event [] old = none (length old)
+  where
+    none : (n : ℕ) → n ≡ 0 + n
+    none n = omega arith
+answers_many event (a ∷ answers) old = moved (length (with_answers event answers (given_at event a ∷ old))) (length answers) (length old) (answers_many event answers (given_at event a ∷ old))
+  where
+    moved : (all n m : ℕ) → all ≡ n + suc m → all ≡ suc n + m
+    moved all n m e = omega (arith, e)
 
 -- a book with these answers in front has them
 pub answers_in_front : (event : ℕ) (answers : List AnswerOut) (old : List Answer) → AreSame (with_answers event answers old) (map (given_at event) answers ++ old)

@@ -2,12 +2,11 @@
 -- found; an object of the backend comes with the digest of its bytes; and an object that is written
 -- is stored. The steps of the abstract protocol that belong to this are those of the peer's own
 -- tree: a write, and an acknowledgement.
-use Rattle.std.proofs.Common.{◌≡◌, ◌⊎◌, inl, inr, ◌<◌, ◌≤◌, ◌^◌, ℕ, Bool, true, false, ◌&&◌, if◌then◌else◌, List, [], ◌∷◌, ◌++◌, length, map, Option, None, Some, Ok, suc, arith, refl, sym, ap, subst, le_trans, ◌∙◌}
+use Rattle.std.proofs.Common.{◌≡◌, ◌⊎◌, inl, inr, ◌<◌, ◌≤◌, ◌^◌, ℕ, Bool, true, false, ◌&&◌, if◌then◌else◌, List, [], ◌∷◌, ◌++◌, length, map, Option, None, Some, Ok, suc, arith, refl, sym, ap, subst, ◌∙◌}
 use Rattle.std.specs.declared.cmp.Ordering.TheVariants.{Less, Equal}
 use Rattle.std.proofs.lemmas.Bool.{and_parts, cases_order}
 use Rattle.std.proofs.lemmas.Bool.Decides.{nat_tests}
 use Rattle.std.proofs.lemmas.Option.{none-some, same_Some}
-use Rattle.std.proofs.lemmas.List.Elements.{All-weaker}
 use Rattle.md5.specs.Md5.{md5}
 use Rattle.ens_base.proofs.Lists.{bytes_same}
 use Rattle.ens_base.specs.Epochs.{same_version}
@@ -25,18 +24,14 @@ use Rattle.abstract_protocol.specs.Book.{version_of}
 use Rattle.abstract_protocol.specs.Ledger as ledger
 use Rattle.abstract_protocol.specs.Numbers.{epoch_number, IsVersion}
 use Rattle.abstract_protocol.specs.Objects.{epoch_of, set_entry, IsGenuine, MayAcknowledge}
-use Rattle.abstract_protocol.specs.Protocol.{State, Step, Write, Acknowledge, IsRun, state_after, happens, after, MayCome, MayAll}
+use Rattle.abstract_protocol.specs.Protocol.{State, Step, Write, Acknowledge, IsRun, state_after, happens, MayCome}
 use Rattle.election_laws.proofs.Epochs.{not_empty}
 use Rattle.election_laws.proofs.Sound.{Sound, run_sound}
 use Rattle.version_laws.proofs.Maps.{epoch_mono, put_other}
-use Rattle.version_laws.proofs.Stays.{versions_then}
 use Rattle.version_laws.proofs.Trees.{run_versions}
 use Rattle.version_laws.specs.Versions.{VersionsAreSafe, IsSettled}
 use Rattle.entry_laws.proofs.Later.{stay_step}
-use Rattle.entry_laws.specs.Stays.{EntriesStay}
 use Rattle.call_table.specs.Best.{better}
-use Rattle.call_table.specs.Calls.{running}
-use Rattle.call_table.specs.Rows.{row_at}
 use Rattle.held_stores.specs.Answers.{Answered, answered}
 use Rattle.held_stores.specs.Held.{Held, and_hashed}
 use Rattle.leader_laws.proofs.Roles.{run_roles}
@@ -44,15 +39,10 @@ use Rattle.leader_laws.specs.Leaders.{IsObjectOf}
 use Rattle.leader_laws.specs.Messages.{PutSays, GetReplySays}
 use Rattle.leader_laws.specs.Tables as theory
 use Rattle.leader_refinement.proofs.Numbers.{rank_back, rank_some, same_versions}
-use Rattle.leader_refinement.proofs.Steps.{fits_stay}
-use Rattle.leader_refinement.specs.Follows.{Hash as Digests, TaskHolds}
+use Rattle.leader_refinement.specs.Follows.{Hash as Digests}
 use Rattle.leader_refinement.specs.Laws.{BackendSays, FoundSays, LookSays, LookNames}
 use Rattle.leader_refinement.specs.Seen.{rank, content_of, entry_rank, shown, owed_after}
-use Rattle.leader_words.specs.declared.out.Outgoing.{Outgoing}
-use Rattle.leading.specs.declared.pending.Pending.{Pending}
 use Rattle.peer_core.specs.Owns.{digested, read, kept, fetched, held, looked_at, looked, found_at, found, entered, written, confirmed}
-use Rattle.peer_core.specs.declared.state.Phase.{Phase}
-use Rattle.peer_core.specs.declared.state.Phase.TheVariants as phases
 use Rattle.peer_core.specs.declared.state.State.{State as PeerState}
 use Rattle.register_model.specs.declared.note.Note.{Note}
 use Rattle.register_model.specs.declared.call.Call.{Call as BookCall}
@@ -60,9 +50,9 @@ use Rattle.request_refinement.proofs.Looks.{looks_so}
 use Rattle.request_refinement.proofs.Lookups.{in_put, lookup_in, lookup_key}
 use Rattle.request_refinement.proofs.Names.{version_decoded}
 use Rattle.request_refinement.proofs.Numbers.{version_fits}
-use Rattle.request_refinement.proofs.Staying.{put_entry, write_shows, entries_stay, maps_stay}
+use Rattle.request_refinement.proofs.Staying.{put_entry, write_shows, maps_stay}
 use Rattle.request_refinement.specs.Naming.{hash_of, version_string, object_of_version, VersionSays, EntrySays, EntryMaySay, MayBeDecoded}
-use Rattle.request_refinement.specs.Replies.{MapSays, AllSpareTree, LookSees, IsShown, found_in}
+use Rattle.request_refinement.specs.Replies.{MapSays, LookSees, IsShown, found_in}
 use Rattle.step_plans.specs.Calls.{Call, Find, Enter, Fetch, Put, Hash}
 use Rattle.step_plans.specs.Plans.{Plan, Ask, Out, Rest, asked}
 use Rattle.step_plans.specs.declared.walked.Walked.TheVariants.{Reached as Came}
@@ -75,8 +65,6 @@ use Rattle.tree_refinement.proofs.Whole.{finds, enters, keeps, serves}
 use Rattle.tree_refinement.specs.Laws.{KeepsRoot}
 use Rattle.tree_refinement.specs.Trees.{AreAmong, AreFree}
 use Rattle.tree_refinement.specs.Whole.{IsWhole}
-use Rattle.wire_frames.specs.declared.message.Message.{Message}
-use Rattle.wire_frames.specs.declared.message.Message.TheVariants as messages
 use Rattle.wire_frames.specs.declared.phase.Seen.{Seen}
 use Rattle.wire_frames.specs.declared.phase.Seen.TheVariants as seens
 use Rattle.world_stores.specs.declared.fact.HeldFact.{HeldFact}
@@ -84,7 +72,7 @@ use Rattle.call_refinement.proofs.Frame.{Scene, state_before, Reached, now, Here
 use Rattle.call_refinement.proofs.Moving.{stays_then}
 use Rattle.call_refinement.proofs.Staying.{version_stays, sends_stay, phase_stays}
 use Rattle.call_refinement.specs.Keys.{KeysAreFew}
-use Rattle.call_refinement.specs.Peers.{TreeHolds, AcksSay, PhaseFits, TaskFits, IsAtRest, MessageFits, SendFits}
+use Rattle.call_refinement.specs.Peers.{TreeHolds, AcksSay, TaskFits}
 use Rattle.call_refinement.specs.Roles.{role_in, said_in_sends}
 
 -- ## What the stores answer

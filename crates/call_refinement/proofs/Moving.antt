@@ -1,21 +1,18 @@
 -- What stays over several stretches of a run: roles that are replaced, answers that are owed, entries, and
 -- what the steps of a peer leave to the others.
-use Rattle.std.proofs.Common.{◌≡◌, ℕ, List, [], ◌∷◌, ◌++◌, ◌⊎◌, inl, inr, Option, None, Some, refl, subst, ◌∙◌, le_trans, true}
-use Rattle.ens_base.specs.Lists.{◌∈◌}
+use Rattle.std.proofs.Common.{◌≡◌, ℕ, List, [], ◌∷◌, ◌++◌, ◌⊎◌, inl, inr, refl, subst, ◌∙◌, le_trans, true}
 use Rattle.abstract_protocol.specs.Ledger.{put}
 use Rattle.abstract_protocol.specs.Protocol.{State}
 use Rattle.election_refinement.proofs.Keeps.{keeps_none, keeps_both}
 use Rattle.entry_laws.proofs.Later.{stay_same}
 use Rattle.entry_laws.specs.Stays.{EntriesStay}
-use Rattle.leader_laws.specs.Roles.{Role, Said, Sent, RoleHolds, RolesHold, SaidHolds}
+use Rattle.leader_laws.specs.Roles.{Role, Sent, RoleHolds, RolesHold}
 use Rattle.leader_laws.specs.Tables.{Ghosts, Owed}
 use Rattle.leader_refinement.specs.Seen.{owed_after}
 use Rattle.leader_words.specs.declared.out.AnswerOut.{AnswerOut}
-use Rattle.leader_words.specs.declared.out.Outgoing.{Outgoing}
 use Rattle.version_laws.proofs.Maps.{put_here, put_other, put_then}
 use Rattle.version_laws.proofs.Stays.{versions_then}
 use Rattle.call_refinement.proofs.Frame.{Elsewhere}
-use Rattle.call_refinement.specs.Roles.{said_of, said_by, said_in_sends}
 
 -- ## Roles
 

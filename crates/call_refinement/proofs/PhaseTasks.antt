@@ -1,11 +1,9 @@
 -- The rules of phases in the step of a peer: those that a row names, those for a message of elections, and
 -- ticks, also the reminders of a leader.
 use Rattle.std.specs.Prelude.{All}
-use Rattle.std.proofs.Common.{◌≡◌, ℕ, ◌==◌, Bool, true, false, if◌then◌else◌, List, [], ◌∷◌, ◌++◌, Option, None, Some, arith, refl, ap, sym, subst, ◌∙◌}
-use Rattle.std.proofs.lemmas.List.Elements.{All-append}
+use Rattle.std.proofs.Common.{◌≡◌, ℕ, ◌==◌, Bool, true, false, if◌then◌else◌, List, [], ◌++◌, Option, None, Some, arith, refl, ap, sym, subst, ◌∙◌}
 use Rattle.ens_base.specs.PeerSet.{holds}
 use Rattle.ens_base.specs.View.{IsPeer}
-use Rattle.abstract_protocol.specs.Ledger.{put}
 use Rattle.abstract_protocol.specs.Protocol.{State, state_after}
 use Rattle.election_refinement.proofs.Keeps.{message_keeps}
 use Rattle.election_refinement.proofs.Parts.{PartGoes, phase_row_turns, received_turns, aged_turns}
@@ -16,7 +14,6 @@ use Rattle.election_refinement.specs.Plain.{IsPlainLeadership, IsPlainMessage, I
 use Rattle.election_refinement.specs.Refinement.{MessageHolds, PhaseHolds, IsLeading, SendHolds}
 use Rattle.held_stores.specs.Held.{Held}
 use Rattle.leader_laws.specs.Tables.{Ghosts}
-use Rattle.leader_refinement.specs.Seen.{owed_after}
 use Rattle.leader_words.specs.declared.out.Outgoing.{Outgoing}
 use Rattle.leading.specs.Ticks.{ticks_up_to}
 use Rattle.peer_core.specs.Drives.{row_done, task_done, delivered, led_in, ticked, reminded}
@@ -41,13 +38,12 @@ use Rattle.wire_frames.specs.declared.message.Message.TheVariants as messages
 use Rattle.wire_frames.specs.declared.phase.PhaseOut.{PhaseOut}
 use Rattle.wire_frames.specs.declared.phase.Then.{Then}
 use Rattle.wire_frames.specs.declared.phase.Then.TheVariants as thens
-use Rattle.call_refinement.proofs.Frame.{Scene, state_before, now, Here, AtRest, MessageComes, Ends, Onward}
+use Rattle.call_refinement.proofs.Frame.{Scene, state_before, now, AtRest, MessageComes, Ends, Onward}
 use Rattle.call_refinement.proofs.Mute.{SaysNothing, IsMute, IsNoCheck, phase_row_mute, received_mute, aged_mute}
 use Rattle.call_refinement.proofs.Phases.{RowAll, row_good, mute_fits}
 use Rattle.call_refinement.proofs.Saying.{ticks_each, SaysSo, SendSaysSo, says_nothing, tells_more}
 use Rattle.call_refinement.proofs.Tasks.{ArePhases, PhasesNext}
 use Rattle.call_refinement.specs.Peers.{MessageFits, SendFits}
-use Rattle.call_refinement.specs.Roles.{role_in}
 
 -- the tasks that a row of a phase names are rules of phases
 pub named_are : (turn : Then) → ArePhases (named turn)

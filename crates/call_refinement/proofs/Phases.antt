@@ -5,38 +5,29 @@ use Rattle.std.proofs.Common.{◌≡◌, ℕ, Bool, true, false, List, [], ◌++
 use Rattle.std.proofs.lemmas.List.Elements.{All-nil, All-append}
 use Rattle.ens_base.specs.declared.entry.Entry.{Entry}
 use Rattle.ens_outside.specs.declared.memory.failing_call.Leaves.{Leaves}
-use Rattle.call_table.specs.Calls.{running}
-use Rattle.call_table.specs.Rows.{row_at}
 use Rattle.abstract_protocol.specs.Ledger.{put}
 use Rattle.abstract_protocol.specs.Numbers.{epoch_number}
 use Rattle.abstract_protocol.specs.Protocol.{State, Step, state_after}
-use Rattle.election_refinement.proofs.Keeps.{Keeps, sends_keep}
+use Rattle.election_refinement.proofs.Keeps.{sends_keep}
 use Rattle.election_refinement.proofs.Parts.{Begun, part, PartGoes}
 use Rattle.election_refinement.proofs.Plain.{GoesPlain}
 use Rattle.election_refinement.proofs.Rows.{saved_in, stored_in, made_way, settled}
 use Rattle.election_refinement.proofs.Sets.{posted_to_hold}
 use Rattle.election_refinement.proofs.Whole.{RowGoes}
 use Rattle.election_refinement.specs.Plain.{IsPlainPeer, IsPlainMessage, SaysPlain, IsPlainThen}
-use Rattle.election_refinement.specs.Refinement.{PeerHolds, PhaseHolds, SendHolds}
+use Rattle.election_refinement.specs.Refinement.{PeerHolds, SendHolds}
 use Rattle.held_stores.specs.Answers.{Answered, answered, facts_failed, with_facts}
 use Rattle.held_stores.specs.Held.{Held, unless_failing}
 use Rattle.leader_laws.proofs.Runs.{run_leaders}
 use Rattle.leader_laws.specs.Leaders.{IsUnled}
-use Rattle.leader_laws.proofs.Tables.{leader_same}
-use Rattle.leader_laws.specs.Roles.{RoleHolds, RolesHold}
+use Rattle.leader_laws.specs.Roles.{RolesHold}
 use Rattle.leader_laws.specs.Tables.{Ghosts, Owed}
-use Rattle.leader_refinement.proofs.Leaving.{keys_alike}
-use Rattle.leader_refinement.proofs.Steps.{fits_stay}
-use Rattle.leader_refinement.specs.Follows.{Hash, TaskHolds}
-use Rattle.leader_refinement.specs.Seen.{table_of, owed_after}
+use Rattle.leader_refinement.specs.Seen.{owed_after}
 use Rattle.leader_words.specs.declared.out.Outgoing.{Outgoing}
-use Rattle.entry_laws.specs.Stays.{EntriesStay}
-use Rattle.leading.specs.declared.pending.Pending.{Pending}
 use Rattle.peer_core.specs.Drives.{row_done}
 use Rattle.peer_core.specs.Moves.{ends_leading, left, left_answers, turned, turned_answers}
 use Rattle.peer_core.specs.Syncs.{saved, and_sends, followed_on}
 use Rattle.peer_core.specs.declared.state.Phase.{Phase}
-use Rattle.peer_core.specs.declared.state.Phase.TheVariants as phases
 use Rattle.peer_core.specs.declared.state.State.{State as PeerState}
 use Rattle.peer_fact.specs.declared.fact.Fact.{Fact}
 use Rattle.register_model.specs.declared.note.Note.{Note}
@@ -59,7 +50,7 @@ use Rattle.call_refinement.proofs.Saying.{posted_to_each, SaysSo, sends_say, say
 use Rattle.call_refinement.proofs.Silent.{AreElectionSteps, elections_only, entries_there, spared_there, roles_there, unled_there, map_there, sends_there, reached_there}
 use Rattle.call_refinement.proofs.Staying.{phase_stays}
 use Rattle.call_refinement.proofs.Turning.{part_stands, PartStands, PhaseStands, turn_stands, left_stands, left_begun, turned_stands}
-use Rattle.call_refinement.specs.Peers.{PhaseFits, TaskFits, IsAtRest, MessageFits, SendFits}
+use Rattle.call_refinement.specs.Peers.{MessageFits, SendFits}
 use Rattle.call_refinement.specs.Roles.{role_in, said_of, said_in_sends}
 
 -- ## The save

@@ -1,10 +1,8 @@
 -- Rules 20 to 22 at a peer whose tree is whole: its replies to a check, a read and a put say what
 -- holds, and a put ends as a write and an acknowledgement, as an acknowledgement, or as nothing.
-use Rattle.std.proofs.Common.{◌≡◌, ◌⊎◌, inl, inr, ◌≤◌, ◌+◌, ℕ, zero, suc, Bool, true, false, not, if◌then◌else◌, All, List, [], ◌∷◌, ◌++◌, Option, None, Some, arith, refl, sym, ap, subst, ◌∙◌}
-use Rattle.std.proofs.lemmas.List.Elements.{All-nil, All-cons, All-append, All-head, All-tail, All-weaker}
+use Rattle.std.proofs.Common.{◌≡◌, ◌⊎◌, inl, inr, ℕ, Bool, true, false, not, All, List, [], Option, None, Some, refl, sym, ap, subst, ◌∙◌}
+use Rattle.std.proofs.lemmas.List.Elements.{All-nil, All-weaker}
 use Rattle.ens_base.specs.Epochs.{same_version}
-use Rattle.ens_base.specs.Lists.{◌∈◌}
-use Rattle.ens_base.specs.PeerSet.{holds}
 use Rattle.ens_base.specs.View.{IsPeer}
 use Rattle.ens_base.specs.declared.epoch.Epoch.{Epoch}
 use Rattle.ens_base.specs.declared.epoch.Version.{Version}
@@ -20,7 +18,7 @@ use Rattle.election_refinement.specs.Plain.{IsPlainMessage}
 use Rattle.election_refinement.specs.Refinement.{SendHolds}
 use Rattle.held_stores.specs.Held.{Held}
 use Rattle.leader_laws.specs.Messages.{GetSays, CheckSays, PutSays}
-use Rattle.leader_laws.specs.Roles.{Said, Sent, SaidHolds, Reads, Entry as EntryShown, Checks, Stands, Puts, Acks}
+use Rattle.leader_laws.specs.Roles.{Said, SaidHolds, Reads, Entry as EntryShown, Checks, Stands, Puts, Acks}
 use Rattle.leader_laws.specs.Tables.{Ghosts}
 use Rattle.leader_refinement.specs.Seen.{rank, content_of, entry_rank, shown as shown_object}
 use Rattle.leader_words.specs.declared.out.Outgoing.{Outgoing}
@@ -34,9 +32,8 @@ use Rattle.phase_rows.specs.Rows.{silent, refuses, refuses_below}
 use Rattle.register_model.specs.declared.note.Note.{Note}
 use Rattle.request_refinement.proofs.Replying.{run_serves, run_checks, run_gets, run_puts}
 use Rattle.request_refinement.specs.Replies.{Serves, FindSees, SeenSays, ReplySays, MayReply, Replies, HasVersion, TakesVersion, IsReplyToPut}
-use Rattle.safety_laws.proofs.Ordered.{in_right}
 use Rattle.step_plans.specs.Plans.{Out, Rest}
-use Rattle.step_plans.specs.Sends.{posted, posted_to}
+use Rattle.step_plans.specs.Sends.{posted_to}
 use Rattle.step_plans.specs.declared.tasks.Task.{Task}
 use Rattle.tree_maps.specs.Entries.{lookup}
 use Rattle.wire_frames.specs.declared.message.Message.{Message}
@@ -49,10 +46,10 @@ use Rattle.wire_frames.specs.declared.phase.Then.{Then}
 use Rattle.wire_frames.specs.declared.phase.Then.TheVariants as thens
 use Rattle.call_refinement.proofs.Frame.{Scene, now, Here, AtRest, rest_task, MessageComes, Ends, Onward}
 use Rattle.call_refinement.proofs.Looking.{StoresAnswer, Over, Stored, nothing_read, over_here, write_here, acknowledge_here, looked_ends, found_ends, written_ends}
-use Rattle.call_refinement.proofs.Saying.{posted_to_each, SendSaysSo, says_nothing, says_one, tells_more}
+use Rattle.call_refinement.proofs.Saying.{posted_to_each, SendSaysSo, says_nothing, says_one, tells_more, says_here}
 use Rattle.call_refinement.specs.Keys.{KeysAreFew}
 use Rattle.call_refinement.specs.Peers.{IsAtRest, SendFits}
-use Rattle.call_refinement.specs.Roles.{said_of, said_by, said_in_sends}
+use Rattle.call_refinement.specs.Roles.{said_of}
 
 -- ## Rows that only reply
 
@@ -187,21 +184,17 @@ module _ (c : Scene) where
     serves : Serves (now c here.reached) p x.fact x.trusted
     serves = run_serves view here.reached.steps here.reached.run p x.fact x.trusted here.peer.saved.ballot (ap (λ (f : Place). f.epoch) here.peer.saved.place) (here.trust ∙ sym here.plain.trusted) here.peer.saved.known.ballot here.peer.saved.known.epoch here.peer.saved.known.below
 
-    -- what a message that came says
-    heard : (from : ℕ) (said : Said) → record { from = from; said = said } ∈ c.said → SaidHolds here.reached.ghosts (now c here.reached) from said
-    heard from said at = here.roles.sent_hold (record { from = from; said = said }) (in_right (said_in_sends p out.sends) c.said (record { from = from; said = said }) at)
-
     -- rule 20, Check
     pub check_good : (from : ℕ) (ballot : Epoch) (round : ℕ) → MessageComes c from (messages.Check ballot round) (now c here.reached) → Ends c (delivered p from (messages.Check ballot round) x out next) (delivered p from (messages.Check ballot round) x out mark) h notes
     check_good from ballot round comes =
-        let says : CheckSays here.reached.ghosts (epoch_number ballot) round = heard from (Checks (epoch_number ballot) round) (comes.said (Checks (epoch_number ballot) round) refl) in
+        let says : CheckSays here.reached.ghosts (epoch_number ballot) round = says_here c here from (Checks (epoch_number ballot) round) (comes.said (Checks (epoch_number ballot) round) refl) in
         reply_ends h here (row_20 x.fact from ballot round) (row_20_replies x.fact from ballot round) (run_checks view here.reached.steps here.reached.run here.reached.ghosts strings p x.fact x.trusted from ballot round here.roles.turns serves says).says
 
     -- rule 21, after the stores were asked
     got_row : (from : ℕ) (ballot : Epoch) (round : ℕ) (k : List ℕ) (seen : Seen) (t : Held) → Over c here t → IsSight seen → SeenSays here.reached.ghosts (now c here.reached) strings p k seen → MessageComes c from (messages.Get ballot round k) (now c here.reached)
         → Ends c (row_done p (row_21 x.fact x.trusted from ballot round k seen) x out next) (row_done p (row_21 x.fact x.trusted from ballot round k seen) x out mark) t notes
     got_row from ballot round k seen t over sight sees comes =
-        let says : GetSays here.reached.ghosts (now c here.reached) (epoch_number ballot) round k = heard from (Reads (epoch_number ballot) round k) (comes.said (Reads (epoch_number ballot) round k) refl) in
+        let says : GetSays here.reached.ghosts (now c here.reached) (epoch_number ballot) round k = says_here c here from (Reads (epoch_number ballot) round k) (comes.said (Reads (epoch_number ballot) round k) refl) in
         reply_ends t (over_here c here t over) (row_21 x.fact x.trusted from ballot round k seen) (row_21_replies x.fact x.trusted from ballot round k seen sight)
         (run_gets view here.reached.steps here.reached.run here.reached.ghosts strings p x.fact x.trusted from ballot round k seen here.roles.turns serves says sees).says
 
@@ -213,7 +206,7 @@ module _ (c : Scene) where
       obeys : IsObject o
 
     put_comes : (from : ℕ) (ballot : Epoch) (o : Object) → MessageComes c from (messages.Put ballot o) (now c here.reached) → PutComes from ballot o
-    put_comes from ballot o comes = record { says = heard from (Puts (epoch_number ballot) o.key (rank o.version) (content_of o)) (comes.said (Puts (epoch_number ballot) o.key (rank o.version) (content_of o)) refl); obeys = comes.fits }
+    put_comes from ballot o comes = record { says = says_here c here from (Puts (epoch_number ballot) o.key (rank o.version) (content_of o)) (comes.said (Puts (epoch_number ballot) o.key (rank o.version) (content_of o)) refl); obeys = comes.fits }
 
     -- the row asks for no write
     no_write : (from : ℕ) (ballot : Epoch) (o : Object) (row : PhaseOut) (t : Held) → row.then ≡ thens.Stay → Ends c (row_done p row x out next) (row_done p row x out mark) t notes → Ends c (put_done row.then p from ballot o row x out next) (put_done row.then p from ballot o row x out mark) t notes

@@ -124,6 +124,10 @@ says_more g s roles p said sends more new hold = record {
     by_place x (inl at) = by_sends x (said_apart p sends more x at)
     by_place x (inr at) = hold.sent_hold x (in_right (said_in_sends p sends) said x at)
 
+-- what a message said that comes in a step holds
+pub says_here : (c : Scene) {key : List ℕ} {x : PeerState} {h : Held} {out : Out} {notes : List Note} (here : Here c key x h out notes) (from : ℕ) (m : Said) → record { from = from; said = m } ∈ c.said → SaidHolds here.reached.ghosts (now c here.reached) from m
+says_here c {out = out} here from m at = here.roles.sent_hold (record { from = from; said = m }) (in_right (said_in_sends c.peer out.sends) c.said (record { from = from; said = m }) at)
+
 -- more messages are sent in a step
 abbrev pub tells_more : (c : Scene) (key : List ℕ) (x : PeerState) (h : Held) (out : Out) (notes : List Note) (more : List Outgoing) → (here : Here c key x h out notes)
     → All (SendHolds (now c here.reached).objects.ledger c.peer) more → All (λ (o : Outgoing). IsPlainMessage c.view o.message) more → All (SendFits (now c here.reached) c.strings) more → All (SendSaysSo here.reached.ghosts (now c here.reached) c.peer) more

@@ -2,7 +2,6 @@
 use Rattle.std.specs.Prelude.{All}
 use Rattle.std.proofs.Common.{◌≡◌, ◌⊎◌, inl, inr, ◌<◌, ℕ, true, List, [], ◌∷◌, Option, Some, None, arith, refl, sym, ap, subst, ◌∙◌}
 use Rattle.std.proofs.lemmas.List.Elements.{All-weaker}
-use Rattle.md5.specs.Md5.{md5}
 use Rattle.ens_base.specs.Lists.{◌∈◌}
 use Rattle.ens_base.specs.View.{IsPeer}
 use Rattle.ens_base.specs.declared.entry.Entry.{Entry}
@@ -23,8 +22,7 @@ use Rattle.leader_refinement.specs.Follows.{SendSays, SentSays, AreLeaderSteps}
 use Rattle.leader_refinement.specs.Seen.{rank, content_of, entry_rank}
 use Rattle.leader_words.specs.declared.out.Outgoing.{Outgoing}
 use Rattle.request_refinement.proofs.Looks.{looks_so}
-use Rattle.request_refinement.proofs.Staying.{entries_stay}
-use Rattle.request_refinement.specs.Naming.{hash_of, version_string, VersionSays, EntrySays, EntryMaySay}
+use Rattle.request_refinement.specs.Naming.{hash_of, VersionSays, EntrySays}
 use Rattle.request_refinement.specs.Replies.{AllSpareTree, MapSays}
 use Rattle.tree_maps.specs.Entries.{lookup}
 use Rattle.tree_refinement.specs.Trees.{AreFree}
@@ -34,7 +32,7 @@ use Rattle.wire_frames.specs.declared.phase.Seen.TheVariants as seens
 use Rattle.call_refinement.proofs.Saying.{SaysSo, SendSaysSo, says_one, sends_say}
 use Rattle.call_refinement.proofs.Staying.{version_stays}
 use Rattle.call_refinement.specs.Peers.{AcksSay, MessageFits}
-use Rattle.call_refinement.specs.Roles.{said_of, said_by, said_in_sends}
+use Rattle.call_refinement.specs.Roles.{said_in_sends}
 
 -- ## What a leader sends
 

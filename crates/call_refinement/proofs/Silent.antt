@@ -1,17 +1,13 @@
 -- Steps of elections, which end no sync: the run that a step of a peer has reached goes on by them, and
 -- what trees, messages and acknowledgements say stays so.
-use Rattle.std.proofs.Common.{◌≡◌, ◌⊎◌, inl, inr, ℕ, suc, Bool, true, List, [], ◌∷◌, ◌++◌, Option, None, Some, le_trans, arith, refl, ap, sym, subst, ◌∙◌}
+use Rattle.std.proofs.Common.{◌≡◌, ℕ, suc, Bool, List, [], ◌∷◌, ◌++◌, arith, refl, ap, sym, subst, ◌∙◌}
 use Rattle.std.specs.Prelude.{All}
-use Rattle.std.proofs.lemmas.List.Elements.{All-weaker}
-use Rattle.md5.specs.Md5.{md5}
 use Rattle.ens_base.specs.declared.entry.Entry.{Entry}
-use Rattle.ens_base.specs.declared.epoch.Version.{Version}
 use Rattle.abstract_protocol.proofs.Steps.{after_both, may_both}
 use Rattle.abstract_protocol.specs.Protocol.{State, Step, Raise, Elect, Accept, Commit, Adopt, Install, EndSync, happens, MayCome, IsRun, state_after, after, MayAll}
 use Rattle.entry_laws.proofs.Later.{stay_after}
 use Rattle.entry_laws.specs.Stays.{EntriesStay}
-use Rattle.version_laws.proofs.Stays.{versions_then}
-use Rattle.election_refinement.proofs.Keeps.{Keeps, keeps_both}
+use Rattle.election_refinement.proofs.Keeps.{Keeps}
 use Rattle.election_refinement.proofs.Reaching.{IsRowStep, AreRowSteps}
 use Rattle.election_refinement.specs.Refinement.{IsOrderly}
 use Rattle.leader_laws.proofs.Roles.{run_roles}
@@ -22,15 +18,11 @@ use Rattle.leader_laws.specs.Roles.{Role, Sent, RolesHold, IsSilent}
 use Rattle.leader_laws.specs.Tables.{Ghosts}
 use Rattle.leader_refinement.specs.Seen.{rank}
 use Rattle.leader_words.specs.declared.out.Outgoing.{Outgoing}
-use Rattle.request_refinement.proofs.Staying.{entries_stay}
-use Rattle.request_refinement.specs.Naming.{VersionSays, EntrySays, EntryMaySay, version_string}
 use Rattle.request_refinement.specs.Replies.{MapSays}
-use Rattle.wire_frames.specs.declared.message.Message.{Message}
-use Rattle.wire_frames.specs.declared.message.Message.TheVariants as messages
 use Rattle.call_refinement.proofs.Frame.{Scene, Elsewhere, Reached, now, state_before}
 use Rattle.call_refinement.proofs.Moving.{elsewhere_then}
 use Rattle.call_refinement.proofs.Staying.{version_stays, map_stays, sends_stay}
-use Rattle.call_refinement.specs.Peers.{AcksSay, MessageFits, SendFits}
+use Rattle.call_refinement.specs.Peers.{AcksSay, SendFits}
 
 -- ## Runs that go on
 

@@ -1,4 +1,5 @@
--- Steady schedules: their worlds agree with runs of the abstract protocol, and their histories are legal.
+-- Steady schedules: their worlds agree with runs of the abstract protocol, their histories are legal, and their
+-- answers have causes.
 use Rattle.std.specs.Prelude.{◌<◌, ◌≤◌, ◌^◌, ℕ, List, length}
 use Rattle.ens_base.specs.Lists.{AreDistinct}
 use Rattle.ens_base.specs.View.{IsView}
@@ -8,9 +9,10 @@ use Rattle.register_model.specs.declared.history.History.{History}
 use Rattle.schedule_text.specs.Spelling.{AllMayStand, call_ids}
 use Rattle.schedule_text.specs.declared.event.ScheduleEvent.{ScheduleEvent}
 use Rattle.world_spec.specs.Lines.{run_of_schedule}
+use Rattle.call_refinement.specs.Causes.{HaveCauses}
 use Rattle.call_refinement.specs.Lines.{AreSteady, AreLegal}
 use Rattle.call_refinement.specs.Worlds.{HasRun}
-use Rattle.call_refinement.proofs.Carried.{free_of, schedule_holds, schedule_is_legal}
+use Rattle.call_refinement.proofs.Carried.{free_of, schedule_holds, schedule_is_legal, schedule_has_causes}
 use Rattle.call_refinement.proofs.Assembled.{step_grounds}
 use Rattle.call_refinement.proofs.Good.{StepGood, CallGood}
 use Rattle.call_refinement.proofs.Stepping.{step_good, call_good}
@@ -29,3 +31,6 @@ module _ (peers : ℕ) (view : List ℕ) (events : List ScheduleEvent) (small : 
 
   pub steady_are_legal : (histories : List History) → AreHistories (run_of_schedule peers view events).notes (run_of_schedule peers view events).called histories → AreLegal events (run_of_schedule peers view events).printed histories
   steady_are_legal = schedule_is_legal steps_good calls_good peers view events small is_view few steady may distinct (free_of (run_of_schedule peers view events).hashed apart)
+
+  pub steady_have_causes : HaveCauses events (run_of_schedule peers view events).printed (run_of_schedule peers view events).notes
+  steady_have_causes = schedule_has_causes steps_good calls_good peers view events small is_view few steady may distinct (free_of (run_of_schedule peers view events).hashed apart)

@@ -1,8 +1,7 @@
 -- A whole step of a peer ends well: the event, the tasks that follow from it, and rule 26 at the end.
-use Rattle.std.proofs.Common.{◌≡◌, ◌<◌, ◌≤◌, ◌^◌, inl, ℕ, true, false, suc, List, [], ◌∷◌, length, arith, refl, ap}
-use Rattle.ens_base.specs.Lists.{◌∈◌, AreDistinct}
+use Rattle.std.proofs.Common.{◌≡◌, ◌<◌, ◌≤◌, ◌^◌, inl, ℕ, false, suc, List, [], ◌∷◌, length, arith, refl, ap}
 use Rattle.abstract_protocol.specs.Book.{MayCall}
-use Rattle.abstract_protocol.specs.Protocol.{State, Step, Ask, IsRun, state_after}
+use Rattle.abstract_protocol.specs.Protocol.{Step, Ask, IsRun, state_after}
 use Rattle.call_table.specs.declared.waiting.Waiting.{Waiting}
 use Rattle.held_stores.specs.Held.{Held}
 use Rattle.held_stores.specs.Runs.{run}

@@ -1,6 +1,6 @@
 -- The part of a peer in leading, as its role in the theory of leaders, through a row of a phase: a leader
 -- steps down and its calls are answered, an epoch begins, or the peer becomes its leader.
-use Rattle.std.proofs.Common.{◌≡◌, inl, inr, ℕ, Bool, true, false, List, [], ◌∷◌, ◌++◌, refl, ap, sym, subst, ◌∙◌}
+use Rattle.std.proofs.Common.{◌≡◌, inl, inr, ℕ, Bool, true, false, List, [], refl, ap, sym, subst, ◌∙◌}
 use Rattle.call_table.specs.Calls.{running}
 use Rattle.call_table.specs.Rows.{row_at}
 use Rattle.ens_base.specs.declared.epoch.Epoch.{Epoch}
@@ -20,7 +20,6 @@ use Rattle.leader_refinement.proofs.Leaving.{run_leaves}
 use Rattle.leader_refinement.proofs.Openings.{run_begins}
 use Rattle.leader_refinement.specs.Follows.{Hash, LeaderFits, TaskHolds, IsAtWork}
 use Rattle.leader_refinement.specs.Seen.{table_of, owed_after}
-use Rattle.leader_words.specs.declared.out.AnswerOut.{AnswerOut}
 use Rattle.leading.specs.Leaders.{new_leader}
 use Rattle.leading.specs.declared.leader.Leader.{Leader}
 use Rattle.leading.specs.declared.pending.Pending.{Pending}

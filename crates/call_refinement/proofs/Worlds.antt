@@ -7,27 +7,19 @@ use Rattle.ens_base.specs.View.{IsPeer}
 use Rattle.abstract_protocol.specs.Ledger.{put}
 use Rattle.abstract_protocol.specs.Book.{MayCall}
 use Rattle.abstract_protocol.specs.Protocol.{State, Step, Ask, IsRun, state_after}
-use Rattle.call_table.specs.Calls.{running}
-use Rattle.call_table.specs.Rows.{row_at}
-use Rattle.election_refinement.proofs.Keeps.{keeps_none}
 use Rattle.election_refinement.specs.Plain.{IsPlainMessage}
 use Rattle.election_refinement.specs.Refinement.{IsKept, SendHolds, FrameHolds, IsOrderly}
-use Rattle.entry_laws.proofs.Later.{stay_same}
 use Rattle.held_stores.specs.Held.{Held, HeldStores}
 use Rattle.held_stores.specs.Laws.{held_with}
 use Rattle.held_stores.specs.Runs.{Ended, run}
 use Rattle.leader_laws.proofs.Roles.{run_roles}
 use Rattle.leader_laws.specs.Roles.{Follows, RoleHolds, RolesHold}
-use Rattle.leader_refinement.specs.Follows.{TaskHolds}
 use Rattle.leader_words.specs.declared.out.Outgoing.{Outgoing}
-use Rattle.leading.specs.declared.pending.Pending.{Pending}
 use Rattle.network.specs.Mail.{MayBeSent}
 use Rattle.peer_core.specs.Drives.{step_of}
 use Rattle.peer_core.specs.declared.event.CallIn.{CallIn}
 use Rattle.peer_core.specs.declared.event.Event.{Event}
 use Rattle.peer_core.specs.declared.event.Event.TheVariants as events
-use Rattle.peer_core.specs.declared.state.Phase.{Phase}
-use Rattle.peer_core.specs.declared.state.Phase.TheVariants as phases
 use Rattle.peer_core.specs.declared.state.State.{State as PeerState}
 use Rattle.register_model.specs.declared.answer.Answer.{Answer}
 use Rattle.register_model.specs.declared.note.Note.{Note}
@@ -43,12 +35,12 @@ use Rattle.call_refinement.proofs.Frame.{Scene, Elsewhere, Reached, Here, rest_t
 use Rattle.call_refinement.proofs.Giving.{owes, owed_all, AllGiven, all_given}
 use Rattle.call_refinement.proofs.Good.{StepGood, CallGood, asked_in}
 use Rattle.call_refinement.proofs.Obeying.{epochs_here}
-use Rattle.call_refinement.proofs.Lines.{with_answers, answers_in_front, down_agrees}
+use Rattle.call_refinement.proofs.Lines.{with_answers, answers_in_front, answers_many, down_agrees}
 use Rattle.call_refinement.proofs.Moving.{elsewhere_none}
 use Rattle.call_refinement.proofs.Places.{get_put, number, apart, role_there, role_put, roles_same, said_posted, posted_all_hold}
 use Rattle.call_refinement.proofs.Staying.{elsewhere_stays, node_fits, messages_elsewhere}
 use Rattle.call_refinement.specs.Lines.{AreSame, given_at, StepAgrees}
-use Rattle.call_refinement.specs.Peers.{AcksSay, AsksFit, EpochsFit, PhaseFits, TaskFits, IsAtRest, SendFits, FrameFits}
+use Rattle.call_refinement.specs.Peers.{AcksSay, AsksFit, EpochsFit, PhaseFits, IsAtRest, SendFits, FrameFits}
 use Rattle.call_refinement.specs.Roles.{role_in, roles_of, said_in, said_in_sends}
 use Rattle.call_refinement.specs.Worlds.{UpFits, NodeFits, MessagesFit, PartsHold, RolesFit, WorldHolds}
 
@@ -189,8 +181,8 @@ module _ (view : List ℕ) (strings : List (List ℕ)) (free : AreFree strings) 
         now = given.now ∙ r.elsewhere.now;
         calls = given.calls ∙ r.elsewhere.calls;
         notes = given.notes ∙ is.noted;
-        answers = subst (λ (all : List Answer). AreSame all (map (given_at s.book.now) out.answers ++ s.book.answers))
-            (sym (given.given ∙ ap (λ (old : List Answer). with_answers t.book.now out.answers old) r.elsewhere.answers ∙ ap (λ (event : ℕ). with_answers event out.answers s.book.answers) r.elsewhere.now)) (answers_in_front s.book.now out.answers s.book.answers);
+        answers = subst (λ (all : List Answer). AreSame all (map (given_at s.book.now) out.answers ++ s.book.answers)) (sym answered) (answers_in_front s.book.now out.answers s.book.answers);
+        many = ap (λ (all : List Answer). length all) answered ∙ answers_many s.book.now out.answers s.book.answers;
       };
     }
       where
@@ -236,6 +228,9 @@ module _ (view : List ℕ) (strings : List (List ℕ)) (free : AreFree strings) 
 
         given : AllGiven view strings v.nodes v.mail.sent v.hashed v.notes r.ghosts (roles_of w.nodes) (said_in v.mail.sent) p y.phase t out.answers
         given = all_given view strings v.nodes v.mail.sent v.hashed v.notes r.ghosts (roles_of w.nodes) (said_in v.mail.sent) p y.phase r.steps out.answers after_step roles
+
+        answered : (state_after view given.steps).book.answers ≡ with_answers s.book.now out.answers s.book.answers
+        answered = given.given ∙ ap (λ (old : List Answer). with_answers t.book.now out.answers old) r.elsewhere.answers ∙ ap (λ (event : ℕ). with_answers event out.answers s.book.answers) r.elsewhere.now
 
     -- all that a step hashes is among the strings, if all that the world hashed after it is
     step_among : (plan : Plan PeerState) (stores : HeldStores) → AreAmong (with_taken p (taken_of (run_over plan stores)) w).hashed strings → AreAmong (run plan (held_with stores w.hashed) []).held.hashed strings

@@ -3,3 +3,4 @@ pub mod Peers
 pub mod Worlds
 pub mod Keys
 pub mod Lines
+pub mod Causes

@@ -66,6 +66,7 @@ pub record Agrees (uncounted : ℕ) (events : List ScheduleEvent) (w : Run) (b :
   pub notes : b.notes ≡ w.notes
   pub calls : AreSame b.calls (calls_from 1 events)
   pub answers : AreSame b.answers (answers_in w.printed)
+  pub many : length b.answers ≡ length (answers_in w.printed)
 
 -- after a line
 abbrev pub BookAgrees : List ScheduleEvent → Run → Book → Type 0
@@ -92,6 +93,7 @@ pub record StepAgrees (t : Taken) (b next : Book) : Type 0 where
   pub calls : next.calls ≡ b.calls
   pub notes : next.notes ≡ b.notes ++ t.notes
   pub answers : AreSame next.answers (map (given_at b.now) t.out.answers ++ b.answers)
+  pub many : length next.answers ≡ length t.out.answers + length b.answers
 
 -- the book stays as it is, but for entries that no history is made of
 pub record IsQuiet (b next : Book) : Type 0 where

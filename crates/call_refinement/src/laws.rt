@@ -8,6 +8,7 @@ ghost use Rattle.register_model.specs.declared.history.History.{History};
 ghost use Rattle.schedule_text.specs.Spelling.{AllMayStand, call_ids};
 ghost use Rattle.schedule_text.specs.declared.event.ScheduleEvent.{ScheduleEvent};
 ghost use Rattle.world_spec.specs.Lines.{run_of_schedule};
+ghost use Rattle.call_refinement.specs.Causes.{HaveCauses};
 ghost use Rattle.call_refinement.specs.Keys.{KeysAreCalled, KeysAreFew, IdsAreFew, CallsAreFew};
 ghost use Rattle.call_refinement.specs.Lines.{AreLegal, AreSteady};
 ghost use Rattle.call_refinement.specs.Worlds.{HasRun};
@@ -23,6 +24,15 @@ pub fn steady_worlds_refine_the_protocol()
 pub fn steady_histories_are_legal()
     ensures { (peers : ℕ) (view : List ℕ) (events : List ScheduleEvent) → peers ≤ 31 → IsView view → length events < 2 ^ 32 → AreSteady events → AllMayStand peers events → AreDistinct (call_ids events) → HasNoClash (run_of_schedule peers view events).hashed
         → (histories : List History) → AreHistories (run_of_schedule peers view events).notes (run_of_schedule peers view events).called histories → AreLegal events (run_of_schedule peers view events).printed histories }
+{}
+
+/// Each answer printed is to a call of the schedule and has its cause in the notes, and no call is
+/// answered twice. `ok` is answered only if a version was proposed for the call and settled, under
+/// this stamp; any other completed reply only if a read of the call was noted, on no version or on a
+/// settled one; and for a refused call no version was proposed and no read was noted.
+pub fn steady_answers_have_causes()
+    ensures { (peers : ℕ) (view : List ℕ) (events : List ScheduleEvent) → peers ≤ 31 → IsView view → length events < 2 ^ 32 → AreSteady events → AllMayStand peers events → AreDistinct (call_ids events) → HasNoClash (run_of_schedule peers view events).hashed
+        → HaveCauses events (run_of_schedule peers view events).printed (run_of_schedule peers view events).notes }
 {}
 
 /// In each run of the abstract protocol some call is on the key of each proposed version. So there are

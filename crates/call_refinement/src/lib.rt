@@ -6,7 +6,7 @@
 //! shows the map of the protocol and has its role in the theory of leaders (`specs/Peers`,
 //! `specs/Roles`), each message says what holds, and the book has the notes of the leaders, the calls
 //! of the lines and the answers printed. So its histories are legal, in the sense of Herlihy and Wing
-//! (1990).
+//! (1990), and each answer printed has its cause in the notes (`specs/Causes`).
 //!
 //! `proofs/Frame` says where a peer is within its step, and how a step ends. Rows of phases, rules of
 //! a leader, and requests are followed there call by call; `proofs/Stepping` joins them to a whole
@@ -16,4 +16,7 @@
 
 mod laws;
 
-pub use laws::{keys_are_called, steady_histories_are_legal, steady_worlds_refine_the_protocol};
+pub use laws::{
+    keys_are_called, steady_answers_have_causes, steady_histories_are_legal,
+    steady_worlds_refine_the_protocol,
+};
