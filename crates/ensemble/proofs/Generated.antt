@@ -1,9 +1,8 @@
 -- A replay of the text of a generated schedule.
-use Rattle.std.proofs.Common.{◌≡◌, ◌≤◌, ℕ, false, List, None, Some, refl, ap, ◌∙◌}
+use Rattle.std.proofs.Common.{◌≡◌, ◌≤◌, ℕ, List, Some, ap, ◌∙◌}
 use Rattle.ens_base.specs.declared.status.Status.{Status}
-use Rattle.replay.proofs.Forms.{forward_sound}
+use Rattle.replay.proofs.Endings.{forward_sound}
 use Rattle.replay.proofs.Texts.{one_text, text_replayed}
-use Rattle.replay.specs.Form.{is_machine}
 use Rattle.replay.specs.Jobs.{EndsInRun, Prints}
 use Rattle.replay.specs.Summary.{summary_text}
 use Rattle.replay.specs.Worlds.{schedule_run}
@@ -12,14 +11,10 @@ use Rattle.schedule_generator.specs.Generated.{generate}
 use Rattle.schedule_text.specs.Spelling.{schedule_text}
 use Rattle.ensemble.specs.Top.{PrintsSummary}
 
-generated_world : (number calls : ℕ) → is_machine (generate number calls) ≡ false
-unfolding generate
-generated_world number calls = refl
-
 pub generated_replayed : (number calls : ℕ) (status : Status) (text : List ℕ) → calls ≤ 20000 → Prints (Some (schedule_text (generate number calls))) status text → EndsInRun (generate number calls) status text
 generated_replayed number calls status text few h =
     text_replayed (generate number calls) status text (generated_valid number calls few)
-    (forward_sound (generate number calls) (generated_valid number calls few) (generated_forward number calls)) (generated_world number calls) h
+    (forward_sound (generate number calls) (generated_valid number calls few) (generated_forward number calls)) h
 
 pub generated_summed : (number calls : ℕ) (summary text : List ℕ) → calls ≤ 20000 → PrintsSummary number calls Status.Done summary → Prints (Some (schedule_text (generate number calls))) Status.Done text → summary ≡ summary_text (generate number calls) (schedule_run (generate number calls)).printed text
 generated_summed number calls summary text few h p =

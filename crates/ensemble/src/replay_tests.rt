@@ -74,7 +74,7 @@ fn schedules_print_their_text(rt: HostRuntime) -> Result<(), Fail> {
         bad("jump 1\n", "schedule 4 4\n"),
         bad("tick 1 1", "schedule 4 2\n"),
         bad("call 1 1 get 6b\ncall 1 1 get 6b\n", "schedule 5 9\n"),
-        // A command that the machine does not know runs in a world.
+        // The second `once` of a key fails, and is in its history.
         done(
             "tick 1 6\ncall 1 1 once 6b 61\ncall 1 2 once 6b 62\ncall 1 3 append 6b 62\n",
             "answer 1 2 ok 1.1.1\nanswer 2 3 failed\nanswer 3 4 ok 1.1.2\nhistory 6b 1 2 3\n",

@@ -62,7 +62,7 @@ pub fn ensemble_main<S: Source, O: Sink, R: Threads + Sync>(
     output: &mut O,
 ) -> Status
     // What is written, for each status: for a replay that ran to its end, what the world printed,
-    // or the answers of the machine and a legal history for each key.
+    // and a history for each key.
     ensures printed { result ≢ Status.WriteFault → (text : List ℕ) × Ends (map (λ w. w.now) words.now) (S.left input.old) result text × Appends (O.written output.old) (O.written output.new) text }
     // A prefix of that text, if the output failed.
     ensures front { result ≡ Status.WriteFault → (status : Status) × (text : List ℕ) × Ends (map (λ w. w.now) words.now) (S.left input.old) status text × AppendsFront (O.written output.old) (O.written output.new) text }

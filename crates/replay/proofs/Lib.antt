@@ -1,11 +1,5 @@
-pub mod Lookups
-pub mod Machines
 pub mod Members
-pub mod Printed
-pub mod Serving
-pub mod Legal
-pub mod FormSteps
-pub mod Forms
+pub mod Endings
 pub mod Unread
 pub mod Summaries
 pub mod Texts

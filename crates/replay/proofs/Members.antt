@@ -1,5 +1,5 @@
 -- Membership in a list, by recursion and by position.
-use Rattle.std.proofs.Common.{◌≡◌, ℕ, zero, suc, ◌<◌, List, [], ◌∷◌, length, map, get_or, refl, sym, inl, inr, arith}
+use Rattle.std.proofs.Common.{◌≡◌, ℕ, zero, suc, ◌<◌, List, [], ◌∷◌, length, get_or, sym, inl, inr, arith}
 use Rattle.std.specs.Prelude.{Contains}
 use Rattle.ens_base.specs.Lists.{◌∈◌}
 
@@ -15,8 +15,3 @@ pub Contains_from_in : {A : Type 0} (xs : List A) (x : A) → x ∈ xs → Conta
 Contains_from_in [] x h = absurd h
 Contains_from_in (y ∷ ys) x (inl e) = (0, omega arith, sym e)
 Contains_from_in (y ∷ ys) x (inr h) = let there = Contains_from_in ys x h in (suc there.0, omega (arith, there.1), there.2)
-
-pub from_map : {A B : Type 0} (f : A → B) (xs : List A) (y : B) → y ∈ map f xs → (x : A) × (x ∈ xs) × (y ≡ f x)
-from_map f [] y h = absurd h
-from_map f (x ∷ xs) y (inl e) = (x, inl refl, e)
-from_map f (x ∷ xs) y (inr h) = let there = from_map f xs y h in (there.0, inr there.1, there.2)

@@ -1,5 +1,5 @@
 -- A run has one text, and the text of a schedule is read as the schedule.
-use Rattle.std.proofs.Common.{◌≡◌, ◌↔◌, Less, ℕ, Bool, false, List, [], ◌∷◌, ◌++◌, map, Option, Some, None, Result, Ok, Err, refl, sym, ap, subst, ◌∙◌, inl, inr}
+use Rattle.std.proofs.Common.{◌≡◌, Less, ℕ, List, [], ◌∷◌, ◌++◌, map, Option, Some, None, Result, Ok, Err, refl, sym, ap, subst, ◌∙◌, inl, inr}
 use Rattle.std.specs.List.{AllByRecursion, flat_map}
 use Rattle.std.specs.List.Sorted.{IsStrictlySortedBy}
 use Rattle.std.specs.Ordering.{ordering_reverse}
@@ -17,10 +17,9 @@ use Rattle.schedule_text.specs.declared.error.ScheduleError.{ScheduleError}
 use Rattle.schedule_text.specs.declared.schedule.Schedule.{Schedule}
 use Rattle.world_spec.specs.Messages.{IsPastMessages}
 use Rattle.world_spec.specs.Runs.{Run}
-use Rattle.replay.specs.Form.{is_machine}
 use Rattle.held_stores.specs.Held.{HasNoClash}
 use Rattle.held_stores.specs.Laws.{HasClashed, HasFilled}
-use Rattle.replay.specs.Jobs.{EndsInRun, IsRunText, Prints, PrintsWith, hashed_if, hashed_by, nothing_hashed}
+use Rattle.replay.specs.Jobs.{EndsInRun, IsRunText, Prints, PrintsWith, hashed_by, nothing_hashed}
 use Rattle.replay.specs.Text.{IsTextOfRun, history_line, printed_line}
 use Rattle.replay.specs.Worlds.{schedule_run}
 use Rattle.replay.proofs.Members.{Contains_from_in, in_from_Contains}
@@ -85,30 +84,28 @@ not_found h = cc h
 read_same : (s t : Schedule) → IsSchedule s → schedule_of (schedule_text s) ≡ Ok t → t ≡ s
 read_same s t is read = sym (same_ok (sym (schedule_of-text s is) ∙ read))
 
-pub text_replayed : (s : Schedule) (status : Status) (text : List ℕ) → IsSchedule s → first_unsound s ≡ None → is_machine s ≡ false → Prints (Some (schedule_text s)) status text → EndsInRun s status text
-text_replayed s Status.Done text is sound world h =
+pub text_replayed : (s : Schedule) (status : Status) (text : List ℕ) → IsSchedule s → first_unsound s ≡ None → Prints (Some (schedule_text s)) status text → EndsInRun s status text
+text_replayed s Status.Done text is sound h =
     let r = h.1 in
     let same : r.0 ≡ s = read_same s r.0 is r.1 in
-    let ran : IsRunText (is_machine s) s text = subst (λ (t : Schedule). IsRunText (is_machine t) t text) same r.4 in
-    let apart : HasNoClash (hashed_by s) = subst (λ (t : Schedule). HasNoClash (hashed_by t)) same (r.5.apart refl) in
-    (subst (λ (b : Bool). IsRunText b s text) world ran, subst (λ (b : Bool). HasNoClash (hashed_if b s)) world apart)
-text_replayed s Status.Schedule text is sound world h = absurd (no_error (sym (schedule_of-text s is) ∙ h.1.2))
-text_replayed s Status.Premise text is sound world h =
+    (subst (λ (t : Schedule). IsRunText t text) same r.4, subst (λ (t : Schedule). HasNoClash (hashed_by t)) same (r.5.apart refl))
+text_replayed s Status.Schedule text is sound h = absurd (no_error (sym (schedule_of-text s is) ∙ h.1.2))
+text_replayed s Status.Premise text is sound h =
     let r = h.1 in
     let found = subst (λ (t : Schedule). first_unsound t ≡ Some r.2.0) (read_same s r.0 is r.1) r.2.1 in
     absurd (not_found (sym sound ∙ found))
-text_replayed s Status.Clash text is sound world h =
+text_replayed s Status.Clash text is sound h =
     let r = h.1 in
     let met : HasClashed (hashed_by s) nothing_hashed r.0 r.1 h.0 = subst (λ (t : Schedule). HasClashed (hashed_by t) nothing_hashed r.0 r.1 h.0) (read_same s r.5.0 is r.5.1) r.5.3 in
-    (h.0, r.0, r.1, subst (λ (b : Bool). HasClashed (hashed_if b s) nothing_hashed r.0 r.1 h.0) world met, r.2, r.4)
-text_replayed s Status.Limit text is sound world h = by_limit h.1
+    (h.0, r.0, r.1, met, r.2, r.4)
+text_replayed s Status.Limit text is sound h = by_limit h.1
   where
     by_limit : PrintsWith nothing_hashed h.0 (Some (schedule_text s)) Status.Limit text → EndsInRun s Status.Limit text
     by_limit (inl lines) = absurd (no_error (sym (schedule_of-text s is) ∙ lines.0))
-    by_limit (inr (inl m)) = inl (subst (λ (t : Schedule). IsPastMessages (schedule_run t)) (read_same s m.0.0 is m.0.1) m.0.4, m.1)
+    by_limit (inr (inl m)) = inl (subst (λ (t : Schedule). IsPastMessages (schedule_run t)) (read_same s m.0.0 is m.0.1) m.0.3, m.1)
     by_limit (inr (inr b)) =
         let met : HasFilled (hashed_by s) nothing_hashed h.0 = subst (λ (t : Schedule). HasFilled (hashed_by t) nothing_hashed h.0) (read_same s b.1.0 is b.1.1) b.1.3 in
-        inr (h.0, subst (λ (c : Bool). HasFilled (hashed_if c s) nothing_hashed h.0) world met, b.2)
-text_replayed s Status.ReadFault text is sound world h = h.1
-text_replayed s Status.Memory text is sound world h = h.1
-text_replayed s status text is sound world h = absurd h.1
+        inr (h.0, met, b.2)
+text_replayed s Status.ReadFault text is sound h = h.1
+text_replayed s Status.Memory text is sound h = h.1
+text_replayed s status text is sound h = absurd h.1

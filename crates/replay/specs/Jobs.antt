@@ -1,6 +1,7 @@
 -- What a job prints, and why it ends as it does.
-use Rattle.std.specs.Prelude.{◌≡◌, ◌⊎◌, ℕ, Bool, true, false, List, [], ◌∷◌, ◌++◌, codes, Option, None, Some, Ok, IfSome}
-use Rattle.call_refinement.specs.Lines as steady
+use Rattle.std.specs.Prelude.{◌≡◌, ◌⊎◌, ℕ, List, [], ◌∷◌, ◌++◌, codes, Option, None, Some, Ok, IfSome}
+use Rattle.call_refinement.specs.Causes.{HaveCauses}
+use Rattle.call_refinement.specs.Lines.{AreLegal, AreSteady}
 use Rattle.held_stores.specs.Held.{Account, HasHashed, HasNoClash}
 use Rattle.held_stores.specs.Laws.{HasClashed, HasFilled}
 use Rattle.schedule_premise.specs.Premise.{first_unsound}
@@ -8,51 +9,24 @@ use Rattle.schedule_text.specs.Reading.{schedule_of}
 use Rattle.schedule_text.specs.Spelling.{IsSchedule}
 use Rattle.schedule_text.specs.declared.schedule.Schedule.{Schedule}
 use Rattle.ens_base.specs.Causes.{Rose}
-use Rattle.ens_base.specs.Lists.{◌∈◌}
 use Rattle.ens_base.specs.Words.{bytes_word}
 use Rattle.ens_base.specs.declared.status.Status.{Status}
 use Rattle.ens_hashing.specs.Hashing.{IsClash}
-use Rattle.history_scribe.specs.Histories as scribe
-use Rattle.register_model.specs.Histories.{IsLegal}
+use Rattle.history_scribe.specs.Histories.{AreHistories}
 use Rattle.register_model.specs.declared.history.History.{History}
 use Rattle.schedule_input.specs.Endings.{IsBadLine, IsLineLimit, IsUnsound}
-use Rattle.replay.specs.declared.event.Event.{Event}
-use Rattle.replay.specs.Events.{calls_from}
-use Rattle.replay.specs.Form.{form_of, is_machine}
-use Rattle.replay.specs.Machine.{start, answers_from}
-use Rattle.replay.specs.Histories.{AreHistories}
-use Rattle.replay.specs.Text.{text_of, IsTextOfRun}
+use Rattle.replay.specs.Text.{IsTextOfRun}
 use Rattle.replay.specs.Worlds.{schedule_run}
 use Rattle.world_spec.specs.Messages.{IsPastMessages, IsWithinMessages}
 
--- every history is legal for its key, for these calls and answers
-abbrev pub AreLegal : List Event → List History → Type 0
-AreLegal events histories = (h : History) → h ∈ histories → IsLegal (calls_from 1 events) (answers_from start 1 events) h.key h.calls
+-- the run of the schedule stays within the limit on messages, and the text is what it prints, with the
+-- histories
+abbrev pub IsRunText : Schedule → List ℕ → Type 0
+IsRunText s text = IsWithinMessages (schedule_run s) × IsTextOfRun (schedule_run s) text
 
--- the schedule has the form that the machine runs, and the text is that of its answers and of one
--- legal history for each key
-abbrev pub IsMachineText : Schedule → List ℕ → Type 0
-IsMachineText s text = (events : List Event) × (histories : List History) × (form_of s ≡ Some events) × AreHistories events histories × AreLegal events histories × (text ≡ text_of (answers_from start 1 events) histories)
-
--- the run of the schedule in a world stays within the limit on messages, and the text is what it
--- prints, with the histories
-abbrev pub IsWorldText : Schedule → List ℕ → Type 0
-IsWorldText s text = IsWithinMessages (schedule_run s) × IsTextOfRun (schedule_run s) text
-
--- the text of a run: what the machine prints if the schedule has its form, and otherwise what a
--- world prints
-abbrev pub IsRunText : Bool → Schedule → List ℕ → Type 0
-IsRunText true s text = IsMachineText s text
-IsRunText false s text = IsWorldText s text
-
--- the strings that a replay of the schedule hashes, in order: those of its run in a world; the machine
--- hashes none
-abbrev pub hashed_if : Bool → Schedule → List (List ℕ)
-hashed_if true s = []
-hashed_if false s = (schedule_run s).hashed
-
+-- the strings that a replay of the schedule hashes, in order
 abbrev pub hashed_by : Schedule → List (List ℕ)
-hashed_by s = hashed_if (is_machine s) s
+hashed_by s = (schedule_run s).hashed
 
 -- a hasher took all these strings; so if it kept none before, and says what it keeps, no two different
 -- ones have the same MD5
@@ -63,17 +37,21 @@ pub record HasAdmitted (strings : List (List ℕ)) (first now : Account) : Type 
 -- the histories that the notes of the run give are legal, for the calls of the schedule and the answers
 -- printed
 abbrev pub HasLegalHistories : Schedule → Type 0
-HasLegalHistories s = (histories : List History) → scribe.AreHistories (schedule_run s).notes (schedule_run s).called histories → steady.AreLegal s.events (schedule_run s).printed histories
+HasLegalHistories s = (histories : List History) → AreHistories (schedule_run s).notes (schedule_run s).called histories → AreLegal s.events (schedule_run s).printed histories
 
--- So it is with a schedule that runs in a world, if its lines only call, tick, deliver, pass, lose, calm
--- and stop, and the hasher kept nothing before.
+-- each answer printed has its cause in the notes of the run
+abbrev pub HasCausedAnswers : Schedule → Type 0
+HasCausedAnswers s = HaveCauses s.events (schedule_run s).printed (schedule_run s).notes
+
+-- So it is with a schedule whose lines only call, tick, deliver, pass, lose, calm and stop, if the
+-- hasher kept nothing before.
 abbrev pub IsLegalIfSteady : Account → Schedule → Type 0
-IsLegalIfSteady first s = is_machine s ≡ false → steady.AreSteady s.events → first.kept ≡ Some [] → HasLegalHistories s
+IsLegalIfSteady first s = AreSteady s.events → first.kept ≡ Some [] → HasLegalHistories s × HasCausedAnswers s
 
 -- the bytes are a sound schedule, the text is that of its run, the hasher took the strings of the run,
--- and the histories are legal
+-- and the histories are legal, and the answers caused, if the schedule is steady
 abbrev pub IsReplay : Account → Account → List ℕ → List ℕ → Type 0
-IsReplay first now bytes text = (s : Schedule) × (schedule_of bytes ≡ Ok s) × IsSchedule s × (first_unsound s ≡ None) × IsRunText (is_machine s) s text × HasAdmitted (hashed_by s) first now × IsLegalIfSteady first s
+IsReplay first now bytes text = (s : Schedule) × (schedule_of bytes ≡ Ok s) × IsSchedule s × (first_unsound s ≡ None) × IsRunText s text × HasAdmitted (hashed_by s) first now × IsLegalIfSteady first s
 
 -- the bytes are a sound schedule, and the hasher rejected the next string of its run, which clashes
 -- with one that it keeps
@@ -88,9 +66,9 @@ clash_line kept new = codes "clash " ++ bytes_word kept ++ codes " " ++ bytes_wo
 abbrev pub IsClashText : Account → Account → Option (List ℕ) → List ℕ → Type 0
 IsClashText first now source text = (kept : List ℕ) × (new : List ℕ) × IsClash kept new × Rose first.clashes now.clashes × (text ≡ clash_line kept new) × IfSome source (IsClashing first now kept new)
 
--- the bytes are a sound schedule that runs in a world, and its run exceeds the limit on messages
+-- the bytes are a sound schedule, and its run exceeds the limit on messages
 abbrev pub IsPastLimit : List ℕ → Type 0
-IsPastLimit bytes = (s : Schedule) × (schedule_of bytes ≡ Ok s) × (first_unsound s ≡ None) × (is_machine s ≡ false) × IsPastMessages (schedule_run s)
+IsPastLimit bytes = (s : Schedule) × (schedule_of bytes ≡ Ok s) × (first_unsound s ≡ None) × IsPastMessages (schedule_run s)
 
 -- message 500,001 would be sent, and the text reports it
 abbrev pub IsMessageLimit : Option (List ℕ) → List ℕ → Type 0
@@ -129,11 +107,11 @@ Prints source status text = (now : Account) × PrintsWith nothing_hashed now sou
 abbrev pub EndsSo : Account → Account → Schedule → Status → List ℕ → Type 0
 EndsSo first now s status text = (source : Option (List ℕ)) → IfSome source (λ bytes. schedule_of bytes ≡ Ok s) → PrintsWith first now source status text
 
--- how a replay over such a book ends if it reads this schedule and runs it in a world
+-- how a replay over such a book ends if it reads this schedule and runs it
 abbrev pub EndsInRun : Schedule → Status → List ℕ → Type 0
-EndsInRun s Status.Done text = IsWorldText s text × HasNoClash (schedule_run s).hashed
-EndsInRun s Status.Clash text = (now : Account) × (kept : List ℕ) × (new : List ℕ) × HasClashed (schedule_run s).hashed nothing_hashed kept new now × IsClash kept new × (text ≡ clash_line kept new)
-EndsInRun s Status.Limit text = (IsPastMessages (schedule_run s) × (text ≡ codes "limit messages 500000" ++ 10 ∷ [])) ⊎ ((now : Account) × HasFilled (schedule_run s).hashed nothing_hashed now × (text ≡ codes "limit book 1073741824" ++ 10 ∷ []))
+EndsInRun s Status.Done text = IsRunText s text × HasNoClash (hashed_by s)
+EndsInRun s Status.Clash text = (now : Account) × (kept : List ℕ) × (new : List ℕ) × HasClashed (hashed_by s) nothing_hashed kept new now × IsClash kept new × (text ≡ clash_line kept new)
+EndsInRun s Status.Limit text = (IsPastMessages (schedule_run s) × (text ≡ codes "limit messages 500000" ++ 10 ∷ [])) ⊎ ((now : Account) × HasFilled (hashed_by s) nothing_hashed now × (text ≡ codes "limit book 1073741824" ++ 10 ∷ []))
 EndsInRun s Status.ReadFault text = text ≡ codes "read fault" ++ 10 ∷ []
 EndsInRun s Status.Memory text = text ≡ codes "memory" ++ 10 ∷ []
 EndsInRun s status text = ⊥

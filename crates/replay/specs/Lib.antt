@@ -1,10 +1,4 @@
-pub mod Events
-pub mod Machine
-pub mod Keys
-pub mod Runner
-pub mod Histories
 pub mod Text
-pub mod Form
 pub mod Worlds
 pub mod Summary
 pub mod Jobs

@@ -5,7 +5,6 @@ use Rattle.md5.specs.Md5.{md5}
 use Rattle.ens_base.specs.Words.{bytes_word}
 use Rattle.ens_base.specs.declared.reply.Reply.{Reply}
 use Rattle.ens_base.specs.declared.status.Status.{Status}
-use Rattle.ens_base.specs.declared.status.Status.TheVariants as Status
 use Rattle.register_model.specs.declared.printed.Printed.{Printed}
 use Rattle.register_model.specs.declared.printed.Printed.TheVariants as lines
 use Rattle.schedule_text.specs.declared.event.ScheduleEvent.{ScheduleEvent}

@@ -34,10 +34,6 @@ next_id id = 32 ∷ decimal id
 abbrev pub history_line : History → List ℕ
 history_line h = codes "history " ++ bytes_word h.key ++ flat_map next_id h.calls ++ 10 ∷ []
 
--- the answers in the order in which they were given, followed by the histories
-abbrev pub text_of : List Answer → List History → List ℕ
-text_of answers histories = flat_map answer_line answers ++ flat_map history_line histories
-
 -- the outcome of a request to change the view
 abbrev pub taken_word : Bool → List ℕ
 taken_word true = codes "taken"

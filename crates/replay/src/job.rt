@@ -1,17 +1,12 @@
-ghost use Rattle.std.specs.Prelude.{◌≡◌, ◌≢◌, List, ℕ, IfOk, MatchOption, None, true, string_bytes};
+ghost use Rattle.std.specs.Prelude.{◌≡◌, ◌≢◌, List, ℕ, IfOk, string_bytes};
 ghost use Rattle.std.specs.Io.KnownBytes.{Appends, IsAtEnd};
 ghost use Rattle.ens_base.specs.Causes.{Rose};
 ghost use Rattle.ens_base.specs.declared.status.Status.{Status};
 ghost use Rattle.ens_outside.specs.Written.{AppendsFront};
 ghost use Rattle.held_stores.specs.Held.{Account, account};
-ghost use Rattle.schedule_premise.specs.Premise.{first_unsound};
 ghost use Rattle.schedule_text.specs.Spelling.{IsSchedule};
-ghost use Rattle.replay.specs.Form.{form_of, is_machine as has_machine_form};
-ghost use Rattle.replay.specs.Jobs.{EndsSo, IsMachineText, Prints, PrintsWith};
+ghost use Rattle.replay.specs.Jobs.{EndsSo, Prints, PrintsWith};
 
-use crate::form::{form_of, is_machine};
-use crate::run::run;
-use crate::text::write_text;
 use crate::worlds::run_world;
 use ens_base::Status;
 use ens_hashing::{HashBook, Hasher16};
@@ -24,55 +19,8 @@ use std::thread::Threads;
 /// The number of bytes that the book of a replay keeps.
 const BOOK_LIMIT: u64 = 1_073_741_824;
 
-/// Returns the text of the machine's run of a schedule, or `None` if it has another form.
-fn machine_text(alloc: Global, schedule: Schedule) -> Result<Option<String>, AllocError>
-    ensures { IfOk result (λ o. MatchOption o (form_of schedule ≡ None) (λ text. IsSchedule schedule → IsMachineText schedule (string_bytes text))) }
-{
-    let Some(events) = form_of(alloc, schedule)? else {
-        return Ok(None);
-    };
-    let record = run(alloc, events)?;
-    Ok(Some(write_text(alloc, &record.answers, &record.histories)?))
-}
-
-/// Runs a schedule on the machine.
-fn machine_ending(alloc: Global, schedule: Schedule) -> Result<Ending, AllocError>
-    requires valid { IsSchedule schedule }
-    requires sound { first_unsound schedule ≡ None }
-    requires form { has_machine_form schedule ≡ true }
-    ensures ends { IfOk result (λ e. (any : Account) → EndsSo any any schedule e.status (string_bytes e.text)) }
-    ensures status { IfOk result (λ e. e.status ≢ Status.ReadFault) }
-{
-    match machine_text(alloc, schedule)? {
-        Some(text) => Ok(Ending {
-            status: Status::Done,
-            text,
-        }),
-        None => unreachable!(),
-    }
-}
-
-/// Runs a sound schedule: on the machine if it has its form, and otherwise in a world.
-fn sound_ending<H: Hasher16, R: Threads + Sync>(
-    rt: &R,
-    alloc: Global,
-    schedule: Schedule,
-    hasher: &mut H,
-) -> Result<Ending, AllocError>
-    requires valid { IsSchedule schedule }
-    requires sound { first_unsound schedule ≡ None }
-    ensures ends { IfOk result (λ e. EndsSo (account H.kept H.clashes H.fulls hasher.old) (account H.kept H.clashes H.fulls hasher.new) schedule e.status (string_bytes e.text)) }
-    ensures status { IfOk result (λ e. e.status ≢ Status.ReadFault) }
-{
-    if is_machine(&schedule) {
-        machine_ending(alloc, schedule)
-    } else {
-        run_world(rt, alloc, &schedule, hasher)
-    }
-}
-
 /// Returns how the job ends that read this schedule: with the first view that fails the premise if
-/// there is one, and otherwise with its run.
+/// there is one, and otherwise with its run in a world.
 fn run_ending<H: Hasher16, R: Threads + Sync>(
     rt: &R,
     alloc: Global,
@@ -85,7 +33,7 @@ fn run_ending<H: Hasher16, R: Threads + Sync>(
 {
     match Ending::unsound(alloc, &schedule)? {
         Some(ending) => Ok(ending),
-        None => sound_ending(rt, alloc, schedule, hasher),
+        None => run_world(rt, alloc, &schedule, hasher),
     }
 }
 

@@ -1,4 +1,4 @@
-ghost use Rattle.std.specs.Prelude.{◌≡◌, ◌↔◌, ℕ, List, None, Some, true, false};
+ghost use Rattle.std.specs.Prelude.{◌≡◌, ◌↔◌, ℕ, List, None, Some, true};
 ghost use Rattle.ens_base.specs.declared.reply.Reply.{Reply};
 ghost use Rattle.ens_base.specs.declared.status.Status.{Status};
 ghost use Rattle.register_model.specs.Histories.{IsDone, IsRefused};
@@ -6,15 +6,9 @@ ghost use Rattle.schedule_premise.specs.Premise.{first_unsound};
 ghost use Rattle.schedule_text.specs.Spelling.{IsSchedule, schedule_text};
 ghost use Rattle.schedule_text.specs.declared.schedule.Schedule.{Schedule};
 ghost use Rattle.world_spec.specs.Runs.{Run};
-ghost use Rattle.replay.specs.Form.{is_machine};
 ghost use Rattle.replay.specs.Jobs.{EndsInRun, Prints};
 ghost use Rattle.replay.specs.Summary.{is_done, is_refused};
 ghost use Rattle.replay.specs.Text.{IsTextOfRun};
-
-/// A schedule in the form that the machine runs reverts nobody, and so it is sound.
-pub fn machines_are_sound()
-    ensures { (s : Schedule) → IsSchedule s → is_machine s ≡ true → first_unsound s ≡ None }
-{}
 
 /// A summary counts a call as completed or as refused by the definitions of a legal history.
 pub fn summaries_count_by_histories()
@@ -27,9 +21,9 @@ pub fn a_run_has_one_text()
     ensures { (run : Run) (first second : List ℕ) → IsTextOfRun run first → IsTextOfRun run second → first ≡ second }
 {}
 
-/// The text of a schedule is read as the schedule. So a replay of the text of a sound schedule that
-/// runs in a world prints the text of its run, or ends with a clash of its strings or at a limit,
-/// unless the input fails or memory runs out.
+/// The text of a schedule is read as the schedule. So a replay of the text of a sound schedule prints
+/// the text of its run, or ends with a clash of its strings or at a limit, unless the input fails or
+/// memory runs out.
 pub fn a_text_is_replayed()
-    ensures { (s : Schedule) (status : Status) (text : List ℕ) → IsSchedule s → first_unsound s ≡ None → is_machine s ≡ false → Prints (Some (schedule_text s)) status text → EndsInRun s status text }
+    ensures { (s : Schedule) (status : Status) (text : List ℕ) → IsSchedule s → first_unsound s ≡ None → Prints (Some (schedule_text s)) status text → EndsInRun s status text }
 {}

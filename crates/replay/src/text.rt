@@ -1,6 +1,6 @@
 ghost use Rattle.std.specs.Prelude.{◌≡◌, ◌++◌, IfOk, OnOk, string_bytes};
 ghost use Rattle.std.specs.List.{flat_map};
-ghost use Rattle.replay.specs.Text.{answer_line, change_line as line_of_change, history_line, next_id, printed_line, reply_words, taken_word as word_of_taken, text_of};
+ghost use Rattle.replay.specs.Text.{answer_line, change_line as line_of_change, history_line, next_id, printed_line, reply_words, taken_word as word_of_taken};
 
 use ens_base::{PeerId, Reply, push_bytes, push_value};
 use register_model::{Answer, History, Printed};
@@ -59,22 +59,6 @@ fn push_histories(alloc: Global, text: &mut String, histories: &[History]) -> Re
         push_history(alloc, text, history)?;
     }
     Ok(())
-}
-
-/// Returns the text of the answers, in order, followed by that of the histories.
-pub fn write_text(
-    alloc: Global,
-    answers: &[Answer],
-    histories: &[History],
-) -> Result<String, AllocError>
-    ensures { IfOk result (λ text. string_bytes text ≡ text_of answers.now histories.now) }
-{
-    let mut text = String::new(alloc);
-    for answer in answers {
-        push_answer(alloc, &mut text, answer)?;
-    }
-    push_histories(alloc, &mut text, histories)?;
-    Ok(text)
 }
 
 fn taken_word(taken: bool) -> &'static str

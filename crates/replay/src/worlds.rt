@@ -1,9 +1,8 @@
-ghost use Rattle.std.specs.Prelude.{◌≡◌, ◌≢◌, IfOk, MatchOption, None, false, string_bytes};
+ghost use Rattle.std.specs.Prelude.{◌≡◌, ◌≢◌, IfOk, MatchOption, None, string_bytes};
 ghost use Rattle.ens_base.specs.declared.status.Status.{Status};
 ghost use Rattle.held_stores.specs.Held.{account};
 ghost use Rattle.schedule_premise.specs.Premise.{first_unsound};
 ghost use Rattle.schedule_text.specs.Spelling.{IsSchedule};
-ghost use Rattle.replay.specs.Form.{is_machine as has_machine_form};
 ghost use Rattle.replay.specs.Jobs.{EndsSo, clash_line};
 ghost use Rattle.replay.specs.Text.{IsTextOfRun};
 ghost use Rattle.world_model.specs.Worlds.{run_of};
@@ -52,7 +51,6 @@ pub fn run_world<H: Hasher16, R: Threads + Sync>(
 ) -> Result<Ending, AllocError>
     requires valid { IsSchedule schedule.now }
     requires sound { first_unsound schedule.now ≡ None }
-    requires form { has_machine_form schedule.now ≡ false }
     ensures ends { IfOk result (λ e. EndsSo (account H.kept H.clashes H.fulls hasher.old) (account H.kept H.clashes H.fulls hasher.new) schedule.now e.status (string_bytes e.text)) }
     ensures status { IfOk result (λ e. e.status ≢ Status.ReadFault) }
 {

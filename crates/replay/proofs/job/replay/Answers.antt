@@ -1,6 +1,6 @@
 use Rattle.ens_hashing.specs.Kept.{strings_of}
 use Rattle.replay.specs.Jobs.{nothing_hashed}
-use Rattle.replay.proofs.Forms.{empty_account, prints_from}
+use Rattle.replay.proofs.Endings.{empty_account, prints_from}
 use Rattle.replay.proofs.job.replay.Goals as goal
 
 pub returns-clause-printed : goal.returns-clause-printed

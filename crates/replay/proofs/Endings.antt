@@ -1,0 +1,71 @@
+-- How a replay ends, for each way in which the run of its schedule ends.
+use Rattle.std.proofs.Common.{◌≡◌, ◌<◌, ◌^◌, ℕ, length, List, [], ◌∷◌, ◌++◌, Option, None, Some, Result, Ok, Err, refl, sym, subst, ◌∙◌, inl, inr, arith, string_bytes}
+use Rattle.std.specs.Prelude.{IfOk, codes}
+use Rattle.call_refinement.proofs.Steady.{steady_are_legal, steady_have_causes}
+use Rattle.call_refinement.specs.Lines.{AreSteady}
+use Rattle.ens_base.specs.Lists.{◌∈◌}
+use Rattle.ens_base.specs.declared.status.Status.{Status}
+use Rattle.held_stores.specs.Held.{Account, account, HasHashed, HasNoClash}
+use Rattle.held_stores.specs.Laws.{HasClashed, HasFilled}
+use Rattle.schedule_input.specs.declared.ending.Ending.{Ending}
+use Rattle.schedule_premise.specs.Premise.{first_unsound}
+use Rattle.schedule_premise.proofs.Soundness.{unreverted_is_none}
+use Rattle.schedule_text.specs.Spelling as schedule
+use Rattle.schedule_text.specs.declared.event.ScheduleEvent.TheVariants as line
+use Rattle.schedule_text.specs.declared.schedule.Schedule.{Schedule}
+use Rattle.world_spec.specs.Messages.{IsPastMessages}
+use Rattle.replay.specs.Jobs.{EndsSo, HasAdmitted, HasCausedAnswers, HasLegalHistories, IsRunText, PrintsWith, clash_line, hashed_by, nothing_hashed}
+use Rattle.replay.specs.Worlds.{schedule_run}
+
+-- a schedule without a line that reverts a peer is sound
+pub forward_sound : (s : Schedule) → schedule.IsSchedule s → ((peer changes : ℕ) → line.Revert peer changes ∈ s.events → ⊥) → first_unsound s ≡ None
+forward_sound s of none = unreverted_is_none s of (λ p reverted. none p reverted.0 reverted.1)
+
+-- a steady schedule of whose strings no two clash has legal histories and caused answers
+steady_legal : (s : Schedule) → schedule.IsSchedule s → AreSteady s.events → HasNoClash (hashed_by s) → HasLegalHistories s × HasCausedAnswers s
+steady_legal s of steady apart = (
+  steady_are_legal s.peers s.view s.events of.peers.1 of.view.1 few steady of.events of.distinct apart,
+  steady_have_causes s.peers s.view s.events of.peers.1 of.view.1 few steady of.events of.distinct apart,
+)
+  where
+    few : length s.events < 2 ^ 32
+    few = omega (arith, of.lines)
+
+-- how the run of a sound schedule ends
+module _ (first now : Account) (s : Schedule) (sound : first_unsound s ≡ None) where
+  pub run_done : (text : List ℕ) → schedule.IsSchedule s → IsRunText s text → HasHashed (hashed_by s) first now → (first.kept ≡ Some [] → HasNoClash (hashed_by s)) → EndsSo first now s Status.Done text
+  run_done text of ran has apart None read = tt
+  run_done text of ran has apart (Some bytes) read =
+      let all : HasAdmitted (hashed_by s) first now = record { has = has; apart = apart } in
+      (s, read, of, sound, ran, all, λ steady kept. steady_legal s of steady (apart kept))
+
+  pub clash_ends : (kept new text : List ℕ) → HasClashed (hashed_by s) first kept new now → text ≡ clash_line kept new → EndsSo first now s Status.Clash text
+  clash_ends kept new text has is None read = (kept, new, has.1, has.3, is, tt)
+  clash_ends kept new text has is (Some bytes) read = (kept, new, has.1, has.3, is, (s, read, sound, has))
+
+  pub book_ends : (text : List ℕ) → HasFilled (hashed_by s) first now → text ≡ codes "limit book 1073741824" ++ 10 ∷ [] → EndsSo first now s Status.Limit text
+  book_ends text has is None read = inr (inr (has.2, tt, is))
+  book_ends text has is (Some bytes) read = inr (inr (has.2, (s, read, sound, has), is))
+
+  pub limit_ends : (text : List ℕ) → IsPastMessages (schedule_run s) → text ≡ codes "limit messages 500000" ++ 10 ∷ [] → EndsSo first now s Status.Limit text
+  limit_ends text past is None read = inr (inl (tt, is))
+  limit_ends text past is (Some bytes) read = inr (inl ((s, read, sound, past), is))
+
+  -- the same of the endings that are made with these lines
+  pub book_ending : {E : Type 0} (r : Result Ending E) (line : List ℕ) → line ≡ codes "limit book 1073741824" ++ 10 ∷ [] → IfOk r (λ e. (e.status ≡ Status.Limit) × (string_bytes e.text ≡ line)) → HasFilled (hashed_by s) first now
+      → IfOk r (λ e. EndsSo first now s e.status (string_bytes e.text))
+  book_ending (Ok e) line is made has = subst (λ status. EndsSo first now s status (string_bytes e.text)) (sym made.0) (book_ends (string_bytes e.text) has (made.1 ∙ is))
+  book_ending (Err e) line is made has = tt
+
+  pub limit_ending : {E : Type 0} (r : Result Ending E) (line : List ℕ) → line ≡ codes "limit messages 500000" ++ 10 ∷ [] → IfOk r (λ e. (e.status ≡ Status.Limit) × (string_bytes e.text ≡ line)) → IsPastMessages (schedule_run s)
+      → IfOk r (λ e. EndsSo first now s e.status (string_bytes e.text))
+  limit_ending (Ok e) line is made past = subst (λ status. EndsSo first now s status (string_bytes e.text)) (sym made.0) (limit_ends (string_bytes e.text) past (made.1 ∙ is))
+  limit_ending (Err e) line is made past = tt
+
+-- the account of a book that was just made
+pub empty_account : (strings : List (List ℕ)) (clashes fulls : ℕ) → strings ≡ [] → clashes ≡ 0 → fulls ≡ 0 → account (λ (b : Unit {0}). Some strings) (λ b. clashes) (λ b. fulls) tt ≡ nothing_hashed
+empty_account strings clashes fulls none no_clash not_full = rw none (rw no_clash (rw not_full refl))
+
+-- what a replay prints over a hasher with this account, it prints over one with an equal account
+pub prints_from : (first same now : Account) (source : Option (List ℕ)) (status : Status) (text : List ℕ) → first ≡ same → PrintsWith first now source status text → PrintsWith same now source status text
+prints_from first same now source status text is prints = subst (λ (a : Account). PrintsWith a now source status text) is prints
