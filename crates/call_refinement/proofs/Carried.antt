@@ -1,5 +1,5 @@
 -- The agreement of a world with a run is carried through the lines of a steady schedule.
-use Rattle.std.proofs.Common.{◌≡◌, ℕ, suc, ◌<◌, ◌≤◌, ◌^◌, ◌==◌, if◌then◌else◌, Bool, true, false, List, [], ◌∷◌, length, Some, slice_get, slice_set, arith, refl, sym, subst, inl, inr}
+use Rattle.std.proofs.Common.{◌≡◌, ℕ, suc, ◌<◌, ◌≤◌, ◌^◌, ◌==◌, if◌then◌else◌, Bool, true, false, Option, List, [], ◌∷◌, length, Some, slice_get, slice_set, arith, refl, sym, subst, inl, inr}
 use Rattle.std.specs.Prelude.{All, Contains}
 use Rattle.ens_base.specs.Limits.{IsKey, IsCommand}
 use Rattle.ens_base.specs.Lists.{◌∈◌, AreDistinct}
@@ -10,6 +10,7 @@ use Rattle.abstract_protocol.specs.Protocol.{State, Step, Begin, Ask, happens, M
 use Rattle.election_refinement.specs.Plain.{IsPlainMessage}
 use Rattle.election_refinement.specs.Refinement.{IsKept, FrameHolds}
 use Rattle.held_stores.specs.Held.{HeldStores, HasNoClash}
+use Rattle.held_stores.specs.Laws.{held_with}
 use Rattle.history_scribe.specs.Histories.{AreHistories}
 use Rattle.leader_laws.proofs.Roles.{run_roles}
 use Rattle.leader_laws.specs.Roles.{IsSilent}
@@ -26,8 +27,9 @@ use Rattle.tree_refinement.specs.Trees.{AreAmong, AreFree}
 use Rattle.wire_frames.specs.declared.frame.Frame.{Frame}
 use Rattle.world_spec.proofs.Growth.{IsFurther}
 use Rattle.world_spec.specs.Lines.{call_of, run_of_schedule}
-use Rattle.world_spec.specs.Nodes.{Node, Up, Down, taken, stopped}
+use Rattle.world_spec.specs.Nodes.{Node, Up, Down, taken, stopped, over_stores}
 use Rattle.world_spec.specs.Runs.{Run, opening_run, place_of, with_taken}
+use Rattle.world_spec.specs.Stores.{spoiled}
 use Rattle.call_refinement.proofs.Causes.{causes_of}
 use Rattle.call_refinement.proofs.Frame.{MessageComes}
 use Rattle.call_refinement.proofs.Giving.{parts_same}
@@ -37,13 +39,13 @@ use Rattle.call_refinement.proofs.Keys.{run_calls_few}
 use Rattle.call_refinement.proofs.Opening.{opening_holds}
 use Rattle.safety_laws.proofs.Ordered.{in_left}
 use Rattle.call_refinement.proofs.Places.{frame_at, said_at}
-use Rattle.call_refinement.proofs.Schedules.{IsInRun, AreAlike, TakesStep, GoesAlong, Stops, IsCarried, next_call, IsAfter, schedule_agrees, schedule_legal}
-use Rattle.call_refinement.proofs.Worlds.{downed, own_fits, scene, StepGoes, stepped_goes, called_goes}
+use Rattle.call_refinement.proofs.Schedules.{IsInRun, AreAlike, TakesStep, GoesAlong, Changes, IsCarried, next_call, IsAfter, schedule_agrees, schedule_legal}
+use Rattle.call_refinement.proofs.Worlds.{downed, kept_role, own_fits, scene, StepGoes, stepped_goes, called_goes}
 use Rattle.call_refinement.specs.Causes.{HaveCauses}
 use Rattle.call_refinement.specs.Lines.{AreSteady, AreLegal, BookAgrees}
-use Rattle.call_refinement.specs.Peers.{AsksFit, FrameFits}
-use Rattle.call_refinement.specs.Roles.{roles_of, said_in}
-use Rattle.call_refinement.specs.Worlds.{UpFits, PartsHold, RolesFit, WorldHolds, HasRun}
+use Rattle.call_refinement.specs.Peers.{TreeHolds, AsksFit, FrameFits}
+use Rattle.call_refinement.specs.Roles.{role_of, roles_of, said_in}
+use Rattle.call_refinement.specs.Worlds.{UpFits, NodeFits, PartsHold, RolesFit, WorldHolds, HasRun}
 
 module _ (view : List ℕ) (strings : List (List ℕ)) where
   -- the world agrees with a run that has reached the state
@@ -161,7 +163,7 @@ module _ (view : List ℕ) (strings : List (List ℕ)) where
             less n h = omega (arith, h)
 
     -- a peer that stops keeps the fact that it saved
-    stops_along : (p : ℕ) (node : Node) → IsAmong peers p → OfRun (λ w s. slice_get w.nodes (place_of p) ≡ Some node → Stops Stands p node w s)
+    stops_along : (p : ℕ) (node : Node) → IsAmong peers p → OfRun (λ w s. slice_get w.nodes (place_of p) ≡ Some node → Changes Stands p (stopped node) w s)
     stops_along p node among w steps holds at = record {
       next = state_after view steps;
       holds = record { steps = steps; is = refl; holds = by_node node at };
@@ -179,6 +181,35 @@ module _ (view : List ℕ) (strings : List (List ℕ)) where
             down (Up x stores) stores is (record { fact = x.fact; kept = fits.holds.kept; saved = fits.holds.saved })
         by_node (Down stores) is = down (Down stores) stores is (own_fits view strings p peer steps w.nodes w.mail.sent w.hashed w.notes (Down stores) holds.parts is)
 
+    -- an object that a backend keeps may change, since nothing that the agreement says of a peer is about it
+    spoils_along : (p : ℕ) (key : List ℕ) (bytes : Option (List ℕ)) (node : Node) → IsAmong peers p → OfRun (λ w s. slice_get w.nodes (place_of p) ≡ Some node → Changes Stands p (over_stores (spoiled key bytes) node) w s)
+    spoils_along p key bytes node among w steps holds at = record {
+      next = state_after view steps;
+      holds = record { steps = steps; is = refl; holds = record { parts = now.0; roles = now.1 } };
+      quiet = record { now = refl; calls = refl; notes = refl; answers = refl };
+    }
+      where
+        peer : IsPeer p
+        peer = is_peer peers p small among
+
+        same : (old : Node) → role_of (over_stores (spoiled key bytes) old) ≡ role_of old
+        same (Up x stores) = refl
+        same (Down stores) = refl
+
+        tree : (stores : HeldStores) → TreeHolds (state_after view steps) strings p (held_with stores w.hashed) → TreeHolds (state_after view steps) strings p (held_with (spoiled key bytes stores) w.hashed)
+        tree stores t = record {
+          map = t.map;
+          whole = record { shows = t.whole.shows; stored = t.whole.stored; no_faults = record { facts = t.whole.no_faults.facts; backend = t.whole.no_faults.backend; tree = t.whole.no_faults.tree } };
+          says = t.says;
+        }
+
+        fits : (old : Node) → NodeFits view strings w.hashed (state_after view steps) p old → NodeFits view strings w.hashed (state_after view steps) p (over_stores (spoiled key bytes) old)
+        fits (Up x stores) up = record { holds = up.holds; plain = up.plain; trust = up.trust; tree = tree stores up.tree; fits = up.fits; rests = up.rests }
+        fits (Down stores) kept = kept
+
+        now : PartsHold view strings steps (slice_set w.nodes (place_of p) (over_stores (spoiled key bytes) node)) w.mail.sent w.hashed w.notes × RolesFit view steps (roles_of (slice_set w.nodes (place_of p) (over_stores (spoiled key bytes) node))) w.mail.sent
+        now = kept_role view strings p peer steps w.nodes w.mail.sent w.hashed w.notes node (over_stores (spoiled key bytes) node) at (same node) (fits node (own_fits view strings p peer steps w.nodes w.mail.sent w.hashed w.notes node holds.parts at)) holds.parts holds.roles
+
     begins_along : OfRun (λ w s. Stands w (happens s Begin))
     begins_along w steps holds = record { steps = Begin ∷ steps; is = refl; holds = silent_holds steps Begin w holds (tt, tt) tt refl holds.parts.asked refl }
 
@@ -192,7 +223,8 @@ module _ (view : List ℕ) (strings : List (List ℕ)) where
       takes_call = λ p id key command node w s may may_call takes a. in_run
           (λ w s. MayCall s.book (next_call s id key command) → TakesStep whole p (events.Call (call_of id key command)) node w (happens s (Ask (next_call s id key command))) → GoesAlong Stands p (taken p (events.Call (call_of id key command)) node) w (happens s (Ask (next_call s id key command))))
           (takes_call_along p id key command node may) w s a may_call takes;
-      stops = λ p node w s among at a. in_run (λ w s. slice_get w.nodes (place_of p) ≡ Some node → Stops Stands p node w s) (stops_along p node among) w s a at;
+      stops = λ p node w s among at a. in_run (λ w s. slice_get w.nodes (place_of p) ≡ Some node → Changes Stands p (stopped node) w s) (stops_along p node among) w s a at;
+      spoils = λ p key bytes node w s among at a. in_run (λ w s. slice_get w.nodes (place_of p) ≡ Some node → Changes Stands p (over_stores (spoiled key bytes) node) w s) (spoils_along p key bytes node among) w s a at;
     }
 
 -- ## Strings without clashes

@@ -16,10 +16,11 @@ use Rattle.schedule_words.specs.Spelling.{IsAmong}
 use Rattle.step_plans.specs.Plans.{Ending}
 use Rattle.wire_frames.specs.declared.frame.Frame.{Frame}
 use Rattle.world_spec.proofs.Ending.{Finishes, run_finishes, opening_is}
-use Rattle.world_spec.proofs.Obeying.{IsFine, opening_fine, stepped_fine, changed_fine, stopped_own}
+use Rattle.world_spec.proofs.Obeying.{IsFine, IsOwnNode, opening_fine, stepped_fine, changed_fine, stopped_own, over_stores_own}
 use Rattle.world_spec.specs.Laws.{NoneWaits}
-use Rattle.world_spec.specs.Nodes.{Node, Up, Down, taken, taken_by, taken_of, run_over, stopped, opening_node}
+use Rattle.world_spec.specs.Nodes.{Node, Up, Down, taken, taken_by, taken_of, run_over, stopped, over_stores, opening_node}
 use Rattle.world_spec.specs.Runs.{Run, opening_run, place_of, with_taken, stepped_at, changed_at}
+use Rattle.world_spec.specs.Stores.{spoiled}
 use Rattle.call_refinement.proofs.Places.{get_put, replicated}
 
 -- a running peer has not waited long, and no write of it is to fail
@@ -56,17 +57,29 @@ stopped_ready : (node : Node) → IsReady (stopped node)
 stopped_ready (Up x st) = tt
 stopped_ready (Down st) = tt
 
+spoiled_ready : (key : List ℕ) (bytes : Option (List ℕ)) (node : Node) → IsReady node → IsReady (over_stores (spoiled key bytes) node)
+spoiled_ready key bytes (Up x st) ready = (record { facts = ready.0.facts; tree = ready.0.tree; backend = ready.0.backend }, ready.1)
+spoiled_ready key bytes (Down st) ready = tt
+
 pub taken_intact : (p : ℕ) (event : Event) (node : Node) (w : Run) → IsPeer p → MayCome p event → slice_get w.nodes (place_of p) ≡ Some node → IsIntact w → IsIntact (with_taken p (taken p event node) w)
 taken_intact p event node w peer come at i = record {
   fine = subst (λ (o : Option Node). IsFine (stepped_at o p event w)) at (stepped_fine p event w peer come i.fine);
   ready = put_ready w.nodes (place_of p) (taken p event node).node i.ready (taken_ready p event node peer come (i.ready (place_of p) node at));
 }
 
-pub stopped_intact : (p : ℕ) (node : Node) (w : Run) → IsPeer p → slice_get w.nodes (place_of p) ≡ Some node → IsIntact w → IsIntact (record w { nodes = slice_set w.nodes (place_of p) (stopped node) })
-stopped_intact p node w peer at i = record {
-  fine = subst (λ (o : Option Node). IsFine (changed_at o p stopped w)) at (changed_fine p stopped w peer (stopped_own p) i.fine);
-  ready = put_ready w.nodes (place_of p) (stopped node) i.ready (stopped_ready node);
+-- the node of a peer changes, which stays ready and sends as itself
+changed_intact : (p : ℕ) (change : Node → Node) (node : Node) (w : Run) → IsPeer p → ((n : Node) → IsOwnNode p n → IsOwnNode p (change n)) → ((n : Node) → IsReady n → IsReady (change n)) → slice_get w.nodes (place_of p) ≡ Some node → IsIntact w
+    → IsIntact (record w { nodes = slice_set w.nodes (place_of p) (change node) })
+changed_intact p change node w peer own ready at i = record {
+  fine = subst (λ (o : Option Node). IsFine (changed_at o p change w)) at (changed_fine p change w peer own i.fine);
+  ready = put_ready w.nodes (place_of p) (change node) i.ready (ready node (i.ready (place_of p) node at));
 }
+
+pub stopped_intact : (p : ℕ) (node : Node) (w : Run) → IsPeer p → slice_get w.nodes (place_of p) ≡ Some node → IsIntact w → IsIntact (record w { nodes = slice_set w.nodes (place_of p) (stopped node) })
+stopped_intact p node w peer at i = changed_intact p stopped node w peer (stopped_own p) (λ n ready. stopped_ready n) at i
+
+pub spoiled_intact : (p : ℕ) (key : List ℕ) (bytes : Option (List ℕ)) (node : Node) (w : Run) → IsPeer p → slice_get w.nodes (place_of p) ≡ Some node → IsIntact w → IsIntact (record w { nodes = slice_set w.nodes (place_of p) (over_stores (spoiled key bytes) node) })
+spoiled_intact p key bytes node w peer at i = changed_intact p (over_stores (spoiled key bytes)) node w peer (over_stores_own (spoiled key bytes) p) (spoiled_ready key bytes) at i
 
 -- only the peers and the messages sent matter
 pub alike_intact : (w v : Run) → v.nodes ≡ w.nodes → v.mail.sent ≡ w.mail.sent → IsIntact w → IsIntact v

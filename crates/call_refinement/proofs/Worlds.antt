@@ -13,7 +13,7 @@ use Rattle.held_stores.specs.Held.{Held, HeldStores}
 use Rattle.held_stores.specs.Laws.{held_with}
 use Rattle.held_stores.specs.Runs.{Ended, run}
 use Rattle.leader_laws.proofs.Roles.{run_roles}
-use Rattle.leader_laws.specs.Roles.{Follows, RoleHolds, RolesHold}
+use Rattle.leader_laws.specs.Roles.{Role, Follows, RoleHolds, RolesHold}
 use Rattle.leader_words.specs.declared.out.Outgoing.{Outgoing}
 use Rattle.network.specs.Mail.{MayBeSent}
 use Rattle.peer_core.specs.Drives.{step_of}
@@ -41,7 +41,7 @@ use Rattle.call_refinement.proofs.Places.{get_put, number, apart, role_there, ro
 use Rattle.call_refinement.proofs.Staying.{elsewhere_stays, node_fits, messages_elsewhere}
 use Rattle.call_refinement.specs.Lines.{AreSame, given_at, StepAgrees}
 use Rattle.call_refinement.specs.Peers.{AcksSay, AsksFit, EpochsFit, PhaseFits, IsAtRest, SendFits, FrameFits}
-use Rattle.call_refinement.specs.Roles.{role_in, roles_of, said_in, said_in_sends}
+use Rattle.call_refinement.specs.Roles.{role_in, role_of, roles_of, said_in, said_in_sends}
 use Rattle.call_refinement.specs.Worlds.{UpFits, NodeFits, MessagesFit, PartsHold, RolesFit, WorldHolds}
 
 -- ## Steps of one peer, for the others
@@ -77,6 +77,22 @@ module _ (view : List ℕ) (strings : List (List ℕ)) (p : ℕ) (peer : IsPeer 
   -- what the node of the peer holds
   pub own_fits : (steps : List Step) (nodes : List Node) (sent : List Frame) (hashed : List (List ℕ)) (notes : List Note) (node : Node) → PartsHold view strings steps nodes sent hashed notes → slice_get nodes (place_of p) ≡ Some node → NodeFits view strings hashed (state_after view steps) p node
   own_fits steps nodes sent hashed notes node a at = subst (λ (q : ℕ). NodeFits view strings hashed (state_after view steps) q node) (number p peer) (a.nodes_fit (place_of p) node at)
+
+  -- the node of the peer changes, but not its role
+  pub kept_role : (steps : List Step) (nodes : List Node) (sent : List Frame) (hashed : List (List ℕ)) (notes : List Note) (node new : Node) → slice_get nodes (place_of p) ≡ Some node → role_of new ≡ role_of node → NodeFits view strings hashed (state_after view steps) p new
+      → PartsHold view strings steps nodes sent hashed notes → RolesFit view steps (roles_of nodes) sent
+      → PartsHold view strings steps (slice_set nodes (place_of p) new) sent hashed notes × RolesFit view steps (roles_of (slice_set nodes (place_of p) new)) sent
+  kept_role steps nodes sent hashed notes node new at same fits parts roles = (
+    parts_replaced steps steps nodes sent sent hashed hashed notes notes new parts parts.run (elsewhere_none p (state_after view steps)) parts.orderly parts.acks parts.epochs (λ x i. i) fits parts.messages parts.noted,
+    record {
+      ghosts = roles.ghosts;
+      hash = roles.hash;
+      hold = roles_same roles.ghosts (state_after view steps) (roles_of nodes) (roles_of (slice_set nodes (place_of p) new)) (said_in sent) (said_in sent) (λ q. sym (role_put nodes p peer node new at q ∙ unput q)) (λ m i. i) roles.hold;
+    },
+  )
+    where
+      unput : (q : ℕ) → put (roles_of nodes) p (role_of new) q ≡ roles_of nodes q
+      unput = put_then (roles_of nodes) p (role_of new) (λ (q : ℕ) (role : Role). role ≡ roles_of nodes q) (same ∙ sym (role_there nodes p peer node at)) (λ q other. refl)
 
   -- the messages that the peer sends
   sends_fit : (s : State) (sends : List Outgoing) → All (SendHolds s.objects.ledger p) sends → All (FrameHolds s.objects.ledger) (map (frame_from p) sends)

@@ -16,7 +16,8 @@ use Rattle.world_spec.specs.Runs.{Run}
 
 -- ## Calls and answers of a schedule
 
--- a line of a steady schedule: peers neither start nor change the view, and no store fails or lies
+-- a line of a steady schedule: peers neither start nor change the view, no tree is damaged, and no
+-- write fails; what a backend keeps may change
 abbrev pub IsSteady : ScheduleEvent → Type 0
 IsSteady (line.Call peer id key command) = Unit {0}
 IsSteady (line.Tick peer ticks) = Unit {0}
@@ -26,6 +27,7 @@ IsSteady (line.Lose sender receiver) = Unit {0}
 IsSteady line.Calm = Unit {0}
 IsSteady (line.CalmAmong members) = Unit {0}
 IsSteady (line.Stop peer) = Unit {0}
+IsSteady (line.Spoil peer key bytes) = Unit {0}
 IsSteady other = ⊥
 
 abbrev pub AreSteady : List ScheduleEvent → Type 0
