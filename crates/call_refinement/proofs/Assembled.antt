@@ -10,7 +10,6 @@ use Rattle.wire_frames.specs.declared.message.Message.TheVariants as messages
 use Rattle.call_refinement.proofs.Driving.{PhasesGood}
 use Rattle.call_refinement.proofs.Frame.{Scene, now, AtRest, MessageComes, Ends, Onward}
 use Rattle.call_refinement.proofs.Keys.{run_keys_few, run_ids_few}
-use Rattle.call_refinement.proofs.Looking.{stores_answer}
 use Rattle.call_refinement.proofs.PhaseTasks as elections
 use Rattle.call_refinement.proofs.Requests.{check_good, got_good, put_in_good}
 use Rattle.call_refinement.proofs.Stepping.{IsElse, OthersGood, StepGrounds}
@@ -33,8 +32,8 @@ module _ (c : Scene) where
 
     message_good : (from : ℕ) (message : Message) → IsElse message → MessageComes c from message (now c rest.0.reached) → Ends c (delivered p from message x nothing next) (delivered p from message x nothing mark) h []
     message_good from (messages.Check ballot round) is comes = check_good c rest.0 rest.1 next mark replies from ballot round comes
-    message_good from (messages.Get ballot round key) is comes = got_good c rest.0 rest.1 next mark replies stores_answer from ballot round key comes
-    message_good from (messages.Put ballot o) is comes = put_in_good c rest.0 rest.1 next mark replies stores_answer run_keys_few from ballot o comes
+    message_good from (messages.Get ballot round key) is comes = got_good c rest.0 rest.1 next mark replies from ballot round key comes
+    message_good from (messages.Put ballot o) is comes = put_in_good c rest.0 rest.1 next mark replies run_keys_few from ballot o comes
     message_good from messages.Probe is comes = elections.received_good c [] x h nothing [] rest next mark names_phases from messages.Probe tt comes.holds comes.plain
     message_good from (messages.ProbeReply fact) is comes = elections.received_good c [] x h nothing [] rest next mark names_phases from (messages.ProbeReply fact) tt comes.holds comes.plain
     message_good from (messages.Prepare ballot) is comes = elections.received_good c [] x h nothing [] rest next mark names_phases from (messages.Prepare ballot) tt comes.holds comes.plain

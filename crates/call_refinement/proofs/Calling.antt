@@ -56,7 +56,7 @@ use Rattle.call_refinement.proofs.Frame.{Scene, state_before, now, Here, AtRest,
 use Rattle.call_refinement.proofs.Good.{asked_in, with_call}
 use Rattle.call_refinement.proofs.Leaders.{Standing, Stands, standing_of, stands_here, stands_on, steps_stand, move_roles, at_work, own_peer, rekeyed_leader}
 use Rattle.call_refinement.proofs.Leading.{There, told_nothing, calm_plan, tame_ends}
-use Rattle.call_refinement.proofs.Looking.{stores_answer, over_here, Confirmed, confirmed_ends}
+use Rattle.call_refinement.proofs.Looking.{over_here, Confirmed, confirmed_ends}
 use Rattle.call_refinement.proofs.Moving.{role_once, elsewhere_none}
 use Rattle.call_refinement.proofs.Saying.{says_here}
 use Rattle.call_refinement.proofs.Sayings.{acks_later}
@@ -116,7 +116,7 @@ module _ (c : Scene) where
       → record { from = from; said = Entries (epoch_number ballot) round key (entry_rank entry) (shown entry object) } ∈ c.said → EntryMaySay (now c rest.0.reached) strings entry → EntryFits entry → (next mark : Rest PeerState (List Task)) → Onward c (TasksFit c) next mark
       → Ends c (delivered p from (messages.GetReply ballot round key entry object) (record x { phase = phase }) out next) (delivered p from (messages.GetReply ballot round key entry object) (record x { phase = phase }) out mark) h notes
   got_heard from ballot round key entry object (phases.Leading l) k x h out notes rest said entry_says fits next mark go =
-      confirmed_ends c here stores_answer from (epoch_number ballot) round key entry object (λ named y o. lead (row_29_reply from ballot round key entry named) p 29 y.phase y o next) (λ named y o. lead (row_29_reply from ballot round key entry named) p 29 y.phase y o mark)
+      confirmed_ends c here from (epoch_number ballot) round key entry object (λ named y o. lead (row_29_reply from ballot round key entry named) p 29 y.phase y o next) (λ named y o. lead (row_29_reply from ballot round key entry named) p 29 y.phase y o mark)
       (says_here c here from (Entries (epoch_number ballot) round key (entry_rank entry) (shown entry object)) said) entry_says (λ named t over confirmed. heard named t (over_here c here t over) confirmed)
     where
       here : Here c key (leading l x) h out notes

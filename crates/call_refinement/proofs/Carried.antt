@@ -9,6 +9,7 @@ use Rattle.abstract_protocol.specs.Book.{MayCall}
 use Rattle.abstract_protocol.specs.Protocol.{State, Step, Begin, Ask, happens, MayCome, opening, state_after}
 use Rattle.election_refinement.specs.Plain.{IsPlainMessage}
 use Rattle.election_refinement.specs.Refinement.{IsKept, FrameHolds}
+use Rattle.ens_outside.specs.declared.memory.failing_call.Leaves.{Leaves}
 use Rattle.held_stores.specs.Held.{HeldStores, HasNoClash}
 use Rattle.held_stores.specs.Laws.{held_with}
 use Rattle.history_scribe.specs.Histories.{AreHistories}
@@ -22,6 +23,8 @@ use Rattle.register_model.specs.declared.note.Note.{Note}
 use Rattle.schedule_text.specs.Spelling.{MayStand, AllMayStand, call_ids}
 use Rattle.schedule_text.specs.declared.event.ScheduleEvent.{ScheduleEvent}
 use Rattle.schedule_text.specs.declared.event.ScheduleEvent.TheVariants as line
+use Rattle.schedule_text.specs.declared.keyword.StoreName.{StoreName}
+use Rattle.schedule_text.specs.declared.keyword.StoreName.TheVariants as names
 use Rattle.schedule_words.specs.Spelling.{IsAmong}
 use Rattle.tree_refinement.specs.Trees.{AreAmong, AreFree}
 use Rattle.wire_frames.specs.declared.frame.Frame.{Frame}
@@ -29,7 +32,7 @@ use Rattle.world_spec.proofs.Growth.{IsFurther}
 use Rattle.world_spec.specs.Lines.{call_of, run_of_schedule}
 use Rattle.world_spec.specs.Nodes.{Node, Up, Down, taken, stopped, over_stores}
 use Rattle.world_spec.specs.Runs.{Run, opening_run, place_of, with_taken}
-use Rattle.world_spec.specs.Stores.{spoiled}
+use Rattle.world_spec.specs.Stores.{failing, spoiled}
 use Rattle.call_refinement.proofs.Causes.{causes_of}
 use Rattle.call_refinement.proofs.Frame.{MessageComes}
 use Rattle.call_refinement.proofs.Giving.{parts_same}
@@ -40,7 +43,7 @@ use Rattle.call_refinement.proofs.Opening.{opening_holds}
 use Rattle.safety_laws.proofs.Ordered.{in_left}
 use Rattle.call_refinement.proofs.Places.{frame_at, said_at}
 use Rattle.call_refinement.proofs.Schedules.{IsInRun, AreAlike, TakesStep, GoesAlong, Changes, IsCarried, next_call, IsAfter, schedule_agrees, schedule_legal}
-use Rattle.call_refinement.proofs.Worlds.{downed, kept_role, own_fits, scene, StepGoes, stepped_goes, called_goes}
+use Rattle.call_refinement.proofs.Worlds.{downed, renewed, own_fits, scene, StepGoes, stepped_goes, called_goes}
 use Rattle.call_refinement.specs.Causes.{HaveCauses}
 use Rattle.call_refinement.specs.Lines.{AreSteady, AreLegal, BookAgrees}
 use Rattle.call_refinement.specs.Peers.{TreeHolds, AsksFit, FrameFits}
@@ -74,6 +77,37 @@ module _ (view : List ℕ) (strings : List (List ℕ)) where
     parts = parts_same view strings steps e w.nodes w.mail.sent w.hashed w.notes may same asked noted holds.parts;
     roles = record { ghosts = holds.roles.ghosts; hash = holds.roles.hash; hold = (run_roles view steps holds.parts.run).silent holds.roles.ghosts (roles_of w.nodes) (said_in w.mail.sent) e may silent holds.roles.hold };
   }
+
+  -- a failure that waits changes nothing that holds of a node
+  failing_fits : (q : ℕ) (store : StoreName) (leaves : Leaves) (hashed : List (List ℕ)) (s : State) (node : Node) → NodeFits view strings hashed s q node → NodeFits view strings hashed s q (over_stores (failing store leaves) node)
+  failing_fits q names.Fact leaves hashed s (Up x stores) f = record { holds = f.holds; plain = f.plain; trust = f.trust; tree = record { map = f.tree.map; whole = record { shows = f.tree.whole.shows; stored = f.tree.whole.stored }; says = f.tree.says }; fits = f.fits; rests = f.rests }
+  failing_fits q names.Tree leaves hashed s (Up x stores) f = record {
+    holds = f.holds;
+    plain = f.plain;
+    trust = f.trust;
+    tree = record {
+      map = f.tree.map;
+      whole = record {
+        shows = record { digest = f.tree.whole.shows.digest; top = f.tree.whole.shows.top; stands = f.tree.whole.shows.stands; texts = f.tree.whole.shows.texts };
+        stored = f.tree.whole.stored;
+      };
+      says = f.tree.says;
+    };
+    fits = f.fits;
+    rests = f.rests;
+  }
+  failing_fits q names.Backend leaves hashed s (Up x stores) f = record { holds = f.holds; plain = f.plain; trust = f.trust; tree = record { map = f.tree.map; whole = record { shows = f.tree.whole.shows; stored = f.tree.whole.stored }; says = f.tree.says }; fits = f.fits; rests = f.rests }
+  failing_fits q names.Fact leaves hashed s (Down stores) f = record { fact = f.fact; kept = f.kept; saved = f.saved }
+  failing_fits q names.Tree leaves hashed s (Down stores) f = record { fact = f.fact; kept = f.kept; saved = f.saved }
+  failing_fits q names.Backend leaves hashed s (Down stores) f = record { fact = f.fact; kept = f.kept; saved = f.saved }
+
+  -- so does a change of what a backend keeps, since nothing that holds of a node is about it
+  spoiled_tree : (q : ℕ) (key : List ℕ) (bytes : Option (List ℕ)) (hashed : List (List ℕ)) (s : State) (stores : HeldStores) → TreeHolds s strings q (held_with stores hashed) → TreeHolds s strings q (held_with (spoiled key bytes stores) hashed)
+  spoiled_tree q key bytes hashed s stores t = record { map = t.map; whole = record { shows = t.whole.shows; stored = t.whole.stored }; says = t.says }
+
+  spoiled_fits : (q : ℕ) (key : List ℕ) (bytes : Option (List ℕ)) (hashed : List (List ℕ)) (s : State) (node : Node) → NodeFits view strings hashed s q node → NodeFits view strings hashed s q (over_stores (spoiled key bytes) node)
+  spoiled_fits q key bytes hashed s (Up x stores) f = record { holds = f.holds; plain = f.plain; trust = f.trust; tree = spoiled_tree q key bytes hashed s stores f.tree; fits = f.fits; rests = f.rests }
+  spoiled_fits q key bytes hashed s (Down stores) f = record { fact = f.fact; kept = f.kept; saved = f.saved }
 
   -- each call that has come keeps its limits
   asked_fit : (s : State) (id : ℕ) (key : List ℕ) (command : Command) → IsKey key → IsCommand command → AsksFit s → AsksFit (happens s (Ask (next_call s id key command)))
@@ -181,34 +215,41 @@ module _ (view : List ℕ) (strings : List (List ℕ)) where
             down (Up x stores) stores is (record { fact = x.fact; kept = fits.holds.kept; saved = fits.holds.saved })
         by_node (Down stores) is = down (Down stores) stores is (own_fits view strings p peer steps w.nodes w.mail.sent w.hashed w.notes (Down stores) holds.parts is)
 
-    -- an object that a backend keeps may change, since nothing that the agreement says of a peer is about it
+    -- a peer of which the backend keeps something else is as it was
     spoils_along : (p : ℕ) (key : List ℕ) (bytes : Option (List ℕ)) (node : Node) → IsAmong peers p → OfRun (λ w s. slice_get w.nodes (place_of p) ≡ Some node → Changes Stands p (over_stores (spoiled key bytes) node) w s)
-    spoils_along p key bytes node among w steps holds at = record {
-      next = state_after view steps;
-      holds = record { steps = steps; is = refl; holds = record { parts = now.0; roles = now.1 } };
-      quiet = record { now = refl; calls = refl; notes = refl; answers = refl };
-    }
+    spoils_along p key bytes node among w steps holds at =
+        let now = renewed view strings p peer steps w.nodes w.mail.sent w.hashed w.notes node (over_stores (spoiled key bytes) node) at (same node) (spoiled_fits p key bytes w.hashed (state_after view steps) node (own_fits view strings p peer steps w.nodes w.mail.sent w.hashed w.notes node holds.parts at))
+        holds.parts holds.roles in
+        record {
+          next = state_after view steps;
+          holds = record { steps = steps; is = refl; holds = record { parts = now.0; roles = now.1 } };
+          quiet = record { now = refl; calls = refl; notes = refl; answers = refl };
+        }
       where
         peer : IsPeer p
         peer = is_peer peers p small among
 
-        same : (old : Node) → role_of (over_stores (spoiled key bytes) old) ≡ role_of old
+        same : (n : Node) → role_of (over_stores (spoiled key bytes) n) ≡ role_of n
         same (Up x stores) = refl
         same (Down stores) = refl
 
-        tree : (stores : HeldStores) → TreeHolds (state_after view steps) strings p (held_with stores w.hashed) → TreeHolds (state_after view steps) strings p (held_with (spoiled key bytes stores) w.hashed)
-        tree stores t = record {
-          map = t.map;
-          whole = record { shows = t.whole.shows; stored = t.whole.stored; no_faults = record { facts = t.whole.no_faults.facts; backend = t.whole.no_faults.backend; tree = t.whole.no_faults.tree } };
-          says = t.says;
+    -- a peer over whose stores a failure begins to wait is as it was
+    fails_along : (p : ℕ) (store : StoreName) (leaves : Leaves) (node : Node) → IsAmong peers p → OfRun (λ w s. slice_get w.nodes (place_of p) ≡ Some node → Changes Stands p (over_stores (failing store leaves) node) w s)
+    fails_along p store leaves node among w steps holds at =
+        let now = renewed view strings p peer steps w.nodes w.mail.sent w.hashed w.notes node (over_stores (failing store leaves) node) at (same node) (failing_fits p store leaves w.hashed (state_after view steps) node (own_fits view strings p peer steps w.nodes w.mail.sent w.hashed w.notes node holds.parts at))
+        holds.parts holds.roles in
+        record {
+          next = state_after view steps;
+          holds = record { steps = steps; is = refl; holds = record { parts = now.0; roles = now.1 } };
+          quiet = record { now = refl; calls = refl; notes = refl; answers = refl };
         }
+      where
+        peer : IsPeer p
+        peer = is_peer peers p small among
 
-        fits : (old : Node) → NodeFits view strings w.hashed (state_after view steps) p old → NodeFits view strings w.hashed (state_after view steps) p (over_stores (spoiled key bytes) old)
-        fits (Up x stores) up = record { holds = up.holds; plain = up.plain; trust = up.trust; tree = tree stores up.tree; fits = up.fits; rests = up.rests }
-        fits (Down stores) kept = kept
-
-        now : PartsHold view strings steps (slice_set w.nodes (place_of p) (over_stores (spoiled key bytes) node)) w.mail.sent w.hashed w.notes × RolesFit view steps (roles_of (slice_set w.nodes (place_of p) (over_stores (spoiled key bytes) node))) w.mail.sent
-        now = kept_role view strings p peer steps w.nodes w.mail.sent w.hashed w.notes node (over_stores (spoiled key bytes) node) at (same node) (fits node (own_fits view strings p peer steps w.nodes w.mail.sent w.hashed w.notes node holds.parts at)) holds.parts holds.roles
+        same : (n : Node) → role_of (over_stores (failing store leaves) n) ≡ role_of n
+        same (Up x stores) = refl
+        same (Down stores) = refl
 
     begins_along : OfRun (λ w s. Stands w (happens s Begin))
     begins_along w steps holds = record { steps = Begin ∷ steps; is = refl; holds = silent_holds steps Begin w holds (tt, tt) tt refl holds.parts.asked refl }
@@ -225,6 +266,7 @@ module _ (view : List ℕ) (strings : List (List ℕ)) where
           (takes_call_along p id key command node may) w s a may_call takes;
       stops = λ p node w s among at a. in_run (λ w s. slice_get w.nodes (place_of p) ≡ Some node → Changes Stands p (stopped node) w s) (stops_along p node among) w s a at;
       spoils = λ p key bytes node w s among at a. in_run (λ w s. slice_get w.nodes (place_of p) ≡ Some node → Changes Stands p (over_stores (spoiled key bytes) node) w s) (spoils_along p key bytes node among) w s a at;
+      fails = λ p store leaves node w s among at a. in_run (λ w s. slice_get w.nodes (place_of p) ≡ Some node → Changes Stands p (over_stores (failing store leaves) node) w s) (fails_along p store leaves node among) w s a at;
     }
 
 -- ## Strings without clashes

@@ -1,22 +1,22 @@
 -- A step of a peer, call by call, beside a run of the abstract protocol: where a step is, and how it
--- ends. The peer is one of a schedule without starts, damage, failures and changes of the view, so no
--- call to its stores is refused, it trusts its tree throughout, and no sync runs.
+-- ends. The peer is one of a schedule without starts, damage and changes of the view, so it trusts its
+-- tree throughout, and no sync runs. A write to its stores may be refused, and then the step ends.
 use Rattle.std.specs.Prelude.{All}
-use Rattle.std.proofs.Common.{◌≡◌, ◌≢◌, ◌<◌, ◌^◌, ℕ, List, [], ◌∷◌, ◌++◌, length, true, Some, Result, Ok, Err, refl, sym, subst, ◌∙◌}
+use Rattle.std.proofs.Common.{◌≡◌, ◌≢◌, ◌⊎◌, inl, inr, ◌<◌, ◌^◌, ℕ, List, [], ◌∷◌, ◌++◌, length, true, Some, Result, Ok, Err, refl, sym, subst, ◌∙◌}
 use Rattle.ens_base.specs.Lists.{◌∈◌}
 use Rattle.ens_base.specs.View.{IsPeer}
 use Rattle.abstract_protocol.specs.Ledger.{put}
 use Rattle.abstract_protocol.specs.Protocol.{State, Step, IsRun, state_after}
 use Rattle.entry_laws.specs.Stays.{EntriesStay}
 use Rattle.election_refinement.proofs.Keeps.{Keeps}
-use Rattle.election_refinement.specs.Plain.{IsPlainPeer, IsPlainMessage}
-use Rattle.election_refinement.specs.Refinement.{PeerHolds, MessageHolds, SendHolds, IsOrderly}
+use Rattle.election_refinement.specs.Plain.{IsPlainFact, IsPlainPeer, IsPlainMessage}
+use Rattle.election_refinement.specs.Refinement.{IsSaved, PeerHolds, MessageHolds, SendHolds, IsOrderly}
 use Rattle.call_table.specs.Calls.{running}
 use Rattle.call_table.specs.Rows.{row_at}
 use Rattle.held_stores.specs.Answers.{answered}
 use Rattle.held_stores.specs.Held.{Held}
 use Rattle.held_stores.specs.Runs.{Ended, run, either}
-use Rattle.leader_laws.specs.Roles.{Role, Said, Sent, RolesHold}
+use Rattle.leader_laws.specs.Roles.{Role, Follows, Said, Sent, RolesHold}
 use Rattle.leader_laws.specs.Tables.{Ghosts}
 use Rattle.leader_refinement.specs.Follows.{TaskHolds}
 use Rattle.leader_refinement.specs.Seen.{owed_after}
@@ -28,6 +28,7 @@ use Rattle.peer_core.specs.declared.state.Phase.{Phase}
 use Rattle.peer_core.specs.declared.state.Phase.TheVariants as phases
 use Rattle.peer_core.specs.declared.state.State.{State as PeerState}
 use Rattle.peer_core.specs.Turns.{StepsAlone}
+use Rattle.peer_fact.specs.declared.fact.Fact.{Fact}
 use Rattle.register_model.specs.declared.note.Note.{Note}
 use Rattle.step_plans.specs.Calls.{Call, AnswerOf}
 use Rattle.step_plans.specs.Plans.{Plan, Done, Say, Ask, Ending, Finished, Stopped, Out, Rest}
@@ -130,10 +131,21 @@ module _ (c : Scene) where
   EventComes events.Tick s = Unit {0}
   EventComes other s = ⊥
 
-  -- the step has ended well, and no task is at hand
+  -- a refusal has ended the step: the run that it has reached, the fact that the stores keep, and its
+  -- notes; its answers are not given, and its messages are not sent
+  pub record Rests (h : Held) (notes : List Note) : Type 0 where
+    pub reached : Reached
+    pub roles : RolesHold reached.ghosts (now reached) (put c.roles p (Follows [])) c.said
+    pub fact : Fact
+    pub kept : h.stores.facts.kept ≡ Some fact
+    pub saved : IsSaved (now reached).objects.ledger p fact
+    pub plain : IsPlainFact view fact
+    pub noted : (now reached).book.notes ≡ (state_before c).book.notes ++ notes
+
+  -- the step has ended well, and no task is at hand; or the peer is down
   abbrev pub EndsBy : Ending PeerState → Held → List Note → Type 0
   EndsBy (Finished x out) h notes = AtRest [] x h out notes
-  EndsBy (Stopped e) h notes = ⊥
+  EndsBy (Stopped e) h notes = Rests h notes
 
   -- The plan ends in agreement, if all that its run hashes is among the strings. `mark` is the same plan
   -- but for what follows when the limit on tasks is reached, so that this never happens: see
@@ -146,6 +158,12 @@ module _ (c : Scene) where
     pub answer : AnswerOf call
     pub is : (answered call h).result ≡ Ok answer
     pub goes : Ends (next answer) (mark answer) (answered call h).held notes
+
+  -- the call is refused, and the step ends
+  pub record IsRefused (call : Call) (h : Held) (notes : List Note) : Type 0 where
+    pub error : PeerError
+    pub is : (answered call h).result ≡ Err error
+    pub rests : Rests (answered call h).held notes
 
   -- the rest of a plan ends well wherever the peer is in agreement
   abbrev pub Onward : {A : Type 0} → (A → List ℕ → PeerState → Held → Out → List Note → Type 0) → Rest PeerState A → Rest PeerState A → Type 0
@@ -162,20 +180,26 @@ module _ (hash : KeepsHashed) where
       goes_on (Ok a) rest = rest a
       goes_on (Err e) rest = λ s at. at
 
-  -- a call: the plan goes on with its answer
-  pub ask_ends : (c : Scene) (call : Call) (next mark : AnswerOf call → Plan PeerState) (h : Held) (notes : List Note)
-      → (AreAmong (answered call h).held.hashed c.strings → Answers c call next mark h notes) → Ends c (Ask call next) (Ask call mark) h notes
-  ask_ends c call next mark h notes goes alone = by_result (answered call h).result refl
+  -- a call: the plan goes on with its answer, or the step ends
+  pub ask_may_end : (c : Scene) (call : Call) (next mark : AnswerOf call → Plan PeerState) (h : Held) (notes : List Note)
+      → (AreAmong (answered call h).held.hashed c.strings → Answers c call next mark h notes ⊎ IsRefused c call h notes) → Ends c (Ask call next) (Ask call mark) h notes
+  ask_may_end c call next mark h notes goes alone = by_result (answered call h).result refl
     where
       after : Result (AnswerOf call) PeerError → Ended PeerState
       after r = either r (λ a. run (next a) (answered call h).held notes) (λ error. record { ending = Stopped error; held = (answered call h).held; notes = notes })
 
-      ended : (a : AnswerOf call) → AreAmong (run (next a) (answered call h).held notes).held.hashed c.strings → Answers c call next mark h notes
+      ended : (a : AnswerOf call) → AreAmong (run (next a) (answered call h).held notes).held.hashed c.strings → Answers c call next mark h notes ⊎ IsRefused c call h notes
       ended a among = goes (λ s at. among s (run_hashes (next a) (answered call h).held notes s at))
 
-      with_answer : (r : Result (AnswerOf call) PeerError) → (ans : Answers c call next mark h notes) → (answered call h).result ≡ r → AreAmong (after r).held.hashed c.strings → EndsBy c (after r).ending (after r).held (after r).notes
-      with_answer r ans is = subst (λ z. AreAmong (after z).held.hashed c.strings → EndsBy c (after z).ending (after z).held (after z).notes) (sym ans.is ∙ is) (λ among. ans.goes (alone.1 ans.answer) among)
+      with_answer : (r : Result (AnswerOf call) PeerError) → Answers c call next mark h notes ⊎ IsRefused c call h notes → (answered call h).result ≡ r → AreAmong (after r).held.hashed c.strings → EndsBy c (after r).ending (after r).held (after r).notes
+      with_answer r (inl ans) is = subst (λ z. AreAmong (after z).held.hashed c.strings → EndsBy c (after z).ending (after z).held (after z).notes) (sym ans.is ∙ is) (λ among. ans.goes (alone.1 ans.answer) among)
+      with_answer r (inr refused) is = subst (λ z. AreAmong (after z).held.hashed c.strings → EndsBy c (after z).ending (after z).held (after z).notes) (sym refused.is ∙ is) (λ among. refused.rests)
 
       by_result : (r : Result (AnswerOf call) PeerError) → (answered call h).result ≡ r → AreAmong (after r).held.hashed c.strings → EndsBy c (after r).ending (after r).held (after r).notes
       by_result (Ok a) is among = with_answer (Ok a) (ended a among) is among
       by_result (Err e) is among = with_answer (Err e) (goes among) is among
+
+  -- a call that is not refused
+  pub ask_ends : (c : Scene) (call : Call) (next mark : AnswerOf call → Plan PeerState) (h : Held) (notes : List Note)
+      → (AreAmong (answered call h).held.hashed c.strings → Answers c call next mark h notes) → Ends c (Ask call next) (Ask call mark) h notes
+  ask_ends c call next mark h notes goes = ask_may_end c call next mark h notes (λ among. inl (goes among))

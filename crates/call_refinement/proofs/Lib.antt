@@ -9,6 +9,8 @@ pub mod Schedules
 pub mod Frame
 pub mod Good
 pub mod Moving
+pub mod Refusing
+pub mod Resting
 pub mod Sayings
 pub mod Leaders
 pub mod Tame

@@ -2,7 +2,7 @@
 -- found; an object of the backend comes with the digest of its bytes; and an object that is written
 -- is stored. The steps of the abstract protocol that belong to this are those of the peer's own
 -- tree: a write, and an acknowledgement.
-use Rattle.std.proofs.Common.{◌≡◌, ◌⊎◌, inl, inr, ◌<◌, ◌≤◌, ◌^◌, ℕ, Bool, true, false, ◌&&◌, if◌then◌else◌, List, [], ◌∷◌, ◌++◌, length, map, Option, None, Some, Ok, suc, arith, refl, sym, ap, subst, ◌∙◌}
+use Rattle.std.proofs.Common.{◌≡◌, ◌⊎◌, inl, inr, ◌<◌, ◌≤◌, ◌^◌, ℕ, Bool, true, false, ◌&&◌, if◌then◌else◌, List, [], ◌∷◌, ◌++◌, length, map, Option, None, Some, Ok, Err, suc, arith, refl, sym, ap, subst, ◌∙◌}
 use Rattle.std.specs.declared.cmp.Ordering.TheVariants.{Less, Equal}
 use Rattle.std.proofs.lemmas.Bool.{and_parts, cases_order}
 use Rattle.std.proofs.lemmas.Bool.Decides.{nat_tests}
@@ -32,7 +32,7 @@ use Rattle.version_laws.proofs.Trees.{run_versions}
 use Rattle.version_laws.specs.Versions.{VersionsAreSafe, IsSettled}
 use Rattle.entry_laws.proofs.Later.{stay_step}
 use Rattle.call_table.specs.Best.{better}
-use Rattle.held_stores.specs.Answers.{Answered, answered}
+use Rattle.held_stores.specs.Answers.{answered}
 use Rattle.held_stores.specs.Held.{Held, and_hashed}
 use Rattle.leader_laws.proofs.Roles.{run_roles}
 use Rattle.leader_laws.specs.Leaders.{IsObjectOf}
@@ -53,51 +53,26 @@ use Rattle.request_refinement.proofs.Numbers.{version_fits}
 use Rattle.request_refinement.proofs.Staying.{put_entry, write_shows, maps_stay}
 use Rattle.request_refinement.specs.Naming.{hash_of, version_string, object_of_version, VersionSays, EntrySays, EntryMaySay, MayBeDecoded}
 use Rattle.request_refinement.specs.Replies.{MapSays, LookSees, IsShown, found_in}
-use Rattle.step_plans.specs.Calls.{Call, Find, Enter, Fetch, Put, Hash}
+use Rattle.step_plans.specs.Calls.{Find, Enter, Fetch, Put, Hash}
 use Rattle.step_plans.specs.Plans.{Plan, Ask, Out, Rest, asked}
+use Rattle.step_plans.specs.declared.error.PeerError.TheVariants.{StoreFault}
 use Rattle.step_plans.specs.declared.walked.Walked.TheVariants.{Reached as Came}
 use Rattle.tree_maps.proofs.Names.{md5_run}
 use Rattle.tree_maps.proofs.Orders.{cmp_same}
 use Rattle.tree_maps.proofs.Parts.{ascends-put}
 use Rattle.tree_maps.specs.Entries.{lookup, put, IsBelowAll, Ascends}
 use Rattle.tree_refinement.proofs.Keeping.{grows, hashes, spares}
-use Rattle.tree_refinement.proofs.Whole.{finds, enters, keeps, serves}
-use Rattle.tree_refinement.specs.Laws.{KeepsRoot}
-use Rattle.tree_refinement.specs.Trees.{AreAmong, AreFree}
-use Rattle.tree_refinement.specs.Whole.{IsWhole}
 use Rattle.wire_frames.specs.declared.phase.Seen.{Seen}
 use Rattle.wire_frames.specs.declared.phase.Seen.TheVariants as seens
 use Rattle.world_stores.specs.declared.fact.HeldFact.{HeldFact}
-use Rattle.call_refinement.proofs.Frame.{Scene, state_before, Reached, now, Here, Ends, ask_ends}
+use Rattle.call_refinement.proofs.Frame.{Scene, state_before, Reached, now, Here, Ends, Answers, IsRefused, ask_ends, ask_may_end}
 use Rattle.call_refinement.proofs.Moving.{stays_then}
+use Rattle.call_refinement.proofs.Refusing.{finds, find_keeps, hash_keeps, put_ends, put_keeps, EnterEnds, enter_ends}
+use Rattle.call_refinement.proofs.Resting.{rests_over}
 use Rattle.call_refinement.proofs.Staying.{version_stays, sends_stay, phase_stays}
 use Rattle.call_refinement.specs.Keys.{KeysAreFew}
-use Rattle.call_refinement.specs.Peers.{TreeHolds, AcksSay, TaskFits}
+use Rattle.call_refinement.specs.Peers.{IsUndamaged, TreeHolds, AcksSay, TaskFits}
 use Rattle.call_refinement.specs.Roles.{role_in, said_in_sends}
-
--- ## What the stores answer
-
--- what the stores of a peer answer to the calls of a step, while its tree is whole and no failure
--- waits
-pub record StoresAnswer : Type 0 where
-  -- a find returns the entry that the map has for the key
-  pub finds : (h : Held) (m : List Entry) (key : List ℕ) → IsWhole h m → (answered (Find key) h).result ≡ Ok (Came (lookup key m))
-  -- an entering puts its entry into the map
-  pub enters : (strings : List (List ℕ)) (h : Held) (m : List Entry) (e : Entry) → AreFree strings → AreAmong (answered (Enter e) h).held.hashed strings → IsEntry e → length (put e m) < 2 ^ 32 → IsWhole h m
-      → ((answered (Enter e) h).result ≡ Ok (Came tt)) × IsWhole (answered (Enter e) h).held (put e m)
-  -- a call that gives the tree no other root leaves it whole
-  pub keeps : (call : Call) (h : Held) (m : List Entry) → KeepsRoot call → IsWhole h m → IsWhole (answered call h).held m
-  -- a put is not refused
-  pub puts : (key bytes : List ℕ) (h : Held) (m : List Entry) → IsWhole h m → (answered (Put key bytes) h).result ≡ Ok tt
-
--- so they do
-pub stores_answer : StoresAnswer
-stores_answer = record {
-  finds = finds;
-  enters = enters;
-  keeps = keeps;
-  puts = λ key bytes h m whole. ap (λ (a : Answered (Put key bytes)). a.result) (serves (Put key bytes) h whole.no_faults);
-}
 
 -- ## Settled versions
 
@@ -376,13 +351,13 @@ module _ (c : Scene) where
     -- the stores, after calls that only read
     pub record Over (t : Held) : Type 0 where
       pub kept_fact : t.stores.facts.kept ≡ h.stores.facts.kept
-      pub whole : IsWhole t here.tree.map
+      pub whole : IsUndamaged t here.tree.map
 
     -- the stores, after the object was written
     pub record Stored (o : Object) (t : Held) : Type 0 where
       pub kept_fact : t.stores.facts.kept ≡ h.stores.facts.kept
       pub hashed : object_spelling o ∈ strings
-      pub whole : IsWhole t (put (entry_of o (md5 (object_spelling o))) here.tree.map)
+      pub whole : IsUndamaged t (put (entry_of o (md5 (object_spelling o))) here.tree.map)
 
     -- the peer agrees with the run over other stores too, with the same fact and the same map
     abbrev pub here_over : (t : Held) → t.stores.facts.kept ≡ h.stores.facts.kept → TreeHolds (now c here.reached) strings p t → Here c key x t out notes
@@ -465,142 +440,156 @@ module _ (c : Scene) where
         names None says = tt
         names (Some e) says = says
 
-    module _ (answers : StoresAnswer) where
-      -- ## The backend
+    -- ## The backend
 
-      digested_ends : (o : Option Object) (bytes : List ℕ) (t : Held) (next mark : Rest PeerState (Option (Object × List ℕ))) → object_in bytes ≡ o → Over t
-          → ((o : Option (Object × List ℕ)) (u : Held) → Over u → MayBeDecoded strings o → Ends c (next o x out) (mark o x out) u notes) → Ends c (digested o bytes x out next) (digested o bytes x out mark) t notes
+    digested_ends : (o : Option Object) (bytes : List ℕ) (t : Held) (next mark : Rest PeerState (Option (Object × List ℕ))) → object_in bytes ≡ o → Over t
+        → ((o : Option (Object × List ℕ)) (u : Held) → Over u → MayBeDecoded strings o → Ends c (next o x out) (mark o x out) u notes) → Ends c (digested o bytes x out next) (digested o bytes x out mark) t notes
+    unfolding asked
+    digested_ends None bytes t next mark is over go = go None t over tt
+    digested_ends (Some o) bytes t next mark is over go = ask_ends grows c (Hash bytes) (λ digest. next (Some (o, digest)) x out) (λ digest. mark (Some (o, digest)) x out) t notes (λ among. record {
+      answer = md5 bytes;
+      is = refl;
+      goes = go (Some (o, md5 bytes)) (and_hashed bytes t) (record { kept_fact = over.kept_fact; whole = hash_keeps bytes t here.tree.map over.whole })
+          (record { bytes = bytes; hashed = among bytes (hashes bytes t).1; decodes = is; digest = refl });
+    })
+
+    read_ends : (bytes : Option (List ℕ)) (t : Held) (next mark : Rest PeerState (Option (Object × List ℕ))) → Over t
+        → ((o : Option (Object × List ℕ)) (u : Held) → Over u → MayBeDecoded strings o → Ends c (next o x out) (mark o x out) u notes) → Ends c (read bytes x out next) (read bytes x out mark) t notes
+    read_ends None t next mark over go = go None t over tt
+    read_ends (Some bytes) t next mark over go = digested_ends (object_in bytes) bytes t next mark refl over go
+
+    kept_ends : (k : List ℕ) (t : Held) (next mark : Rest PeerState (Option (Object × List ℕ))) → Over t
+        → ((o : Option (Object × List ℕ)) (u : Held) → Over u → MayBeDecoded strings o → Ends c (next o x out) (mark o x out) u notes) → Ends c (kept k x out next) (kept k x out mark) t notes
+    unfolding asked
+    kept_ends k t next mark over go = ask_ends grows c (Fetch k) (λ bytes. read bytes x out next) (λ bytes. read bytes x out mark) t notes (λ among. record {
+      answer = value_at k t.stores.backend.entries;
+      is = refl;
+      goes = read_ends (value_at k t.stores.backend.entries) t next mark over go;
+    })
+
+    -- rule 28: what the backend keeps under the key
+    pub fetched_ends : (k : List ℕ) (next mark : Rest PeerState Seen)
+        → ((o : Option (Object × List ℕ)) (t : Held) → Over t → BackendSays here.reached.ghosts (now c here.reached) k (seens.Kept o) → Ends c (next (seens.Kept o) x out) (mark (seens.Kept o) x out) t notes)
+        → Ends c (fetched k x out next) (fetched k x out mark) h notes
+    fetched_ends k next mark go = kept_ends k h (λ o y q. next (seens.Kept o) y q) (λ o y q. mark (seens.Kept o) y q) nothing_read (λ o t over decoded. go o t over (backend_says here.reached k o decoded))
+
+    -- ## The tree
+
+    held_ends : (k : List ℕ) (entry : Option Entry) (t : Held) (next mark : Rest PeerState Seen) → entry ≡ lookup k here.tree.map → Over t
+        → ((entry : Option Entry) (object : Option Object) (u : Held) → Over u → Sees k entry object → Ends c (next (seens.Held entry object) x out) (mark (seens.Held entry object) x out) u notes)
+        → Ends c (held k entry x out next) (held k entry x out mark) t notes
+    held_ends k None t next mark is over go = go None None t over (sees_so k None None (is, refl))
+    held_ends k (Some entry) t next mark is over go = kept_ends k t (λ o y q. next (seens.Held (Some entry) (matching entry o)) y q) (λ o y q. mark (seens.Held (Some entry) (matching entry o)) y q) over
+        (λ o u still decoded. go (Some entry) (matching entry o) u still (sees_so k (Some entry) (matching entry o) (is, (o, decoded, refl))))
+
+    -- rules 21 and 29: the entry of the key, and the object that it names
+    pub looked_ends : (k : List ℕ) (next mark : Rest PeerState Seen)
+        → ((entry : Option Entry) (object : Option Object) (t : Held) → Over t → Sees k entry object → Ends c (next (seens.Held entry object) x out) (mark (seens.Held entry object) x out) t notes)
+        → Ends c (looked k x out next) (looked k x out mark) h notes
+    unfolding asked
+    looked_ends k next mark go = ask_ends grows c (Find k) (λ end. looked_at k end x out next) (λ end. looked_at k end x out mark) h notes (λ among. record {
+      answer = Came (lookup k here.tree.map);
+      is = finds h here.tree.map k here.tree.whole;
+      goes = held_ends k (lookup k here.tree.map) (answered (Find k) h).held next mark refl (record { kept_fact = refl; whole = find_keeps k h here.tree.map here.tree.whole }) go;
+    })
+
+    -- rule 22: the entry of the key
+    pub found_ends : (k : List ℕ) (next mark : Rest PeerState Seen)
+        → ((t : Held) → Over t → Ends c (next (seens.Held (lookup k here.tree.map) None) x out) (mark (seens.Held (lookup k here.tree.map) None) x out) t notes)
+        → Ends c (found k x out next) (found k x out mark) h notes
+    unfolding asked
+    found_ends k next mark go = ask_ends grows c (Find k) (λ end. next (found_at end) x out) (λ end. mark (found_at end) x out) h notes (λ among. record {
+      answer = Came (lookup k here.tree.map);
+      is = finds h here.tree.map k here.tree.whole;
+      goes = go (answered (Find k) h).held (record { kept_fact = refl; whole = find_keeps k h here.tree.map here.tree.whole });
+    })
+
+    -- ## The object of a reply
+
+    -- rule 29, GetReply: the object of the reply, if its entry names it
+    pub confirmed_ends : (q d r : ℕ) (k : List ℕ) (entry : Option Entry) (object : Option Object) (next mark : Rest PeerState (Option Object))
+        → GetReplySays here.reached.ghosts (now c here.reached) q d r k (entry_rank entry) (shown entry object) → EntryMaySay (now c here.reached) strings entry
+        → ((named : Option Object) (t : Held) → Over t → Confirmed here.reached.ghosts (now c here.reached) q d r k entry named → Ends c (next named x out) (mark named x out) t notes)
+        → Ends c (confirmed entry object x out next) (confirmed entry object x out mark) h notes
+    unfolding asked
+    confirmed_ends q d r k None object next mark reply says go = go None h nothing_read (none_confirmed here.reached.ghosts (now c here.reached) strings q d r k here.reached.hash None object reply)
+    confirmed_ends q d r k (Some e) None next mark reply says go = go None h nothing_read (none_confirmed here.reached.ghosts (now c here.reached) strings q d r k here.reached.hash (Some e) None reply)
+    confirmed_ends q d r k (Some e) (Some o) next mark reply says go =
+        ask_ends grows c (Hash (object_spelling o)) (λ digest. next (matching e (Some (o, digest))) x out) (λ digest. mark (matching e (Some (o, digest))) x out) h notes (λ among. record {
+          answer = md5 (object_spelling o);
+          is = refl;
+          goes = go (matching e (Some (o, md5 (object_spelling o)))) (and_hashed (object_spelling o) h) (record { kept_fact = refl; whole = hash_keeps (object_spelling o) h here.tree.map here.tree.whole })
+              (named_confirmed here.reached.ghosts (now c here.reached) strings q d r k here.reached.hash e o (matching e (Some (o, md5 (object_spelling o)))) (matches e o) reply says);
+        })
+
+    -- ## A write
+
+    module _ (few : (view : List ℕ) (steps : List Step) → IsRun view steps → KeysAreFew (state_after view steps)) where
+      -- with one more version the map has no more entries than calls came
+      few_entries : (o : Object) (d : ℕ) (digest : List ℕ) → PutSays (now c here.reached) d o.key (rank o.version) (content_of o) → length (put (entry_of o digest) here.tree.map) < 2 ^ 32
+      few_entries o d digest says = below
+          (few view here.reached.steps here.reached.run (map (λ (e : Entry). e.key) m) (distinct_keys m (ascends-put (entry_of o digest) here.tree.map here.tree.whole.shows.stands.is_map.ascends)) (key_from IsKeyOf m (λ e i. by_place e (in_put e (entry_of o digest) here.tree.map i))))
+          (length_keys m) (ap (λ (calls : List BookCall). length calls) here.reached.elsewhere.calls) c.few
+        where
+          m : List Entry
+          m = put (entry_of o digest) here.tree.map
+
+          IsKeyOf : List ℕ → Type 0
+          IsKeyOf k = (v : ℕ) × ((now c here.reached).objects.proposed v ≡ true) × ((now c here.reached).objects.key v ≡ k)
+
+          by_place : (e : Entry) → (e ≡ entry_of o digest) ⊎ (e ∈ here.tree.map) → IsKeyOf e.key
+          by_place e (inl same) = (rank o.version, says.proposed, says.key ∙ ap (λ (f : Entry). f.key) (sym same))
+          by_place e (inr old) = let there = here.tree.says.entries e old in (rank e.version, there.version.proposed, sym there.key)
+
+          below : length (map (λ (e : Entry). e.key) m) ≤ length (now c here.reached).book.calls → length (map (λ (e : Entry). e.key) m) ≡ length m → length (now c here.reached).book.calls ≡ length (state_before c).book.calls → length (state_before c).book.calls < 2 ^ 32 → length m < 2 ^ 32
+          below le same calls few = omega (arith, le, same, calls, few)
+
+      -- the object is in the tree; now its bytes go into the backend
+      bytes_end : (o : Object) (bytes : List ℕ) (t : Held) (m : List Entry) (next mark : Rest PeerState Seen) → t.stores.facts.kept ≡ h.stores.facts.kept → IsUndamaged t m
+          → ((u : Held) → u.stores.facts.kept ≡ h.stores.facts.kept → IsUndamaged u m → Ends c (next (seens.Stored (md5 bytes)) x out) (mark (seens.Stored (md5 bytes)) x out) u notes)
+          → Ends c (entered o bytes (md5 bytes) (Came tt) x out next) (entered o bytes (md5 bytes) (Came tt) x out mark) t notes
       unfolding asked
-      digested_ends None bytes t next mark is over go = go None t over tt
-      digested_ends (Some o) bytes t next mark is over go = ask_ends grows c (Hash bytes) (λ digest. next (Some (o, digest)) x out) (λ digest. mark (Some (o, digest)) x out) t notes (λ among. record {
+      bytes_end o bytes t m next mark kept_fact whole go = ask_may_end grows c (Put o.key bytes) (λ u. next (seens.Stored (md5 bytes)) x out) (λ u. mark (seens.Stored (md5 bytes)) x out) t notes (λ among. by_end (put_ends o.key bytes t))
+        where
+          still : (answered (Put o.key bytes) t).held.stores.facts.kept ≡ h.stores.facts.kept
+          still = ap (λ (f : HeldFact). f.kept) (spares (Put o.key bytes) t).1 ∙ kept_fact
+
+          by_end : ((answered (Put o.key bytes) t).result ≡ Ok tt) ⊎ ((answered (Put o.key bytes) t).result ≡ Err StoreFault)
+              → Answers c (Put o.key bytes) (λ u. next (seens.Stored (md5 bytes)) x out) (λ u. mark (seens.Stored (md5 bytes)) x out) t notes ⊎ IsRefused c (Put o.key bytes) t notes
+          by_end (inl is) = inl (record { answer = tt; is = is; goes = go (answered (Put o.key bytes) t).held still (put_keeps o.key bytes t m whole) })
+          by_end (inr is) = inr (record { error = StoreFault; is = is; rests = rests_over c here (answered (Put o.key bytes) t).held still })
+
+      -- the entry goes into the tree
+      entry_ends : (o : Object) (bytes : List ℕ) (t : Held) (next mark : Rest PeerState Seen) → IsEntry (entry_of o (md5 bytes)) → length (put (entry_of o (md5 bytes)) here.tree.map) < 2 ^ 32 → Over t
+          → ((u : Held) → u.stores.facts.kept ≡ h.stores.facts.kept → IsUndamaged u (put (entry_of o (md5 bytes)) here.tree.map) → Ends c (next (seens.Stored (md5 bytes)) x out) (mark (seens.Stored (md5 bytes)) x out) u notes)
+          → Ends c (Ask (Enter (entry_of o (md5 bytes))) (λ end. entered o bytes (md5 bytes) end x out next)) (Ask (Enter (entry_of o (md5 bytes))) (λ end. entered o bytes (md5 bytes) end x out mark)) t notes
+      entry_ends o bytes t next mark fits fewer over go = ask_may_end grows c (Enter e) (λ end. entered o bytes (md5 bytes) end x out next) (λ end. entered o bytes (md5 bytes) end x out mark) t notes (λ among.
+          by_end (enter_ends strings t here.tree.map e c.free among fits fewer over.whole))
+        where
+          e : Entry
+          e = entry_of o (md5 bytes)
+
+          still : (answered (Enter e) t).held.stores.facts.kept ≡ h.stores.facts.kept
+          still = ap (λ (f : HeldFact). f.kept) (spares (Enter e) t).1 ∙ over.kept_fact
+
+          by_end : EnterEnds e here.tree.map (answered (Enter e) t) → Answers c (Enter e) (λ end. entered o bytes (md5 bytes) end x out next) (λ end. entered o bytes (md5 bytes) end x out mark) t notes ⊎ IsRefused c (Enter e) t notes
+          by_end (inl came) = inl (record { answer = Came tt; is = came.0; goes = bytes_end o bytes (answered (Enter e) t).held (put e here.tree.map) next mark still came.1 go })
+          by_end (inr is) = inr (record { error = StoreFault; is = is; rests = rests_over c here (answered (Enter e) t).held still })
+
+      -- rules 22 and 35: the object is written
+      pub written_ends : (o : Object) (d : ℕ) (next mark : Rest PeerState Seen) → PutSays (now c here.reached) d o.key (rank o.version) (content_of o) → IsObject o
+          → ((t : Held) → Stored o t → Ends c (next (seens.Stored (md5 (object_spelling o))) x out) (mark (seens.Stored (md5 (object_spelling o))) x out) t notes)
+          → Ends c (written o x out next) (written o x out mark) h notes
+      unfolding asked
+      written_ends o d next mark says obeys go = ask_ends grows c (Hash bytes) (λ digest. asks digest next) (λ digest. asks digest mark) h notes (λ hashed. record {
         answer = md5 bytes;
         is = refl;
-        goes = go (Some (o, md5 bytes)) (and_hashed bytes t) (record { kept_fact = over.kept_fact; whole = answers.keeps (Hash bytes) t here.tree.map tt over.whole })
-            (record { bytes = bytes; hashed = among bytes (hashes bytes t).1; decodes = is; digest = refl });
+        goes = entry_ends o bytes (and_hashed bytes h) next mark (record { key = obeys.key; version = obeys.version; digest = md5_run bytes }) (few_entries o d (md5 bytes) says)
+            (record { kept_fact = refl; whole = hash_keeps bytes h here.tree.map here.tree.whole }) (λ u kept_fact whole. go u (record { kept_fact = kept_fact; hashed = hashed bytes (hashes bytes h).1; whole = whole }));
       })
+        where
+          bytes : List ℕ
+          bytes = object_spelling o
 
-      read_ends : (bytes : Option (List ℕ)) (t : Held) (next mark : Rest PeerState (Option (Object × List ℕ))) → Over t
-          → ((o : Option (Object × List ℕ)) (u : Held) → Over u → MayBeDecoded strings o → Ends c (next o x out) (mark o x out) u notes) → Ends c (read bytes x out next) (read bytes x out mark) t notes
-      read_ends None t next mark over go = go None t over tt
-      read_ends (Some bytes) t next mark over go = digested_ends (object_in bytes) bytes t next mark refl over go
-
-      kept_ends : (k : List ℕ) (t : Held) (next mark : Rest PeerState (Option (Object × List ℕ))) → Over t
-          → ((o : Option (Object × List ℕ)) (u : Held) → Over u → MayBeDecoded strings o → Ends c (next o x out) (mark o x out) u notes) → Ends c (kept k x out next) (kept k x out mark) t notes
-      unfolding asked
-      kept_ends k t next mark over go = ask_ends grows c (Fetch k) (λ bytes. read bytes x out next) (λ bytes. read bytes x out mark) t notes (λ among. record {
-        answer = value_at k t.stores.backend.entries;
-        is = refl;
-        goes = read_ends (value_at k t.stores.backend.entries) t next mark over go;
-      })
-
-      -- rule 28: what the backend keeps under the key
-      pub fetched_ends : (k : List ℕ) (next mark : Rest PeerState Seen)
-          → ((o : Option (Object × List ℕ)) (t : Held) → Over t → BackendSays here.reached.ghosts (now c here.reached) k (seens.Kept o) → Ends c (next (seens.Kept o) x out) (mark (seens.Kept o) x out) t notes)
-          → Ends c (fetched k x out next) (fetched k x out mark) h notes
-      fetched_ends k next mark go = kept_ends k h (λ o y q. next (seens.Kept o) y q) (λ o y q. mark (seens.Kept o) y q) nothing_read (λ o t over decoded. go o t over (backend_says here.reached k o decoded))
-
-      -- ## The tree
-
-      held_ends : (k : List ℕ) (entry : Option Entry) (t : Held) (next mark : Rest PeerState Seen) → entry ≡ lookup k here.tree.map → Over t
-          → ((entry : Option Entry) (object : Option Object) (u : Held) → Over u → Sees k entry object → Ends c (next (seens.Held entry object) x out) (mark (seens.Held entry object) x out) u notes)
-          → Ends c (held k entry x out next) (held k entry x out mark) t notes
-      held_ends k None t next mark is over go = go None None t over (sees_so k None None (is, refl))
-      held_ends k (Some entry) t next mark is over go = kept_ends k t (λ o y q. next (seens.Held (Some entry) (matching entry o)) y q) (λ o y q. mark (seens.Held (Some entry) (matching entry o)) y q) over
-          (λ o u still decoded. go (Some entry) (matching entry o) u still (sees_so k (Some entry) (matching entry o) (is, (o, decoded, refl))))
-
-      -- rules 21 and 29: the entry of the key, and the object that it names
-      pub looked_ends : (k : List ℕ) (next mark : Rest PeerState Seen)
-          → ((entry : Option Entry) (object : Option Object) (t : Held) → Over t → Sees k entry object → Ends c (next (seens.Held entry object) x out) (mark (seens.Held entry object) x out) t notes)
-          → Ends c (looked k x out next) (looked k x out mark) h notes
-      unfolding asked
-      looked_ends k next mark go = ask_ends grows c (Find k) (λ end. looked_at k end x out next) (λ end. looked_at k end x out mark) h notes (λ among. record {
-        answer = Came (lookup k here.tree.map);
-        is = answers.finds h here.tree.map k here.tree.whole;
-        goes = held_ends k (lookup k here.tree.map) (answered (Find k) h).held next mark refl (record { kept_fact = refl; whole = answers.keeps (Find k) h here.tree.map tt here.tree.whole }) go;
-      })
-
-      -- rule 22: the entry of the key
-      pub found_ends : (k : List ℕ) (next mark : Rest PeerState Seen)
-          → ((t : Held) → Over t → Ends c (next (seens.Held (lookup k here.tree.map) None) x out) (mark (seens.Held (lookup k here.tree.map) None) x out) t notes)
-          → Ends c (found k x out next) (found k x out mark) h notes
-      unfolding asked
-      found_ends k next mark go = ask_ends grows c (Find k) (λ end. next (found_at end) x out) (λ end. mark (found_at end) x out) h notes (λ among. record {
-        answer = Came (lookup k here.tree.map);
-        is = answers.finds h here.tree.map k here.tree.whole;
-        goes = go (answered (Find k) h).held (record { kept_fact = refl; whole = answers.keeps (Find k) h here.tree.map tt here.tree.whole });
-      })
-
-      -- ## The object of a reply
-
-      -- rule 29, GetReply: the object of the reply, if its entry names it
-      pub confirmed_ends : (q d r : ℕ) (k : List ℕ) (entry : Option Entry) (object : Option Object) (next mark : Rest PeerState (Option Object))
-          → GetReplySays here.reached.ghosts (now c here.reached) q d r k (entry_rank entry) (shown entry object) → EntryMaySay (now c here.reached) strings entry
-          → ((named : Option Object) (t : Held) → Over t → Confirmed here.reached.ghosts (now c here.reached) q d r k entry named → Ends c (next named x out) (mark named x out) t notes)
-          → Ends c (confirmed entry object x out next) (confirmed entry object x out mark) h notes
-      unfolding asked
-      confirmed_ends q d r k None object next mark reply says go = go None h nothing_read (none_confirmed here.reached.ghosts (now c here.reached) strings q d r k here.reached.hash None object reply)
-      confirmed_ends q d r k (Some e) None next mark reply says go = go None h nothing_read (none_confirmed here.reached.ghosts (now c here.reached) strings q d r k here.reached.hash (Some e) None reply)
-      confirmed_ends q d r k (Some e) (Some o) next mark reply says go =
-          ask_ends grows c (Hash (object_spelling o)) (λ digest. next (matching e (Some (o, digest))) x out) (λ digest. mark (matching e (Some (o, digest))) x out) h notes (λ among. record {
-            answer = md5 (object_spelling o);
-            is = refl;
-            goes = go (matching e (Some (o, md5 (object_spelling o)))) (and_hashed (object_spelling o) h) (record { kept_fact = refl; whole = answers.keeps (Hash (object_spelling o)) h here.tree.map tt here.tree.whole })
-                (named_confirmed here.reached.ghosts (now c here.reached) strings q d r k here.reached.hash e o (matching e (Some (o, md5 (object_spelling o)))) (matches e o) reply says);
-          })
-
-      -- ## A write
-
-      module _ (few : (view : List ℕ) (steps : List Step) → IsRun view steps → KeysAreFew (state_after view steps)) where
-        -- with one more version the map has no more entries than calls came
-        few_entries : (o : Object) (d : ℕ) (digest : List ℕ) → PutSays (now c here.reached) d o.key (rank o.version) (content_of o) → length (put (entry_of o digest) here.tree.map) < 2 ^ 32
-        few_entries o d digest says = below
-            (few view here.reached.steps here.reached.run (map (λ (e : Entry). e.key) m) (distinct_keys m (ascends-put (entry_of o digest) here.tree.map here.tree.whole.shows.stands.is_map.ascends)) (key_from IsKeyOf m (λ e i. by_place e (in_put e (entry_of o digest) here.tree.map i))))
-            (length_keys m) (ap (λ (calls : List BookCall). length calls) here.reached.elsewhere.calls) c.few
-          where
-            m : List Entry
-            m = put (entry_of o digest) here.tree.map
-
-            IsKeyOf : List ℕ → Type 0
-            IsKeyOf k = (v : ℕ) × ((now c here.reached).objects.proposed v ≡ true) × ((now c here.reached).objects.key v ≡ k)
-
-            by_place : (e : Entry) → (e ≡ entry_of o digest) ⊎ (e ∈ here.tree.map) → IsKeyOf e.key
-            by_place e (inl same) = (rank o.version, says.proposed, says.key ∙ ap (λ (f : Entry). f.key) (sym same))
-            by_place e (inr old) = let there = here.tree.says.entries e old in (rank e.version, there.version.proposed, sym there.key)
-
-            below : length (map (λ (e : Entry). e.key) m) ≤ length (now c here.reached).book.calls → length (map (λ (e : Entry). e.key) m) ≡ length m → length (now c here.reached).book.calls ≡ length (state_before c).book.calls → length (state_before c).book.calls < 2 ^ 32 → length m < 2 ^ 32
-            below le same calls few = omega (arith, le, same, calls, few)
-
-        -- the object is in the tree; now its bytes go into the backend
-        bytes_end : (o : Object) (bytes : List ℕ) (t : Held) (m : List Entry) (next mark : Rest PeerState Seen) → t.stores.facts.kept ≡ h.stores.facts.kept → IsWhole t m
-            → ((u : Held) → u.stores.facts.kept ≡ h.stores.facts.kept → IsWhole u m → Ends c (next (seens.Stored (md5 bytes)) x out) (mark (seens.Stored (md5 bytes)) x out) u notes)
-            → Ends c (entered o bytes (md5 bytes) (Came tt) x out next) (entered o bytes (md5 bytes) (Came tt) x out mark) t notes
-        unfolding asked
-        bytes_end o bytes t m next mark kept_fact whole go = ask_ends grows c (Put o.key bytes) (λ u. next (seens.Stored (md5 bytes)) x out) (λ u. mark (seens.Stored (md5 bytes)) x out) t notes (λ among. record {
-          answer = tt;
-          is = answers.puts o.key bytes t m whole;
-          goes = go (answered (Put o.key bytes) t).held (ap (λ (f : HeldFact). f.kept) (spares (Put o.key bytes) t).1 ∙ kept_fact) (answers.keeps (Put o.key bytes) t m tt whole);
-        })
-
-        -- rules 22 and 35: the object is written
-        pub written_ends : (o : Object) (d : ℕ) (next mark : Rest PeerState Seen) → PutSays (now c here.reached) d o.key (rank o.version) (content_of o) → IsObject o
-            → ((t : Held) → Stored o t → Ends c (next (seens.Stored (md5 (object_spelling o))) x out) (mark (seens.Stored (md5 (object_spelling o))) x out) t notes)
-            → Ends c (written o x out next) (written o x out mark) h notes
-        unfolding asked
-        written_ends o d next mark says obeys go = ask_ends grows c (Hash bytes) (λ digest. asks digest next) (λ digest. asks digest mark) h notes (λ hashed. record {
-          answer = md5 bytes;
-          is = refl;
-          goes = ask_ends grows c (Enter (entry_of o (md5 bytes))) (λ end. entered o bytes (md5 bytes) end x out next) (λ end. entered o bytes (md5 bytes) end x out mark) (and_hashed bytes h) notes (λ among.
-              let came = answers.enters strings (and_hashed bytes h) here.tree.map (entry_of o (md5 bytes)) c.free among (record { key = obeys.key; version = obeys.version; digest = md5_run bytes }) (few_entries o d (md5 bytes) says)
-              (answers.keeps (Hash bytes) h here.tree.map tt here.tree.whole) in
-              record {
-                answer = Came tt;
-                is = came.0;
-                goes = bytes_end o bytes (answered (Enter (entry_of o (md5 bytes))) (and_hashed bytes h)).held (put (entry_of o (md5 bytes)) here.tree.map) next mark refl came.1 (λ u kept_fact whole. go u (record { kept_fact = kept_fact; hashed = hashed bytes (hashes bytes h).1; whole = whole }));
-              });
-        })
-          where
-            bytes : List ℕ
-            bytes = object_spelling o
-
-            asks : List ℕ → Rest PeerState Seen → Plan PeerState
-            asks digest rest = Ask (Enter (entry_of o digest)) (λ end. entered o bytes digest end x out rest)
+          asks : List ℕ → Rest PeerState Seen → Plan PeerState
+          asks digest rest = Ask (Enter (entry_of o digest)) (λ end. entered o bytes digest end x out rest)

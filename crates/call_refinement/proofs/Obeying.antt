@@ -25,6 +25,8 @@ use Rattle.abstract_protocol.specs.Objects.{epoch_of, MayBegin, IsNewest, MayPro
 use Rattle.abstract_protocol.specs.Protocol.{State, Step, Propose, IsRun, state_after, happens, MayCome}
 use Rattle.election_refinement.proofs.Tests.{by_test}
 use Rattle.election_laws.specs.Preparing.{proposer_of}
+use Rattle.election_refinement.specs.Plain.{IsPlainFact}
+use Rattle.election_refinement.specs.Refinement.{IsSaved}
 use Rattle.entry_laws.proofs.Later.{stay_step}
 use Rattle.entry_laws.specs.Stays.{EntriesStay}
 use Rattle.held_stores.specs.Held.{Held}
@@ -32,11 +34,12 @@ use Rattle.leader_laws.specs.Tables as theory
 use Rattle.leader_refinement.specs.Seen.{rank}
 use Rattle.request_refinement.specs.Naming.{object_of_version}
 use Rattle.peer_core.specs.declared.state.State.{State as PeerState}
+use Rattle.peer_fact.specs.declared.fact.Fact.{Fact}
 use Rattle.register_model.specs.declared.note.Note.{Note}
 use Rattle.step_plans.specs.Plans.{Out}
 use Rattle.version_laws.proofs.Maps.{put_here, put_other}
 use Rattle.version_laws.proofs.Trees.{run_versions}
-use Rattle.call_refinement.proofs.Frame.{Scene, state_before, now, Here}
+use Rattle.call_refinement.proofs.Frame.{Scene, Reached, state_before, now, Here}
 use Rattle.call_refinement.specs.Peers.{AsksFit, EpochsFit}
 
 -- ## Contents
@@ -204,9 +207,9 @@ objects_obey view steps run asks epochs v fits is = let parts = parts_fit view s
 -- ## Epochs
 
 -- an epoch that the peer has elected is at most its ballot, whose count has 64 bits; others elect none in its step
-pub epochs_here : (c : Scene) (key : List ℕ) (x : PeerState) (h : Held) (out : Out) (notes : List Note) (here : Here c key x h out notes) → EpochsFit (state_before c) → EpochsFit (now c here.reached)
+pub epochs_there : (c : Scene) (r : Reached c) (fact : Fact) → IsSaved (now c r).objects.ledger c.peer fact → IsPlainFact c.view fact → EpochsFit (state_before c) → EpochsFit (now c r)
 unfolding epoch_number
-epochs_here c key x h out notes here before d elected = by_time ((state_before c).objects.ledger.elected d) refl
+epochs_there c r fact saved plain before d elected = by_time ((state_before c).objects.ledger.elected d) refl
   where
     p : ℕ
     p = c.peer
@@ -216,12 +219,12 @@ epochs_here c key x h out notes here before d elected = by_time ((state_before c
     in_range count proposer n low small le = omega (arith, low, small, le)
 
     own : (p == proposer_of d) ≡ true → d < 2 ^ 96
-    own same = in_range x.fact.ballot.count x.fact.ballot.proposer d here.plain.fact.count here.peer.saved.known.ballot
-        (subst (λ n. d ≤ n) (here.peer.saved.ballot) (subst (λ q. d ≤ (now c here.reached).objects.ledger.ballot q) (sym (eqb-true p (proposer_of d) same)) (here.reached.orderly.reached d elected)))
+    own same = in_range fact.ballot.count fact.ballot.proposer d plain.count saved.known.ballot
+        (subst (λ n. d ≤ n) (saved.ballot) (subst (λ q. d ≤ (now c r).objects.ledger.ballot q) (sym (eqb-true p (proposer_of d) same)) (r.orderly.reached d elected)))
 
     by_peer : (b : Bool) → (p == proposer_of d) ≡ b → (state_before c).objects.ledger.elected d ≡ false → d < 2 ^ 96
     by_peer true same fresh = own same
-    by_peer false other fresh = absurd (true≢false (sym elected ∙ here.reached.elsewhere.ledger.fresh d fresh (λ e. true≢false (sym (is_same p (proposer_of d) e) ∙ other))))
+    by_peer false other fresh = absurd (true≢false (sym elected ∙ r.elsewhere.ledger.fresh d fresh (λ e. true≢false (sym (is_same p (proposer_of d) e) ∙ other))))
       where
         is_same : (m n : ℕ) → m ≡ n → (m == n) ≡ true
         is_same m n e = grind (arith, nat_tests)
@@ -229,3 +232,6 @@ epochs_here c key x h out notes here before d elected = by_time ((state_before c
     by_time : (b : Bool) → (state_before c).objects.ledger.elected d ≡ b → d < 2 ^ 96
     by_time true is = before d is
     by_time false is = by_peer (p == proposer_of d) refl is
+
+pub epochs_here : (c : Scene) (key : List ℕ) (x : PeerState) (h : Held) (out : Out) (notes : List Note) (here : Here c key x h out notes) → EpochsFit (state_before c) → EpochsFit (now c here.reached)
+epochs_here c key x h out notes here before = epochs_there c here.reached x.fact here.peer.saved here.plain.fact before

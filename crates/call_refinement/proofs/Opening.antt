@@ -34,7 +34,7 @@ use Rattle.world_spec.specs.Runs.{repeated, opening_run}
 use Rattle.safety_laws.proofs.Ordered.{in_right}
 use Rattle.call_refinement.proofs.Places.{replicated, roles_same}
 use Rattle.call_refinement.proofs.Staying.{whole_behind}
-use Rattle.call_refinement.specs.Peers.{FrameFits}
+use Rattle.call_refinement.specs.Peers.{IsUndamaged, FrameFits}
 use Rattle.call_refinement.specs.Roles.{role_of, role_at, roles_of}
 use Rattle.call_refinement.specs.Worlds.{NodeFits, WorldHolds}
 
@@ -94,11 +94,10 @@ module _ (view : List ℕ) where
   strings_are : opening_strings view ≡ fresh.hashed
   strings_are = ap (λ (e : Ended PeerState). (taken_of e).hashed) started
 
-  whole : (more : List (List ℕ)) → AreAmong (opening_strings view) more → IsWhole (held_with saved.stores more) []
+  whole : (more : List (List ℕ)) → AreAmong (opening_strings view) more → IsUndamaged (held_with saved.stores more) []
   whole more among = whole_behind saved.stores fresh.hashed more [] (subst (λ (xs : List (List ℕ)). AreAmong xs more) strings_are among) (record {
     shows = record { digest = made.1.shows.digest; top = made.1.shows.top; stands = made.1.shows.stands; texts = made.1.shows.texts };
     stored = made.1.stored;
-    no_faults = record { facts = made.1.no_faults.facts; backend = made.1.no_faults.backend; tree = made.1.no_faults.tree };
   })
 
   node_first : (strings more : List (List ℕ)) (q : ℕ) → AreAmong (opening_strings view) more → NodeFits view strings more (opening view) q (opening_node view)

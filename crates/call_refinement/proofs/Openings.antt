@@ -49,7 +49,7 @@ use Rattle.wire_frames.specs.declared.phase.Seen.TheVariants as seens
 use Rattle.call_refinement.proofs.Frame.{Scene, now, Here, Ends, Onward}
 use Rattle.call_refinement.proofs.Leaders.{at_work, own_peer, own_ballot, own_trust}
 use Rattle.call_refinement.proofs.Leading.{There, told_nothing, leave_ends}
-use Rattle.call_refinement.proofs.Looking.{stores_answer, Over, over_here, Sees, looked_ends}
+use Rattle.call_refinement.proofs.Looking.{Over, over_here, Sees, looked_ends}
 use Rattle.call_refinement.proofs.Rules.{looked_apart}
 use Rattle.call_refinement.proofs.Tame.{tame_29}
 use Rattle.call_refinement.proofs.Tasks.{AreApart, AreIdle, idle_kept, OpensAs, Half, Opens}
@@ -111,7 +111,7 @@ module _ (c : Scene) where
       look_ends : row_29 key seens.Nothing l.leader ≡ looks → Plans 29 looks
       look_ends is = subst (λ (plan : Plan PeerState). Ends c plan (looked key y same_out after_mark) h notes) (sym (looked_apart key (leading l x) y same_out same_out after_look))
           (subst (λ (plan : Plan PeerState). Ends c (looked key (leading l x) same_out (λ seen z q. after_look seen y same_out)) plan h notes) (sym (looked_apart key (leading l x) y same_out same_out after_mark))
-          (looked_ends c same_here stores_answer key (λ seen z q. after_look seen y same_out) (λ seen z q. after_mark seen y same_out) (λ entry object t over sees.
+          (looked_ends c same_here key (λ seen z q. after_look seen y same_out) (λ seen z q. after_mark seen y same_out) (λ entry object t over sees.
           go (tasks.Again 29 key (seens.Held entry object) ∷ []) key y t same_out notes (inr (look_half is entry object t over sees)))))
         where
           y : PeerState

@@ -1,10 +1,9 @@
 -- A row of a phase in the step of a peer: the peer takes the steps of its election, its fact is saved, and
 -- its message is sent. After it the peer agrees with the run that goes on by these steps.
 use Rattle.std.specs.Prelude.{All}
-use Rattle.std.proofs.Common.{◌≡◌, ℕ, Bool, true, false, List, [], ◌++◌, Option, Some, None, Ok, Err, refl, ap, sym, subst, ◌∙◌}
+use Rattle.std.proofs.Common.{◌≡◌, ◌⊎◌, inl, inr, ℕ, Bool, true, false, List, [], ◌++◌, Option, Some, None, refl, ap, sym, subst, ◌∙◌}
 use Rattle.std.proofs.lemmas.List.Elements.{All-nil, All-append}
 use Rattle.ens_base.specs.declared.entry.Entry.{Entry}
-use Rattle.ens_outside.specs.declared.memory.failing_call.Leaves.{Leaves}
 use Rattle.abstract_protocol.specs.Ledger.{put}
 use Rattle.abstract_protocol.specs.Numbers.{epoch_number}
 use Rattle.abstract_protocol.specs.Protocol.{State, Step, state_after}
@@ -16,8 +15,8 @@ use Rattle.election_refinement.proofs.Sets.{posted_to_hold}
 use Rattle.election_refinement.proofs.Whole.{RowGoes}
 use Rattle.election_refinement.specs.Plain.{IsPlainPeer, IsPlainMessage, SaysPlain, IsPlainThen}
 use Rattle.election_refinement.specs.Refinement.{PeerHolds, SendHolds}
-use Rattle.held_stores.specs.Answers.{Answered, answered, facts_failed, with_facts}
-use Rattle.held_stores.specs.Held.{Held, unless_failing}
+use Rattle.held_stores.specs.Answers.{Answered, answered, with_facts}
+use Rattle.held_stores.specs.Held.{Held}
 use Rattle.leader_laws.proofs.Runs.{run_leaders}
 use Rattle.leader_laws.specs.Leaders.{IsUnled}
 use Rattle.leader_laws.specs.Roles.{RolesHold}
@@ -38,19 +37,20 @@ use Rattle.step_plans.specs.Tasks.{named}
 use Rattle.step_plans.specs.declared.error.PeerError.TheVariants.{StoreFault}
 use Rattle.step_plans.specs.declared.tasks.Task.{Task}
 use Rattle.tree_refinement.proofs.Keeping.{grows}
-use Rattle.tree_refinement.specs.Whole.{HasNoFaults, IsWhole}
 use Rattle.wire_frames.specs.declared.message.Message.{Message}
 use Rattle.wire_frames.specs.declared.message.Message.TheVariants as messages
 use Rattle.wire_frames.specs.declared.phase.PhaseOut.{PhaseOut}
 use Rattle.wire_frames.specs.declared.phase.Then.{Then}
 use Rattle.wire_frames.specs.declared.phase.Then.TheVariants as thens
-use Rattle.call_refinement.proofs.Frame.{Scene, Reached, now, AtRest, Ends, ask_ends, rest_task}
+use Rattle.call_refinement.proofs.Frame.{Scene, Reached, now, AtRest, Rests, Ends, Answers, IsRefused, ask_may_end, rest_task}
 use Rattle.call_refinement.proofs.Moving.{role_here, role_replaced}
+use Rattle.call_refinement.proofs.Refusing.{HasEither, SaveEnds, Saves, Refuses, save_ends}
+use Rattle.call_refinement.proofs.Resting.{rests_over}
 use Rattle.call_refinement.proofs.Saying.{posted_to_each, SaysSo, sends_say, says_more}
 use Rattle.call_refinement.proofs.Silent.{AreElectionSteps, elections_only, entries_there, spared_there, roles_there, unled_there, map_there, sends_there, reached_there}
 use Rattle.call_refinement.proofs.Staying.{phase_stays}
 use Rattle.call_refinement.proofs.Turning.{part_stands, PartStands, PhaseStands, turn_stands, left_stands, left_begun, turned_stands}
-use Rattle.call_refinement.specs.Peers.{MessageFits, SendFits}
+use Rattle.call_refinement.specs.Peers.{IsUndamaged, MessageFits, SendFits}
 use Rattle.call_refinement.specs.Roles.{role_in, said_of, said_in_sends}
 
 -- ## The save
@@ -64,30 +64,31 @@ kept_after : (save : Option Fact) (h : Held) → stored_in save h.stores.facts.k
 kept_after None h = refl
 kept_after (Some fact) h = refl
 
-pub faultless : (h : Held) (m : List Entry) → IsWhole h m → HasNoFaults h.stores
-faultless h m whole = whole.no_faults
-
-pub whole_after : (save : Option Fact) (h : Held) (m : List Entry) → IsWhole h m → IsWhole (held_after save h) m
+pub whole_after : (save : Option Fact) (h : Held) (m : List Entry) → IsUndamaged h m → IsUndamaged (held_after save h) m
 whole_after None h m whole = whole
-whole_after (Some fact) h m whole = let fine = faultless h m whole in record { shows = whole.shows; stored = whole.stored; no_faults = record { facts = fine.facts; backend = fine.backend; tree = fine.tree } }
-
--- no failure waits, so the save is answered
-pub save_answer : (fact : Fact) (h : Held) → HasNoFaults h.stores → answered (Save fact) h ≡ record { result = Ok tt; held = held_after (Some fact) h }
-save_answer fact h fine = ap (λ (pending : Option Leaves). unless_failing {R = Answered (Save fact)} pending (record { result = Ok tt; held = held_after (Some fact) h })
-    (λ leaves. record { result = Err StoreFault; held = with_facts (facts_failed h.stores.facts (record h.stores.facts { kept = Some fact }) leaves) h })) fine.facts
+whole_after (Some fact) h m whole = record { shows = whole.shows; stored = whole.stored }
 
 module _ (c : Scene) where
-  saved_ends : (save : Option Fact) (x : PeerState) (out : Out) (next mark : Rest PeerState (Unit {0})) (h : Held) (notes : List Note) → HasNoFaults h.stores
+  -- a save may be refused: then the step ends, over the fact before it or over the new one
+  saved_ends : (save : Option Fact) (x : PeerState) (out : Out) (next mark : Rest PeerState (Unit {0})) (h : Held) (notes : List Note)
+      → ((t : Held) → t.stores.facts.kept ≡ h.stores.facts.kept → Rests c t notes) → ((t : Held) → t.stores.facts.kept ≡ (held_after save h).stores.facts.kept → Rests c t notes)
       → Ends c (next tt (saved_in save x) out) (mark tt (saved_in save x) out) (held_after save h) notes → Ends c (saved save x out next) (saved save x out mark) h notes
   unfolding asked
-  saved_ends None x out next mark h notes fine goes = goes
-  saved_ends (Some fact) x out next mark h notes fine goes =
-      ask_ends grows c (Save fact) (λ a. next tt (record x { fact = fact }) out) (λ a. mark tt (record x { fact = fact }) out) h notes
-      (λ among. record {
+  saved_ends None x out next mark h notes old new goes = goes
+  saved_ends (Some fact) x out next mark h notes old new goes =
+      ask_may_end grows c (Save fact) (λ a. next tt (record x { fact = fact }) out) (λ a. mark tt (record x { fact = fact }) out) h notes (λ among. by_end (save_ends fact h))
+    where
+      either_rests : (t : Held) → HasEither fact h t → Rests c t notes
+      either_rests t (inl same) = old t same
+      either_rests t (inr is) = new t is
+
+      by_end : SaveEnds fact h (answered (Save fact) h) → Answers c (Save fact) (λ a. next tt (record x { fact = fact }) out) (λ a. mark tt (record x { fact = fact }) out) h notes ⊎ IsRefused c (Save fact) h notes
+      by_end (Saves is) = inl (record {
         answer = tt;
-        is = ap (λ (a : Answered (Save fact)). a.result) (save_answer fact h fine);
-        goes = subst (λ (t : Held). Ends c (next tt (record x { fact = fact }) out) (mark tt (record x { fact = fact }) out) t notes) (sym (ap (λ (a : Answered (Save fact)). a.held) (save_answer fact h fine))) goes;
+        is = ap (λ (a : Answered (Save fact)). a.result) is;
+        goes = subst (λ (t : Held). Ends c (next tt (record x { fact = fact }) out) (mark tt (record x { fact = fact }) out) t notes) (sym (ap (λ (a : Answered (Save fact)). a.held) is)) goes;
       })
+      by_end (Refuses is left) = inr (record { error = StoreFault; is = is; rests = either_rests (answered (Save fact) h).held left })
 
 -- ## The output
 
@@ -273,5 +274,5 @@ module _ (c : Scene) where
         saved_ends c row.1.save (left row.1.leave row.0) (left_answers row.1.leave row.0 out)
         (λ u y o. followed_on p row.1.then (turned p row.1.then y) (turned_answers row.1.then y (and_sends o (posted_to row.1.to row.1.message))) next)
         (λ u y o. followed_on p row.1.then (turned p row.1.then y) (turned_answers row.1.then y (and_sends o (posted_to row.1.to row.1.message))) mark)
-        h notes (faultless h at.0.tree.map at.0.tree.whole)
+        h notes (λ s same. rests_over c at.0 s same) (λ s same. rests_over c row_there.0 s same)
         (followed_ends row.1.then end (held_after row.1.save h) (out_after row.1 row.0 out) notes next mark good.plain.next (go end (held_after row.1.save h) (out_after row.1 row.0 out) notes row_there))

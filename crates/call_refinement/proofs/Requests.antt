@@ -45,7 +45,7 @@ use Rattle.wire_frames.specs.declared.phase.Seen.TheVariants as seens
 use Rattle.wire_frames.specs.declared.phase.Then.{Then}
 use Rattle.wire_frames.specs.declared.phase.Then.TheVariants as thens
 use Rattle.call_refinement.proofs.Frame.{Scene, now, Here, AtRest, rest_task, MessageComes, Ends, Onward}
-use Rattle.call_refinement.proofs.Looking.{StoresAnswer, Over, Stored, nothing_read, over_here, write_here, acknowledge_here, looked_ends, found_ends, written_ends}
+use Rattle.call_refinement.proofs.Looking.{Over, Stored, nothing_read, over_here, write_here, acknowledge_here, looked_ends, found_ends, written_ends}
 use Rattle.call_refinement.proofs.Saying.{posted_to_each, SendSaysSo, says_nothing, says_one, tells_more, says_here}
 use Rattle.call_refinement.specs.Keys.{KeysAreFew}
 use Rattle.call_refinement.specs.Peers.{IsAtRest, SendFits}
@@ -230,59 +230,58 @@ module _ (c : Scene) where
         acknowledged : Here c key x t out notes
         acknowledged = acknowledge_here c (over_here c here t over) (rank o.version) has.may.0 (rest_task (happens (now c here.reached) (Acknowledge p (rank o.version))) key x.phase rest)
 
-    module _ (answers : StoresAnswer) where
-      -- rule 21, Get
-      pub got_good : (from : ℕ) (ballot : Epoch) (round : ℕ) (k : List ℕ) → MessageComes c from (messages.Get ballot round k) (now c here.reached) → Ends c (delivered p from (messages.Get ballot round k) x out next) (delivered p from (messages.Get ballot round k) x out mark) h notes
-      got_good from ballot round k comes = by_served (is_served x.fact x.trusted ballot)
+    -- rule 21, Get
+    pub got_good : (from : ℕ) (ballot : Epoch) (round : ℕ) (k : List ℕ) → MessageComes c from (messages.Get ballot round k) (now c here.reached) → Ends c (delivered p from (messages.Get ballot round k) x out next) (delivered p from (messages.Get ballot round k) x out mark) h notes
+    got_good from ballot round k comes = by_served (is_served x.fact x.trusted ballot)
+      where
+        replied : Rest PeerState (List Task) → Rest PeerState Seen
+        replied after seen y o = row_done p (row_21 y.fact y.trusted from ballot round k seen) y o after
+
+        by_served : (served : Bool) → Ends c (shown served (looked k) x out (replied next)) (shown served (looked k) x out (replied mark)) h notes
+        by_served true = looked_ends c here k (replied next) (replied mark) (λ entry object t over sees. got_row from ballot round k (seens.Held entry object) t over tt sees.shows comes)
+        by_served false = got_row from ballot round k seens.Nothing h (nothing_read c here) tt tt comes
+
+    module _ (few : (view : List ℕ) (steps : List Step) → IsRun view steps → KeysAreFew (state_after view steps)) where
+      -- the version goes in, and is acknowledged
+      write_ends : (from : ℕ) (ballot : Epoch) (o : Object) (row : PhaseOut) (t : Held) → Over c here t → PutComes from ballot o → IsReply row → TakesVersion here.reached.ghosts (now c here.reached) strings p here.tree.map from ballot o row
+          → Ends c (put_done row.then p from ballot o row x out next) (put_done row.then p from ballot o row x out mark) t notes
+      write_ends from ballot o row t over comes reply takes = subst (λ (turn : Then). Ends c (put_done turn p from ballot o row x out next) (put_done turn p from ballot o row x out mark) t notes) (sym (ap (λ (r : PhaseOut). r.then) takes.is))
+          (written_ends c (over_here c here t over) few o (epoch_number ballot) (replied next) (replied mark) comes.says comes.obeys (λ u stored. reply_ends u (acknowledged u stored) row reply takes.says))
         where
           replied : Rest PeerState (List Task) → Rest PeerState Seen
-          replied after seen y o = row_done p (row_21 y.fact y.trusted from ballot round k seen) y o after
+          replied after seen y q = row_done p (after_put from ballot row seen) y q after
 
-          by_served : (served : Bool) → Ends c (shown served (looked k) x out (replied next)) (shown served (looked k) x out (replied mark)) h notes
-          by_served true = looked_ends c here answers k (replied next) (replied mark) (λ entry object t over sees. got_row from ballot round k (seens.Held entry object) t over tt sees.shows comes)
-          by_served false = got_row from ballot round k seens.Nothing h (nothing_read c here) tt tt comes
+          written : (u : Held) → Stored c (over_here c here t over) o u → Here c key x u out notes
+          written u stored = write_here c (over_here c here t over) o (epoch_number ballot) u takes.may.0 comes.says comes.obeys stored (rest_task (happens (now c here.reached) (Write p (rank o.version))) key x.phase rest)
 
-      module _ (few : (view : List ℕ) (steps : List Step) → IsRun view steps → KeysAreFew (state_after view steps)) where
-        -- the version goes in, and is acknowledged
-        write_ends : (from : ℕ) (ballot : Epoch) (o : Object) (row : PhaseOut) (t : Held) → Over c here t → PutComes from ballot o → IsReply row → TakesVersion here.reached.ghosts (now c here.reached) strings p here.tree.map from ballot o row
-            → Ends c (put_done row.then p from ballot o row x out next) (put_done row.then p from ballot o row x out mark) t notes
-        write_ends from ballot o row t over comes reply takes = subst (λ (turn : Then). Ends c (put_done turn p from ballot o row x out next) (put_done turn p from ballot o row x out mark) t notes) (sym (ap (λ (r : PhaseOut). r.then) takes.is))
-            (written_ends c (over_here c here t over) answers few o (epoch_number ballot) (replied next) (replied mark) comes.says comes.obeys (λ u stored. reply_ends u (acknowledged u stored) row reply takes.says))
-          where
-            replied : Rest PeerState (List Task) → Rest PeerState Seen
-            replied after seen y q = row_done p (after_put from ballot row seen) y q after
+          acknowledged : (u : Held) → Stored c (over_here c here t over) o u → Here c key x u out notes
+          acknowledged u stored = acknowledge_here c (written u stored) (rank o.version) takes.may.1.0
+              (rest_task (happens (happens (now c here.reached) (Write p (rank o.version))) (Acknowledge p (rank o.version))) key x.phase rest)
 
-            written : (u : Held) → Stored c (over_here c here t over) o u → Here c key x u out notes
-            written u stored = write_here c (over_here c here t over) o (epoch_number ballot) u takes.may.0 comes.says comes.obeys stored (rest_task (happens (now c here.reached) (Write p (rank o.version))) key x.phase rest)
+      -- rule 22, after the tree was asked
+      put_row : (from : ℕ) (ballot : Epoch) (o : Object) (seen : Seen) (t : Held) → Over c here t → IsSight seen → FindSees here.tree.map o.key seen → PutComes from ballot o
+          → Ends c (put_done (row_22 x.fact x.trusted from ballot o seen).then p from ballot o (row_22 x.fact x.trusted from ballot o seen) x out next) (put_done (row_22 x.fact x.trusted from ballot o seen).then p from ballot o (row_22 x.fact x.trusted from ballot o seen) x out mark) t notes
+      put_row from ballot o seen t over sight found comes =
+          by_end (run_puts view here.reached.steps here.reached.run here.reached.ghosts strings p here.tree.map x.fact x.trusted from ballot o seen serves (λ trusted. here.tree.says) comes.says comes.obeys found)
+        where
+          row : PhaseOut
+          row = row_22 x.fact x.trusted from ballot o seen
 
-            acknowledged : (u : Held) → Stored c (over_here c here t over) o u → Here c key x u out notes
-            acknowledged u stored = acknowledge_here c (written u stored) (rank o.version) takes.may.1.0
-                (rest_task (happens (happens (now c here.reached) (Write p (rank o.version))) (Acknowledge p (rank o.version))) key x.phase rest)
+          reply : IsReply row
+          reply = row_22_replies x.fact x.trusted from ballot o seen sight
 
-        -- rule 22, after the tree was asked
-        put_row : (from : ℕ) (ballot : Epoch) (o : Object) (seen : Seen) (t : Held) → Over c here t → IsSight seen → FindSees here.tree.map o.key seen → PutComes from ballot o
-            → Ends c (put_done (row_22 x.fact x.trusted from ballot o seen).then p from ballot o (row_22 x.fact x.trusted from ballot o seen) x out next) (put_done (row_22 x.fact x.trusted from ballot o seen).then p from ballot o (row_22 x.fact x.trusted from ballot o seen) x out mark) t notes
-        put_row from ballot o seen t over sight found comes =
-            by_end (run_puts view here.reached.steps here.reached.run here.reached.ghosts strings p here.tree.map x.fact x.trusted from ballot o seen serves (λ trusted. here.tree.says) comes.says comes.obeys found)
-          where
-            row : PhaseOut
-            row = row_22 x.fact x.trusted from ballot o seen
+          by_end : IsReplyToPut here.reached.ghosts (now c here.reached) strings p here.tree.map from ballot o row → Ends c (put_done row.then p from ballot o row x out next) (put_done row.then p from ballot o row x out mark) t notes
+          by_end (inl replies) = ignored_ends from ballot o row t over reply replies
+          by_end (inr (inl has)) = there_ends from ballot o row t over reply has
+          by_end (inr (inr takes)) = write_ends from ballot o row t over comes reply takes
 
-            reply : IsReply row
-            reply = row_22_replies x.fact x.trusted from ballot o seen sight
+      -- rule 22, Put
+      pub put_in_good : (from : ℕ) (ballot : Epoch) (o : Object) → MessageComes c from (messages.Put ballot o) (now c here.reached) → Ends c (delivered p from (messages.Put ballot o) x out next) (delivered p from (messages.Put ballot o) x out mark) h notes
+      put_in_good from ballot o comes = by_served (is_served x.fact x.trusted ballot)
+        where
+          replied : Rest PeerState (List Task) → Rest PeerState Seen
+          replied after seen y q = put_done (row_22 y.fact y.trusted from ballot o seen).then p from ballot o (row_22 y.fact y.trusted from ballot o seen) y q after
 
-            by_end : IsReplyToPut here.reached.ghosts (now c here.reached) strings p here.tree.map from ballot o row → Ends c (put_done row.then p from ballot o row x out next) (put_done row.then p from ballot o row x out mark) t notes
-            by_end (inl replies) = ignored_ends from ballot o row t over reply replies
-            by_end (inr (inl has)) = there_ends from ballot o row t over reply has
-            by_end (inr (inr takes)) = write_ends from ballot o row t over comes reply takes
-
-        -- rule 22, Put
-        pub put_in_good : (from : ℕ) (ballot : Epoch) (o : Object) → MessageComes c from (messages.Put ballot o) (now c here.reached) → Ends c (delivered p from (messages.Put ballot o) x out next) (delivered p from (messages.Put ballot o) x out mark) h notes
-        put_in_good from ballot o comes = by_served (is_served x.fact x.trusted ballot)
-          where
-            replied : Rest PeerState (List Task) → Rest PeerState Seen
-            replied after seen y q = put_done (row_22 y.fact y.trusted from ballot o seen).then p from ballot o (row_22 y.fact y.trusted from ballot o seen) y q after
-
-            by_served : (served : Bool) → Ends c (shown served (found o.key) x out (replied next)) (shown served (found o.key) x out (replied mark)) h notes
-            by_served true = found_ends c here answers o.key (replied next) (replied mark) (λ t over. put_row from ballot o (seens.Held (lookup o.key here.tree.map) None) t over tt refl (put_comes from ballot o comes))
-            by_served false = put_row from ballot o seens.Nothing h (nothing_read c here) tt tt (put_comes from ballot o comes)
+          by_served : (served : Bool) → Ends c (shown served (found o.key) x out (replied next)) (shown served (found o.key) x out (replied mark)) h notes
+          by_served true = found_ends c here o.key (replied next) (replied mark) (λ t over. put_row from ballot o (seens.Held (lookup o.key here.tree.map) None) t over tt refl (put_comes from ballot o comes))
+          by_served false = put_row from ballot o seens.Nothing h (nothing_read c here) tt tt (put_comes from ballot o comes)

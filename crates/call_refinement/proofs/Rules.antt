@@ -58,7 +58,7 @@ use Rattle.call_refinement.proofs.Obeying.{objects_obey, epochs_here}
 use Rattle.call_refinement.proofs.Sayings.{AskFits}
 use Rattle.call_refinement.proofs.Leaders.{at_work, own_peer, own_ballot, own_trust, own_accepted}
 use Rattle.call_refinement.proofs.Leading.{There, told_nothing, followed, stays_follows, tame_ends}
-use Rattle.call_refinement.proofs.Looking.{stores_answer, Over, over_here, Stored, write_here, fetched_ends, written_ends}
+use Rattle.call_refinement.proofs.Looking.{Over, over_here, Stored, write_here, fetched_ends, written_ends}
 use Rattle.call_refinement.proofs.Staying.{object_from}
 use Rattle.call_refinement.proofs.Tame.{NamesNext, IsTame, tame_28, tame_35}
 use Rattle.call_refinement.proofs.Tasks.{AreApart, AreIdle, idle_kept, looking_way, IsFetching, IsPutting, Half}
@@ -115,7 +115,7 @@ module _ (c : Scene) (grounds : Grounds c) where
       → AreApart key ts → AreIdle l.leader ts → (next mark : Rest PeerState (List Task)) → Onward c (There c ts) next mark
       → Ends c (fetched key (leading l x) out (λ seen z q. next (tasks.Again 28 key seen ∷ []) z q)) (fetched key (leading l x) out (λ seen z q. mark (tasks.Again 28 key seen ∷ []) z q)) h notes
   fetch_ends key ts h out notes l x here free rests_idle apart idle next mark go =
-      fetched_ends c here stores_answer key (λ seen z q. next (tasks.Again 28 key seen ∷ []) z q) (λ seen z q. mark (tasks.Again 28 key seen ∷ []) z q) (λ kept t over says.
+      fetched_ends c here key (λ seen z q. next (tasks.Again 28 key seen ∷ []) z q) (λ seen z q. mark (tasks.Again 28 key seen ∷ []) z q) (λ kept t over says.
       go (tasks.Again 28 key (seens.Kept kept) ∷ []) key (leading l x) t out notes (inr (half kept t over says)))
     where
       half : (kept : Option (Object × List ℕ)) (t : Held) → (over : Over c here t) → BackendSays here.reached.ghosts (now c here.reached) key (seens.Kept kept) → Half c 28 key (seens.Kept kept) ts (leading l x) t out notes
@@ -197,7 +197,7 @@ module _ (c : Scene) (grounds : Grounds c) where
     -- the object is put, and rule 35 runs again
     put_ends : (next mark : Rest PeerState (List Task)) → Onward c (There c ts) next mark
         → Ends c (written o (leading l x) out (λ seen z q. next (tasks.Again 35 o.key seen ∷ []) z q)) (written o (leading l x) out (λ seen z q. mark (tasks.Again 35 o.key seen ∷ []) z q)) h notes
-    put_ends next mark go = written_ends c here stores_answer few o (epoch_number l.leader.fact.epoch) (λ seen z q. next (tasks.Again 35 o.key seen ∷ []) z q) (λ seen z q. mark (tasks.Again 35 o.key seen ∷ []) z q) says obeys (λ t stored.
+    put_ends next mark go = written_ends c here few o (epoch_number l.leader.fact.epoch) (λ seen z q. next (tasks.Again 35 o.key seen ∷ []) z q) (λ seen z q. mark (tasks.Again 35 o.key seen ∷ []) z q) says obeys (λ t stored.
         go (tasks.Again 35 o.key (seens.Stored digest) ∷ []) key (leading l x) t out notes (inr (subst (λ k. Half c 35 k (seens.Stored digest) ts (leading l x) t out notes) (sym on_key) (stored_half t stored))))
 
   -- ## A task at hand

@@ -7,6 +7,7 @@ use Rattle.ens_base.specs.View.{IsPeer}
 use Rattle.ens_base.specs.declared.command.Command.{Command}
 use Rattle.abstract_protocol.specs.Book.{MayCall}
 use Rattle.abstract_protocol.specs.Protocol.{State, Step, Begin, Ask, opening, happens, IsRun, state_after}
+use Rattle.ens_outside.specs.declared.memory.failing_call.Leaves.{Leaves}
 use Rattle.entry_laws.proofs.Replies.{run_entries}
 use Rattle.network.specs.Mail.{MayBeSent, settled, goes, is_among, oldest, most_messages}
 use Rattle.peer_core.specs.Drives.{MayCome}
@@ -19,16 +20,17 @@ use Rattle.safety_laws.proofs.Noted.{run_listed}
 use Rattle.schedule_text.specs.Spelling.{MayStand, AllMayStand, call_ids}
 use Rattle.schedule_text.specs.declared.event.ScheduleEvent.{ScheduleEvent}
 use Rattle.schedule_text.specs.declared.event.ScheduleEvent.TheVariants as line
+use Rattle.schedule_text.specs.declared.keyword.StoreName.{StoreName}
 use Rattle.schedule_words.specs.Spelling.{IsAmong}
 use Rattle.wire_frames.specs.declared.frame.Frame.{Frame}
 use Rattle.world_spec.proofs.Growth.{IsFurther, further_same, further_later, ticked_grows, calmed_grows, counted_grows, run_grows, applied_same}
 use Rattle.world_spec.specs.Lines.{call_of, set_of, everyone, with_loss, effect, applied, run_from, run_of_schedule}
 use Rattle.world_spec.specs.Nodes.{Node, Taken, taken, stopped, over_stores, opening_node}
 use Rattle.world_spec.specs.Runs.{Run, opening_run, place_of, with_taken, stepped, stepped_at, changed, changed_at, ticked, received_if, delivered, delivered_if, going_on, calmed}
-use Rattle.world_spec.specs.Stores.{spoiled}
+use Rattle.world_spec.specs.Stores.{failing, leaves_of, spoiled}
 use Rattle.call_refinement.specs.Lines.{IsSteady, AreSteady, AreLegal, call_at, calls_from, BookAgrees, Within, Opens, StepAgrees, IsQuiet}
 use Rattle.call_refinement.proofs.Histories.{histories_are_legal_of}
-use Rattle.call_refinement.proofs.Intact.{IsIntact, is_peer, frame_comes, taken_intact, stopped_intact, spoiled_intact, alike_intact, opening_intact}
+use Rattle.call_refinement.proofs.Intact.{IsIntact, IsHarmless, stopped_harmless, over_harmless, is_peer, frame_comes, taken_intact, changed_intact, alike_intact, opening_intact}
 use Rattle.call_refinement.proofs.Lines.{begin_opens, ask_opens, opening_agrees, line_begins, taken_within, line_ends, alike_agrees, quiet_agrees}
 use Rattle.call_refinement.proofs.Places.{frame_at}
 
@@ -51,7 +53,7 @@ pub record AreAlike (w v : Run) : Type 0 where
   pub hashed : v.hashed ≡ w.hashed
 
 -- the peer takes a step on the event: its node is this one, the whole run goes on from the world after
--- the step, few events have begun, and no write of the peer is to fail
+-- the step, and few events have begun
 pub record TakesStep (whole : Run) (p : ℕ) (event : Event) (node : Node) (w : Run) (s : State) : Type 0 where
   pub at : slice_get w.nodes (place_of p) ≡ Some node
   pub further : IsFurther (with_taken p (taken p event node) w) whole
@@ -66,10 +68,10 @@ pub record GoesAlong (P : Run → State → Type 0) (p : ℕ) (t : Taken) (w : R
   pub holds : P (with_taken p t w) next
   pub agrees : StepAgrees t s.book next.book
 
--- the abstract protocol goes along with a change of a peer to this node, outside of a step
-pub record Changes (P : Run → State → Type 0) (p : ℕ) (node : Node) (w : Run) (s : State) : Type 0 where
+-- the abstract protocol goes along as the node of a peer becomes this one
+pub record Changes (P : Run → State → Type 0) (p : ℕ) (new : Node) (w : Run) (s : State) : Type 0 where
   pub next : State
-  pub holds : P (record w { nodes = slice_set w.nodes (place_of p) node }) next
+  pub holds : P (record w { nodes = slice_set w.nodes (place_of p) new }) next
   pub quiet : IsQuiet s.book next.book
 
 -- a call comes as the next event
@@ -77,7 +79,8 @@ abbrev pub next_call : State → ℕ → List ℕ → Command → Call
 next_call s id key command = record { id = id; key = key; command = command; event = s.book.now + 1 }
 
 -- A relation of worlds and states is carried through the lines of a steady schedule: through the begin
--- of an event, each step of a peer, each stop, and each change of what a backend keeps.
+-- of an event, each step of a peer, each stop, each change of what a backend keeps, and each failure that
+-- begins to wait.
 pub record IsCarried (peers : ℕ) (whole : Run) (P : Run → State → Type 0) : Type 0 where
   pub run : (w : Run) (s : State) → P w s → IsInRun s
   pub alike : (w v : Run) (s : State) → AreAlike w v → P w s → P v s
@@ -88,6 +91,7 @@ pub record IsCarried (peers : ℕ) (whole : Run) (P : Run → State → Type 0) 
       → TakesStep whole p (does.Call (call_of id key command)) node w (happens s (Ask (next_call s id key command))) → P w s → GoesAlong P p (taken p (does.Call (call_of id key command)) node) w (happens s (Ask (next_call s id key command)))
   pub stops : (p : ℕ) (node : Node) (w : Run) (s : State) → IsAmong peers p → slice_get w.nodes (place_of p) ≡ Some node → P w s → Changes P p (stopped node) w s
   pub spoils : (p : ℕ) (key : List ℕ) (bytes : Option (List ℕ)) (node : Node) (w : Run) (s : State) → IsAmong peers p → slice_get w.nodes (place_of p) ≡ Some node → P w s → Changes P p (over_stores (spoiled key bytes) node) w s
+  pub fails : (p : ℕ) (store : StoreName) (leaves : Leaves) (node : Node) (w : Run) (s : State) → IsAmong peers p → slice_get w.nodes (place_of p) ≡ Some node → P w s → Changes P p (over_stores (failing store leaves) node) w s
 
 -- ## Ids of calls
 
@@ -205,24 +209,17 @@ module _ (peers : ℕ) (whole : Run) (P : Run → State → Type 0) (carried : I
             let v = delivered m w in
             rest v far (delivered_reached m w (further_later v (calmed members n v) whole (calmed_grows members n v) far) a)
 
-    changed_reached : (p : ℕ) (change : Node → Node) (w : Run) → ((node : Node) (s : State) → slice_get w.nodes (place_of p) ≡ Some node → P w s → Changes P p (change node) w s)
-        → ((node : Node) → slice_get w.nodes (place_of p) ≡ Some node → IsIntact w → IsIntact (record w { nodes = slice_set w.nodes (place_of p) (change node) })) → Reached P events w → Reached P events (changed p change w)
-    changed_reached p change w along intact a = by_node (slice_get w.nodes (place_of p)) refl
+    changed_reached : (p : ℕ) (change : Node → Node) → IsAmong peers p → IsHarmless p change → ((node : Node) (w : Run) (s : State) → slice_get w.nodes (place_of p) ≡ Some node → P w s → Changes P p (change node) w s) → (w : Run) → Reached P events w → Reached P events (changed p change w)
+    changed_reached p change among harmless along w a = by_node (slice_get w.nodes (place_of p)) refl
       where
         by_change : (node : Node) → slice_get w.nodes (place_of p) ≡ Some node → Changes P p (change node) w a.state → Reached P events (record w { nodes = slice_set w.nodes (place_of p) (change node) })
         by_change node at g =
             let v : Run = record w { nodes = slice_set w.nodes (place_of p) (change node) } in
-            record { state = g.next; holds = g.holds; within = alike_agrees 1 events w v g.next.book refl refl refl (quiet_agrees 1 events w a.state.book g.next.book g.quiet a.within); intact = intact node at a.intact }
+            record { state = g.next; holds = g.holds; within = alike_agrees 1 events w v g.next.book refl refl refl (quiet_agrees 1 events w a.state.book g.next.book g.quiet a.within); intact = changed_intact change p node w harmless (is_peer peers p small among) at a.intact }
 
         by_node : (o : Option Node) → slice_get w.nodes (place_of p) ≡ o → Reached P events (changed_at o p change w)
         by_node None at = a
-        by_node (Some node) at = by_change node at (along node a.state at a.holds)
-
-    stopped_reached : (p : ℕ) → IsAmong peers p → (w : Run) → Reached P events w → Reached P events (changed p stopped w)
-    stopped_reached p among w a = changed_reached p stopped w (λ node s. carried.stops p node w s among) (λ node. stopped_intact p node w (is_peer peers p small among)) a
-
-    spoiled_reached : (p : ℕ) (key : List ℕ) (bytes : Option (List ℕ)) → IsAmong peers p → (w : Run) → Reached P events w → Reached P events (changed p (over_stores (spoiled key bytes)) w)
-    spoiled_reached p key bytes among w a = changed_reached p (over_stores (spoiled key bytes)) w (λ node s. carried.spoils p key bytes node w s among) (λ node. spoiled_intact p key bytes node w (is_peer peers p small among)) a
+        by_node (Some node) at = by_change node at (along node w a.state at a.holds)
 
   module _ (done : List ScheduleEvent) (event : ScheduleEvent) (few : length (done ++ event ∷ []) < 2 ^ 32) (w : Run) (a : IsAfter peers P done w) where
     -- a line without a call begins
@@ -286,14 +283,16 @@ module _ (peers : ℕ) (whole : Run) (P : Run → State → Type 0) (carried : I
       alike_reached (done ++ line.Lose sender receiver ∷ []) few w (with_loss sender receiver w) (record { view = refl; nodes = refl; sent = refl; printed = refl; notes = refl; hashed = refl }) refl (begun done (line.Lose sender receiver) few w a (λ n. refl))
   effect_reached done line.Calm few w a steady may fresh far = calmed_reached (done ++ line.Calm ∷ []) few everyone most_messages w far (begun done line.Calm few w a (λ n. refl))
   effect_reached done (line.CalmAmong members) few w a steady may fresh far = calmed_reached (done ++ line.CalmAmong members ∷ []) few (set_of members) most_messages w far (begun done (line.CalmAmong members) few w a (λ n. refl))
-  effect_reached done (line.Stop p) few w a steady may fresh far = stopped_reached (done ++ line.Stop p ∷ []) few p may w (begun done (line.Stop p) few w a (λ n. refl))
+  effect_reached done (line.Stop p) few w a steady may fresh far = changed_reached (done ++ line.Stop p ∷ []) few p stopped may (stopped_harmless p) (λ node v s. carried.stops p node v s may) w (begun done (line.Stop p) few w a (λ n. refl))
   effect_reached done (line.Change p view) few w a steady may fresh far = absurd steady
   effect_reached done (line.Start p) few w a steady may fresh far = absurd steady
-  effect_reached done (line.Spoil p key bytes) few w a steady may fresh far = spoiled_reached (done ++ line.Spoil p key bytes ∷ []) few p key bytes may.0 w (begun done (line.Spoil p key bytes) few w a (λ n. refl))
+  effect_reached done (line.Spoil p key bytes) few w a steady may fresh far = changed_reached (done ++ line.Spoil p key bytes ∷ []) few p (over_stores (spoiled key bytes)) may.0 (over_harmless (spoiled key bytes) p)
+      (λ node v s. carried.spoils p key bytes node v s may.0) w (begun done (line.Spoil p key bytes) few w a (λ n. refl))
   effect_reached done (line.Damage p key bytes) few w a steady may fresh far = absurd steady
   effect_reached done (line.Inner p level index bytes) few w a steady may fresh far = absurd steady
   effect_reached done (line.Revert p changes) few w a steady may fresh far = absurd steady
-  effect_reached done (line.Fail p store survivor) few w a steady may fresh far = absurd steady
+  effect_reached done (line.Fail p store survivor) few w a steady may fresh far = changed_reached (done ++ line.Fail p store survivor ∷ []) few p (over_stores (failing store (leaves_of survivor))) may (over_harmless (failing store (leaves_of survivor)) p)
+      (λ node v s. carried.fails p store (leaves_of survivor) node v s may) w (begun done (line.Fail p store survivor) few w a (λ n. refl))
 
   -- one line more
   pub applied_agrees : (done : List ScheduleEvent) (event : ScheduleEvent) (few : length (done ++ event ∷ []) < 2 ^ 32) (w : Run) → IsAfter peers P done w → IsSteady event → MayStand peers event → IsFresh done event → IsFurther (applied event w) whole → IsAfter peers P (done ++ event ∷ []) (applied event w)

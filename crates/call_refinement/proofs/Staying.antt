@@ -27,13 +27,12 @@ use Rattle.peer_fact.specs.declared.fact.Fact.{Fact}
 use Rattle.request_refinement.specs.Naming.{hash_of, object_of_version, VersionSays, EntrySays, EntryMaySay}
 use Rattle.request_refinement.specs.Replies.{MapSays}
 use Rattle.tree_refinement.specs.Trees.{AreAmong}
-use Rattle.tree_refinement.specs.Whole.{IsWhole}
 use Rattle.wire_frames.specs.declared.frame.Frame.{Frame}
 use Rattle.wire_frames.specs.declared.message.Message.{Message}
 use Rattle.wire_frames.specs.declared.message.Message.TheVariants as messages
 use Rattle.world_spec.specs.Nodes.{Node, Up, Down}
 use Rattle.call_refinement.proofs.Frame.{Elsewhere}
-use Rattle.call_refinement.specs.Peers.{AcksSay, PhaseFits, MessageFits, SendFits, FrameFits}
+use Rattle.call_refinement.specs.Peers.{IsUndamaged, AcksSay, PhaseFits, MessageFits, SendFits, FrameFits}
 use Rattle.call_refinement.specs.Worlds.{NodeFits, MessagesFit}
 
 -- ## Entries
@@ -83,12 +82,11 @@ module _ (s t : State) (strings : List (List ℕ)) (stay : EntriesStay s t) wher
 
 -- ## Peers
 
--- a tree stays whole while more strings are hashed
-pub whole_behind : (stores : HeldStores) (hashed more : List (List ℕ)) (m : List Entry) → AreAmong hashed more → IsWhole (held_with stores hashed) m → IsWhole (held_with stores more) m
+-- a tree stays undamaged while more strings are hashed
+pub whole_behind : (stores : HeldStores) (hashed more : List (List ℕ)) (m : List Entry) → AreAmong hashed more → IsUndamaged (held_with stores hashed) m → IsUndamaged (held_with stores more) m
 whole_behind stores hashed more m among w = record {
   shows = record { digest = w.shows.digest; top = w.shows.top; stands = w.shows.stands; texts = λ text node. among text (w.shows.texts text node) };
   stored = w.stored;
-  no_faults = w.no_faults;
 }
 
 -- from s to t nothing is taken from peer q

@@ -34,7 +34,7 @@ use Rattle.call_refinement.proofs.Behind.{behind, run_behind}
 use Rattle.call_refinement.proofs.Frame.{Scene, Elsewhere, Reached, Here, rest_task, EventComes, EndsBy}
 use Rattle.call_refinement.proofs.Giving.{owes, owed_all, AllGiven, all_given}
 use Rattle.call_refinement.proofs.Good.{StepGood, CallGood, asked_in}
-use Rattle.call_refinement.proofs.Obeying.{epochs_here}
+use Rattle.call_refinement.proofs.Obeying.{epochs_here, epochs_there}
 use Rattle.call_refinement.proofs.Lines.{with_answers, answers_in_front, answers_many, down_agrees}
 use Rattle.call_refinement.proofs.Moving.{elsewhere_none}
 use Rattle.call_refinement.proofs.Places.{get_put, number, apart, role_there, role_put, roles_same, said_posted, posted_all_hold}
@@ -78,22 +78,6 @@ module _ (view : List ℕ) (strings : List (List ℕ)) (p : ℕ) (peer : IsPeer 
   pub own_fits : (steps : List Step) (nodes : List Node) (sent : List Frame) (hashed : List (List ℕ)) (notes : List Note) (node : Node) → PartsHold view strings steps nodes sent hashed notes → slice_get nodes (place_of p) ≡ Some node → NodeFits view strings hashed (state_after view steps) p node
   own_fits steps nodes sent hashed notes node a at = subst (λ (q : ℕ). NodeFits view strings hashed (state_after view steps) q node) (number p peer) (a.nodes_fit (place_of p) node at)
 
-  -- the node of the peer changes, but not its role
-  pub kept_role : (steps : List Step) (nodes : List Node) (sent : List Frame) (hashed : List (List ℕ)) (notes : List Note) (node new : Node) → slice_get nodes (place_of p) ≡ Some node → role_of new ≡ role_of node → NodeFits view strings hashed (state_after view steps) p new
-      → PartsHold view strings steps nodes sent hashed notes → RolesFit view steps (roles_of nodes) sent
-      → PartsHold view strings steps (slice_set nodes (place_of p) new) sent hashed notes × RolesFit view steps (roles_of (slice_set nodes (place_of p) new)) sent
-  kept_role steps nodes sent hashed notes node new at same fits parts roles = (
-    parts_replaced steps steps nodes sent sent hashed hashed notes notes new parts parts.run (elsewhere_none p (state_after view steps)) parts.orderly parts.acks parts.epochs (λ x i. i) fits parts.messages parts.noted,
-    record {
-      ghosts = roles.ghosts;
-      hash = roles.hash;
-      hold = roles_same roles.ghosts (state_after view steps) (roles_of nodes) (roles_of (slice_set nodes (place_of p) new)) (said_in sent) (said_in sent) (λ q. sym (role_put nodes p peer node new at q ∙ unput q)) (λ m i. i) roles.hold;
-    },
-  )
-    where
-      unput : (q : ℕ) → put (roles_of nodes) p (role_of new) q ≡ roles_of nodes q
-      unput = put_then (roles_of nodes) p (role_of new) (λ (q : ℕ) (role : Role). role ≡ roles_of nodes q) (same ∙ sym (role_there nodes p peer node at)) (λ q other. refl)
-
   -- the messages that the peer sends
   sends_fit : (s : State) (sends : List Outgoing) → All (SendHolds s.objects.ledger p) sends → All (FrameHolds s.objects.ledger) (map (frame_from p) sends)
   sends_fit s sends hold = All-map (FrameHolds s.objects.ledger) (frame_from p) sends (All-weaker (SendHolds s.objects.ledger p) (λ o. FrameHolds s.objects.ledger (frame_from p o)) (λ o h. (peer, h)) sends hold)
@@ -111,6 +95,22 @@ module _ (view : List ℕ) (strings : List (List ℕ)) (p : ℕ) (peer : IsPeer 
           ((run_roles view steps parts.run).peer roles.ghosts (roles_of nodes) (said_in sent) p roles.hold).stops;
     },
   )
+
+  -- the node of the peer is another one, with the same role
+  pub renewed : (steps : List Step) (nodes : List Node) (sent : List Frame) (hashed : List (List ℕ)) (notes : List Note) (node new : Node) → slice_get nodes (place_of p) ≡ Some node → role_of new ≡ role_of node → NodeFits view strings hashed (state_after view steps) p new
+      → PartsHold view strings steps nodes sent hashed notes → RolesFit view steps (roles_of nodes) sent
+      → PartsHold view strings steps (slice_set nodes (place_of p) new) sent hashed notes × RolesFit view steps (roles_of (slice_set nodes (place_of p) new)) sent
+  renewed steps nodes sent hashed notes node new at same fits parts roles = (
+    parts_replaced steps steps nodes sent sent hashed hashed notes notes new parts parts.run (elsewhere_none p (state_after view steps)) parts.orderly parts.acks parts.epochs (λ x i. i) fits parts.messages parts.noted,
+    record {
+      ghosts = roles.ghosts;
+      hash = roles.hash;
+      hold = roles_same roles.ghosts (state_after view steps) (roles_of nodes) (roles_of (slice_set nodes (place_of p) new)) (said_in sent) (said_in sent) (λ q. sym (role_put nodes p peer node new at q ∙ still q)) (λ m i. i) roles.hold;
+    },
+  )
+    where
+      still : (q : ℕ) → put (roles_of nodes) p (role_of new) q ≡ roles_of nodes q
+      still = put_then (roles_of nodes) p (role_of new) (λ q role. role ≡ roles_of nodes q) (same ∙ sym (role_there nodes p peer node at)) (λ q other. refl)
 
 -- ## A step in a world
 
@@ -180,9 +180,29 @@ module _ (view : List ℕ) (strings : List (List ℕ)) (free : AreFree strings) 
       fits = own_fits view strings p peer steps w.nodes w.mail.sent w.hashed w.notes (Up x stores) holds.parts at
 
   module _ (before : List Step) (few : length (state_after view before).book.calls < 2 ^ 32) (parts : PartsHold view strings before w.nodes w.mail.sent w.hashed w.notes) (node : Node) (at : slice_get w.nodes (place_of p) ≡ Some node) where
-    -- the world after a step that ended well
+    -- the world after a step that ended well, or that a refusal ended
     ended_goes : (k : Ending PeerState) (held : Held) (ns : List Note) → EndsBy (scene before few parts.asked) k (behind w.hashed held) ns → All MayBeSent (with_taken p (taken_by k held ns) w).mail.sent → StepGoes before (taken_by k held ns)
-    ended_goes (Stopped error) held ns ends may = absurd ends
+    ended_goes (Stopped error) held ns ends may = record {
+      steps = ends.reached.steps;
+      holds = record {
+        parts = parts_replaced view strings p peer before ends.reached.steps w.nodes w.mail.sent w.mail.sent w.hashed (w.hashed ++ held.hashed) w.notes (w.notes ++ ns) (Down held.stores) parts ends.reached.run ends.reached.elsewhere ends.reached.orderly ends.reached.acks
+            (epochs_there (scene before few parts.asked) ends.reached ends.fact ends.saved ends.plain parts.epochs) (λ x i. in_left w.hashed held.hashed x i) (record { fact = ends.fact; kept = ends.kept; saved = ends.saved })
+            (messages_elsewhere view strings p (state_after view before) (state_after view ends.reached.steps) w.mail.sent ends.reached.elsewhere parts.messages) (ends.noted ∙ ap (λ (notes : List Note). notes ++ ns) parts.noted);
+        roles = record {
+          ghosts = ends.reached.ghosts;
+          hash = ends.reached.hash;
+          hold = roles_same ends.reached.ghosts (state_after view ends.reached.steps) (put (roles_of w.nodes) p (Follows [])) (roles_of (slice_set w.nodes (place_of p) (Down held.stores))) (said_in w.mail.sent) (said_in w.mail.sent)
+              (λ q. sym (role_put w.nodes p peer node (Down held.stores) at q)) (λ m i. i) ends.roles;
+        };
+      };
+      agrees = record {
+        now = ends.reached.elsewhere.now;
+        calls = ends.reached.elsewhere.calls;
+        notes = ends.noted;
+        answers = subst (λ (all : List Answer). AreSame all (state_after view before).book.answers) (sym ends.reached.elsewhere.answers) (λ a. (λ i. i, λ i. i));
+        many = ap (λ (all : List Answer). length all) ends.reached.elsewhere.answers ∙ answers_many (state_after view before).book.now [] (state_after view before).book.answers;
+      };
+    }
     ended_goes (Finished y out) held ns ends may = record {
       steps = given.steps;
       holds = record {

@@ -16,8 +16,8 @@ use Rattle.world_spec.specs.Runs.{Run}
 
 -- ## Calls and answers of a schedule
 
--- a line of a steady schedule: peers neither start nor change the view, no tree is damaged, and no
--- write fails; what a backend keeps may change
+-- a line of a steady schedule: peers neither start nor change the view, and no tree is damaged; but what
+-- a backend keeps may change, and writes may fail
 abbrev pub IsSteady : ScheduleEvent → Type 0
 IsSteady (line.Call peer id key command) = Unit {0}
 IsSteady (line.Tick peer ticks) = Unit {0}
@@ -28,6 +28,7 @@ IsSteady line.Calm = Unit {0}
 IsSteady (line.CalmAmong members) = Unit {0}
 IsSteady (line.Stop peer) = Unit {0}
 IsSteady (line.Spoil peer key bytes) = Unit {0}
+IsSteady (line.Fail peer store survivor) = Unit {0}
 IsSteady other = ⊥
 
 abbrev pub AreSteady : List ScheduleEvent → Type 0

@@ -21,12 +21,22 @@ use Rattle.wire_frames.specs.declared.message.Message.{Message}
 use Rattle.wire_frames.specs.declared.message.Message.TheVariants as messages
 use Rattle.request_refinement.specs.Naming.{VersionSays, EntryMaySay}
 use Rattle.request_refinement.specs.Replies.{MapSays}
-use Rattle.tree_refinement.specs.Whole.{IsWhole}
+use Rattle.tree_maps.specs.Forms.{root}
+use Rattle.tree_maps.specs.Maps.{IsNode}
+use Rattle.tree_maps.specs.Sixteen.{sixteen}
+use Rattle.tree_refinement.specs.Trees.{Shows}
+use Rattle.tree_refinement.specs.Whole.{IsStored}
+
+-- the tree of the peer shows the map, and each node of the map is stored; failures may wait in the
+-- stores
+pub record IsUndamaged (h : Held) (m : List Entry) : Type 0 where
+  pub shows : Shows h m
+  pub stored : (node : List ℕ) → IsNode sixteen sixteen.depth root m node → IsStored h.stores.tree.store.entries node
 
 -- the tree of peer q shows a map without damage, and the map is that of the protocol
 pub record TreeHolds (s : State) (strings : List (List ℕ)) (q : ℕ) (h : Held) : Type 0 where
   pub map : List Entry
-  pub whole : IsWhole h map
+  pub whole : IsUndamaged h map
   pub says : MapSays s strings q map
 
 -- each version that a peer acknowledged says what holds; so its object was hashed

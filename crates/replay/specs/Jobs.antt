@@ -43,8 +43,8 @@ HasLegalHistories s = (histories : List History) → AreHistories (schedule_run 
 abbrev pub HasCausedAnswers : Schedule → Type 0
 HasCausedAnswers s = HaveCauses s.events (schedule_run s).printed (schedule_run s).notes
 
--- So it is with a schedule whose lines only call, tick, deliver, pass, lose, calm, stop and spoil, if
--- the hasher kept nothing before.
+-- So it is with a schedule whose lines only call, tick, deliver, pass, lose, calm, stop, spoil and fail,
+-- if the hasher kept nothing before.
 abbrev pub IsLegalIfSteady : Account → Schedule → Type 0
 IsLegalIfSteady first s = AreSteady s.events → first.kept ≡ Some [] → HasLegalHistories s × HasCausedAnswers s
 
