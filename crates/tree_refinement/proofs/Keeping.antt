@@ -43,22 +43,22 @@ either_way P None goes fails p q = p
 either_way P (Some leaves) goes fails p q = q leaves
 
 -- what holds of each fact keeper holds after a save, and likewise for the objects after a put
-after_saving : (fact : Fact) (h : Held) (P : Held → Type 0) → ((facts : HeldFact) → P (with_facts facts h)) → P (answered (Save fact) h).held
+pub after_saving : (fact : Fact) (h : Held) (P : Held → Type 0) → ((facts : HeldFact) → P (with_facts facts h)) → P (answered (Save fact) h).held
 after_saving fact h P holds = either_way (λ (a : Answered (Save fact)). P a.held) h.stores.facts.faults.pending (record { result = Ok tt; held = with_facts (record h.stores.facts { kept = Some fact }) h })
     (λ leaves. record { result = Err StoreFault; held = with_facts (facts_failed h.stores.facts (record h.stores.facts { kept = Some fact }) leaves) h })
     (holds (record h.stores.facts { kept = Some fact })) (λ leaves. holds (facts_failed h.stores.facts (record h.stores.facts { kept = Some fact }) leaves))
 
-after_putting : (key bytes : List ℕ) (h : Held) (P : Held → Type 0) → ((objects : Objects) → P (with_backend objects h)) → P (answered (Put key bytes) h).held
+pub after_putting : (key bytes : List ℕ) (h : Held) (P : Held → Type 0) → ((objects : Objects) → P (with_backend objects h)) → P (answered (Put key bytes) h).held
 after_putting key bytes h P holds = either_way (λ (a : Answered (Put key bytes)). P a.held) h.stores.backend.faults.pending (record { result = Ok tt; held = with_backend (record h.stores.backend { entries = with_value key bytes h.stores.backend.entries }) h })
     (λ leaves. record { result = Err StoreFault; held = with_backend (objects_failed h.stores.backend (record h.stores.backend { entries = with_value key bytes h.stores.backend.entries }) leaves) h })
     (holds (record h.stores.backend { entries = with_value key bytes h.stores.backend.entries })) (λ leaves. holds (objects_failed h.stores.backend (record h.stores.backend { entries = with_value key bytes h.stores.backend.entries }) leaves))
 
 -- a tree with the same root shows the same map, after any walk
-still_shows : {A : Type 0} (p : Plan A) (h : Held) (m : List Entry) → Shows h m → Shows (with_tree h.stores.tree.top (walked p h) h) m
+pub still_shows : {A : Type 0} (p : Plan A) (h : Held) (m : List Entry) → Shows h m → Shows (with_tree h.stores.tree.top (walked p h) h) m
 still_shows p h m shows = record { digest = shows.digest; top = shows.top; stands = shows.stands; texts = λ x n. walk_grows p h.stores.tree.store h.hashed x (shows.texts x n) }
 
 -- strings without clashes are apart from the nodes of a map that was hashed
-apart_of : (strings now hashed xs : List (List ℕ)) (m : List Entry) → AreFree strings → AreAmong now strings → now ≡ hashed ++ xs → ((x : List ℕ) → IsNode sixteen sixteen.depth root m x → x ∈ hashed) → AreApart xs sixteen sixteen.depth root m
+pub apart_of : (strings now hashed xs : List (List ℕ)) (m : List Entry) → AreFree strings → AreAmong now strings → now ≡ hashed ++ xs → ((x : List ℕ) → IsNode sixteen sixteen.depth root m x → x ∈ hashed) → AreApart xs sixteen sixteen.depth root m
 apart_of strings now hashed xs m free among grew texts x y i n e =
     free x y (among x (subst (λ zs. x ∈ zs) (sym grew) (in_right x hashed xs i))) (among y (subst (λ zs. y ∈ zs) (sym grew) (in_left y hashed xs (texts y n)))) e
 

@@ -8,3 +8,6 @@ pub mod Scanning
 pub mod Storing
 pub mod Recording
 pub mod Whole
+pub mod LastWrites
+pub mod Tops
+pub mod Damage

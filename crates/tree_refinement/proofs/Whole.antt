@@ -168,15 +168,15 @@ still_whole p h m only shows whole =
       no_faults = record { facts = whole.no_faults.facts; backend = whole.no_faults.backend; tree = ap (λ (s : Nodes). s.faults.pending) stay ∙ whole.no_faults.tree };
     }
 
-get_only : (top : Option (List ℕ)) (key : List ℕ) → OnlyReads (get_plan sixteen top key)
+pub get_only : (top : Option (List ℕ)) (key : List ℕ) → OnlyReads (get_plan sixteen top key)
 get_only None key = (tt, λ a. tt)
 get_only (Some digest) key = get_reads sixteen digest key
 
-node_only : (top : Option (List ℕ)) (at : Position) → OnlyReads (node_plan sixteen top at)
+pub node_only : (top : Option (List ℕ)) (at : Position) → OnlyReads (node_plan sixteen top at)
 node_only None at = tt
 node_only (Some digest) at = node_reads sixteen digest at
 
-scan_only : (top : Option (List ℕ)) → OnlyReads (scan_plan sixteen top)
+pub scan_only : (top : Option (List ℕ)) → OnlyReads (scan_plan sixteen top)
 scan_only top = comes_reads (scan_plan sixteen top) (scan_comes sixteen sixteen.depth (slot root top ∷ []))
 
 pub keeps : KeepsWhole

@@ -1,4 +1,5 @@
 ghost use Rattle.tree_refinement.specs.Laws.{FindsEntries, ReadsNodes, ScansMaps, EntersEntries, MakesEmpty, InstallsMaps, KeepsMaps, KeepsHashed, HashesBytes, KeepsStores};
+ghost use Rattle.tree_refinement.specs.Tops.{EntersTops, InstallsTops, MakesTops, OpensMaps, KeepsTops};
 ghost use Rattle.tree_refinement.specs.Whole.{FindsAll, ReadsAll, ScansAll, EntersAll, InstallsWhole, MakesWhole, OpensWhole, KeepsWhole, KeepsRecord, ServesOthers};
 
 /// What each call answers, and what it does, if the tree of the peer shows a map: `finds`, `reads`
@@ -36,4 +37,15 @@ pub fn whole_trees_have_no_damage()
     ensures keeps { KeepsWhole }
     ensures records { KeepsRecord }
     ensures serves { ServesOthers }
+{}
+
+/// What each call does to the top records: an entering, a building and a fresh start write one that
+/// names the new map; where that write is refused, there is one more record, or none. An opened tree
+/// shows the map that the top record names. The other calls write no top record.
+pub fn top_records_name_maps()
+    ensures enters { EntersTops }
+    ensures installs { InstallsTops }
+    ensures makes { MakesTops }
+    ensures opens { OpensMaps }
+    ensures keeps { KeepsTops }
 {}

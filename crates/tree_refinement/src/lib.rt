@@ -13,8 +13,13 @@
 //! stored under its MD5, and no failure waits in the stores of the peer. Then no call meets damage
 //! or is refused, and the tree stays so. The top record names the root, and an opening takes it from
 //! there.
+//!
+//! `specs/Tops` has what each call does to the list of the top records, in any state of the nodes and
+//! also where the write of the top record is refused: an entering that meets no damage and a new tree
+//! add one record, which names the new map, and where the write is refused that record is added or
+//! none is. An opened tree shows the map that the top record names, and no other call adds a record.
 #![tactic(auto)]
 
 mod laws;
 
-pub use laws::{calls_keep_the_map, whole_trees_have_no_damage};
+pub use laws::{calls_keep_the_map, top_records_name_maps, whole_trees_have_no_damage};

@@ -1,0 +1,78 @@
+-- The top records of a tree over nodes in memory, and what each call does to them.
+use Rattle.std.specs.Prelude.{◌≡◌, ◌<◌, ◌^◌, ◌⊎◌, ℕ, List, [], ◌∷◌, ◌++◌, Result, Ok, Err, Some, length}
+use Rattle.ens_base.specs.declared.entry.Entry.{Entry}
+use Rattle.ens_base.specs.Lists.{◌∈◌}
+use Rattle.ens_fields.specs.Entries.{IsEntry}
+use Rattle.held_stores.specs.Answers.{answered}
+use Rattle.held_stores.specs.Held.{Held, HeldStores}
+use Rattle.step_plans.specs.Calls.{Call, FreshTree, OpenTree, Enter, Install}
+use Rattle.step_plans.specs.declared.error.PeerError.{PeerError}
+use Rattle.step_plans.specs.declared.error.PeerError.TheVariants.{StoreFault}
+use Rattle.step_plans.specs.declared.walked.Walked.{Walked}
+use Rattle.step_plans.specs.declared.walked.Walked.TheVariants.{Reached, Broken}
+use Rattle.tree_maps.specs.Entries.{IsMap, put}
+use Rattle.tree_maps.specs.Forms.{root}
+use Rattle.tree_maps.specs.Maps.{IsNode, Stands}
+use Rattle.tree_maps.specs.Sixteen.{sixteen}
+use Rattle.world_stores.specs.Nodes.{top_of}
+use Rattle.tree_refinement.specs.Laws.{KeepsRoot}
+use Rattle.tree_refinement.specs.Trees.{AreAmong, AreFree, Shows}
+use Rattle.tree_refinement.specs.Whole.{IsRecorded}
+
+-- what the writes of the top record wrote, the oldest first
+abbrev pub tops_of : HeldStores → List (List ℕ)
+tops_of s = s.tree.store.tops
+
+-- the map stands under the digest, and the text of each of its nodes was hashed
+pub record IsNamed (hashed : List (List ℕ)) (digest : List ℕ) (m : List Entry) : Type 0 where
+  pub stands : Stands sixteen digest m
+  pub texts : (node : List ℕ) → IsNode sixteen sixteen.depth root m node → node ∈ hashed
+
+-- one more top record was written, and it names the map
+pub record NamesNext (m : List Entry) (h t : Held) : Type 0 where
+  pub digest : List ℕ
+  pub tops : tops_of t.stores ≡ tops_of h.stores ++ digest ∷ []
+  pub named : IsNamed t.hashed digest m
+
+-- the tree shows the map that the next top record names
+pub record IsWritten (m : List Entry) (h t : Held) : Type 0 where
+  pub next : NamesNext m h t
+  pub shows : Shows t m
+  pub recorded : IsRecorded t
+
+-- a write of the tree was refused: no top record was written, or one that names the map
+abbrev pub IsTorn : List Entry → Held → PeerError → Held → Type 0
+IsTorn m h e t = (e ≡ StoreFault) × ((tops_of t.stores ≡ tops_of h.stores) ⊎ NamesNext m h t)
+
+-- how an entering ends, also where a position of the path does not verify
+abbrev pub HasEntered : Entry → List Entry → Held → Result (Walked (Unit {0})) PeerError → Held → Type 0
+HasEntered e m h (Ok (Reached done)) t = IsWritten (put e m) h t
+HasEntered e m h (Ok (Broken at)) t = Shows t m × (tops_of t.stores ≡ tops_of h.stores)
+HasEntered e m h (Err error) t = IsTorn (put e m) h error t
+
+abbrev pub EntersTops : Type 0
+EntersTops = (strings : List (List ℕ)) (h : Held) (m : List Entry) (e : Entry) → AreFree strings → AreAmong (answered (Enter e) h).held.hashed strings → Shows h m → IsEntry e → length (put e m) < 2 ^ 32 → HasEntered e m h (answered (Enter e) h).result (answered (Enter e) h).held
+
+-- how a tree is built, from all its entries
+abbrev pub HasBuilt : List Entry → Held → Result (Unit {0}) PeerError → Held → Type 0
+HasBuilt m h (Ok done) t = IsWritten m h t
+HasBuilt m h (Err error) t = IsTorn m h error t
+
+abbrev pub InstallsTops : Type 0
+InstallsTops = (h : Held) (entries : List Entry) → IsMap entries → HasBuilt entries h (answered (Install entries) h).result (answered (Install entries) h).held
+
+abbrev pub MakesTops : Type 0
+MakesTops = (h : Held) → HasBuilt [] h (answered FreshTree h).result (answered FreshTree h).held
+
+-- an opened tree shows the map that the top record names
+pub record HasOpened (m : List Entry) (h t : Held) : Type 0 where
+  pub shows : Shows t m
+  pub recorded : IsRecorded t
+  pub tops : tops_of t.stores ≡ tops_of h.stores
+
+abbrev pub OpensMaps : Type 0
+OpensMaps = (h : Held) (m : List Entry) (digest : List ℕ) → top_of (tops_of h.stores) ≡ Some digest → IsNamed h.hashed digest m → ((answered OpenTree h).result ≡ Ok tt) × HasOpened m h (answered OpenTree h).held
+
+-- a call that gives the tree no other root writes no top record, and leaves the root recorded
+abbrev pub KeepsTops : Type 0
+KeepsTops = (call : Call) (h : Held) → KeepsRoot call → (tops_of (answered call h).held.stores ≡ tops_of h.stores) × (IsRecorded h → IsRecorded (answered call h).held)
