@@ -1,0 +1,15 @@
+pub mod Maps
+pub mod Gives
+pub mod Asks
+pub mod Scans
+pub mod Starts
+pub mod Resumes
+pub mod Counting
+pub mod Setting
+pub mod Takes
+pub mod Assembled
+pub mod Ends
+pub mod Firsts
+pub mod Merging
+pub mod Ranks
+pub mod Staying

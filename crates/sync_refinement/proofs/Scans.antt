@@ -1,0 +1,67 @@
+-- What a scan found, as the theory sees it.
+use Rattle.std.proofs.Common.{◌≡◌, ◌⊎◌, ℕ, Bool, true, false, not, List, [], ◌∷◌, Option, None, Some, filter, refl, ap, sym, ◌∙◌, subst}
+use Rattle.ens_base.specs.Lists.{◌∈◌}
+use Rattle.ens_base.specs.declared.entry.Entry.{Entry}
+use Rattle.exchange.proofs.Having.{from_filter}
+use Rattle.exchange.specs.Covers.{PassesAny, IsOwn}
+use Rattle.leader_refinement.specs.Seen.{entry_rank}
+use Rattle.request_refinement.proofs.Lookups.{lookup_in, lookup_key}
+use Rattle.sync_laws.specs.Trees.{IsScan}
+use Rattle.sync_rule.specs.Syncs.{is_none}
+use Rattle.tree_maps.proofs.Parts.{find-part, ascends-part}
+use Rattle.tree_maps.specs.Entries.{Ascends, lookup}
+use Rattle.tree_maps.specs.Paths.{node_of}
+use Rattle.tree_maps.specs.Sixteen.{sixteen}
+use Rattle.tree_node.specs.declared.body.Scan.{Scan}
+use Rattle.tree_node.specs.declared.position.Position.{Position}
+use Rattle.tree_verify.specs.Scans.{lost}
+use Rattle.sync_refinement.specs.Seen.{ranks, seen_tree, seen_scan}
+use Rattle.sync_refinement.specs.Syncs.{IsScanOf}
+use Rattle.sync_refinement.proofs.Maps.{both_ways, true_not, not_true, in_filter, passes_of_any, lost_is_any}
+
+-- a scan without damage lost no key
+pub clean_keeps : (damaged : List Position) (k : List ℕ) → not (is_none damaged) ≡ false → lost sixteen damaged k ≡ false
+clean_keeps [] k h = refl
+clean_keeps (p ∷ ps) k h = absurd (both_ways true refl h)
+
+module _ (m : List Entry) (scan : Scan) (is : IsScanOf m scan) where
+  -- whether the scan found the key
+  abbrev is_kept : List ℕ → Bool
+  is_kept key = not (lost sixteen scan.damaged key)
+
+  -- the entries of a scan ascend
+  pub scan_ascends : Ascends scan.entries
+  scan_ascends = subst Ascends (sym is.entries) (ascends-part is_kept m is.is_map.ascends)
+
+  -- each entry that it found is one of the map
+  pub scan_among : (e : Entry) → e ∈ scan.entries → e ∈ m
+  scan_among e at = (from_filter (λ (x : Entry). is_kept x.key) e m (subst (λ (es : List Entry). e ∈ es) is.entries at)).0
+
+  -- a key that is not lost has the version of the map
+  pub scan_entries : (k : List ℕ) → lost sixteen scan.damaged k ≡ false → ranks scan.entries k ≡ ranks m k
+  scan_entries k kept = subst (λ (es : List Entry). ranks es k ≡ ranks m k) (sym is.entries) (sym (ap entry_rank (find-part is_kept k (true_not (lost sixteen scan.damaged k) kept) m)))
+
+  -- a key that is lost has none
+  pub scan_lost : (k : List ℕ) → lost sixteen scan.damaged k ≡ true → ranks scan.entries k ≡ 0
+  scan_lost k gone = subst (λ (es : List Entry). ranks es k ≡ 0) (sym is.entries) (by_entry (lookup k (filter (λ (e : Entry). is_kept e.key) m)) refl)
+    where
+      no : (e : Entry) → lookup k (filter (λ (e : Entry). is_kept e.key) m) ≡ Some e → ⊥
+      no e found =
+          let there = from_filter (λ (x : Entry). is_kept x.key) e m (lookup_in k (filter (λ (x : Entry). is_kept x.key) m) e found) in
+          both_ways (lost sixteen scan.damaged k) gone (subst (λ (j : List ℕ). lost sixteen scan.damaged j ≡ false) (lookup_key k (filter (λ (x : Entry). is_kept x.key) m) e found) (not_true (lost sixteen scan.damaged e.key) there.1))
+
+      by_entry : (o : Option Entry) → lookup k (filter (λ (e : Entry). is_kept e.key) m) ≡ o → entry_rank o ≡ 0
+      by_entry None found = refl
+      by_entry (Some e) found = absurd (no e found)
+
+  -- it is a scan of the tree that shows the map
+  pub scan_found : IsScan (seen_tree m) (seen_scan scan)
+  scan_found = record { entries = scan_entries; lost = scan_lost; whole = λ whole k. clean_keeps scan.damaged k whole; verifies = λ whole. refl }
+
+  -- the own scan, and the own node if there was one, as an ask takes them
+  pub scan_own : (own : Option (List ℕ)) (at : Position) → (own ≡ None) ⊎ (own ≡ node_of sixteen at m) → IsOwn own scan at m
+  scan_own own at node = record { is_map = is.is_map; node = node; scanned = λ e inside free. scanned e inside free (lost sixteen scan.damaged e.key) refl; positions = is.positions }
+    where
+      scanned : (e : Entry) → e ∈ m → ¬ PassesAny e.key scan.damaged → (b : Bool) → lost sixteen scan.damaged e.key ≡ b → e ∈ scan.entries
+      scanned e inside free true gone = absurd (free (passes_of_any e.key scan.damaged (sym (lost_is_any e.key scan.damaged) ∙ gone)))
+      scanned e inside free false kept = subst (λ (es : List Entry). e ∈ es) (sym is.entries) (in_filter (λ (x : Entry). is_kept x.key) e m inside (true_not (lost sixteen scan.damaged e.key) kept))

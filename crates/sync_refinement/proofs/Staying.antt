@@ -1,0 +1,106 @@
+-- What is said of versions, entries, trees, syncs and gives stays so in later states.
+use Rattle.std.proofs.Common.{◌≡◌, ℕ, Bool, true, List, Option, sym, ap, ◌∙◌, subst, le_trans}
+use Rattle.abstract_protocol.specs.Numbers.{epoch_number}
+use Rattle.abstract_protocol.specs.Objects.{Map}
+use Rattle.abstract_protocol.specs.Protocol.{State}
+use Rattle.ens_base.specs.Lists.{◌∈◌}
+use Rattle.ens_base.specs.declared.entry.Entry.{Entry}
+use Rattle.ens_base.specs.declared.epoch.Epoch.{Epoch}
+use Rattle.ens_base.specs.declared.epoch.Version.{Version}
+use Rattle.ens_object.specs.Objects.{IsObject, object_spelling}
+use Rattle.ens_object.specs.declared.object.Object.{Object}
+use Rattle.entry_laws.specs.Stays.{EntriesStay}
+use Rattle.exchange.specs.declared.question.Question.{Question}
+use Rattle.leader_refinement.specs.Seen.{rank}
+use Rattle.md5.specs.Md5.{md5}
+use Rattle.peer_fact.specs.declared.fact.Fact.{Fact}
+use Rattle.request_refinement.specs.Naming.{object_of_version, VersionSays, EntrySays}
+use Rattle.running_sync.specs.Running.{Running}
+use Rattle.sync_laws.proofs.Peers.{sync_stays, give_stays}
+use Rattle.sync_laws.specs.Facts.{Lines}
+use Rattle.tree_node.specs.declared.body.TreeBody.{TreeBody}
+use Rattle.tree_node.specs.declared.body.TreeBody.TheVariants as bodies
+use Rattle.sync_refinement.specs.Laws.{SyncsStay}
+use Rattle.sync_refinement.specs.Seen.{ranks, seen_fact, seen_tree, seen_sync}
+use Rattle.sync_refinement.specs.Syncs.{EntriesSay, TreeSays, MayReturn, SyncSays, GiveShows, GiveFits}
+
+-- ## Versions and entries
+
+-- an object from its parts
+pub object_from : (o : Object) (stamp : Version) (key : List ℕ) (value : Option (List ℕ)) → stamp ≡ o.stamp → key ≡ o.key → value ≡ o.value → (let made : Object = record { version = o.version; stamp = stamp; key = key; value = value } in made) ≡ o
+object_from o stamp key value a b c = λ i. record { version = o.version; stamp = a i; key = b i; value = c i }
+
+module _ (s t : State) (strings : List (List ℕ)) (stay : EntriesStay s t) where
+  -- the object of a version is the same in both states
+  same_object : (v : Version) → s.objects.proposed (rank v) ≡ true → object_of_version s v ≡ object_of_version t v
+  same_object v proposed = sym (object_from (object_of_version s v) (t.book.stamp (rank v)) (t.objects.key (rank v)) (t.book.content (rank v)) (stay.stamp (rank v) proposed) (stay.versions.key (rank v) proposed) (stay.content (rank v) proposed))
+
+  -- so a version says what it said
+  pub version_stays : (v : Version) → VersionSays s strings v → VersionSays t strings v
+  version_stays v says = record {
+    proposed = stay.versions.proposed (rank v) says.proposed;
+    object = subst IsObject (same_object v says.proposed) says.object;
+    hashed = subst (λ (x : Object). object_spelling x ∈ strings) (same_object v says.proposed) says.hashed;
+  }
+
+  -- so does an entry
+  pub entry_stays : (e : Entry) → EntrySays s strings e → EntrySays t strings e
+  entry_stays e says = record {
+    version = version_stays e.version says.version;
+    key = says.key ∙ sym (stay.versions.key (rank e.version) says.version.proposed);
+    digest = says.digest ∙ ap (λ (x : Object). md5 (object_spelling x)) (same_object e.version says.version.proposed);
+  }
+
+  -- and all entries of a map
+  pub entries_stay : (m : List Entry) → EntriesSay s strings m → EntriesSay t strings m
+  entries_stay m say e i = entry_stays e (say e i)
+
+  -- a tree that shows what it showed says what it said
+  pub tree_says_stay : (q : ℕ) (m : List Entry) → t.objects.visible q ≡ s.objects.visible q → TreeSays s strings q m → TreeSays t strings q m
+  tree_says_stay q m same says = record { entries = entries_stay m says.entries; visible = λ k. ap (λ (f : Map). f k) same ∙ says.visible k }
+
+  -- a map that a tree may be put back to stays such a map
+  pub return_stays : (q : ℕ) (m : List Entry) → MayReturn s strings q m → MayReturn t strings q m
+  return_stays q m may = record { entries = entries_stay m may.entries; reached = λ e i. le_trans (may.reached e i) (stay.versions.ledger.ballot q) }
+
+  -- ## Syncs and gives
+
+  module _ (g : Lines) where
+    -- what a sync says
+    pub sync_says_stay : (p : ℕ) (fact : Fact) (trusted : Bool) (m : List Entry) (r : Running) → s.objects.ledger.ballot p ≡ epoch_number fact.ballot → SyncSays g s strings p fact trusted m r → SyncSays g t strings p fact trusted m r
+    sync_says_stay p fact trusted m r stands says = record {
+      me = says.me;
+      trust = says.trust;
+      view = says.view;
+      scan = says.scan;
+      hashed = says.hashed;
+      distinct = says.distinct;
+      others = says.others;
+      sources = says.sources;
+      received = λ a i. entries_stay a.ask.received (says.received a i);
+      holds = sync_stays g s.objects t.objects stay.versions p (seen_fact fact) (seen_tree m) trusted (seen_sync r) stands says.holds;
+    }
+
+    -- what a source showed
+    pub give_shows_stay : (q : ℕ) (ballot : Epoch) (question : Question) (trusted : Bool) (body : TreeBody) → GiveShows g s strings q ballot question trusted body → GiveShows g t strings q ballot question trusted body
+    give_shows_stay q ballot question trusted body shows = record {
+      map = shows.map;
+      is_map = shows.is_map;
+      body_is = shows.body_is;
+      hashed = shows.hashed;
+      entries = entries_stay shows.map shows.entries;
+      says = give_stays g s.objects t.objects stay.versions q (epoch_number ballot) trusted (ranks shows.map) shows.says;
+    }
+
+    -- and what it sent, which may be a report of damage
+    pub give_fits_stay : (q : ℕ) (ballot : Epoch) (question : Question) (trusted : Bool) (body : TreeBody) → GiveFits g s strings q ballot question trusted body → GiveFits g t strings q ballot question trusted body
+    give_fits_stay q ballot question trusted (bodies.Damaged at) fits = tt
+    give_fits_stay q ballot question trusted body fits = give_shows_stay q ballot question trusted body fits
+
+-- what syncs and gives say, and what may return, stays so
+pub stays : (g : Lines) (s t : State) → EntriesStay s t → SyncsStay g s t
+stays g s t stay = record {
+  syncs = λ strings. sync_says_stay s t strings stay g;
+  gives = λ strings. give_fits_stay s t strings stay g;
+  returns = λ strings. return_stays s t strings stay;
+}

@@ -1,0 +1,179 @@
+-- A sync takes what a source sends.
+use Rattle.std.proofs.Common.{◌≡◌, ◌⊎◌, ℕ, Bool, true, false, not, ◌&&◌, List, [], ◌∷◌, ◌++◌, Option, None, Some, arith, refl, ap, sym, ◌∙◌, subst, inl, inr}
+use Rattle.std.specs.Prelude.{◌==◌, slice_get, slice_set, if◌then◌else◌}
+use Rattle.std.proofs.lemmas.Bool.{and_parts}
+use Rattle.std.proofs.lemmas.Bool.Decides.{nat_tests}
+use Rattle.std.proofs.lemmas.Option.{slice_get_within, get_or_from_slice_get}
+use Rattle.abstract_protocol.specs.Numbers.{epoch_number}
+use Rattle.abstract_protocol.specs.Protocol.{State, Step, IsRun, state_after}
+use Rattle.ens_base.specs.Lists.{◌∈◌}
+use Rattle.ens_base.specs.declared.entry.Entry.{Entry}
+use Rattle.ens_base.specs.declared.epoch.Epoch.{Epoch}
+use Rattle.exchange.specs.Asked.{Asked}
+use Rattle.exchange.specs.Asks.{taken}
+use Rattle.exchange.specs.Covers.{AreApart}
+use Rattle.exchange.specs.declared.question.Question.{Question}
+use Rattle.exchange.specs.declared.step.Step.{Step as Reply}
+use Rattle.exchange.specs.declared.step.Step.TheVariants as steps
+use Rattle.joint_views.specs.Quorums.{is_in}
+use Rattle.peer_fact.specs.declared.fact.Fact.{Fact}
+use Rattle.phase_rows.specs.Orders.{is_same}
+use Rattle.request_refinement.specs.Naming.{EntrySays}
+use Rattle.running_sync.specs.Asks.{anew, is_open, after_step, stepped, answered, place_of}
+use Rattle.running_sync.specs.Rows.{replied, taken_by}
+use Rattle.running_sync.specs.Running.{Running}
+use Rattle.running_sync.specs.Sends.{IsOfOther, AsksOthers}
+use Rattle.running_sync.specs.declared.asking.Asking.{Asking}
+use Rattle.running_sync.specs.declared.asking.Give.{Give}
+use Rattle.running_sync.specs.declared.asking.Stage.{Stage}
+use Rattle.running_sync.specs.declared.asking.Stage.TheVariants as stages
+use Rattle.sync_laws.proofs.Coverage.{give_counts, new_ask_holds}
+use Rattle.sync_laws.specs.Facts.{Lines}
+use Rattle.sync_laws.specs.Messages.{GiveSays}
+use Rattle.sync_laws.specs.Syncs as syncs
+use Rattle.sync_rule.specs.Syncs.{is_source, is_awaited}
+use Rattle.tree_maps.specs.Paths.{node_of}
+use Rattle.tree_maps.specs.Sixteen.{sixteen}
+use Rattle.tree_node.specs.Positions.{IsPosition}
+use Rattle.tree_node.specs.declared.body.TreeBody.{TreeBody}
+use Rattle.tree_node.specs.declared.body.TreeBody.TheVariants as bodies
+use Rattle.tree_node.specs.declared.position.Position.{Position}
+use Rattle.tree_refinement.specs.Trees.{AreFree}
+use Rattle.sync_refinement.specs.Laws.{SyncsTake}
+use Rattle.sync_refinement.specs.Seen.{ranks, seen_stage, seen_ask}
+use Rattle.sync_refinement.specs.Syncs.{SyncSays, GiveShows, GiveFits}
+use Rattle.sync_refinement.proofs.Asks.{same_number, peer_there}
+use Rattle.sync_refinement.proofs.Counting.{done_is, ignored_is, damage_is, Receives, taken_receives, taken_counts}
+use Rattle.sync_refinement.proofs.Maps.{both_ways, either_true, in_append}
+use Rattle.sync_refinement.proofs.Scans.{scan_ascends, scan_own}
+use Rattle.sync_refinement.proofs.Setting.{AskSays, source_of, ask_was, same_says, no_source, goes_on, finishes}
+
+same_epoch : (a b : Epoch) → is_same a b ≡ true → a ≡ b
+same_epoch a b h =
+    let parts = and_parts (a.count == b.count) (a.proposer == b.proposer) h in
+    let count = same_number a.count b.count parts.0 in
+    let proposer = same_number a.proposer b.proposer parts.1 in
+    λ i. record { count = count i; proposer = proposer i }
+
+open_stage : (stage : Stage) → is_open stage ≡ true → stage ≡ stages.Open
+open_stage stages.Open h = refl
+open_stage stages.Finished h = absurd cc
+open_stage stages.Dropped h = absurd cc
+
+member_in : (view : List ℕ) (q : ℕ) → is_in view q ≡ true → q ∈ view
+member_in [] q h = absurd cc
+member_in (x ∷ view) q h = by_either (either_true (q == x) (is_in view q) h) (λ t. member_in view q t)
+  where
+    by_either : ((q == x) ≡ true) ⊎ (is_in view q ≡ true) → (is_in view q ≡ true → q ∈ view) → (q ≡ x) ⊎ (q ∈ view)
+    by_either (inl here) further = inl (same_number q x here)
+    by_either (inr there) further = inr (further there)
+
+-- a part of a tree without damage is of a map
+shows_of : (g : Lines) (s : State) (strings : List (List ℕ)) (q : ℕ) (ballot : Epoch) (question : Question) (flag : Bool) (body : TreeBody) → GiveFits g s strings q ballot question flag body → ((at : Position) → body ≡ bodies.Damaged at → ⊥) → GiveShows g s strings q ballot question flag body
+shows_of g s strings q ballot question flag (bodies.Inner mask digests) fits sound = fits
+shows_of g s strings q ballot question flag (bodies.Page es more) fits sound = fits
+shows_of g s strings q ballot question flag (bodies.Damaged at) fits sound = absurd (sound at refl)
+
+module _ (g : Lines) (s : State) (strings : List (List ℕ)) (p : ℕ) (fact : Fact) (trusted : Bool) (m : List Entry) (r : Running) (give : Give) (own : Option (List ℕ)) (free : AreFree strings) (position : IsPosition give.question.position)
+    (node : (own ≡ None) ⊎ (own ≡ node_of sixteen give.question.position m)) (old : SyncSays g s strings p fact trusted m r) (ballot : give.ballot ≡ r.fact.epoch) (place : ℕ) (a : Asking) (at : slice_get r.asks place ≡ Some a) (other : IsOfOther p r.sync.view a) where
+  -- what the ask comes to
+  abbrev next : Reply × Asked
+  next = taken r.sync.scan own give.question give.body a.ask
+
+  abbrev Says : Asking → Type 0
+  Says b = AskSays g s strings (epoch_number r.fact.epoch) r.sync.scan.entries a.peer b
+
+  -- the ask once it counted a give
+  abbrev counted : Stage → Asking
+  counted stage = record { peer = a.peer; ask = next.1; trusted = a.trusted && give.trusted; stage = stage }
+
+  counted_says : (stage : Stage) → GiveShows g s strings a.peer give.ballot give.question give.trusted give.body → (syncs.is_finished (seen_stage stage) ≡ true → next.1.current ≡ None) → Says (counted stage)
+  counted_says stage shows done = record {
+    received = λ e there. entries e (in_append a.ask.received more.more e (subst (λ (es : List Entry). e ∈ es) more.is there));
+    holds = give_counts g s.objects (epoch_number r.fact.epoch) (ranks r.sync.scan.entries) a.peer give.trusted (ranks shows.map) (seen_ask a) (seen_ask (counted stage)) says
+        (taken_counts shows.map m r.sync.scan own give.question give.body give.trusted a stage position shows.is_map shows.body_is (scan_own m r.sync.scan old.scan own give.question.position node) apart (scan_ascends m r.sync.scan old.scan) done)
+        was.holds;
+  }
+    where
+      was : Says a
+      was = ask_was g s strings p fact trusted m r old place a at
+
+      more : Receives shows.map a.ask.received next.1.received
+      more = taken_receives shows.map r.sync.scan own give.question give.body a.ask shows.is_map position shows.body_is
+
+      entries : (e : Entry) → (e ∈ a.ask.received) ⊎ (e ∈ more.more) → EntrySays s strings e
+      entries e (inl there) = was.received e there
+      entries e (inr there) = shows.entries e (more.among e there)
+
+      says : GiveSays g s.objects a.peer (epoch_number r.fact.epoch) give.trusted (ranks shows.map)
+      says = subst (λ (d : Epoch). GiveSays g s.objects a.peer (epoch_number d) give.trusted (ranks shows.map)) ballot shows.says
+
+      apart : AreApart shows.map m
+      apart = λ x y in_map in_own same. free x y (shows.hashed x in_map) (old.hashed y in_own) same
+
+  dropped_says : Says (anew stages.Dropped a.peer)
+  dropped_says = record { received = λ e none. absurd none; holds = new_ask_holds g s.objects (epoch_number r.fact.epoch) (ranks r.sync.scan.entries) a.peer syncs.Dropped refl }
+
+  -- a step that goes on, or is done, is not that of a report of damage
+  sound : (step : Reply) → next.0 ≡ step → (step ≡ steps.Dropped → ⊥) → (step ≡ steps.Ignored → ⊥) → (x : Position) → give.body ≡ bodies.Damaged x → ⊥
+  sound step is goes counts x damaged = by_damage (damage_is r.sync.scan own give.question x a.ask)
+    where
+      there : (taken r.sync.scan own give.question (bodies.Damaged x) a.ask).0 ≡ step
+      there = subst (λ (body : TreeBody). (taken r.sync.scan own give.question body a.ask).0 ≡ step) damaged is
+
+      by_damage : ((taken r.sync.scan own give.question (bodies.Damaged x) a.ask).0 ≡ steps.Dropped) ⊎ ((taken r.sync.scan own give.question (bodies.Damaged x) a.ask).0 ≡ steps.Ignored) → ⊥
+      by_damage (inl dropped) = goes (sym there ∙ dropped)
+      by_damage (inr ignored) = counts (sym there ∙ ignored)
+
+  -- the source may still finish
+  awaited : a.stage ≡ stages.Open → is_awaited r.sync a.peer ≡ true
+  awaited waits = all_three (is_in r.sync.view a.peer) (a.peer == r.sync.me) (is_source r.sync.sources a.peer) other.member (not_me a.peer r.sync.me (λ same. other.other (same ∙ old.me))) (no_source g s strings p fact trusted m r old place a at waits)
+    where
+      not_me : (x y : ℕ) → (x ≡ y → ⊥) → (x == y) ≡ false
+      not_me x y apart = grind (arith, nat_tests)
+
+      all_three : (x y z : Bool) → x ≡ true → y ≡ false → z ≡ false → (x && not y && not z) ≡ true
+      all_three x y z h k l = grind arith
+
+  -- the source has finished
+  done_says : a.stage ≡ stages.Open → Says (counted stages.Finished) → (t : Bool) → t ≡ true
+      → SyncSays g s strings p fact trusted m (record r { sync = if t then record r.sync { sources = r.sync.sources ++ source_of (counted stages.Finished) ∷ [] } else r.sync; asks = slice_set r.asks place (counted stages.Finished) })
+  done_says waits says true h = finishes g s strings p fact trusted m r old place a at waits (counted stages.Finished) refl refl (member_in r.sync.view a.peer other.member) says
+  done_says waits says false h = absurd cc
+
+  -- the sync after a step of the ask
+  step_says : GiveFits g s strings a.peer give.ballot give.question give.trusted give.body → a.stage ≡ stages.Open → (step : Reply) → next.0 ≡ step → SyncSays g s strings p fact trusted m (replied place (step, after_step step give.trusted (record a { ask = next.1 })) r).0
+  step_says fits waits steps.Next is = goes_on g s strings p fact trusted m r old place a at waits (counted a.stage) refl not_done (counted_says a.stage (shows_of g s strings a.peer give.ballot give.question give.trusted give.body fits (sound steps.Next is (λ e. cc) (λ e. cc))) (λ h. absurd (both_ways (syncs.is_finished (seen_stage a.stage)) h not_done)))
+    where
+      not_done : syncs.is_finished (seen_stage a.stage) ≡ false
+      not_done = ap (λ (x : Stage). syncs.is_finished (seen_stage x)) waits
+  step_says fits waits steps.Done is = done_says waits (counted_says stages.Finished (shows_of g s strings a.peer give.ballot give.question give.trusted give.body fits (sound steps.Done is (λ e. cc) (λ e. cc))) (λ h. done_is r.sync.scan own give.question give.body a.ask is)) (is_awaited r.sync a.peer) (awaited waits)
+  step_says fits waits steps.Dropped is = goes_on g s strings p fact trusted m r old place a at waits (anew stages.Dropped a.peer) refl refl dropped_says
+  step_says fits waits steps.Ignored is = same_says g s strings p fact trusted m r old place a at (record a { ask = next.1 }) (ap (λ (x : Asked). record a { ask = x }) (ignored_is r.sync.scan own give.question give.body a.ask is))
+
+  -- the sync after the ask took the answer
+  reply_says : GiveFits g s strings a.peer give.ballot give.question give.trusted give.body → SyncSays g s strings p fact trusted m (replied place (answered r.sync.scan own give a) r).0
+  reply_says fits = by_open (is_open a.stage) refl
+    where
+      by_open : (b : Bool) → is_open a.stage ≡ b → SyncSays g s strings p fact trusted m (replied place (if b then stepped give.trusted next a else (steps.Ignored, a)) r).0
+      by_open true h = step_says fits (open_stage a.stage h) next.0 refl
+      by_open false h = same_says g s strings p fact trusted m r old place a at a refl
+
+ask_is : (p : ℕ) (r : Running) (place : ℕ) (a : Asking) → AsksOthers p r → slice_get r.asks place ≡ Some a → IsOfOther p r.sync.view a
+ask_is p r place a others at = subst (IsOfOther p r.sync.view) (get_or_from_slice_get r.asks place a a at) (others place a (slice_get_within r.asks place a at))
+
+takes_say : (g : Lines) (s : State) → SyncsTake g s
+takes_say g s strings p fact trusted m r from give own free position others fits node old = by_ballot (is_same give.ballot r.fact.epoch) refl
+  where
+    by_ask : give.ballot ≡ r.fact.epoch → (o : Option Asking) → slice_get r.asks (place_of from r.asks) ≡ o → SyncSays g s strings p fact trusted m (taken_by (place_of from r.asks) o give own r).0
+    by_ask ballot None at = old
+    by_ask ballot (Some a) at = reply_says g s strings p fact trusted m r give own free position node old ballot (place_of from r.asks) a at (ask_is p r (place_of from r.asks) a others at)
+        (subst (λ q. GiveFits g s strings q give.ballot give.question give.trusted give.body) (sym (peer_there from r.asks a at)) fits)
+
+    by_ballot : (b : Bool) → is_same give.ballot r.fact.epoch ≡ b → SyncSays g s strings p fact trusted m (if b then taken_by (place_of from r.asks) (slice_get r.asks (place_of from r.asks)) give own r else (r, [])).0
+    by_ballot true same = by_ask (same_epoch give.ballot r.fact.epoch same) (slice_get r.asks (place_of from r.asks)) refl
+    by_ballot false other = old
+
+-- a sync that takes what a source sends says what holds
+pub takes : (g : Lines) (view : List ℕ) (steps : List Step) → IsRun view steps → SyncsTake g (state_after view steps)
+takes g view steps run = takes_say g (state_after view steps)

@@ -1,0 +1,107 @@
+-- The laws of running syncs, in each state of a run.
+use Rattle.std.specs.Prelude.{◌≡◌, ◌<◌, ◌⊎◌, ◌^◌, ℕ, Bool, true, false, List, Option, None, length, map}
+use Rattle.abstract_protocol.specs.Numbers.{epoch_number}
+use Rattle.abstract_protocol.specs.Objects.{MayInstall}
+use Rattle.abstract_protocol.specs.Protocol.{State}
+use Rattle.ens_base.specs.Lists.{◌∈◌, AreDistinct}
+use Rattle.ens_base.specs.Views.{last_view}
+use Rattle.ens_base.specs.declared.entry.Entry.{Entry}
+use Rattle.ens_base.specs.declared.epoch.Epoch.{Epoch}
+use Rattle.exchange.specs.declared.question.Question.{Question}
+use Rattle.leader_refinement.specs.Seen.{rank}
+use Rattle.peer_core.specs.Syncs.{body_of}
+use Rattle.peer_fact.specs.declared.fact.Fact.{Fact}
+use Rattle.request_refinement.specs.Replies.{MapSays}
+use Rattle.running_sync.specs.Rows.{row_start, row_resume, row_take}
+use Rattle.running_sync.specs.Running.{Running}
+use Rattle.running_sync.specs.Sends.{AsksOthers}
+use Rattle.running_sync.specs.declared.asking.Give.{Give}
+use Rattle.step_plans.specs.declared.walked.Walked.{Walked}
+use Rattle.step_plans.specs.declared.walked.Walked.TheVariants.{Reached, Broken}
+use Rattle.sync_laws.specs.Facts.{Lines, AreFirm, IsFirst}
+use Rattle.sync_rule.specs.Syncs.{outcome_of, needs_build}
+use Rattle.sync_rule.specs.declared.sync.Outcome.TheVariants.{Trusted}
+use Rattle.tree_maps.specs.Entries.{IsMap}
+use Rattle.tree_maps.specs.Paths.{node_of}
+use Rattle.tree_maps.specs.Sixteen.{sixteen}
+use Rattle.tree_node.specs.Positions.{IsPosition}
+use Rattle.tree_node.specs.declared.body.Scan.{Scan}
+use Rattle.tree_node.specs.declared.body.TreeBody.{TreeBody}
+use Rattle.tree_refinement.specs.Trees.{AreFree}
+use Rattle.sync_refinement.specs.Seen.{ranks, seen_fact}
+use Rattle.sync_refinement.specs.Syncs.{EntriesSay, TreeSays, MayReturn, IsScanOf, AreHashed, SyncSays, GiveFits}
+
+-- ## Trees
+
+-- peers in no revert line were never reverted
+abbrev pub FirmAreKept : Lines → State → Type 0
+FirmAreKept g s = (q : ℕ) → g.firm q ≡ true → s.objects.reverted q ≡ false
+
+-- a peer that trusts its tree shows the map that it wrote last
+abbrev pub TrustedMapsSay : State → Type 0
+TrustedMapsSay s = (strings : List (List ℕ)) (q : ℕ) (m : List Entry) → s.objects.trusted q ≡ true → TreeSays s strings q m → MapSays s strings q m
+
+-- what a tree shows may be put back later
+abbrev pub ShownMayReturn : State → Type 0
+ShownMayReturn s = (strings : List (List ℕ)) (q : ℕ) (m : List Entry) → IsMap m → TreeSays s strings q m → MayReturn s strings q m
+
+-- ## Gives
+
+-- the walk reached its position and found this, or met damage
+abbrev pub HasWalked : {A : Type 0} → A → Walked A → Type 0
+HasWalked x (Reached y) = y ≡ x
+HasWalked x (Broken at) = Unit {0}
+
+-- a peer that stands at the ballot sends a part of what its tree shows, or reports damage
+abbrev pub GivesShow : Lines → State → Type 0
+GivesShow g s = (strings : List (List ℕ)) (q : ℕ) (ballot : Epoch) (question : Question) (trusted : Bool) (m : List Entry) (walked : Walked (Option (List ℕ))) → FirmAreKept g s → s.objects.trusted q ≡ trusted → s.objects.ledger.ballot q ≡ epoch_number ballot → IsMap m → AreHashed strings m → TreeSays s strings q m
+    → HasWalked (node_of sixteen question.position m) walked → GiveFits g s strings q ballot question trusted (body_of question walked)
+
+-- ## Syncs
+
+-- a sync begins, after a scan of the own tree
+abbrev pub SyncsStart : Lines → State → Type 0
+SyncsStart g s = (strings : List (List ℕ)) (p : ℕ) (fact new : Fact) (trusted : Bool) (m : List Entry) (scan : Scan) → FirmAreKept g s → s.objects.trusted p ≡ trusted → s.objects.ledger.ballot p ≡ epoch_number fact.ballot
+    → IsFirst s.objects.ledger (seen_fact new) → epoch_number new.epoch ≡ epoch_number fact.ballot → epoch_number fact.epoch < epoch_number new.epoch → AreHashed strings m → TreeSays s strings p m → IsScanOf m scan
+    → SyncSays g s strings p fact trusted m (row_start new p trusted scan).0
+
+-- a sync asks again
+abbrev pub SyncsResume : Lines → State → Type 0
+SyncsResume g s = (strings : List (List ℕ)) (p : ℕ) (fact : Fact) (trusted : Bool) (m : List Entry) (r : Running) → SyncSays g s strings p fact trusted m r → SyncSays g s strings p fact trusted m (row_resume r).0
+
+-- a sync takes what a source sends; the own node was read, or its path did not verify, or it is not needed
+abbrev pub SyncsTake : Lines → State → Type 0
+SyncsTake g s = (strings : List (List ℕ)) (p : ℕ) (fact : Fact) (trusted : Bool) (m : List Entry) (r : Running) (from : ℕ) (give : Give) (own : Option (List ℕ)) → AreFree strings → IsPosition give.question.position → AsksOthers p r
+    → GiveFits g s strings from give.ballot give.question give.trusted give.body → (own ≡ None) ⊎ (own ≡ node_of sixteen give.question.position m) → SyncSays g s strings p fact trusted m r → SyncSays g s strings p fact trusted m (row_take from give own r).0
+
+-- the end of a sync: the merged entries are a map, the peer may install it, and each entry says what
+-- holds; if the tree need not be built, they are those of the own tree
+pub record SyncEnds (s : State) (strings : List (List ℕ)) (p : ℕ) (m : List Entry) (r : Running) (entries : List Entry) : Type 0 where
+  pub is_map : IsMap entries
+  pub entries_say : EntriesSay s strings entries
+  pub may : MayInstall s.objects p (epoch_number r.fact.epoch) (ranks entries)
+  pub kept : needs_build r.sync.scan entries ≡ false → entries ≡ m
+
+-- distinct keys of proposed versions are few
+abbrev pub AreFewKeys : State → Type 0
+AreFewKeys s = (m : List Entry) → ((e : Entry) → e ∈ m → s.objects.proposed (rank e.version) ≡ true) → ((e : Entry) → e ∈ m → e.key ≡ s.objects.key (rank e.version)) → AreDistinct (map (λ (e : Entry). e.key) m) → length m < 2 ^ 32
+
+abbrev pub SyncsEnd : Lines → State → Type 0
+SyncsEnd g s = (strings : List (List ℕ)) (p : ℕ) (fact : Fact) (trusted : Bool) (m : List Entry) (r : Running) (entries : List Entry) → AreFirm g → last_view r.fact.views ∈ g.voting → AreFewKeys s → s.objects.ledger.ballot p ≡ epoch_number fact.ballot → (s.objects.ledger.fact p).epoch ≡ epoch_number fact.epoch → TreeSays s strings p m
+    → SyncSays g s strings p fact trusted m r → outcome_of r.sync ≡ Trusted entries → SyncEnds s strings p m r entries
+
+-- the laws of the state
+pub record SyncLaws (g : Lines) (s : State) : Type 0 where
+  pub trusted_maps : TrustedMapsSay s
+  pub may_return : ShownMayReturn s
+  pub gives : GivesShow g s
+  pub starts : SyncsStart g s
+  pub resumes : SyncsResume g s
+  pub takes : SyncsTake g s
+  pub ends : SyncsEnd g s
+
+-- what syncs and gives say, and what may return, stays so
+pub record SyncsStay (g : Lines) (s t : State) : Type 0 where
+  pub syncs : (strings : List (List ℕ)) (p : ℕ) (fact : Fact) (trusted : Bool) (m : List Entry) (r : Running) → s.objects.ledger.ballot p ≡ epoch_number fact.ballot → SyncSays g s strings p fact trusted m r → SyncSays g t strings p fact trusted m r
+  pub gives : (strings : List (List ℕ)) (q : ℕ) (ballot : Epoch) (question : Question) (trusted : Bool) (body : TreeBody) → GiveFits g s strings q ballot question trusted body → GiveFits g t strings q ballot question trusted body
+  pub returns : (strings : List (List ℕ)) (q : ℕ) (m : List Entry) → MayReturn s strings q m → MayReturn t strings q m

@@ -1,0 +1,101 @@
+-- What holds of the tree of a peer, of a running sync, and of what a source sends.
+use Rattle.std.specs.Prelude.{◌≡◌, ◌≤◌, ℕ, Bool, not, ◌&&◌, List, Option, None, Some, filter, map}
+use Rattle.std.specs.List.{AllByRecursion}
+use Rattle.abstract_protocol.specs.Numbers.{epoch_number}
+use Rattle.abstract_protocol.specs.Objects.{epoch_of}
+use Rattle.abstract_protocol.specs.Protocol.{State}
+use Rattle.ens_base.specs.Lists.{◌∈◌, AreDistinct}
+use Rattle.ens_base.specs.Views.{last_view}
+use Rattle.ens_base.specs.declared.entry.Entry.{Entry}
+use Rattle.ens_base.specs.declared.epoch.Epoch.{Epoch}
+use Rattle.exchange.specs.Covers.{give_of}
+use Rattle.exchange.specs.declared.question.Question.{Question}
+use Rattle.leader_refinement.specs.Seen.{rank}
+use Rattle.peer_fact.specs.declared.fact.Fact.{Fact}
+use Rattle.request_refinement.specs.Naming.{EntrySays}
+use Rattle.running_sync.specs.Running.{Running}
+use Rattle.running_sync.specs.declared.asking.Asking.{Asking}
+use Rattle.sync_laws.specs.Facts.{Lines}
+use Rattle.sync_laws.specs.Messages.{GiveSays}
+use Rattle.sync_laws.specs.Syncs.{SyncHolds, is_finished}
+use Rattle.sync_rule.specs.Syncs.{is_source, is_trusted_source}
+use Rattle.sync_rule.specs.declared.sync.Source.{Source}
+use Rattle.tree_maps.specs.Entries.{IsMap}
+use Rattle.tree_maps.specs.Forms.{root}
+use Rattle.tree_maps.specs.Maps.{IsNode}
+use Rattle.tree_maps.specs.Sixteen.{sixteen}
+use Rattle.tree_node.specs.Positions.{IsPosition}
+use Rattle.tree_node.specs.declared.body.Scan.{Scan}
+use Rattle.tree_node.specs.declared.body.TreeBody.{TreeBody}
+use Rattle.tree_node.specs.declared.body.TreeBody.TheVariants as bodies
+use Rattle.tree_verify.specs.Scans.{lost}
+use Rattle.sync_refinement.specs.Seen.{ranks, ask_of, seen_fact, seen_tree, seen_sync}
+
+-- ## Trees
+
+-- each entry of the map says what holds
+abbrev pub EntriesSay : State → List (List ℕ) → List Entry → Type 0
+EntriesSay s strings m = (e : Entry) → e ∈ m → EntrySays s strings e
+
+-- the map is what the tree of peer q shows in the protocol, and its entries say what holds
+pub record TreeSays (s : State) (strings : List (List ℕ)) (q : ℕ) (m : List Entry) : Type 0 where
+  pub entries : EntriesSay s strings m
+  pub visible : (k : List ℕ) → s.objects.visible q k ≡ ranks m k
+
+-- a map that the tree of peer q may be put back to: its entries say what holds, and are of epochs that
+-- the peer has reached
+pub record MayReturn (s : State) (strings : List (List ℕ)) (q : ℕ) (m : List Entry) : Type 0 where
+  pub entries : EntriesSay s strings m
+  pub reached : (e : Entry) → e ∈ m → epoch_of (rank e.version) ≤ s.objects.ledger.ballot q
+
+-- what a scan of the tree of a map returns
+pub record IsScanOf (m : List Entry) (scan : Scan) : Type 0 where
+  pub is_map : IsMap m
+  pub entries : scan.entries ≡ filter (λ e. not (lost sixteen scan.damaged e.key)) m
+  pub positions : AllByRecursion IsPosition scan.damaged
+
+-- each node of the map was hashed
+abbrev pub AreHashed : List (List ℕ) → List Entry → Type 0
+AreHashed strings m = (node : List ℕ) → IsNode sixteen sixteen.depth root m node → node ∈ strings
+
+-- ## Syncs
+
+-- the sources that have finished, as the asks say
+pub record SourcesAre (r : Running) : Type 0 where
+  pub finished : (q : ℕ) → is_source r.sync.sources q ≡ is_finished (ask_of r.asks q).stage
+  pub flagged : (q : ℕ) → is_trusted_source r.sync.sources q ≡ (is_finished (ask_of r.asks q).stage && (ask_of r.asks q).flagged)
+  pub given : (source : Source) → source ∈ r.sync.sources → (a : Asking) × (a ∈ r.asks) × (a.peer ≡ source.peer) × (source.entries ≡ a.ask.received)
+  pub among : (source : Source) → source ∈ r.sync.sources → source.peer ∈ r.sync.view
+
+-- what a running sync of peer p says, over a tree that shows the map
+pub record SyncSays (g : Lines) (s : State) (strings : List (List ℕ)) (p : ℕ) (fact : Fact) (trusted : Bool) (m : List Entry) (r : Running) : Type 0 where
+  pub me : r.sync.me ≡ p
+  pub trust : r.sync.trusted ≡ trusted
+  pub view : r.sync.view ≡ last_view r.fact.views
+  pub scan : IsScanOf m r.sync.scan
+  pub hashed : AreHashed strings m
+  pub distinct : AreDistinct (map (λ (a : Asking). a.peer) r.asks)
+  pub others : (a : Asking) → a ∈ r.asks → a.peer ≡ p → ⊥
+  pub sources : SourcesAre r
+  pub received : (a : Asking) → a ∈ r.asks → EntriesSay s strings a.ask.received
+  pub holds : SyncHolds g s.objects p (seen_fact fact) (seen_tree m) trusted (seen_sync r)
+
+abbrev pub SyncMaySay : Lines → State → List (List ℕ) → ℕ → Fact → Bool → List Entry → Option Running → Type 0
+SyncMaySay g s strings p fact trusted m None = Unit {0}
+SyncMaySay g s strings p fact trusted m (Some r) = SyncSays g s strings p fact trusted m r
+
+-- ## Gives
+
+-- a part of the tree of a map that peer q showed: it says what holds
+pub record GiveShows (g : Lines) (s : State) (strings : List (List ℕ)) (q : ℕ) (ballot : Epoch) (question : Question) (trusted : Bool) (body : TreeBody) : Type 0 where
+  pub map : List Entry
+  pub is_map : IsMap map
+  pub body_is : body ≡ give_of map question
+  pub hashed : AreHashed strings map
+  pub entries : EntriesSay s strings map
+  pub says : GiveSays g s.objects q (epoch_number ballot) trusted (ranks map)
+
+-- a node that peer q sends is of such a tree, or the peer reports damage
+abbrev pub GiveFits : Lines → State → List (List ℕ) → ℕ → Epoch → Question → Bool → TreeBody → Type 0
+GiveFits g s strings q ballot question trusted (bodies.Damaged at) = Unit {0}
+GiveFits g s strings q ballot question trusted body = GiveShows g s strings q ballot question trusted body
