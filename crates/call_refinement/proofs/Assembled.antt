@@ -1,4 +1,5 @@
--- What the step of a peer stands on is proved: its tasks of phases, the messages that come to it, and its ticks end well.
+-- What the step of a peer stands on is proved: its tasks of phases, the messages that come to it, its
+-- ticks, and requests for a view end well.
 use Rattle.std.proofs.Common.{inl, ℕ, List, []}
 use Rattle.held_stores.specs.Held.{Held}
 use Rattle.peer_core.specs.Drives.{delivered}
@@ -8,6 +9,7 @@ use Rattle.step_plans.specs.declared.tasks.Task.{Task}
 use Rattle.wire_frames.specs.declared.message.Message.{Message}
 use Rattle.wire_frames.specs.declared.message.Message.TheVariants as messages
 use Rattle.call_refinement.proofs.Driving.{PhasesGood}
+use Rattle.call_refinement.proofs.Exchanging.{ask_good, give_good}
 use Rattle.call_refinement.proofs.Frame.{Scene, now, AtRest, MessageComes, Ends, Onward}
 use Rattle.call_refinement.proofs.Keys.{run_keys_few, run_ids_few}
 use Rattle.call_refinement.proofs.PhaseTasks as elections
@@ -27,30 +29,35 @@ module _ (c : Scene) where
     names_phases ts k y g o ns there = go ts k y g o ns (inl ((there.1, phases_wait y.phase ts there.0)))
 
     -- after a reply
-    replies : (t : Held) (o : Out) → AtRest c [] x t o [] → Ends c (next [] x o) (mark [] x o) t []
-    replies t o there = go [] [] x t o [] (inl ((there, phases_wait x.phase [] tt)))
+    replies : (y : PeerState) (t : Held) (o : Out) → AtRest c [] y t o [] → Ends c (next [] y o) (mark [] y o) t []
+    replies y t o there = go [] [] y t o [] (inl ((there, phases_wait y.phase [] tt)))
 
     message_good : (from : ℕ) (message : Message) → IsElse message → MessageComes c from message (now c rest.0.reached) → Ends c (delivered p from message x nothing next) (delivered p from message x nothing mark) h []
     message_good from (messages.Check ballot round) is comes = check_good c rest.0 rest.1 next mark replies from ballot round comes
     message_good from (messages.Get ballot round key) is comes = got_good c rest.0 rest.1 next mark replies from ballot round key comes
     message_good from (messages.Put ballot o) is comes = put_in_good c rest.0 rest.1 next mark replies run_keys_few from ballot o comes
-    message_good from messages.Probe is comes = elections.received_good c [] x h nothing [] rest next mark names_phases from messages.Probe tt comes.holds comes.plain
-    message_good from (messages.ProbeReply fact) is comes = elections.received_good c [] x h nothing [] rest next mark names_phases from (messages.ProbeReply fact) tt comes.holds comes.plain
-    message_good from (messages.Prepare ballot) is comes = elections.received_good c [] x h nothing [] rest next mark names_phases from (messages.Prepare ballot) tt comes.holds comes.plain
-    message_good from (messages.Promise ballot fact) is comes = elections.received_good c [] x h nothing [] rest next mark names_phases from (messages.Promise ballot fact) tt comes.holds comes.plain
-    message_good from (messages.Nack ballot cause) is comes = elections.received_good c [] x h nothing [] rest next mark names_phases from (messages.Nack ballot cause) tt comes.holds comes.plain
-    message_good from (messages.NewEpoch fact) is comes = elections.received_good c [] x h nothing [] rest next mark names_phases from (messages.NewEpoch fact) tt comes.holds comes.plain
-    message_good from (messages.Accepted ballot seq) is comes = elections.received_good c [] x h nothing [] rest next mark names_phases from (messages.Accepted ballot seq) tt comes.holds comes.plain
-    message_good from (messages.Beat ballot) is comes = elections.received_good c [] x h nothing [] rest next mark names_phases from (messages.Beat ballot) tt comes.holds comes.plain
+    message_good from messages.Probe is comes = elections.received_good c [] x h nothing [] rest next mark names_phases from messages.Probe tt comes.other comes.holds comes.listed
+    message_good from (messages.ProbeReply fact) is comes = elections.received_good c [] x h nothing [] rest next mark names_phases from (messages.ProbeReply fact) tt comes.other comes.holds comes.listed
+    message_good from (messages.Prepare ballot) is comes = elections.received_good c [] x h nothing [] rest next mark names_phases from (messages.Prepare ballot) tt comes.other comes.holds comes.listed
+    message_good from (messages.Promise ballot fact) is comes = elections.received_good c [] x h nothing [] rest next mark names_phases from (messages.Promise ballot fact) tt comes.other comes.holds comes.listed
+    message_good from (messages.Nack ballot cause) is comes = elections.received_good c [] x h nothing [] rest next mark names_phases from (messages.Nack ballot cause) tt comes.other comes.holds comes.listed
+    message_good from (messages.NewEpoch fact) is comes = elections.received_good c [] x h nothing [] rest next mark names_phases from (messages.NewEpoch fact) tt comes.other comes.holds comes.listed
+    message_good from (messages.Accepted ballot seq) is comes = elections.received_good c [] x h nothing [] rest next mark names_phases from (messages.Accepted ballot seq) tt comes.other comes.holds comes.listed
+    message_good from (messages.Beat ballot) is comes = elections.received_good c [] x h nothing [] rest next mark names_phases from (messages.Beat ballot) tt comes.other comes.holds comes.listed
+    message_good from (messages.Commit fact) is comes = elections.received_good c [] x h nothing [] rest next mark names_phases from (messages.Commit fact) tt comes.other comes.holds comes.listed
+    message_good from (messages.TreeAsk ballot at after) is comes = ask_good c rest next mark names_phases from ballot at after comes.obeys
+    message_good from (messages.TreeGive ballot at after trusted body) is comes = give_good c rest next mark names_phases from (record { ballot = ballot; question = record { position = at; after = after }; trusted = trusted; body = body }) comes.obeys.0 comes.fits
     message_good from (messages.GetReply ballot round key entry object) is comes = absurd is
     message_good from (messages.PutReply ballot key version) is comes = absurd is
     message_good from (messages.CheckReply ballot round) is comes = absurd is
-    message_good from other is comes = absurd comes.plain
+    message_good from (messages.CallFrame id key command) is comes = absurd comes.listed
+    message_good from (messages.AnswerFrame id reply) is comes = absurd comes.listed
 
   others_good : OthersGood c
   others_good = record {
     messages_good = λ from message is x h rest comes next mark go. message_good x h rest next mark go from message is comes;
     ticks_good = λ x h rest follows next mark go. elections.tick_good c [] x h nothing [] rest next mark (names_phases x h rest next mark go) follows;
+    changes_good = λ asked votes x h rest next mark go. elections.change_good c [] x h nothing [] rest next mark (names_phases x h rest next mark go) asked votes;
   }
 
 -- all of it is there

@@ -14,8 +14,10 @@ use Rattle.abstract_protocol.specs.Protocol.{State, Step, Ask, IsRun, state_afte
 use Rattle.call_table.specs.Rows.{check_at}
 use Rattle.election.specs.declared.election.Election.{Election}
 use Rattle.election.specs.declared.election.Election.TheVariants.{Preparing, Starting}
-use Rattle.election_refinement.specs.Plain.{IsPlainMessage}
+use Rattle.election_refinement.specs.Listed.{IsListedMessage}
 use Rattle.election_refinement.specs.Refinement.{SendHolds}
+use Rattle.entry_laws.proofs.Later.{stay_step}
+use Rattle.entry_laws.specs.Stays.{EntriesStay}
 use Rattle.held_stores.specs.Held.{Held}
 use Rattle.leader_laws.proofs.Roles.{run_roles}
 use Rattle.leader_laws.specs.Roles.{Role, Entry as Entries, Acks, Stands as StandsThere, with_owed, owed_by, RolesHold}
@@ -48,20 +50,22 @@ use Rattle.register_model.specs.declared.call.Call.{Call}
 use Rattle.register_model.specs.declared.note.Note.{Note}
 use Rattle.request_refinement.proofs.Staying.{maps_stay}
 use Rattle.request_refinement.specs.Naming.{EntryMaySay}
+use Rattle.request_refinement.specs.Replies.{MapSays}
 use Rattle.step_plans.specs.Plans.{Out, nothing, Rest}
 use Rattle.step_plans.specs.declared.tasks.Task.{Task}
 use Rattle.version_laws.proofs.Maps.{put_here}
 use Rattle.wire_frames.specs.declared.message.Message.TheVariants as messages
 use Rattle.call_refinement.proofs.Frame.{Scene, state_before, now, Here, AtRest, Ends, Onward}
 use Rattle.call_refinement.proofs.Good.{asked_in, with_call}
-use Rattle.call_refinement.proofs.Leaders.{Standing, Stands, standing_of, stands_here, stands_on, steps_stand, move_roles, at_work, own_peer, rekeyed_leader}
+use Rattle.call_refinement.proofs.Leaders.{Standing, Stands, standing_of, stands_here, stands_on, steps_stand, move_roles, at_work, own_peer, own_map, rekeyed_leader}
 use Rattle.call_refinement.proofs.Leading.{There, told_nothing, calm_plan, tame_ends}
 use Rattle.call_refinement.proofs.Looking.{over_here, Confirmed, confirmed_ends}
 use Rattle.call_refinement.proofs.Moving.{role_once, elsewhere_none}
 use Rattle.call_refinement.proofs.Saying.{says_here}
-use Rattle.call_refinement.proofs.Sayings.{acks_later}
+use Rattle.call_refinement.proofs.Staying.{acks_stay, sync_stays}
 use Rattle.call_refinement.proofs.Tame.{calm_27, tame_got, tame_stands, tame_put}
 use Rattle.call_refinement.proofs.Tasks.{TasksFit}
+use Rattle.call_refinement.proofs.Trees.{tree_stays}
 use Rattle.call_refinement.specs.Peers.{AsksFit, IsAtRest, SendFits}
 use Rattle.call_refinement.specs.Roles.{role_in}
 
@@ -135,8 +139,9 @@ module _ (c : Scene) where
 
 module _ (c : Scene) (call : CallIn) (few : length (state_after c.view (Ask (asked_in (state_before c) call) ∷ c.begun)).book.calls < 2 ^ 32) (asked : AsksFit (state_after c.view (Ask (asked_in (state_before c) call) ∷ c.begun)))
     (may : MayCall (state_before c).book (asked_in (state_before c) call)) where
-  open c use {view, strings, peer as p}
+  open c use {lines, view, strings, peer as p}
 
+  -- the scene of a step on this call, which has come
   abbrev pub d : Scene
   d = with_call c call few asked
 
@@ -152,20 +157,25 @@ module _ (c : Scene) (call : CallIn) (few : length (state_after c.view (Ask (ask
   may_ask : MayCome s (Ask ask)
   may_ask = (tt, may)
 
+  -- what is said stays so when the call comes
+  called_later : EntriesStay s t
+  called_later = stay_step s (Ask ask) may_ask
+
   -- the call has come
-  asked_stands : (x : PeerState) (h : Held) (g : Ghosts) → Stands c [] x h nothing [] g s → Standing d x h nothing [] t
+  abbrev asked_stands : (x : PeerState) (h : Held) (g : Ghosts) → Stands c [] x h nothing [] g s → Standing d x h nothing [] t
   asked_stands x h g old = record {
     elsewhere = elsewhere_none p t;
     orderly = old.standing.orderly;
-    acks = acks_later s g strings p old.standing.tree.map (Ask ask ∷ []) old.hash c.free old.standing.tree.says (may_ask, tt) (λ v q acked. inl acked) old.standing.acks;
+    acks = acks_stay s t strings refl called_later old.standing.acks;
     peer = old.standing.peer;
-    plain = old.standing.plain;
+    listed = old.standing.listed;
     trust = old.standing.trust;
-    tree = record { map = old.standing.tree.map; whole = old.standing.tree.whole; says = maps_stay s strings strings (Ask ask ∷ []) p old.standing.tree.map (may_ask, tt) (tt, tt) (λ a at. at) old.standing.tree.says };
+    tree = tree_stays s t strings p h called_later refl old.standing.tree;
+    sync = sync_stays lines s t strings p x.fact x.trusted old.standing.tree.map x.sync called_later old.standing.peer.saved.ballot old.standing.sync;
     noted = sym (append-nil t.book.notes);
     sends = All-nil (SendHolds t.objects.ledger p);
-    plain_sends = All-nil (λ (o : Outgoing). IsPlainMessage view o.message);
-    fits_sends = All-nil (SendFits t strings);
+    listed_sends = All-nil (λ (o : Outgoing). IsListedMessage lines.voting o.message);
+    fits_sends = All-nil (SendFits lines t strings p);
   }
 
   -- another peer refuses the call
@@ -183,12 +193,13 @@ module _ (c : Scene) (call : CallIn) (few : length (state_after c.view (Ask (ask
     orderly = now_stands.orderly;
     acks = now_stands.acks;
     peer = now_stands.peer;
-    plain = now_stands.plain;
+    listed = now_stands.listed;
     trust = now_stands.trust;
     tree = now_stands.tree;
+    sync = now_stands.sync;
     noted = now_stands.noted;
     sends = now_stands.sends;
-    plain_sends = now_stands.plain_sends;
+    listed_sends = now_stands.listed_sends;
     fits_sends = now_stands.fits_sends;
   }
 
@@ -209,13 +220,17 @@ module _ (c : Scene) (call : CallIn) (few : length (state_after c.view (Ask (ask
     abbrev f : Follows (with_home g call.id l.leader.me) t call.key [] l.leader row
     f = takes.follows
 
+    -- the map that the leader's peer wrote last
+    called_map : MapSays t strings p old.standing.tree.map
+    called_map = maps_stay s strings strings (Ask ask ∷ []) p old.standing.tree.map (may_ask, tt) (tt, tt) (λ a at. at) (own_map c l x here)
+
     taken : Here d call.key (leading (with_leader row.0 l) x) h (and_sends (and_answers nothing row.1.answers) row.1.sends) row.1.notes
     taken = stands_on d call.key (leading (with_leader row.0 l) x) h (and_sends (and_answers nothing row.1.answers) row.1.sends) row.1.notes (Ask ask ∷ c.begun) f.ghosts f.steps (run, may_ask) f.move.may (record {
       hash = f.move.ghosts.hash ∙ old.hash;
       roles = move_roles c call.key nothing l.leader s g f.ghosts (Ask ask ∷ f.steps) row (run_roles view c.begun run) on_key.roles f.same takes.move f.turns f.sends;
       fits = f.fits;
       task = f.task;
-      standing = steps_stand d l x h nothing [] t (asked_stands (leading l x) h g old) f.steps f.move.may f.kinds row f.same f.notes g old.hash (own_peer c l x here) (calm_27 call.from call.id call.key call.command (has_begun l.change) l.leader).sends;
+      standing = steps_stand d l x h nothing [] t (asked_stands (leading l x) h g old) f.steps f.move.may f.kinds row f.same f.notes g old.hash called_map (own_peer c l x here) (calm_27 call.from call.id call.key call.command (has_begun l.change) l.leader).sends;
     })
 
     taken_ends : (next mark : Rest PeerState (List Task)) → Onward d (TasksFit d) next mark → Ends d (lead_done p 27 row.1 (leading (with_leader row.0 l) x) nothing next) (lead_done p 27 row.1 (leading (with_leader row.0 l) x) nothing mark) h []

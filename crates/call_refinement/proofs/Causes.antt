@@ -176,11 +176,35 @@ module _ (s : State) (entries : EntriesAreSafe s) (listed : Listed s) where
       guards (inl by) = inl (record { version = by.version; wrote = (by.proposed, by.call); settled = by.settled; reply = by.reply })
       guards (inr by) = inr (record { noted = by.noted; keeps = by.keeps })
 
+  -- each answer of the book is to a call, and has its cause
   pub answer_cause : (a : Given) → a ∈ s.book.answers → (c : Call) × (c ∈ s.book.calls) × (c.id ≡ a.id) × HasCause s.book.notes c a.reply
   answer_cause a h = (s.book.asked a.id, listed.call_in a.id keeps.called, (entries.calls a.id keeps.called).own_id, kept_cause a.id a keeps)
     where
       keeps : AnswerKeeps s a.id a
       keeps = subst (λ (x : Given). AnswerKeeps s a.id x) (listed.answer a h) (entries.answers a.id (listed.answered a h))
+
+  -- ## Whose calls the notes are about
+
+  -- a call with this id came
+  abbrev HasCome : ℕ → Type 0
+  HasCome id = (c : Call) × (c ∈ s.book.calls) × (c.id ≡ id)
+
+  has_come : (id : ℕ) → s.book.called id ≡ true → HasCome id
+  has_come id called = (s.book.asked id, listed.call_in id called, (entries.calls id called).own_id)
+
+  -- a proposal that is noted for a call is for one that came
+  pub proposed_call : (id : ℕ) (key : List ℕ) (version : Version) (parent : Option Version) → Proposed key version parent (Some id) ∈ s.book.notes → HasCome id
+  proposed_call id key version parent m = by_write (listed.holds (Proposed key version parent (Some id)) m)
+    where
+      by_write : ProposedHolds s key (rank version) (rank_or_none parent) (Some id) → HasCome id
+      by_write h = has_come id ((entries.proposals (rank version) h.proposed).write id h.call_of).called
+
+  -- so is a read that is noted
+  pub read_call : (id : ℕ) (key : List ℕ) (base : Option Version) → Read id key base ∈ s.book.notes → HasCome id
+  read_call id key base m = by_read (listed.holds (Read id key base) m)
+    where
+      by_read : ReadHolds s id key (rank_or_none base) → HasCome id
+      by_read h = has_come id (entries.reads id h.noted).called
 
 -- ## No call is answered twice
 
@@ -225,14 +249,29 @@ run_once view (e ∷ steps) run = once_step (state_after view steps) e run.1 (ru
 
 -- ## In a world that agrees with the book
 
+-- the answers of the world have their causes in its notes
 pub causes_of : (view : List ℕ) (steps : List Step) (events : List ScheduleEvent) (w : Run) → IsRun view steps → BookAgrees events w (state_after view steps).book → HaveCauses events w.printed w.notes
 causes_of view steps events w run agrees = record {
   caused = λ a m. by_cause a (answer_cause s (run_entries view steps run) (run_listed view steps run) a ((agrees.answers a).1 m));
   once = end_distinct (ids_of s.book.answers) (run_once view steps run) [] (ids_of (answers_in w.printed)) (λ i m. printed i (id_in s.book.answers i m)) (no_more (length-map s.book.answers (λ (a : Given). a.id)) agrees.many (length-map (answers_in w.printed) (λ (a : Given). a.id)));
+  proposed = λ id key version parent m. in_lines id (proposed_call s entries listed id key version parent (noted (Proposed key version parent (Some id)) m));
+  read = λ id key base m. in_lines id (read_call s entries listed id key base (noted (Read id key base) m));
 }
   where
     s : State
     s = state_after view steps
+
+    entries : EntriesAreSafe s
+    entries = run_entries view steps run
+
+    listed : Listed s
+    listed = run_listed view steps run
+
+    noted : (n : Noted) → n ∈ w.notes → n ∈ s.book.notes
+    noted n m = subst (λ (notes : List Noted). n ∈ notes) (sym agrees.notes) m
+
+    in_lines : (id : ℕ) → (c : Call) × (c ∈ s.book.calls) × (c.id ≡ id) → (c : Call) × (c ∈ calls_from 1 events) × (c.id ≡ id)
+    in_lines id c = (c.0, (agrees.calls c.0).0 c.1, c.2)
 
     by_cause : (a : Given) → (c : Call) × (c ∈ s.book.calls) × (c.id ≡ a.id) × HasCause s.book.notes c a.reply → (c : Call) × (c ∈ calls_from 1 events) × (c.id ≡ a.id) × HasCause w.notes c a.reply
     by_cause a c = (c.0, (agrees.calls c.0).0 c.1, c.2, subst (λ (notes : List Noted). HasCause notes c.0 a.reply) agrees.notes c.3)

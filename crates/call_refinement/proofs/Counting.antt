@@ -34,6 +34,7 @@ removed {A = A} (z ∷ zs) x (inr h) = by_rest (removed zs x h)
 abbrev pub Comes : {A B : Type 0} → (B → A) → List B → A → Type 0
 Comes {B = B} f ys x = (y : B) × (y ∈ ys) × (f y ≡ x)
 
+-- distinct items that each come from an item of a list are no more than its items
 pub images_few : {A B : Type 0} (f : B → A) (ys : List B) (xs : List A) → AreDistinct xs → ((x : A) → x ∈ xs → Comes f ys x) → length xs ≤ length ys
 images_few {A = A} f ys [] distinct come = omega arith
 images_few {A = A} {B = B} f ys (x ∷ xs) distinct come = by_first (come x (inl refl)) (λ zs. images_few f zs xs distinct.1)

@@ -1,5 +1,5 @@
 -- The answers that a peer owes at the end of its step are given, one after another.
-use Rattle.std.proofs.Common.{◌≡◌, ◌<◌, ◌^◌, ℕ, suc, true, List, [], ◌∷◌, ◌++◌, append_assoc, append-nil, refl, sym, ap, ◌∙◌, subst}
+use Rattle.std.proofs.Common.{◌≡◌, ◌<◌, ◌^◌, ℕ, suc, true, false, List, [], ◌∷◌, ◌++◌, append_assoc, append-nil, refl, sym, ap, ◌∙◌, subst}
 use Rattle.abstract_protocol.specs.Ledger.{put}
 use Rattle.abstract_protocol.specs.Objects.{Objects}
 use Rattle.abstract_protocol.specs.Protocol.{State, Step, Answer, happens, MayCome, state_after}
@@ -14,6 +14,7 @@ use Rattle.leader_words.specs.declared.out.AnswerOut.{AnswerOut}
 use Rattle.peer_core.specs.declared.state.Phase.{Phase}
 use Rattle.peer_core.specs.declared.state.Phase.TheVariants as phases
 use Rattle.register_model.specs.declared.note.Note.{Note}
+use Rattle.sync_laws.specs.Facts.{Lines}
 use Rattle.version_laws.proofs.Maps.{put_here, put_other, put_then}
 use Rattle.wire_frames.specs.declared.frame.Frame.{Frame}
 use Rattle.world_spec.specs.Nodes.{Node}
@@ -27,17 +28,18 @@ use Rattle.call_refinement.specs.Worlds.{PartsHold}
 -- ## A step of the book alone
 
 -- the parts of a world hold after a step that is of the book alone, and notes nothing
-pub parts_same : (view : List ℕ) (strings : List (List ℕ)) (steps : List Step) (e : Step) (nodes : List Node) (sent : List Frame) (hashed : List (List ℕ)) (notes : List Note) → MayCome (state_after view steps) e
+pub parts_same : (lines : Lines) (view : List ℕ) (strings : List (List ℕ)) (steps : List Step) (e : Step) (nodes : List Node) (sent : List Frame) (hashed : List (List ℕ)) (notes : List Note) → MayCome (state_after view steps) e
     → (happens (state_after view steps) e).objects ≡ (state_after view steps).objects → AsksFit (happens (state_after view steps) e) → (happens (state_after view steps) e).book.notes ≡ (state_after view steps).book.notes
-    → PartsHold view strings steps nodes sent hashed notes → PartsHold view strings (e ∷ steps) nodes sent hashed notes
-parts_same view strings steps e nodes sent hashed notes may same asked noted a = record {
+    → PartsHold lines view strings steps nodes sent hashed notes → PartsHold lines view strings (e ∷ steps) nodes sent hashed notes
+parts_same lines view strings steps e nodes sent hashed notes may same asked noted a = record {
   run = (a.run, may);
   orderly = subst (λ (o : Objects). IsOrderly o.ledger) (sym same) a.orderly;
-  acks = acks_stay s t strings same (stay_step s e may) a.acks;
+  acks = acks_stay s t strings (ap (λ (o : Objects). o.acked) same) (stay_step s e may) a.acks;
   asked = asked;
   epochs = subst (λ (o : Objects). (d : ℕ) → o.ledger.elected d ≡ true → d < 2 ^ 96) (sym same) a.epochs;
-  nodes_fit = λ place node at. node_fits view strings hashed hashed (suc place) s t (same_stays (suc place) s t same (stay_step s e may)) (λ x i. i) node (a.nodes_fit place node at);
-  messages = messages_same view strings s t sent same (stay_step s e may) a.messages;
+  firm = subst (λ (o : Objects). (q : ℕ) → lines.firm q ≡ true → o.reverted q ≡ false) (sym same) a.firm;
+  nodes_fit = λ place node at. node_fits lines strings hashed hashed (suc place) s t (same_stays (suc place) s t same (stay_step s e may)) (λ x i. i) node (a.nodes_fit place node at);
+  messages = messages_same lines strings s t sent (ap (λ (o : Objects). o.ledger) same) (stay_step s e may) a.messages;
   noted = noted ∙ a.noted;
 }
   where
@@ -58,6 +60,7 @@ owed_from : (owed : List Owed) (answers : List AnswerOut) → owed_after owed an
 owed_from owed [] = sym (append-nil owed)
 owed_from owed (a ∷ answers) = owed_from (owed ++ record { call = a.id; reply = a.reply } ∷ []) answers ∙ append_assoc owed (record { call = a.id; reply = a.reply } ∷ []) (owes answers)
 
+-- all answers of a step are owed at its end
 pub owed_all : (answers : List AnswerOut) → owed_after [] answers ≡ owes answers
 owed_all answers = owed_from [] answers
 
@@ -75,21 +78,22 @@ role_with key (phases.Electing (Starting new accepts age)) owed less = refl
 role_with key (phases.Following f) owed less = refl
 role_with key (phases.Probing b) owed less = refl
 
-module _ (view : List ℕ) (strings : List (List ℕ)) (nodes : List Node) (sent : List Frame) (hashed : List (List ℕ)) (made : List Note) (g : Ghosts) (roles : ℕ → Role) (said : List Sent) (p : ℕ) (phase : Phase) where
+module _ (lines : Lines) (view : List ℕ) (strings : List (List ℕ)) (nodes : List Node) (sent : List Frame) (hashed : List (List ℕ)) (made : List Note) (g : Ghosts) (roles : ℕ → Role) (said : List Sent) (p : ℕ) (phase : Phase) where
   -- all answers that peer p in this phase owed in state s were given
   pub record AllGiven (s : State) (answers : List AnswerOut) : Type 0 where
     pub steps : List Step
-    pub parts : PartsHold view strings steps nodes sent hashed made
+    pub parts : PartsHold lines view strings steps nodes sent hashed made
     pub hold : RolesHold g (state_after view steps) (put roles p (role_in [] phase [])) said
     pub given : (state_after view steps).book.answers ≡ with_answers s.book.now answers s.book.answers
     pub calls : (state_after view steps).book.calls ≡ s.book.calls
     pub notes : (state_after view steps).book.notes ≡ s.book.notes
     pub now : (state_after view steps).book.now ≡ s.book.now
 
-  pub all_given : (steps : List Step) (answers : List AnswerOut) → PartsHold view strings steps nodes sent hashed made → RolesHold g (state_after view steps) (put roles p (role_in [] phase (owes answers))) said → AllGiven (state_after view steps) answers
+  -- all of them are given, one after another
+  pub all_given : (steps : List Step) (answers : List AnswerOut) → PartsHold lines view strings steps nodes sent hashed made → RolesHold g (state_after view steps) (put roles p (role_in [] phase (owes answers))) said → AllGiven (state_after view steps) answers
   all_given steps [] parts hold = record { steps = steps; parts = parts; hold = hold; given = refl; calls = refl; notes = refl; now = refl }
   all_given steps (a ∷ answers) parts hold =
-      let rest = all_given (step ∷ steps) answers (parts_same view strings steps step nodes sent hashed made give.0 refl parts.asked refl parts) next in
+      let rest = all_given (step ∷ steps) answers (parts_same lines view strings steps step nodes sent hashed made give.0 refl parts.asked refl parts) next in
       record { steps = rest.steps; parts = rest.parts; hold = rest.hold; given = rest.given; calls = rest.calls; notes = rest.notes; now = rest.now }
     where
       s : State

@@ -28,6 +28,8 @@ asked_in s call = record { id = call.id; key = call.key; command = call.command;
 -- the scene of a step on a call: the call has come
 abbrev pub with_call : (c : Scene) (call : CallIn) → length (state_after c.view (Ask (asked_in (state_before c) call) ∷ c.begun)).book.calls < 2 ^ 32 → AsksFit (state_after c.view (Ask (asked_in (state_before c) call) ∷ c.begun)) → Scene
 with_call c call few asked = record {
+  lines = c.lines;
+  sound = c.sound;
   view = c.view;
   begun = Ask (asked_in (state_before c) call) ∷ c.begun;
   peer = c.peer;
@@ -38,6 +40,7 @@ with_call c call few asked = record {
   free = c.free;
   few = few;
   asked = asked;
+  firm = c.firm;
 }
 
 -- so does its step on a call, where the call has come, from the peer before it came

@@ -26,6 +26,7 @@ order_legal view steps events w key run agrees =
     legal_same (state_after view steps).book.calls (calls_from 1 events) (state_after view steps).book.answers (answers_in w.printed) agrees.calls agrees.answers key (order w.notes key)
     (subst (λ (ns : List Note). IsLegal (state_after view steps).book.calls (state_after view steps).book.answers key (order ns key)) agrees.notes (run_legal view steps key run))
 
+-- the histories of a world that agrees with the book of a run are legal
 pub histories_are_legal_of : (view : List ℕ) (steps : List Step) (events : List ScheduleEvent) (w : Run) (histories : List History) → IsRun view steps → BookAgrees events w (state_after view steps).book → AreHistories w.notes w.called histories → AreLegal events w.printed histories
 histories_are_legal_of view steps events w histories run agrees are h m = by_key (from_map (history_of w.notes) are.0 h (subst (λ (hs : List History). h ∈ hs) are.2 m))
   where

@@ -1,6 +1,6 @@
--- In a steady schedule every message obeys the grammar, every peer sends as itself, and no running peer
--- has waited long.
-use Rattle.std.proofs.Common.{◌≡◌, ℕ, ◌≤◌, ◌⊎◌, List, [], ◌∷◌, ◌++◌, Option, Some, Result, Ok, Err, slice_get, slice_set, ap, inl, inr, sym, ◌∙◌, subst, lit<, le_trans}
+-- In a schedule every message obeys the grammar, every peer sends as itself, and no running peer has waited
+-- long.
+use Rattle.std.proofs.Common.{◌≡◌, ℕ, ◌≤◌, ◌⊎◌, List, [], ◌∷◌, ◌++◌, Option, None, Some, Result, Ok, Err, slice_get, slice_set, refl, ap, inl, inr, sym, ◌∙◌, subst, lit<, le_trans}
 use Rattle.std.specs.Prelude.{All}
 use Rattle.ens_base.specs.View.{IsPeer}
 use Rattle.held_stores.specs.Answers.{answered}
@@ -11,20 +11,22 @@ use Rattle.network.specs.Mail.{MayBeSent}
 use Rattle.peer_core.proofs.Aging.{steps_young}
 use Rattle.peer_core.specs.Ages.{IsYoung}
 use Rattle.peer_core.specs.Drives.{step_of, MayCome}
-use Rattle.peer_core.specs.Kept.{IsStepCall}
+use Rattle.peer_core.specs.Kept.{IsStepCall, Reaches}
+use Rattle.peer_core.specs.Starts.{start_of, opened}
 use Rattle.peer_core.specs.declared.event.Event.{Event}
 use Rattle.peer_core.specs.declared.event.Event.TheVariants as does
 use Rattle.peer_core.specs.declared.state.State.{State}
-use Rattle.schedule_words.specs.Spelling.{IsAmong}
+use Rattle.peer_fact.specs.declared.fact.Fact.{Fact}
 use Rattle.register_model.specs.declared.note.Note.{Note}
+use Rattle.schedule_words.specs.Spelling.{IsAmong}
 use Rattle.step_plans.specs.Calls.{AnswerOf}
 use Rattle.step_plans.specs.Plans.{Plan, Done, Say, Ask, Out, Ending, Finished, Stopped, Follows}
 use Rattle.step_plans.specs.declared.error.PeerError.{PeerError}
 use Rattle.wire_frames.specs.declared.frame.Frame.{Frame}
-use Rattle.world_spec.proofs.Ending.{EndsIn, opening_is}
-use Rattle.world_spec.proofs.Obeying.{IsOwnNode, IsFine, opening_fine, stepped_fine, changed_fine, stopped_own, over_stores_own}
-use Rattle.world_spec.specs.Nodes.{Node, Up, Down, taken, taken_by, run_over, stopped, over_stores, opening_node}
-use Rattle.world_spec.specs.Runs.{Run, opening_run, place_of, with_taken, stepped_at, changed_at}
+use Rattle.world_spec.proofs.Ending.{EndsIn, run_reaches, opening_is}
+use Rattle.world_spec.proofs.Obeying.{IsOwnNode, IsFine, opening_fine, stepped_fine, changed_fine, started_own, stopped_own, over_stores_own, while_down_own}
+use Rattle.world_spec.specs.Nodes.{Node, Up, Down, taken, taken_by, run_over, started, hashed_by_start, stopped, over_stores, while_down, opening_node}
+use Rattle.world_spec.specs.Runs.{Run, opening_run, place_of, with_taken, stepped_at, changed_at, hashing}
 use Rattle.call_refinement.proofs.Places.{get_put, replicated}
 
 -- a running peer has not waited long
@@ -32,10 +34,12 @@ abbrev pub IsReady : Node → Type 0
 IsReady (Up x st) = IsYoung x.phase
 IsReady (Down st) = Unit {0}
 
+-- all messages obey the grammar, all peers send as themselves, and no running peer has waited long
 pub record IsIntact (w : Run) : Type 0 where
   pub fine : IsFine w
   pub ready : (place : ℕ) (node : Node) → slice_get w.nodes place ≡ Some node → IsReady node
 
+-- a peer among at most 31 has a number that a peer may have
 pub is_peer : (peers p : ℕ) → peers ≤ 31 → IsAmong peers p → IsPeer p
 is_peer peers p small among = (among.first, le_trans among.last small)
 
@@ -78,23 +82,47 @@ over_ready : (f : HeldStores → HeldStores) (node : Node) → IsReady node → 
 over_ready f (Up x st) ready = ready
 over_ready f (Down st) ready = tt
 
+while_down_ready : (f : HeldStores → HeldStores) (node : Node) → IsReady node → IsReady (while_down f node)
+while_down_ready f (Up x st) ready = ready
+while_down_ready f (Down st) ready = tt
+
+-- a peer that starts has not waited yet
+opened_ready : (view : List ℕ) (kept : Option Fact) → Reaches (λ y out. IsYoung y.phase) (opened view kept)
+opened_ready view None = λ a sound b kept. lit< tt
+opened_ready view (Some fact) = λ a sound. lit< tt
+
+started_ready : (view : List ℕ) (node : Node) → IsReady node → IsReady (started view node)
+started_ready view (Up x st) ready = ready
+started_ready view (Down st) ready = let e : Ended State = run_over (start_of view) st in ended_ready e.ending e.held e.notes (run_reaches (λ y out. IsYoung y.phase) (start_of view) (held_with st []) [] (λ kept sound. opened_ready view kept))
+
 -- a change of a node that a line makes: the peer sends as itself as before, and has not waited longer
 pub record IsHarmless (p : ℕ) (change : Node → Node) : Type 0 where
   pub own : (node : Node) → IsOwnNode p node → IsOwnNode p (change node)
   pub ready : (node : Node) → IsReady node → IsReady (change node)
 
+-- a peer that stops is harmless
 pub stopped_harmless : (p : ℕ) → IsHarmless p stopped
 stopped_harmless p = record { own = stopped_own p; ready = stopped_ready }
 
+-- so is a change of the stores
 pub over_harmless : (f : HeldStores → HeldStores) (p : ℕ) → IsHarmless p (over_stores f)
 over_harmless f p = record { own = over_stores_own f p; ready = over_ready f }
 
+-- and a change of the stores of a peer that is down
+pub while_down_harmless : (f : HeldStores → HeldStores) (p : ℕ) → IsHarmless p (while_down f)
+while_down_harmless f p = record { own = while_down_own f p; ready = while_down_ready f }
+
+started_harmless : (view : List ℕ) (p : ℕ) → IsHarmless p (started view)
+started_harmless view p = record { own = started_own p view; ready = started_ready view }
+
+-- a step of a peer keeps the world intact
 pub taken_intact : (p : ℕ) (event : Event) (node : Node) (w : Run) → IsPeer p → MayCome p event → slice_get w.nodes (place_of p) ≡ Some node → IsIntact w → IsIntact (with_taken p (taken p event node) w)
 taken_intact p event node w peer come at i = record {
   fine = subst (λ (o : Option Node). IsFine (stepped_at o p event w)) at (stepped_fine p event w peer come i.fine);
   ready = put_ready w.nodes (place_of p) (taken p event node).node i.ready (taken_ready p event node peer come (i.ready (place_of p) node at));
 }
 
+-- so does a harmless change of a node
 pub changed_intact : (change : Node → Node) (p : ℕ) (node : Node) (w : Run) → IsHarmless p change → IsPeer p → slice_get w.nodes (place_of p) ≡ Some node → IsIntact w → IsIntact (record w { nodes = slice_set w.nodes (place_of p) (change node) })
 changed_intact change p node w harmless peer at i = record {
   fine = subst (λ (o : Option Node). IsFine (changed_at o p change w)) at (changed_fine p change w peer harmless.own i.fine);
@@ -108,8 +136,15 @@ alike_intact w v nodes sent i = record {
   ready = λ place node at. i.ready place node (ap (λ (ns : List Node). slice_get ns place) (sym nodes) ∙ at);
 }
 
+-- a peer starts, and strings are hashed
+pub started_intact : (p : ℕ) (node : Node) (w : Run) → IsPeer p → slice_get w.nodes (place_of p) ≡ Some node → IsIntact w → IsIntact (hashing (hashed_by_start w.view node) (record w { nodes = slice_set w.nodes (place_of p) (started w.view node) }))
+started_intact p node w peer at i =
+    let v : Run = record w { nodes = slice_set w.nodes (place_of p) (started w.view node) } in
+    alike_intact v (hashing (hashed_by_start w.view node) v) refl refl (changed_intact (started w.view) p node w (started_harmless w.view p) peer at i)
+
 opening_ready : (view : List ℕ) → IsReady (opening_node view)
 opening_ready view = let o = opening_is view in subst IsReady (sym o.is) (lit< tt)
 
+-- the world is intact before the first event
 pub opening_intact : (peers : ℕ) (view : List ℕ) → IsIntact (opening_run peers view)
 opening_intact peers view = record { fine = opening_fine peers view; ready = λ place node at. subst IsReady (replicated peers place (opening_node view) node at) (opening_ready view) }

@@ -1,5 +1,7 @@
 -- The key of each proposed version was called; so keys and ids are no more than calls, and calls no more than events.
-use Rattle.std.proofs.Common.{◌≡◌, ℕ, ◌<◌, true, ◌⊎◌, List, [], ◌∷◌, Option, None, Some, arith, refl, inl, inr, ◌∙◌}
+use Rattle.std.proofs.Common.{◌≡◌, ℕ, ◌<◌, true, ◌⊎◌, List, [], ◌∷◌, length, map, suc, Option, None, Some, arith, refl, ap, sym, subst, inl, inr, ◌∙◌}
+use Rattle.ens_base.specs.Lists.{◌∈◌}
+use Rattle.ens_base.specs.declared.entry.Entry.{Entry}
 use Rattle.register_model.specs.declared.call.Call.{Call}
 use Rattle.election_laws.proofs.Epochs.{strong}
 use Rattle.version_laws.proofs.Basics.{Basics}
@@ -30,15 +32,18 @@ module _ (s : State) (basics : Basics s.objects) (entries : EntriesAreSafe s) (l
       by_parent k (inl z) = absurd (none k.some z)
       by_parent k (inr q) = same q (lower (s.objects.parent v) (basics.lower v p) q)
 
+  -- the key of each proposed version was called
   pub keys_called : KeysAreCalled s
   keys_called = strong (λ v. s.objects.proposed v ≡ true → IsCalled s (s.objects.key v)) (λ v lower p. called_by v p lower (s.book.call v) refl)
 
   key_called : (key : List ℕ) → IsProposed s key → Comes (λ (c : Call). c.key) s.book.calls key
   key_called key v = let c = keys_called v.0 v.1 in (c.0, c.1, c.2 ∙ v.2)
 
+  -- distinct keys of versions are no more than calls
   pub keys_few : KeysAreFew s
   keys_few keys distinct proposed = images_few (λ (c : Call). c.key) s.book.calls keys distinct (λ key m. key_called key (proposed key m))
 
+  -- distinct ids of calls are no more than calls
   pub ids_few : IdsAreFew s
   ids_few ids distinct called = images_few (λ (c : Call). c.id) s.book.calls ids distinct (λ i m. (s.book.asked i, listed.call_in i (called i m), (entries.calls i (called i m)).own_id))
 
@@ -64,15 +69,32 @@ calls_few_step s (Revert p m) old = old
 
 -- ## In each state of a run
 
+-- calls are no more than events
 pub run_calls_few : (view : List ℕ) (steps : List Step) → IsRun view steps → CallsAreFew (state_after view steps)
 run_calls_few view [] run = omega arith
 run_calls_few view (e ∷ steps) run = calls_few_step (state_after view steps) e (run_calls_few view steps run.0)
 
+-- the key of each proposed version was called
 pub run_keys_called : (view : List ℕ) (steps : List Step) → IsRun view steps → KeysAreCalled (state_after view steps)
 run_keys_called view steps run = keys_called (state_after view steps) (run_whole view steps run).basics (run_entries view steps run) (run_listed view steps run)
 
+-- distinct keys of versions are no more than calls
 pub run_keys_few : (view : List ℕ) (steps : List Step) → IsRun view steps → KeysAreFew (state_after view steps)
 run_keys_few view steps run = keys_few (state_after view steps) (run_whole view steps run).basics (run_entries view steps run) (run_listed view steps run)
 
+-- distinct ids of calls are no more than calls
 pub run_ids_few : (view : List ℕ) (steps : List Step) → IsRun view steps → IdsAreFew (state_after view steps)
 run_ids_few view steps run = ids_few (state_after view steps) (run_whole view steps run).basics (run_entries view steps run) (run_listed view steps run)
+
+-- ## The keys of a map
+
+-- a map has as many keys as entries
+pub length_keys : (m : List Entry) → length (map (λ (e : Entry). e.key) m) ≡ length m
+length_keys [] = refl
+length_keys (e ∷ m) = ap suc (length_keys m)
+
+-- what holds of the key of each entry holds of each key
+pub key_from : (P : List ℕ → Type 0) (m : List Entry) → ((e : Entry) → e ∈ m → P e.key) → (k : List ℕ) → k ∈ map (λ (e : Entry). e.key) m → P k
+key_from P [] holds k i = absurd i
+key_from P (e ∷ m) holds k (inl same) = subst P (sym same) (holds e (inl refl))
+key_from P (e ∷ m) holds k (inr i) = key_from P m (λ f j. holds f (inr j)) k i

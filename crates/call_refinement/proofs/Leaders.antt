@@ -1,7 +1,8 @@
 -- A leader in the middle of a step: it is at work on a key; after each rule that is moves of the theory it is in
 -- agreement with a longer run; and it may step down.
 use Rattle.std.specs.Prelude.{All, map}
-use Rattle.std.proofs.Common.{◌≡◌, ℕ, Bool, true, List, [], ◌++◌, append_assoc, Option, sym, ap, subst, ◌∙◌}
+use Rattle.std.proofs.Common.{◌≡◌, ℕ, Bool, true, false, List, [], ◌++◌, append_assoc, Option, None, Some, refl, sym, ap, subst, ◌∙◌}
+use Rattle.std.proofs.lemmas.Bool.{false≢true}
 use Rattle.std.proofs.lemmas.List.Elements.{All-append, All-weaker}
 use Rattle.abstract_protocol.proofs.Steps.{onto_run, onto_state}
 use Rattle.abstract_protocol.specs.Ledger.{Ledger, Place, put, is_established}
@@ -11,7 +12,8 @@ use Rattle.abstract_protocol.specs.Protocol.{State, Step, IsRun, state_after, af
 use Rattle.call_table.specs.Calls.{running}
 use Rattle.call_table.specs.Rows.{row_at}
 use Rattle.election_refinement.proofs.Keeps.{Keeps, keeps_none}
-use Rattle.election_refinement.specs.Plain.{IsPlainPeer, IsPlainFact, IsPlainMessage}
+use Rattle.election_refinement.proofs.Listed.{listed_leader}
+use Rattle.election_refinement.specs.Listed.{IsListedPeer, IsListedMessage}
 use Rattle.election_refinement.specs.Refinement.{PeerHolds, SyncHolds, SendHolds, IsOrderly, IsLeading, IsStarted}
 use Rattle.entry_laws.proofs.Later.{stay_after}
 use Rattle.ens_base.specs.declared.epoch.Epoch.{Epoch}
@@ -41,17 +43,19 @@ use Rattle.peer_core.specs.declared.state.State.{State as PeerState}
 use Rattle.peer_fact.specs.declared.fact.Fact.{Fact}
 use Rattle.register_model.specs.declared.note.Note.{Note}
 use Rattle.request_refinement.proofs.Replying.{run_serves}
-use Rattle.request_refinement.proofs.Staying.{maps_stay}
 use Rattle.request_refinement.specs.Naming.{hash_of}
-use Rattle.request_refinement.specs.Replies.{Serves}
+use Rattle.request_refinement.specs.Replies.{MapSays, Serves}
 use Rattle.running_sync.specs.Running.{Running}
 use Rattle.step_plans.specs.Plans.{Out}
+use Rattle.sync_refinement.proofs.Gives.{trusted_maps}
+use Rattle.sync_refinement.specs.Syncs.{SyncMaySay}
 use Rattle.version_laws.proofs.Maps.{put_here}
 use Rattle.call_refinement.proofs.Frame.{Scene, state_before, Elsewhere, now, Here, AtRest}
 use Rattle.call_refinement.proofs.Moving.{role_here, role_replaced, role_once, owed_both, elsewhere_then}
 use Rattle.call_refinement.proofs.Saying.{says_more}
-use Rattle.call_refinement.proofs.Sayings.{AskFits, AcksShow, asks_say, call_holds, call_plain, call_fits, spares_tree, acks_later}
-use Rattle.call_refinement.proofs.Staying.{sends_stay}
+use Rattle.call_refinement.proofs.Sayings.{AskFits, AcksShow, asks_say, call_holds, call_listed, call_fits, acks_later}
+use Rattle.call_refinement.proofs.Staying.{sync_stays, sends_stay}
+use Rattle.call_refinement.proofs.Trees.{tree_stays}
 use Rattle.call_refinement.specs.Peers.{TreeHolds, AcksSay, PhaseFits, TaskFits, IsAtRest, SendFits}
 use Rattle.call_refinement.specs.Roles.{role_in, said_in_sends}
 
@@ -66,8 +70,13 @@ still_leads l p fact leadership leader same accepts old = record {
   change = old.change;
 }
 
+-- no sync runs at a leader
+pub no_sync : (l : Ledger) (p : ℕ) (fact : Fact) (sync : Option Running) → SyncHolds l p fact false sync → sync ≡ None
+no_sync l p fact None holds = refl
+no_sync l p fact (Some r) holds = absurd (false≢true holds.may.waits)
+
 module _ (c : Scene) where
-  open c use {view, strings, peer as p}
+  open c use {lines, view, strings, peer as p}
 
   -- ## A longer run
 
@@ -77,13 +86,14 @@ module _ (c : Scene) where
     pub orderly : IsOrderly t.objects.ledger
     pub acks : AcksSay t strings
     pub peer : PeerHolds t.objects.ledger p x h.stores.facts.kept
-    pub plain : IsPlainPeer view x
-    pub trust : t.objects.trusted p ≡ true
+    pub listed : IsListedPeer lines.voting p x
+    pub trust : t.objects.trusted p ≡ x.trusted
     pub tree : TreeHolds t strings p h
+    pub sync : SyncMaySay lines t strings p x.fact x.trusted tree.map x.sync
     pub noted : t.book.notes ≡ (state_before c).book.notes ++ notes
     pub sends : All (SendHolds t.objects.ledger p) out.sends
-    pub plain_sends : All (λ (o : Outgoing). IsPlainMessage view o.message) out.sends
-    pub fits_sends : All (SendFits t strings) out.sends
+    pub listed_sends : All (λ (o : Outgoing). IsListedMessage lines.voting o.message) out.sends
+    pub fits_sends : All (SendFits lines t strings p) out.sends
 
   -- and what is said of calls
   pub record Stands (key : List ℕ) (x : PeerState) (h : Held) (out : Out) (notes : List Note) (g : Ghosts) (t : State) : Type 0 where
@@ -93,34 +103,38 @@ module _ (c : Scene) where
     pub task : TaskFits t key x.phase
     pub standing : Standing x h out notes t
 
-  pub standing_of : (key : List ℕ) (x : PeerState) (h : Held) (out : Out) (notes : List Note) (here : Here c key x h out notes) → Standing x h out notes (now c here.reached)
+  -- what stands of a peer that is in agreement
+  abbrev pub standing_of : (key : List ℕ) (x : PeerState) (h : Held) (out : Out) (notes : List Note) (here : Here c key x h out notes) → Standing x h out notes (now c here.reached)
   standing_of key x h out notes here = record {
     elsewhere = here.reached.elsewhere;
     orderly = here.reached.orderly;
     acks = here.reached.acks;
     peer = here.peer;
-    plain = here.plain;
+    listed = here.listed;
     trust = here.trust;
     tree = here.tree;
+    sync = here.sync;
     noted = here.noted;
     sends = here.sends;
-    plain_sends = here.plain_sends;
+    listed_sends = here.listed_sends;
     fits_sends = here.fits_sends;
   }
 
+  -- a peer of which this stands after a run is in agreement with it
   abbrev pub stands_here : (key : List ℕ) (x : PeerState) (h : Held) (out : Out) (notes : List Note) (g : Ghosts) (steps : List Step) → IsRun view steps → Stands key x h out notes g (state_after view steps) → Here c key x h out notes
   stands_here key x h out notes g steps run there = let standing = there.standing in record {
     reached = record { steps = steps; run = run; ghosts = g; hash = there.hash; elsewhere = standing.elsewhere; orderly = standing.orderly; acks = standing.acks };
     roles = there.roles;
     peer = standing.peer;
-    plain = standing.plain;
+    listed = standing.listed;
     trust = standing.trust;
     tree = standing.tree;
+    sync = standing.sync;
     fits = there.fits;
     task = there.task;
     noted = standing.noted;
     sends = standing.sends;
-    plain_sends = standing.plain_sends;
+    listed_sends = standing.listed_sends;
     fits_sends = standing.fits_sends;
   }
 
@@ -146,6 +160,7 @@ module _ (c : Scene) where
       map = λ q other. ap (λ (m : ℕ → Map). m q) kept.map;
       visible = λ q other. ap (λ (m : ℕ → Map). m q) kept.visible;
       trusted = λ q other. ap (λ (m : ℕ → Bool). m q) kept.trusted;
+      reverted = λ q. ap (λ (m : ℕ → Bool). m q) kept.reverted;
       stays = stay_after s steps may;
       calls = kept.calls;
       called = kept.called;
@@ -166,33 +181,39 @@ module _ (c : Scene) where
       sync = old.peer.sync;
     })
 
-    new_plain : IsPlainPeer view (leading after_rule x)
-    new_plain = record { fact = old.plain.fact; phase = record { fact = subst (IsPlainFact view) (sym same.0) old.plain.phase.fact; settled = old.plain.phase.settled }; trusted = old.plain.trusted; sync = old.plain.sync }
+    new_listed : IsListedPeer lines.voting p (leading after_rule x)
+    new_listed = record { fact = old.listed.fact; phase = listed_leader old.listed.phase r.0 same.0; sync = old.listed.sync }
 
     new_sends : All AskFits r.1.sends → All (SendHolds later.objects.ledger p) (out.sends ++ r.1.sends)
     new_sends asks = subst (λ m. All (SendHolds m p) (out.sends ++ r.1.sends)) (sym kept.ledger)
         (All-append (SendHolds s.objects.ledger p) out.sends r.1.sends old.sends (All-weaker AskFits (SendHolds s.objects.ledger p) (λ o a. (a.to, call_holds s.objects.ledger p o.message a.fits)) r.1.sends asks))
 
-    new_fits_sends : All AskFits r.1.sends → All (SendFits later strings) (out.sends ++ r.1.sends)
-    new_fits_sends asks = All-append (SendFits later strings) out.sends r.1.sends
-        (sends_stay s later strings (stay_after s steps may) out.sends old.fits_sends)
-        (All-weaker AskFits (SendFits later strings) (λ o a. call_fits later strings o.message a.fits) r.1.sends asks)
+    new_listed_sends : All AskFits r.1.sends → All (λ (o : Outgoing). IsListedMessage lines.voting o.message) (out.sends ++ r.1.sends)
+    new_listed_sends asks = All-append (λ (o : Outgoing). IsListedMessage lines.voting o.message) out.sends r.1.sends old.listed_sends
+        (All-weaker AskFits (λ (o : Outgoing). IsListedMessage lines.voting o.message) (λ o a. call_listed lines.voting o.message a.fits) r.1.sends asks)
+
+    new_fits_sends : All AskFits r.1.sends → All (SendFits lines later strings p) (out.sends ++ r.1.sends)
+    new_fits_sends asks = All-append (SendFits lines later strings p) out.sends r.1.sends
+        (sends_stay s later strings (stay_after s steps may) lines p out.sends old.fits_sends)
+        (All-weaker AskFits (SendFits lines later strings p) (λ o a. call_fits lines later strings p o.message a.fits) r.1.sends asks)
 
     shows : l.leader.me ≡ p → AcksShow s p later
     shows own = subst (λ q. AcksShow s q later) own (acks_shown s l.leader.me steps kinds)
 
-    pub steps_stand : (g : Ghosts) → g.hash ≡ hash_of → l.leader.me ≡ p → All AskFits r.1.sends → Standing (leading (with_leader r.0 l) x) h (and_sends (and_answers out r.1.answers) r.1.sends) (notes ++ r.1.notes) later
-    steps_stand g hash own asks = record {
+    -- what stands of the leader still does after a rule that is moves of the theory
+    pub steps_stand : (g : Ghosts) → g.hash ≡ hash_of → MapSays s strings p old.tree.map → l.leader.me ≡ p → All AskFits r.1.sends → Standing (leading (with_leader r.0 l) x) h (and_sends (and_answers out r.1.answers) r.1.sends) (notes ++ r.1.notes) later
+    steps_stand g hash map_says own asks = record {
       elsewhere = elsewhere_then p (state_before c) s later old.elsewhere moved;
       orderly = subst IsOrderly (sym kept.ledger) old.orderly;
-      acks = acks_later s g strings p old.tree.map steps hash c.free old.tree.says may (shows own) old.acks;
+      acks = acks_later s g strings p old.tree.map steps hash c.free map_says may (shows own) old.acks;
       peer = new_peer;
-      plain = new_plain;
+      listed = new_listed;
       trust = ap (λ (t : ℕ → Bool). t p) kept.trusted ∙ old.trust;
-      tree = record { map = old.tree.map; whole = old.tree.whole; says = maps_stay s strings strings steps p old.tree.map may (spares_tree s l.leader.me p steps kinds) (λ a at. at) old.tree.says };
+      tree = tree_stays s later strings p h (stay_after s steps may) (ap (λ (m : ℕ → Map). m p) kept.visible) old.tree;
+      sync = sync_stays lines s later strings p x.fact x.trusted old.tree.map x.sync (stay_after s steps may) old.peer.saved.ballot old.sync;
       noted = told_notes ∙ ap (λ ns. ns ++ r.1.notes) old.noted ∙ append_assoc (state_before c).book.notes notes r.1.notes;
       sends = new_sends asks;
-      plain_sends = All-append (λ (o : Outgoing). IsPlainMessage view o.message) out.sends r.1.sends old.plain_sends (All-weaker AskFits (λ (o : Outgoing). IsPlainMessage view o.message) (λ o a. call_plain view o.message a.fits) r.1.sends asks);
+      listed_sends = new_listed_sends asks;
       fits_sends = new_fits_sends asks;
     }
 
@@ -217,6 +238,7 @@ module _ (c : Scene) where
 
   -- ## A leader at work
 
+  -- a peer stays in agreement if its phase is written out
   pub as_leading : {key : List ℕ} {h : Held} {out : Out} {notes : List Note} (x : PeerState) (phase : Phase) → x.phase ≡ phase → Here c key x h out notes → Here c key (record x { phase = phase }) h out notes
   as_leading {key} {h} {out} {notes} x phase is here = subst (λ (f : Phase). Here c key (record x { phase = f }) h out notes) is here
 
@@ -230,26 +252,39 @@ module _ (c : Scene) where
     abbrev owed : List Owed
     owed = owed_after [] out.answers
 
+    -- the table of the leader is that of a leader of the theory
     pub leads_here : IsLeaderOf ghosts state p (table_of key owed l.leader)
     leads_here = role_here ghosts state p (said_in_sends p out.sends ++ c.said) c.roles (Leads (table_of key owed l.leader)) here.roles
 
+    -- the leader is at work on the key
     pub at_work : IsAtWork ghosts state key owed l.leader
     at_work = record { holds = leads_here.table; turns = here.roles.turns; fits = here.fits; task = here.task }
 
+    -- its number is that of its peer
     pub own_peer : l.leader.me ≡ p
     own_peer = leads_here.peer
 
+    -- the leader's own peer trusts its tree
+    trusts : state.objects.trusted p ≡ true
+    trusts = here.trust ∙ here.listed.phase.sees
+
+    -- so the tree shows the map that the peer wrote last
+    pub own_map : MapSays state strings p here.tree.map
+    own_map = trusted_maps view here.reached.steps here.reached.run strings p here.tree.map trusts here.tree.says
+
     serves : Serves state p x.fact true
     serves = let saved = here.peer.saved in
-        run_serves view here.reached.steps here.reached.run p x.fact true saved.ballot (ap (λ (place : Place). place.epoch) saved.place) here.trust saved.known.ballot saved.known.epoch saved.known.below
+        run_serves view here.reached.steps here.reached.run p x.fact true saved.ballot (ap (λ (place : Place). place.epoch) saved.place) trusts saved.known.ballot saved.known.epoch saved.known.below
 
-    -- the leader's own peer stands at the epoch, which it accepted, and trusts its tree
+    -- the peer stands at the epoch, which it accepted
     pub own_ballot : state.objects.ledger.ballot l.leader.me ≡ epoch_number l.leader.fact.epoch
     own_ballot = subst (λ q. state.objects.ledger.ballot q ≡ epoch_number l.leader.fact.epoch) (sym own_peer) (here.peer.saved.ballot ∙ ap epoch_number (sym here.peer.phase.started.at_ballot))
 
+    -- the peer trusts its tree
     pub own_trust : state.objects.trusted l.leader.me ≡ true
-    own_trust = subst (λ q. state.objects.trusted q ≡ true) (sym own_peer) here.trust
+    own_trust = subst (λ q. state.objects.trusted q ≡ true) (sym own_peer) trusts
 
+    -- the peer accepted the epoch
     pub own_accepted : state.objects.ledger.accepted (epoch_number l.leader.fact.epoch) l.leader.me ≡ true
     own_accepted = subst (λ q. state.objects.ledger.accepted (epoch_number l.leader.fact.epoch) q ≡ true) (sym own_peer) (subst (λ (e : Epoch). state.objects.ledger.accepted (epoch_number e) p ≡ true) here.peer.phase.has serves.accepted)
 
@@ -259,14 +294,15 @@ module _ (c : Scene) where
       reached = here.reached;
       roles = role_replaced ghosts state p (said_in_sends p out.sends ++ c.said) c.roles (Leads (table_of key owed l.leader)) (Leads (table_of k owed l.leader)) here.roles (record { peer = leads_here.peer; own = leads_here.own; table = work.holds });
       peer = here.peer;
-      plain = here.plain;
+      listed = here.listed;
       trust = here.trust;
       tree = here.tree;
+      sync = here.sync;
       fits = here.fits;
       task = work.task;
       noted = here.noted;
       sends = here.sends;
-      plain_sends = here.plain_sends;
+      listed_sends = here.listed_sends;
       fits_sends = here.fits_sends;
     }
 
@@ -280,7 +316,7 @@ module _ (c : Scene) where
           roles = move_roles key out l.leader state ghosts e steps r (run_roles view here.reached.steps here.reached.run) here.roles same move turns says;
           fits = fits;
           task = task;
-          standing = steps_stand l x h out notes state (standing_of key (leading l x) h out notes here) steps move.may kinds r same told_notes ghosts here.reached.hash own_peer asks;
+          standing = steps_stand l x h out notes state (standing_of key (leading l x) h out notes here) steps move.may kinds r same told_notes ghosts here.reached.hash own_map own_peer asks;
         })
 
     -- the leader has followed a rule
@@ -294,15 +330,16 @@ module _ (c : Scene) where
     stepped = record {
       reached = here.reached;
       roles = left_role;
-      peer = record { saved = here.peer.saved; kept = here.peer.kept; phase = tt; sync = subst (λ (sync : Option Running). SyncHolds state.objects.ledger p x.fact true sync) (sym here.plain.sync) tt };
-      plain = record { fact = here.plain.fact; phase = tt; trusted = here.plain.trusted; sync = here.plain.sync };
+      peer = record { saved = here.peer.saved; kept = here.peer.kept; phase = tt; sync = subst (λ (sync : Option Running). SyncHolds state.objects.ledger p x.fact true sync) (sym (no_sync state.objects.ledger p x.fact x.sync here.peer.sync)) tt };
+      listed = record { fact = here.listed.fact; phase = tt; sync = here.listed.sync };
       trust = here.trust;
       tree = here.tree;
+      sync = here.sync;
       fits = tt;
       task = tt;
       noted = here.noted;
       sends = here.sends;
-      plain_sends = here.plain_sends;
+      listed_sends = here.listed_sends;
       fits_sends = here.fits_sends;
     }
       where
@@ -323,9 +360,9 @@ module _ (c : Scene) where
 
   rekeyed_phase : (key k : List ℕ) (x : PeerState) (h : Held) (out : Out) (notes : List Note) (phase : Phase) → Here c key (record x { phase = phase }) h out notes → IsAtRest phase → Here c k (record x { phase = phase }) h out notes
   rekeyed_phase key k x h out notes (phases.Leading l) here free = rekeyed_leader l x here k free
-  rekeyed_phase key k x h out notes (phases.Following f) here free = record { reached = here.reached; roles = here.roles; peer = here.peer; plain = here.plain; trust = here.trust; tree = here.tree; fits = tt; task = tt; noted = here.noted; sends = here.sends; plain_sends = here.plain_sends; fits_sends = here.fits_sends }
-  rekeyed_phase key k x h out notes (phases.Probing b) here free = record { reached = here.reached; roles = here.roles; peer = here.peer; plain = here.plain; trust = here.trust; tree = here.tree; fits = tt; task = tt; noted = here.noted; sends = here.sends; plain_sends = here.plain_sends; fits_sends = here.fits_sends }
-  rekeyed_phase key k x h out notes (phases.Electing e) here free = record { reached = here.reached; roles = here.roles; peer = here.peer; plain = here.plain; trust = here.trust; tree = here.tree; fits = tt; task = tt; noted = here.noted; sends = here.sends; plain_sends = here.plain_sends; fits_sends = here.fits_sends }
+  rekeyed_phase key k x h out notes (phases.Following f) here free = record { reached = here.reached; roles = here.roles; peer = here.peer; listed = here.listed; trust = here.trust; tree = here.tree; sync = here.sync; fits = tt; task = tt; noted = here.noted; sends = here.sends; listed_sends = here.listed_sends; fits_sends = here.fits_sends }
+  rekeyed_phase key k x h out notes (phases.Probing b) here free = record { reached = here.reached; roles = here.roles; peer = here.peer; listed = here.listed; trust = here.trust; tree = here.tree; sync = here.sync; fits = tt; task = tt; noted = here.noted; sends = here.sends; listed_sends = here.listed_sends; fits_sends = here.fits_sends }
+  rekeyed_phase key k x h out notes (phases.Electing e) here free = record { reached = here.reached; roles = here.roles; peer = here.peer; listed = here.listed; trust = here.trust; tree = here.tree; sync = here.sync; fits = tt; task = tt; noted = here.noted; sends = here.sends; listed_sends = here.listed_sends; fits_sends = here.fits_sends }
 
   -- without a task at hand the key says nothing
   pub rekeyed : (key k : List ℕ) (x : PeerState) (h : Held) (out : Out) (notes : List Note) → AtRest c key x h out notes → AtRest c k x h out notes

@@ -16,7 +16,7 @@ use Rattle.leader_words.specs.declared.out.Own.{Own}
 use Rattle.leading.specs.Ticks.{left_answer}
 use Rattle.leading.specs.declared.leader.Leader.{Leader}
 use Rattle.peer_core.specs.Drives.{followed_up, and_row, lead_done}
-use Rattle.peer_core.specs.Moves.{follower, left, left_answers, and_answers, leading, with_leader, turned, turned_answers}
+use Rattle.peer_core.specs.Moves.{follower, left, left_answers, untrusted, and_answers, leading, with_leader, turned, turned_answers}
 use Rattle.peer_core.specs.Syncs.{and_sends}
 use Rattle.peer_core.specs.declared.state.Leadership.{Leadership}
 use Rattle.peer_core.specs.declared.state.State.{State as PeerState}
@@ -27,10 +27,11 @@ use Rattle.step_plans.specs.declared.tasks.Task.{Task}
 use Rattle.step_plans.specs.declared.tasks.Task.TheVariants as tasks
 use Rattle.wire_frames.specs.declared.phase.Then.{Then}
 use Rattle.wire_frames.specs.declared.phase.Then.TheVariants as thens
-use Rattle.call_refinement.proofs.Frame.{Scene, now, Here, Ends, Onward}
+use Rattle.call_refinement.proofs.Frame.{Scene, now, Here, AtRest, Ends, Onward}
 use Rattle.call_refinement.proofs.Leaders.{led, stepped}
+use Rattle.call_refinement.proofs.Losing.{untrusts}
 use Rattle.call_refinement.proofs.Sayings.{AskFits}
-use Rattle.call_refinement.proofs.Tame.{NamesNext, IsCalmOut, IsTame}
+use Rattle.call_refinement.proofs.Tame.{NamesNext, IsCalmOut, IsTame, IsDamage}
 use Rattle.call_refinement.proofs.Tasks.{AreApart, AreIdle, idle_in_order, TasksFit, named_fits}
 
 -- ## Outputs
@@ -44,6 +45,10 @@ out_same a b x y changes e f = λ i. record { sends = e i; answers = f i; change
 -- nothing is answered and sent
 pub told_nothing : (out : Out) → and_sends (and_answers out []) [] ≡ out
 told_nothing out = out_same (out.sends ++ []) out.sends (out.answers ++ []) out.answers out.changes (append-nil out.sends) (append-nil out.answers)
+
+-- the answer of a rule that was shown damage
+damage_is : (r : Leader × LeadOut) → IsDamage r → r.1 ≡ comes thens.Untrust
+damage_is r is = λ i. record { leave = is.5 i; sends = is.2 i; answers = is.4 i; notes = is.3 i; own = is.1 i; then = is.0 i; keys = is.6 i }
 
 module _ (c : Scene) where
   open c use {view, peer as p}
@@ -89,6 +94,7 @@ module _ (c : Scene) where
         Plans own leave = Ends c (followed_up p n own r.1.then r.1.keys (left leave y) (and_sends (and_answers (left_answers leave y out) r.1.answers) r.1.sends) next)
             (followed_up p n own r.1.then r.1.keys (left leave y) (and_sends (and_answers (left_answers leave y out) r.1.answers) r.1.sends) mark) h (notes ++ r.1.notes)
 
+    -- a rule whose answer is calm ends well if the next one fits
     pub calm_plan : (n : ℕ) (ts : List Task) (out : Out) (notes : List Note) → IsCalmOut r.1 → Here c key (leading (with_leader r.0 l) x) h (and_sends (and_answers out r.1.answers) r.1.sends) (notes ++ r.1.notes) → NextFits key r.0 r.1.own r.1.then r.1.keys → IsReadyFor r.1.then key r.0
         → AreApart key ts → AreIdle r.0 ts → (next mark : Rest PeerState (List Task)) → Onward c (There ts) next mark
         → Ends c (lead_done p n r.1 (leading (with_leader r.0 l) x) out next) (lead_done p n r.1 (leading (with_leader r.0 l) x) out mark) h notes
@@ -111,20 +117,24 @@ module _ (c : Scene) where
     abbrev pub after_row : List ℕ → Type 0
     after_row k = Here c k (leading (with_leader r.0 l) x) h (and_sends (and_answers out r.1.answers) r.1.sends) (notes ++ r.1.notes)
 
+    -- after a rule that is moves of the theory the peer is in agreement
     pub followed : (f : Follows g s key owes l.leader r) → All AskFits r.1.sends → after_row key
     followed f asks = led c l x here r f asks
 
     -- ## The leader steps down
 
-    left_here : r.1 ≡ leaves → GoesOn g s key owes l.leader r → Here c [] (record x { phase = follower }) h (and_answers out (map left_answer r.0.table.calls)) notes
-    left_here is (inl ends) = subst (λ answers. Here c [] (record x { phase = follower }) h (and_answers out answers) notes) (sym ends.calls) (stepped c l x here)
-    left_here is (inr f) = stepped c (with_leader r.0 l) x there
+    -- after a rule that answers, sends and notes nothing
+    left_here : r.1.sends ≡ [] → r.1.answers ≡ [] → r.1.notes ≡ [] → GoesOn g s key owes l.leader r → Here c [] (record x { phase = follower }) h (and_answers out (map left_answer r.0.table.calls)) notes
+    left_here no_sends no_answers no_notes (inl ends) = subst (λ answers. Here c [] (record x { phase = follower }) h (and_answers out answers) notes) (sym ends.calls) (stepped c l x here)
+    left_here no_sends no_answers no_notes (inr f) = stepped c (with_leader r.0 l) x there
       where
         asks : All AskFits r.1.sends
-        asks = subst (λ (o : LeadOut). All AskFits o.sends) (sym is) (All-nil AskFits)
+        asks = subst (λ (sends : List Outgoing). All AskFits sends) (sym no_sends) (All-nil AskFits)
 
         quiet : Here c key (leading (with_leader r.0 l) x) h (and_sends (and_answers out []) []) (notes ++ [])
-        quiet = subst (λ (o : LeadOut). Here c key (leading (with_leader r.0 l) x) h (and_sends (and_answers out o.answers) o.sends) (notes ++ o.notes)) is (followed f asks)
+        quiet = subst (λ (sends : List Outgoing). Here c key (leading (with_leader r.0 l) x) h (and_sends (and_answers out []) sends) (notes ++ [])) no_sends
+            (subst (λ (answers : List AnswerOut). Here c key (leading (with_leader r.0 l) x) h (and_sends (and_answers out answers) r.1.sends) (notes ++ [])) no_answers
+            (subst (λ (more : List Note). Here c key (leading (with_leader r.0 l) x) h (and_sends (and_answers out r.1.answers) r.1.sends) (notes ++ more)) no_notes (followed f asks)))
 
         there : Here c key (leading (with_leader r.0 l) x) h out notes
         there = subst (λ (o : Out). Here c key (leading (with_leader r.0 l) x) h o notes) (told_nothing out) (subst (λ ns. Here c key (leading (with_leader r.0 l) x) h (and_sends (and_answers out []) []) ns) (append-nil notes) quiet)
@@ -136,7 +146,24 @@ module _ (c : Scene) where
         (go [] [] (record x { phase = follower }) h (and_sends (and_answers (and_answers out (map left_answer r.0.table.calls)) []) []) notes (inl ((there, tt), idle_in_order r.0 ts idle)))
       where
         there : Here c [] (record x { phase = follower }) h (and_sends (and_answers (and_answers out (map left_answer r.0.table.calls)) []) []) notes
-        there = subst (λ (o : Out). Here c [] (record x { phase = follower }) h o notes) (sym (told_nothing (and_answers out (map left_answer r.0.table.calls)))) (left_here is goes)
+        there = subst (λ (o : Out). Here c [] (record x { phase = follower }) h o notes) (sym (told_nothing (and_answers out (map left_answer r.0.table.calls))))
+            (left_here (ap (λ (o : LeadOut). o.sends) is) (ap (λ (o : LeadOut). o.answers) is) (ap (λ (o : LeadOut). o.notes) is) goes)
+
+    -- the plan of a leader whose rule was shown damage: it steps down, and its peer no longer trusts its tree
+    pub damage_ends : (n : ℕ) (ts : List Task) → IsDamage r → GoesOn g s key owes l.leader r → AreIdle r.0 ts → (next mark : Rest PeerState (List Task)) → Onward c (There ts) next mark
+        → Ends c (lead_done p n r.1 (leading (with_leader r.0 l) x) out next) (lead_done p n r.1 (leading (with_leader r.0 l) x) out mark) h notes
+    damage_ends n ts is goes idle next mark go = subst (λ (o : LeadOut). Ends c (lead_done p n o (leading (with_leader r.0 l) x) out next) (lead_done p n o (leading (with_leader r.0 l) x) out mark) h notes) (sym (damage_is r is))
+        (go [] [] (untrusted (record x { phase = follower })) h (and_answers (and_sends (and_answers out []) []) calls) notes (inl (there, idle_in_order r.0 ts idle)))
+      where
+        calls : List AnswerOut
+        calls = map left_answer r.0.table.calls
+
+        same_out : and_answers (and_answers out calls) [] ≡ and_answers (and_sends (and_answers out []) []) calls
+        same_out = out_same out.sends (out.sends ++ []) ((out.answers ++ calls) ++ []) ((out.answers ++ []) ++ calls) out.changes (sym (append-nil out.sends))
+            (append-nil (out.answers ++ calls) ∙ ap (λ (answers : List AnswerOut). answers ++ calls) (sym (append-nil out.answers)))
+
+        there : AtRest c [] (untrusted (record x { phase = follower })) h (and_answers (and_sends (and_answers out []) []) calls) notes
+        there = subst (λ (o : Out). AtRest c [] (untrusted (record x { phase = follower })) h o notes) same_out (untrusts c (left_here is.2 is.4 is.3 goes, tt))
 
     -- ## The leader stays
 
@@ -148,6 +175,7 @@ module _ (c : Scene) where
         by_why (inl is) = true≢false (sym (ap (λ (o : LeadOut). o.leave) is) ∙ leave)
         by_why (inr is) = subst (λ (o : LeadOut). NamesNext o.then) is next
 
+    -- so its rule is moves of the theory
     pub stays_follows : r.1.leave ≡ false → NamesNext r.1.then → GoesOn g s key owes l.leader r → Follows g s key owes l.leader r
     stays_follows leave next (inl ends) = absurd (stays_on leave next ends)
     stays_follows leave next (inr f) = f

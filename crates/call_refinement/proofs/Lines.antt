@@ -100,9 +100,11 @@ next_is n m e few = omega arith
 all_counted : (n m : ℕ) → 1 + n ≡ m → m < 2 ^ 32 → 0 + next_event n ≡ m
 all_counted n m e few = omega arith
 
+-- the beginning of an event opens it without calls
 pub begin_opens : (s : State) → Opens [] s.book (happens s Begin).book
 begin_opens s = record { now = refl; called = refl; notes = refl; answers = refl }
 
+-- the coming of a call opens it with the call
 pub ask_opens : (s : State) (c : Call) → Opens (c ∷ []) s.book (happens s (Ask c)).book
 ask_opens s c = record { now = refl; called = refl; notes = refl; answers = refl }
 
@@ -175,6 +177,7 @@ alike_agrees uncounted events w v b count notes lines old = record {
   many = old.many ∙ ap (λ (ls : List Printed). length (answers_in ls)) (sym lines);
 }
 
+-- a step of the book that notes and answers nothing keeps the agreement
 pub quiet_agrees : (uncounted : ℕ) (events : List ScheduleEvent) (w : Run) (b next : Book) → IsQuiet b next → Agrees uncounted events w b → Agrees uncounted events w next
 quiet_agrees uncounted events w b next quiet old = record {
   counted = old.counted;
@@ -193,26 +196,6 @@ down_agrees me event stores b = record { now = refl; calls = refl; notes = sym (
   where
     none : (n : ℕ) → n ≡ 0 + n
     none n = omega arith
-
--- a step of the abstract protocol that makes no note and gives no answer may come before
-pub quiet_first : (t : Taken) (b c d : Book) → IsQuiet b c → StepAgrees t c d → StepAgrees t b d
-quiet_first t b c d quiet agrees = record {
-  now = agrees.now ∙ quiet.now;
-  calls = agrees.calls ∙ quiet.calls;
-  notes = agrees.notes ∙ ap (λ (ns : List Note). ns ++ t.notes) quiet.notes;
-  answers = subst (λ (n : ℕ). AreSame d.answers (map (given_at n) t.out.answers ++ b.answers)) quiet.now (subst (λ (old : List Answer). AreSame d.answers (map (given_at c.now) t.out.answers ++ old)) quiet.answers agrees.answers);
-  many = agrees.many ∙ ap (λ (old : List Answer). length t.out.answers + length old) quiet.answers;
-}
-
--- and so may one after
-pub quiet_last : (t : Taken) (b c d : Book) → StepAgrees t b c → IsQuiet c d → StepAgrees t b d
-quiet_last t b c d agrees quiet = record {
-  now = quiet.now ∙ agrees.now;
-  calls = quiet.calls ∙ agrees.calls;
-  notes = quiet.notes ∙ agrees.notes;
-  answers = subst (λ (given : List Answer). AreSame given (map (given_at b.now) t.out.answers ++ b.answers)) (sym quiet.answers) agrees.answers;
-  many = ap (λ (given : List Answer). length given) quiet.answers ∙ agrees.many;
-}
 
 -- the answers, each in front of those before it
 abbrev pub with_answers : ℕ → List AnswerOut → List Answer → List Answer

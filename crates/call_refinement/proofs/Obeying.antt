@@ -25,7 +25,7 @@ use Rattle.abstract_protocol.specs.Objects.{epoch_of, MayBegin, IsNewest, MayPro
 use Rattle.abstract_protocol.specs.Protocol.{State, Step, Propose, IsRun, state_after, happens, MayCome}
 use Rattle.election_refinement.proofs.Tests.{by_test}
 use Rattle.election_laws.specs.Preparing.{proposer_of}
-use Rattle.election_refinement.specs.Plain.{IsPlainFact}
+use Rattle.election_refinement.specs.Listed.{IsListedFact}
 use Rattle.election_refinement.specs.Refinement.{IsSaved}
 use Rattle.entry_laws.proofs.Later.{stay_step}
 use Rattle.entry_laws.specs.Stays.{EntriesStay}
@@ -207,9 +207,9 @@ objects_obey view steps run asks epochs v fits is = let parts = parts_fit view s
 -- ## Epochs
 
 -- an epoch that the peer has elected is at most its ballot, whose count has 64 bits; others elect none in its step
-pub epochs_there : (c : Scene) (r : Reached c) (fact : Fact) → IsSaved (now c r).objects.ledger c.peer fact → IsPlainFact c.view fact → EpochsFit (state_before c) → EpochsFit (now c r)
+pub epochs_there : (c : Scene) (r : Reached c) (fact : Fact) → IsSaved (now c r).objects.ledger c.peer fact → IsListedFact c.lines.voting fact → EpochsFit (state_before c) → EpochsFit (now c r)
 unfolding epoch_number
-epochs_there c r fact saved plain before d elected = by_time ((state_before c).objects.ledger.elected d) refl
+epochs_there c r fact saved listed before d elected = by_time ((state_before c).objects.ledger.elected d) refl
   where
     p : ℕ
     p = c.peer
@@ -219,7 +219,7 @@ epochs_there c r fact saved plain before d elected = by_time ((state_before c).o
     in_range count proposer n low small le = omega (arith, low, small, le)
 
     own : (p == proposer_of d) ≡ true → d < 2 ^ 96
-    own same = in_range fact.ballot.count fact.ballot.proposer d plain.count saved.known.ballot
+    own same = in_range fact.ballot.count fact.ballot.proposer d listed.count saved.known.ballot
         (subst (λ n. d ≤ n) (saved.ballot) (subst (λ q. d ≤ (now c r).objects.ledger.ballot q) (sym (eqb-true p (proposer_of d) same)) (r.orderly.reached d elected)))
 
     by_peer : (b : Bool) → (p == proposer_of d) ≡ b → (state_before c).objects.ledger.elected d ≡ false → d < 2 ^ 96
@@ -233,5 +233,6 @@ epochs_there c r fact saved plain before d elected = by_time ((state_before c).o
     by_time true is = before d is
     by_time false is = by_peer (p == proposer_of d) refl is
 
+-- the epochs in the middle of a step still have counts of 64 bits
 pub epochs_here : (c : Scene) (key : List ℕ) (x : PeerState) (h : Held) (out : Out) (notes : List Note) (here : Here c key x h out notes) → EpochsFit (state_before c) → EpochsFit (now c here.reached)
-epochs_here c key x h out notes here before = epochs_there c here.reached x.fact here.peer.saved here.plain.fact before
+epochs_here c key x h out notes here before = epochs_there c here.reached x.fact here.peer.saved here.listed.fact before

@@ -3,12 +3,13 @@ use Rattle.std.proofs.Common.{◌≡◌, ◌^◌, eqb-true, lit<, ℕ, zero, suc
 use Rattle.std.proofs.lemmas.Bool.{false≢true}
 use Rattle.std.proofs.lemmas.Bool.Decides.{nat_tests}
 use Rattle.std.proofs.lemmas.List.Elements.{All-nil}
+use Rattle.ens_base.specs.Lists.{◌∈◌}
 use Rattle.ens_base.specs.View.{IsView}
 use Rattle.abstract_protocol.specs.Ledger.{opening_ledger}
 use Rattle.abstract_protocol.specs.Protocol.{opening}
+use Rattle.election_refinement.proofs.Listed.{listed_opening}
 use Rattle.election_refinement.proofs.Numbers.{number_zero}
-use Rattle.election_refinement.proofs.Plain.{plain_opening}
-use Rattle.election_refinement.specs.Plain.{IsPlainMessage}
+use Rattle.election_refinement.specs.Listed.{IsListedMessage}
 use Rattle.election_refinement.specs.Refinement.{IsKnown, IsSaved, FrameHolds, IsOrderly}
 use Rattle.held_stores.specs.Answers.{answered, with_facts}
 use Rattle.held_stores.specs.Held.{Held, empty_stores}
@@ -25,16 +26,19 @@ use Rattle.request_refinement.specs.Naming.{hash_of}
 use Rattle.step_plans.specs.Calls.{FreshTree}
 use Rattle.step_plans.specs.Plans.{Finished, Stopped, nothing}
 use Rattle.step_plans.specs.declared.error.PeerError.{PeerError}
-use Rattle.tree_refinement.proofs.Whole.{makes}
+use Rattle.sync_laws.specs.Facts.{Lines}
+use Rattle.tree_refinement.proofs.Tops as records
+use Rattle.tree_refinement.proofs.Whole as whole
+use Rattle.tree_refinement.specs.Tops.{IsWritten, HasBuilt}
 use Rattle.tree_refinement.specs.Trees.{AreAmong}
-use Rattle.tree_refinement.specs.Whole.{IsWhole}
 use Rattle.wire_frames.specs.declared.frame.Frame.{Frame}
 use Rattle.world_spec.specs.Nodes.{Node, Up, taken_of, run_over, opening_node, opening_strings}
 use Rattle.world_spec.specs.Runs.{repeated, opening_run}
+use Rattle.world_stores.specs.declared.fact.HeldFact.{HeldFact}
 use Rattle.safety_laws.proofs.Ordered.{in_right}
 use Rattle.call_refinement.proofs.Places.{replicated, roles_same}
-use Rattle.call_refinement.proofs.Staying.{whole_behind}
-use Rattle.call_refinement.specs.Peers.{IsUndamaged, FrameFits}
+use Rattle.call_refinement.proofs.Trees.{tree_behind, tree_saved, tree_written}
+use Rattle.call_refinement.specs.Peers.{TreeHolds, FrameFits}
 use Rattle.call_refinement.specs.Roles.{role_of, role_at, roles_of}
 use Rattle.call_refinement.specs.Worlds.{NodeFits, WorldHolds}
 
@@ -79,14 +83,20 @@ module _ (view : List ℕ) where
   fresh = (answered FreshTree first).held
 
   -- the opening fact is saved
-  abbrev saved : Held
-  saved = with_facts (record fresh.stores.facts { kept = Some (opening_fact view) }) fresh
+  abbrev kept_first : HeldFact
+  kept_first = record fresh.stores.facts { kept = Some (opening_fact view) }
 
-  made : ((answered FreshTree first).result ≡ Ok tt) × IsWhole fresh []
-  made = makes first (record { facts = refl; backend = refl; tree = refl })
+  abbrev saved : Held
+  saved = with_facts kept_first fresh
+
+  made : (answered FreshTree first).result ≡ Ok tt
+  made = (whole.makes first (record { facts = refl; backend = refl; tree = refl })).0
+
+  written : IsWritten [] first fresh
+  written = subst (λ (r : Result (Unit {0}) PeerError). HasBuilt [] first r fresh) made (records.makes first)
 
   started : run_over (start_of view) empty_stores ≡ record { ending = Finished (first_state (opening_fact view) true) nothing; held = saved; notes = [] }
-  started = ap (λ (r : Result (Unit {0}) PeerError). either {R = Ended PeerState} r (λ u. run (saves_opening view) fresh []) (λ error. record { ending = Stopped error; held = fresh; notes = [] })) made.0
+  started = ap (λ (r : Result (Unit {0}) PeerError). either {R = Ended PeerState} r (λ u. run (saves_opening view) fresh []) (λ error. record { ending = Stopped error; held = fresh; notes = [] })) made
 
   node_is : Up (first_state (opening_fact view) true) saved.stores ≡ opening_node view
   node_is = sym (ap (λ (e : Ended PeerState). (taken_of e).node) started)
@@ -94,18 +104,18 @@ module _ (view : List ℕ) where
   strings_are : opening_strings view ≡ fresh.hashed
   strings_are = ap (λ (e : Ended PeerState). (taken_of e).hashed) started
 
-  whole : (more : List (List ℕ)) → AreAmong (opening_strings view) more → IsUndamaged (held_with saved.stores more) []
-  whole more among = whole_behind saved.stores fresh.hashed more [] (subst (λ (xs : List (List ℕ)). AreAmong xs more) strings_are among) (record {
-    shows = record { digest = made.1.shows.digest; top = made.1.shows.top; stands = made.1.shows.stands; texts = made.1.shows.texts };
-    stored = made.1.stored;
-  })
+  -- the tree shows the empty map, which the only top record names
+  abbrev fresh_tree : (strings : List (List ℕ)) (q : ℕ) → TreeHolds (opening view) strings q saved
+  fresh_tree strings q = tree_saved (opening view) strings q kept_first fresh (tree_written (opening view) strings q first fresh [] written (λ s at. absurd at) (record { entries = λ e at. absurd at; visible = λ k. refl }) (record { entries = λ e at. absurd at; reached = λ e at. absurd at })
+      (λ digest at. absurd at))
 
-  node_first : (strings more : List (List ℕ)) (q : ℕ) → AreAmong (opening_strings view) more → NodeFits view strings more (opening view) q (opening_node view)
-  node_first strings more q among = subst (λ (n : Node). NodeFits view strings more (opening view) q n) node_is (record {
+  node_first : (lines : Lines) (strings more : List (List ℕ)) (q : ℕ) → view ∈ lines.voting → AreAmong (opening_strings view) more → NodeFits lines strings more (opening view) q (opening_node view)
+  node_first lines strings more q votes among = subst (λ (n : Node). NodeFits lines strings more (opening view) q n) node_is (record {
     holds = record { saved = saved_first q; kept = refl; phase = tt; sync = tt };
-    plain = plain_opening view;
+    listed = listed_opening lines.voting q view votes;
     trust = refl;
-    tree = record { map = []; whole = whole more among; says = record { entries = λ e at. absurd at; map = λ k. refl; visible = λ k. refl } };
+    tree = tree_behind (opening view) strings q saved.stores fresh.hashed more (subst (λ (xs : List (List ℕ)). AreAmong xs more) strings_are among) (fresh_tree strings q);
+    sync = tt;
     fits = tt;
     rests = tt;
   })
@@ -118,17 +128,19 @@ module _ (view : List ℕ) where
       by_node None at = refl
       by_node (Some node) at = ap role_of (node_is ∙ replicated peers place (opening_node view) node at)
 
-  pub opening_holds : (peers : ℕ) (strings : List (List ℕ)) → IsView view → WorldHolds view strings [] (opening_run peers view)
-  opening_holds peers strings is_view = record {
+  -- the world before the first event agrees with the opening state
+  pub opening_holds : (lines : Lines) (peers : ℕ) (strings : List (List ℕ)) → IsView view → view ∈ lines.voting → WorldHolds lines view strings [] (opening_run peers view)
+  opening_holds lines peers strings is_view votes = record {
     parts = record {
       run = is_view.size.0;
       orderly = orderly_first;
       acks = λ v q is acked. absurd (false≢true acked);
       asked = λ i came. absurd (false≢true came);
       epochs = λ d elected. subst (λ (n : ℕ). n < 2 ^ 96) (sym (eqb-true d 0 elected)) (lit< tt);
-      nodes_fit = λ place node at. subst (λ (n : Node). NodeFits view strings (repeated peers (opening_strings view)) (opening view) (suc place) n) (replicated peers place (opening_node view) node at)
-          (node_first strings (repeated peers (opening_strings view)) (suc place) (start_among peers place (opening_node view) node (opening_strings view) at));
-      messages = record { hold = All-nil (FrameHolds (opening_ledger view)); plain = All-nil (λ (f : Frame). IsPlainMessage view f.message); fit = All-nil (FrameFits (opening view) strings); may = All-nil MayBeSent };
+      firm = λ q is. refl;
+      nodes_fit = λ place node at. subst (λ (n : Node). NodeFits lines strings (repeated peers (opening_strings view)) (opening view) (suc place) n) (replicated peers place (opening_node view) node at)
+          (node_first lines strings (repeated peers (opening_strings view)) (suc place) votes (start_among peers place (opening_node view) node (opening_strings view) at));
+      messages = record { hold = All-nil (FrameHolds (opening_ledger view)); listed = All-nil (λ (f : Frame). IsListedMessage lines.voting f.message); fit = All-nil (FrameFits lines (opening view) strings); may = All-nil MayBeSent };
       noted = refl;
     };
     roles = record {

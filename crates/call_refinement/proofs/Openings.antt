@@ -1,9 +1,8 @@
 -- The first halves of what a leader does on a key: a version takes its number before it is noted, and a round is
 -- counted before the key is read.
 use Rattle.std.specs.Prelude.{map, IsSome}
-use Rattle.std.proofs.Common.{◌≡◌, inl, inr, ℕ, ◌+◌, Bool, if◌then◌else◌, List, [], ◌∷◌, append-nil, Option, Some, None, refl, sym, ap, subst, ◌∙◌}
+use Rattle.std.proofs.Common.{◌≡◌, inl, inr, ℕ, ◌+◌, Bool, if◌then◌else◌, List, [], ◌∷◌, Option, Some, None, refl, sym, ap, subst, ◌∙◌}
 use Rattle.std.proofs.lemmas.Bool.{false≢true}
-use Rattle.ens_base.specs.declared.entry.Entry.{Entry}
 use Rattle.ens_base.specs.declared.epoch.Version.{Version}
 use Rattle.ens_object.specs.declared.object.Object.{Object}
 use Rattle.abstract_protocol.specs.Protocol.{State}
@@ -18,7 +17,7 @@ use Rattle.leader_laws.specs.Tables.{Ghosts, Owed}
 use Rattle.leader_refinement.proofs.Asking.{run_asks}
 use Rattle.leader_refinement.proofs.Writes.{run_writes, run_rewrites}
 use Rattle.leader_refinement.specs.Follows.{GoesOn}
-use Rattle.leader_refinement.specs.Laws.{LookSays, looked_next, noted_next}
+use Rattle.leader_refinement.specs.Laws.{LookSays, LookNames, looked_next, noted_next}
 use Rattle.leader_refinement.specs.Seen.{owed_after}
 use Rattle.leader_words.specs.Outs.{leaves, rests, and_own}
 use Rattle.leader_words.specs.declared.out.LeadOut.{LeadOut}
@@ -49,10 +48,10 @@ use Rattle.wire_frames.specs.declared.phase.Seen.TheVariants as seens
 use Rattle.call_refinement.proofs.Frame.{Scene, now, Here, Ends, Onward}
 use Rattle.call_refinement.proofs.Leaders.{at_work, own_peer, own_ballot, own_trust}
 use Rattle.call_refinement.proofs.Leading.{There, told_nothing, leave_ends}
-use Rattle.call_refinement.proofs.Looking.{Over, over_here, Sees, looked_ends}
+use Rattle.call_refinement.proofs.Looking.{Over, over_here, looked_ends}
 use Rattle.call_refinement.proofs.Rules.{looked_apart}
-use Rattle.call_refinement.proofs.Tame.{tame_29}
-use Rattle.call_refinement.proofs.Tasks.{AreApart, AreIdle, idle_kept, OpensAs, Half, Opens}
+use Rattle.call_refinement.proofs.Tame.{tame_29, broken_29}
+use Rattle.call_refinement.proofs.Tasks.{AreApart, AreIdle, idle_kept, Way, broken_way, OpensAs, Half, Opens}
 
 module _ (c : Scene) where
   open c use {view, strings, peer as p}
@@ -93,17 +92,17 @@ module _ (c : Scene) where
       abbrev looks : Leader × LeadOut
       looks = (in_round, and_own (owns.Look key) rests)
 
-      look_half : row_29 key seens.Nothing l.leader ≡ looks → (entry : Option Entry) (object : Option Object) (t : Held) → (over : Over c same_here t) → Sees c same_here key entry object
-          → Half c 29 key (seens.Held entry object) ts (leading (with_leader in_round l) x) t same_out notes
-      look_half is entry object t over sees = let there = over_here c same_here t over in record {
+      look_half : row_29 key seens.Nothing l.leader ≡ looks → (seen : Seen) (t : Held) → Over c same_here t → LookSays (now c same_here.reached) p key seen → LookNames same_here.reached.ghosts key seen → Way 29 key l.leader (row_29 key seen in_round)
+          → Half c 29 key seen ts (leading (with_leader in_round l) x) t same_out notes
+      look_half is seen t over says names way = let there = over_here c same_here t over in record {
         before = l;
         leader = in_round;
         is = refl;
         here = there;
-        goes = subst (λ (r : Leader × LeadOut). GoesOn there.reached.ghosts (now c there.reached) key (owed_after [] same_out.answers) l.leader (looked_next key (seens.Held entry object) r)) is
-            (run_asks view there.reached.steps there.reached.run there.reached.ghosts key (owed_after [] same_out.answers) l.leader (seens.Held entry object) (at_work c l x there) free rests_idle (own_ballot c l x there) (own_trust c l x there)
-            (subst (λ q. LookSays (now c there.reached) q key (seens.Held entry object)) (sym (own_peer c l x there)) sees.look) sees.names);
-        way = inl (tame_29 entry object key in_round);
+        goes = subst (λ (r : Leader × LeadOut). GoesOn there.reached.ghosts (now c there.reached) key (owed_after [] same_out.answers) l.leader (looked_next key seen r)) is
+            (run_asks view there.reached.steps there.reached.run there.reached.ghosts key (owed_after [] same_out.answers) l.leader seen (at_work c l x there) free rests_idle (own_ballot c l x there) (own_trust c l x there)
+            (subst (λ q. LookSays (now c there.reached) q key seen) (sym (own_peer c l x there)) says) names);
+        way = way;
         apart = apart;
         idle = idle_kept key l.leader in_round ts (λ k off. refl) apart idle;
       }
@@ -111,8 +110,11 @@ module _ (c : Scene) where
       look_ends : row_29 key seens.Nothing l.leader ≡ looks → Plans 29 looks
       look_ends is = subst (λ (plan : Plan PeerState). Ends c plan (looked key y same_out after_mark) h notes) (sym (looked_apart key (leading l x) y same_out same_out after_look))
           (subst (λ (plan : Plan PeerState). Ends c (looked key (leading l x) same_out (λ seen z q. after_look seen y same_out)) plan h notes) (sym (looked_apart key (leading l x) y same_out same_out after_mark))
-          (looked_ends c same_here key (λ seen z q. after_look seen y same_out) (λ seen z q. after_mark seen y same_out) (λ entry object t over sees.
-          go (tasks.Again 29 key (seens.Held entry object) ∷ []) key y t same_out notes (inr (look_half is entry object t over sees)))))
+          (looked_ends c same_here key (λ seen z q. after_look seen y same_out) (λ seen z q. after_mark seen y same_out) here.listed.phase.sees
+          (λ entry object t over sees. go (tasks.Again 29 key (seens.Held entry object) ∷ []) key y t same_out notes
+          (inr (look_half is (seens.Held entry object) t over sees.look sees.names (inl (tame_29 entry object key in_round)))))
+          (λ at t over. go (tasks.Again 29 key (seens.Damaged at) ∷ []) key y t same_out notes
+          (inr (look_half is (seens.Damaged at) t over tt tt (broken_way 29 key l.leader (row_29 key (seens.Damaged at) in_round) (broken_29 at key in_round)))))))
         where
           y : PeerState
           y = leading (with_leader in_round l) x
@@ -146,9 +148,6 @@ module _ (c : Scene) where
     propose_ends : (n : ℕ) (o : Object) (parent : Option Version) (call : Option ℕ) → GoesOn g s key owes l.leader (row_35 key seens.Nothing (proposing o parent call)) → Plans n (proposed o parent call key resting)
     propose_ends n o parent call goes = go (tasks.Key 35 key ∷ []) key (leading (with_leader (proposing o parent call) l) x) h same_out notes (inr (inl half))
       where
-        same_owed : owed_after [] same_out.answers ≡ owes
-        same_owed = ap (λ answers. owed_after [] answers) (append-nil out.answers)
-
         half : Half c 35 key seens.Nothing ts (leading (with_leader (proposing o parent call) l) x) h same_out notes
         half = subst (λ (q : Out). Half c 35 key seens.Nothing ts (leading (with_leader (proposing o parent call) l) x) h q notes) (sym (told_nothing out)) (record {
           before = l;
@@ -156,7 +155,7 @@ module _ (c : Scene) where
           is = refl;
           here = here;
           goes = goes;
-          way = inr (inr (record { rule = refl; object = o; note = Proposed key o.version parent call; same = refl }));
+          way = inr (inr (inl (record { rule = refl; object = o; note = Proposed key o.version parent call; same = refl })));
           apart = apart;
           idle = idle_kept key l.leader (proposing o parent call) ts (λ k off. refl) apart idle;
         })

@@ -57,6 +57,7 @@ replicated (suc n) (suc place) x y at = replicated n place x y at
 pub number : (p : ℕ) → IsPeer p → suc (place_of p) ≡ p
 number p peer = omega (arith, peer.0)
 
+-- a peer at another place has another number
 pub apart : (p place : ℕ) → (place_of p ≡ place → ⊥) → p ≡ suc place → ⊥
 apart p place other same = other (omega (arith, same))
 
@@ -128,6 +129,7 @@ said_at (x ∷ frames) (suc n) f said is says = further (said_of x.message) (sai
 
 -- ## All messages
 
+-- what holds of each message holds after more are sent
 pub posted_all_hold : (P : Frame → Type 0) (frames : List Frame) (m : Mail) → All P m.sent → All P frames → All P (posted_all frames m).sent
 posted_all_hold P [] m old new = old
 posted_all_hold P (f ∷ more) m old new = posted_all_hold P more (posted m f) (All-push P m.sent f old (All-head P f more new)) (All-tail P f more new)

@@ -1,6 +1,7 @@
--- Each task of a leader on a key: its rule runs, and asks the stores if it has to.
+-- Each task of a leader on a key: its rule runs, and asks the stores if it has to. If they find damage, the
+-- rule runs again, and the leader steps down.
 use Rattle.std.specs.Prelude.{All}
-use Rattle.std.proofs.Common.{◌≡◌, ◌⊎◌, inl, inr, ℕ, Bool, true, List, [], ◌∷◌, ◌++◌, Option, Some, None, refl, sym, ap, subst}
+use Rattle.std.proofs.Common.{◌≡◌, inl, inr, ℕ, Bool, true, List, [], ◌∷◌, ◌++◌, Option, Some, None, refl, sym, ap, subst, ◌∙◌}
 use Rattle.std.proofs.Math.Path.{fun_ext}
 use Rattle.std.proofs.lemmas.List.Elements.{All-nil}
 use Rattle.md5.specs.Md5.{md5}
@@ -50,6 +51,8 @@ use Rattle.step_plans.specs.declared.tasks.Task.{Task}
 use Rattle.step_plans.specs.declared.tasks.Task.TheVariants as tasks
 use Rattle.step_plans.specs.declared.walked.Walked.{Walked}
 use Rattle.step_plans.specs.declared.walked.Walked.TheVariants.{Reached as Came, Broken}
+use Rattle.sync_refinement.proofs.Staying.{object_from}
+use Rattle.tree_node.specs.declared.position.Position.{Position}
 use Rattle.wire_frames.specs.declared.phase.Seen.{Seen}
 use Rattle.wire_frames.specs.declared.phase.Seen.TheVariants as seens
 use Rattle.wire_frames.specs.declared.phase.Then.TheVariants as thens
@@ -57,11 +60,10 @@ use Rattle.call_refinement.proofs.Frame.{Scene, state_before, now, Here, Ends, O
 use Rattle.call_refinement.proofs.Obeying.{objects_obey, epochs_here}
 use Rattle.call_refinement.proofs.Sayings.{AskFits}
 use Rattle.call_refinement.proofs.Leaders.{at_work, own_peer, own_ballot, own_trust, own_accepted}
-use Rattle.call_refinement.proofs.Leading.{There, told_nothing, followed, stays_follows, tame_ends}
-use Rattle.call_refinement.proofs.Looking.{Over, over_here, Stored, write_here, fetched_ends, written_ends}
-use Rattle.call_refinement.proofs.Staying.{object_from}
-use Rattle.call_refinement.proofs.Tame.{NamesNext, IsTame, tame_28, tame_35}
-use Rattle.call_refinement.proofs.Tasks.{AreApart, AreIdle, idle_kept, looking_way, IsFetching, IsPutting, Half}
+use Rattle.call_refinement.proofs.Leading.{There, told_nothing, followed, stays_follows, tame_ends, damage_ends}
+use Rattle.call_refinement.proofs.Looking.{MayStore, Over, over_here, Stored, write_here, fetched_ends, written_ends}
+use Rattle.call_refinement.proofs.Tame.{NamesNext, tame_28, tame_35, broken_35}
+use Rattle.call_refinement.proofs.Tasks.{AreApart, AreIdle, idle_kept, looking_way, IsFetching, IsPutting, Way, Half}
 use Rattle.call_refinement.specs.Keys.{KeysAreFew}
 use Rattle.call_refinement.specs.Peers.{AsksFit, EpochsFit, TaskFits}
 
@@ -99,6 +101,7 @@ module _ (key : List ℕ) (x y : PeerState) (out o : Out) (next : Rest PeerState
   at_found (Broken at) = refl
   at_found (Came entry) = at_entry entry
 
+  -- so does a whole look
   pub looked_apart : looked key y o next ≡ looked key x out (λ seen z q. next seen y o)
   unfolding asked
   looked_apart = ap (Ask (Find key)) (fun_ext at_found)
@@ -165,6 +168,15 @@ module _ (c : Scene) (grounds : Grounds c) where
     obeys : IsObject o
     obeys = subst IsObject (said_object s (epoch_number l.leader.fact.epoch) o says) (objects_obey view here.reached.steps here.reached.run (calls_kept (state_before c) s here.reached.elsewhere.stays here.reached.elsewhere.called c.asked) (epochs_here c key (leading l x) h out notes here epochs) o.version in_range says.proposed)
 
+    -- the leader's own peer stands at the epoch, which it accepted, and trusts its tree
+    store : MayStore c here o (epoch_number l.leader.fact.epoch)
+    store = record {
+      ready = record { stands = ap epoch_number (here.peer.phase.has ∙ here.peer.phase.started.at_ballot); trusts = here.listed.phase.sees };
+      may = may;
+      says = says;
+      obeys = obeys;
+    }
+
     abbrev digest : List ℕ
     digest = md5 (object_spelling o)
 
@@ -173,7 +185,7 @@ module _ (c : Scene) (grounds : Grounds c) where
 
     -- the version has gone into the tree
     abbrev there : (t : Held) → Stored c here o t → Here c key (leading l x) t out notes
-    there t stored = write_here c here o (epoch_number l.leader.fact.epoch) t may says obeys stored task_then
+    there t stored = write_here c here o (epoch_number l.leader.fact.epoch) store t stored task_then
 
     hashed : (t : Held) → (stored : Stored c here o t) → digest ≡ here.reached.ghosts.hash o.version key o.stamp o.value
     hashed t stored = subst (λ (f : Hash). digest ≡ f o.version key o.stamp o.value) (sym here.reached.hash) (ap (λ k. hash_of o.version k o.stamp o.value) on_key)
@@ -194,11 +206,27 @@ module _ (c : Scene) (grounds : Grounds c) where
       idle = idle;
     }
 
+    -- the path of its key is damaged
+    damaged_half : (at : Position) (t : Held) → Over c here t → Half c 35 key (seens.Damaged at) ts (leading l x) t out notes
+    damaged_half at t over = let now_there = over_here c here t over in record {
+      before = l;
+      leader = l.leader;
+      is = refl;
+      here = now_there;
+      goes = run_stored view now_there.reached.steps now_there.reached.run now_there.reached.ghosts key owes l.leader o parent call (seens.Damaged at) (at_work c l x now_there) task (own_ballot c l x now_there) (own_trust c l x now_there) (own_accepted c l x now_there) tt;
+      way = inr (inr (inr (broken_35 at o parent call key l.leader task)));
+      apart = apart;
+      idle = idle;
+    }
+
     -- the object is put, and rule 35 runs again
     put_ends : (next mark : Rest PeerState (List Task)) → Onward c (There c ts) next mark
         → Ends c (written o (leading l x) out (λ seen z q. next (tasks.Again 35 o.key seen ∷ []) z q)) (written o (leading l x) out (λ seen z q. mark (tasks.Again 35 o.key seen ∷ []) z q)) h notes
-    put_ends next mark go = written_ends c here few o (epoch_number l.leader.fact.epoch) (λ seen z q. next (tasks.Again 35 o.key seen ∷ []) z q) (λ seen z q. mark (tasks.Again 35 o.key seen ∷ []) z q) says obeys (λ t stored.
-        go (tasks.Again 35 o.key (seens.Stored digest) ∷ []) key (leading l x) t out notes (inr (subst (λ k. Half c 35 k (seens.Stored digest) ts (leading l x) t out notes) (sym on_key) (stored_half t stored))))
+    put_ends next mark go = written_ends c here few o (epoch_number l.leader.fact.epoch) store (λ seen z q. next (tasks.Again 35 o.key seen ∷ []) z q) (λ seen z q. mark (tasks.Again 35 o.key seen ∷ []) z q)
+        (λ t stored. goes_again (seens.Stored digest) t (stored_half t stored)) (λ at t over. goes_again (seens.Damaged at) t (damaged_half at t over))
+      where
+        goes_again : (seen : Seen) (t : Held) → Half c 35 key seen ts (leading l x) t out notes → Ends c (next (tasks.Again 35 o.key seen ∷ []) (leading l x) out) (mark (tasks.Again 35 o.key seen ∷ []) (leading l x) out) t notes
+        goes_again seen t half = go (tasks.Again 35 o.key seen ∷ []) key (leading l x) t out notes (inr (subst (λ k. Half c 35 k seen ts (leading l x) t out notes) (sym on_key) half))
 
   -- ## A task at hand
 
@@ -247,10 +275,11 @@ module _ (c : Scene) (grounds : Grounds c) where
     half_row : Plans r
     half_row = by_way half.way
       where
-        by_way : IsTame r.1 ⊎ (IsFetching n key l.leader r ⊎ IsPutting n r) → Plans r
+        by_way : Way n key l.leader r → Plans r
         by_way (inl tame) = tame_ends c l x half.here r n ts tame half.goes half.apart idle_then next mark go
         by_way (inr (inl fetch)) = by_fetch fetch
-        by_way (inr (inr put)) = by_put put
+        by_way (inr (inr (inl put))) = by_put put
+        by_way (inr (inr (inr damage))) = damage_ends c l x half.here r n ts damage half.goes idle_then next mark go
 
     -- a task at hand on the key
     pub half_ends : Ends c (lead (lead_row n key seen) p n x.phase x out next) (lead (lead_row n key seen) p n x.phase x out mark) h notes

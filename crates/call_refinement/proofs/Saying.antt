@@ -10,7 +10,7 @@ use Rattle.abstract_protocol.specs.Ledger.{put}
 use Rattle.abstract_protocol.specs.Protocol.{State}
 use Rattle.safety_laws.proofs.Ordered.{in_append, in_left, in_right}
 use Rattle.election_refinement.proofs.Tests.{by_test}
-use Rattle.election_refinement.specs.Plain.{IsPlainMessage}
+use Rattle.election_refinement.specs.Listed.{IsListedMessage}
 use Rattle.election_refinement.specs.Refinement.{SendHolds}
 use Rattle.held_stores.specs.Held.{Held}
 use Rattle.leader_laws.specs.Roles.{Role, Said, Sent, SaidHolds, RolesHold}
@@ -43,6 +43,7 @@ posted_each P test word each (suc n) within = All-append P (posted test word n) 
     sent : Outgoing
     sent = record { to = n + 1; message = word (n + 1) }
 
+-- what holds of one message to each peer holds of those that are posted
 pub posted_to_each : (P : Outgoing → Type 0) (set : List Bool) (message : Message) → ((q : ℕ) → IsPeer q → P (record { to = q; message = message })) → All P (posted_to set (Some message))
 posted_to_each P set message each = posted_each P (holds set) (λ q. message) each 31 (omega arith)
 
@@ -63,6 +64,7 @@ ticks_each P finishing fact l each (suc n) within =
 abbrev pub SaysSo : Ghosts → State → ℕ → Message → Type 0
 SaysSo g s p message = (m : Said) → said_of message ≡ Some m → SaidHolds g s p m
 
+-- what an outgoing message says, if anything, holds
 abbrev pub SendSaysSo : Ghosts → State → ℕ → Outgoing → Type 0
 SendSaysSo g s p o = SaysSo g s p o.message
 
@@ -130,19 +132,20 @@ says_here c {out = out} here from m at = here.roles.sent_hold (record { from = f
 
 -- more messages are sent in a step
 abbrev pub tells_more : (c : Scene) (key : List ℕ) (x : PeerState) (h : Held) (out : Out) (notes : List Note) (more : List Outgoing) → (here : Here c key x h out notes)
-    → All (SendHolds (now c here.reached).objects.ledger c.peer) more → All (λ (o : Outgoing). IsPlainMessage c.view o.message) more → All (SendFits (now c here.reached) c.strings) more → All (SendSaysSo here.reached.ghosts (now c here.reached) c.peer) more
+    → All (SendHolds (now c here.reached).objects.ledger c.peer) more → All (λ (o : Outgoing). IsListedMessage c.lines.voting o.message) more → All (SendFits c.lines (now c here.reached) c.strings c.peer) more → All (SendSaysSo here.reached.ghosts (now c here.reached) c.peer) more
     → Here c key x h (and_sends out more) notes
-tells_more c key x h out notes more here hold plain fit say = record {
+tells_more c key x h out notes more here hold listed fit say = record {
   reached = here.reached;
   roles = says_more here.reached.ghosts (now c here.reached) (put c.roles c.peer (role_in key x.phase (owed_after [] out.answers))) c.peer c.said out.sends more (sends_say here.reached.ghosts (now c here.reached) c.peer more say) here.roles;
   peer = here.peer;
-  plain = here.plain;
+  listed = here.listed;
   trust = here.trust;
   tree = here.tree;
+  sync = here.sync;
   fits = here.fits;
   task = here.task;
   noted = here.noted;
   sends = All-append (SendHolds (now c here.reached).objects.ledger c.peer) out.sends more here.sends hold;
-  plain_sends = All-append (λ (o : Outgoing). IsPlainMessage c.view o.message) out.sends more here.plain_sends plain;
-  fits_sends = All-append (SendFits (now c here.reached) c.strings) out.sends more here.fits_sends fit;
+  listed_sends = All-append (λ (o : Outgoing). IsListedMessage c.lines.voting o.message) out.sends more here.listed_sends listed;
+  fits_sends = All-append (SendFits c.lines (now c here.reached) c.strings c.peer) out.sends more here.fits_sends fit;
 }

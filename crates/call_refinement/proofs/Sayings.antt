@@ -1,6 +1,6 @@
--- What a leader says in its messages, and what its steps leave of what was said.
+-- What a leader says in its messages, and what holds of the versions that its steps acknowledge.
 use Rattle.std.specs.Prelude.{All}
-use Rattle.std.proofs.Common.{◌≡◌, ◌⊎◌, inl, inr, ◌<◌, ℕ, true, List, [], ◌∷◌, Option, Some, None, arith, refl, sym, ap, subst, ◌∙◌}
+use Rattle.std.proofs.Common.{◌≡◌, ◌⊎◌, inl, inr, ◌<◌, ℕ, true, List, Option, Some, None, arith, refl, sym, ap, subst, ◌∙◌}
 use Rattle.std.proofs.lemmas.List.Elements.{All-weaker}
 use Rattle.ens_base.specs.Lists.{◌∈◌}
 use Rattle.ens_base.specs.View.{IsPeer}
@@ -11,26 +11,27 @@ use Rattle.kept_objects.specs.Kept.{matching}
 use Rattle.abstract_protocol.specs.Book.{version_of}
 use Rattle.abstract_protocol.specs.Ledger.{Ledger}
 use Rattle.abstract_protocol.specs.Numbers.{epoch_number, IsVersion}
-use Rattle.abstract_protocol.specs.Protocol.{State, Step, Propose, Settle, Acknowledge, Note as Noted, after, MayAll}
-use Rattle.election_refinement.specs.Plain.{IsPlainMessage}
+use Rattle.abstract_protocol.specs.Protocol.{State, Step, after, MayAll}
+use Rattle.election_refinement.specs.Listed.{IsListedMessage}
 use Rattle.election_refinement.specs.Refinement.{MessageHolds}
 use Rattle.entry_laws.proofs.Later.{stay_after}
 use Rattle.leader_laws.specs.Roles.{Sent, SaidHolds, Reads, Checks, Puts}
 use Rattle.leader_laws.specs.Tables.{Ghosts}
 use Rattle.leader_refinement.proofs.Numbers.{rank_back, rank_some}
-use Rattle.leader_refinement.specs.Follows.{SendSays, SentSays, AreLeaderSteps}
+use Rattle.leader_refinement.specs.Follows.{SendSays, SentSays}
 use Rattle.leader_refinement.specs.Seen.{rank, content_of, entry_rank}
 use Rattle.leader_words.specs.declared.out.Outgoing.{Outgoing}
 use Rattle.request_refinement.proofs.Looks.{looks_so}
 use Rattle.request_refinement.specs.Naming.{hash_of, VersionSays, EntrySays}
-use Rattle.request_refinement.specs.Replies.{AllSpareTree, MapSays}
+use Rattle.request_refinement.specs.Replies.{MapSays}
+use Rattle.sync_laws.specs.Facts.{Lines}
+use Rattle.sync_refinement.proofs.Staying.{version_stays}
 use Rattle.tree_maps.specs.Entries.{lookup}
 use Rattle.tree_refinement.specs.Trees.{AreFree}
 use Rattle.wire_frames.specs.declared.message.Message.{Message}
 use Rattle.wire_frames.specs.declared.message.Message.TheVariants as messages
 use Rattle.wire_frames.specs.declared.phase.Seen.TheVariants as seens
 use Rattle.call_refinement.proofs.Saying.{SaysSo, SendSaysSo, says_one, sends_say}
-use Rattle.call_refinement.proofs.Staying.{version_stays}
 use Rattle.call_refinement.specs.Peers.{AcksSay, MessageFits}
 use Rattle.call_refinement.specs.Roles.{said_in_sends}
 
@@ -58,39 +59,32 @@ ask_says g s p other says = absurd says
 pub asks_say : (g : Ghosts) (s : State) (p : ℕ) (sends : List Outgoing) → All (SentSays g s) sends → (m : Sent) → m ∈ said_in_sends p sends → SaidHolds g s m.from m.said
 asks_say g s p sends say = sends_say g s p sends (All-weaker (SentSays g s) (SendSaysSo g s p) (λ o says. ask_says g s p o.message says) sends say)
 
+-- such a message says nothing of elections
 pub call_holds : (l : Ledger) (p : ℕ) (message : Message) → CallFits message → MessageHolds l p message
 call_holds l p (messages.Check ballot round) fits = tt
 call_holds l p (messages.Get ballot round key) fits = tt
 call_holds l p (messages.Put ballot o) fits = tt
 call_holds l p other fits = absurd fits
 
-pub call_plain : (view : List ℕ) (message : Message) → CallFits message → IsPlainMessage view message
-call_plain view (messages.Check ballot round) fits = tt
-call_plain view (messages.Get ballot round key) fits = tt
-call_plain view (messages.Put ballot o) fits = tt
-call_plain view other fits = absurd fits
+-- and it names no view
+pub call_listed : (voting : List (List ℕ)) (message : Message) → CallFits message → IsListedMessage voting message
+call_listed voting (messages.Check ballot round) fits = tt
+call_listed voting (messages.Get ballot round key) fits = tt
+call_listed voting (messages.Put ballot o) fits = tt
+call_listed voting other fits = absurd fits
 
-pub call_fits : (s : State) (strings : List (List ℕ)) (message : Message) → CallFits message → MessageFits s strings message
-call_fits s strings (messages.Check ballot round) fits = tt
-call_fits s strings (messages.Get ballot round key) fits = tt
-call_fits s strings (messages.Put ballot o) fits = fits
-call_fits s strings other fits = absurd fits
+-- and it fits
+pub call_fits : (lines : Lines) (s : State) (strings : List (List ℕ)) (q : ℕ) (message : Message) → CallFits message → MessageFits lines s strings q message
+call_fits lines s strings q (messages.Check ballot round) fits = tt
+call_fits lines s strings q (messages.Get ballot round key) fits = tt
+call_fits lines s strings q (messages.Put ballot o) fits = fits
+call_fits lines s strings q other fits = absurd fits
 
--- ## What the steps of a leader leave
-
-pub spares_tree : (s : State) (me : ℕ) (q : ℕ) (steps : List Step) → AreLeaderSteps s me steps → AllSpareTree q steps
-spares_tree s me q [] kinds = tt
-spares_tree s me q (Propose v k u stamp content call ∷ steps) kinds = (tt, spares_tree s me q steps kinds.1)
-spares_tree s me q (Settle v ∷ steps) kinds = (tt, spares_tree s me q steps kinds.1)
-spares_tree s me q (Noted i k u d ∷ steps) kinds = (tt, spares_tree s me q steps kinds.1)
-spares_tree s me q (Acknowledge r v ∷ steps) kinds = (tt, spares_tree s me q steps kinds.1)
-spares_tree s me q (step ∷ steps) kinds = absurd kinds.0
+-- ## Acknowledgements
 
 -- the versions that are acknowledged from s to t are acknowledged by peer me, whose tree shows them
 abbrev pub AcksShow : State → ℕ → State → Type 0
 AcksShow s me t = (v q : ℕ) → t.objects.acked v q ≡ true → (s.objects.acked v q ≡ true) ⊎ ((q ≡ me) × (s.objects.visible me (s.objects.key v) ≡ v))
-
--- ## Acknowledgements
 
 -- a version that a map shows says what holds
 module _ (s : State) (g : Ghosts) (strings : List (List ℕ)) (me : ℕ) (m : List Entry) (hash : g.hash ≡ hash_of) (free : AreFree strings) (map_says : MapSays s strings me m) where

@@ -1,14 +1,14 @@
--- A world and a run of the abstract protocol go through the lines of a steady schedule together, given what
--- each step of a peer does to the run.
-use Rattle.std.proofs.Common.{◌≡◌, ℕ, zero, suc, ◌+◌, ◌-◌, ◌<◌, ◌^◌, ◌≤◌, Bool, true, false, List, [], ◌∷◌, ◌++◌, length, Option, None, Some, slice_get, slice_set, arith, ap, refl, inl, inr, sym, ◌∙◌, subst}
+-- A world and a run of the abstract protocol go through the lines of a schedule together, given what each
+-- step of a peer, each start, and each change of its stores does to the run.
+use Rattle.std.proofs.Common.{◌≡◌, ℕ, zero, suc, ◌+◌, ◌-◌, ◌<◌, ◌^◌, ◌≤◌, Bool, true, false, not, List, [], ◌∷◌, ◌++◌, length, Option, None, Some, slice_get, slice_set, arith, ap, refl, inl, inr, sym, ◌∙◌, subst}
 use Rattle.std.proofs.lemmas.List.{append-nil, append_assoc, length-append, length-replicate}
 use Rattle.ens_base.specs.Lists.{◌∈◌, AreDistinct}
 use Rattle.ens_base.specs.View.{IsPeer}
 use Rattle.ens_base.specs.declared.command.Command.{Command}
 use Rattle.abstract_protocol.specs.Book.{MayCall}
 use Rattle.abstract_protocol.specs.Protocol.{State, Step, Begin, Ask, opening, happens, IsRun, state_after}
-use Rattle.ens_outside.specs.declared.memory.failing_call.Leaves.{Leaves}
 use Rattle.entry_laws.proofs.Replies.{run_entries}
+use Rattle.held_stores.specs.Held.{HeldStores}
 use Rattle.network.specs.Mail.{MayBeSent, settled, goes, is_among, oldest, most_messages}
 use Rattle.peer_core.specs.Drives.{MayCome}
 use Rattle.peer_core.specs.declared.event.Event.{Event}
@@ -17,20 +17,22 @@ use Rattle.register_model.specs.declared.call.Call.{Call}
 use Rattle.register_model.specs.declared.history.History.{History}
 use Rattle.history_scribe.specs.Histories.{AreHistories}
 use Rattle.safety_laws.proofs.Noted.{run_listed}
+use Rattle.schedule_premise.proofs.Lines.{by_change, by_revert}
 use Rattle.schedule_text.specs.Spelling.{MayStand, AllMayStand, call_ids}
 use Rattle.schedule_text.specs.declared.event.ScheduleEvent.{ScheduleEvent}
 use Rattle.schedule_text.specs.declared.event.ScheduleEvent.TheVariants as line
-use Rattle.schedule_text.specs.declared.keyword.StoreName.{StoreName}
 use Rattle.schedule_words.specs.Spelling.{IsAmong}
+use Rattle.sync_laws.specs.Facts.{Lines}
 use Rattle.wire_frames.specs.declared.frame.Frame.{Frame}
 use Rattle.world_spec.proofs.Growth.{IsFurther, further_same, further_later, ticked_grows, calmed_grows, counted_grows, run_grows, applied_same}
 use Rattle.world_spec.specs.Lines.{call_of, set_of, everyone, with_loss, effect, applied, run_from, run_of_schedule}
-use Rattle.world_spec.specs.Nodes.{Node, Taken, taken, stopped, over_stores, opening_node}
-use Rattle.world_spec.specs.Runs.{Run, opening_run, place_of, with_taken, stepped, stepped_at, changed, changed_at, ticked, received_if, delivered, delivered_if, going_on, calmed}
-use Rattle.world_spec.specs.Stores.{failing, leaves_of, spoiled}
-use Rattle.call_refinement.specs.Lines.{IsSteady, AreSteady, AreLegal, call_at, calls_from, BookAgrees, Within, Opens, StepAgrees, IsQuiet}
+use Rattle.world_spec.specs.Nodes.{Node, Taken, taken, started, hashed_by_start, stopped, over_stores, while_down, opening_node}
+use Rattle.world_spec.specs.Runs.{Run, opening_run, place_of, with_taken, stepped, stepped_at, changed, changed_at, start_strings, hashing, with_start, ticked, received_if, delivered, delivered_if, going_on, calmed}
+use Rattle.world_spec.specs.Stores.{failing, leaves_of, spoiled, segment_spoiled, inner_spoiled, taken_back}
+use Rattle.call_refinement.specs.Lines.{lines_of, AreLegal, call_at, calls_from, BookAgrees, Within, Opens, StepAgrees, IsQuiet}
+use Rattle.call_refinement.proofs.Altering.{SparesRecords, failing_spares, spoiled_spares, segment_spares, inner_spares}
 use Rattle.call_refinement.proofs.Histories.{histories_are_legal_of}
-use Rattle.call_refinement.proofs.Intact.{IsIntact, IsHarmless, stopped_harmless, over_harmless, is_peer, frame_comes, taken_intact, changed_intact, alike_intact, opening_intact}
+use Rattle.call_refinement.proofs.Intact.{IsIntact, IsHarmless, stopped_harmless, over_harmless, while_down_harmless, is_peer, frame_comes, taken_intact, changed_intact, started_intact, alike_intact, opening_intact}
 use Rattle.call_refinement.proofs.Lines.{begin_opens, ask_opens, opening_agrees, line_begins, taken_within, line_ends, alike_agrees, quiet_agrees}
 use Rattle.call_refinement.proofs.Places.{frame_at}
 
@@ -74,14 +76,50 @@ pub record Changes (P : Run → State → Type 0) (p : ℕ) (new : Node) (w : Ru
   pub holds : P (record w { nodes = slice_set w.nodes (place_of p) new }) next
   pub quiet : IsQuiet s.book next.book
 
+-- the world after the peer with this node has started
+abbrev pub after_start : ℕ → Node → Run → Run
+after_start p node w = hashing (hashed_by_start w.view node) (record w { nodes = slice_set w.nodes (place_of p) (started w.view node) })
+
+-- the abstract protocol goes along as a peer starts
+pub record Starts (P : Run → State → Type 0) (p : ℕ) (node : Node) (w : Run) (s : State) : Type 0 where
+  pub next : State
+  pub holds : P (after_start p node w) next
+  pub quiet : IsQuiet s.book next.book
+
 -- a call comes as the next event
 abbrev pub next_call : State → ℕ → List ℕ → Command → Call
 next_call s id key command = record { id = id; key = key; command = command; event = s.book.now + 1 }
 
--- A relation of worlds and states is carried through the lines of a steady schedule: through the begin
--- of an event, each step of a peer, each stop, each change of what a backend keeps, and each failure that
--- begins to wait.
-pub record IsCarried (peers : ℕ) (whole : Run) (P : Run → State → Type 0) : Type 0 where
+-- ## What the lines of a schedule say
+
+-- no line reverts a firm peer, and each view that a line asks for may vote
+abbrev pub IsOfLines : Lines → ScheduleEvent → Type 0
+IsOfLines lines (line.Change p view) = view ∈ lines.voting
+IsOfLines lines (line.Revert p changes) = lines.firm p ≡ false
+IsOfLines lines other = Unit {0}
+
+-- the same of each line
+abbrev pub AreOfLines : Lines → List ScheduleEvent → Type 0
+AreOfLines lines [] = Unit {0}
+AreOfLines lines (event ∷ more) = IsOfLines lines event × AreOfLines lines more
+
+is_of_lines : (view : List ℕ) (events : List ScheduleEvent) (event : ScheduleEvent) → event ∈ events → IsOfLines (lines_of view events) event
+is_of_lines view events (line.Change p asked) at = inr (by_change p asked events at)
+is_of_lines view events (line.Revert p changes) at = ap not (by_revert p changes events at)
+is_of_lines view events _ at = tt
+
+some_of_lines : (view : List ℕ) (events some : List ScheduleEvent) → ((event : ScheduleEvent) → event ∈ some → event ∈ events) → AreOfLines (lines_of view events) some
+some_of_lines view events [] among = tt
+some_of_lines view events (event ∷ more) among = (is_of_lines view events event (among event (inl refl)), some_of_lines view events more (λ later at. among later (inr at)))
+
+-- so it is with the lines themselves
+pub are_of_lines : (view : List ℕ) (events : List ScheduleEvent) → AreOfLines (lines_of view events) events
+are_of_lines view events = some_of_lines view events events (λ event at. at)
+
+-- A relation of worlds and states is carried through the lines of a schedule: through the begin of an
+-- event, each step of a peer, each stop and start, each change of stores that spares the top records, and
+-- each revert of a tree.
+pub record IsCarried (peers : ℕ) (lines : Lines) (whole : Run) (P : Run → State → Type 0) : Type 0 where
   pub run : (w : Run) (s : State) → P w s → IsInRun s
   pub alike : (w v : Run) (s : State) → AreAlike w v → P w s → P v s
   pub begins : (w : Run) (s : State) → P w s → P w (happens s Begin)
@@ -89,9 +127,11 @@ pub record IsCarried (peers : ℕ) (whole : Run) (P : Run → State → Type 0) 
   pub receives : (n : ℕ) (f : Frame) (node : Node) (w : Run) (s : State) → slice_get w.mail.sent n ≡ Some f → TakesStep whole f.to (does.Deliver f.from f.message) node w s → P w s → GoesAlong P f.to (taken f.to (does.Deliver f.from f.message) node) w s
   pub takes_call : (p id : ℕ) (key : List ℕ) (command : Command) (node : Node) (w : Run) (s : State) → MayStand peers (line.Call p id key command) → MayCall s.book (next_call s id key command)
       → TakesStep whole p (does.Call (call_of id key command)) node w (happens s (Ask (next_call s id key command))) → P w s → GoesAlong P p (taken p (does.Call (call_of id key command)) node) w (happens s (Ask (next_call s id key command)))
+  pub takes_change : (p : ℕ) (asked : List ℕ) (node : Node) (w : Run) (s : State) → asked ∈ lines.voting → TakesStep whole p (does.Change asked) node w s → P w s → GoesAlong P p (taken p (does.Change asked) node) w s
   pub stops : (p : ℕ) (node : Node) (w : Run) (s : State) → IsAmong peers p → slice_get w.nodes (place_of p) ≡ Some node → P w s → Changes P p (stopped node) w s
-  pub spoils : (p : ℕ) (key : List ℕ) (bytes : Option (List ℕ)) (node : Node) (w : Run) (s : State) → IsAmong peers p → slice_get w.nodes (place_of p) ≡ Some node → P w s → Changes P p (over_stores (spoiled key bytes) node) w s
-  pub fails : (p : ℕ) (store : StoreName) (leaves : Leaves) (node : Node) (w : Run) (s : State) → IsAmong peers p → slice_get w.nodes (place_of p) ≡ Some node → P w s → Changes P p (over_stores (failing store leaves) node) w s
+  pub starts : (p : ℕ) (node : Node) (w : Run) (s : State) → IsAmong peers p → slice_get w.nodes (place_of p) ≡ Some node → P w s → Starts P p node w s
+  pub alters : (p : ℕ) (f : HeldStores → HeldStores) (node : Node) (w : Run) (s : State) → SparesRecords f → IsAmong peers p → slice_get w.nodes (place_of p) ≡ Some node → P w s → Changes P p (over_stores f node) w s
+  pub reverts : (p changes : ℕ) (node : Node) (w : Run) (s : State) → lines.firm p ≡ false → IsAmong peers p → slice_get w.nodes (place_of p) ≡ Some node → P w s → Changes P p (while_down (taken_back changes) node) w s
 
 -- ## Ids of calls
 
@@ -158,7 +198,7 @@ pub record IsAfter (peers : ℕ) (P : Run → State → Type 0) (events : List S
   pub size : length w.nodes ≡ peers
   pub intact : IsIntact w
 
-module _ (peers : ℕ) (whole : Run) (P : Run → State → Type 0) (carried : IsCarried peers whole P) (small : peers ≤ 31) where
+module _ (peers : ℕ) (lines : Lines) (whole : Run) (P : Run → State → Type 0) (carried : IsCarried peers lines whole P) (small : peers ≤ 31) where
   module _ (events : List ScheduleEvent) (few : length events < 2 ^ 32) where
     few_begun : (w : Run) (a : Reached P events w) → a.state.book.now < 2 ^ 32
     few_begun w a = subst (λ (n : ℕ). n < 2 ^ 32) (sym a.within.now) few
@@ -221,6 +261,22 @@ module _ (peers : ℕ) (whole : Run) (P : Run → State → Type 0) (carried : I
         by_node None at = a
         by_node (Some node) at = by_change node at (along node w a.state at a.holds)
 
+    -- a peer starts, if there is such a peer
+    start_reached : (p : ℕ) → IsAmong peers p → (w : Run) → Reached P events w → Reached P events (with_start p w)
+    start_reached p among w a = by_node (slice_get w.nodes (place_of p)) refl
+      where
+        by_start : (node : Node) → slice_get w.nodes (place_of p) ≡ Some node → Starts P p node w a.state → Reached P events (after_start p node w)
+        by_start node at g = record {
+          state = g.next;
+          holds = g.holds;
+          within = alike_agrees 1 events w (after_start p node w) g.next.book refl refl refl (quiet_agrees 1 events w a.state.book g.next.book g.quiet a.within);
+          intact = started_intact p node w (is_peer peers p small among) at a.intact;
+        }
+
+        by_node : (o : Option Node) → slice_get w.nodes (place_of p) ≡ o → Reached P events (hashing (start_strings w.view o) (changed_at o p (started w.view) w))
+        by_node None at = alike_reached w (hashing [] w) (record { view = refl; nodes = refl; sent = refl; printed = refl; notes = refl; hashed = append-nil w.hashed }) refl a
+        by_node (Some node) at = by_start node at (carried.starts p node w a.state among at a.holds)
+
   module _ (done : List ScheduleEvent) (event : ScheduleEvent) (few : length (done ++ event ∷ []) < 2 ^ 32) (w : Run) (a : IsAfter peers P done w) where
     -- a line without a call begins
     begun : ((n : ℕ) → call_at event n [] ≡ []) → Reached P (done ++ event ∷ []) w
@@ -274,38 +330,44 @@ module _ (peers : ℕ) (whole : Run) (P : Run → State → Type 0) (carried : I
       by_node None at far = absurd (none at (node_at w.nodes (place_of p) (placed may.0.first may.0.last a.size)))
       by_node (Some node) at far = by_step node at (carried.takes_call p id key command node w a.state may (may_call done w a.state id key command (carried.run w a.state a.holds) a.agrees fresh) (record { at = at; further = far; few = few_begun_here; peer = peer; comes = tt; intact = a.intact }) a.holds)
 
-  effect_reached : (done : List ScheduleEvent) (event : ScheduleEvent) (few : length (done ++ event ∷ []) < 2 ^ 32) (w : Run) → IsAfter peers P done w → IsSteady event → MayStand peers event → IsFresh done event → IsFurther (effect event w) whole → Reached P (done ++ event ∷ []) (effect event w)
-  effect_reached done (line.Call p id key command) few w a steady may fresh far = call_reached done p id key command few w a may fresh far
-  effect_reached done (line.Tick p ticks) few w a steady may fresh far = ticked_reached (done ++ line.Tick p ticks ∷ []) few p may.0 ticks w far (begun done (line.Tick p ticks) few w a (λ n. refl))
-  effect_reached done (line.Deliver message) few w a steady may fresh far = delivered_reached (done ++ line.Deliver message ∷ []) few (message - 1) w far (begun done (line.Deliver message) few w a (λ n. refl))
-  effect_reached done (line.Pass sender receiver) few w a steady may fresh far = delivered_if_reached (done ++ line.Pass sender receiver ∷ []) few (oldest (goes sender receiver) w.mail) w far (begun done (line.Pass sender receiver) few w a (λ n. refl))
-  effect_reached done (line.Lose sender receiver) few w a steady may fresh far =
+  -- a line that changes stores, but for the top records
+  altered_reached : (events : List ScheduleEvent) (few : length events < 2 ^ 32) (p : ℕ) (f : HeldStores → HeldStores) → SparesRecords f → IsAmong peers p → (w : Run) → Reached P events w → Reached P events (changed p (over_stores f) w)
+  altered_reached events few p f spares among w = changed_reached events few p (over_stores f) among (over_harmless f p) (λ node v s. carried.alters p f node v s spares among) w
+
+  effect_reached : (done : List ScheduleEvent) (event : ScheduleEvent) (few : length (done ++ event ∷ []) < 2 ^ 32) (w : Run) → IsAfter peers P done w → IsOfLines lines event → MayStand peers event → IsFresh done event → IsFurther (effect event w) whole → Reached P (done ++ event ∷ []) (effect event w)
+  effect_reached done (line.Call p id key command) few w a says may fresh far = call_reached done p id key command few w a may fresh far
+  effect_reached done (line.Tick p ticks) few w a says may fresh far = ticked_reached (done ++ line.Tick p ticks ∷ []) few p may.0 ticks w far (begun done (line.Tick p ticks) few w a (λ n. refl))
+  effect_reached done (line.Deliver message) few w a says may fresh far = delivered_reached (done ++ line.Deliver message ∷ []) few (message - 1) w far (begun done (line.Deliver message) few w a (λ n. refl))
+  effect_reached done (line.Pass sender receiver) few w a says may fresh far = delivered_if_reached (done ++ line.Pass sender receiver ∷ []) few (oldest (goes sender receiver) w.mail) w far (begun done (line.Pass sender receiver) few w a (λ n. refl))
+  effect_reached done (line.Lose sender receiver) few w a says may fresh far =
       alike_reached (done ++ line.Lose sender receiver ∷ []) few w (with_loss sender receiver w) (record { view = refl; nodes = refl; sent = refl; printed = refl; notes = refl; hashed = refl }) refl (begun done (line.Lose sender receiver) few w a (λ n. refl))
-  effect_reached done line.Calm few w a steady may fresh far = calmed_reached (done ++ line.Calm ∷ []) few everyone most_messages w far (begun done line.Calm few w a (λ n. refl))
-  effect_reached done (line.CalmAmong members) few w a steady may fresh far = calmed_reached (done ++ line.CalmAmong members ∷ []) few (set_of members) most_messages w far (begun done (line.CalmAmong members) few w a (λ n. refl))
-  effect_reached done (line.Stop p) few w a steady may fresh far = changed_reached (done ++ line.Stop p ∷ []) few p stopped may (stopped_harmless p) (λ node v s. carried.stops p node v s may) w (begun done (line.Stop p) few w a (λ n. refl))
-  effect_reached done (line.Change p view) few w a steady may fresh far = absurd steady
-  effect_reached done (line.Start p) few w a steady may fresh far = absurd steady
-  effect_reached done (line.Spoil p key bytes) few w a steady may fresh far = changed_reached (done ++ line.Spoil p key bytes ∷ []) few p (over_stores (spoiled key bytes)) may.0 (over_harmless (spoiled key bytes) p)
-      (λ node v s. carried.spoils p key bytes node v s may.0) w (begun done (line.Spoil p key bytes) few w a (λ n. refl))
-  effect_reached done (line.Damage p key bytes) few w a steady may fresh far = absurd steady
-  effect_reached done (line.Inner p level index bytes) few w a steady may fresh far = absurd steady
-  effect_reached done (line.Revert p changes) few w a steady may fresh far = absurd steady
-  effect_reached done (line.Fail p store survivor) few w a steady may fresh far = changed_reached (done ++ line.Fail p store survivor ∷ []) few p (over_stores (failing store (leaves_of survivor))) may (over_harmless (failing store (leaves_of survivor)) p)
-      (λ node v s. carried.fails p store (leaves_of survivor) node v s may) w (begun done (line.Fail p store survivor) few w a (λ n. refl))
+  effect_reached done line.Calm few w a says may fresh far = calmed_reached (done ++ line.Calm ∷ []) few everyone most_messages w far (begun done line.Calm few w a (λ n. refl))
+  effect_reached done (line.CalmAmong members) few w a says may fresh far = calmed_reached (done ++ line.CalmAmong members ∷ []) few (set_of members) most_messages w far (begun done (line.CalmAmong members) few w a (λ n. refl))
+  effect_reached done (line.Change p view) few w a says may fresh far =
+      stepped_reached (done ++ line.Change p view ∷ []) few p (does.Change view) w (is_peer peers p small may.0) tt (λ node s. carried.takes_change p view node w s says) far (begun done (line.Change p view) few w a (λ n. refl))
+  effect_reached done (line.Stop p) few w a says may fresh far = changed_reached (done ++ line.Stop p ∷ []) few p stopped may (stopped_harmless p) (λ node v s. carried.stops p node v s may) w (begun done (line.Stop p) few w a (λ n. refl))
+  effect_reached done (line.Start p) few w a says may fresh far = start_reached (done ++ line.Start p ∷ []) few p may w (begun done (line.Start p) few w a (λ n. refl))
+  effect_reached done (line.Spoil p key bytes) few w a says may fresh far = altered_reached (done ++ line.Spoil p key bytes ∷ []) few p (spoiled key bytes) (spoiled_spares key bytes) may.0 w (begun done (line.Spoil p key bytes) few w a (λ n. refl))
+  effect_reached done (line.Damage p key bytes) few w a says may fresh far = altered_reached (done ++ line.Damage p key bytes ∷ []) few p (segment_spoiled key bytes) (segment_spares key bytes) may.0 w (begun done (line.Damage p key bytes) few w a (λ n. refl))
+  effect_reached done (line.Inner p level index bytes) few w a says may fresh far =
+      altered_reached (done ++ line.Inner p level index bytes ∷ []) few p (inner_spoiled level index bytes) (inner_spares level index bytes) may.0 w (begun done (line.Inner p level index bytes) few w a (λ n. refl))
+  effect_reached done (line.Revert p changes) few w a says may fresh far =
+      changed_reached (done ++ line.Revert p changes ∷ []) few p (while_down (taken_back changes)) may.0 (while_down_harmless (taken_back changes) p) (λ node v s. carried.reverts p changes node v s says may.0) w (begun done (line.Revert p changes) few w a (λ n. refl))
+  effect_reached done (line.Fail p store survivor) few w a says may fresh far =
+      altered_reached (done ++ line.Fail p store survivor ∷ []) few p (failing store (leaves_of survivor)) (failing_spares store (leaves_of survivor)) may w (begun done (line.Fail p store survivor) few w a (λ n. refl))
 
   -- one line more
-  pub applied_agrees : (done : List ScheduleEvent) (event : ScheduleEvent) (few : length (done ++ event ∷ []) < 2 ^ 32) (w : Run) → IsAfter peers P done w → IsSteady event → MayStand peers event → IsFresh done event → IsFurther (applied event w) whole → IsAfter peers P (done ++ event ∷ []) (applied event w)
-  applied_agrees done event few w a steady may fresh far = line_over done event few w a (effect_reached done event few w a steady may fresh (further_later (effect event w) (applied event w) whole (counted_grows event w) far))
+  pub applied_agrees : (done : List ScheduleEvent) (event : ScheduleEvent) (few : length (done ++ event ∷ []) < 2 ^ 32) (w : Run) → IsAfter peers P done w → IsOfLines lines event → MayStand peers event → IsFresh done event → IsFurther (applied event w) whole → IsAfter peers P (done ++ event ∷ []) (applied event w)
+  applied_agrees done event few w a says may fresh far = line_over done event few w a (effect_reached done event few w a says may fresh (further_later (effect event w) (applied event w) whole (counted_grows event w) far))
 
   -- many lines more
-  pub lines_agree : (done more : List ScheduleEvent) (w : Run) → length (done ++ more) < 2 ^ 32 → AreSteady more → AllMayStand peers more → AreDistinct (call_ids (done ++ more)) → IsFurther (run_from more w) whole → IsAfter peers P done w → IsAfter peers P (done ++ more) (run_from more w)
-  lines_agree done [] w few steady may distinct far a = subst (λ (events : List ScheduleEvent). IsAfter peers P events w) (sym (append-nil done)) a
-  lines_agree done (event ∷ more) w few steady may distinct far a =
+  pub lines_agree : (done more : List ScheduleEvent) (w : Run) → length (done ++ more) < 2 ^ 32 → AreOfLines lines more → AllMayStand peers more → AreDistinct (call_ids (done ++ more)) → IsFurther (run_from more w) whole → IsAfter peers P done w → IsAfter peers P (done ++ more) (run_from more w)
+  lines_agree done [] w few say may distinct far a = subst (λ (events : List ScheduleEvent). IsAfter peers P events w) (sym (append-nil done)) a
+  lines_agree done (event ∷ more) w few say may distinct far a =
       let v = applied event w in
       subst (λ (events : List ScheduleEvent). IsAfter peers P events (run_from more v)) moved
-      (lines_agree (done ++ event ∷ []) more v (subst (λ (events : List ScheduleEvent). length events < 2 ^ 32) (sym moved) few) steady.1 may.1 (subst (λ (events : List ScheduleEvent). AreDistinct (call_ids events)) (sym moved) distinct) far
-      (applied_agrees done event few_here w a steady.0 may.0 (fresh_line done more event distinct) (further_later v (run_from more v) whole (run_grows more v) far)))
+      (lines_agree (done ++ event ∷ []) more v (subst (λ (events : List ScheduleEvent). length events < 2 ^ 32) (sym moved) few) say.1 may.1 (subst (λ (events : List ScheduleEvent). AreDistinct (call_ids events)) (sym moved) distinct) far
+      (applied_agrees done event few_here w a say.0 may.0 (fresh_line done more event distinct) (further_later v (run_from more v) whole (run_grows more v) far)))
     where
       moved : (done ++ event ∷ []) ++ more ≡ done ++ event ∷ more
       moved = append_assoc done (event ∷ []) more
@@ -318,11 +380,11 @@ module _ (peers : ℕ) (whole : Run) (P : Run → State → Type 0) (carried : I
 
 -- ## A whole schedule
 
-module _ (peers : ℕ) (view : List ℕ) (events : List ScheduleEvent) (P : Run → State → Type 0) (carried : IsCarried peers (run_of_schedule peers view events) P) (opens : P (opening_run peers view) (opening view))
-    (small : peers ≤ 31) (few : length events < 2 ^ 32) (steady : AreSteady events) (may : AllMayStand peers events) (distinct : AreDistinct (call_ids events)) where
+module _ (peers : ℕ) (view : List ℕ) (events : List ScheduleEvent) (P : Run → State → Type 0) (carried : IsCarried peers (lines_of view events) (run_of_schedule peers view events) P) (opens : P (opening_run peers view) (opening view))
+    (small : peers ≤ 31) (few : length events < 2 ^ 32) (may : AllMayStand peers events) (distinct : AreDistinct (call_ids events)) where
   -- the world after the schedule, and the run that went along
   pub schedule_agrees : IsAfter peers P events (run_of_schedule peers view events)
-  schedule_agrees = lines_agree peers (run_of_schedule peers view events) P carried small [] events (opening_run peers view) few steady may distinct (further_same (run_of_schedule peers view events))
+  schedule_agrees = lines_agree peers (lines_of view events) (run_of_schedule peers view events) P carried small [] events (opening_run peers view) few (are_of_lines view events) may distinct (further_same (run_of_schedule peers view events))
       (record { state = opening view; holds = opens; agrees = opening_agrees peers view; size = length-replicate peers (opening_node view); intact = opening_intact peers view })
 
   -- its histories are legal

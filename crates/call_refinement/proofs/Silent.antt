@@ -2,7 +2,6 @@
 -- what trees, messages and acknowledgements say stays so.
 use Rattle.std.proofs.Common.{◌≡◌, ℕ, suc, Bool, List, [], ◌∷◌, ◌++◌, arith, refl, ap, sym, subst, ◌∙◌}
 use Rattle.std.specs.Prelude.{All}
-use Rattle.ens_base.specs.declared.entry.Entry.{Entry}
 use Rattle.abstract_protocol.proofs.Steps.{after_both, may_both}
 use Rattle.abstract_protocol.specs.Protocol.{State, Step, Raise, Elect, Accept, Commit, Adopt, Install, EndSync, happens, MayCome, IsRun, state_after, after, MayAll}
 use Rattle.entry_laws.proofs.Later.{stay_after}
@@ -10,6 +9,7 @@ use Rattle.entry_laws.specs.Stays.{EntriesStay}
 use Rattle.election_refinement.proofs.Keeps.{Keeps}
 use Rattle.election_refinement.proofs.Reaching.{IsRowStep, AreRowSteps}
 use Rattle.election_refinement.specs.Refinement.{IsOrderly}
+use Rattle.held_stores.specs.Held.{Held}
 use Rattle.leader_laws.proofs.Roles.{run_roles}
 use Rattle.leader_laws.proofs.Runs.{run_leaders}
 use Rattle.leader_laws.specs.Leaders.{IsUnled}
@@ -18,11 +18,13 @@ use Rattle.leader_laws.specs.Roles.{Role, Sent, RolesHold, IsSilent}
 use Rattle.leader_laws.specs.Tables.{Ghosts}
 use Rattle.leader_refinement.specs.Seen.{rank}
 use Rattle.leader_words.specs.declared.out.Outgoing.{Outgoing}
-use Rattle.request_refinement.specs.Replies.{MapSays}
+use Rattle.sync_laws.specs.Facts.{Lines}
+use Rattle.sync_refinement.proofs.Staying.{version_stays}
 use Rattle.call_refinement.proofs.Frame.{Scene, Elsewhere, Reached, now, state_before}
 use Rattle.call_refinement.proofs.Moving.{elsewhere_then}
-use Rattle.call_refinement.proofs.Staying.{version_stays, map_stays, sends_stay}
-use Rattle.call_refinement.specs.Peers.{AcksSay, SendFits}
+use Rattle.call_refinement.proofs.Staying.{sends_stay}
+use Rattle.call_refinement.proofs.Trees.{tree_stays}
+use Rattle.call_refinement.specs.Peers.{TreeHolds, AcksSay, SendFits}
 
 -- ## Runs that go on
 
@@ -42,6 +44,7 @@ may_there view [] steps run = tt
 may_there view (e ∷ es) steps run =
     may_both (state_after view steps) (oldest_first es) (e ∷ []) (may_there view es steps run.0) (subst (λ (s : State). MayCome s e) (sym (state_there view es steps)) run.1, tt)
 
+-- entries stay
 pub entries_there : (view : List ℕ) (es steps : List Step) → IsRun view (es ++ steps) → EntriesStay (state_after view steps) (state_after view (es ++ steps))
 entries_there view es steps run = subst (EntriesStay (state_after view steps)) (state_there view es steps) (stay_after (state_after view steps) (oldest_first es) (may_there view es steps run))
 
@@ -56,6 +59,7 @@ IsElectionStep (Commit d change) = Unit {0}
 IsElectionStep (Adopt p d) = Unit {0}
 IsElectionStep step = ⊥
 
+-- all steps are of elections, and end no sync
 abbrev pub AreElectionSteps : List Step → Type 0
 AreElectionSteps [] = Unit {0}
 AreElectionSteps (e ∷ es) = IsElectionStep e × AreElectionSteps es
@@ -71,6 +75,7 @@ election_only p (Install q d merged) kind = absurd kind.0
 election_only p (EndSync q d) kind = absurd kind.0
 election_only p step kind = absurd kind
 
+-- so are all steps of such a row
 pub elections_only : (p : ℕ) (es : List Step) → AreRowSteps ⊥ p es → AreElectionSteps es
 elections_only p [] kinds = tt
 elections_only p (e ∷ es) kinds = (election_only p e kinds.0, elections_only p es kinds.1)
@@ -97,6 +102,7 @@ pub record IsSpared (s t : State) : Type 0 where
   pub map : t.objects.map ≡ s.objects.map
   pub visible : t.objects.visible ≡ s.objects.visible
   pub trusted : t.objects.trusted ≡ s.objects.trusted
+  pub reverted : t.objects.reverted ≡ s.objects.reverted
   pub acked : t.objects.acked ≡ s.objects.acked
   pub calls : t.book.calls ≡ s.book.calls
   pub called : t.book.called ≡ s.book.called
@@ -106,13 +112,14 @@ pub record IsSpared (s t : State) : Type 0 where
   pub notes : t.book.notes ≡ s.book.notes
 
 spared_same : (s : State) → IsSpared s s
-spared_same s = record { map = refl; visible = refl; trusted = refl; acked = refl; calls = refl; called = refl; answers = refl; answered = refl; now = refl; notes = refl }
+spared_same s = record { map = refl; visible = refl; trusted = refl; reverted = refl; acked = refl; calls = refl; called = refl; answers = refl; answered = refl; now = refl; notes = refl }
 
 spared_then : (s t u : State) → IsSpared s t → IsSpared t u → IsSpared s u
 spared_then s t u a b = record {
   map = b.map ∙ a.map;
   visible = b.visible ∙ a.visible;
   trusted = b.trusted ∙ a.trusted;
+  reverted = b.reverted ∙ a.reverted;
   acked = b.acked ∙ a.acked;
   calls = b.calls ∙ a.calls;
   called = b.called ∙ a.called;
@@ -123,13 +130,14 @@ spared_then s t u a b = record {
 }
 
 spared_step : (s : State) (e : Step) → IsElectionStep e → IsSpared s (happens s e)
-spared_step s (Raise p d) kind = record { map = refl; visible = refl; trusted = refl; acked = refl; calls = refl; called = refl; answers = refl; answered = refl; now = refl; notes = refl }
-spared_step s (Elect d base) kind = record { map = refl; visible = refl; trusted = refl; acked = refl; calls = refl; called = refl; answers = refl; answered = refl; now = refl; notes = refl }
-spared_step s (Accept p d) kind = record { map = refl; visible = refl; trusted = refl; acked = refl; calls = refl; called = refl; answers = refl; answered = refl; now = refl; notes = refl }
-spared_step s (Commit d change) kind = record { map = refl; visible = refl; trusted = refl; acked = refl; calls = refl; called = refl; answers = refl; answered = refl; now = refl; notes = refl }
-spared_step s (Adopt p d) kind = record { map = refl; visible = refl; trusted = refl; acked = refl; calls = refl; called = refl; answers = refl; answered = refl; now = refl; notes = refl }
+spared_step s (Raise p d) kind = record { map = refl; visible = refl; trusted = refl; reverted = refl; acked = refl; calls = refl; called = refl; answers = refl; answered = refl; now = refl; notes = refl }
+spared_step s (Elect d base) kind = record { map = refl; visible = refl; trusted = refl; reverted = refl; acked = refl; calls = refl; called = refl; answers = refl; answered = refl; now = refl; notes = refl }
+spared_step s (Accept p d) kind = record { map = refl; visible = refl; trusted = refl; reverted = refl; acked = refl; calls = refl; called = refl; answers = refl; answered = refl; now = refl; notes = refl }
+spared_step s (Commit d change) kind = record { map = refl; visible = refl; trusted = refl; reverted = refl; acked = refl; calls = refl; called = refl; answers = refl; answered = refl; now = refl; notes = refl }
+spared_step s (Adopt p d) kind = record { map = refl; visible = refl; trusted = refl; reverted = refl; acked = refl; calls = refl; called = refl; answers = refl; answered = refl; now = refl; notes = refl }
 spared_step s step kind = absurd kind
 
+-- such steps leave all else as it was
 pub spared_there : (view : List ℕ) (es steps : List Step) → AreElectionSteps es → IsSpared (state_after view steps) (state_after view (es ++ steps))
 spared_there view [] steps kinds = spared_same (state_after view steps)
 spared_there view (e ∷ es) steps kinds =
@@ -153,16 +161,18 @@ unled_there view (e ∷ es) steps g d run kinds unled =
 -- ## What maps and messages say
 
 module _ (view : List ℕ) (es steps : List Step) (run : IsRun view (es ++ steps)) (strings : List (List ℕ)) where
+  -- acknowledged versions say what they said
   pub acks_there : AreElectionSteps es → AcksSay (state_after view steps) strings → AcksSay (state_after view (es ++ steps)) strings
   acks_there kinds acks v q fits acked = version_stays (state_after view steps) (state_after view (es ++ steps)) strings (entries_there view es steps run) v
       (acks v q fits (ap (λ (f : ℕ → ℕ → Bool). f (rank v) q) (sym (spared_there view es steps kinds).acked) ∙ acked))
 
-  pub map_there : AreElectionSteps es → (q : ℕ) (m : List Entry) → MapSays (state_after view steps) strings q m → MapSays (state_after view (es ++ steps)) strings q m
-  map_there kinds q m says = let spared = spared_there view es steps kinds in
-      map_stays (state_after view steps) (state_after view (es ++ steps)) strings (entries_there view es steps run) q m (ap (λ (f : ℕ → List ℕ → ℕ). f q) spared.map) (ap (λ (f : ℕ → List ℕ → ℕ). f q) spared.visible) says
+  -- the tree of a peer holds what it held
+  abbrev pub tree_there : AreElectionSteps es → (q : ℕ) (h : Held) → TreeHolds (state_after view steps) strings q h → TreeHolds (state_after view (es ++ steps)) strings q h
+  tree_there kinds q h tree = tree_stays (state_after view steps) (state_after view (es ++ steps)) strings q h (entries_there view es steps run) (ap (λ (f : ℕ → List ℕ → ℕ). f q) (spared_there view es steps kinds).visible) tree
 
-  pub sends_there : (sends : List Outgoing) → All (SendFits (state_after view steps) strings) sends → All (SendFits (state_after view (es ++ steps)) strings) sends
-  sends_there = sends_stay (state_after view steps) (state_after view (es ++ steps)) strings (entries_there view es steps run)
+  -- messages that were to be sent fit as before
+  pub sends_there : (lines : Lines) (q : ℕ) (sends : List Outgoing) → All (SendFits lines (state_after view steps) strings q) sends → All (SendFits lines (state_after view (es ++ steps)) strings q) sends
+  sends_there lines q = sends_stay (state_after view steps) (state_after view (es ++ steps)) strings (entries_there view es steps run) lines q
 
 -- ## The run that a step has reached
 
@@ -173,6 +183,7 @@ elsewhere_row p s t keeps stays spared = record {
   map = λ q n. ap (λ (f : ℕ → List ℕ → ℕ). f q) spared.map;
   visible = λ q n. ap (λ (f : ℕ → List ℕ → ℕ). f q) spared.visible;
   trusted = λ q n. ap (λ (f : ℕ → Bool). f q) spared.trusted;
+  reverted = λ q. ap (λ (f : ℕ → Bool). f q) spared.reverted;
   stays = stays;
   calls = spared.calls;
   called = spared.called;

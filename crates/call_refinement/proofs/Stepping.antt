@@ -1,5 +1,6 @@
 -- A whole step of a peer ends well: the event, the tasks that follow from it, and rule 26 at the end.
 use Rattle.std.proofs.Common.{◌≡◌, ◌<◌, ◌≤◌, ◌^◌, inl, ℕ, false, suc, List, [], ◌∷◌, length, arith, refl, ap}
+use Rattle.ens_base.specs.Lists.{◌∈◌}
 use Rattle.abstract_protocol.specs.Book.{MayCall}
 use Rattle.abstract_protocol.specs.Protocol.{Step, Ask, IsRun, state_after}
 use Rattle.call_table.specs.declared.waiting.Waiting.{Waiting}
@@ -54,13 +55,15 @@ stop (t ∷ ts) y o = Asks OpenTree (λ u. Done y o)
 abbrev pub Well : Scene → Plan PeerState → Held → List Note → Type 0
 Well c plan h notes = AreAmong (run plan h notes).held.hashed c.strings → EndsBy c (run plan h notes).ending (run plan h notes).held (run plan h notes).notes
 
--- the other events of a peer: messages that are not to a leader about its calls, and the tick of a peer that does
--- not lead
+-- the other events of a peer: messages that are not to a leader about its calls, the tick of a peer that does
+-- not lead, and requests for a view
 pub record OthersGood (c : Scene) : Type 0 where
   pub messages_good : (from : ℕ) (message : Message) → IsElse message → (x : PeerState) (h : Held) → (rest : AtRest c [] x h nothing []) → MessageComes c from message (now c rest.0.reached) → (next mark : Rest PeerState (List Task)) → Onward c (TasksFit c) next mark
       → Ends c (delivered c.peer from message x nothing next) (delivered c.peer from message x nothing mark) h []
   pub ticks_good : (x : PeerState) (h : Held) → AtRest c [] x h nothing [] → leads x.phase ≡ false → (next mark : Rest PeerState (List Task)) → Onward c (TasksFit c) next mark
       → Ends c (ticked c.peer x.phase x nothing next) (ticked c.peer x.phase x nothing mark) h []
+  pub changes_good : (asked : List ℕ) → asked ∈ c.lines.voting → (x : PeerState) (h : Held) → AtRest c [] x h nothing [] → (next mark : Rest PeerState (List Task)) → Onward c (TasksFit c) next mark
+      → Ends c (first c.peer (events.Change asked) x nothing next) (first c.peer (events.Change asked) x nothing mark) h []
 
 ids_length : (calls : List Waiting) → length (ids_of calls) ≡ length calls
 ids_length [] = refl
@@ -150,7 +153,7 @@ module _ (c : Scene) (others : OthersGood c) where
   event_good (events.Deliver from message) x h rest comes next mark go = event_delivered from message x h rest comes next mark go
   event_good events.Tick x h rest comes next mark go = event_tick x.phase x h rest next mark go
   event_good (events.Call call) x h rest comes next mark go = absurd comes
-  event_good (events.Change asked) x h rest comes next mark go = absurd comes
+  event_good (events.Change asked) x h rest comes next mark go = others.changes_good asked comes x h rest next mark go
 
 -- what all steps stand on
 pub record StepGrounds : Type 0 where

@@ -1,5 +1,5 @@
--- The answers of the rules of a leader that finds no damage: the leader steps down, or it stays; then another rule
--- comes next on the key, or none, and only the rules 28, 29 and 35 ask the stores.
+-- The answers of the rules of a leader: the leader steps down, or it stays; then another rule comes next on the
+-- key, or none, and only the rules 28, 29 and 35 ask the stores. Rules 29 and 35 may be shown damage.
 use Rattle.std.specs.Prelude.{All, nat_le}
 use Rattle.std.proofs.Common.{◌≡◌, ◌⊎◌, inl, inr, ℕ, zero, suc, ◌≤◌, ◌+◌, ◌==◌, ◌&&◌, ◌||◌, Bool, true, false, if◌then◌else◌, List, [], ◌∷◌, Option, Some, None, arith, refl, sym, subst}
 use Rattle.std.proofs.lemmas.List.Elements.{All-nil, All-cons, All-append}
@@ -46,6 +46,7 @@ use Rattle.quorum_round.specs.declared.round.RoundState.{RoundState}
 use Rattle.quorum_round.specs.declared.round.RoundState.TheVariants.{Open, Met, AllAnswered}
 use Rattle.register_model.specs.Registers.{outcome}
 use Rattle.register_model.specs.declared.register.Register.TheVariants as registers
+use Rattle.tree_node.specs.declared.position.Position.{Position}
 use Rattle.wire_frames.specs.declared.message.Message.{Message}
 use Rattle.wire_frames.specs.declared.message.Message.TheVariants as messages
 use Rattle.wire_frames.specs.declared.phase.Seen.{Seen}
@@ -78,6 +79,13 @@ IsTame o = (o ≡ leaves) ⊎ IsCalmOut o
 
 abbrev Tames : Leader × LeadOut → Type 0
 Tames r = IsTame r.1
+
+-- a rule that was shown damage answers, notes and sends nothing, and the leader's peer no longer trusts its tree
+abbrev pub IsDamage : Leader × LeadOut → Type 0
+IsDamage r = (r.1.then ≡ thens.Untrust) × (r.1.own ≡ None) × (r.1.sends ≡ []) × (r.1.notes ≡ []) × (r.1.answers ≡ []) × (r.1.leave ≡ false) × (r.1.keys ≡ [])
+
+damaged : (l : Leader) → IsDamage (l, comes thens.Untrust)
+damaged l = (refl, refl, refl, refl, refl, refl, refl)
 
 -- nothing is sent
 calm_out : (o : LeadOut) → o.leave ≡ false → o.own ≡ None → NamesNext o.then → o.sends ≡ [] → IsCalmOut o
@@ -168,6 +176,7 @@ started_looks : (w : Option Waiting) (seen : Seen) (key : List ℕ) (l : Leader)
 started_looks None seen key l = inl (calm refl refl tt refl)
 started_looks (Some w) seen key l = by_known_looks (row_at key l.table.rows).known seen w.command key l
 
+-- rule 28 is tame, or asks the backend
 pub tame_28 : (key : List ℕ) (seen : Seen) (l : Leader) → IsLooking key l (row_28 key seen l)
 tame_28 key seen l = started_looks (running key l.table.calls) seen key l
 
@@ -175,9 +184,11 @@ next_tame : (w : Option Waiting) (key : List ℕ) → IsTame (next_call w key)
 next_tame None key = calm refl refl tt refl
 next_tame (Some w) key = calm refl refl to_28 refl
 
+-- rule 36 is tame
 pub tame_36 : (key : List ℕ) (l : Leader) → IsTame (row_36 key l).1
 tame_36 key l = next_tame (running key l.table.calls) key
 
+-- rule 27 is calm
 pub calm_27 : (from id : ℕ) (key : List ℕ) (command : Command) (finishing : Bool) (l : Leader) → IsCalmOut (row_27 from id key command finishing l).1
 calm_27 from id key command finishing l =
     by_test (λ (r : Leader × LeadOut). IsCalmOut r.1) finishing _ _
@@ -198,13 +209,23 @@ asked_for_tame : (w : Option Waiting) (entry : Option Entry) (object : Option Ob
 asked_for_tame None entry object key l = calm refl refl tt refl
 asked_for_tame (Some w) entry object key l = asked_tame entry object key l
 
+-- rule 29 is tame where it is shown an entry
 pub tame_29 : (entry : Option Entry) (object : Option Object) (key : List ℕ) (l : Leader) → IsTame (row_29 key (seens.Held entry object) l).1
 tame_29 entry object key l = asked_for_tame (running key l.table.calls) entry object key l
+
+-- the second run of rule 29, with damage; without a call nothing happens
+pub broken_29 : (at : Position) (key : List ℕ) (l : Leader) → IsTame (row_29 key (seens.Damaged at) l).1 ⊎ IsDamage (row_29 key (seens.Damaged at) l)
+broken_29 at key l = by_call (running key l.table.calls)
+  where
+    by_call : (w : Option Waiting) → IsTame (asked_for w (seens.Damaged at) key l).1 ⊎ IsDamage (asked_for w (seens.Damaged at) key l)
+    by_call None = inl (calm refl refl tt refl)
+    by_call (Some w) = inr (damaged l)
 
 heard_tame : (stage : Stage) (from : ℕ) (ballot : Epoch) (round : ℕ) (key : List ℕ) (entry : Option Entry) (object : Option Object) (l : Leader) → Tames (heard stage from ballot round key entry object l)
 heard_tame (stages.Reading asked_in votes best) from ballot round key entry object l = by_test Tames (counts ballot round asked_in l) _ _ (λ own. calm refl refl to_30 refl) (λ other. calm refl refl tt refl)
 heard_tame stage from ballot round key entry object l = calm refl refl tt refl
 
+-- the rule for a reply to a read is tame
 pub tame_got : (from : ℕ) (ballot : Epoch) (round : ℕ) (key : List ℕ) (entry : Option Entry) (object : Option Object) (l : Leader) → IsTame (row_29_reply from ballot round key entry object l).1
 tame_got from ballot round key entry object l = heard_tame (row_at key l.table.rows).stage from ballot round key entry object l
 
@@ -237,6 +258,7 @@ gathered_for_tame : (w : Option Waiting) (key : List ℕ) (l : Leader) → Tames
 gathered_for_tame None key l = calm refl refl tt refl
 gathered_for_tame (Some w) key l = gathered_tame (row_at key l.table.rows).stage w key l
 
+-- rule 30 is tame
 pub tame_30 : (key : List ℕ) (l : Leader) → IsTame (row_30 key l).1
 tame_30 key l = gathered_for_tame (running key l.table.calls) key l
 
@@ -252,6 +274,7 @@ checked_tame (Some w) (tasks.Check reply) key l =
     (λ more. begins_tame (state_of (begun l.fact.views l.me)) (begun l.fact.views l.me) reply w key _ (record l { round = l.round + 1 }) (record { leave = refl; own = refl; next = tt; sends = tells l (messages.Check l.fact.epoch (l.round + 1)) tt }))
 checked_tame call task key l = calm refl refl tt refl
 
+-- rule 33 is tame
 pub tame_33 : (key : List ℕ) (l : Leader) → IsTame (row_33 key l).1
 tame_33 key l = checked_tame (running key l.table.calls) l.task key (with_task tasks.Nothing l)
 
@@ -269,6 +292,7 @@ stood_at_tame : (key : Option (List ℕ)) (from : ℕ) (ballot : Epoch) (round :
 stood_at_tame None from ballot round l = calm refl refl tt refl
 stood_at_tame (Some key) from ballot round l = stood_tame (running key l.table.calls) (row_at key l.table.rows).stage from ballot round key l
 
+-- the rule for a reply to a check is tame
 pub tame_stands : (from : ℕ) (ballot : Epoch) (round : ℕ) (l : Leader) → IsTame (row_33_reply from ballot round l).1
 tame_stands from ballot round l = stood_at_tame (check_at round l.table.checks) from ballot round l
 
@@ -276,6 +300,7 @@ applied_tame : (w : Option Waiting) (task : Pending) (key : List ℕ) (l : Leade
 applied_tame (Some w) (tasks.Apply current) key l = concluded_tame (verdict_of (outcome w.command (register_at current))) w key l
 applied_tame call task key l = calm refl refl tt refl
 
+-- rule 34 is tame
 pub tame_34 : (key : List ℕ) (l : Leader) → IsTame (row_34 key l).1
 tame_34 key l = applied_tame (running key l.table.calls) l.task key (with_task tasks.Nothing l)
 
@@ -302,6 +327,10 @@ put_tame task o parent call digest key l is object = subst (λ (t : Pending). Ta
 pub tame_35 : (o : Object) (parent : Option Version) (call : Option ℕ) (digest : List ℕ) (key : List ℕ) (l : Leader) → l.task ≡ tasks.Propose o parent call → IsObject o → IsTame (row_35 key (seens.Stored digest) l).1
 tame_35 o parent call digest key l is object = put_tame l.task o parent call digest key (with_task tasks.Nothing l) is object
 
+-- or after it found the path of its key damaged
+pub broken_35 : (at : Position) (o : Object) (parent : Option Version) (call : Option ℕ) (key : List ℕ) (l : Leader) → l.task ≡ tasks.Propose o parent call → IsDamage (row_35 key (seens.Damaged at) l)
+broken_35 at o parent call key l is = subst (λ (t : Pending). IsDamage (put_for t (seens.Damaged at) key (with_task tasks.Nothing l))) (sym is) (damaged (with_task tasks.Nothing l))
+
 acknowledged_by_tame : (stage : Stage) (from : ℕ) (ballot : Epoch) (version : Version) (key : List ℕ) (l : Leader) → Tames (acknowledged_by stage from ballot version key l)
 acknowledged_by_tame (stages.Putting o digest acks rewrite) from ballot version key l =
     by_test Tames (is_same ballot l.fact.epoch && same_version version o.version) _ _
@@ -309,6 +338,7 @@ acknowledged_by_tame (stages.Putting o digest acks rewrite) from ballot version 
     (λ other. calm refl refl tt refl)
 acknowledged_by_tame stage from ballot version key l = calm refl refl tt refl
 
+-- the rule for a reply to a put is tame
 pub tame_put : (from : ℕ) (ballot : Epoch) (key : List ℕ) (version : Version) (l : Leader) → IsTame (row_35_reply from ballot key version l).1
 tame_put from ballot key version l = acknowledged_by_tame (row_at key l.table.rows).stage from ballot version key l
 
@@ -322,6 +352,7 @@ timed_out_tame (d ∷ ds) o was = with_key d.running (and_answer d.from d.id rep
     with_key None p calm_out rest = rest p calm_out
     with_key (Some key) p calm_out rest = rest (and_key key p) (record { leave = calm_out.leave; own = calm_out.own; next = calm_out.next; sends = calm_out.sends })
 
+-- the part of rule 5 that answers calls is tame
 pub tame_5 : (finishing : Finishing) (l : Leader) → IsTame (row_5_calls finishing l).1
 tame_5 finishing l =
     by_test Tames (late_put (aged l.table) || is_late finishing) _ _

@@ -37,7 +37,7 @@ use Rattle.wire_frames.specs.declared.phase.Seen.TheVariants as seens
 use Rattle.wire_frames.specs.declared.phase.Then.TheVariants.{Rule}
 use Rattle.call_refinement.proofs.Frame.{Scene, now, Here, AtRest}
 use Rattle.call_refinement.proofs.Leaders.{at_work, own_ballot}
-use Rattle.call_refinement.proofs.Tame.{IsNamed, IsTame, IsLooking, tame_28, tame_30, tame_33, tame_34, tame_36}
+use Rattle.call_refinement.proofs.Tame.{IsNamed, IsTame, IsDamage, IsLooking, tame_28, tame_30, tame_33, tame_34, tame_36}
 
 -- ## Tasks that wait
 
@@ -72,30 +72,35 @@ abbrev pub Wait : Phase → List Task → Type 0
 Wait (phases.Leading l) ts = AreIdle l.leader ts
 Wait other ts = AreInOrder ts
 
+-- rules of phases are in order
 pub phases_in_order : (ts : List Task) → ArePhases ts → AreInOrder ts
 phases_in_order [] are = tt
 phases_in_order (tasks.Phase n ∷ ts) are = are
 phases_in_order (tasks.Key n k ∷ ts) are = absurd are
 phases_in_order (tasks.Again n k seen ∷ ts) are = absurd are
 
+-- they wait on idle keys
 pub phases_idle : (l : Leader) (ts : List Task) → ArePhases ts → AreIdle l ts
 phases_idle l [] are = tt
 phases_idle l (tasks.Phase n ∷ ts) are = are
 phases_idle l (tasks.Key n k ∷ ts) are = absurd are
 phases_idle l (tasks.Again n k seen ∷ ts) are = absurd are
 
+-- they are apart from each key
 pub phases_apart : (key : List ℕ) (ts : List Task) → ArePhases ts → AreApart key ts
 phases_apart key [] are = tt
 phases_apart key (tasks.Phase n ∷ ts) are = phases_apart key ts are
 phases_apart key (tasks.Key n k ∷ ts) are = absurd are
 phases_apart key (tasks.Again n k seen ∷ ts) are = absurd are
 
+-- they wait in each phase
 pub phases_wait : (phase : Phase) (ts : List Task) → ArePhases ts → Wait phase ts
 phases_wait (phases.Leading l) ts are = phases_idle l.leader ts are
 phases_wait (phases.Following f) ts are = phases_in_order ts are
 phases_wait (phases.Probing b) ts are = phases_in_order ts are
 phases_wait (phases.Electing e) ts are = phases_in_order ts are
 
+-- tasks that wait on idle keys are in order
 pub idle_in_order : (l : Leader) (ts : List Task) → AreIdle l ts → AreInOrder ts
 idle_in_order l [] idle = tt
 idle_in_order l (tasks.Key n k ∷ ts) idle = idle_in_order l ts idle.1.1.1
@@ -109,6 +114,7 @@ phases_then (tasks.Phase n ∷ ts) us first second = phases_then ts us first sec
 phases_then (tasks.Key n k ∷ ts) us first second = absurd first
 phases_then (tasks.Again n k seen ∷ ts) us first second = absurd first
 
+-- after a rule of a phase only rules of phases wait
 pub wait_after_phase : (n : ℕ) (phase : Phase) (ts : List Task) → Wait phase (tasks.Phase n ∷ ts) → ArePhases ts
 wait_after_phase n (phases.Leading l) ts wait = wait
 wait_after_phase n (phases.Following f) ts wait = wait
@@ -136,6 +142,7 @@ free_for n key l (pendings.Check reply) a b d e f fits = absurd (not_rule n 33 d
 free_for n key l (pendings.Apply current) a b d e f fits = absurd (not_rule n 34 e refl fits.0)
 free_for n key l (pendings.Propose o parent call) a b d e f fits = absurd (not_rule n 35 f refl fits.0)
 
+-- the task at hand for rule 31 is a write
 pub write_for : (key : List ℕ) (l : Leader) (task : Pending) → Fits 31 key l task → (content : Option (List ℕ)) × (parent : Option Version) × ((task ≡ pendings.Write content parent) × Runs key l)
 write_for key l pendings.Nothing fits = absurd (false≢true fits)
 write_for key l (pendings.Write content parent) fits = (content, parent, (refl, fits.1))
@@ -144,6 +151,7 @@ write_for key l (pendings.Check reply) fits = absurd (not_rule 31 33 refl refl f
 write_for key l (pendings.Apply current) fits = absurd (not_rule 31 34 refl refl fits.0)
 write_for key l (pendings.Propose o parent call) fits = absurd (not_rule 31 35 refl refl fits.0)
 
+-- the task at hand for rule 32 is a rewrite
 pub rewrite_for : (key : List ℕ) (l : Leader) (task : Pending) → Fits 32 key l task → (o : Object) × (task ≡ pendings.Rewrite o)
 rewrite_for key l pendings.Nothing fits = absurd (false≢true fits)
 rewrite_for key l (pendings.Write content parent) fits = absurd (not_rule 32 31 refl refl fits.0)
@@ -184,10 +192,16 @@ pub record IsPutting (n : ℕ) (r : Leader × LeadOut) : Type 0 where
   pub note : Note
   pub same : r.1 ≡ and_own (owns.Put object) (and_note note rests)
 
--- what the answer of rule n asks for
+-- what the answer of rule n asks for, or that its peer found damage
 abbrev pub Way : ℕ → List ℕ → Leader → Leader × LeadOut → Type 0
-Way n key l r = IsTame r.1 ⊎ (IsFetching n key l r ⊎ IsPutting n r)
+Way n key l r = IsTame r.1 ⊎ (IsFetching n key l r ⊎ (IsPutting n r ⊎ IsDamage r))
 
+-- a rule that was shown damage asks for nothing
+pub broken_way : (n : ℕ) (key : List ℕ) (l : Leader) (r : Leader × LeadOut) → IsTame r.1 ⊎ IsDamage r → Way n key l r
+broken_way n key l r (inl tame) = inl tame
+broken_way n key l r (inr damage) = inr (inr (inr damage))
+
+-- such a rule goes one of these ways on an idle key
 pub looking_way : (key : List ℕ) (l : Leader) (r : Leader × LeadOut) → IsLooking key l r → l.task ≡ pendings.Nothing → (row_at key l.table.rows).stage ≡ stages.Idle → Way 28 key l r
 looking_way key l r (inl tame) free idle = inl tame
 looking_way key l r (inr same) free idle = inr (inl (record { rule = refl; same = same; free = free; idle = idle }))
@@ -199,6 +213,7 @@ pub record OpensRead (n : ℕ) (key : List ℕ) (l : Leader) : Type 0 where
   pub free : l.task ≡ pendings.Nothing
   pub idle : (row_at key l.table.rows).stage ≡ stages.Idle
 
+-- rule 31 begins to write a version
 pub record OpensWrite (n : ℕ) (key : List ℕ) (l : Leader) : Type 0 where
   pub rule : n ≡ 31
   pub content : Option (List ℕ)
@@ -206,11 +221,13 @@ pub record OpensWrite (n : ℕ) (key : List ℕ) (l : Leader) : Type 0 where
   pub task : l.task ≡ pendings.Write content parent
   pub runs : Runs key l
 
+-- rule 32 begins to rewrite an object
 pub record OpensRewrite (n : ℕ) (l : Leader) : Type 0 where
   pub rule : n ≡ 32
   pub object : Object
   pub task : l.task ≡ pendings.Rewrite object
 
+-- one of these rules begins
 abbrev pub OpensAs : ℕ → List ℕ → Leader → Type 0
 OpensAs n key l = OpensRead n key l ⊎ (OpensWrite n key l ⊎ OpensRewrite n l)
 
@@ -238,6 +255,7 @@ module _ (c : Scene) where
     pub apart : AreApart key ts
     pub idle : AreIdle now_leads.leader ts
 
+  -- rule n is to run on the key in one of these ways
   abbrev pub KeyFits : ℕ → List ℕ → List Task → PeerState → Held → Out → List Note → Type 0
   KeyFits n key ts x h out notes = Half n key seens.Nothing ts x h out notes ⊎ Opens n key ts x h out notes
 
@@ -261,10 +279,12 @@ module _ (c : Scene) where
     half : (n : ℕ) (seen : Seen) → GoesOn here.reached.ghosts (now c here.reached) key (owed_after [] out.answers) l.leader (lead_row n key seen l.leader) → Way n key l.leader (lead_row n key seen l.leader) → Half n key seen ts (leading l x) h out notes
     half n seen goes way = record { before = l; leader = l.leader; is = refl; here = here; goes = goes; way = way; apart = apart; idle = idle }
 
+    -- rule 28 may run on an idle key
     pub start_fits : l.leader.task ≡ pendings.Nothing → (row_at key l.leader.table.rows).stage ≡ stages.Idle → Half 28 key seens.Nothing ts (leading l x) h out notes
     start_fits free at_idle = half 28 seens.Nothing (run_starts view here.reached.steps here.reached.run here.reached.ghosts key (owed_after [] out.answers) l.leader seens.Nothing (at_work c l x here) free at_idle tt)
         (looking_way key l.leader (lead_row 28 key seens.Nothing l.leader) (tame_28 key seens.Nothing l.leader) free at_idle)
 
+    -- so may rule 36
     pub next_fits : l.leader.task ≡ pendings.Nothing → (row_at key l.leader.table.rows).stage ≡ stages.Idle → Half 36 key seens.Nothing ts (leading l x) h out notes
     next_fits free at_idle = half 36 seens.Nothing (run_next view here.reached.steps here.reached.run here.reached.ghosts key (owed_after [] out.answers) l.leader (at_work c l x here) free at_idle) (inl (tame_36 key l.leader))
 

@@ -4,7 +4,10 @@ use Rattle.std.proofs.Common.{◌≡◌, ◌⊎◌, inl, inr, ℕ, ◌+◌, ◌=
 use Rattle.std.proofs.lemmas.Bool.{true≢false}
 use Rattle.std.proofs.lemmas.Bool.Decides.{nat_tests}
 use Rattle.std.proofs.lemmas.List.Elements.{All-nil}
+use Rattle.election_refinement.proofs.Changes.{older_holds}
+use Rattle.election_refinement.proofs.Listed.{listed_calls}
 use Rattle.election_refinement.proofs.Tests.{by_test}
+use Rattle.election_refinement.specs.Refinement.{IsLeading}
 use Rattle.ens_base.proofs.Lists.{bytes_same, bytes_itself}
 use Rattle.ens_base.specs.Lists.{◌∈◌, same_bytes}
 use Rattle.abstract_protocol.specs.Protocol.{State}
@@ -22,16 +25,15 @@ use Rattle.leader_refinement.specs.Follows.{Ends as LeaderEnds, TimesOut, SentSa
 use Rattle.leader_refinement.specs.Seen.{owed_after}
 use Rattle.leader_words.specs.Outs.{comes, leaves, and_answer}
 use Rattle.leader_words.specs.declared.out.LeadOut.{LeadOut}
-use Rattle.leading.specs.Ticks.{is_late, aged, timed_out, and_key_if, row_5_calls}
+use Rattle.leading.specs.Ticks.{Finishing, is_late, aged, timed_out, and_key_if, row_5_calls}
 use Rattle.leading.specs.declared.leader.Leader.{Leader}
 use Rattle.leading.specs.declared.pending.Pending.{Pending}
 use Rattle.leading.specs.declared.pending.Pending.TheVariants as pendings
 use Rattle.call_table.specs.Calls.{running}
 use Rattle.peer_core.specs.Drives.{lead_done, led_in}
+use Rattle.peer_core.specs.Leading.{older, end_of}
 use Rattle.peer_core.specs.Moves.{and_answers, leading, with_leader, turned, turned_answers}
 use Rattle.peer_core.specs.Syncs.{and_sends}
-use Rattle.peer_core.specs.declared.state.ChangeState.{ChangeState}
-use Rattle.peer_core.specs.declared.state.ChangeState.TheVariants.{Settled}
 use Rattle.peer_core.specs.declared.state.Leadership.{Leadership}
 use Rattle.peer_core.specs.declared.state.Phase.TheVariants as phases
 use Rattle.peer_core.specs.declared.state.State.{State as PeerState}
@@ -140,8 +142,8 @@ abbrev pub IdlesAfter : List Task → Leader × LeadOut → Type 0
 IdlesAfter ts r = r.1.then ≡ Rule 36 → EachIsIdle r.0 r.1.keys → AreIdle r.0 (key_tasks r.1.keys ts)
 
 -- so are those of a tick
-pub ticked_idle : (l : Leader) (ts : List Task) → ArePhases ts → IdlesAfter ts (row_5_calls None l)
-ticked_idle l ts are = by_test (IdlesAfter ts) (late_put (aged l.table) || is_late None) (record l { table = aged l.table }, leaves) (now, timed_out (due (aged l.table).calls) (comes (Rule 36)))
+pub ticked_idle : (finishing : Finishing) (l : Leader) (ts : List Task) → ArePhases ts → IdlesAfter ts (row_5_calls finishing l)
+ticked_idle finishing l ts are = by_test (IdlesAfter ts) (late_put (aged l.table) || is_late finishing) (record l { table = aged l.table }, leaves) (now, timed_out (due (aged l.table).calls) (comes (Rule 36)))
     (λ late next ready. absurd (not_stay next))
     (λ on_time next ready. subst (λ keys. AreIdle now (key_tasks keys ts)) (sym (timed_keys (due (aged l.table).calls) (comes (Rule 36))))
     (idle_due now [] (aged l.table).calls ts are (subst (EachIsIdle now) (timed_keys (due (aged l.table).calls) (comes (Rule 36))) ready)))
@@ -157,7 +159,7 @@ ticked_idle l ts are = by_test (IdlesAfter ts) (late_put (aged l.table) || is_la
 module _ (c : Scene) where
   open c use {view, strings, peer as p}
 
-  module _ (key : List ℕ) {h : Held} {out : Out} {notes : List Note} (l : Leadership) (x : PeerState) (here : Here c key (leading l x) h out notes) (free : l.leader.task ≡ pendings.Nothing) (next mark : Rest PeerState (List Task)) (go : Onward c (TasksFit c) next mark) where
+  module _ (key : List ℕ) {h : Held} {out : Out} {notes : List Note} (finishing : Finishing) (l : Leadership) (x : PeerState) (here : Here c key (leading l x) h out notes) (free : l.leader.task ≡ pendings.Nothing) (next mark : Rest PeerState (List Task)) (go : Onward c (TasksFit c) next mark) where
     abbrev s : State
     s = now c here.reached
 
@@ -168,7 +170,7 @@ module _ (c : Scene) where
     owes = owed_after [] out.answers
 
     abbrev r : Leader × LeadOut
-    r = row_5_calls None l.leader
+    r = row_5_calls finishing l.leader
 
     -- rule 5 (d) and (e) come after the keys
     abbrev later : Rest PeerState (List Task) → Rest PeerState (List Task)
@@ -183,7 +185,7 @@ module _ (c : Scene) where
     timed_ends : TimesOut g s owes l.leader r → IsCalmOut r.1 → Ends c (lead_done p 5 r.1 (leading (with_leader r.0 l) x) out (later next)) (lead_done p 5 r.1 (leading (with_leader r.0 l) x) out (later mark)) h notes
     timed_ends t calm = stays_plan c key l x r h 5 out notes calm (later next) (later mark)
         (subst (λ (turn : Then). Ends c (later next (keyed turn r.1.keys) (turned p turn y) (turned_answers turn y told)) (later mark (keyed turn r.1.keys) (turned p turn y) (turned_answers turn y told)) h (notes ++ r.1.notes)) (sym t.next)
-        (go (key_tasks r.1.keys (tasks.Phase 5 ∷ [])) key y h told (notes ++ r.1.notes) (inl ((timed_here t calm, t.task), ticked_idle l.leader (tasks.Phase 5 ∷ []) tt t.next t.ready))))
+        (go (key_tasks r.1.keys (tasks.Phase 5 ∷ [])) key y h told (notes ++ r.1.notes) (inl ((timed_here t calm, t.task), ticked_idle finishing l.leader (tasks.Phase 5 ∷ []) tt t.next t.ready))))
       where
         y : PeerState
         y = leading (with_leader r.0 l) x
@@ -192,7 +194,7 @@ module _ (c : Scene) where
         told = and_sends (and_answers out r.1.answers) r.1.sends
 
     calls_end : Ends c (lead_done p 5 r.1 (leading (with_leader r.0 l) x) out (later next)) (lead_done p 5 r.1 (leading (with_leader r.0 l) x) out (later mark)) h notes
-    calls_end = by_way (run_ticks view here.reached.steps here.reached.run g key owes l.leader None (at_work c l x here) free) (tame_5 None l.leader)
+    calls_end = by_way (run_ticks view here.reached.steps here.reached.run g key owes l.leader finishing (at_work c l x here) free) (tame_5 finishing l.leader)
       where
         not_both : r.1 ≡ leaves → r.1.then ≡ Rule 36 → ⊥
         not_both is next = stay_not (sym (ap (λ (o : LeadOut). o.then) is) ∙ next)
@@ -209,13 +211,31 @@ module _ (c : Scene) where
         by_way (inr t) (inl is) = absurd (not_both is t.next)
         by_way (inr t) (inr calm) = timed_ends t calm
 
-  -- a tick of a leader whose epoch does not end
-  settled_tick : (key : List ℕ) (l : Leadership) (x : PeerState) (h : Held) (out : Out) (notes : List Note) (change : ChangeState) → Settled ≡ change → Here c key (leading (record l { change = change }) x) h out notes → l.leader.task ≡ pendings.Nothing → (next mark : Rest PeerState (List Task)) → Onward c (TasksFit c) next mark
-      → Ends c (led_in p (phases.Leading (record l { change = change })) (leading (record l { change = change }) x) out next) (led_in p (phases.Leading (record l { change = change })) (leading (record l { change = change }) x) out mark) h notes
-  settled_tick key l x h out notes change is = subst (λ (ch : ChangeState). Here c key (leading (record l { change = ch }) x) h out notes → l.leader.task ≡ pendings.Nothing → (next mark : Rest PeerState (List Task)) → Onward c (TasksFit c) next mark
-      → Ends c (led_in p (phases.Leading (record l { change = ch })) (leading (record l { change = ch }) x) out next) (led_in p (phases.Leading (record l { change = ch })) (leading (record l { change = ch }) x) out mark) h notes) is
-      (λ here free next mark go. calls_end key (record l { change = Settled }) x here free next mark go)
+  -- an ending epoch is one tick older
+  abbrev aged_leadership : Leadership → Leadership
+  aged_leadership l = record l { change = older l.change }
 
+  older_here : (key : List ℕ) (l : Leadership) (x : PeerState) (h : Held) (out : Out) (notes : List Note) → Here c key (leading l x) h out notes → Here c key (leading (aged_leadership l) x) h out notes
+  older_here key l x h out notes here = record {
+    reached = here.reached;
+    roles = here.roles;
+    peer = record { saved = here.peer.saved; kept = here.peer.kept; phase = record { started = phase.started; established = phase.established; has = phase.has; change = older_holds (now c here.reached).objects.ledger x.fact l.change phase.change }; sync = here.peer.sync };
+    listed = record { fact = here.listed.fact; phase = record { fact = here.listed.phase.fact; wish = (listed_calls here.listed.phase x.fact).wish; sees = here.listed.phase.sees }; sync = here.listed.sync };
+    trust = here.trust;
+    tree = here.tree;
+    sync = here.sync;
+    fits = here.fits;
+    task = here.task;
+    noted = here.noted;
+    sends = here.sends;
+    listed_sends = here.listed_sends;
+    fits_sends = here.fits_sends;
+  }
+    where
+      phase : IsLeading (now c here.reached).objects.ledger p x.fact l
+      phase = here.peer.phase
+
+  -- a tick of a leader, which steps down if a put or the end of its epoch is late
   pub led_tick : (key : List ℕ) (l : Leadership) (x : PeerState) (h : Held) (out : Out) (notes : List Note) → AtRest c key (leading l x) h out notes → (next mark : Rest PeerState (List Task)) → Onward c (TasksFit c) next mark
       → Ends c (led_in p (phases.Leading l) (leading l x) out next) (led_in p (phases.Leading l) (leading l x) out mark) h notes
-  led_tick key l x h out notes rest next mark go = settled_tick key l x h out notes l.change (sym rest.0.plain.phase.settled) rest.0 rest.1 next mark go
+  led_tick key l x h out notes rest next mark go = calls_end key (end_of (older l.change)) (aged_leadership l) x (older_here key l x h out notes rest.0) rest.1 next mark go

@@ -1,17 +1,16 @@
 -- The part of a peer in leading, as its role in the theory of leaders, through a row of a phase: a leader
 -- steps down and its calls are answered, an epoch begins, or the peer becomes its leader.
 use Rattle.std.proofs.Common.{◌≡◌, inl, inr, ℕ, Bool, true, false, List, [], refl, ap, sym, subst, ◌∙◌}
-use Rattle.call_table.specs.Calls.{running}
-use Rattle.call_table.specs.Rows.{row_at}
 use Rattle.ens_base.specs.declared.epoch.Epoch.{Epoch}
 use Rattle.abstract_protocol.specs.Ledger.{Ledger}
 use Rattle.abstract_protocol.specs.Numbers.{epoch_number}
 use Rattle.abstract_protocol.specs.Protocol.{State, Step, IsRun, state_after}
+use Rattle.call_table.specs.Calls.{running}
+use Rattle.call_table.specs.Rows.{row_at}
 use Rattle.election.specs.declared.election.Election.TheVariants.{Preparing, Starting}
 use Rattle.election_laws.specs.Preparing.{proposer_of}
 use Rattle.election_refinement.proofs.Numbers.{proposer_of-number}
 use Rattle.election_refinement.proofs.Parts.{Part, Out as Outside, Begun, Led, uncounted, part, Turns}
-use Rattle.election_refinement.specs.Plain.{IsPlainThen}
 use Rattle.election_refinement.specs.Refinement.{PhaseHolds, IsLeading, IsStarted}
 use Rattle.leader_laws.specs.Leaders.{TurnsHold, OwesHold, IsUnled}
 use Rattle.leader_laws.specs.Roles.{IsLeaderOf, RoleHolds}
@@ -24,7 +23,7 @@ use Rattle.leading.specs.Leaders.{new_leader}
 use Rattle.leading.specs.declared.leader.Leader.{Leader}
 use Rattle.leading.specs.declared.pending.Pending.{Pending}
 use Rattle.leading.specs.declared.pending.Pending.TheVariants as pendings
-use Rattle.peer_core.specs.Moves.{accepts_in, left, left_answers, stopped_leading, timeouts, turned, turned_answers}
+use Rattle.peer_core.specs.Moves.{accepts_in, left, left_answers, stopped_leading, timeouts, turned, turned_answers, without_candidacy}
 use Rattle.peer_core.specs.declared.state.ChangeState.TheVariants.{Settled}
 use Rattle.peer_core.specs.declared.state.Phase.{Phase}
 use Rattle.peer_core.specs.declared.state.Phase.TheVariants as phases
@@ -68,6 +67,7 @@ stopped_begun (phases.Following f) d begun = begun
 stopped_begun (phases.Probing b) d begun = begun
 stopped_begun (phases.Electing e) d begun = begun
 
+-- a peer that stops leading still has begun the epoch that it began
 pub left_begun : (leave : Bool) (x : PeerState) (d : ℕ) → part x.phase ≡ Begun d → part (left leave x).phase ≡ Begun d
 left_begun true x d begun = stopped_begun x.phase d begun
 left_begun false x d begun = begun
@@ -93,6 +93,7 @@ module _ (view : List ℕ) (steps : List Step) (run : IsRun view steps) (g : Gho
     pub fits : PhaseFits g.hash (state_after view steps) phase
     pub rests : IsAtRest phase
 
+  -- what stands of a phase stands of its part
   pub part_stands : (phase : Phase) (owed : List Owed) → RoleHolds g (state_after view steps) p (role_in key phase owed) → PhaseFits g.hash (state_after view steps) phase → IsAtRest phase → PartStands (part phase) owed
   part_stands (phases.Leading y) owed role fits rests = (role, (uncounted_fits g.hash (state_after view steps) y.leader fits, rests))
   part_stands (phases.Following f) owed role fits rests = role
@@ -139,6 +140,14 @@ module _ (view : List ℕ) (steps : List Step) (run : IsRun view steps) (g : Gho
   leaves_owing (phases.Probing b) owed stands = stands
   leaves_owing (phases.Electing e) owed stands = part_owes (part (phases.Electing e)) owed stands
 
+  -- a peer that no longer trusts its tree leads no longer, and has begun no epoch
+  pub untrusted_stands : (phase : Phase) (owed : List Owed) → PartStands (part phase) owed → PhaseStands (without_candidacy (stopped_leading phase)) (owed_after owed (timeouts phase))
+  untrusted_stands (phases.Leading y) owed stands = record { role = leaves_owing (phases.Leading y) owed stands; fits = tt; rests = tt }
+  untrusted_stands (phases.Following f) owed stands = record { role = stands; fits = tt; rests = tt }
+  untrusted_stands (phases.Probing b) owed stands = record { role = stands; fits = tt; rests = tt }
+  untrusted_stands (phases.Electing (Preparing base promises asked age)) owed stands = record { role = stands; fits = tt; rests = tt }
+  untrusted_stands (phases.Electing (Starting new accepts age)) owed stands = record { role = stands.0; fits = tt; rests = tt }
+
   stopped_stands : (phase : Phase) (owed : List Owed) → PartStands (part phase) owed → PartStands (part (stopped_leading phase)) (owed_after owed (timeouts phase))
   stopped_stands (phases.Leading y) owed stands = leaves_owing (phases.Leading y) owed stands
   stopped_stands (phases.Following f) owed stands = stands
@@ -164,20 +173,21 @@ module _ (view : List ℕ) (steps : List Step) (run : IsRun view steps) (g : Gho
           leading.started.first.known.epoch (sym leading.started.first.known.views)
 
   -- what follows the message of a row
-  pub turned_stands : (then : Then) (x : PeerState) (out : Out) → IsPlainThen then → ((fact : Fact) → then ≡ thens.Lead fact → part x.phase ≡ Begun (epoch_number fact.epoch)) → PhaseHolds (state_after view steps).objects.ledger p (turned p then x).fact (turned p then x).phase
+  pub turned_stands : (then : Then) (x : PeerState) (out : Out) → ((fact : Fact) → then ≡ thens.Lead fact → part x.phase ≡ Begun (epoch_number fact.epoch)) → PhaseHolds (state_after view steps).objects.ledger p (turned p then x).fact (turned p then x).phase
       → PartStands (part x.phase) (owed_after [] out.answers) → PhaseStands (turned p then x).phase (owed_after [] (turned_answers then x out).answers)
-  turned_stands thens.Stay x out plain begun holds stands = phase_stands (state_after view steps).objects.ledger x.fact x.phase (owed_after [] out.answers) holds stands
-  turned_stands (thens.Rule n) x out plain begun holds stands = phase_stands (state_after view steps).objects.ledger x.fact x.phase (owed_after [] out.answers) holds stands
-  turned_stands thens.Follow x out plain begun holds stands = record {
+  turned_stands thens.Follow x out begun holds stands = record {
     role = subst (λ (owed : List Owed). OwesHold g (state_after view steps) p owed) (sym (owed_both [] out.answers (timeouts x.phase))) (leaves_owing x.phase (owed_after [] out.answers) stands);
     fits = tt;
     rests = tt;
   }
-  turned_stands (thens.Lead fact) x out plain begun holds stands =
+  turned_stands (thens.Lead fact) x out begun holds stands =
       subst (λ (owed : List Owed). PhaseStands (turned p (thens.Lead fact) x).phase owed)
       (sym (owed_both [] out.answers (timeouts x.phase) ∙ ap (owed_after (owed_after [] out.answers)) (no_timeouts x.phase (epoch_number fact.epoch) (begun fact refl))))
       (leads_now fact x.fact (accepts_in x.phase) (owed_after [] out.answers) holds (subst (λ (q : Part). PartStands q (owed_after [] out.answers)) (begun fact refl) stands))
-  turned_stands thens.Untrust x out plain begun holds stands = absurd plain
-  turned_stands thens.Put x out plain begun holds stands = absurd plain
-  turned_stands thens.Resume x out plain begun holds stands = absurd plain
-  turned_stands (thens.SyncOn fact) x out plain begun holds stands = absurd plain
+  turned_stands thens.Untrust x out begun holds stands =
+      subst (λ (owed : List Owed). PhaseStands (without_candidacy (stopped_leading x.phase)) owed) (sym (owed_both [] out.answers (timeouts x.phase))) (untrusted_stands x.phase (owed_after [] out.answers) stands)
+  turned_stands thens.Stay x out begun holds stands = phase_stands (state_after view steps).objects.ledger x.fact x.phase (owed_after [] out.answers) holds stands
+  turned_stands thens.Put x out begun holds stands = phase_stands (state_after view steps).objects.ledger x.fact x.phase (owed_after [] out.answers) holds stands
+  turned_stands thens.Resume x out begun holds stands = phase_stands (state_after view steps).objects.ledger x.fact x.phase (owed_after [] out.answers) holds stands
+  turned_stands (thens.SyncOn fact) x out begun holds stands = phase_stands (state_after view steps).objects.ledger x.fact x.phase (owed_after [] out.answers) holds stands
+  turned_stands (thens.Rule n) x out begun holds stands = phase_stands (state_after view steps).objects.ledger x.fact x.phase (owed_after [] out.answers) holds stands

@@ -46,7 +46,15 @@ HasCause notes c Reply.Busy = IsUntouched notes c
 HasCause notes c Reply.Lost = IsUntouched notes c
 HasCause notes c Reply.Timeout = Unit {0}
 
--- each answer is to a call of the schedule and has its cause, and no call is answered twice
+-- a line calls with this id
+abbrev pub IsCalledIn : List ScheduleEvent → ℕ → Type 0
+IsCalledIn events id = (c : Call) × (c ∈ calls_from 1 events) × (c.id ≡ id)
+
+-- Each answer is to a call of the schedule and has its cause, and no call is answered twice. A version is
+-- proposed for a call of these lines, and a read is noted of one. So it is of the first lines of a
+-- schedule too: both come after the line of the call.
 pub record HaveCauses (events : List ScheduleEvent) (lines : List Printed) (notes : List Note) : Type 0 where
   pub caused : (a : Answer) → a ∈ answers_in lines → (c : Call) × (c ∈ calls_from 1 events) × (c.id ≡ a.id) × HasCause notes c a.reply
   pub once : AreDistinct (map (λ (a : Answer). a.id) (answers_in lines))
+  pub proposed : (id : ℕ) (key : List ℕ) (version : Version) (parent : Option Version) → Proposed key version parent (Some id) ∈ notes → IsCalledIn events id
+  pub read : (id : ℕ) (key : List ℕ) (base : Option Version) → Read id key base ∈ notes → IsCalledIn events id

@@ -1,5 +1,5 @@
 -- How a world agrees with the book of the abstract protocol, line by line.
-use Rattle.std.specs.Prelude.{◌≡◌, ◌↔◌, ℕ, ◌+◌, List, [], ◌∷◌, ◌++◌, length, map}
+use Rattle.std.specs.Prelude.{◌≡◌, ◌↔◌, ℕ, ◌+◌, not, List, [], ◌∷◌, ◌++◌, length, map}
 use Rattle.ens_base.specs.Lists.{◌∈◌}
 use Rattle.abstract_protocol.specs.Book.{Book}
 use Rattle.leader_words.specs.declared.out.AnswerOut.{AnswerOut}
@@ -11,29 +11,17 @@ use Rattle.register_model.specs.declared.printed.Printed.{Printed}
 use Rattle.register_model.specs.declared.printed.Printed.TheVariants as printed
 use Rattle.schedule_text.specs.declared.event.ScheduleEvent.{ScheduleEvent}
 use Rattle.schedule_text.specs.declared.event.ScheduleEvent.TheVariants as line
+use Rattle.schedule_premise.specs.Premise.{is_reverted, changed_views}
+use Rattle.sync_laws.specs.Facts.{Lines}
 use Rattle.world_spec.specs.Nodes.{Taken}
 use Rattle.world_spec.specs.Runs.{Run}
 
 -- ## Calls and answers of a schedule
 
--- a line of a steady schedule: peers neither start nor change the view, and no tree is damaged; but what
--- a backend keeps may change, and writes may fail
-abbrev pub IsSteady : ScheduleEvent → Type 0
-IsSteady (line.Call peer id key command) = Unit {0}
-IsSteady (line.Tick peer ticks) = Unit {0}
-IsSteady (line.Deliver message) = Unit {0}
-IsSteady (line.Pass sender receiver) = Unit {0}
-IsSteady (line.Lose sender receiver) = Unit {0}
-IsSteady line.Calm = Unit {0}
-IsSteady (line.CalmAmong members) = Unit {0}
-IsSteady (line.Stop peer) = Unit {0}
-IsSteady (line.Spoil peer key bytes) = Unit {0}
-IsSteady (line.Fail peer store survivor) = Unit {0}
-IsSteady other = ⊥
-
-abbrev pub AreSteady : List ScheduleEvent → Type 0
-AreSteady [] = Unit {0}
-AreSteady (event ∷ more) = IsSteady event × AreSteady more
+-- what the lines of a schedule say, which opens in this view: firm are the peers that no line reverts, and
+-- the views that may vote are the opening one and those that a line asks for
+abbrev pub lines_of : List ℕ → List ScheduleEvent → Lines
+lines_of view events = record { firm = λ q. not (is_reverted events q); voting = view ∷ changed_views events }
 
 -- the call of a line with this number, in front of the rest
 abbrev pub call_at : ScheduleEvent → ℕ → List Call → List Call

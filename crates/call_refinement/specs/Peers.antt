@@ -1,6 +1,7 @@
 -- What holds of a peer and its stores besides its part in elections, and what messages say besides.
-use Rattle.std.specs.Prelude.{◌≡◌, ◌<◌, ◌^◌, ℕ, true, List}
+use Rattle.std.specs.Prelude.{◌≡◌, ◌<◌, ◌^◌, ℕ, true, false, List, Some}
 use Rattle.ens_base.specs.Limits.{IsKey, IsCommand}
+use Rattle.ens_base.specs.Lists.{◌∈◌}
 use Rattle.ens_base.specs.declared.entry.Entry.{Entry}
 use Rattle.ens_base.specs.declared.epoch.Version.{Version}
 use Rattle.ens_object.specs.Objects.{IsObject}
@@ -8,7 +9,9 @@ use Rattle.abstract_protocol.specs.Numbers.{IsVersion}
 use Rattle.abstract_protocol.specs.Protocol.{State}
 use Rattle.call_table.specs.Calls.{running}
 use Rattle.call_table.specs.Rows.{row_at}
-use Rattle.held_stores.specs.Held.{Held}
+use Rattle.election_refinement.specs.Listed.{IsListedFact}
+use Rattle.election_refinement.specs.Refinement.{IsSaved}
+use Rattle.held_stores.specs.Held.{Held, HeldStores}
 use Rattle.leader_refinement.specs.Follows.{Hash, LeaderFits, TaskHolds}
 use Rattle.leader_refinement.specs.Laws.{EntryFits}
 use Rattle.leader_refinement.specs.Seen.{rank}
@@ -16,36 +19,65 @@ use Rattle.leader_words.specs.declared.out.Outgoing.{Outgoing}
 use Rattle.leading.specs.declared.pending.Pending.TheVariants as tasks
 use Rattle.peer_core.specs.declared.state.Phase.{Phase}
 use Rattle.peer_core.specs.declared.state.Phase.TheVariants as phases
+use Rattle.peer_fact.specs.declared.fact.Fact.{Fact}
+use Rattle.sync_laws.specs.Facts.{Lines}
 use Rattle.wire_frames.specs.declared.frame.Frame.{Frame}
 use Rattle.wire_frames.specs.declared.message.Message.{Message}
 use Rattle.wire_frames.specs.declared.message.Message.TheVariants as messages
 use Rattle.request_refinement.specs.Naming.{VersionSays, EntryMaySay}
-use Rattle.request_refinement.specs.Replies.{MapSays}
-use Rattle.tree_maps.specs.Forms.{root}
-use Rattle.tree_maps.specs.Maps.{IsNode}
-use Rattle.tree_maps.specs.Sixteen.{sixteen}
+use Rattle.sync_refinement.specs.Syncs.{TreeSays, MayReturn, GiveFits}
+use Rattle.tree_refinement.specs.Tops.{IsNamed, tops_of}
 use Rattle.tree_refinement.specs.Trees.{Shows}
-use Rattle.tree_refinement.specs.Whole.{IsStored}
+use Rattle.tree_refinement.specs.Whole.{IsRecorded}
+use Rattle.world_stores.specs.Nodes.{top_of}
 
--- the tree of the peer shows the map, and each node of the map is stored; failures may wait in the
--- stores
-pub record IsUndamaged (h : Held) (m : List Entry) : Type 0 where
-  pub shows : Shows h m
-  pub stored : (node : List ℕ) → IsNode sixteen sixteen.depth root m node → IsStored h.stores.tree.store.entries node
+-- ## Trees
 
--- the tree of peer q shows a map without damage, and the map is that of the protocol
+-- a top record of peer q names a map that its tree may be put back to
+pub record TopReturns (s : State) (strings hashed : List (List ℕ)) (q : ℕ) (digest : List ℕ) : Type 0 where
+  pub map : List Entry
+  pub named : IsNamed hashed digest map
+  pub returns : MayReturn s strings q map
+
+-- so does each of these records
+abbrev pub TopsReturn : State → List (List ℕ) → List (List ℕ) → ℕ → List (List ℕ) → Type 0
+TopsReturn s strings hashed q tops = (digest : List ℕ) → digest ∈ tops → TopReturns s strings hashed q digest
+
+-- the tree of the running peer q shows a map, which is that of the protocol; the top record names its
+-- root
 pub record TreeHolds (s : State) (strings : List (List ℕ)) (q : ℕ) (h : Held) : Type 0 where
   pub map : List Entry
-  pub whole : IsUndamaged h map
-  pub says : MapSays s strings q map
+  pub shows : Shows h map
+  pub says : TreeSays s strings q map
+  pub recorded : IsRecorded h
+  pub tops : TopsReturn s strings h.hashed q (tops_of h.stores)
 
--- each version that a peer acknowledged says what holds; so its object was hashed
+-- the stores of peer q, which is down: they keep its fact, the top record names a map, which is that of
+-- the protocol, and the peer does not trust its tree
+pub record DownHolds (voting : List (List ℕ)) (s : State) (strings hashed : List (List ℕ)) (q : ℕ) (stores : HeldStores) : Type 0 where
+  pub fact : Fact
+  pub kept : stores.facts.kept ≡ Some fact
+  pub saved : IsSaved s.objects.ledger q fact
+  pub listed : IsListedFact voting fact
+  pub blind : s.objects.trusted q ≡ false
+  pub map : List Entry
+  pub digest : List ℕ
+  pub top : top_of (tops_of stores) ≡ Some digest
+  pub named : IsNamed hashed digest map
+  pub says : TreeSays s strings q map
+  pub tops : TopsReturn s strings hashed q (tops_of stores)
+
+-- ## Versions and calls
+
+-- each version that a peer acknowledges says what holds; so its object was hashed
 abbrev pub AcksSay : State → List (List ℕ) → Type 0
 AcksSay s strings = (v : Version) (q : ℕ) → IsVersion v → s.objects.acked (rank v) q ≡ true → VersionSays s strings v
 
 -- each call that came keeps the limits of its key and its command
 abbrev pub AsksFit : State → Type 0
 AsksFit s = (i : ℕ) → s.book.called i ≡ true → IsKey (s.book.asked i).key × IsCommand (s.book.asked i).command
+
+-- ## Phases
 
 -- the leader in the phase fits
 abbrev pub PhaseFits : Hash → State → Phase → Type 0
@@ -62,18 +94,22 @@ abbrev pub IsAtRest : Phase → Type 0
 IsAtRest (phases.Leading l) = l.leader.task ≡ tasks.Nothing
 IsAtRest phase = Unit {0}
 
--- what a message holds besides what it says of elections and of calls: the object of a put obeys the
--- grammar, and the entry of a reply says what holds
-abbrev pub MessageFits : State → List (List ℕ) → Message → Type 0
-MessageFits s strings (messages.Put ballot o) = IsObject o
-MessageFits s strings (messages.GetReply ballot round key entry object) = EntryMaySay s strings entry × EntryFits entry
-MessageFits s strings message = Unit {0}
+-- ## Messages
 
-abbrev pub SendFits : State → List (List ℕ) → Outgoing → Type 0
-SendFits s strings o = MessageFits s strings o.message
+-- what a message of peer q holds besides what it says of elections and of calls: the object of a put
+-- obeys the grammar, the entry of a reply says what holds, and a node of a tree is of a map that the
+-- peer showed
+abbrev pub MessageFits : Lines → State → List (List ℕ) → ℕ → Message → Type 0
+MessageFits lines s strings q (messages.Put ballot o) = IsObject o
+MessageFits lines s strings q (messages.GetReply ballot round key entry object) = EntryMaySay s strings entry × EntryFits entry
+MessageFits lines s strings q (messages.TreeGive ballot at after trusted body) = GiveFits lines s strings q ballot (record { position = at; after = after }) trusted body
+MessageFits lines s strings q message = Unit {0}
 
-abbrev pub FrameFits : State → List (List ℕ) → Frame → Type 0
-FrameFits s strings f = MessageFits s strings f.message
+abbrev pub SendFits : Lines → State → List (List ℕ) → ℕ → Outgoing → Type 0
+SendFits lines s strings q o = MessageFits lines s strings q o.message
+
+abbrev pub FrameFits : Lines → State → List (List ℕ) → Frame → Type 0
+FrameFits lines s strings f = MessageFits lines s strings f.from f.message
 
 -- the number of each epoch that was elected is below 2 ^ 96: its count has 64 bits
 abbrev pub EpochsFit : State → Type 0

@@ -1,14 +1,15 @@
 //! Worlds with calls refine the abstract protocol, with its objects and its book.
 //!
-//! A schedule is steady if its lines only call, tick, deliver, pass, lose, calm, stop, spoil and fail:
-//! no peer starts again, no tree is damaged, and no view changes (`specs/Lines`). Nothing is asked of
-//! what the backends hold, and a write that fails stops its peer. The world after a steady schedule
-//! agrees with a run of the abstract protocol (`specs/Worlds`): each running peer shows the map of the
-//! protocol and has its role in the theory of leaders (`specs/Peers`, `specs/Roles`), each message says
-//! what holds, and the book has the notes of the leaders, the calls of the lines and the answers
-//! printed. So its histories are legal, in the sense of Herlihy and Wing (1990), and each answer
-//! printed has its cause in the notes
-//! (`specs/Causes`).
+//! A schedule has lines of every kind: calls, ticks, deliveries and losses, changes of the view, stops
+//! and starts, damage of objects and of nodes, writes that fail, and trees that are reverted. The
+//! premise is that of each view that the schedule names, the opening one and those that lines ask for,
+//! more than half of the members are never reverted; and that no two different strings that were hashed
+//! have the same MD5. Then the world after the schedule agrees with a run of the abstract protocol
+//! (`specs/Worlds`): each running peer shows the map of the protocol and has its role in the theory of
+//! leaders (`specs/Peers`, `specs/Roles`), the top record of a peer that is down names such a map, each
+//! message says what holds, and the book has the notes of the leaders, the calls of the lines and the
+//! answers printed. So its histories are legal, in the sense of Herlihy and Wing (1990), and each answer
+//! printed has its cause in the notes (`specs/Causes`).
 //!
 //! `proofs/Frame` says where a peer is within its step, and how a step ends. Rows of phases, rules of
 //! a leader, and requests are followed there call by call; `proofs/Stepping` joins them to a whole
@@ -19,6 +20,6 @@
 mod laws;
 
 pub use laws::{
-    keys_are_called, steady_answers_have_causes, steady_histories_are_legal,
-    steady_worlds_refine_the_protocol,
+    answers_have_causes, keys_are_called, schedules_have_legal_histories,
+    schedules_refine_the_protocol,
 };

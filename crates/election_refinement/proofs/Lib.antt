@@ -18,7 +18,7 @@ pub mod Ticks
 pub mod Rules
 pub mod Whole
 pub mod Parts
-pub mod Plain
+pub mod Listed
 pub mod Syncing
 pub mod Loops
 pub mod Worlds

@@ -1,3 +1,3 @@
 pub mod Refinement
 pub mod Worlds
-pub mod Plain
+pub mod Listed

@@ -24,8 +24,9 @@
 //! A crate that follows the whole state of the abstract protocol takes the rows of a phase from three
 //! further files: `proofs/Whole` has the steps that a peer takes on a row, and `proofs/Parts` has what
 //! the row does to the peer's part in leading: whether it begins an epoch, leads it, or neither.
-//! `proofs/Plain` shows of a schedule without changes of the view, starts and damage that no row begins
-//! a sync; `specs/Plain` says what peers and messages are then like.
+//! `proofs/Listed` shows that each row keeps the views of a peer among those that may vote, and its
+//! counts to 64 bits, and that only a peer that trusts its tree leads; `specs/Listed` says what peers
+//! and messages are then like.
 #![tactic(auto)]
 
 mod laws;

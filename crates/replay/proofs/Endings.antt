@@ -1,19 +1,22 @@
 -- How a replay ends, for each way in which the run of its schedule ends.
-use Rattle.std.proofs.Common.{◌≡◌, ◌<◌, ◌^◌, ℕ, length, List, [], ◌∷◌, ◌++◌, Option, None, Some, Result, Ok, Err, refl, sym, subst, ◌∙◌, inl, inr, arith, string_bytes}
+use Rattle.std.proofs.Common.{◌≡◌, ◌<◌, ◌^◌, ℕ, Bool, true, false, not, length, List, [], ◌∷◌, ◌++◌, Option, None, Some, Result, Ok, Err, refl, sym, subst, ◌∙◌, inl, inr, arith, string_bytes}
 use Rattle.std.specs.Prelude.{IfOk, codes}
-use Rattle.call_refinement.proofs.Steady.{steady_are_legal, steady_have_causes}
-use Rattle.call_refinement.specs.Lines.{AreSteady}
+use Rattle.std.proofs.lemmas.Bool.{false≢true}
+use Rattle.call_refinement.proofs.Whole.{schedules_are_legal, schedules_have_causes}
+use Rattle.call_refinement.specs.Lines.{lines_of}
 use Rattle.ens_base.specs.Lists.{◌∈◌}
 use Rattle.ens_base.specs.declared.status.Status.{Status}
 use Rattle.held_stores.specs.Held.{Account, account, HasHashed, HasNoClash}
 use Rattle.held_stores.specs.Laws.{HasClashed, HasFilled}
 use Rattle.schedule_input.specs.declared.ending.Ending.{Ending}
-use Rattle.schedule_premise.specs.Premise.{first_unsound}
+use Rattle.schedule_premise.proofs.Searches.{none_passes}
 use Rattle.schedule_premise.proofs.Soundness.{unreverted_is_none}
+use Rattle.schedule_premise.specs.Premise.{first_unsound, fails, is_reverted, keeps_majority, views_named}
 use Rattle.schedule_text.specs.Spelling as schedule
 use Rattle.schedule_text.specs.declared.event.ScheduleEvent.TheVariants as line
 use Rattle.schedule_text.specs.declared.schedule.Schedule.{Schedule}
 use Rattle.world_spec.specs.Messages.{IsPastMessages}
+use Rattle.sync_laws.specs.Facts.{AreFirm}
 use Rattle.replay.specs.Jobs.{EndsSo, HasAdmitted, HasCausedAnswers, HasLegalHistories, IsRunText, PrintsWith, clash_line, hashed_by, nothing_hashed}
 use Rattle.replay.specs.Worlds.{schedule_run}
 
@@ -21,11 +24,19 @@ use Rattle.replay.specs.Worlds.{schedule_run}
 pub forward_sound : (s : Schedule) → schedule.IsSchedule s → ((peer changes : ℕ) → line.Revert peer changes ∈ s.events → ⊥) → first_unsound s ≡ None
 forward_sound s of none = unreverted_is_none s of (λ p reverted. none p reverted.0 reverted.1)
 
--- a steady schedule of whose strings no two clash has legal histories and caused answers
-steady_legal : (s : Schedule) → schedule.IsSchedule s → AreSteady s.events → HasNoClash (hashed_by s) → HasLegalHistories s × HasCausedAnswers s
-steady_legal s of steady apart = (
-  steady_are_legal s.peers s.view s.events of.peers.1 of.view.1 few steady of.events of.distinct apart,
-  steady_have_causes s.peers s.view s.events of.peers.1 of.view.1 few steady of.events of.distinct apart,
+-- of each view that a sound schedule names more than half of the members are never reverted
+firm_lines : (s : Schedule) → first_unsound s ≡ None → AreFirm (lines_of s.view s.events)
+firm_lines s sound view named = kept (keeps_majority (is_reverted s.events) view) (none_passes (fails (is_reverted s.events)) (views_named s) sound view named)
+  where
+    kept : (b : Bool) → not b ≡ false → b ≡ true
+    kept true is = refl
+    kept false is = absurd (false≢true (sym is))
+
+-- a sound schedule of whose strings no two clash has legal histories, and its answers have causes
+sound_legal : (s : Schedule) → schedule.IsSchedule s → first_unsound s ≡ None → HasNoClash (hashed_by s) → HasLegalHistories s × HasCausedAnswers s
+sound_legal s of sound apart = (
+  schedules_are_legal s.peers s.view s.events of.peers.1 of.view.1 few (firm_lines s sound) of.events of.distinct apart,
+  schedules_have_causes s.peers s.view s.events of.peers.1 of.view.1 few (firm_lines s sound) of.events of.distinct apart,
 )
   where
     few : length s.events < 2 ^ 32
@@ -37,7 +48,7 @@ module _ (first now : Account) (s : Schedule) (sound : first_unsound s ≡ None)
   run_done text of ran has apart None read = tt
   run_done text of ran has apart (Some bytes) read =
       let all : HasAdmitted (hashed_by s) first now = record { has = has; apart = apart } in
-      (s, read, of, sound, ran, all, λ steady kept. steady_legal s of steady (apart kept))
+      (s, read, of, sound, ran, all, λ kept. sound_legal s of sound (apart kept))
 
   pub clash_ends : (kept new text : List ℕ) → HasClashed (hashed_by s) first kept new now → text ≡ clash_line kept new → EndsSo first now s Status.Clash text
   clash_ends kept new text has is None read = (kept, new, has.1, has.3, is, tt)

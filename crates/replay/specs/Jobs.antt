@@ -1,7 +1,7 @@
 -- What a job prints, and why it ends as it does.
 use Rattle.std.specs.Prelude.{◌≡◌, ◌⊎◌, ℕ, List, [], ◌∷◌, ◌++◌, codes, Option, None, Some, Ok, IfSome}
 use Rattle.call_refinement.specs.Causes.{HaveCauses}
-use Rattle.call_refinement.specs.Lines.{AreLegal, AreSteady}
+use Rattle.call_refinement.specs.Lines.{AreLegal}
 use Rattle.held_stores.specs.Held.{Account, HasHashed, HasNoClash}
 use Rattle.held_stores.specs.Laws.{HasClashed, HasFilled}
 use Rattle.schedule_premise.specs.Premise.{first_unsound}
@@ -43,15 +43,14 @@ HasLegalHistories s = (histories : List History) → AreHistories (schedule_run 
 abbrev pub HasCausedAnswers : Schedule → Type 0
 HasCausedAnswers s = HaveCauses s.events (schedule_run s).printed (schedule_run s).notes
 
--- So it is with a schedule whose lines only call, tick, deliver, pass, lose, calm, stop, spoil and fail,
--- if the hasher kept nothing before.
-abbrev pub IsLegalIfSteady : Account → Schedule → Type 0
-IsLegalIfSteady first s = AreSteady s.events → first.kept ≡ Some [] → HasLegalHistories s × HasCausedAnswers s
+-- both, if the hasher kept nothing before: then no two different strings of the run have the same MD5
+abbrev pub IsLegalRun : Account → Schedule → Type 0
+IsLegalRun first s = first.kept ≡ Some [] → HasLegalHistories s × HasCausedAnswers s
 
 -- the bytes are a sound schedule, the text is that of its run, the hasher took the strings of the run,
--- and the histories are legal, and the answers caused, if the schedule is steady
+-- the histories are legal, and the answers have causes
 abbrev pub IsReplay : Account → Account → List ℕ → List ℕ → Type 0
-IsReplay first now bytes text = (s : Schedule) × (schedule_of bytes ≡ Ok s) × IsSchedule s × (first_unsound s ≡ None) × IsRunText s text × HasAdmitted (hashed_by s) first now × IsLegalIfSteady first s
+IsReplay first now bytes text = (s : Schedule) × (schedule_of bytes ≡ Ok s) × IsSchedule s × (first_unsound s ≡ None) × IsRunText s text × HasAdmitted (hashed_by s) first now × IsLegalRun first s
 
 -- the bytes are a sound schedule, and the hasher rejected the next string of its run, which clashes
 -- with one that it keeps

@@ -3,9 +3,8 @@
 //! A schedule runs in a world with all its peers (world_model), unless it reverts half of a view
 //! (schedule_premise). The contract of `replay` says what is printed for each status (`specs/Jobs`):
 //! what the run prints, and the histories that follow from the notes of its leaders (`specs/Text`).
-//! If the schedule is steady, these histories are legal for their keys by the definition of
-//! register_model. `replay_with` takes the hasher of the run, and `replay` a book that finds two
-//! different strings with the same MD5.
+//! These histories are legal for their keys by the definition of register_model. `replay_with` takes
+//! the hasher of the run, and `replay` a book that finds two different strings with the same MD5.
 #![tactic(auto)]
 
 mod job;

@@ -1,0 +1,245 @@
+-- A row of a phase leaves the trust of the peer in its tree as it was, unless it finds damage, and it begins no
+-- sync: the sync of the peer runs on, or it ends.
+use Rattle.std.proofs.Common.{◌≡◌, ◌⊎◌, inl, inr, ℕ, ◌==◌, Bool, true, false, if◌then◌else◌, List, Option, None, Some, refl, sym, ap, subst, ◌∙◌}
+use Rattle.ens_base.specs.declared.entry.Entry.{Entry}
+use Rattle.ens_base.specs.declared.epoch.Epoch.{Epoch}
+use Rattle.abstract_protocol.specs.Ledger.{Ledger}
+use Rattle.abstract_protocol.specs.Numbers.{epoch_number}
+use Rattle.abstract_protocol.specs.Protocol.{State as Protocol}
+use Rattle.election.specs.Preparing.{row_10}
+use Rattle.election.specs.declared.election.Election.{Election}
+use Rattle.election.specs.declared.election.Election.TheVariants.{Preparing, Starting}
+use Rattle.election_refinement.proofs.Rows.{made_way, saved_in, settled}
+use Rattle.election_refinement.proofs.Tests.{by_test}
+use Rattle.election_refinement.specs.Refinement.{SyncHolds}
+use Rattle.following.specs.Announcements.{row_16}
+use Rattle.peer_core.specs.Moves.{left, sought, stood, turned, waiting_for}
+use Rattle.peer_core.specs.Rows.{aged, asked_change, changes, leads, phase_row, received, runs_sync, wanting, while_8, while_9, while_10, while_12, while_13, while_14, while_15, while_17, while_25, while_26}
+use Rattle.peer_core.specs.declared.state.Phase.{Phase}
+use Rattle.peer_core.specs.declared.state.Phase.TheVariants as phases
+use Rattle.peer_core.specs.declared.state.State.{State}
+use Rattle.peer_fact.specs.declared.fact.Change.{Change}
+use Rattle.peer_fact.specs.declared.fact.Change.TheVariants as facts
+use Rattle.peer_fact.specs.declared.fact.Fact.{Fact}
+use Rattle.probe.specs.Probing.{row_7}
+use Rattle.probe.specs.declared.probing.Probing.{Probing}
+use Rattle.running_sync.specs.Running.{Running}
+use Rattle.sync_laws.specs.Facts.{Lines}
+use Rattle.sync_refinement.specs.Syncs.{SyncMaySay}
+use Rattle.view_change.specs.Changes.{may_change}
+use Rattle.wire_frames.specs.declared.message.Message.{Message}
+use Rattle.wire_frames.specs.declared.message.Message.TheVariants as messages
+use Rattle.wire_frames.specs.declared.message.NackCause.{NackCause}
+use Rattle.wire_frames.specs.declared.phase.PhaseOut.{PhaseOut}
+use Rattle.wire_frames.specs.declared.phase.Then.{Then}
+use Rattle.wire_frames.specs.declared.phase.Then.TheVariants as thens
+
+-- from x to y the trust stays, and the sync runs on or ends
+pub record Spares (x y : State) : Type 0 where
+  pub trusted : y.trusted ≡ x.trusted
+  pub sync : (y.sync ≡ x.sync) ⊎ (y.sync ≡ None)
+
+-- the peer does not trust its tree, and no sync runs
+abbrev pub IsBlind : State → Type 0
+IsBlind x = (x.trusted ≡ false) × (x.sync ≡ None)
+
+-- nothing changes
+pub spares_same : (x : State) → Spares x x
+spares_same x = record { trusted = refl; sync = inl refl }
+
+-- two changes that spare the peer spare it together
+pub spares_then : (x y z : State) → Spares x y → Spares y z → Spares x z
+spares_then x y z a b = record { trusted = b.trusted ∙ a.trusted; sync = by_later b.sync a.sync }
+  where
+    by_first : z.sync ≡ y.sync → (y.sync ≡ x.sync) ⊎ (y.sync ≡ None) → (z.sync ≡ x.sync) ⊎ (z.sync ≡ None)
+    by_first same (inl first) = inl (same ∙ first)
+    by_first same (inr ended) = inr (same ∙ ended)
+
+    by_later : (z.sync ≡ y.sync) ⊎ (z.sync ≡ None) → (y.sync ≡ x.sync) ⊎ (y.sync ≡ None) → (z.sync ≡ x.sync) ⊎ (z.sync ≡ None)
+    by_later (inl same) first = by_first same first
+    by_later (inr ended) first = inr ended
+
+-- ## After a row
+
+left_spares : (leave : Bool) (x : State) → Spares x (left leave x)
+left_spares true x = record { trusted = refl; sync = inl refl }
+left_spares false x = spares_same x
+
+saved_spares : (save : Option Fact) (x : State) → Spares x (saved_in save x)
+saved_spares None x = spares_same x
+saved_spares (Some fact) x = record { trusted = refl; sync = inl refl }
+
+turned_spares : (me : ℕ) (next : Then) (x : State) → IsBlind (made_way next (turned me next x)) ⊎ Spares x (made_way next (turned me next x))
+turned_spares me thens.Follow x = inr (record { trusted = refl; sync = inr refl })
+turned_spares me (thens.Lead fact) x = inr (record { trusted = refl; sync = inr refl })
+turned_spares me thens.Untrust x = inl (refl, refl)
+turned_spares me thens.Stay x = inr (spares_same x)
+turned_spares me thens.Put x = inr (spares_same x)
+turned_spares me thens.Resume x = inr (spares_same x)
+turned_spares me (thens.SyncOn fact) x = inr (record { trusted = refl; sync = inr refl })
+turned_spares me (thens.Rule n) x = inr (spares_same x)
+
+-- the whole row, from the state in it
+pub settled_spares : (me : ℕ) (row : PhaseOut) (x y : State) → Spares x y → IsBlind (settled me row y) ⊎ Spares x (settled me row y)
+settled_spares me row x y before = by_turn (turned_spares me row.then kept)
+  where
+    kept : State
+    kept = saved_in row.save (left row.leave y)
+
+    by_turn : IsBlind (settled me row y) ⊎ Spares kept (settled me row y) → IsBlind (settled me row y) ⊎ Spares x (settled me row y)
+    by_turn (inl blind) = inl blind
+    by_turn (inr spares) = inr (spares_then x kept (settled me row y) (spares_then x (left row.leave y) kept (spares_then x y (left row.leave y) before (left_spares row.leave y)) (saved_spares row.save (left row.leave y))) spares)
+
+-- ## The sync
+
+-- a running sync says what it said after the peer saved another fact on which it may run
+sync_resaved : (lines : Lines) (s : Protocol) (strings : List (List ℕ)) (l : Ledger) (p : ℕ) (old new : Fact) (trusted : Bool) (m : List Entry) (waiting : Bool) (sync : Option Running) → SyncHolds l p new waiting sync → SyncMaySay lines s strings p old trusted m sync → SyncMaySay lines s strings p new trusted m sync
+sync_resaved lines s strings l p old new trusted m waiting None holds says = tt
+sync_resaved lines s strings l p old new trusted m waiting (Some r) holds says = record {
+  me = says.me;
+  trust = says.trust;
+  view = says.view;
+  scan = says.scan;
+  hashed = says.hashed;
+  distinct = says.distinct;
+  others = says.others;
+  sources = says.sources;
+  received = says.received;
+  holds = record {
+    first = says.holds.first;
+    stands = ap epoch_number holds.may.promised;
+    newer = holds.may.newer;
+    found = says.holds.found;
+    scanned = says.holds.scanned;
+    whole = says.holds.whole;
+    asks = says.holds.asks;
+  };
+}
+
+-- so does the sync of a peer whose trust stays, if it runs on
+pub sync_spared : (lines : Lines) (s : Protocol) (strings : List (List ℕ)) (l : Ledger) (p : ℕ) (m : List Entry) (waiting : Bool) (x y : State) → Spares x y → SyncHolds l p y.fact waiting y.sync → SyncMaySay lines s strings p x.fact x.trusted m x.sync → SyncMaySay lines s strings p y.fact y.trusted m y.sync
+sync_spared lines s strings l p m waiting x y spares holds says = by_sync spares.sync
+  where
+    by_sync : (y.sync ≡ x.sync) ⊎ (y.sync ≡ None) → SyncMaySay lines s strings p y.fact y.trusted m y.sync
+    by_sync (inl same) =
+        sync_resaved lines s strings l p x.fact y.fact y.trusted m waiting y.sync holds
+        (subst (λ (sync : Option Running). SyncMaySay lines s strings p x.fact y.trusted m sync) (sym same) (subst (λ (trusted : Bool). SyncMaySay lines s strings p x.fact trusted m x.sync) (sym spares.trusted) says))
+    by_sync (inr ended) = subst (λ (sync : Option Running). SyncMaySay lines s strings p y.fact y.trusted m sync) (sym ended) tt
+
+-- ## The rows
+
+module _ (p : ℕ) (x : State) where
+  -- in the state of the row
+  abbrev G : State × PhaseOut → Type 0
+  G r = Spares x r.0
+
+  same : Spares x x
+  same = spares_same x
+
+  seeks : (o : Option Probing) → Spares x (sought o x)
+  seeks None = same
+  seeks (Some b) = record { trusted = refl; sync = inr refl }
+
+  stands : (o : Option Election) → Spares x (stood o x)
+  stands None = same
+  stands (Some e) = record { trusted = refl; sync = inr refl }
+
+  waits : (next : Then) → Spares x (waiting_for next x)
+  waits (thens.SyncOn fact) = record { trusted = refl; sync = inl refl }
+  waits thens.Resume = record { trusted = refl; sync = inl refl }
+  waits thens.Stay = same
+  waits thens.Follow = same
+  waits (thens.Lead fact) = same
+  waits thens.Untrust = same
+  waits thens.Put = same
+  waits (thens.Rule n) = same
+
+  wants : (change : Change) (phase : Phase) → Spares x (wanting change phase x)
+  wants change (phases.Leading l) = record { trusted = refl; sync = inl refl }
+  wants change other = same
+
+  rule_8 : (phase : Phase) (from : ℕ) (reply : Fact) → G (while_8 phase p from reply x)
+  rule_8 (phases.Probing b) from reply = record { trusted = refl; sync = inl refl }
+  rule_8 other from reply = same
+
+  rule_9 : (phase : Phase) → G (while_9 phase x)
+  rule_9 (phases.Probing b) = record { trusted = refl; sync = inl refl }
+  rule_9 other = same
+
+  rule_10 : (phase : Phase) → G (while_10 phase p x)
+  rule_10 (phases.Probing b) = stands (row_10 x.fact p b.best b.count).1
+  rule_10 (phases.Leading l) = stands (row_10 x.fact p x.fact x.fact.ballot.count).1
+  rule_10 other = same
+
+  rule_12 : (phase : Phase) (from : ℕ) (ballot : Epoch) (promised : Fact) → G (while_12 phase p from ballot promised x)
+  rule_12 (phases.Electing e) from ballot promised = record { trusted = refl; sync = inl refl }
+  rule_12 other from ballot promised = same
+
+  rule_13 : (phase : Phase) → G (while_13 phase p x)
+  rule_13 (phases.Electing e) = record { trusted = refl; sync = inl refl }
+  rule_13 other = same
+
+  rule_14 : (phase : Phase) → G (while_14 phase p x)
+  rule_14 (phases.Electing e) = record { trusted = refl; sync = inl refl }
+  rule_14 other = same
+
+  rule_15 : (phase : Phase) (ballot : Epoch) (cause : NackCause) → G (while_15 phase ballot cause x)
+  rule_15 (phases.Electing e) ballot cause = same
+  rule_15 (phases.Leading l) ballot cause = same
+  rule_15 other ballot cause = same
+
+  rule_17 : (phase : Phase) (from : ℕ) (ballot : Epoch) (seq : ℕ) → G (while_17 phase from ballot seq x)
+  rule_17 (phases.Electing e) from ballot seq = record { trusted = refl; sync = inl refl }
+  rule_17 (phases.Leading l) from ballot seq = record { trusted = refl; sync = inl refl }
+  rule_17 other from ballot seq = same
+
+  rule_25 : (phase : Phase) → G (while_25 phase p x)
+  rule_25 (phases.Leading l) = record { trusted = refl; sync = inl refl }
+  rule_25 other = same
+
+  rule_26 : (phase : Phase) → G (while_26 phase p x)
+  rule_26 (phases.Leading l) = same
+  rule_26 other = same
+
+  rules_2_to_4 : (phase : Phase) → G (aged phase p x)
+  rules_2_to_4 (phases.Following f) = record { trusted = refl; sync = inl refl }
+  rules_2_to_4 (phases.Probing b) = record { trusted = refl; sync = inl refl }
+  rules_2_to_4 (phases.Electing (Preparing base promises asked age)) = record { trusted = refl; sync = inl refl }
+  rules_2_to_4 (phases.Electing (Starting new accepts age)) = record { trusted = refl; sync = inl refl }
+  rules_2_to_4 (phases.Leading l) = same
+
+  -- the row of a rule that a row names
+  pub phase_row_spares : (n : ℕ) → G (phase_row n p x)
+  phase_row_spares n =
+      by_test G (n == 7) _ _ (λ is. seeks (row_7 x.fact p).1) (λ not.
+      by_test G (n == 9) _ _ (λ is. rule_9 x.phase) (λ not.
+      by_test G (n == 10) _ _ (λ is. rule_10 x.phase) (λ not.
+      by_test G (n == 13) _ _ (λ is. rule_13 x.phase) (λ not.
+      by_test G (n == 14) _ _ (λ is. rule_14 x.phase) (λ not.
+      by_test G (n == 25) _ _ (λ is. rule_25 x.phase) (λ not.
+      by_test G (n == 26) _ _ (λ is. rule_26 x.phase) (λ not. same)))))))
+
+  -- the row for a message
+  pub received_spares : (from : ℕ) (message : Message) → G (received p from message x)
+  received_spares from messages.Probe = same
+  received_spares from (messages.ProbeReply fact) = rule_8 x.phase from fact
+  received_spares from (messages.Prepare ballot) = same
+  received_spares from (messages.Promise ballot fact) = rule_12 x.phase from ballot fact
+  received_spares from (messages.Nack ballot cause) = rule_15 x.phase ballot cause
+  received_spares from (messages.NewEpoch fact) = waits (row_16 x.fact p x.trusted (runs_sync x.sync) from fact).then
+  received_spares from (messages.Accepted ballot seq) = rule_17 x.phase from ballot seq
+  received_spares from (messages.Commit fact) = same
+  received_spares from (messages.Beat ballot) = same
+  received_spares from (messages.Check ballot round) = same
+  received_spares from other = same
+
+  -- the row of a tick, in a peer that does not lead
+  pub aged_spares : G (aged x.phase p x)
+  aged_spares = rules_2_to_4 x.phase
+
+  -- the row of a request to change the view
+  pub asked_change_spares : (asked : List ℕ) → Spares x (asked_change asked x).0
+  asked_change_spares asked =
+      by_test (λ (r : PhaseOut × Bool). Spares x (if r.1 then wanting (facts.Add asked) x.phase x else x)) (may_change x.fact (leads x.phase) (changes x.phase) asked) _ _
+      (λ may. wants (facts.Add asked) x.phase)
+      (λ may_not. same)

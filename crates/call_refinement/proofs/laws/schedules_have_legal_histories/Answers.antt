@@ -1,0 +1,5 @@
+use Rattle.call_refinement.proofs.Whole.{schedules_are_legal}
+use Rattle.call_refinement.proofs.laws.schedules_have_legal_histories.Goals as goal
+
+pub returns : goal.returns
+returns c = schedules_are_legal
