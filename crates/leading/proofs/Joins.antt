@@ -1,5 +1,5 @@
 -- What rule 27 keeps to.
-use Rattle.std.proofs.Common.{◌≡◌, ◌≤◌, ◌+◌, ◌*◌, ◌==◌, ◌∙◌, refl, lit≤, ℕ, Bool, true, false, length, length-append, nat_le, if◌then◌else◌, List, [], ◌∷◌, ◌++◌, Some, None, arith}
+use Rattle.std.proofs.Common.{◌≡◌, ◌≤◌, ◌+◌, ◌*◌, ◌==◌, refl, lit≤, ℕ, Bool, true, false, length, length-append, nat_le, if◌then◌else◌, List, [], ◌∷◌, ◌++◌, Some, None, arith}
 use Rattle.ens_base.specs.Lists.{same_bytes}
 use Rattle.ens_base.specs.declared.command.Command.{Command}
 use Rattle.ens_base.specs.declared.reply.Reply.{Reply}
@@ -11,7 +11,7 @@ use Rattle.leader_words.specs.declared.out.LeadOut.{LeadOut}
 use Rattle.leading.specs.Leaders.{joined}
 use Rattle.leading.specs.Measure.{turns_after, weight, task_turns}
 use Rattle.leading.specs.Starts.{row_27}
-use Rattle.leading.specs.Steps.{NamesOn, KeepsOthers, IsReadyFor, IsCalm, IsAtRest}
+use Rattle.leading.specs.Steps.{NamesOn, KeepsOthers, IsReadyFor, IsCalm, IsAtRest, CountsInOwnViews}
 use Rattle.leading.specs.declared.leader.Leader.{Leader}
 use Rattle.leading.proofs.Steps.{free}
 
@@ -34,6 +34,7 @@ pub record IsJoin (key : List ℕ) (l : Leader) (r : Leader × LeadOut) : Type 0
   pub lowers : turns_after 27 r.1 + weight r.0 ≤ 25 + weight l
   pub ready : IsAtRest l → IsReadyFor 27 key None r.1.then r.0
   pub calm : IsCalm l.table → IsCalm r.0.table
+  pub counts : CountsInOwnViews l → CountsInOwnViews r.0
 
 no_more : (x : ℕ) → 0 + x ≤ 25 + x
 no_more x = omega arith
@@ -53,6 +54,7 @@ refused key l from id reply = record {
   lowers = no_more (weight l);
   ready = λ rest. rest.task;
   calm = λ calm. calm;
+  counts = λ before. before;
 }
 
 -- a key without a call after one joined had none before
@@ -82,6 +84,7 @@ joins key l w true = record {
   lowers = one_longer l.table.calls w (task_turns l.task) 12 (lit≤ tt);
   ready = λ rest. free 28 key (joined w l) refl rest.task;
   calm = λ calm k none. calm k (none_before k l.table.calls w none);
+  counts = λ before. before;
 }
 joins key l w false = record {
   fact = refl;
@@ -97,6 +100,7 @@ joins key l w false = record {
   lowers = one_longer l.table.calls w (task_turns l.task) 0 (lit≤ tt);
   ready = λ rest. rest.task;
   calm = λ calm k none. calm k (none_before k l.table.calls w none);
+  counts = λ before. before;
 }
 
 pub row_27_joins : (from id : ℕ) (key : List ℕ) (command : Command) (finishing : Bool) (l : Leader) → IsJoin key l (row_27 from id key command finishing l)

@@ -1,5 +1,5 @@
 -- What is found at each key after a change at one key.
-use Rattle.std.proofs.Common.{◌≡◌, ◌+◌, ◌<◌, arith, ℕ, Bool, true, false, cond, List, [], ◌∷◌, length, Option, None, Some, refl, sym, ap, subst, ◌∙◌, Ordering, Less, Equal, Greater, is_eq}
+use Rattle.std.proofs.Common.{◌≡◌, ◌+◌, arith, ℕ, Bool, true, false, cond, List, [], ◌∷◌, length, Option, None, Some, refl, sym, ap, subst, ◌∙◌, Ordering, Less, Equal, Greater, is_eq}
 use Rattle.std.specs.Ordering.{match_ordering}
 use Rattle.std.specs.BTreeMap.{is_at, insert_entry}
 use Rattle.std.specs.Map.{lookup}
@@ -87,6 +87,27 @@ stage_other key k stage rows off = row_other key k (record (row_at key rows) { s
 pub stage_here : (key : List ℕ) (stage : Stage) (rows : Rows) → (row_at key (with_stage key stage rows)).stage ≡ stage
 unfolding with_stage
 stage_here key stage rows = ap (λ (row : KeyRow). row.stage) (row_here key (record (row_at key rows) { stage = stage }) rows)
+
+-- what holds of the stage of a key still holds after some key got a stage of which it holds
+pub stages_then : (P : Stage → Type 0) (key k : List ℕ) (stage : Stage) (rows : Rows) → P stage → P (row_at k rows).stage → P (row_at k (with_stage key stage rows)).stage
+stages_then P key k stage rows here old = by_test (same_bytes key k) refl
+  where
+    by_test : (b : Bool) → same_bytes key k ≡ b → P (row_at k (with_stage key stage rows)).stage
+    by_test true on = subst (λ (q : List ℕ). P (row_at q (with_stage key stage rows)).stage) (bytes_same key k on) (subst P (sym (stage_here key stage rows)) here)
+    by_test false off = subst (λ (row : KeyRow). P row.stage) (sym (stage_other key k stage rows off)) old
+
+same_stage : (key : List ℕ) (known : Known) (rows : Rows) → (row_at key (with_known key known rows)).stage ≡ (row_at key rows).stage
+unfolding with_known
+same_stage key known rows = ap (λ (row : KeyRow). row.stage) (row_here key (record (row_at key rows) { known = known }) rows)
+
+-- and after something is known of some key
+pub known_then : (P : Stage → Type 0) (key k : List ℕ) (known : Known) (rows : Rows) → P (row_at k rows).stage → P (row_at k (with_known key known rows)).stage
+known_then P key k known rows old = by_test (same_bytes key k) refl
+  where
+    by_test : (b : Bool) → same_bytes key k ≡ b → P (row_at k (with_known key known rows)).stage
+    by_test true on =
+        subst (λ (q : List ℕ). P (row_at q rows).stage → P (row_at q (with_known key known rows)).stage) (bytes_same key k on) (λ h. subst P (sym (same_stage key known rows)) h) old
+    by_test false off = subst (λ (row : KeyRow). P row.stage) (sym (known_other key k known rows off)) old
 
 -- ## Calls
 

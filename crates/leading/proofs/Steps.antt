@@ -1,10 +1,10 @@
 -- What each rule on a key keeps to.
 use Rattle.std.specs.Prelude.{All, IsSome}
-use Rattle.std.proofs.Common.{◌≡◌, ◌≢◌, ◌≤◌, ◌<◌, ◌⊎◌, ◌+◌, ◌*◌, ◌∙◌, ◌==◌, ◌&&◌, ap, sym, refl, subst, inl, inr, lit≤, lit<, ℕ, Bool, true, false, length, is_none, if◌then◌else◌, List, [], ◌∷◌, ◌++◌, Option, Some, None, arith}
+use Rattle.std.proofs.Common.{◌≡◌, ◌≤◌, ◌<◌, ◌⊎◌, ◌+◌, ◌*◌, ◌∙◌, ◌==◌, ◌&&◌, ap, sym, refl, subst, inl, inr, lit≤, lit<, ℕ, Bool, true, false, length, is_none, if◌then◌else◌, List, [], ◌∷◌, Option, Some, None, arith}
 use Rattle.std.proofs.lemmas.Bool.{true≢false}
 use Rattle.std.proofs.lemmas.Bool.Decides.{nat_tests}
 use Rattle.std.proofs.lemmas.List.Elements.{All-nil}
-use Rattle.ens_base.specs.Lists.{same_bytes}
+use Rattle.ens_base.specs.Lists.{◌∈◌, same_bytes}
 use Rattle.ens_base.specs.Epochs.{same_version}
 use Rattle.ens_base.specs.declared.command.Command.{Command}
 use Rattle.ens_base.specs.declared.entry.Entry.{Entry}
@@ -53,17 +53,55 @@ use Rattle.leading.specs.Rounds.{counts, asked, asked_for, row_29, heard, row_29
 use Rattle.leading.specs.Puts.{proposed, written_for, row_31, rewritten, row_32, write_settled, settled_for, acknowledged, put_stored, put_seen, put_for, row_35, acknowledged_by, row_35_reply}
 use Rattle.leading.specs.Rules.{lead_row}
 use Rattle.leading.specs.Measure.{turns_of, turns_again, turns_seen, task_turns, weight, turns_next, turns_after}
-use Rattle.leading.specs.Steps.{MayGo, NamesOn, AsksOn, TellsOf, IsCause, IsEnded, Serves, KeepsOthers, ProposesAt, Numbers, Runs, is_start, Fits, IsReady, IsReadyFor, IsCalm, IsAtRest}
+use Rattle.leading.specs.Steps.{MayGo, NamesOn, AsksOn, TellsOf, IsCause, IsEnded, Serves, KeepsOthers, ProposesAt, Numbers, Runs, is_start, Fits, IsReady, IsReadyFor, IsCalm, IsAtRest, CountsIn, CountsInOwnViews}
 use Rattle.leading.specs.declared.leader.Leader.{Leader}
 use Rattle.leading.specs.declared.pending.Pending.{Pending}
 use Rattle.leading.specs.declared.pending.Pending.TheVariants as tasks
-use Rattle.leading.proofs.Lookups.{known_other, stage_other, stage_here, one_fewer}
+use Rattle.leading.proofs.Lookups.{known_other, stage_other, stage_here, stages_then, known_then, one_fewer}
 use Rattle.leading.proofs.Sends.{told_may}
+use Rattle.leading.proofs.Votes.{answered_on, begun_on}
 
 -- what holds of both branches holds of the choice
 either : {A : Type 0} (P : A → Type 0) (t : Bool) (a b : A) → P a → P b → P (if t then a else b)
 either P true a b p q = p
 either P false a b p q = q
+
+-- ## Notes
+
+-- only rule 35 notes a version as settled
+abbrev OnlySettlesBy35 : ℕ → List Note → Type 0
+OnlySettlesBy35 n notes = (k : List ℕ) (version : Version) → Settled k version ∈ notes → n ≡ 35
+
+-- without an answer, at most one note is made by the rule of this number: that a version of this
+-- key is proposed, or by rule 35 that one is settled
+abbrev TellsBy : ℕ → List ℕ → List Note → Type 0
+TellsBy n key [] = Unit {0}
+TellsBy n key (Proposed k version parent call ∷ []) = k ≡ key
+TellsBy n key (Settled k version ∷ []) = (k ≡ key) × (n ≡ 35)
+TellsBy n key notes = ⊥
+
+tells_of : (n : ℕ) (key : List ℕ) (notes : List Note) → TellsBy n key notes → TellsOf key notes
+tells_of n key [] tells = tt
+tells_of n key (Proposed k version parent call ∷ []) tells = tells
+tells_of n key (Settled k version ∷ []) tells = tells.0
+tells_of n key (Read id k base ∷ []) tells = absurd tells
+tells_of n key (Proposed k version parent call ∷ y ∷ notes) tells = absurd tells
+tells_of n key (Settled k version ∷ y ∷ notes) tells = absurd tells
+tells_of n key (Read id k base ∷ y ∷ notes) tells = absurd tells
+
+settled_by : (n : ℕ) (key : List ℕ) (notes : List Note) → TellsBy n key notes → OnlySettlesBy35 n notes
+settled_by n key [] tells k version h = absurd h
+settled_by n key (Proposed j own parent call ∷ []) tells k version (inl e) = absurd cc
+settled_by n key (Proposed j own parent call ∷ []) tells k version (inr h) = absurd h
+settled_by n key (Settled j own ∷ []) tells k version h = tells.1
+settled_by n key (Read id j base ∷ []) tells k version h = absurd tells
+settled_by n key (Proposed j own parent call ∷ y ∷ notes) tells k version h = absurd tells
+settled_by n key (Settled j own ∷ y ∷ notes) tells k version h = absurd tells
+settled_by n key (Read id j base ∷ y ∷ notes) tells k version h = absurd tells
+
+read_settles_nothing : (n id : ℕ) (key : List ℕ) (base : Option Version) → OnlySettlesBy35 n (Read id key base ∷ [])
+read_settles_nothing n id key base k version (inl e) = absurd cc
+read_settles_nothing n id key base k version (inr h) = absurd h
 
 -- ## One step on a key
 
@@ -83,6 +121,8 @@ pub record IsStep (n : ℕ) (key : List ℕ) (size : ℕ) (Ready : Type 0) (l : 
   pub lowers : turns_after n r.1 + weight r.0 < size + weight l
   pub ready : Ready → IsReadyFor n key r.1.own r.1.then r.0
   pub kept : (Ready → Runs key l) ⊎ (r.0.table ≡ l.table)
+  pub settles : OnlySettlesBy35 n r.1.notes
+  pub counts : CountsInOwnViews l → CountsInOwnViews r.0
 
 -- the leader at the end of a step in which no call is answered
 record IsMoved (key : List ℕ) (l m : Leader) : Type 0 where
@@ -92,18 +132,19 @@ record IsMoved (key : List ℕ) (l m : Leader) : Type 0 where
   seq : m.seq ≡ l.seq
   calls : m.table.calls ≡ l.table.calls
   others : KeepsOthers key l.table m.table
+  counts : CountsInOwnViews l → CountsInOwnViews m
 
 with_task_moves : (key : List ℕ) (task : Pending) (l : Leader) → IsMoved key l (with_task task l)
-with_task_moves key task l = record { fact = refl; me = refl; accepts = refl; seq = refl; calls = refl; others = λ k off. refl }
+with_task_moves key task l = record { fact = refl; me = refl; accepts = refl; seq = refl; calls = refl; others = λ k off. refl; counts = λ before. before }
 
 stays : (key : List ℕ) (l : Leader) → IsMoved key l l
-stays key l = record { fact = refl; me = refl; accepts = refl; seq = refl; calls = refl; others = λ k off. refl }
+stays key l = record { fact = refl; me = refl; accepts = refl; seq = refl; calls = refl; others = λ k off. refl; counts = λ before. before }
 
 knows_moves : (key : List ℕ) (known : Known) (l : Leader) → IsMoved key l (knows key known l)
-knows_moves key known l = record { fact = refl; me = refl; accepts = refl; seq = refl; calls = refl; others = λ k off. known_other key k known l.table.rows off }
+knows_moves key known l = record { fact = refl; me = refl; accepts = refl; seq = refl; calls = refl; others = λ k off. known_other key k known l.table.rows off; counts = λ before k. known_then (CountsIn l.fact.views) key k known l.table.rows (before k) }
 
-stands_moves : (key : List ℕ) (stage : Stage) (l : Leader) → IsMoved key l (stands key stage l)
-stands_moves key stage l = record { fact = refl; me = refl; accepts = refl; seq = refl; calls = refl; others = λ k off. stage_other key k stage l.table.rows off }
+stands_moves : (key : List ℕ) (stage : Stage) (l : Leader) → (CountsInOwnViews l → CountsIn l.fact.views stage) → IsMoved key l (stands key stage l)
+stands_moves key stage l here = record { fact = refl; me = refl; accepts = refl; seq = refl; calls = refl; others = λ k off. stage_other key k stage l.table.rows off; counts = λ before k. stages_then (CountsIn l.fact.views) key k stage l.table.rows (here before) (before k) }
 
 moves_on : (key : List ℕ) (l m n : Leader) → IsMoved key l m → IsMoved key m n → IsMoved key l n
 moves_on key l m n a b = record {
@@ -113,6 +154,7 @@ moves_on key l m n a b = record {
   seq = b.seq ∙ a.seq;
   calls = b.calls ∙ a.calls;
   others = λ k off. b.others k off ∙ a.others k off;
+  counts = λ before. b.counts (a.counts before);
 }
 
 -- an answer without an answer to a call
@@ -127,7 +169,7 @@ same_weight a size x y before after e less = let same : length after ≡ length 
 
 -- a step in which no call is answered
 goes : (n size : ℕ) (key : List ℕ) (Ready : Type 0) (l m : Leader) (leave : Bool) (sends : List Outgoing) (notes : List Note) (own : Option Own) (next : Then) (keys : List (List ℕ))
-    → IsMoved key l m → All (MayGo l.me) sends → NamesOn key next keys → AsksOn n key own → TellsOf key notes
+    → IsMoved key l m → All (MayGo l.me) sends → NamesOn key next keys → AsksOn n key own → TellsBy n key notes
     → turns_next n own next keys + task_turns m.task < size + task_turns l.task
     → (Ready → IsReadyFor n key own next m) → (Ready → Runs key l) ⊎ (m.table ≡ l.table) → IsStep n key size Ready l (m, out leave sends notes own next keys)
 goes n size key Ready l m leave sends notes own next keys moved may names asks tells less ready kept = record {
@@ -138,11 +180,13 @@ goes n size key Ready l m leave sends notes own next keys moved may names asks t
   sends = may;
   names = names;
   asks = asks;
-  serves = (moved.calls, tells);
+  serves = (moved.calls, tells_of n key notes tells);
   numbers = inl moved.seq;
   lowers = same_weight (turns_next n own next keys) size (task_turns l.task) (task_turns m.task) l.table.calls m.table.calls moved.calls less;
   ready = ready;
   kept = kept;
+  settles = settled_by n key notes tells;
+  counts = moved.counts;
 }
 
 -- a free leader is ready for the rules that begin without a task
@@ -188,13 +232,17 @@ ended_is key l m w calls e = record {
   idle = stage_here key stages.Idle m.table.rows;
 }
 
+ended_counts : (key : List ℕ) (m : Leader) → CountsInOwnViews m → CountsInOwnViews (record m { table = ended key m.table })
+unfolding ended rested
+ended_counts key m before k = stages_then (CountsIn m.fact.views) key k stages.Idle m.table.rows tt (before k)
+
 fewer_weight : (size x y : ℕ) (before after : List Waiting) → length before ≡ length after + 1 → 0 < size → y ≡ x → 13 + (13 * length after + y) < size + (13 * length before + x)
 fewer_weight size x y before after one some same = omega (arith, one, some, same)
 
 answered_step : (n size : ℕ) (key : List ℕ) (l m : Leader) (w : Waiting) (reply : Reply) (sends : List Outgoing) (notes : List Note)
-    → IsMoved key l m → m.task ≡ l.task → running key l.table.calls ≡ Some w → All (MayGo l.me) sends → IsCause key w reply notes → 0 < size
+    → IsMoved key l m → m.task ≡ l.task → running key l.table.calls ≡ Some w → All (MayGo l.me) sends → IsCause key w reply notes → OnlySettlesBy35 n notes → 0 < size
     → IsStep n key size (IsFree key l) l (answered w reply key (out false sends notes None Stay []) m)
-answered_step n size key l m w reply sends notes moved task e may cause some = record {
+answered_step n size key l m w reply sends notes moved task e may cause settles some = record {
   fact = moved.fact;
   me = moved.me;
   accepts = moved.accepts;
@@ -207,6 +255,8 @@ answered_step n size key l m w reply sends notes moved task e may cause some = r
   lowers = fewer_weight size (task_turns l.task) (task_turns m.task) l.table.calls (ended key m.table).calls fewer some (ap task_turns task);
   ready = λ before. free 36 key (record m { table = ended key m.table }) refl (task ∙ before.0);
   kept = inl (λ before. before.1);
+  settles = settles;
+  counts = λ before. ended_counts key m (moved.counts before);
 }
   where
     is : IsEnded key l.table (ended key m.table) w
@@ -288,6 +338,8 @@ on_ready n size key Before After l r from s = record {
   lowers = s.lowers;
   ready = λ after. s.ready (from after);
   kept = kept_by Before After (Runs key l) (r.0.table ≡ l.table) from s.kept;
+  settles = s.settles;
+  counts = s.counts;
 }
 
 -- a leader that is ready for a rule that begins without a task has none
@@ -330,7 +382,7 @@ row_36_step key l = by_call (running key l.table.calls)
 -- ## Rule 29
 
 round_moves : (key : List ℕ) (l : Leader) → IsMoved key l (record l { round = l.round + 1 })
-round_moves key l = record { fact = refl; me = refl; accepts = refl; seq = refl; calls = refl; others = λ k off. refl }
+round_moves key l = record { fact = refl; me = refl; accepts = refl; seq = refl; calls = refl; others = λ k off. refl; counts = λ before. before }
 
 -- the stage of a key whose round of reading begins
 abbrev asks_at : Leader → Option Entry → Option Object → Stage
@@ -343,7 +395,7 @@ asked_step key l seens.Nothing = either (λ (r : Leader × LeadOut). IsStep 29 k
 asked_step key l (seens.Damaged at) = untrust_step 29 9 key (IsFree key l) l (lit< tt) (λ before. before.0)
 asked_step key l (seens.Held entry object) =
     goes 29 9 key (IsFree key l) l (stands key (asks_at l entry object) l) false (sent_up_to (is_other l.me l.fact.views) (messages.Get l.fact.epoch l.round key) 31) [] None (Rule 30) (key ∷ [])
-    (stands_moves key (asks_at l entry object) l) (told_may l.me l.fact.views (messages.Get l.fact.epoch l.round key) tt) (lit≤ tt, lit≤ tt, refl) tt tt (room_at 8 9 (task_turns l.task) (lit< tt)) (λ before. free 30 key (stands key (asks_at l entry object) l) refl before.0) (inl (λ before. before.1))
+    (stands_moves key (asks_at l entry object) l (λ before. tt)) (told_may l.me l.fact.views (messages.Get l.fact.epoch l.round key) tt) (lit≤ tt, lit≤ tt, refl) tt tt (room_at 8 9 (task_turns l.task) (lit< tt)) (λ before. free 30 key (stands key (asks_at l entry object) l) refl before.0) (inl (λ before. before.1))
 asked_step key l (seens.Kept kept) = idle_step 29 9 key (IsFree key l) l (lit< tt) (λ before. before.0)
 asked_step key l (seens.Stored d) = idle_step 29 9 key (IsFree key l) l (lit< tt) (λ before. before.0)
 
@@ -361,17 +413,17 @@ row_29_step key seen l =
 -- ## Rule 30
 
 answer_step : (n size : ℕ) (key : List ℕ) (l : Leader) (w : Waiting) (reply : Reply) (sends : List Outgoing) (notes : List Note)
-    → running key l.table.calls ≡ Some w → All (MayGo l.me) sends → IsCause key w reply notes → 0 < size
+    → running key l.table.calls ≡ Some w → All (MayGo l.me) sends → IsCause key w reply notes → OnlySettlesBy35 n notes → 0 < size
     → IsStep n key size (IsFree key l) l (answered w reply key (out false sends notes None Stay []) l)
-answer_step n size key l w reply sends notes e may cause some = answered_step n size key l l w reply sends notes (stays key l) refl e may cause some
+answer_step n size key l w reply sends notes e may cause settles some = answered_step n size key l l w reply sends notes (stays key l) refl e may cause settles some
 
 -- the running call is answered after a noted read
 read_step : (n size : ℕ) (key : List ℕ) (l : Leader) (w : Waiting) (reply : Reply) (sends : List Outgoing)
     → running key l.table.calls ≡ Some w → All (MayGo l.me) sends → 0 < size → IsStep n key size (IsFree key l) l (read_answered w reply key (out false sends [] None Stay []) l)
-read_step n size key l w reply sends e may some = answer_step n size key l w reply sends (Read w.id key (base key l) ∷ []) e may (refl, refl) some
+read_step n size key l w reply sends e may some = answer_step n size key l w reply sends (Read w.id key (base key l) ∷ []) e may (refl, refl) (read_settles_nothing n w.id key (base key l)) some
 
 without_object_step : (key : List ℕ) (l : Leader) (w : Waiting) (state : RoundState) → running key l.table.calls ≡ Some w → IsStep 30 key 8 (IsFree key l) l (without_object state w key l)
-without_object_step key l w AllAnswered e = answer_step 30 8 key l w replies.Lost [] [] e (none_may l.me) refl (lit< tt)
+without_object_step key l w AllAnswered e = answer_step 30 8 key l w replies.Lost [] [] e (none_may l.me) refl (λ k version h. absurd h) (lit< tt)
 without_object_step key l w Open e = idle_step 30 8 key (IsFree key l) l (lit< tt) (λ before. before.0)
 without_object_step key l w Met e = idle_step 30 8 key (IsFree key l) l (lit< tt) (λ before. before.0)
 
@@ -429,6 +481,8 @@ taken n size key Before After l r from s = record {
   lowers = in_all (turns_after n r.1 + weight r.0) size (task_turns l.task) (13 * length l.table.calls) s.lowers;
   ready = λ after. s.ready (from after);
   kept = kept_by Before After (Runs key l) (r.0.table ≡ l.table) from s.kept;
+  settles = s.settles;
+  counts = s.counts;
 }
 
 -- with a task left, the key has a running call
@@ -466,6 +520,8 @@ next_step n size key l o parent call h on version = record {
   lowers = proposal_less size (task_turns (tasks.Propose o parent call)) (task_turns l.task) (13 * length l.table.calls) h;
   ready = λ before. (refl, before.1, on, version);
   kept = inr refl;
+  settles = λ k own h. absurd h;
+  counts = λ before. before;
 }
 
 written_for_step : (size : ℕ) (key : List ℕ) (l : Leader) (call : Option Waiting) (task : Pending) → 2 < size → IsStep 31 key size (IsFree key l) l (written_for call task key l)
@@ -510,15 +566,15 @@ begins_check_step : (size : ℕ) (key : List ℕ) (l m : Leader) (w : Waiting) (
 begins_check_step size key l m w Open votes reply moved task e some =
     goes 33 size key (IsFree key l) l (checks_on m.round key (stands key (stages.Checking m.round votes reply) m)) false (sent_up_to (is_other l.me l.fact.views) (messages.Check l.fact.epoch m.round) 31) [] None Stay []
     (moves_on key l m (checks_on m.round key (stands key (stages.Checking m.round votes reply) m)) moved
-    (record { fact = refl; me = refl; accepts = refl; seq = refl; calls = refl; others = λ k off. stage_other key k (stages.Checking m.round votes reply) m.table.rows off }))
+    (record { fact = refl; me = refl; accepts = refl; seq = refl; calls = refl; others = λ k off. stage_other key k (stages.Checking m.round votes reply) m.table.rows off; counts = λ before k. stages_then (CountsIn m.fact.views) key k (stages.Checking m.round votes reply) m.table.rows tt (before k) }))
     (told_may l.me l.fact.views (messages.Check l.fact.epoch m.round) tt) refl tt tt (less (ap task_turns task)) (λ before. task ∙ before.0) (inl (λ before. before.1))
   where
     less : task_turns m.task ≡ task_turns l.task → 0 + task_turns m.task < size + task_turns l.task
     less same = omega (arith, same, some)
 begins_check_step size key l m w Met votes reply moved task e some =
-    answered_step 33 size key l m w reply (sent_up_to (is_other l.me l.fact.views) (messages.Check l.fact.epoch m.round) 31) (Read w.id key (base key m) ∷ []) moved task e (told_may l.me l.fact.views (messages.Check l.fact.epoch m.round) tt) (refl, refl) some
+    answered_step 33 size key l m w reply (sent_up_to (is_other l.me l.fact.views) (messages.Check l.fact.epoch m.round) 31) (Read w.id key (base key m) ∷ []) moved task e (told_may l.me l.fact.views (messages.Check l.fact.epoch m.round) tt) (refl, refl) (read_settles_nothing 33 w.id key (base key m)) some
 begins_check_step size key l m w AllAnswered votes reply moved task e some =
-    answered_step 33 size key l m w reply (sent_up_to (is_other l.me l.fact.views) (messages.Check l.fact.epoch m.round) 31) (Read w.id key (base key m) ∷ []) moved task e (told_may l.me l.fact.views (messages.Check l.fact.epoch m.round) tt) (refl, refl) some
+    answered_step 33 size key l m w reply (sent_up_to (is_other l.me l.fact.views) (messages.Check l.fact.epoch m.round) 31) (Read w.id key (base key m) ∷ []) moved task e (told_may l.me l.fact.views (messages.Check l.fact.epoch m.round) tt) (refl, refl) (read_settles_nothing 33 w.id key (base key m)) some
 
 checked_for_step : (size : ℕ) (key : List ℕ) (l : Leader) (call : Option Waiting) (task : Pending) → running key l.table.calls ≡ call → 0 < size → IsStep 33 key size (IsFree key l) l (checked_for call task key l)
 checked_for_step size key l None task e some = idle_step 33 size key (IsFree key l) l some (λ before. before.0)
@@ -559,36 +615,36 @@ row_34_step key l = taken 34 4 key (IsFree key (with_task tasks.Nothing l)) (IsR
 write_settled_step : (size : ℕ) (key : List ℕ) (l m : Leader) (call : Option Waiting) (o : Object) (version : Version) (sends : List Outgoing) → IsMoved key l m → m.task ≡ l.task → running key l.table.calls ≡ call → All (MayGo l.me) sends → 0 < size
     → IsStep 35 key size (IsFree key l) l (write_settled call o key (out false sends (Settled key version ∷ []) None Stay []) m)
 write_settled_step size key l m None o version sends moved task e may some =
-    goes 35 size key (IsFree key l) l m false sends (Settled key version ∷ []) None Stay [] moved may refl tt refl (less (ap task_turns task)) (λ before. task ∙ before.0) (inl (λ before. before.1))
+    goes 35 size key (IsFree key l) l m false sends (Settled key version ∷ []) None Stay [] moved may refl tt (refl, refl) (less (ap task_turns task)) (λ before. task ∙ before.0) (inl (λ before. before.1))
   where
     less : task_turns m.task ≡ task_turns l.task → 0 + task_turns m.task < size + task_turns l.task
     less same = omega (arith, same, some)
 write_settled_step size key l m (Some w) o version sends moved task e may some =
-    answered_step 35 size key l m w (replies.Ok o.stamp) sends (Settled key version ∷ []) moved task e may (refl, o.stamp, refl) some
+    answered_step 35 size key l m w (replies.Ok o.stamp) sends (Settled key version ∷ []) moved task e may (refl, o.stamp, refl) (λ k settled h. refl) some
 
 settled_for_step : (size : ℕ) (key : List ℕ) (l m : Leader) (rewrite : Bool) (o : Object) (version : Version) (sends : List Outgoing) → IsMoved key l m → m.task ≡ l.task → All (MayGo l.me) sends → (rewrite ≡ true → 4 < size) → 0 < size
     → IsStep 35 key size (IsFree key l) l (settled_for rewrite o key (out false sends (Settled key version ∷ []) None Stay []) m)
 settled_for_step size key l m true o version sends moved task may high some =
     goes 35 size key (IsFree key l) l (with_task (tasks.Apply (Some o)) (stands key stages.Idle m)) false sends (Settled key version ∷ []) None (Rule 34) (key ∷ [])
-    (moves_on key l m (with_task (tasks.Apply (Some o)) (stands key stages.Idle m)) moved (record { fact = refl; me = refl; accepts = refl; seq = refl; calls = refl; others = λ k off. stage_other key k stages.Idle m.table.rows off }))
-    may (lit≤ tt, lit≤ tt, refl) tt refl (room 4 size (task_turns l.task) (high refl)) (λ before. (refl, subst (λ (cs : List Waiting). IsSome (running key cs)) (sym moved.calls) before.1)) (inl (λ before. before.1))
+    (moves_on key l m (with_task (tasks.Apply (Some o)) (stands key stages.Idle m)) moved (record { fact = refl; me = refl; accepts = refl; seq = refl; calls = refl; others = λ k off. stage_other key k stages.Idle m.table.rows off; counts = λ before k. stages_then (CountsIn m.fact.views) key k stages.Idle m.table.rows tt (before k) }))
+    may (lit≤ tt, lit≤ tt, refl) tt (refl, refl) (room 4 size (task_turns l.task) (high refl)) (λ before. (refl, subst (λ (cs : List Waiting). IsSome (running key cs)) (sym moved.calls) before.1)) (inl (λ before. before.1))
 settled_for_step size key l m false o version sends moved task may high some =
     write_settled_step size key l m (running key m.table.calls) o version sends moved task (ap (running key) (sym moved.calls)) may some
 
-acknowledged_step : (size : ℕ) (key : List ℕ) (l : Leader) (state : RoundState) (o : Object) (digest : List ℕ) (acks : Round) (rewrite : Bool) (sends : List Outgoing) → All (MayGo l.me) sends → (rewrite ≡ true → 4 < size) → 0 < size
+acknowledged_step : (size : ℕ) (key : List ℕ) (l : Leader) (state : RoundState) (o : Object) (digest : List ℕ) (acks : Round) (rewrite : Bool) (sends : List Outgoing) → (CountsInOwnViews l → acks.tally.views ≡ l.fact.views) → All (MayGo l.me) sends → (rewrite ≡ true → 4 < size) → 0 < size
     → IsStep 35 key size (IsFree key l) l (acknowledged state o digest acks rewrite key (out false sends [] None Stay []) l)
-acknowledged_step size key l Open o digest acks rewrite sends may high some =
-    goes 35 size key (IsFree key l) l (stands key (stages.Putting o digest acks rewrite) l) false sends [] None Stay [] (stands_moves key (stages.Putting o digest acks rewrite) l) may refl tt tt
+acknowledged_step size key l Open o digest acks rewrite sends on may high some =
+    goes 35 size key (IsFree key l) l (stands key (stages.Putting o digest acks rewrite) l) false sends [] None Stay [] (stands_moves key (stages.Putting o digest acks rewrite) l on) may refl tt tt
     (room_at 0 size (task_turns l.task) some) (λ before. before.0) (inl (λ before. before.1))
-acknowledged_step size key l Met o digest acks rewrite sends may high some =
+acknowledged_step size key l Met o digest acks rewrite sends on may high some =
     settled_for_step size key l (knows key (settled_as o.version o digest) l) rewrite o o.version sends (knows_moves key (settled_as o.version o digest) l) refl may high some
-acknowledged_step size key l AllAnswered o digest acks rewrite sends may high some =
+acknowledged_step size key l AllAnswered o digest acks rewrite sends on may high some =
     settled_for_step size key l (knows key (settled_as o.version o digest) l) rewrite o o.version sends (knows_moves key (settled_as o.version o digest) l) refl may high some
 
 put_stored_step : (size : ℕ) (key : List ℕ) (l : Leader) (o : Object) (digest : List ℕ) (rewrite : Bool) → (rewrite ≡ true → 4 < size) → 0 < size → IsStep 35 key size (IsFree key l) l (put_stored o digest rewrite key l)
 put_stored_step size key l o digest rewrite high some =
     acknowledged_step size key l (state_of (begun l.fact.views l.me)) o digest (begun l.fact.views l.me) rewrite (sent_up_to (is_other l.me l.fact.views) (messages.Put l.fact.epoch o) 31)
-    (told_may l.me l.fact.views (messages.Put l.fact.epoch o) tt) high some
+    (λ before. begun_on l.fact.views l.me) (told_may l.me l.fact.views (messages.Put l.fact.epoch o) tt) high some
 
 high_for : (o : Object) (parent : Option Version) (call : Option ℕ) → is_none call ≡ true → 4 < 1 + task_turns (tasks.Propose o parent call)
 high_for o parent None e = lit< tt
@@ -724,7 +780,7 @@ hears from asked votes best entry object = stages.Reading asked (heard_from from
 heard_step : (key : List ℕ) (l : Leader) (stage : Stage) (from : ℕ) (ballot : Epoch) (round : ℕ) (entry : Option Entry) (object : Option Object) → (row_at key l.table.rows).stage ≡ stage
     → IsStep 29 key 9 (IsAtRest l) l (heard stage from ballot round key entry object l)
 heard_step key l (stages.Reading asked votes best) from ballot round entry object e = either (λ (r : Leader × LeadOut). IsStep 29 key 9 (IsAtRest l) l r) (counts ballot round asked l) _ _
-    (goes 29 9 key (IsAtRest l) l (stands key (hears from asked votes best entry object) l) false [] [] None (Rule 30) (key ∷ []) (stands_moves key (hears from asked votes best entry object) l) (none_may l.me) (lit≤ tt, lit≤ tt, refl) tt tt (room_at 8 9 (task_turns l.task) (lit< tt))
+    (goes 29 9 key (IsAtRest l) l (stands key (hears from asked votes best entry object) l) false [] [] None (Rule 30) (key ∷ []) (stands_moves key (hears from asked votes best entry object) l (λ before. tt)) (none_may l.me) (lit≤ tt, lit≤ tt, refl) tt tt (room_at 8 9 (task_turns l.task) (lit< tt))
     (λ rest. free 30 key (stands key (hears from asked votes best entry object) l) refl rest.task) (inl (λ rest. no_stage key l (stages.Reading asked votes best) (reading asked votes best) e rest.calm)))
     (idle_step 29 9 key (IsAtRest l) l (lit< tt) (λ rest. rest.task))
 heard_step key l stages.Idle from ballot round entry object e = idle_step 29 9 key (IsAtRest l) l (lit< tt) (λ rest. rest.task)
@@ -736,7 +792,7 @@ row_29_reply_step from ballot round key entry object l = heard_step key l (row_a
 
 goes_on_checking_step : (key : List ℕ) (l : Leader) (w : Waiting) (state : RoundState) (round : ℕ) (votes : Round) (reply : Reply) → running key l.table.calls ≡ Some w → IsStep 33 key 1 (IsFree key l) l (goes_on_checking state round votes reply w key l)
 goes_on_checking_step key l w Open round votes reply e =
-    goes 33 1 key (IsFree key l) l (stands key (stages.Checking round votes reply) l) false [] [] None Stay [] (stands_moves key (stages.Checking round votes reply) l) (none_may l.me) refl tt tt
+    goes 33 1 key (IsFree key l) l (stands key (stages.Checking round votes reply) l) false [] [] None Stay [] (stands_moves key (stages.Checking round votes reply) l (λ before. tt)) (none_may l.me) refl tt tt
     (room_at 0 1 (task_turns l.task) (lit< tt)) (λ before. before.0) (inl (λ before. before.1))
 goes_on_checking_step key l w Met round votes reply e = read_step 33 1 key l w reply [] e (none_may l.me) (lit< tt)
 goes_on_checking_step key l w AllAnswered round votes reply e = read_step 33 1 key l w reply [] e (none_may l.me) (lit< tt)
@@ -761,7 +817,7 @@ row_33_reply_step from ballot round l = by_key (check_at round l.table.checks)
 acknowledged_by_step : (key : List ℕ) (l : Leader) (stage : Stage) (from : ℕ) (ballot : Epoch) (version : Version) → (row_at key l.table.rows).stage ≡ stage → IsStep 35 key 5 (IsAtRest l) l (acknowledged_by stage from ballot version key l)
 acknowledged_by_step key l (stages.Putting o digest acks rewrite) from ballot version e = either (λ (r : Leader × LeadOut). IsStep 35 key 5 (IsAtRest l) l r) (is_same ballot l.fact.epoch && same_version version o.version) _ _
     (on_ready 35 5 key (IsFree key l) (IsAtRest l) l _ (between key l (stages.Putting o digest acks rewrite) (putting o digest acks rewrite) e)
-    (acknowledged_step 5 key l (state_of (heard_from from acks)) o digest (heard_from from acks) rewrite [] (none_may l.me) (λ held. lit< tt) (lit< tt)))
+    (acknowledged_step 5 key l (state_of (heard_from from acks)) o digest (heard_from from acks) rewrite [] (λ before. answered_on acks from ∙ subst (CountsIn l.fact.views) e (before key)) (none_may l.me) (λ held. lit< tt) (lit< tt)))
     (idle_step 35 5 key (IsAtRest l) l (lit< tt) (λ rest. rest.task))
 acknowledged_by_step key l stages.Idle from ballot version e = idle_step 35 5 key (IsAtRest l) l (lit< tt) (λ rest. rest.task)
 acknowledged_by_step key l (stages.Reading asked votes best) from ballot version e = idle_step 35 5 key (IsAtRest l) l (lit< tt) (λ rest. rest.task)

@@ -10,6 +10,7 @@ use Rattle.call_table.specs.Calls.{running, waiting_on, older, is_due, not_due, 
 use Rattle.call_table.specs.Rows.{Rows, row_at}
 use Rattle.call_table.specs.Tables.{rested, rested_if, rested_all, without_due, late_put}
 use Rattle.call_table.specs.declared.row.KeyRow.{KeyRow}
+use Rattle.call_table.specs.declared.row.Stage.{Stage}
 use Rattle.call_table.specs.declared.row.Stage.TheVariants.{Idle}
 use Rattle.call_table.specs.declared.table.CallTable.{CallTable}
 use Rattle.call_table.specs.declared.waiting.DueCall.{DueCall}
@@ -19,10 +20,10 @@ use Rattle.leader_words.specs.declared.out.AnswerOut.{AnswerOut}
 use Rattle.leader_words.specs.declared.out.LeadOut.{LeadOut}
 use Rattle.leader_words.specs.declared.out.Own.{Own}
 use Rattle.leading.specs.Measure.{turns_next, turns_after, weight, task_turns}
-use Rattle.leading.specs.Steps.{IsCalm, IsTimely}
+use Rattle.leading.specs.Steps.{IsCalm, IsTimely, CountsIn, CountsInOwnViews}
 use Rattle.leading.specs.Ticks.{Finishing, is_late, and_key_if, timed_out, aged, row_5_calls, left_answer}
 use Rattle.leading.specs.declared.leader.Leader.{Leader}
-use Rattle.leading.proofs.Lookups.{stage_other, stage_here}
+use Rattle.leading.proofs.Lookups.{stage_other, stage_here, stages_then}
 
 -- ## The calls that are due
 
@@ -202,6 +203,19 @@ calm_without_due t calm k none = subst (λ (rows : Rows). (row_at k rows).stage 
     by_call (inl h) = all_still (due t.calls) k t (calm k h)
     by_call (inr h) = all_rested (due t.calls) k t h
 
+-- what holds of the stage of each key, and of no stage, still holds after keys became idle
+all_then : (P : Stage → Type 0) → P Idle → (ds : List DueCall) (k : List ℕ) (t : CallTable) → P (row_at k t.rows).stage → P (row_at k (rested_all ds t).rows).stage
+unfolding rested
+all_then P idle [] k t old = old
+all_then P idle (d ∷ ds) k t old = by_key d.running (all_then P idle ds k)
+  where
+    by_key : (key : Option (List ℕ)) → ((u : CallTable) → P (row_at k u.rows).stage → P (row_at k (rested_all ds u).rows).stage) → P (row_at k (rested_all ds (rested_if key t)).rows).stage
+    by_key None later = later t old
+    by_key (Some key) later = later (rested key t) (stages_then P key k Idle t.rows idle old)
+
+due_then : (P : Stage → Type 0) → P Idle → (k : List ℕ) (t : CallTable) → P (row_at k t.rows).stage → P (row_at k (without_due t).rows).stage
+due_then P idle k t old = subst (λ (rows : Rows). P (row_at k rows).stage) (sym (without_due_rows t)) (all_then P idle (due t.calls) k t old)
+
 -- ## Age
 
 older_running : (k : List ℕ) (calls : List Waiting) → running k (map older calls) ≡ None → running k calls ≡ None
@@ -231,6 +245,7 @@ pub record IsTick (late : Bool) (l : Leader) (r : Leader × LeadOut) : Type 0 wh
   pub timely : IsTimely late l r
   pub lowers : turns_after 5 r.1 + weight r.0 ≤ weight l
   pub calm : IsCalm l.table → IsCalm r.0.table
+  pub counts : CountsInOwnViews l → CountsInOwnViews r.0
 
 less_due : (calls : List Waiting) (x : ℕ) → 13 * length (keys_of_due (due (map older calls))) + (13 * length (not_due (map older calls)) + x) ≤ 13 * length calls + x
 less_due calls x =
@@ -272,6 +287,7 @@ aged_tick true l = record {
   timely = record { leave = refl; answers = refl; calls = λ timely. absurd cc };
   lowers = let same : length (map older l.table.calls) ≡ length l.table.calls = length-map l.table.calls older in omega (arith, same);
   calm = calm_aged l.table;
+  counts = λ before. before;
 }
 aged_tick false l = record {
   fact = refl;
@@ -286,6 +302,7 @@ aged_tick false l = record {
   timely = record { leave = (tick_times_out l).leave; answers = (tick_times_out l).answers ∙ due_answers [] (map older l.table.calls); calls = λ timely. without_due_calls (aged l.table) };
   lowers = few_turns l;
   calm = λ calm. calm_without_due (aged l.table) (calm_aged l.table calm);
+  counts = λ before k. due_then (CountsIn l.fact.views) tt k (aged l.table) (before k);
 }
 
 pub row_5_ticks : (finishing : Finishing) (l : Leader) → IsTick (late_put (aged l.table) || is_late finishing) l (row_5_calls finishing l)

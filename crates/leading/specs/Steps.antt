@@ -1,19 +1,27 @@
 -- What each rule on a key keeps to: to whom it sends, what comes next, which call it answers, and
 -- what it leaves as it was.
 use Rattle.std.specs.Prelude.{◌≡◌, ◌≢◌, ◌≤◌, ◌⊎◌, ℕ, ◌+◌, ◌==◌, ◌||◌, Bool, true, false, IsSome, map, filter, if◌then◌else◌, Option, Some, None, List, [], ◌∷◌}
-use Rattle.ens_base.specs.Lists.{same_bytes}
+use Rattle.ens_base.specs.Lists.{◌∈◌, same_bytes}
+use Rattle.ens_base.specs.PeerSet.{holds}
 use Rattle.ens_base.specs.View.{IsPeer}
+use Rattle.ens_base.specs.declared.epoch.Epoch.{Epoch}
 use Rattle.ens_base.specs.declared.epoch.Version.{Version}
 use Rattle.ens_base.specs.declared.reply.Reply.{Reply}
 use Rattle.ens_base.specs.declared.reply.Reply.TheVariants as replies
+use Rattle.ens_object.specs.declared.object.Object.{Object}
+use Rattle.joint_views.specs.Quorums.{is_quorum}
+use Rattle.quorum_round.specs.declared.round.Round.{Round}
 use Rattle.register_model.specs.declared.note.Note.{Note}
 use Rattle.register_model.specs.declared.note.Note.TheVariants.{Proposed, Settled, Read}
 use Rattle.wire_frames.specs.Messages.{Obeys}
+use Rattle.wire_frames.specs.declared.phase.Seen.{Seen}
+use Rattle.wire_frames.specs.declared.phase.Seen.TheVariants.{Stored}
 use Rattle.wire_frames.specs.declared.phase.Then.{Then}
 use Rattle.wire_frames.specs.declared.phase.Then.TheVariants.{Stay, Untrust, Rule}
 use Rattle.call_table.specs.Calls.{running, without_running, older, is_due, not_due}
 use Rattle.call_table.specs.Rows.{row_at}
-use Rattle.call_table.specs.declared.row.Stage.TheVariants.{Idle}
+use Rattle.call_table.specs.declared.row.Stage.{Stage}
+use Rattle.call_table.specs.declared.row.Stage.TheVariants.{Idle, Putting}
 use Rattle.call_table.specs.declared.table.CallTable.{CallTable}
 use Rattle.call_table.specs.declared.waiting.Waiting.{Waiting}
 use Rattle.leader_words.specs.declared.out.AnswerOut.{AnswerOut}
@@ -133,3 +141,36 @@ pub record IsTimely (late : Bool) (l : Leader) (r : Leader × LeadOut) : Type 0 
   pub leave : r.1.leave ≡ late
   pub answers : r.1.answers ≡ (if late then [] else map left_answer (filter is_due (map older l.table.calls)))
   pub calls : late ≡ false → r.0.table.calls ≡ not_due (map older l.table.calls)
+
+-- no version is noted as settled
+abbrev pub SettlesNothing : List Note → Type 0
+SettlesNothing notes = (key : List ℕ) (version : Version) → ¬ (Settled key version ∈ notes)
+
+-- the task is to put an object of this version, the peer's own stores have it, and the leader alone
+-- is a quorum of the views of its epoch
+pub record SettlesAlone (version : Version) (seen : Seen) (l : Leader) : Type 0 where
+  pub put : Proposes l.task version
+  pub digest : List ℕ
+  pub stored : seen ≡ Stored digest
+  pub quorum : is_quorum (λ p. p == l.me) l.fact.views ≡ true
+
+-- the key has put an object of this version, the reply is of the leader's epoch, and its sender and
+-- the peers that acknowledged the put before are a quorum of the views of that epoch
+pub record SettlesWith (from : ℕ) (ballot : Epoch) (key : List ℕ) (version : Version) (l : Leader) : Type 0 where
+  pub object : Object
+  pub digest : List ℕ
+  pub acks : Round
+  pub rewrite : Bool
+  pub stage : (row_at key l.table.rows).stage ≡ Putting object digest acks rewrite
+  pub put : object.version ≡ version
+  pub epoch : ballot ≡ l.fact.epoch
+  pub quorum : is_quorum (λ p. p == from || holds acks.tally.votes p) l.fact.views ≡ true
+
+-- the acknowledgements of a put are counted in these views
+abbrev pub CountsIn : List (List ℕ) → Stage → Type 0
+CountsIn views (Putting object digest acks rewrite) = acks.tally.views ≡ views
+CountsIn views stage = Unit {0}
+
+-- the acknowledgements of each put are counted in the views of the leader's epoch
+abbrev pub CountsInOwnViews : Leader → Type 0
+CountsInOwnViews l = (k : List ℕ) → CountsIn l.fact.views (row_at k l.table.rows).stage

@@ -1,23 +1,25 @@
 ghost use Rattle.std.specs.Prelude.{◌≡◌, ◌≤◌, ◌<◌, ◌+◌, ◌||◌, ℕ, Bool, false, All, Option, List, if◌then◌else◌};
+ghost use Rattle.ens_base.specs.Lists.{◌∈◌};
 ghost use Rattle.ens_base.specs.declared.command.Command.{Command as Words};
 ghost use Rattle.ens_base.specs.declared.entry.Entry.{Entry};
 ghost use Rattle.ens_base.specs.declared.epoch.Epoch.{Epoch};
 ghost use Rattle.ens_base.specs.declared.epoch.Version.{Version};
 ghost use Rattle.ens_object.specs.declared.object.Object.{Object};
 ghost use Rattle.peer_fact.specs.declared.fact.Fact.{Fact};
+ghost use Rattle.register_model.specs.declared.note.Note.TheVariants.{Settled};
 ghost use Rattle.wire_frames.specs.declared.phase.Seen.{Seen};
 ghost use Rattle.wire_frames.specs.declared.phase.Seen.TheVariants as seens;
 ghost use Rattle.wire_frames.specs.declared.phase.Then.TheVariants.{Rule};
 ghost use Rattle.call_table.specs.Calls.{has_calls};
 ghost use Rattle.call_table.specs.Tables.{late_put};
 ghost use Rattle.leader_words.specs.Outs.{leaves, comes};
-ghost use Rattle.leading.specs.Leaders.{idle};
+ghost use Rattle.leading.specs.Leaders.{idle, new_leader};
 ghost use Rattle.leading.specs.Measure.{turns_seen, turns_after, weight};
 ghost use Rattle.leading.specs.Puts.{row_35, row_35_reply};
 ghost use Rattle.leading.specs.Rounds.{row_29_reply, row_33_reply};
 ghost use Rattle.leading.specs.Rules.{lead_row};
 ghost use Rattle.leading.specs.Starts.{row_27};
-ghost use Rattle.leading.specs.Steps.{MayGo, NamesOn, AsksOn, Serves, KeepsOthers, Numbers, ProposesAt, IsReady, IsReadyFor, IsCalm, IsAtRest, IsTimely};
+ghost use Rattle.leading.specs.Steps.{MayGo, NamesOn, AsksOn, Serves, KeepsOthers, Numbers, ProposesAt, IsReady, IsReadyFor, IsCalm, IsAtRest, IsTimely, SettlesNothing, SettlesAlone, SettlesWith, CountsInOwnViews};
 ghost use Rattle.leading.specs.Ticks.{Finishing, is_late, aged, row_5_calls, row_5_rest};
 ghost use Rattle.leading.specs.declared.leader.Leader.{Leader};
 
@@ -93,4 +95,29 @@ pub fn rules_find_their_tasks()
     ensures calm { (n : ℕ) (key : List ℕ) (seen : Seen) (l : Leader) → IsReady n key l → IsCalm l.table → IsCalm (lead_row n key seen l).0.table }
     ensures got { (from : ℕ) (ballot : Epoch) (round : ℕ) (key : List ℕ) (entry : Option Entry) (object : Option Object) (l : Leader) → IsAtRest l → IsReadyFor 29 key (row_29_reply from ballot round key entry object l).1.own (row_29_reply from ballot round key entry object l).1.then (row_29_reply from ballot round key entry object l).0 }
     ensures put { (from : ℕ) (ballot : Epoch) (key : List ℕ) (version : Version) (l : Leader) → IsAtRest l → IsReadyFor 35 key (row_35_reply from ballot key version l).1.own (row_35_reply from ballot key version l).1.then (row_35_reply from ballot key version l).0 }
+{}
+
+/// A put settles once a quorum of the views of the leader's epoch has acknowledged it. Rule 35 notes
+/// that: when its own stores have the object, if the leader alone is a quorum, and otherwise at the
+/// reply that completes one. No other rule notes a version as settled.
+pub fn puts_settle_by_a_quorum()
+    ensures key { (n : ℕ) (key : List ℕ) (seen : Seen) (l : Leader) (k : List ℕ) (settled : Version) → Settled k settled ∈ (lead_row n key seen l).1.notes → (n ≡ 35) × (k ≡ key) × SettlesAlone settled seen l }
+    ensures put { (from : ℕ) (ballot : Epoch) (key : List ℕ) (version : Version) (l : Leader) (k : List ℕ) (settled : Version) → CountsInOwnViews l → Settled k settled ∈ (row_35_reply from ballot key version l).1.notes → (k ≡ key) × (settled ≡ version) × SettlesWith from ballot key version l }
+    ensures joined { (from id : ℕ) (key : List ℕ) (command : Words) (finishing : Bool) (l : Leader) → SettlesNothing (row_27 from id key command finishing l).1.notes }
+    ensures got { (from : ℕ) (ballot : Epoch) (round : ℕ) (key : List ℕ) (entry : Option Entry) (object : Option Object) (l : Leader) → SettlesNothing (row_29_reply from ballot round key entry object l).1.notes }
+    ensures checked { (from : ℕ) (ballot : Epoch) (round : ℕ) (l : Leader) → SettlesNothing (row_33_reply from ballot round l).1.notes }
+    ensures tick { (finishing : Finishing) (l : Leader) → SettlesNothing (row_5_calls finishing l).1.notes }
+    ensures rest { (finishing : Finishing) (fact : Fact) (l : Leader) → SettlesNothing (row_5_rest finishing fact l).notes }
+{}
+
+/// The acknowledgements of each put are counted in the views of the leader's epoch: a new leader has
+/// no put, and each rule keeps it so.
+pub fn puts_count_in_the_views_of_the_epoch()
+    ensures new { (fact : Fact) (me : ℕ) (accepts : List Bool) → CountsInOwnViews (new_leader fact me accepts) }
+    ensures key { (n : ℕ) (key : List ℕ) (seen : Seen) (l : Leader) → CountsInOwnViews l → CountsInOwnViews (lead_row n key seen l).0 }
+    ensures joined { (from id : ℕ) (key : List ℕ) (command : Words) (finishing : Bool) (l : Leader) → CountsInOwnViews l → CountsInOwnViews (row_27 from id key command finishing l).0 }
+    ensures got { (from : ℕ) (ballot : Epoch) (round : ℕ) (key : List ℕ) (entry : Option Entry) (object : Option Object) (l : Leader) → CountsInOwnViews l → CountsInOwnViews (row_29_reply from ballot round key entry object l).0 }
+    ensures checked { (from : ℕ) (ballot : Epoch) (round : ℕ) (l : Leader) → CountsInOwnViews l → CountsInOwnViews (row_33_reply from ballot round l).0 }
+    ensures put { (from : ℕ) (ballot : Epoch) (key : List ℕ) (version : Version) (l : Leader) → CountsInOwnViews l → CountsInOwnViews (row_35_reply from ballot key version l).0 }
+    ensures tick { (finishing : Finishing) (l : Leader) → CountsInOwnViews l → CountsInOwnViews (row_5_calls finishing l).0 }
 {}

@@ -19,7 +19,8 @@ mod ticks;
 
 pub use laws::{
     answered_calls_were_waiting, keys_are_apart, messages_may_go, proposed_versions_ascend,
-    rules_find_their_tasks, rules_stay_on_their_key, steps_end, without_calls_nothing_happens,
+    puts_count_in_the_views_of_the_epoch, puts_settle_by_a_quorum, rules_find_their_tasks,
+    rules_stay_on_their_key, steps_end, without_calls_nothing_happens,
 };
 pub use leader::Leader;
 pub use pending::Pending;
