@@ -12,6 +12,23 @@ use crate::position::put_position;
 use ens_fields::{FieldError, put_u8, put_u16, put_u32};
 use std::alloc::Global;
 
+/// The number of bytes of an inner node with 16 children.
+const WIDEST_INNER: usize = 264;
+
+/// Room for the bytes of a segment with one entry.
+const USUAL_SEGMENT: usize = 64;
+
+/// Makes an empty list of bytes with room for `room` bytes. Fails only when out of memory.
+fn with_room(alloc: Global, room: usize) -> Result<Vec<u8>, NodeError>
+    ensures ok { IfOk result (λ v. v.items ≡ []) }
+    ensures memory { IfErr result (λ e. e ≡ NodeError.Memory) }
+{
+    match Vec::with_capacity(alloc, room) {
+        Ok(bytes) => Ok(bytes),
+        Err(_) => Err(NodeError::Memory),
+    }
+}
+
 fn append_inner(x: &InnerNode, out: &mut Vec<u8>) -> Result<(), FieldError>
     requires { IsPosition x.now.position }
     ensures ok { OnOk result (out.new.items ≡ out.old.items ++ inner_spelling x.now) }
@@ -48,7 +65,7 @@ impl InnerNode {
         ensures again { IfOk result (λ v. inner_of self.now.position v.items ≡ Ok self.now) }
         ensures memory { IfErr result (λ e. e ≡ NodeError.Memory) }
     {
-        let mut out = Vec::new(alloc);
+        let mut out = with_room(alloc, WIDEST_INNER)?;
         match append_inner(self, &mut out) {
             Ok(()) => Ok(out),
             Err(_) => Err(NodeError::Memory),
@@ -66,7 +83,7 @@ impl Segment {
         ensures again { IfOk result (λ v. segment_of self.now.position v.items ≡ Ok self.now) }
         ensures memory { IfErr result (λ e. e ≡ NodeError.Memory) }
     {
-        let mut out = Vec::new(alloc);
+        let mut out = with_room(alloc, USUAL_SEGMENT)?;
         match append_segment(self, &mut out) {
             Ok(()) => Ok(out),
             Err(_) => Err(NodeError::Memory),

@@ -80,7 +80,7 @@ pub fn take_entries(
 }
 
 /// Reads `count` digests of 16 bytes each at `at`. Returns them and the place after them. Memory is taken
-/// for no more digests than are read.
+/// for no more digests than the bytes hold.
 pub fn take_digests(
     alloc: Global,
     count: u32,
@@ -92,7 +92,8 @@ pub fn take_digests(
     ensures unruled { BreaksNoRule result }
     ensures within { IfOk result (λ x. x.1 ≤ length bytes.now) }
 {
-    let mut digests = Vec::new(alloc);
+    let held = (bytes.len() - at) / 16;
+    let mut digests = Vec::with_capacity(alloc, held.min(count as usize))?;
     let mut place = at;
     for _ in 0..count {
         let (digest, after) = take_digest(bytes, place)?;

@@ -6,7 +6,7 @@ use Rattle.tree_node.proofs.entries.take_digests.Goals as goal
 
 pub returns-in_err-digest-clause-exact : goal.returns-in_err-digest-clause-exact
 returns-in_err-digest-clause-exact c =
-    let p = err_from_is_err_and c.from_residual.result c.from_residual.ensures.1 in
+    let p = err_from_is_err_and c.from_residual-in_err-digest.result c.from_residual-in_err-digest.ensures.1 in
     rw (p.1, p.2) (stops c.in_err-digest.field-0.0 (λ _. run_at 16) (λ _. tt) c.args.count c.loop.counter tt c.args.bytes.now c.loop.place c.loop.digests.items _ (omega arith) (fails_of _ _ c.in_err-digest.ensures.exact) c.loop.invariant.read)
 
 pub loop-preserved : goal.loop-preserved

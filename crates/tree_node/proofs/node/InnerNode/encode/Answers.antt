@@ -7,4 +7,4 @@ pub returns-in-Ok-clause-again : goal.returns-in-Ok-clause-again
 returns-in-Ok-clause-again c =
     inner_again c.args.self.now.position c.requires.position _ c.args.self.now
     (record { position = c.requires.position; mask = c.in-Ok.ensures.valid.0; each = c.requires.each; digests = c.in-Ok.ensures.valid.1 }) refl
-    (c.in-Ok.ensures.ok ∙ ap (λ (l : List ℕ). l ++ inner_spelling c.args.self.now) c.new-out.ensures.items)
+    (c.in-Ok.ensures.ok ∙ ap (λ (l : List ℕ). l ++ inner_spelling c.args.self.now) c.in_ok-out.ensures.ok)

@@ -8,4 +8,4 @@ pub returns-in-Ok-clause-again : goal.returns-in-Ok-clause-again
 returns-in-Ok-clause-again c =
     segment_again c.args.self.now.position c.requires.position _ c.args.self.now
     (record { position = c.requires.position; few = c.requires.few; entries = entries_valid [] c.args.self.now.entries c.requires.ascending c.in-Ok.ensures.valid }) refl
-    (c.in-Ok.ensures.ok ∙ ap (λ (l : List ℕ). l ++ segment_spelling c.args.self.now) c.new-out.ensures.items)
+    (c.in-Ok.ensures.ok ∙ ap (λ (l : List ℕ). l ++ segment_spelling c.args.self.now) c.in_ok-out.ensures.ok)
