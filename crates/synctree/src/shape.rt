@@ -64,7 +64,7 @@ pub fn children(alloc: Global, node: &InnerNode) -> Result<Seq<Option<Digest>>, 
     let digests = node.digests.as_slice();
     let mut mask = node.mask;
     let mut next = 0;
-    let mut all = Vec::new(alloc);
+    let mut all = Vec::with_capacity(alloc, WIDTH)?;
     for _ in 0..WIDTH {
         let is_there = mask % 2 == 1;
         all.push(if_there(is_there, digests, next))?;
@@ -93,7 +93,7 @@ pub(crate) fn digests(alloc: Global, children: &[Option<Digest>]) -> Result<Seq<
     ensures ok { IfOk result (λ ds. ds ≡ digests_of children.now) }
     ensures memory { IfErr result (λ e. e ≡ Memory) }
 {
-    let mut all = Vec::new(alloc);
+    let mut all = Vec::with_capacity(alloc, children.len())?;
     for child in children {
         if let Some(digest) = child {
             all.push(*digest)?;

@@ -5,7 +5,7 @@ use Rattle.synctree.proofs.shape.children.Goals as goal
 
 pub loop-init : goal.loop-init
 loop-init c = record {
-  split = λ k e. spread_first k c.args.node.now.mask c.args.node.now.digests e ∙ rw (c.new-all.ensures.items, c.as_slice-digests.ensures) refl;
+  split = λ k e. spread_first k c.args.node.now.mask c.args.node.now.digests e ∙ rw (c.in_ok-all.ensures.items, c.as_slice-digests.ensures) refl;
   few = omega arith;
 }
 
