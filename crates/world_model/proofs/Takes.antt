@@ -9,13 +9,10 @@ use Rattle.step_plans.specs.declared.outbox.Outbox.{Outbox}
 use Rattle.peer_core.specs.Drives.{MayCome, step_of}
 use Rattle.peer_core.specs.Kept.{AllMayGo, MaySend}
 use Rattle.peer_core.specs.Starts.{start_of}
-use Rattle.peer_core.specs.declared.peer.Suspended.{Suspended}
 use Rattle.peer_core.specs.declared.state.State.{State}
 use Rattle.step_plans.specs.Calls.{Call, AnswerOf}
 use Rattle.step_plans.specs.Plans.{Plan, Out, Finished, Stopped, Runs, nothing}
 use Rattle.std.proofs.lemmas.Option.{none-some, same_Some}
-use Rattle.std.specs.Option.{is_some}
-use Rattle.std.proofs.lemmas.Bool.{false≢true}
 use Rattle.std.proofs.lemmas.List.Elements.{All-nil}
 use Rattle.peer_core.specs.declared.event.Event.{Event}
 use Rattle.world_spec.proofs.Determined.{step_taken, step_stopped, start_taken, start_stopped}
@@ -25,10 +22,12 @@ use Rattle.held_stores.specs.Laws.{HeldDo, HeldRefuse, IsUnplanned}
 use Rattle.register_model.specs.declared.note.Note.{Note}
 use Rattle.world_spec.specs.Nodes.{Node, Up, Down, Taken, taken, hashed_by_start}
 use Rattle.world_spec.specs.Steps.{ComesTo, StartsAs}
-use Rattle.world_model.specs.Peers.{MemPeer, node_by}
+use Rattle.world_model.specs.MemNodes.{MemPeer, RunsAs, node_by}
 use Rattle.world_model.specs.Refusals.{world_error, IsCutOff}
 use Rattle.world_model.specs.declared.error.WorldError.{WorldError}
 use Rattle.world_model.specs.declared.error.WorldError.TheVariants as worlds
+use Rattle.world_model.specs.declared.node.MemNode.{MemNode}
+use Rattle.world_model.specs.declared.node.MemNode.TheVariants as memory
 
 -- an error as an error result
 pub as_error : {T : Type 0} (e x : PeerError) → e ≡ x → IsErrOf {T = T} (Err e) x
@@ -122,28 +121,15 @@ module _ (peer : MemPeer) (event : Event) (come : MayCome peer.me event) (up : p
         → IsCutOff (taken peer.me event running).hashed before_it after_it w
     refused_cut {T} e w is halted took = stopped_cut e w is (took (not_halted peer up {T = T} (Err e) halted))
 
--- ## A peer between its steps
-
-pub up_node : (running : Option Suspended) (waiting : Suspended) (s : HeldStores) → running ≡ Some waiting → node_by running s ≡ Up waiting.state s
-up_node running waiting s is = rw is refl
-
-pub down_node : (running : Option Suspended) (s : HeldStores) → running ≡ None → node_by running s ≡ Down s
-down_node running s is = rw is refl
-
--- a running peer goes on when it is started
-pub started_up : (first : Account) (view : List ℕ) (running : Option Suspended) (s : HeldStores) → is_some running ≡ true → StartsAs first first view (node_by running s) (node_by running s)
-started_up first view None s is = absurd (false≢true is)
-started_up first view (Some waiting) s is = record { is = refl; has = hashed_none first }
-
-module _ {H : Type 0} (strings : H → Option (List (List ℕ))) (c d : H → ℕ) (view : List ℕ) (running : Option Suspended) (s : HeldStores) (h k : H) (down : running ≡ None) where
+module _ {H : Type 0} (strings : H → Option (List (List ℕ))) (c d : H → ℕ) (view : List ℕ) (node : MemNode) (s : HeldStores) (h k : H) (down : node ≡ memory.Down s) where
   -- a start that ended well is that of the node
   pub start_ok : (state : State) (t : HeldStores) → Runs (HeldDo strings c d) (HeldRefuse strings c d) (start_of view) (s, h) [] (Finished state nothing) (t, k) []
-      → StartsAs (account strings c d h) (account strings c d k) view (node_by running s) (Up state t)
+      → StartsAs (account strings c d h) (account strings c d k) view (node_by node) (Up state t)
   start_ok state t ran = rw down (start_taken strings c d view (s, h) (t, k) [] state nothing ran)
 
   -- a start that a store refused leaves the node down
   pub start_refused : (e : PeerError) (t : HeldStores) → world_error e ≡ None → Runs (HeldDo strings c d) (HeldRefuse strings c d) (start_of view) (s, h) [] (Stopped e) (t, k) []
-      → StartsAs (account strings c d h) (account strings c d k) view (node_by running s) (node_by running t)
+      → StartsAs (account strings c d h) (account strings c d k) view (node_by node) (Down t)
   start_refused e t goes_on ran = elim (start_stopped strings c d view (s, h) (t, k) [] e ran) [
     | inl cut ↦ absurd (planned (hashed_by_start view (Down s)) (account strings c d h) (account strings c d k) e goes_on cut)
     | inr is ↦ rw down is.1
@@ -151,30 +137,38 @@ module _ {H : Type 0} (strings : H → Option (List (List ℕ))) (c d : H → �
 
   -- a start that ends the run was cut off
   pub start_cut : (e : PeerError) (t : HeldStores) (w : WorldError) → world_error e ≡ Some w → Runs (HeldDo strings c d) (HeldRefuse strings c d) (start_of view) (s, h) [] (Stopped e) (t, k) []
-      → IsCutOff (hashed_by_start view (node_by running s)) (account strings c d h) (account strings c d k) w
+      → IsCutOff (hashed_by_start view (node_by node)) (account strings c d h) (account strings c d k) w
   start_cut e t w is ran = elim (start_stopped strings c d view (s, h) (t, k) [] e ran) [
     | inl cut ↦ rw down (cut_off (hashed_by_start view (Down s)) (account strings c d h) (account strings c d k) e w is cut)
     | inr fault ↦ absurd (no_fault e w fault.0 is)
   ]
 
-module _ (me : ℕ) (event : Event) (come : MayCome me event) (running : Option Suspended) (waiting : Suspended) (s : HeldStores) (peer : MemPeer) (here : running ≡ Some waiting) (named : peer.me ≡ me)
-    (state : peer.machine.state ≡ waiting.state) (stores : peer.machine.stores ≡ s) (up : peer.halted ≡ false) where
-  -- the peer that goes on is the node that waited
-  resumed_node : Up peer.machine.state peer.machine.stores ≡ node_by running s
-  resumed_node = rw here (rw state (rw stores refl))
+-- ## A peer in its world
 
-  pub come_resumed : MayCome peer.me event
-  come_resumed = subst (λ (m : ℕ). MayCome m event) (sym named) come
+module _ (me : ℕ) (event : Event) (node : MemNode) (peer : MemPeer) (here : node ≡ memory.Up peer) (own : RunsAs me node) where
+  pub awake : peer.halted ≡ false
+  awake = (own peer here).1
 
-  resumed_taken : taken peer.me event (Up peer.machine.state peer.machine.stores) ≡ taken me event (node_by running s)
-  resumed_taken = ap (taken peer.me event) resumed_node ∙ ap (λ (m : ℕ). taken m event (node_by running s)) named
+  pub named : peer.me ≡ me
+  named = (own peer here).0
 
-  -- a step of the peer is the step of the node that waited
-  pub waited_taken : (first now : Account) (node : Node) (out : Out) (notes : List Note) → ComesTo first now (taken peer.me event (Up peer.machine.state peer.machine.stores)) node out notes → ComesTo first now (taken me event (node_by running s)) node out notes
-  waited_taken first now node out notes came = subst (λ (due : Taken). ComesTo first now due node out notes) resumed_taken came
+  pub comes_here : MayCome me event → MayCome peer.me event
+  comes_here come = subst (λ (m : ℕ). MayCome m event) (sym named) come
 
-  pub waited_cut : (first now : Account) (w : WorldError) → IsCutOff (taken peer.me event (Up peer.machine.state peer.machine.stores)).hashed first now w → IsCutOff (taken me event (node_by running s)).hashed first now w
-  waited_cut first now w cut = subst (λ (due : Taken). IsCutOff due.hashed first now w) resumed_taken cut
+  taken_here : taken peer.me event (Up peer.machine.state peer.machine.stores) ≡ taken me event (node_by node)
+  taken_here = ap (taken peer.me event) (ap node_by (sym here)) ∙ ap (λ (m : ℕ). taken m event (node_by node)) named
+
+  -- a step of the peer is the step of its node
+  pub up_taken : (first now : Account) (left : Node) (out : Out) (notes : List Note) → ComesTo first now (taken peer.me event (Up peer.machine.state peer.machine.stores)) left out notes → ComesTo first now (taken me event (node_by node)) left out notes
+  up_taken first now left out notes came = subst (λ (due : Taken). ComesTo first now due left out notes) taken_here came
+
+  -- the same of a step after which the peer was stopped
+  pub fallen_taken : (first now : Account) (left : MemNode) (s : HeldStores) (out : Out) (notes : List Note) → left ≡ memory.Down s → ComesTo first now (taken peer.me event (Up peer.machine.state peer.machine.stores)) (Down s) out notes
+      → ComesTo first now (taken me event (node_by node)) (node_by left) out notes
+  fallen_taken first now left s out notes is came = rw is (up_taken first now (Down s) out notes came)
+
+  pub up_cut : (first now : Account) (w : WorldError) → IsCutOff (taken peer.me event (Up peer.machine.state peer.machine.stores)).hashed first now w → IsCutOff (taken me event (node_by node)).hashed first now w
+  up_cut first now w cut = subst (λ (due : Taken). IsCutOff due.hashed first now w) taken_here cut
 
 -- a peer that is down takes no step
 pub down_taken : (first : Account) (me : ℕ) (event : Event) (s : HeldStores) (out : Out) (notes : List Note) → out ≡ nothing → notes ≡ [] → ComesTo first first (taken me event (Down s)) (Down s) out notes

@@ -1,3 +1,4 @@
+pub mod MemNodes
 pub mod Peers
 pub mod Worlds
 pub mod Refusals

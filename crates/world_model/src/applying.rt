@@ -114,7 +114,7 @@ impl World {
                 self.step_peer(rt, alloc, hasher, *peer, Event::Change(*view))
             }
             ScheduleEvent::Stop { peer } => {
-                self.stop(*peer);
+                self.stop(alloc, *peer);
                 Ok(())
             }
             ScheduleEvent::Start { peer } => self.start(rt, alloc, hasher, *peer),

@@ -15,11 +15,11 @@ use std::thread::Threads;
 
 impl World {
     /// Stops `peer`.
-    pub(crate) fn stop(&mut self, peer: PeerId)
+    pub(crate) fn stop(&mut self, alloc: Global, peer: PeerId)
         requires { (1 ≤ peer) × (peer ≤ length self.old.peers.items) }
         ensures { run_of self.new ≡ changed peer stopped (run_of self.old) }
     {
-        self.peers[(peer.0 - 1) as usize].stop();
+        self.peers[(peer.0 - 1) as usize].stop(alloc);
     }
 
     /// Starts `peer` if it is down.

@@ -6,14 +6,15 @@
 //! sending and never removed. The notes of leaders go to a scribe, which derives the histories, one
 //! for each key that a call line names.
 //!
-//! A peer lies between its steps: its stores, and the rest of it while it runs. So a line can stop
-//! it, and change its stores whether it runs or not.
+//! A running peer steps in place, over its stores. A line that changes the stores of a peer takes a
+//! running peer apart, and then lets it go on over the changed stores.
 #![tactic(auto)]
 
 mod applying;
 mod changing;
 mod delivering;
 mod error;
+mod node;
 mod opening;
 mod peer;
 mod posting;
@@ -21,6 +22,7 @@ mod reporting;
 mod running;
 mod spoiling;
 mod stepping;
+mod store_faults;
 mod taking;
 mod world;
 

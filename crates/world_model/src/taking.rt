@@ -1,24 +1,23 @@
-ghost use Rattle.std.specs.Prelude.{◌≡◌, false, IfOk, IfErr, OnOk};
+ghost use Rattle.std.specs.Prelude.{◌≡◌, IfOk, IfErr, OnOk};
 ghost use Rattle.ens_base.specs.View.{IsPeer};
 ghost use Rattle.held_stores.specs.Held.{account, empty_stores as no_stores};
 ghost use Rattle.step_plans.specs.Outboxes.{out_of};
 ghost use Rattle.peer_core.specs.Drives.{MayCome};
 ghost use Rattle.peer_core.specs.Kept.{AllMayGo};
-ghost use Rattle.world_spec.specs.Nodes.{hashed_by_start, taken, Up, Down};
+ghost use Rattle.world_spec.specs.Nodes.{hashed_by_start, stopped, taken, Down};
 ghost use Rattle.world_spec.specs.Steps.{ComesTo, StartsAs};
 ghost use Rattle.world_model.specs.Peers.{node_of};
 ghost use Rattle.world_model.specs.Refusals.{world_error as error_of, IsCutOff};
 
 use crate::error::WorldError;
-use crate::peer::{MemPeer, MemStores, WorldPeer};
+use crate::node::{MemNode, empty_stores};
+use crate::peer::WorldPeer;
 use ens_base::{PeerId, View};
 use ens_hashing::Hasher16;
-use peer_core::{Event, Peer, StartError, Stores};
+use peer_core::{Event, Peer, StartError};
 use std::alloc::Global;
 use std::thread::Threads;
 use step_plans::{Outbox, PeerError};
-use synctree::Tree;
-use world_stores::{HeldFact, HeldNodes, HeldObjects};
 
 /// Returns the error with which a failed step ends the run, or `None` if the run goes on: after a
 /// store fault the peer is down.
@@ -33,17 +32,6 @@ fn world_error(error: PeerError) -> Option<WorldError>
     }
 }
 
-/// Returns stores that are empty.
-fn empty_stores(alloc: Global) -> MemStores
-    ensures { result ≡ no_stores }
-{
-    Stores {
-        backend: HeldObjects::empty(alloc),
-        tree: Tree::unopened(HeldNodes::empty(alloc)),
-        facts: HeldFact::empty(),
-    }
-}
-
 impl WorldPeer {
     /// Makes a peer that is down, over empty stores.
     pub(crate) fn empty(alloc: Global, me: PeerId) -> WorldPeer
@@ -53,24 +41,20 @@ impl WorldPeer {
     {
         WorldPeer {
             me,
-            running: None,
-            stores: empty_stores(alloc),
+            node: MemNode::Down(empty_stores(alloc)),
         }
     }
 
-    /// Keeps a running peer until its next step.
-    fn wait(&mut self, peer: MemPeer)
-        requires me { peer.me ≡ self.old.me }
-        requires awake { peer.halted ≡ false }
-        ensures node { node_of self.new ≡ Up peer.machine.state peer.machine.stores }
+    /// Stops the peer. It keeps its stores.
+    pub(crate) fn stop(&mut self, alloc: Global)
+        ensures node { node_of self.new ≡ stopped (node_of self.old) }
         ensures me { self.new.me ≡ self.old.me }
     {
-        let (running, stores) = peer.suspend();
-        self.running = Some(running);
-        self.stores = stores;
+        self.node.stop(alloc);
     }
 
     /// Starts the peer if it is down. If the start is refused, the peer stays down.
+    #[inline(never)]
     pub(crate) fn start<H: Hasher16, R: Threads + Sync>(
         &mut self,
         rt: &R,
@@ -82,18 +66,18 @@ impl WorldPeer {
         ensures me { self.new.me ≡ self.old.me }
         ensures error { IfErr result (IsCutOff (hashed_by_start opening (node_of self.old)) (account H.kept H.clashes H.fulls hasher.old) (account H.kept H.clashes H.fulls hasher.new)) }
     {
-        if self.running.is_some() {
+        let MemNode::Down(held) = &mut self.node else {
             return Ok(());
-        }
-        let stores = std::mem::replace(&mut self.stores, empty_stores(alloc));
+        };
+        let stores = std::mem::replace(held, empty_stores(alloc));
         match Peer::start(rt, alloc, self.me, opening, stores, hasher) {
             Ok(peer) => {
-                self.wait(peer);
+                self.node = MemNode::Up(peer);
                 Ok(())
             }
             Err(refused) => {
                 let StartError { error, held } = refused;
-                self.stores = held;
+                self.node = MemNode::Down(held);
                 match world_error(error) {
                     None => Ok(()),
                     Some(error) => Err(error),
@@ -117,18 +101,13 @@ impl WorldPeer {
         ensures error { IfErr result (IsCutOff (taken self.old.me event (node_of self.old)).hashed (account H.kept H.clashes H.fulls hasher.old) (account H.kept H.clashes H.fulls hasher.new)) }
     {
         let mut out = Outbox::new(alloc);
-        let Some(running) = self.running.take() else {
+        let MemNode::Up(peer) = &mut self.node else {
             return Ok(out);
         };
-        let stores = std::mem::replace(&mut self.stores, empty_stores(alloc));
-        let mut peer = running.resume(stores);
         match peer.step(rt, alloc, event, hasher, &mut out) {
-            Ok(()) => {
-                self.wait(peer);
-                Ok(out)
-            }
+            Ok(()) => Ok(out),
             Err(error) => {
-                self.stores = peer.into_stores();
+                self.node.stop(alloc);
                 match world_error(error) {
                     None => Ok(out),
                     Some(error) => Err(error),

@@ -1,0 +1,116 @@
+ghost use Rattle.std.specs.Prelude.{◌≡◌, ◌≤◌, ◌<◌, ◌^◌, IfErr, OnOk};
+ghost use Rattle.world_spec.specs.Stores.{failing, inner_spoiled, leaves_of as left_as, segment_spoiled, spoiled, taken_back};
+
+use crate::error::WorldError;
+use crate::node::MemStores;
+use ens_base::{Bytes, Key};
+use ens_outside::Leaves;
+use schedule_text::{StoreName, Survivor};
+use std::alloc::Global;
+use synctree::{Tree, TreeMark};
+use world_stores::HeldNodes;
+
+/// Returns what a failed write leaves.
+fn leaves_of(survivor: Survivor) -> Leaves
+    ensures { result ≡ left_as survivor }
+{
+    match survivor {
+        Survivor::Old => Leaves::Old,
+        Survivor::New => Leaves::New,
+    }
+}
+
+/// Takes the nodes out of a tree, to be put back under the mark.
+fn take_nodes(alloc: Global, tree: &mut Tree<HeldNodes>) -> (TreeMark, HeldNodes)
+    ensures { (result.0 ≡ tree.old.top) × (result.1 ≡ tree.old.store) }
+{
+    std::mem::replace(tree, Tree::unopened(HeldNodes::empty(alloc))).split()
+}
+
+/// Makes the next write of a store fail.
+pub(crate) fn fail_next(alloc: Global, stores: &mut MemStores, store: StoreName, survivor: Survivor)
+    ensures { stores.new ≡ failing store (left_as survivor) stores.old }
+{
+    let leaves = leaves_of(survivor);
+    match store {
+        StoreName::Fact => stores.facts.fail_next(leaves),
+        StoreName::Tree => {
+            let (mark, mut nodes) = take_nodes(alloc, &mut stores.tree);
+            nodes.fail_next(leaves);
+            stores.tree = Tree::join(mark, nodes);
+        }
+        StoreName::Backend => stores.backend.fail_next(leaves),
+    }
+}
+
+/// Replaces the bytes of an object, or removes it. Fails when out of memory.
+pub(crate) fn spoil(
+    alloc: Global,
+    stores: &mut MemStores,
+    key: &Key,
+    bytes: &Option<Bytes>,
+) -> Result<(), WorldError>
+    ensures ok { OnOk result (stores.new ≡ spoiled key.now bytes.now stores.old) }
+    ensures memory { IfErr result (λ e. e ≡ WorldError.Memory) }
+{
+    match bytes {
+        None => {
+            stores.backend.lose(key);
+            Ok(())
+        }
+        Some(bytes) => match stores.backend.spoil(alloc, key, bytes.as_slice()) {
+            Ok(()) => Ok(()),
+            Err(_) => Err(WorldError::Memory),
+        },
+    }
+}
+
+/// Replaces the bytes of the segment of a key, or removes that node. Fails when out of memory.
+pub(crate) fn damage(
+    alloc: Global,
+    stores: &mut MemStores,
+    key: &Key,
+    bytes: &Option<Bytes>,
+) -> Result<(), WorldError>
+    ensures ok { OnOk result (stores.new ≡ segment_spoiled key.now bytes.now stores.old) }
+    ensures memory { IfErr result (λ e. e ≡ WorldError.Memory) }
+{
+    let (mark, mut nodes) = take_nodes(alloc, &mut stores.tree);
+    let damaged = node_faults::damage(alloc, &mut nodes, key, bytes);
+    stores.tree = Tree::join(mark, nodes);
+    match damaged {
+        Ok(()) => Ok(()),
+        Err(_) => Err(WorldError::Memory),
+    }
+}
+
+/// Replaces the bytes of the inner node at this level and index, or removes it. Fails when out of
+/// memory.
+pub(crate) fn inner(
+    alloc: Global,
+    stores: &mut MemStores,
+    level: u8,
+    index: u32,
+    bytes: &Option<Bytes>,
+) -> Result<(), WorldError>
+    requires { (level ≤ 2) × (index < 16 ^ level) }
+    ensures ok { OnOk result (stores.new ≡ inner_spoiled level index bytes.now stores.old) }
+    ensures memory { IfErr result (λ e. e ≡ WorldError.Memory) }
+{
+    let (mark, mut nodes) = take_nodes(alloc, &mut stores.tree);
+    let damaged = node_faults::inner(alloc, &mut nodes, level, index, bytes);
+    stores.tree = Tree::join(mark, nodes);
+    match damaged {
+        Ok(()) => Ok(()),
+        Err(_) => Err(WorldError::Memory),
+    }
+}
+
+/// Takes back the last `changes` writes of the top record.
+pub(crate) fn revert(alloc: Global, stores: &mut MemStores, changes: u32)
+    ensures { stores.new ≡ taken_back changes stores.old }
+{
+    let (mark, mut nodes) = take_nodes(alloc, &mut stores.tree);
+    nodes.revert(changes as usize);
+    stores.tree = Tree::join(mark, nodes);
+}
