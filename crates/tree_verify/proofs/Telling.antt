@@ -98,7 +98,7 @@ module _ {S : Type 0} (does : S → (call : Call) → AnswerOf call → S → Ty
       let q = parted does (for_each p xs) (λ zs. Done (r.value ∷ zs)) r.between t r.second ys r.went_on in
       ap length (ok_once ys (r.value ∷ q.value) q.went_on.1) ∙ ap suc (count_each p xs r.between q.between q.first q.value q.came)
 
-  level_count : (xs : List Slot) (s t : S) (strs : List (List ℕ)) (rs : List (Option (List ℕ))) → Ends does (read_level xs) s strs (Ok rs) t → length rs ≡ length xs
+  pub level_count : (xs : List Slot) (s t : S) (strs : List (List ℕ)) (rs : List (Option (List ℕ))) → Ends does (read_level xs) s strs (Ok rs) t → length rs ≡ length xs
   level_count xs s t strs rs ends =
       let r = parted does (read_all xs) (λ reads. hash_all reads >>= (λ _. Done reads)) s t strs rs ends in
       let q = parted does (hash_all r.value) (λ _. Done r.value) r.between t r.second rs r.went_on in

@@ -2,14 +2,16 @@
 //!
 //! [`scan`] goes through the tree level by level: it reads the nodes of a level, hashes them by
 //! threads ([`digests`]), and goes on with their children. A [`Gate`] sees each piece of that work
-//! begin. `specs/Levels.antt` has the plan of a scan, and `specs/Scans.antt`
-//! what it means for the map that stands under the top record.
+//! begin. `specs/Levels.antt` has the plan of a scan, `specs/PlainScans.antt` the plain
+//! scan by recursion that finds the same, and `specs/Scans.antt` what it means for the map that
+//! stands under the top record.
 #![tactic(auto)]
 
 mod admitting;
 mod gate;
 mod hashing;
 mod last;
+mod laws;
 mod level;
 mod opening;
 mod scanning;
@@ -19,5 +21,9 @@ mod step;
 
 pub use gate::{Gate, NoGate};
 pub use hashing::digests;
+pub use laws::{
+    a_scan_finds_what_is_stored, a_scan_goes_by_depth, a_scan_is_the_plain_scan,
+    damage_is_no_error, memory_has_a_content,
+};
 pub use scanning::scan;
 pub use slot::Slot;
