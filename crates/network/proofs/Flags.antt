@@ -1,47 +1,69 @@
--- Flags, one for each message, given by a test of the message and its number.
-use Rattle.std.proofs.Common.{◌≡◌, ◌≢◌, ◌<◌, ◌&&◌, refl, ap, ◌∙◌, arith, ℕ, zero, suc, Bool, true, false, List, [], ◌∷◌, ◌++◌, length, Some}
-use Rattle.std.specs.Prelude.{not, All, slice_get, slice_index_or, slice_set}
+-- The flags that say which messages wait.
+use Rattle.std.proofs.Common.{◌≡◌, ◌<◌, ◌==◌, ◌&&◌, ◌||◌, refl, ap, sym, ◌∙◌, arith, ℕ, zero, suc, Bool, true, false, List, [], ◌∷◌, ◌++◌, length}
+use Rattle.std.specs.Prelude.{not, take, drop, slice_get, slice_index_or, slice_set}
 use Rattle.std.specs.Option.{option_map_or}
-use Rattle.std.proofs.lemmas.List.Elements.{All-head, All-tail}
-use Rattle.std.proofs.lemmas.Option.{same_Some}
+use Rattle.std.proofs.lemmas.Bool.{and_right, eqb-true, eqb-false, both_ways}
+use Rattle.std.proofs.lemmas.List.{length-set, get_or-set_other, take_all, take-append-le}
 use Rattle.wire_frames.specs.declared.frame.Frame.{Frame}
 use Rattle.network.specs.Mail.{waits_without}
-use Rattle.network.specs.Lines.{flags_by}
+use Rattle.network.specs.Lines.{is_in, cleared}
+use Rattle.network.proofs.MailLaws.{settled_flag}
 
-pub length-flags_by : (test : Frame → ℕ → Bool) (sent : List Frame) → length (flags_by test sent) ≡ length sent
-length-flags_by test [] = refl
-length-flags_by test (f ∷ sent) = ap (λ (n : ℕ). suc n) (length-flags_by (λ g n. test g (suc n)) sent)
+and_not_false : (w : Bool) → w ≡ (w && not false)
+and_not_false true = refl
+and_not_false false = refl
 
--- the flag at a number
-pub slice_index_or-flags_by : (test : Frame → ℕ → Bool) (sent : List Frame) (n : ℕ) → slice_index_or (flags_by test sent) n false ≡ option_map_or (λ f. test f n) (slice_get sent n) false
-slice_index_or-flags_by test [] n = refl
-slice_index_or-flags_by test (f ∷ sent) zero = refl
-slice_index_or-flags_by test (f ∷ sent) (suc n) = slice_index_or-flags_by (λ g k. test g (suc k)) sent n
+-- the flag at a number, when one flag is cleared
+pub flag_set : (waits : List Bool) (n k : ℕ) → slice_index_or (slice_set waits n false) k false ≡ (slice_index_or waits k false && not (k == n))
+flag_set waits n k = by (k == n) refl where
+  by : (b : Bool) → (k == n) ≡ b → slice_index_or (slice_set waits n false) k false ≡ (slice_index_or waits k false && not b)
+  by true same = ap (λ (i : ℕ). slice_index_or (slice_set waits n false) i false) (eqb-true k n same) ∙ settled_flag waits n ∙ sym (and_right _ _ refl)
+  by false other = get_or-set_other waits n k false false (eqb-false k n other) ∙ and_not_false _
 
--- two tests that agree give the same flags
-pub flags_agree : (s t : Frame → ℕ → Bool) (sent : List Frame) → ((f : Frame) (n : ℕ) → s f n ≡ t f n) → flags_by s sent ≡ flags_by t sent
-flags_agree s t sent same = ap (λ (test : Frame → ℕ → Bool). flags_by test sent) (λ i f n. same f n i)
+neither : (w e i : Bool) → ((w && not e) && not i) ≡ (w && not (e || i))
+neither true true i = refl
+neither true false i = refl
+neither false e i = refl
 
--- one more message, which passes the test
-pub flags_posted : (old new : Frame → ℕ → Bool) (sent : List Frame) (f : Frame) → ((g : Frame) (n : ℕ) → n < length sent → new g n ≡ old g n) → new f (length sent) ≡ true → flags_by new (sent ++ f ∷ []) ≡ flags_by old sent ++ true ∷ []
-flags_posted old new [] f same passes = ap (λ (b : Bool). b ∷ []) passes
-flags_posted old new (g ∷ sent) f same passes =
-    ap (λ (b : Bool). b ∷ flags_by (λ h n. new h (suc n)) (sent ++ f ∷ [])) (same g 0 (omega arith))
-    ∙ ap (λ (bs : List Bool). old g 0 ∷ bs) (flags_posted (λ h n. old h (suc n)) (λ h n. new h (suc n)) sent f (λ h n below. same h (suc n) (omega arith)) passes)
+-- the flag at a number, when the flags of these numbers are cleared
+pub flag_cleared : (waits : List Bool) (ns : List ℕ) (k : ℕ) → slice_index_or (cleared waits ns) k false ≡ (slice_index_or waits k false && not (is_in ns k))
+flag_cleared waits [] k = and_not_false _
+flag_cleared waits (n ∷ ns) k =
+    flag_cleared (slice_set waits n false) ns k
+    ∙ ap (λ (b : Bool). b && not (is_in ns k)) (flag_set waits n k)
+    ∙ neither _ (k == n) (is_in ns k)
 
--- one message no longer passes the test
-pub flags_settled : (old new : Frame → ℕ → Bool) (sent : List Frame) (k : ℕ) (f : Frame) → slice_get sent k ≡ Some f → ((g : Frame) (n : ℕ) → n ≢ k → new g n ≡ old g n) → new f k ≡ false → flags_by new sent ≡ slice_set (flags_by old sent) k false
-flags_settled old new [] k f is same fails = refl
-flags_settled old new (g ∷ sent) zero f is same fails =
-    ap (λ (b : Bool). b ∷ flags_by (λ h n. new h (suc n)) sent) (ap (λ (h : Frame). new h 0) (same_Some g f is) ∙ fails)
-    ∙ ap (λ (bs : List Bool). false ∷ bs) (flags_agree (λ h n. new h (suc n)) (λ h n. old h (suc n)) sent (λ h n. same h (suc n) (omega arith)))
-flags_settled old new (g ∷ sent) (suc k) f is same fails =
-    ap (λ (b : Bool). b ∷ flags_by (λ h n. new h (suc n)) sent) (same g 0 (omega arith))
-    ∙ ap (λ (bs : List Bool). old g 0 ∷ bs) (flags_settled (λ h n. old h (suc n)) (λ h n. new h (suc n)) sent k f is (λ h n other. same h (suc n) (omega arith)) fails)
+pub length-cleared : (waits : List Bool) (ns : List ℕ) → length (cleared waits ns) ≡ length waits
+length-cleared waits [] = refl
+length-cleared waits (n ∷ ns) = length-cleared (slice_set waits n false) ns ∙ length-set waits n false
 
--- all messages of a kind no longer pass the test, if every message satisfies P
-pub flags_lost : (P : Frame → Type 0) (kind : Frame → Bool) (old new : Frame → ℕ → Bool) (sent : List Frame) → All P sent → ((f : Frame) (n : ℕ) → P f → new f n ≡ (old f n && not (kind f))) → flags_by new sent ≡ waits_without kind sent (flags_by old sent)
-flags_lost P kind old new [] all same = refl
-flags_lost P kind old new (f ∷ sent) all same =
-    ap (λ (b : Bool). b ∷ flags_by (λ g n. new g (suc n)) sent) (same f 0 (All-head P f sent all))
-    ∙ ap (λ (bs : List Bool). (old f 0 && not (kind f)) ∷ bs) (flags_lost P kind (λ g n. old g (suc n)) (λ g n. new g (suc n)) sent (All-tail P f sent all) (λ g n. same g (suc n)))
+-- the flag at a number after a loss
+pub flag_without : (test : Frame → Bool) (sent : List Frame) (waits : List Bool) (k : ℕ) → slice_index_or (waits_without test sent waits) k false ≡ (slice_index_or waits k false && not (option_map_or test (slice_get sent k) false))
+flag_without test [] waits k = and_not_false _
+flag_without test (f ∷ sent) [] k = refl
+flag_without test (f ∷ sent) (w ∷ waits) zero = refl
+flag_without test (f ∷ sent) (w ∷ waits) (suc k) = flag_without test sent waits k
+
+-- one more flag changes none of those before it
+pub flag_stays : (waits : List Bool) (now : Bool) (k : ℕ) → slice_index_or waits k false ≡ true → slice_index_or (waits ++ now ∷ []) k false ≡ true
+flag_stays [] now k waiting = absurd (both_ways _ refl waiting)
+flag_stays (w ∷ waits) now zero waiting = waiting
+flag_stays (w ∷ waits) now (suc k) waiting = flag_stays waits now k waiting
+
+-- two lists of flags of one length are equal if they agree at each number
+pub same_flags : (xs ys : List Bool) → length xs ≡ length ys → ((k : ℕ) → slice_index_or xs k false ≡ slice_index_or ys k false) → xs ≡ ys
+same_flags [] [] long same = refl
+same_flags [] (y ∷ ys) long same = absurd (omega (arith, long))
+same_flags (x ∷ xs) [] long same = absurd (omega (arith, long))
+same_flags (x ∷ xs) (y ∷ ys) long same =
+    ap (λ (b : Bool). b ∷ xs) (same 0)
+    ∙ ap (λ (bs : List Bool). y ∷ bs) (same_flags xs ys (omega (arith, long)) (λ k. same (suc k)))
+
+pub flag_was : (waits : List Bool) (now : Bool) (k : ℕ) → k < length waits → slice_index_or (waits ++ now ∷ []) k false ≡ true → slice_index_or waits k false ≡ true
+flag_was [] now k within waiting = absurd (omega arith)
+flag_was (w ∷ waits) now zero within waiting = waiting
+flag_was (w ∷ waits) now (suc k) within waiting = flag_was waits now k (omega arith) waiting
+
+-- all flags are written over
+pub written_over : (waits now : List Bool) (n : ℕ) → length now ≡ n → take n (now ++ drop (length now) waits) ≡ now
+written_over waits now n long = take-append-le n now _ (omega (arith, long)) ∙ take_all n now (omega (arith, long))

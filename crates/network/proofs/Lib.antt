@@ -1,9 +1,14 @@
 pub mod Numbers
 pub mod Flags
+pub mod Queues
 pub mod Least
 pub mod Either
 pub mod MailLaws
 pub mod Losses
-pub mod Changes
+pub mod Posting
+pub mod Settling
+pub mod Losing
+pub mod Oldest
 pub mod Among
 pub mod Bounds
+pub mod Queued

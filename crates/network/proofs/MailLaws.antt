@@ -46,7 +46,7 @@ is_mail_posted m f mail = omega (arith, mail, length_push m.waits true, length_p
 pub is_mail_settled : (m : Mail) (n : ℕ) → IsMail m → IsMail (settled m n)
 is_mail_settled m n mail = length-set m.waits n false ∙ mail
 
-length-waits_without : (test : Frame → Bool) (sent : List Frame) (waits : List Bool) → length (waits_without test sent waits) ≡ length waits
+pub length-waits_without : (test : Frame → Bool) (sent : List Frame) (waits : List Bool) → length (waits_without test sent waits) ≡ length waits
 length-waits_without test [] waits = refl
 length-waits_without test (f ∷ sent) [] = refl
 length-waits_without test (f ∷ sent) (w ∷ waits) = ap (λ (n : ℕ). suc n) (length-waits_without test sent waits)
@@ -64,14 +64,14 @@ before_posted test (g ∷ sent) (w ∷ waits) f (suc n) mail below = before_post
 pub clear_posted : (test : Frame → Bool) (m : Mail) (k : ℕ) (f : Frame) → IsMail m → k ≤ length m.sent → IsClear test k m → IsClear test k (posted m f)
 clear_posted test m k f mail within clear n below = before_posted test m.sent m.waits f n mail (omega arith) ∙ clear n below
 
-flag_settled : (waits : List Bool) (k n : ℕ) → slice_index_or waits n false ≡ false → slice_index_or (slice_set waits k false) n false ≡ false
+pub flag_settled : (waits : List Bool) (k n : ℕ) → slice_index_or waits n false ≡ false → slice_index_or (slice_set waits k false) n false ≡ false
 flag_settled [] k n is = refl
 flag_settled (w ∷ waits) zero zero is = refl
 flag_settled (w ∷ waits) zero (suc n) is = is
 flag_settled (w ∷ waits) (suc k) zero is = is
 flag_settled (w ∷ waits) (suc k) (suc n) is = flag_settled waits k n is
 
-settled_flag : (waits : List Bool) (n : ℕ) → slice_index_or (slice_set waits n false) n false ≡ false
+pub settled_flag : (waits : List Bool) (n : ℕ) → slice_index_or (slice_set waits n false) n false ≡ false
 settled_flag [] n = refl
 settled_flag (w ∷ waits) zero = refl
 settled_flag (w ∷ waits) (suc n) = settled_flag waits n

@@ -1,7 +1,5 @@
--- Lines: for each sender and receiver, the set of the numbers of the waiting messages.
-use Rattle.std.specs.Prelude.{◌≡◌, ◌+◌, ◌*◌, ◌==◌, suc, ◌&&◌, ℕ, Bool, false, List, [], ◌∷◌, if◌then◌else◌, slice_index_or}
-use Rattle.std.specs.Ordering.{nat_cmp}
-use Rattle.std.specs.BTreeSet.{BTreeSet, contains}
+-- Lines: for each sender and receiver, a queue of numbers of messages.
+use Rattle.std.specs.Prelude.{◌≡◌, ◌<◌, ◌+◌, ◌*◌, ◌==◌, ◌||◌, ℕ, Bool, true, false, List, [], ◌∷◌, if◌then◌else◌, slice_index_or, slice_set}
 use Rattle.wire_frames.specs.declared.frame.Frame.{Frame}
 
 -- the place of the line of this sender and receiver
@@ -12,28 +10,39 @@ line_place from to = from * 32 + to
 abbrev pub line_of : Frame → ℕ
 line_of f = line_place f.from f.to
 
--- whether the number is in the line at this place
-abbrev pub stands : List (BTreeSet ℕ) → ℕ → ℕ → Bool
-stands lines place n = contains nat_cmp (slice_index_or lines place (record { keys = [] })) n
+-- the numbers in the line at this place, the front first
+abbrev pub line : List (List ℕ) → ℕ → List ℕ
+line lines place = slice_index_or lines place []
 
--- after this change the number is in the line at this place exactly if `now` says so, and nothing
--- else changes
-abbrev pub Marks : List (BTreeSet ℕ) → List (BTreeSet ℕ) → ℕ → ℕ → Bool → Type 0
-Marks old new place number now = (p n : ℕ) → stands new p n ≡ (if p == place && n == number then now else stands old p n)
+-- whether the number is in the line
+abbrev pub is_in : List ℕ → ℕ → Bool
+is_in [] n = false
+is_in (m ∷ ns) n = n == m || is_in ns n
 
--- after this change the line at this place is empty, and nothing else changes
-abbrev pub Empties : List (BTreeSet ℕ) → List (BTreeSet ℕ) → ℕ → Type 0
-Empties old new place = (p n : ℕ) → stands new p n ≡ (if p == place then false else stands old p n)
+-- all numbers in the line are below this one
+abbrev pub AreBelow : ℕ → List ℕ → Type 0
+AreBelow bound ns = (n : ℕ) → is_in ns n ≡ true → n < bound
 
--- all lines have the same numbers as before
-abbrev pub SameLines : List (BTreeSet ℕ) → List (BTreeSet ℕ) → Type 0
-SameLines old new = (p n : ℕ) → stands new p n ≡ stands old p n
+-- the numbers are in strictly ascending order
+abbrev pub Ascends : List ℕ → Type 0
+Ascends [] = Unit {0}
+Ascends (n ∷ ns) = ((m : ℕ) → is_in ns m ≡ true → n < m) × Ascends ns
 
--- for each message, whether the test holds of the message and its number
-abbrev pub flags_by : (Frame → ℕ → Bool) → List Frame → List Bool
-flags_by test [] = []
-flags_by test (f ∷ sent) = test f 0 ∷ flags_by (λ g n. test g (suc n)) sent
+-- the message at the front of the line waits, if the line is not empty
+abbrev pub FrontWaits : List Bool → List ℕ → Type 0
+FrontWaits waits [] = Unit {0}
+FrontWaits waits (n ∷ ns) = slice_index_or waits n false ≡ true
 
--- for each message, whether its number is in its line
-abbrev pub flags_in : List Frame → List (BTreeSet ℕ) → List Bool
-flags_in sent lines = flags_by (λ f n. stands lines (line_of f) n) sent
+-- the line from its first message that waits
+abbrev pub from_waiting : List Bool → List ℕ → List ℕ
+from_waiting waits [] = []
+from_waiting waits (n ∷ ns) = if slice_index_or waits n false then n ∷ ns else from_waiting waits ns
+
+-- the flags when those of these numbers are cleared
+abbrev pub cleared : List Bool → List ℕ → List Bool
+cleared waits [] = waits
+cleared waits (n ∷ ns) = cleared (slice_set waits n false) ns
+
+-- this change is made to the line at this place, and none to the others
+abbrev pub Changes : List (List ℕ) → List (List ℕ) → ℕ → (List ℕ → List ℕ) → Type 0
+Changes old new place change = (p : ℕ) → line new p ≡ (if p == place then change (line old p) else line old p)

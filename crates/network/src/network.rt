@@ -1,5 +1,7 @@
-ghost use Rattle.std.specs.Prelude.{◌≡◌, ◌↔◌, ◌≤◌, ◌<◌, All, length, IfOk, IfSome, IsErrOf, OnOk, OnErr};
+ghost use Rattle.std.specs.Prelude.{◌≡◌, ◌↔◌, ◌≤◌, ◌<◌, true, [], ◌∷◌, ◌++◌, All, length, IfOk, IfSome, IsErrOf, OnOk, OnErr, vec_len};
+ghost use Rattle.std.specs.Vec.{vec_capacity};
 ghost use Rattle.ens_base.specs.View.{IsPeer};
+ghost use Rattle.network.specs.Lines.{Changes};
 ghost use Rattle.network.specs.Mail.{older};
 
 use crate::error::SendError;
@@ -14,7 +16,11 @@ use wire_frames::Frame;
 #[derive(Drop)]
 pub struct Network {
     sent: Vec<Frame>,
-    waiting: Lines,
+    /// For each message whether it waits.
+    waiting: Vec<bool>,
+    /// The numbers of the waiting messages, in one line for each sender and receiver, the oldest at
+    /// the front. Behind the front there may also be messages that no longer wait.
+    lines: Lines,
     /// Above the number of every sender and receiver so far, and at most 32.
     bound: u32,
 }
@@ -26,9 +32,9 @@ impl Model for Network {
 
     ghost use Rattle.network.specs.Representation.{mail_in, IsKept};
 
-    ghost view = { λ n. mail_in n.sent.items n.waiting };
+    ghost view = { λ n. mail_in n.sent.items n.waiting.items };
 
-    ghost invariant = { λ n. IsKept n.sent.items n.waiting n.bound };
+    ghost invariant = { λ n. IsKept n.sent.items n.waiting.items n.lines n.bound };
 }
 
 impl Network {
@@ -43,9 +49,11 @@ impl Network {
     pub fn new(alloc: Global) -> Result<Network, AllocError>
         ensures { IfOk result (λ n. n ≡ no_mail) }
     {
+        let lines = Lines::new(alloc)?;
         Ok(Network {
             sent: Vec::new(alloc),
-            waiting: Lines::new(alloc)?,
+            waiting: Vec::new(alloc),
+            lines,
             bound: 1,
         })
     }
@@ -91,16 +99,19 @@ impl Network {
         ensures err { OnErr result (self.new ≡ self.old) }
         ensures limit { IsErrOf result SendError.Limit ↔ (most_messages ≤ length self.old.sent) }
     {
-        let number = self.sent.len();
-        if number >= Network::MOST {
+        if self.sent.len() >= Network::MOST {
             return Err(SendError::Limit);
         }
         let place = Network::place(frame.from, frame.to);
         let bound = Network::bound_with(self.bound, &frame);
-        self.sent.reserve(1)?;
-        self.waiting.insert(place, number)?;
+        add_waiting(
+            &mut self.sent,
+            &mut self.waiting,
+            &mut self.lines,
+            place,
+            frame,
+        )?;
         self.bound = bound;
-        self.sent.push(frame).unwrap();
         Ok(())
     }
 
@@ -112,7 +123,8 @@ impl Network {
             return;
         };
         let place = Network::place(frame.from, frame.to);
-        self.waiting.remove(place, number);
+        self.waiting[number] = false;
+        self.lines.skip(place, self.waiting.as_slice());
     }
 
     /// Loses all messages waiting from `from` to `to`. They stay in the list of sent messages.
@@ -120,7 +132,8 @@ impl Network {
         requires { IsPeer from × IsPeer to }
         ensures { self.new ≡ lost from to self.old }
     {
-        self.waiting.clear(Network::place(from.0, to.0));
+        let place = Network::place(from.0, to.0);
+        self.lines.clear(place, self.waiting.as_mut_slice());
     }
 
     /// Returns the number of the oldest message waiting from `from` to `to`.
@@ -129,7 +142,7 @@ impl Network {
         ensures oldest { result ≡ oldest (goes from to) self.now }
         ensures sent { IfSome result (λ n. n < length self.now.sent) }
     {
-        self.waiting.first(Network::place(from.0, to.0))
+        self.lines.first(Network::place(from.0, to.0))
     }
 
     /// Returns the number of the oldest message waiting from `from` to a member of `peers`.
@@ -166,6 +179,42 @@ impl Network {
         }
         best
     }
+}
+
+/// Adds a waiting message to the messages, its flag to the flags, and its number to the line at
+/// `place`. Fails when out of memory, and then leaves everything as it was.
+fn add_waiting(
+    sent: &mut Vec<Frame>,
+    waiting: &mut Vec<bool>,
+    lines: &mut Lines,
+    place: usize,
+    frame: Frame,
+) -> Result<(), AllocError>
+    requires { place < 1024 }
+    ensures sent { OnOk result (sent.new.items ≡ sent.old.items ++ frame ∷ []) }
+    ensures waiting { OnOk result (waiting.new.items ≡ waiting.old.items ++ true ∷ []) }
+    ensures lines { OnOk result (Changes lines.old lines.new place (λ ns. ns ++ vec_len sent.old ∷ [])) }
+    ensures same_sent { OnErr result (sent.new.items ≡ sent.old.items) }
+    ensures same_waiting { OnErr result (waiting.new.items ≡ waiting.old.items) }
+    ensures same_lines { OnErr result (lines.new ≡ lines.old) }
+{
+    make_room(sent, waiting)?;
+    lines.push(place, sent.len())?;
+    sent.push(frame).unwrap();
+    waiting.push(true).unwrap();
+    Ok(())
+}
+
+/// Makes room for one more message and its flag. Fails when out of memory.
+fn make_room(sent: &mut Vec<Frame>, waiting: &mut Vec<bool>) -> Result<(), AllocError>
+    ensures sent { sent.new.items ≡ sent.old.items }
+    ensures waiting { waiting.new.items ≡ waiting.old.items }
+    ensures room_sent { OnOk result (vec_len sent.new < vec_capacity sent.new) }
+    ensures room_waiting { OnOk result (vec_len waiting.new < vec_capacity waiting.new) }
+{
+    sent.reserve(1)?;
+    waiting.reserve(1)?;
+    Ok(())
 }
 
 /// Returns the lesser of two numbers, or the only one present.

@@ -1,0 +1,13 @@
+use Rattle.std.proofs.Common.{◌≡◌, length}
+use Rattle.std.specs.VecDeque.{deque_len}
+use Rattle.network.specs.Lines.{from_waiting, AreBelow}
+use Rattle.network.proofs.lines.skip_settled.Given as goal
+
+abbrev pub invariant-loop-number : goal.invariant-loop-number
+invariant-loop-number l = record {
+  below : AreBelow (length l.waiting) l.queue.items;
+  same : from_waiting l.waiting l.queue.items ≡ from_waiting l.waiting l.fn.queue.items;
+}
+
+abbrev pub decreases-loop-number : goal.decreases-loop-number
+decreases-loop-number l = deque_len l.queue
