@@ -1,12 +1,13 @@
 //! Measures the speed of the decoder of frames, of the reader and writer of schedules, of the test
-//! whether an order is a run of one register, and of the hash tree.
+//! whether an order is a run of one register, of a leader's table, and of the hash tree.
 //!
-//! Each word names a part: `frames`, `schedules`, `runs`, and of the tree `inserts`, `gets`, `scans`
-//! and `builds`. Without a word all parts run. The printed counts are the same on every machine;
+//! Each word names a part: `frames`, `schedules`, `runs`, `leaders`, and of the tree `inserts`, `gets`,
+//! `scans` and `builds`. Without a word all parts run. The printed counts are the same on every machine;
 //! measure the time from outside.
 #![tactic(auto)]
 
 mod frames;
+mod leaders;
 mod runs;
 mod schedules;
 mod trees;
@@ -43,6 +44,10 @@ fn main(rt: HostRuntime) -> io::Result<()> {
             }
             None => println!(rt; "memory")?,
         }
+    }
+    if is_asked(&words, "leaders") {
+        let (keys, batches) = leaders::measure(alloc).unwrap_or((0, 0));
+        println!(rt; "keys {keys} batches {batches}")?;
     }
     for part in trees::PARTS {
         if is_asked(&words, part) {
