@@ -1,14 +1,22 @@
 // The tree of `benchmarks` in plain Rust, with std alone and the MD5 by hand: 20,000 inserts, 20,000
-// gets, 20 scans and 20 builds over nodes in memory, on one thread.
+// gets, 20 scans and 20 builds over nodes in memory, on one thread. As in `benchmarks`, a key is a
+// string of bytes, and an entry has a key, a version and a digest.
 //
 //     rustc --edition 2021 -O -o /tmp/trees bench/plain/trees.rs && /tmp/trees
 use std::collections::BTreeMap;
 use std::time::Instant;
 type Name = [u8; 16];
-#[derive(Clone, Copy)]
+#[derive(Clone, Copy, PartialEq, Eq)]
+struct Version {
+    count: u64,
+    proposer: u32,
+    seq: u64,
+}
+#[derive(Clone)]
 struct Entry {
-    key: u64,
-    value: u64,
+    key: Vec<u8>,
+    version: Version,
+    digest: Name,
 }
 type Nodes = BTreeMap<Name, Vec<u8>>;
 
@@ -111,10 +119,12 @@ fn encode_segment(level: u8, index: u32, es: &[Entry]) -> Vec<u8> {
     let mut o = header(2, level, index, 256);
     o.extend_from_slice(&(es.len() as u32).to_be_bytes());
     for e in es {
-        o.push(8);
-        o.extend_from_slice(&e.key.to_be_bytes());
-        o.extend_from_slice(&e.value.to_be_bytes());
-        o.extend_from_slice(&[0u8; 28]);
+        o.push(e.key.len() as u8);
+        o.extend_from_slice(&e.key);
+        o.extend_from_slice(&e.version.count.to_be_bytes());
+        o.extend_from_slice(&e.version.proposer.to_be_bytes());
+        o.extend_from_slice(&e.version.seq.to_be_bytes());
+        o.extend_from_slice(&e.digest);
     }
     o
 }
@@ -146,15 +156,24 @@ fn decode_segment(b: &[u8], level: u8, index: u32) -> Option<Vec<Entry>> {
     }
     let count = u32::from_be_bytes([b[6], b[7], b[8], b[9]]);
     let mut at = 10;
-    let mut es = Vec::new();
+    let mut es: Vec<Entry> = Vec::new();
     for _ in 0..count {
-        let k = b.get(at + 1..at + 9)?;
-        let v = b.get(at + 9..at + 17)?;
+        let len = *b.get(at)? as usize;
+        let key = b.get(at + 1..at + 1 + len)?;
+        if len == 0 || len > 64 || es.last().is_some_and(|e| e.key.as_slice() >= key) {
+            return None;
+        }
+        let rest = b.get(at + 1 + len..at + 37 + len)?;
         es.push(Entry {
-            key: u64::from_be_bytes(k.try_into().ok()?),
-            value: u64::from_be_bytes(v.try_into().ok()?),
+            key: key.to_vec(),
+            version: Version {
+                count: u64::from_be_bytes(rest[..8].try_into().ok()?),
+                proposer: u32::from_be_bytes(rest[8..12].try_into().ok()?),
+                seq: u64::from_be_bytes(rest[12..20].try_into().ok()?),
+            },
+            digest: rest[20..].try_into().ok()?,
         });
-        at += 45;
+        at += 37 + len;
     }
     if at != b.len() {
         return None;
@@ -227,14 +246,13 @@ fn find(
     index: u32,
     n: &Name,
     h: &Name,
-    key: u64,
-) -> Option<u64> {
+    key: &[u8],
+) -> Option<Entry> {
     let b = fetch(m, nodes, n)?;
     if height == 0 {
         return decode_segment(&b, level, index)?
-            .iter()
-            .find(|e| e.key == key)
-            .map(|e| e.value);
+            .into_iter()
+            .find(|e| e.key == key);
     }
     let cs = decode_inner(&b, level, index)?;
     let d = digit(h, level as u32);
@@ -270,19 +288,19 @@ fn scan(m: &Md5, nodes: &Nodes, top: &Name) -> Vec<Entry> {
     for (i, n) in &level {
         if let Some(b) = fetch(m, nodes, n) {
             if let Some(es) = decode_segment(&b, 3, *i) {
-                all.extend_from_slice(&es);
+                all.extend(es);
             }
         }
     }
-    all.sort_by_key(|e| e.key);
+    all.sort_by(|a, b| a.key.cmp(&b.key));
     all
 }
 fn build(m: &Md5, es: &[Entry]) -> (Name, Vec<(Name, Vec<u8>)>) {
     let mut buckets: Vec<Vec<Entry>> = (0..4096).map(|_| Vec::new()).collect();
     for e in es {
-        let h = m.digest(&e.key.to_be_bytes());
+        let h = m.digest(&e.key);
         buckets[digit(&h, 0) as usize * 256 + digit(&h, 1) as usize * 16 + digit(&h, 2) as usize]
-            .push(*e);
+            .push(e.clone());
     }
     let mut nodes = Vec::new();
     let mut names = Vec::new();
@@ -320,18 +338,31 @@ const ROUNDS: u32 = 20;
 
 fn main() {
     let m = Md5 { k: table() };
-    let hash = |key: u64| m.digest(&key.to_be_bytes());
+    let entry = |number: u64| Entry {
+        key: number.to_be_bytes().to_vec(),
+        version: Version {
+            count: 1,
+            proposer: 1,
+            seq: number,
+        },
+        digest: [7; 16],
+    };
     let mut nodes = Nodes::new();
     let mut top = store(&m, &mut nodes, encode_inner(0, 0, &[]));
     let start = Instant::now();
     for i in 0..ENTRIES {
-        let entry = Entry { key: i, value: i };
-        top = put_under(&m, &mut nodes, 3, 0, 0, Some(top), &hash(i), entry).unwrap_or(top);
+        let entry = entry(i);
+        let hash = m.digest(&entry.key);
+        top = put_under(&m, &mut nodes, 3, 0, 0, Some(top), &hash, entry).unwrap_or(top);
     }
     println!("inserts {ENTRIES}: {} ms", start.elapsed().as_millis());
     let start = Instant::now();
     let found = (0..ENTRIES)
-        .filter(|&i| find(&m, &nodes, 3, 0, 0, &top, &hash(i), i) == Some(i))
+        .filter(|&i| {
+            let key = i.to_be_bytes();
+            find(&m, &nodes, 3, 0, 0, &top, &m.digest(&key), &key)
+                .is_some_and(|e| e.version.seq == i)
+        })
         .count();
     println!("gets {found}: {} ms", start.elapsed().as_millis());
     let start = Instant::now();
