@@ -4,8 +4,8 @@
 //! (`PeerHolds`). Steps of others keep what it says and what messages say. Each move of a peer but
 //! those of a leader's table meets the guards of its steps: elections and changes of views, syncs
 //! with both of their endings, stops, damage, reverted trees and puts. The definitions stand in
-//! `specs/Peers` and `specs/Rules`, the laws in `specs/Laws`. Proved, and not yet joined to the
-//! program.
+//! `specs/Peers` and `specs/Rules`, the laws in `specs/Laws`. `sync_refinement` and `call_refinement`
+//! apply them to the peers of the program.
 #![tactic(auto)]
 
 mod syncs;
