@@ -6,6 +6,7 @@ use Rattle.call_refinement.proofs.Whole.{schedules_are_legal, schedules_have_cau
 use Rattle.call_refinement.specs.Lines.{lines_of}
 use Rattle.ens_base.specs.Lists.{◌∈◌}
 use Rattle.ens_base.specs.declared.status.Status.{Status}
+use Rattle.ens_hashing.specs.Hashing.{KeepsNothing}
 use Rattle.held_stores.specs.Held.{Account, account, HasHashed, HasNoClash}
 use Rattle.held_stores.specs.Laws.{HasClashed, HasFilled}
 use Rattle.schedule_input.specs.declared.ending.Ending.{Ending}
@@ -44,7 +45,7 @@ sound_legal s of sound apart = (
 
 -- how the run of a sound schedule ends
 module _ (first now : Account) (s : Schedule) (sound : first_unsound s ≡ None) where
-  pub run_done : (text : List ℕ) → schedule.IsSchedule s → IsRunText s text → HasHashed (hashed_by s) first now → (first.kept ≡ Some [] → HasNoClash (hashed_by s)) → EndsSo first now s Status.Done text
+  pub run_done : (text : List ℕ) → schedule.IsSchedule s → IsRunText s text → HasHashed (hashed_by s) first now → (KeepsNothing first.kept → HasNoClash (hashed_by s)) → EndsSo first now s Status.Done text
   run_done text of ran has apart None read = tt
   run_done text of ran has apart (Some bytes) read =
       let all : HasAdmitted (hashed_by s) first now = record { has = has; apart = apart } in
@@ -74,8 +75,9 @@ module _ (first now : Account) (s : Schedule) (sound : first_unsound s ≡ None)
   limit_ending (Err e) line is made past = tt
 
 -- the account of a book that was just made
-pub empty_account : (strings : List (List ℕ)) (clashes fulls : ℕ) → strings ≡ [] → clashes ≡ 0 → fulls ≡ 0 → account (λ (b : Unit {0}). Some strings) (λ b. clashes) (λ b. fulls) tt ≡ nothing_hashed
-empty_account strings clashes fulls none no_clash not_full = rw none (rw no_clash (rw not_full refl))
+pub empty_account : (strings : List (List ℕ)) (limit clashes fulls : ℕ) → strings ≡ [] → limit ≡ 1073741824 → clashes ≡ 0 → fulls ≡ 0
+    → account (λ (b : Unit {0}). Some (record { strings = strings; limit = limit })) (λ b. clashes) (λ b. fulls) tt ≡ nothing_hashed
+empty_account strings limit clashes fulls none limit_is no_clash not_full = rw none (rw limit_is (rw no_clash (rw not_full refl)))
 
 -- what a replay prints over a hasher with this account, it prints over one with an equal account
 pub prints_from : (first same now : Account) (source : Option (List ℕ)) (status : Status) (text : List ℕ) → first ≡ same → PrintsWith first now source status text → PrintsWith same now source status text

@@ -88,7 +88,7 @@ pub text_replayed : (s : Schedule) (status : Status) (text : List ℕ) → IsSch
 text_replayed s Status.Done text is sound h =
     let r = h.1 in
     let same : r.0 ≡ s = read_same s r.0 is r.1 in
-    (subst (λ (t : Schedule). IsRunText t text) same r.4, subst (λ (t : Schedule). HasNoClash (hashed_by t)) same (r.5.apart refl))
+    (subst (λ (t : Schedule). IsRunText t text) same r.4, subst (λ (t : Schedule). HasNoClash (hashed_by t)) same (r.5.apart (1073741824, refl)))
 text_replayed s Status.Schedule text is sound h = absurd (no_error (sym (schedule_of-text s is) ∙ h.1.2))
 text_replayed s Status.Premise text is sound h =
     let r = h.1 in

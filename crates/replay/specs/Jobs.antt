@@ -11,7 +11,7 @@ use Rattle.schedule_text.specs.declared.schedule.Schedule.{Schedule}
 use Rattle.ens_base.specs.Causes.{Rose}
 use Rattle.ens_base.specs.Words.{bytes_word}
 use Rattle.ens_base.specs.declared.status.Status.{Status}
-use Rattle.ens_hashing.specs.Hashing.{IsClash}
+use Rattle.ens_hashing.specs.Hashing.{IsClash, KeepsNothing, empty_book}
 use Rattle.history_scribe.specs.Histories.{AreHistories}
 use Rattle.register_model.specs.declared.history.History.{History}
 use Rattle.schedule_input.specs.Endings.{IsBadLine, IsLineLimit, IsUnsound}
@@ -28,11 +28,11 @@ IsRunText s text = IsWithinMessages (schedule_run s) × IsTextOfRun (schedule_ru
 abbrev pub hashed_by : Schedule → List (List ℕ)
 hashed_by s = (schedule_run s).hashed
 
--- a hasher took all these strings; so if it kept none before, and says what it keeps, no two different
--- ones have the same MD5
+-- a hasher took all these strings; so if it is known that it kept none before, no two different ones
+-- have the same MD5
 pub record HasAdmitted (strings : List (List ℕ)) (first now : Account) : Type 0 where
   pub has : HasHashed strings first now
-  pub apart : first.kept ≡ Some [] → HasNoClash strings
+  pub apart : KeepsNothing first.kept → HasNoClash strings
 
 -- the histories that the notes of the run give are legal, for the calls of the schedule and the answers
 -- printed
@@ -45,7 +45,7 @@ HasCausedAnswers s = HaveCauses s.events (schedule_run s).printed (schedule_run 
 
 -- both, if the hasher kept nothing before: then no two different strings of the run have the same MD5
 abbrev pub IsLegalRun : Account → Schedule → Type 0
-IsLegalRun first s = first.kept ≡ Some [] → HasLegalHistories s × HasCausedAnswers s
+IsLegalRun first s = KeepsNothing first.kept → HasLegalHistories s × HasCausedAnswers s
 
 -- the bytes are a sound schedule, the text is that of its run, the hasher took the strings of the run,
 -- the histories are legal, and the answers have causes
@@ -73,8 +73,8 @@ IsPastLimit bytes = (s : Schedule) × (schedule_of bytes ≡ Ok s) × (first_uns
 abbrev pub IsMessageLimit : Option (List ℕ) → List ℕ → Type 0
 IsMessageLimit source text = IfSome source IsPastLimit × (text ≡ codes "limit messages 500000" ++ 10 ∷ [])
 
--- the bytes are a sound schedule, and the hasher rejected the next string of its run, since its book
--- was full
+-- the bytes are a sound schedule, and the next string of its run did not fit into the book of the
+-- hasher
 abbrev pub IsFilling : Account → Account → List ℕ → Type 0
 IsFilling first now bytes = (s : Schedule) × (schedule_of bytes ≡ Ok s) × (first_unsound s ≡ None) × HasFilled (hashed_by s) first now
 
@@ -94,9 +94,9 @@ PrintsWith first now source Status.ReadFault text = text ≡ codes "read fault" 
 PrintsWith first now source Status.Memory text = text ≡ codes "memory" ++ 10 ∷ []
 PrintsWith first now source status text = ⊥
 
--- the account of a book that has met no string
+-- the account of the book of `replay` before it meets a string
 abbrev pub nothing_hashed : Account
-nothing_hashed = record { kept = Some []; clashes = 0; fulls = 0 }
+nothing_hashed = record { kept = Some (empty_book 1073741824); clashes = 0; fulls = 0 }
 
 -- the text that a replay prints over such a book
 abbrev pub Prints : Option (List ℕ) → Status → List ℕ → Type 0
