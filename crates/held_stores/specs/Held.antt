@@ -1,5 +1,7 @@
 -- The stores of a peer in memory, and the strings that were hashed.
-use Rattle.std.specs.Prelude.{◌≡◌, ◌≤◌, ℕ, List, [], ◌∷◌, ◌++◌, Option, None, Some, Contains}
+use Rattle.std.specs.Prelude.{◌≡◌, ◌≤◌, ℕ, if◌then◌else◌, List, [], ◌∷◌, ◌++◌, Option, None, Some, Contains}
+use Rattle.std.specs.List.{list_any}
+use Rattle.ens_base.specs.Lists.{same_bytes}
 use Rattle.ens_hashing.specs.Hashing.{Book, Takes}
 use Rattle.ens_outside.specs.declared.memory.failing_call.Leaves.{Leaves}
 use Rattle.md5.specs.Md5.{md5}
@@ -34,6 +36,19 @@ and_hashed bytes h = record h { hashed = h.hashed ++ bytes ∷ [] }
 abbrev pub unless_failing : {R : Type 0} → Option Leaves → R → (Leaves → R) → R
 unless_failing None goes fails = goes
 unless_failing (Some leaves) goes fails = fails leaves
+
+-- a list of strings with one more, unless it has that one
+abbrev pub added : List (List ℕ) → List ℕ → List (List ℕ)
+added kept x = if list_any (same_bytes x) kept then kept else kept ++ x ∷ []
+
+-- a list of strings with these, each added once
+abbrev pub kept_after : List (List ℕ) → List (List ℕ) → List (List ℕ)
+kept_after kept [] = kept
+kept_after kept (x ∷ xs) = kept_after (added kept x) xs
+
+-- these strings, each once, in the order in which they first come
+abbrev pub once : List (List ℕ) → List (List ℕ)
+once strings = kept_after [] strings
 
 -- a hasher took these strings, one after another: the book that it told, before and after
 abbrev pub HasTaken : List (List ℕ) → Option Book → Option Book → Type 0

@@ -1,7 +1,7 @@
 -- The only run of a plan.
-use Rattle.std.specs.Prelude.{◌≡◌, ◌⊎◌, ℕ, List, ◌∷◌, ◌++◌, Option, Some}
+use Rattle.std.specs.Prelude.{◌≡◌, ◌⊎◌, ◌<◌, ◌≤◌, ℕ, List, ◌∷◌, ◌++◌, Option, Some}
 use Rattle.ens_base.specs.Causes.{Rose}
-use Rattle.ens_hashing.specs.Hashing.{Book, ExceedsTold, IsClash, IsKept, AreClashFree, empty_book}
+use Rattle.ens_hashing.specs.Hashing.{Book, ExceedsTold, IsClash, IsKept, AreClashFree, empty_book, total}
 use Rattle.register_model.specs.declared.note.Note.{Note}
 use Rattle.step_plans.specs.Calls.{Call, AnswerOf}
 use Rattle.step_plans.specs.Plans.{Plan, Ending, Finished, Stopped, Runs}
@@ -11,7 +11,7 @@ use Rattle.peer_core.specs.Stores.{stores_do, stores_refuse}
 use Rattle.world_stores.specs.Facts.{FactDoes, FactRefuses, kept_of}
 use Rattle.world_stores.specs.Nodes.{NodesDo, NodesRefuse, top_of}
 use Rattle.world_stores.specs.Objects.{ObjectsDo, ObjectsRefuse}
-use Rattle.held_stores.specs.Held.{HeldStores, Held, Account, account, HasTaken, HasHashed, HasNoClash}
+use Rattle.held_stores.specs.Held.{HeldStores, Held, Account, account, HasTaken, HasHashed, HasNoClash, once}
 use Rattle.held_stores.specs.Runs.{run}
 
 -- what stores in memory and a hasher may answer to a call
@@ -84,3 +84,14 @@ AreDetermined X H = (strings : H → Option Book) (clashes fulls : H → ℕ) (f
 -- if a hasher that kept nothing took these strings, none of them clashes with another
 abbrev pub AreApart : Type 0
 AreApart = (strings : List (List ℕ)) (limit : ℕ) (kept : Option Book) → HasTaken strings (Some (empty_book limit)) kept → AreClashFree kept → HasNoClash strings
+
+-- if a hasher that kept nothing took these strings, its book has each of them once, and all of them
+-- fit into it
+abbrev pub AreKeptOnce : Type 0
+AreKeptOnce = (strings : List (List ℕ)) (limit : ℕ) (kept : Option Book) → HasTaken strings (Some (empty_book limit)) kept
+    → (kept ≡ Some (record { strings = once strings; limit = limit })) × (total (once strings) ≤ limit)
+
+-- if one of these strings did not fit into the book of such a hasher, they have more bytes than its
+-- limit, each counted once
+abbrev pub AreBeyond : Type 0
+AreBeyond = (strings : List (List ℕ)) (limit : ℕ) (first now : Account) → first.kept ≡ Some (empty_book limit) → HasFilled strings first now → limit < total (once strings)
