@@ -8,18 +8,18 @@ use Rattle.std.proofs.lemmas.Slice.Eq.{bytes_eq-Decides}
 use Rattle.md5.specs.Md5.{md5}
 use Rattle.ens_base.specs.Lists.{same_bytes}
 use Rattle.ens_hashing.proofs.Lookups.{total-push}
-use Rattle.ens_hashing.specs.Hashing.{Book, Exceeds, ExceedsTold, Takes, empty_book, total, with_string}
+use Rattle.ens_hashing.specs.Hashing.{Book, Exceeds, ExceedsTold, Takes, empty_book, total}
 use Rattle.held_stores.specs.Held.{Account, HasTaken, added, kept_after, once}
 use Rattle.held_stores.specs.Laws.{HasFilled, HasRejected}
 
 -- a string that is new to the kept ones is none of them
 none_is : (x : List ℕ) (kept : List (List ℕ)) → AllByRecursion (λ s. md5 s ≢ md5 x) kept → list_any (same_bytes x) kept ≡ false
 none_is x [] new = refl
-none_is x (y ∷ ys) new = by (same_bytes x y) (bytes_eq-Decides x y)
+none_is x (y ∷ ys) new = by (none_is x ys new.1) (same_bytes x y) (bytes_eq-Decides x y)
   where
-    by : (eq : Bool) → Decides eq (x ≡ y) → (eq || list_any (same_bytes x) ys) ≡ false
-    by true d = absurd (new.0 (sym (ap md5 (d.0 refl))))
-    by false d = none_is x ys new.1
+    by : list_any (same_bytes x) ys ≡ false → (eq : Bool) → Decides eq (x ≡ y) → (eq || list_any (same_bytes x) ys) ≡ false
+    by none true d = absurd (new.0 (sym (ap md5 (d.0 refl))))
+    by none false d = none
 
 -- a string that is among the kept ones is found
 one_is : (x : List ℕ) (kept : List (List ℕ)) → Contains kept x → list_any (same_bytes x) kept ≡ true
@@ -36,18 +36,22 @@ module _ (limit : ℕ) where
   abbrev Keeps : List (List ℕ) → Option Book → Type 0
   Keeps strings now = (now ≡ Some (record { strings = strings; limit = limit })) × (total strings ≤ limit)
 
+  -- what the book keeps of these strings, whatever it kept before
+  abbrev Further : List (List ℕ) → Option Book → Type 0
+  Further xs now = (kept : List (List ℕ)) → HasTaken xs (Some (record { strings = kept; limit = limit })) now → total kept ≤ limit → Keeps (kept_after kept xs) now
+
   pub keeps : (xs kept : List (List ℕ)) (now : Option Book) → HasTaken xs (Some (record { strings = kept; limit = limit })) now → total kept ≤ limit → Keeps (kept_after kept xs) now
   keeps [] kept now taken fits = (taken, fits)
-  keeps (x ∷ xs) kept now taken fits = by taken.0 taken.1 taken.2
+  keeps (x ∷ xs) kept now taken fits = by (λ ys. keeps xs ys now) taken.0 taken.1 taken.2
     where
-      further : (ys : List (List ℕ)) (next : Book) → next ≡ record { strings = ys; limit = limit } → added kept x ≡ ys → total ys ≤ limit → HasTaken xs (Some next) now → Keeps (kept_after (added kept x) xs) now
-      further ys next is same fit rest =
-          subst (λ (k : List (List ℕ)). Keeps (kept_after k xs) now) (sym same) (keeps xs ys now (subst (λ (b : Book). HasTaken xs (Some b) now) is rest) fit)
+      further : Further xs now → (ys : List (List ℕ)) (next : Book) → next ≡ record { strings = ys; limit = limit } → added kept x ≡ ys → total ys ≤ limit → HasTaken xs (Some next) now → Keeps (kept_after (added kept x) xs) now
+      further on ys next is same fit rest =
+          subst (λ (k : List (List ℕ)). Keeps (kept_after k xs) now) (sym same) (on ys (subst (λ (b : Book). HasTaken xs (Some b) now) is rest) fit)
 
-      by : (next : Option Book) → Takes x (Some (record { strings = kept; limit = limit })) next → HasTaken xs next now → Keeps (kept_after (added kept x) xs) now
-      by None takes rest = absurd takes
-      by (Some next) (inl old) rest = further kept next old.1 (added_old x kept (one_is x kept old.0)) fits rest
-      by (Some next) (inr new) rest = further (kept ++ x ∷ []) next new.1
+      by : Further xs now → (next : Option Book) → Takes x (Some (record { strings = kept; limit = limit })) next → HasTaken xs next now → Keeps (kept_after (added kept x) xs) now
+      by on None takes rest = absurd takes
+      by on (Some next) (inl old) rest = further on kept next old.1 (added_old x kept (one_is x kept old.0)) fits rest
+      by on (Some next) (inr new) rest = further on (kept ++ x ∷ []) next new.1
           (added_new x kept (none_is x kept (recursion_from_All (λ s. md5 s ≢ md5 x) kept new.0.0)))
           (rw (total-push kept x) new.0.1) rest
 
