@@ -7,7 +7,7 @@ use Rattle.std.proofs.lemmas.Bool.{false≢true}
 use Rattle.std.proofs.lemmas.Slice.Eq.{bytes_eq-Decides}
 use Rattle.md5.specs.Md5.{md5}
 use Rattle.ens_base.specs.Lists.{◌∈◌, AreDistinct, same_bytes}
-use Rattle.ens_hashing.specs.Hashing.{IsClash, IsNew, IsClashFree, AreClashFree, Takes, Admits}
+use Rattle.ens_hashing.specs.Hashing.{Book, IsClash, IsNew, IsClashFree, AreClashFree, Takes, Admits}
 use Rattle.ens_hashing.specs.declared.error.HashError.{HashError}
 
 in_push : (xs : List (List ℕ)) (y x : List ℕ) → x ∈ (xs ++ y ∷ []) → (x ∈ xs) ⊎ (x ≡ y)
@@ -49,14 +49,14 @@ free_push kept bytes free new = record {
 pub free_empty : IsClashFree []
 free_empty = record { distinct = tt; apart = λ first second a b. absurd (omega (arith, a.1)) }
 
-pub free_after : (bytes : List ℕ) (old new : Option (List (List ℕ))) → Takes bytes old new → AreClashFree old → AreClashFree new
+pub free_after : (bytes : List ℕ) (old new : Option Book) → Takes bytes old new → AreClashFree old → AreClashFree new
 free_after bytes None None took free = tt
 free_after bytes None (Some new) took free = absurd cc
 free_after bytes (Some old) None took free = absurd took
-free_after bytes (Some old) (Some new) (inl kept) free = subst IsClashFree (sym kept.1) free
-free_after bytes (Some old) (Some new) (inr added) free = subst IsClashFree (sym added.1) (free_push old bytes free added.0)
+free_after bytes (Some old) (Some new) (inl kept) free = subst (λ (b : Book). IsClashFree b.strings) (sym kept.1) free
+free_after bytes (Some old) (Some new) (inr added) free = subst (λ (b : Book). IsClashFree b.strings) (sym added.1) (free_push old.strings bytes free added.0.0)
 
-pub free_admitted : {T : Type 0} (bytes : List ℕ) (old new : Option (List (List ℕ))) (a b c d : ℕ) (result : Result T HashError) → Admits bytes old new a b c d result → AreClashFree old → AreClashFree new
+pub free_admitted : {T : Type 0} (bytes : List ℕ) (old new : Option Book) (a b c d : ℕ) (result : Result T HashError) → Admits bytes old new a b c d result → AreClashFree old → AreClashFree new
 free_admitted bytes old new a b c d (Ok x) admits free = free_after bytes old new admits.0 free
 free_admitted bytes old new a b c d (Err e) admits free = subst AreClashFree (sym admits.0) free
 

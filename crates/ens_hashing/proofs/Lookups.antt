@@ -8,7 +8,8 @@ use Rattle.std.proofs.lemmas.List.{map_push}
 use Rattle.std.proofs.lemmas.List.Sums.{sum_by-append}
 use Rattle.std.proofs.lemmas.Grind.{common_steps}
 use Rattle.md5.specs.Md5.{md5}
-use Rattle.ens_hashing.specs.Kept.{Entries, strings_of, IsKeyed, total}
+use Rattle.ens_hashing.specs.Hashing.{total}
+use Rattle.ens_hashing.specs.Kept.{Entries, strings_of, IsKeyed}
 
 abbrev Keyed : List ℕ × Vec ℕ Global → Type 0
 Keyed e = e.0 ≡ md5 e.1.items

@@ -1,5 +1,5 @@
 -- The answers of a hasher to a string, and the strings that it keeps.
-use Rattle.std.specs.Prelude.{◌≡◌, ◌≢◌, ◌≤◌, ℕ, List, [], ◌∷◌, ◌++◌, Option, None, Some, Result, Ok, Err, All, Contains, ◌⊎◌}
+use Rattle.std.specs.Prelude.{◌≡◌, ◌≢◌, ◌+◌, ◌<◌, ◌≤◌, ℕ, List, [], ◌∷◌, ◌++◌, length, sum_by, Option, None, Some, Result, Ok, Err, All, Contains, ◌⊎◌}
 use Rattle.md5.specs.Md5.{md5}
 use Rattle.ens_base.specs.Causes.{Rose}
 use Rattle.ens_base.specs.Lists.{AreDistinct}
@@ -20,35 +20,70 @@ pub record IsClashFree (kept : List (List ℕ)) : Type 0 where
   pub distinct : AreDistinct kept
   pub apart : (first second : List ℕ) → Contains kept first → Contains kept second → ¬ IsClash first second
 
--- the same of the kept strings, if known
-abbrev pub AreClashFree : Option (List (List ℕ)) → Type 0
+-- the different strings that a hasher keeps, the oldest first, and the number of bytes that they may
+-- have in all
+pub record Book : Type 0 where
+  pub strings : List (List ℕ)
+  pub limit : ℕ
+
+-- the book of a hasher that keeps nothing yet
+abbrev pub empty_book : ℕ → Book
+empty_book limit = record { strings = []; limit = limit }
+
+-- the same book with this string as the newest
+abbrev pub with_string : List ℕ → Book → Book
+with_string bytes book = record { strings = book.strings ++ bytes ∷ []; limit = book.limit }
+
+-- the number of bytes of the strings in all
+abbrev pub total : List (List ℕ) → ℕ
+total xs = sum_by (λ s. length s) xs
+
+-- the string is new to the book, and fits into it
+abbrev pub Fits : List ℕ → Book → Type 0
+Fits bytes book = IsNew book.strings bytes × (total book.strings + length bytes ≤ book.limit)
+
+-- the string is new to the book, and does not fit into it
+abbrev pub Exceeds : List ℕ → Book → Type 0
+Exceeds bytes book = IsNew book.strings bytes × (book.limit < total book.strings + length bytes)
+
+-- the same of a book, if known
+abbrev pub ExceedsTold : List ℕ → Option Book → Type 0
+ExceedsTold bytes None = Unit {0}
+ExceedsTold bytes (Some book) = Exceeds bytes book
+
+-- it is known that nothing is kept
+abbrev pub KeepsNothing : Option Book → Type 0
+KeepsNothing kept = (limit : ℕ) × (kept ≡ Some (empty_book limit))
+
+-- the kept strings, if known, are distinct and free of clashes
+abbrev pub AreClashFree : Option Book → Type 0
 AreClashFree None = Unit {0}
-AreClashFree (Some kept) = IsClashFree kept
+AreClashFree (Some book) = IsClashFree book.strings
 
--- the string was kept already and nothing changed, or it is new and now kept as the newest; unknown
--- strings stay unknown
-abbrev pub Takes : List ℕ → Option (List (List ℕ)) → Option (List (List ℕ)) → Type 0
-Takes bytes None kept_now = kept_now ≡ None
-Takes bytes (Some kept) None = ⊥
-Takes bytes (Some kept) (Some kept_now) = (Contains kept bytes × (kept_now ≡ kept)) ⊎ (IsNew kept bytes × (kept_now ≡ kept ++ bytes ∷ []))
+-- the string was kept already and nothing changed, or it fits and is now kept as the newest; an
+-- unknown book stays unknown
+abbrev pub Takes : List ℕ → Option Book → Option Book → Type 0
+Takes bytes None now = now ≡ None
+Takes bytes (Some book) None = ⊥
+Takes bytes (Some book) (Some now) = (Contains book.strings bytes × (now ≡ book)) ⊎ (Fits bytes book × (now ≡ with_string bytes book))
 
--- the kept strings are unchanged, and known exactly if they were
-abbrev pub Stays : Option (List (List ℕ)) → Option (List (List ℕ)) → Type 0
+-- the book is unchanged, and known exactly if it was
+abbrev pub Stays : Option Book → Option Book → Type 0
 Stays kept kept_now = kept_now ≡ kept
 
 -- the string is kept, if that is known
-abbrev pub IsKept : Option (List (List ℕ)) → List ℕ → Type 0
+abbrev pub IsKept : Option Book → List ℕ → Type 0
 IsKept None s = Unit {0}
-IsKept (Some kept) s = Contains kept s
+IsKept (Some book) s = Contains book.strings s
 
--- why the string was rejected: a clash and a full book each raise their own count, and no count
--- falls
-abbrev pub Refuses : List ℕ → Option (List (List ℕ)) → ℕ → ℕ → ℕ → ℕ → HashError → Type 0
+-- why the string was rejected: it clashes with a kept one, or it does not fit, and either raises a
+-- count of its own; no count falls
+abbrev pub Refuses : List ℕ → Option Book → ℕ → ℕ → ℕ → ℕ → HashError → Type 0
 Refuses bytes kept clashes clashes_now fulls fulls_now (Clash first second) = IsClash first.items second.items × IsKept kept first.items × (second.items ≡ bytes) × Rose clashes clashes_now × (fulls ≤ fulls_now)
-Refuses bytes kept clashes clashes_now fulls fulls_now (BookFull n) = Rose fulls fulls_now × (clashes ≤ clashes_now)
+Refuses bytes kept clashes clashes_now fulls fulls_now (BookFull n) = Rose fulls fulls_now × (clashes ≤ clashes_now) × ExceedsTold bytes kept
 Refuses bytes kept clashes clashes_now fulls fulls_now Memory = (clashes ≤ clashes_now) × (fulls ≤ fulls_now)
 
--- the string was admitted, or it was rejected and the kept strings are unchanged
-abbrev pub Admits : {T : Type 0} → List ℕ → Option (List (List ℕ)) → Option (List (List ℕ)) → ℕ → ℕ → ℕ → ℕ → Result T HashError → Type 0
+-- the string was admitted, or it was rejected and the book is unchanged
+abbrev pub Admits : {T : Type 0} → List ℕ → Option Book → Option Book → ℕ → ℕ → ℕ → ℕ → Result T HashError → Type 0
 Admits bytes kept kept_now clashes clashes_now fulls fulls_now (Ok x) = Takes bytes kept kept_now × (clashes ≤ clashes_now) × (fulls ≤ fulls_now)
 Admits bytes kept kept_now clashes clashes_now fulls fulls_now (Err e) = Stays kept kept_now × Refuses bytes kept clashes clashes_now fulls fulls_now e

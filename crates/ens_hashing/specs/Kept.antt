@@ -1,8 +1,8 @@
 -- The strings of a book, and the exact answers of a book.
-use Rattle.std.specs.Prelude.{◌≡◌, ◌⊎◌, ◌+◌, ◌<◌, ◌≤◌, ℕ, List, map, length, sum_by, All, Vec, Contains, Result, Ok, Err}
+use Rattle.std.specs.Prelude.{◌≡◌, ◌⊎◌, ℕ, List, map, All, Vec, Contains, Result, Ok, Err}
 use Rattle.std.specs.declared.alloc.Global.{Global}
 use Rattle.md5.specs.Md5.{md5}
-use Rattle.ens_hashing.specs.Hashing.{IsClash, IsNew}
+use Rattle.ens_hashing.specs.Hashing.{Book, Exceeds, Fits, IsClash, total}
 use Rattle.ens_hashing.specs.declared.error.HashError.{HashError}
 use Rattle.ens_hashing.specs.declared.error.HashError.TheVariants.{Clash, BookFull, Memory}
 use Rattle.ens_base.specs.Causes.{counted}
@@ -18,17 +18,17 @@ strings_of es = map (λ e. e.1.items) es
 abbrev pub IsKeyed : Entries → Type 0
 IsKeyed es = All (λ e. e.0 ≡ md5 e.1.items) es
 
--- the number of bytes kept
-abbrev pub total : List (List ℕ) → ℕ
-total xs = sum_by (λ s. length s) xs
+-- what a book tells of its entries and its limit
+abbrev pub book_of : Entries → ℕ → Book
+book_of es limit = record { strings = strings_of es; limit = limit }
 
--- the answer of a book with this limit: a kept string is admitted, a string that clashes with a
--- kept one is rejected, and a new string is admitted exactly if it does not exceed the limit
-abbrev pub BookAnswers : {T : Type 0} → ℕ → List (List ℕ) → List ℕ → Result T HashError → Type 0
-BookAnswers limit kept bytes (Ok x) = Contains kept bytes ⊎ (IsNew kept bytes × (total kept + length bytes ≤ limit))
-BookAnswers limit kept bytes (Err (Clash first second)) = Contains kept first.items × IsClash first.items bytes × (second.items ≡ bytes)
-BookAnswers limit kept bytes (Err (BookFull n)) = IsNew kept bytes × (n ≡ total kept) × (limit < total kept + length bytes)
-BookAnswers limit kept bytes (Err Memory) = Unit {0}
+-- the answer of a book: a kept string is admitted, a string that clashes with a kept one is
+-- rejected, and a new string is admitted exactly if it fits
+abbrev pub BookAnswers : {T : Type 0} → Book → List ℕ → Result T HashError → Type 0
+BookAnswers book bytes (Ok x) = Contains book.strings bytes ⊎ Fits bytes book
+BookAnswers book bytes (Err (Clash first second)) = Contains book.strings first.items × IsClash first.items bytes × (second.items ≡ bytes)
+BookAnswers book bytes (Err (BookFull n)) = Exceeds bytes book × (n ≡ total book.strings)
+BookAnswers book bytes (Err Memory) = Unit {0}
 
 -- each rejection is counted once, under its own cause
 abbrev pub Counts : {T : Type 0} → ℕ → ℕ → ℕ → ℕ → Result T HashError → Type 0

@@ -1,7 +1,7 @@
 ghost use Rattle.std.specs.Prelude.{◌≡◌, ◌≢◌, ◌+◌, ◌<◌, ◌≤◌, ◌++◌, ◌∷◌, [], length, Some, All, Contains, IfSome, IfNone, IfOk, IfErr, OnOk, OnErr, Option};
 ghost use Rattle.md5.specs.Md5.{md5};
-ghost use Rattle.ens_hashing.specs.Kept.{strings_of, IsKeyed, BookAnswers, Counts, total};
-ghost use Rattle.ens_hashing.specs.Hashing.{Admits, IsNew, IsClashFree};
+ghost use Rattle.ens_hashing.specs.Kept.{strings_of, book_of, IsKeyed, BookAnswers, Counts};
+ghost use Rattle.ens_hashing.specs.Hashing.{Admits, IsNew, IsClashFree, total};
 ghost use Rattle.ens_hashing.specs.Props.{IsClashFree-prop};
 
 use crate::digest::digest_of;
@@ -71,7 +71,7 @@ impl HashBook {
 }
 
 impl Hasher16 for HashBook {
-    ghost kept = { λ b. Some (strings_of b.kept.entries) };
+    ghost kept = { λ b. Some (book_of b.kept.entries b.limit) };
 
     ghost clashes = { λ b. b.clashes };
 
@@ -81,8 +81,8 @@ impl Hasher16 for HashBook {
 
     fn digest(&mut self, alloc: Global, bytes: &[u8]) -> Result<Digest, HashError>
         ensures digest { IfOk result (λ d. d ≡ md5 bytes.now) }
-        ensures admits { Admits bytes.now (Some (strings_of self.old.kept.entries)) (Some (strings_of self.new.kept.entries)) self.old.clashes self.new.clashes self.old.fulls self.new.fulls result }
-        ensures exactly { BookAnswers self.old.limit (strings_of self.old.kept.entries) bytes.now result }
+        ensures admits { Admits bytes.now (Some (book_of self.old.kept.entries self.old.limit)) (Some (book_of self.new.kept.entries self.new.limit)) self.old.clashes self.new.clashes self.old.fulls self.new.fulls result }
+        ensures exactly { BookAnswers (book_of self.old.kept.entries self.old.limit) bytes.now result }
         ensures counts { Counts self.old.clashes self.new.clashes self.old.fulls self.new.fulls result }
         ensures same_limit { self.new.limit ≡ self.old.limit }
     {
@@ -93,8 +93,8 @@ impl Hasher16 for HashBook {
 
     fn admit(&mut self, alloc: Global, bytes: &[u8], digest: &Digest) -> Result<(), HashError>
         requires { digest.now ≡ md5 bytes.now }
-        ensures admits { Admits bytes.now (Some (strings_of self.old.kept.entries)) (Some (strings_of self.new.kept.entries)) self.old.clashes self.new.clashes self.old.fulls self.new.fulls result }
-        ensures exactly { BookAnswers self.old.limit (strings_of self.old.kept.entries) bytes.now result }
+        ensures admits { Admits bytes.now (Some (book_of self.old.kept.entries self.old.limit)) (Some (book_of self.new.kept.entries self.new.limit)) self.old.clashes self.new.clashes self.old.fulls self.new.fulls result }
+        ensures exactly { BookAnswers (book_of self.old.kept.entries self.old.limit) bytes.now result }
         ensures counts { Counts self.old.clashes self.new.clashes self.old.fulls self.new.fulls result }
         ensures same_limit { self.new.limit ≡ self.old.limit }
     {

@@ -1,6 +1,6 @@
-ghost use Rattle.std.specs.Prelude.{◌≡◌, ℕ, List, Option, IfOk};
+ghost use Rattle.std.specs.Prelude.{◌≡◌, ℕ, Option, IfOk};
 ghost use Rattle.md5.specs.Md5.{md5};
-ghost use Rattle.ens_hashing.specs.Hashing.{Admits, AreClashFree};
+ghost use Rattle.ens_hashing.specs.Hashing.{Book, Admits, AreClashFree};
 
 use crate::error::HashError;
 use ens_base::Digest;
@@ -8,13 +8,14 @@ use std::alloc::Global;
 
 /// Computes digests, and may keep the strings that it was given.
 pub trait Hasher16 {
-    /// The different strings admitted, the oldest first; `None` if unknown.
-    ghost kept: { Self → Option (List (List ℕ)) };
+    /// The different strings admitted, the oldest first, and the number of bytes that they may have
+    /// in all; `None` if unknown.
+    ghost kept: { Self → Option Book };
 
     /// The number of clashes found; the count stops at the greatest u64.
     ghost clashes: { Self → ℕ };
 
-    /// The number of strings rejected because the book was full; the count stops at the greatest
+    /// The number of strings rejected because they did not fit; the count stops at the greatest
     /// u64.
     ghost fulls: { Self → ℕ };
 

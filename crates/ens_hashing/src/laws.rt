@@ -1,13 +1,13 @@
 ghost use Rattle.std.specs.Prelude.{◌≡◌, ℕ, List, [], Option, Some, None, Contains, Result};
 ghost use Rattle.md5.specs.Md5.{md5};
-ghost use Rattle.ens_hashing.specs.Hashing.{Takes, Admits, IsClashFree, AreClashFree};
+ghost use Rattle.ens_hashing.specs.Hashing.{Book, Takes, Admits, IsClashFree, AreClashFree};
 ghost use Rattle.ens_hashing.specs.declared.error.HashError.{HashError};
 
 /// Strings that are known stay distinct and free of clashes, whatever is admitted or rejected.
 pub fn kept_strings_stay_clash_free()
     ensures start { IsClashFree [] }
-    ensures takes { (bytes : List ℕ) (old new : Option (List (List ℕ))) → Takes bytes old new → AreClashFree old → AreClashFree new }
-    ensures admits { (bytes : List ℕ) (old new : Option (List (List ℕ))) (clashes clashes_now fulls fulls_now : ℕ) (result : Result (Unit {0}) HashError) → Admits bytes old new clashes clashes_now fulls fulls_now result → AreClashFree old → AreClashFree new }
+    ensures takes { (bytes : List ℕ) (old new : Option Book) → Takes bytes old new → AreClashFree old → AreClashFree new }
+    ensures admits { (bytes : List ℕ) (old new : Option Book) (clashes clashes_now fulls fulls_now : ℕ) (result : Result (Unit {0}) HashError) → Admits bytes old new clashes clashes_now fulls fulls_now result → AreClashFree old → AreClashFree new }
 {}
 
 /// Among strings that are free of clashes, equal digests mean equal strings.

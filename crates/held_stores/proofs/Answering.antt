@@ -1,6 +1,7 @@
 -- Stores in memory answer each call, or refuse it, in one way.
 use Rattle.std.specs.Option.{IsSomeAnd}
 use Rattle.std.proofs.Common.{◌≡◌, ◌⊎◌, ℕ, List, [], ◌∷◌, ◌++◌, Option, None, Some, Result, Ok, Err, refl, inl, inr, ap, subst, sym, ◌∙◌, arith}
+use Rattle.ens_hashing.specs.Hashing.{Book}
 use Rattle.ens_outside.specs.Failures.{left_by}
 use Rattle.ens_outside.specs.Maps.{value_at, with_value}
 use Rattle.ens_outside.specs.declared.memory.failing_call.Leaves.{Leaves}
@@ -60,7 +61,7 @@ looked_end : {A : Type 0} (w : Walked A) → looked (end_was (end_of w)) ≡ Ok 
 looked_end (Reached x) = refl
 looked_end (Broken at) = refl
 
-module _ {H : Type 0} (strings : H → Option (List (List ℕ))) (c d : H → ℕ) (first : Account) where
+module _ {H : Type 0} (strings : H → Option Book) (c d : H → ℕ) (first : Account) where
   -- what is known of a hasher
   abbrev known : H → Account
   known h = account strings c d h
@@ -203,7 +204,7 @@ module _ {H : Type 0} (strings : H → Option (List (List ℕ))) (c d : H → �
       inl (rw off.0.3 rejected, off.0.1, rw off.0.0 off.0.2, rose_since first.clashes (c s.1) (c t.1) taken.clashes off.0.4)
   hash_refused bytes s t hashed (errors.BookFull n) taken off =
       let rejected = rejected_at hashed (hashed ++ bytes ∷ []) first bytes (known t.1) (starts_here (hashed ++ bytes ∷ [])) (rw off.0.0 taken.taken) in
-      inl (bytes, rejected, rose_since first.fulls (d s.1) (d t.1) taken.fulls off.0.1)
+      inl (bytes, rejected, rose_since first.fulls (d s.1) (d t.1) taken.fulls off.0.1, rw off.0.0 off.0.3)
 
   save_refused : (fact : _) (s t : HeldStores × H) (hashed : List (List ℕ)) (e : PeerError) → HasHashed hashed first (known s.1) → HeldRefuse strings c d s (Save fact) e t → IsRefused (Save fact) s hashed e t
   save_refused fact s t hashed e taken off = inr (

@@ -1,5 +1,6 @@
 -- A plan over stores in memory has one run.
 use Rattle.std.proofs.Common.{◌≡◌, ◌⊎◌, ℕ, List, [], ◌∷◌, ◌++◌, Option, Result, Ok, Err, refl, sym, subst, inl, inr}
+use Rattle.ens_hashing.specs.Hashing.{Book}
 use Rattle.register_model.specs.declared.note.Note.{Note}
 use Rattle.step_plans.specs.Calls.{Call, AnswerOf}
 use Rattle.step_plans.specs.Plans.{Plan, Done, Say, Ask, Ending, Stopped, Runs}
@@ -33,7 +34,7 @@ asked_grows call next h ns = by_answer (answered call h).result where
   by_answer (Err error) = starts_here (answered call h).held.hashed
 
 module _ {X H : Type 0} where
-  module _ (strings : H → Option (List (List ℕ))) (c d : H → ℕ) (first : Account) where
+  module _ (strings : H → Option Book) (c d : H → ℕ) (first : Account) where
     -- the run of the plan, unless it was cut off
     abbrev Ran : Plan X → HeldStores × H → List (List ℕ) → List Note → Ending X → HeldStores × H → List Note → Type 0
     Ran p s hashed ns e t ms = IsCutOff (strings_by p s.0 hashed ns) first (account strings c d t.1) e ⊎ IsRun (account strings c d) first p s hashed ns e t ms
@@ -83,7 +84,7 @@ module _ {X H : Type 0} where
     ]
 
 -- each run over stores in memory is that of the function, unless it was cut off
-pub determined : {X H : Type 0} (strings : H → Option (List (List ℕ))) (clashes fulls : H → ℕ) (first : Account) (p : Plan X) (s t : HeldStores × H) (hashed : List (List ℕ)) (ns ms : List Note) (e : Ending X)
+pub determined : {X H : Type 0} (strings : H → Option Book) (clashes fulls : H → ℕ) (first : Account) (p : Plan X) (s t : HeldStores × H) (hashed : List (List ℕ)) (ns ms : List Note) (e : Ending X)
     → HasHashed hashed first (account strings clashes fulls s.1) → Runs (HeldDo strings clashes fulls) (HeldRefuse strings clashes fulls) p s ns e t ms
     → IsCutOff (strings_by p s.0 hashed ns) first (account strings clashes fulls t.1) e ⊎ IsRun (account strings clashes fulls) first p s hashed ns e t ms
 determined strings clashes fulls first p s t hashed ns ms e taken runs = ran strings clashes fulls first p s t hashed ns ms e taken runs

@@ -1,4 +1,5 @@
 pub mod Taken
+pub mod Books
 pub mod Walking
 pub mod Answering
 pub mod Determined

@@ -4,7 +4,7 @@ use Rattle.std.proofs.lemmas.List.{append-nil, append_assoc}
 use Rattle.std.proofs.lemmas.List.Elements.{Contains-append_left, Contains-append_cases, Contains-push, Contains-push_cases}
 use Rattle.ens_base.specs.Causes.{Rose}
 use Rattle.ens_hashing.proofs.ClashFree.{same_string}
-use Rattle.ens_hashing.specs.Hashing.{Takes, AreClashFree}
+use Rattle.ens_hashing.specs.Hashing.{Book, Takes, AreClashFree, empty_book}
 use Rattle.step_plans.specs.declared.error.PeerError.{PeerError}
 use Rattle.step_plans.specs.declared.error.PeerError.TheVariants as errors
 use Rattle.held_stores.specs.Held.{Account, HasTaken, HasHashed, HasNoClash, StartsWith}
@@ -44,7 +44,7 @@ rejected_further xs ys first bytes now starts has = record {
 pub unplanned_further : (xs ys : List (List ℕ)) (first now : Account) (e : PeerError) → StartsWith xs ys → IsUnplanned xs first now e → IsUnplanned ys first now e
 unplanned_further xs ys first now errors.Memory starts cut = tt
 unplanned_further xs ys first now (errors.Clash kept new) starts cut = (rejected_further xs ys first new now starts cut.0, cut.1, cut.2, cut.3)
-unplanned_further xs ys first now (errors.BookFull kept) starts cut = (cut.0, rejected_further xs ys first cut.0 now starts cut.1, cut.2)
+unplanned_further xs ys first now (errors.BookFull kept) starts cut = (cut.0, rejected_further xs ys first cut.0 now starts cut.1, cut.2, cut.3)
 unplanned_further xs ys first now errors.StoreFault starts cut = absurd cut
 unplanned_further xs ys first now errors.Halted starts cut = absurd cut
 unplanned_further xs ys first now (errors.BadFact why) starts cut = absurd cut
@@ -56,12 +56,12 @@ rose_since a b c before rose = omega (arith, before, rose)
 -- ## Strings were taken
 
 -- one more string was taken
-pub taken_more : (xs : List (List ℕ)) (x : List ℕ) (first kept now : Option (List (List ℕ))) → HasTaken xs first kept → Takes x kept now → HasTaken (xs ++ x ∷ []) first now
+pub taken_more : (xs : List (List ℕ)) (x : List ℕ) (first kept now : Option Book) → HasTaken xs first kept → Takes x kept now → HasTaken (xs ++ x ∷ []) first now
 taken_more [] x first kept now taken takes = (now, subst (λ k. Takes x k now) taken takes, refl)
 taken_more (y ∷ xs) x first kept now taken takes = (taken.0, taken.1, taken_more xs x taken.0 kept now taken.2 takes)
 
 -- some more strings were taken
-pub taken_all : (xs ys : List (List ℕ)) (first kept now : Option (List (List ℕ))) → HasTaken xs first kept → HasTaken ys kept now → HasTaken (xs ++ ys) first now
+pub taken_all : (xs ys : List (List ℕ)) (first kept now : Option Book) → HasTaken xs first kept → HasTaken ys kept now → HasTaken (xs ++ ys) first now
 taken_all [] ys first kept now taken later = subst (λ k. HasTaken ys k now) taken later
 taken_all (x ∷ xs) ys first kept now taken later = (taken.0, taken.1, taken_all xs ys taken.0 kept now taken.2 later)
 
@@ -83,25 +83,25 @@ hashed_all xs ys first kept now has later = record {
 }
 
 -- what a hasher keeps is known exactly if it was
-told_still : (x : List ℕ) (first : List (List ℕ)) (next : Option (List (List ℕ))) → Takes x (Some first) next → (kept : List (List ℕ)) × (next ≡ Some kept)
+told_still : (x : List ℕ) (first : Book) (next : Option Book) → Takes x (Some first) next → (kept : Book) × (next ≡ Some kept)
 told_still x first None takes = absurd takes
 told_still x first (Some kept) takes = (kept, refl)
 
 -- a hasher that takes a string keeps it, and what it kept
-record HasKept (first : List (List ℕ)) (x : List ℕ) (kept : List (List ℕ)) : Type 0 where
-  here : Contains kept x
-  old : (y : List ℕ) → Contains first y → Contains kept y
+record HasKept (first : Book) (x : List ℕ) (kept : Book) : Type 0 where
+  here : Contains kept.strings x
+  old : (y : List ℕ) → Contains first.strings y → Contains kept.strings y
 
-has_kept : (x : List ℕ) (first kept : List (List ℕ)) → Takes x (Some first) (Some kept) → HasKept first x kept
+has_kept : (x : List ℕ) (first kept : Book) → Takes x (Some first) (Some kept) → HasKept first x kept
 has_kept x first kept (inl same) = record { here = rw same.1 same.0; old = λ y there. rw same.1 there }
-has_kept x first kept (inr new) = record { here = rw new.1 (Contains-push first x); old = λ y there. rw new.1 (Contains-append_left first (x ∷ []) y there) }
+has_kept x first kept (inr new) = record { here = rw new.1 (Contains-push first.strings x); old = λ y there. rw new.1 (Contains-append_left first.strings (x ∷ []) y there) }
 
 -- all strings taken are kept
-pub record AreKept (first strings : List (List ℕ)) (now : Option (List (List ℕ))) : Type 0 where
-  pub kept : List (List ℕ)
+pub record AreKept (first : Book) (strings : List (List ℕ)) (now : Option Book) : Type 0 where
+  pub kept : Book
   pub is : now ≡ Some kept
-  pub old : (y : List ℕ) → Contains first y → Contains kept y
-  pub new : (y : List ℕ) → Contains strings y → Contains kept y
+  pub old : (y : List ℕ) → Contains first.strings y → Contains kept.strings y
+  pub new : (y : List ℕ) → Contains strings y → Contains kept.strings y
 
 cons_cases : (x : List ℕ) (xs : List (List ℕ)) (y : List ℕ) → Contains (x ∷ xs) y → (x ≡ y) ⊎ Contains xs y
 cons_cases x xs y there = by (Contains-append_cases (x ∷ []) xs y there) where
@@ -113,7 +113,7 @@ cons_cases x xs y there = by (Contains-append_cases (x ∷ []) xs y there) where
   by (inl first) = only (Contains-push_cases [] x y first)
   by (inr later) = inr later
 
-one_kept : (x : List ℕ) (xs first next : List (List ℕ)) (now : Option (List (List ℕ))) → HasKept first x next → AreKept next xs now → AreKept first (x ∷ xs) now
+one_kept : (x : List ℕ) (xs : List (List ℕ)) (first next : Book) (now : Option Book) → HasKept first x next → AreKept next xs now → AreKept first (x ∷ xs) now
 one_kept x xs first next now has rest = record {
   kept = rest.kept;
   is = rest.is;
@@ -121,21 +121,21 @@ one_kept x xs first next now has rest = record {
   new = λ y there. by y (cons_cases x xs y there);
 }
   where
-    by : (y : List ℕ) → (x ≡ y) ⊎ Contains xs y → Contains rest.kept y
-    by y (inl e) = subst (Contains rest.kept) e (rest.old x has.here)
+    by : (y : List ℕ) → (x ≡ y) ⊎ Contains xs y → Contains rest.kept.strings y
+    by y (inl e) = subst (Contains rest.kept.strings) e (rest.old x has.here)
     by y (inr later) = rest.new y later
 
-pub are_kept : (strings first : List (List ℕ)) (now : Option (List (List ℕ))) → HasTaken strings (Some first) now → AreKept first strings now
+pub are_kept : (strings : List (List ℕ)) (first : Book) (now : Option Book) → HasTaken strings (Some first) now → AreKept first strings now
 are_kept [] first now taken = record { kept = first; is = taken; old = λ y there. there; new = λ y there. absurd (omega (arith, there.1)) }
 are_kept (x ∷ xs) first now taken =
     let told = told_still x first taken.0 taken.1 in
     one_kept x xs first told.0 now (has_kept x first told.0 (rw told.1 at taken.1)) (are_kept xs told.0 now (rw told.1 at taken.2))
 
 -- none of the strings that such a hasher took clashes with another
-pub are_apart : (strings : List (List ℕ)) (kept : Option (List (List ℕ))) → HasTaken strings (Some []) kept → AreClashFree kept → HasNoClash strings
-are_apart strings kept taken free first second a b same =
-    let all = are_kept strings [] kept taken in
-    same_string all.kept first second (rw all.is at free) (all.new first a) (all.new second b) same
+pub are_apart : (strings : List (List ℕ)) (limit : ℕ) (kept : Option Book) → HasTaken strings (Some (empty_book limit)) kept → AreClashFree kept → HasNoClash strings
+are_apart strings limit kept taken free first second a b same =
+    let all = are_kept strings (empty_book limit) kept taken in
+    same_string all.kept.strings first second (rw all.is at free) (all.new first a) (all.new second b) same
 
 -- a string that was rejected after some were taken, of all of them
 pub rejected_after : (xs ys : List (List ℕ)) (first mid : Account) (bytes : List ℕ) (now : Account) → HasHashed xs first mid → HasRejected ys mid bytes now → HasRejected (xs ++ ys) first bytes now

@@ -1,5 +1,6 @@
 -- A plan of a tree over nodes in memory has one walk.
 use Rattle.std.proofs.Common.{◌≡◌, ◌⊎◌, ℕ, List, [], ◌∷◌, ◌++◌, Option, None, Some, Result, Ok, Err, refl, sym, inl, inr, subst}
+use Rattle.ens_hashing.specs.Hashing.{Book}
 use Rattle.ens_outside.specs.Stores.{NodeCall}
 use Rattle.ens_outside.specs.declared.memory.failing_call.Leaves.{Leaves}
 use Rattle.synctree.specs.Outsides.{outside_does, outside_refuses}
@@ -44,7 +45,7 @@ walk_grows (Ask (Node call) next) s hashed = by_failure (refusal s call) (walk_g
   by_failure None goes = goes
   by_failure (Some leaves) goes = starts_here hashed
 
-module _ {H : Type 0} (strings : H → Option (List (List ℕ))) (c d : H → ℕ) (first : Account) where
+module _ {H : Type 0} (strings : H → Option Book) (c d : H → ℕ) (first : Account) where
   -- what is known of a hasher
   abbrev tells : H → Account
   tells h = account strings c d h
@@ -113,7 +114,7 @@ module _ {H : Type 0} (strings : H → Option (List (List ℕ))) (c d : H → �
       (rw off.2.2 rejected, off.2.0, rw off.1 off.2.1, rose_since first.clashes (c s.1) (c t.1) taken.clashes off.2.3)
   hash_refused bytes next s t hashed (trees.BookFull n) taken off =
       let rejected = rejected_at hashed (walk (next tt) s.0 (hashed ++ bytes ∷ [])).hashed first bytes (tells t.1) (walk_grows (next tt) s.0 (hashed ++ bytes ∷ [])) (rw off.1 taken.taken) in
-      (bytes, rejected, rose_since first.fulls (d s.1) (d t.1) taken.fulls off.2.0)
+      (bytes, rejected, rose_since first.fulls (d s.1) (d t.1) taken.fulls off.2.0, rw off.1 off.2.2)
   hash_refused bytes next s t hashed trees.Memory taken off = tt
 
   hash_walk : {A : Type 0} (bytes : List ℕ) (next : Unit {0} → Plan A) (s : Nodes) (hashed : List (List ℕ)) → walk (Ask (Hash bytes) next) s hashed ≡ walk (next tt) s (hashed ++ bytes ∷ [])

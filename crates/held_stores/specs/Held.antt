@@ -1,6 +1,8 @@
 -- The stores of a peer in memory, and the strings that were hashed.
-use Rattle.std.specs.Prelude.{◌≡◌, ◌≤◌, ℕ, List, [], ◌∷◌, ◌++◌, Option, None, Some, Contains}
-use Rattle.ens_hashing.specs.Hashing.{Takes}
+use Rattle.std.specs.Prelude.{◌≡◌, ◌≤◌, ℕ, if◌then◌else◌, List, [], ◌∷◌, ◌++◌, Option, None, Some, Contains}
+use Rattle.std.specs.List.{list_any}
+use Rattle.ens_base.specs.Lists.{same_bytes}
+use Rattle.ens_hashing.specs.Hashing.{Book, Takes}
 use Rattle.ens_outside.specs.declared.memory.failing_call.Leaves.{Leaves}
 use Rattle.md5.specs.Md5.{md5}
 use Rattle.peer_core.specs.declared.stores.Stores.{Stores}
@@ -35,20 +37,33 @@ abbrev pub unless_failing : {R : Type 0} → Option Leaves → R → (Leaves →
 unless_failing None goes fails = goes
 unless_failing (Some leaves) goes fails = fails leaves
 
--- a hasher took these strings, one after another: what it told that it keeps, before and after
-abbrev pub HasTaken : List (List ℕ) → Option (List (List ℕ)) → Option (List (List ℕ)) → Type 0
-HasTaken [] first kept = kept ≡ first
-HasTaken (x ∷ xs) first kept = (next : Option (List (List ℕ))) × Takes x first next × HasTaken xs next kept
+-- a list of strings with one more, unless it has that one
+abbrev pub added : List (List ℕ) → List ℕ → List (List ℕ)
+added kept x = if list_any (same_bytes x) kept then kept else kept ++ x ∷ []
 
--- what is known of a hasher: the strings that it keeps, if it tells them, and how often it found a
--- clash and a full book
+-- a list of strings with these, each added once
+abbrev pub kept_after : List (List ℕ) → List (List ℕ) → List (List ℕ)
+kept_after kept [] = kept
+kept_after kept (x ∷ xs) = kept_after (added kept x) xs
+
+-- these strings, each once, in the order in which they first come
+abbrev pub once : List (List ℕ) → List (List ℕ)
+once strings = kept_after [] strings
+
+-- a hasher took these strings, one after another: the book that it told, before and after
+abbrev pub HasTaken : List (List ℕ) → Option Book → Option Book → Type 0
+HasTaken [] first kept = kept ≡ first
+HasTaken (x ∷ xs) first kept = (next : Option Book) × Takes x first next × HasTaken xs next kept
+
+-- what is known of a hasher: the strings that it keeps and their limit, if it tells them, and how
+-- often it rejected a string for a clash, and how often one that did not fit
 pub record Account : Type 0 where
-  pub kept : Option (List (List ℕ))
+  pub kept : Option Book
   pub clashes : ℕ
   pub fulls : ℕ
 
 -- what is known of this hasher
-abbrev pub account : {H : Type 0} → (H → Option (List (List ℕ))) → (H → ℕ) → (H → ℕ) → H → Account
+abbrev pub account : {H : Type 0} → (H → Option Book) → (H → ℕ) → (H → ℕ) → H → Account
 account kept clashes fulls h = record { kept = kept h; clashes = clashes h; fulls = fulls h }
 
 -- a hasher took these strings, one after another, and no count fell

@@ -1,7 +1,7 @@
 -- The only run of a plan.
-use Rattle.std.specs.Prelude.{◌≡◌, ◌⊎◌, ℕ, List, [], ◌∷◌, ◌++◌, Option, Some}
+use Rattle.std.specs.Prelude.{◌≡◌, ◌⊎◌, ◌<◌, ◌≤◌, ℕ, List, ◌∷◌, ◌++◌, Option, Some}
 use Rattle.ens_base.specs.Causes.{Rose}
-use Rattle.ens_hashing.specs.Hashing.{IsClash, IsKept, AreClashFree}
+use Rattle.ens_hashing.specs.Hashing.{Book, ExceedsTold, IsClash, IsKept, AreClashFree, empty_book, total}
 use Rattle.register_model.specs.declared.note.Note.{Note}
 use Rattle.step_plans.specs.Calls.{Call, AnswerOf}
 use Rattle.step_plans.specs.Plans.{Plan, Ending, Finished, Stopped, Runs}
@@ -11,16 +11,16 @@ use Rattle.peer_core.specs.Stores.{stores_do, stores_refuse}
 use Rattle.world_stores.specs.Facts.{FactDoes, FactRefuses, kept_of}
 use Rattle.world_stores.specs.Nodes.{NodesDo, NodesRefuse, top_of}
 use Rattle.world_stores.specs.Objects.{ObjectsDo, ObjectsRefuse}
-use Rattle.held_stores.specs.Held.{HeldStores, Held, Account, account, HasTaken, HasHashed, HasNoClash}
+use Rattle.held_stores.specs.Held.{HeldStores, Held, Account, account, HasTaken, HasHashed, HasNoClash, once}
 use Rattle.held_stores.specs.Runs.{run}
 
 -- what stores in memory and a hasher may answer to a call
-abbrev pub HeldDo : {H : Type 0} → (H → Option (List (List ℕ))) → (H → ℕ) → (H → ℕ) → HeldStores × H → (call : Call) → AnswerOf call → HeldStores × H → Type 0
+abbrev pub HeldDo : {H : Type 0} → (H → Option Book) → (H → ℕ) → (H → ℕ) → HeldStores × H → (call : Call) → AnswerOf call → HeldStores × H → Type 0
 HeldDo strings clashes fulls s call a t =
     stores_do ObjectsDo (λ b. b.faults.count) NodesDo (λ n. Some (top_of n.tops)) (λ n. n.faults.count) FactDoes (λ f. kept_of f.kept) (λ f. f.faults.count) strings clashes fulls s call a t
 
 -- how they may refuse it
-abbrev pub HeldRefuse : {H : Type 0} → (H → Option (List (List ℕ))) → (H → ℕ) → (H → ℕ) → HeldStores × H → Call → PeerError → HeldStores × H → Type 0
+abbrev pub HeldRefuse : {H : Type 0} → (H → Option Book) → (H → ℕ) → (H → ℕ) → HeldStores × H → Call → PeerError → HeldStores × H → Type 0
 HeldRefuse strings clashes fulls s call e t =
     stores_refuse ObjectsRefuse (λ b. b.faults.count) NodesDo NodesRefuse (λ n. Some (top_of n.tops)) (λ n. n.faults.count) FactRefuses (λ f. kept_of f.kept) (λ f. f.faults.count) strings clashes fulls s call e t
 
@@ -36,9 +36,10 @@ pub record HasRejected (strings : List (List ℕ)) (first : Account) (bytes : Li
 abbrev pub HasClashed : List (List ℕ) → Account → List ℕ → List ℕ → Account → Type 0
 HasClashed strings first kept new now = HasRejected strings first new now × IsClash kept new × IsKept now.kept kept × Rose first.clashes now.clashes
 
--- the hasher rejected the next string, and counted that its book was full
+-- the next string does not fit into the book of the hasher, if that is known, and the hasher counted
+-- this
 abbrev pub HasFilled : List (List ℕ) → Account → Account → Type 0
-HasFilled strings first now = (bytes : List ℕ) × HasRejected strings first bytes now × Rose first.fulls now.fulls
+HasFilled strings first now = (bytes : List ℕ) × HasRejected strings first bytes now × Rose first.fulls now.fulls × ExceedsTold bytes now.kept
 
 -- out of memory, or the hasher rejected the next of these strings
 abbrev pub IsUnplanned : List (List ℕ) → Account → Account → PeerError → Type 0
@@ -76,10 +77,21 @@ strings_by p s hashed ns = (run p (held_with s hashed) ns).held.hashed
 -- Each run of the plan over stores in memory is its run, unless it was cut off. `first` is the account
 -- of the hasher before it took any of the strings.
 abbrev pub AreDetermined : Type 0 → Type 0 → Type 0
-AreDetermined X H = (strings : H → Option (List (List ℕ))) (clashes fulls : H → ℕ) (first : Account) (p : Plan X) (s t : HeldStores × H) (hashed : List (List ℕ)) (ns ms : List Note) (e : Ending X)
+AreDetermined X H = (strings : H → Option Book) (clashes fulls : H → ℕ) (first : Account) (p : Plan X) (s t : HeldStores × H) (hashed : List (List ℕ)) (ns ms : List Note) (e : Ending X)
     → HasHashed hashed first (account strings clashes fulls s.1) → Runs (HeldDo strings clashes fulls) (HeldRefuse strings clashes fulls) p s ns e t ms
     → IsCutOff (strings_by p s.0 hashed ns) first (account strings clashes fulls t.1) e ⊎ IsRun (account strings clashes fulls) first p s hashed ns e t ms
 
 -- if a hasher that kept nothing took these strings, none of them clashes with another
 abbrev pub AreApart : Type 0
-AreApart = (strings : List (List ℕ)) (kept : Option (List (List ℕ))) → HasTaken strings (Some []) kept → AreClashFree kept → HasNoClash strings
+AreApart = (strings : List (List ℕ)) (limit : ℕ) (kept : Option Book) → HasTaken strings (Some (empty_book limit)) kept → AreClashFree kept → HasNoClash strings
+
+-- if a hasher that kept nothing took these strings, its book has each of them once, and all of them
+-- fit into it
+abbrev pub AreKeptOnce : Type 0
+AreKeptOnce = (strings : List (List ℕ)) (limit : ℕ) (kept : Option Book) → HasTaken strings (Some (empty_book limit)) kept
+    → (kept ≡ Some (record { strings = once strings; limit = limit })) × (total (once strings) ≤ limit)
+
+-- if one of these strings did not fit into the book of such a hasher, they have more bytes than its
+-- limit, each counted once
+abbrev pub AreBeyond : Type 0
+AreBeyond = (strings : List (List ℕ)) (limit : ℕ) (first now : Account) → first.kept ≡ Some (empty_book limit) → HasFilled strings first now → limit < total (once strings)

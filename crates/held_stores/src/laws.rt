@@ -1,4 +1,4 @@
-ghost use Rattle.held_stores.specs.Laws.{AreApart, AreDetermined};
+ghost use Rattle.held_stores.specs.Laws.{AreApart, AreBeyond, AreDetermined, AreKeptOnce};
 ghost use Rattle.peer_core.specs.declared.state.State.{State};
 
 use ens_hashing::Hasher16;
@@ -14,4 +14,12 @@ pub fn runs_are_determined<H: Hasher16>()
 /// strings of these have the same MD5.
 pub fn taken_strings_are_apart()
     ensures { AreApart }
+{}
+
+/// If a hasher that kept nothing has taken some strings, and it says what it keeps, then it keeps each
+/// of them once, and they have no more bytes than its limit. If one of them did not fit, they have
+/// more, each counted once.
+pub fn strings_fill_a_book_once()
+    ensures taken { AreKeptOnce }
+    ensures filled { AreBeyond }
 {}

@@ -11,4 +11,4 @@
 
 mod laws;
 
-pub use laws::{runs_are_determined, taken_strings_are_apart};
+pub use laws::{runs_are_determined, strings_fill_a_book_once, taken_strings_are_apart};

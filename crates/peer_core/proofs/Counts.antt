@@ -2,6 +2,7 @@
 use Rattle.std.specs.Prelude.{Option, Some, None}
 use Rattle.std.proofs.Common.{◌≡◌, ◌≤◌, ◌++◌, ◌∷◌, [], ℕ, List, Result, Ok, Err, inl, inr, ◌∙◌, ap, arith}
 use Rattle.ens_base.specs.Causes.{Rose}
+use Rattle.ens_hashing.specs.Hashing.{Book}
 use Rattle.ens_outside.specs.Stores.{BackendCall, BackendAnswer, NodeCall, NodeAnswer}
 use Rattle.ens_outside.specs.declared.errors.StoreError.{StoreError}
 use Rattle.fact_store.specs.Keeping.{KeeperCall, KeeperAnswer}
@@ -47,7 +48,7 @@ rose_later a b c before rose = omega (arith, before, rose)
 
 module _ {B N F H : Type 0} (gives : B → (call : BackendCall) → BackendAnswer call → B → Type 0) (loses : B → BackendCall → StoreError → B → Type 0)
     (b : B → ℕ) (reads : N → (call : NodeCall) → NodeAnswer call → N → Type 0) (misses : N → NodeCall → StoreError → N → Type 0) (tops : N → Option (Option (List ℕ))) (n : N → ℕ) (tells : F → (call : KeeperCall) → KeeperAnswer call → F → Type 0) (drops : F → KeeperCall → KeepError → F → Type 0) (kept : F → Option (Result Fact FactError)) (f : F → ℕ)
-    (strings : H → Option (List (List ℕ))) (c d : H → ℕ) where
+    (strings : H → Option Book) (c d : H → ℕ) where
   tree_later : (s t : Stores B N F × H) → TreeLater n c d s t → AreLater b n f c d s t
   tree_later s t later = record {
     backend = same_count b s.0.backend t.0.backend later.3.0;

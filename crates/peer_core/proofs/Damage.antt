@@ -4,6 +4,7 @@ use Rattle.std.proofs.Math.Nat.{div-lt_iff_lt-mul, pow-suc}
 use Rattle.std.specs.Prelude.{get_or, set, replicate}
 use Rattle.ens_base.specs.Lists.{same_bytes}
 use Rattle.ens_base.specs.declared.entry.Entry.{Entry}
+use Rattle.ens_hashing.specs.Hashing.{Book}
 use Rattle.ens_outside.specs.Stores.{BackendCall, BackendAnswer, NodeCall, NodeAnswer}
 use Rattle.fact_store.specs.Keeping.{KeeperCall, KeeperAnswer}
 use Rattle.md5.specs.Md5.{md5}
@@ -152,7 +153,7 @@ node_inside top at is = from_top_inside top (node_under sixteen at) (λ digest. 
 -- the answers of a peer's stores are sound
 module _ {B N F H : Type 0} (gives : B → (call : BackendCall) → BackendAnswer call → B → Type 0) (b : B → ℕ) (reads : N → (call : NodeCall) → NodeAnswer call → N → Type 0)
     (tops : N → Option (Option (List ℕ))) (n : N → ℕ) (tells : F → (call : KeeperCall) → KeeperAnswer call → F → Type 0) (kept : F → Option (Result Fact FactError)) (f : F → ℕ)
-    (strings : H → Option (List (List ℕ))) (c d : H → ℕ) where
+    (strings : H → Option Book) (c d : H → ℕ) where
   pub stores_sound : (s : Stores B N F × H) (call : Call) (a : AnswerOf call) (t : Stores B N F × H) → stores_do gives b reads tops n tells kept f strings c d s call a t → IsSound call a
   stores_sound s (Find key) (Reached found) t told = tt
   stores_sound s (Find key) (Ended at) t told = walked_inside _ (get_plan sixteen s.0.tree.top key) _ at _ (get_inside s.0.tree.top key) told.0.0

@@ -2,6 +2,7 @@
 use Rattle.std.specs.Prelude.{IfErr, Option}
 use Rattle.std.proofs.Common.{◌≡◌, ℕ, true, List, Result, Ok, Err, subst}
 use Rattle.ens_base.specs.View.{IsPeer}
+use Rattle.ens_hashing.specs.Hashing.{Book}
 use Rattle.ens_outside.specs.Stores.{BackendCall, BackendAnswer, NodeCall, NodeAnswer}
 use Rattle.ens_outside.specs.declared.errors.StoreError.{StoreError}
 use Rattle.fact_store.specs.Keeping.{KeeperCall, KeeperAnswer}
@@ -34,7 +35,7 @@ as_step_error (errors.BookFull more) is = tt
 module _ (me : ℕ) (peer : IsPeer me) (event : Event) (come : MayCome me event) (x : State) (test : is_young x.phase ≡ true)
     {B N F H : Type 0} (gives : B → (call : BackendCall) → BackendAnswer call → B → Type 0) (loses : B → BackendCall → StoreError → B → Type 0)
     (b : B → ℕ) (reads : N → (call : NodeCall) → NodeAnswer call → N → Type 0) (misses : N → NodeCall → StoreError → N → Type 0) (tops : N → Option (Option (List ℕ))) (n : N → ℕ) (tells : F → (call : KeeperCall) → KeeperAnswer call → F → Type 0) (drops : F → KeeperCall → KeepError → F → Type 0) (kept : F → Option (Result Fact FactError)) (f : F → ℕ)
-    (strings : H → Option (List (List ℕ))) (c d : H → ℕ) {A : Type 0} (s t : Stores B N F × H) (y : State) (before after : Outbox) where
+    (strings : H → Option Book) (c d : H → ℕ) {A : Type 0} (s t : Stores B N F × H) (y : State) (before after : Outbox) where
   -- the call took the step, with this result
   abbrev Took : Result A PeerError → Type 0
   Took r = Steps (stores_do gives b reads tops n tells kept f strings c d) (stores_refuse loses b reads misses tops n drops kept f strings c d) (step_of me event x) s before r y t after

@@ -3,6 +3,7 @@ use Rattle.std.specs.Option.{IsSomeAnd}
 use Rattle.std.proofs.Common.{◌≡◌, ◌≤◌, ℕ, List, [], Option, None, Some, Result, Ok, Err, refl, inl, inr, arith, ap}
 use Rattle.ens_base.specs.Causes.{Rose}
 use Rattle.ens_base.specs.declared.entry.Entry.{Entry}
+use Rattle.ens_hashing.specs.Hashing.{Book}
 use Rattle.ens_outside.specs.Stores.{NodeCall, NodeAnswer, Top, BackendCall, BackendAnswer}
 use Rattle.ens_outside.specs.declared.errors.StoreError.{StoreError}
 use Rattle.step_plans.specs.declared.error.PeerError.{PeerError}
@@ -48,7 +49,7 @@ IsTreeCause n c d s (trees.BookFull kept) t = Rose (d s.1) (d t.1)
 IsTreeCause n c d s trees.Memory t = Unit {0}
 
 module _ {N H : Type 0} (reads : N → (call : NodeCall) → NodeAnswer call → N → Type 0) (misses : N → NodeCall → StoreError → N → Type 0) (tops : N → Option (Option (List ℕ))) (n : N → ℕ)
-    (strings : H → Option (List (List ℕ))) (c d : H → ℕ) where
+    (strings : H → Option Book) (c d : H → ℕ) where
   abbrev pub Does : N × H → (call : Call) → AnswerOf call → N × H → Type 0
   Does s call a t = outside_does reads tops n strings c d s call a t
 

@@ -1,7 +1,7 @@
 -- What the three stores of a peer and the hasher lent to them may answer, taken together.
 use Rattle.std.specs.Prelude.{◌≡◌, ◌⊎◌, ◌≤◌, ℕ, List, Option, Some, Result, Ok, Err}
 use Rattle.ens_base.specs.Causes.{Rose}
-use Rattle.ens_hashing.specs.Hashing.{IsClash, IsKept, Stays, Takes}
+use Rattle.ens_hashing.specs.Hashing.{Book, ExceedsTold, IsClash, IsKept, Stays, Takes}
 use Rattle.ens_hashing.specs.declared.error.HashError.{HashError}
 use Rattle.ens_hashing.specs.declared.error.HashError.TheVariants as hashes
 use Rattle.ens_outside.specs.Stores.{BackendCall, BackendAnswer, Get, Put as PutObject, NodeCall, NodeAnswer}
@@ -56,12 +56,12 @@ hash_error (hashes.Clash first second) = errors.Clash first.items second.items
 hash_error (hashes.BookFull kept) = errors.BookFull kept
 hash_error hashes.Memory = errors.Memory
 
--- why a hasher refused the bytes: two strings with one digest or a full book, whose count rose, or
--- out of memory; no count decreased, and what is kept stays
-abbrev pub HashRefuses : {H : Type 0} → (H → Option (List (List ℕ))) → (H → ℕ) → (H → ℕ) → List ℕ → H → PeerError → H → Type 0
+-- why a hasher refused the bytes: they clash with a kept string or do not fit, and the count of that
+-- rose, or out of memory; no count decreased, and what is kept stays
+abbrev pub HashRefuses : {H : Type 0} → (H → Option Book) → (H → ℕ) → (H → ℕ) → List ℕ → H → PeerError → H → Type 0
 HashRefuses strings c d bytes h (errors.Clash first second) k =
     Stays (strings h) (strings k) × IsClash first second × IsKept (strings h) first × (second ≡ bytes) × Rose (c h) (c k) × (d h ≤ d k)
-HashRefuses strings c d bytes h (errors.BookFull kept) k = Stays (strings h) (strings k) × Rose (d h) (d k) × (c h ≤ c k)
+HashRefuses strings c d bytes h (errors.BookFull kept) k = Stays (strings h) (strings k) × Rose (d h) (d k) × (c h ≤ c k) × ExceedsTold bytes (strings h)
 HashRefuses strings c d bytes h errors.Memory k = Stays (strings h) (strings k) × (c h ≤ c k) × (d h ≤ d k)
 HashRefuses strings c d bytes h e k = ⊥
 
@@ -90,7 +90,7 @@ IsBackendRefusal loses b s call e t = ⊥
 abbrev pub stores_do : {B N F H : Type 0} → (B → (call : BackendCall) → BackendAnswer call → B → Type 0) → (B → ℕ)
     → (N → (call : NodeCall) → NodeAnswer call → N → Type 0) → (N → Option (Option (List ℕ))) → (N → ℕ)
     → (F → (call : KeeperCall) → KeeperAnswer call → F → Type 0) → (F → Option (Result Fact FactError)) → (F → ℕ)
-    → (H → Option (List (List ℕ))) → (H → ℕ) → (H → ℕ) → Stores B N F × H → (call : Call) → AnswerOf call → Stores B N F × H → Type 0
+    → (H → Option Book) → (H → ℕ) → (H → ℕ) → Stores B N F × H → (call : Call) → AnswerOf call → Stores B N F × H → Type 0
 stores_do gives b reads tops n tells kept f strings c d s Load a t =
     Loads (kept s.0.facts) (f s.0.facts) (f t.0.facts) (Ok a) × (kept t.0.facts ≡ kept s.0.facts) × (f s.0.facts ≤ f t.0.facts) × FactsAlone s t × tells s.0.facts LoadFact a t.0.facts
 stores_do gives b reads tops n tells kept f strings c d s (Save fact) a t =
@@ -107,7 +107,7 @@ stores_do gives b reads tops n tells kept f strings c d s call a t = TreeDoes (o
 abbrev pub stores_refuse : {B N F H : Type 0} → (B → BackendCall → StoreError → B → Type 0) → (B → ℕ)
     → (N → (call : NodeCall) → NodeAnswer call → N → Type 0) → (N → NodeCall → StoreError → N → Type 0) → (N → Option (Option (List ℕ))) → (N → ℕ)
     → (F → KeeperCall → KeepError → F → Type 0) → (F → Option (Result Fact FactError)) → (F → ℕ)
-    → (H → Option (List (List ℕ))) → (H → ℕ) → (H → ℕ) → Stores B N F × H → Call → PeerError → Stores B N F × H → Type 0
+    → (H → Option Book) → (H → ℕ) → (H → ℕ) → Stores B N F × H → Call → PeerError → Stores B N F × H → Type 0
 stores_refuse loses b reads misses tops n drops kept f strings c d s Load e t =
     IsLoadError (kept s.0.facts) (f s.0.facts) (f t.0.facts) e × (kept t.0.facts ≡ kept s.0.facts) × FactsAlone s t × drops s.0.facts LoadFact (keeper_error e) t.0.facts
 stores_refuse loses b reads misses tops n drops kept f strings c d s (Save fact) e t =

@@ -6,7 +6,9 @@ use Rattle.call_refinement.proofs.Whole.{schedules_are_legal, schedules_have_cau
 use Rattle.call_refinement.specs.Lines.{lines_of}
 use Rattle.ens_base.specs.Lists.{◌∈◌}
 use Rattle.ens_base.specs.declared.status.Status.{Status}
-use Rattle.held_stores.specs.Held.{Account, account, HasHashed, HasNoClash}
+use Rattle.ens_hashing.specs.Hashing.{Book, KeepsNothing}
+use Rattle.held_stores.proofs.Books.{filled_beyond, kept_once}
+use Rattle.held_stores.specs.Held.{Account, account, HasHashed, HasNoClash, HasTaken}
 use Rattle.held_stores.specs.Laws.{HasClashed, HasFilled}
 use Rattle.schedule_input.specs.declared.ending.Ending.{Ending}
 use Rattle.schedule_premise.proofs.Searches.{none_passes}
@@ -44,10 +46,10 @@ sound_legal s of sound apart = (
 
 -- how the run of a sound schedule ends
 module _ (first now : Account) (s : Schedule) (sound : first_unsound s ≡ None) where
-  pub run_done : (text : List ℕ) → schedule.IsSchedule s → IsRunText s text → HasHashed (hashed_by s) first now → (first.kept ≡ Some [] → HasNoClash (hashed_by s)) → EndsSo first now s Status.Done text
+  pub run_done : (text : List ℕ) → schedule.IsSchedule s → IsRunText s text → HasHashed (hashed_by s) first now → (KeepsNothing first.kept → HasNoClash (hashed_by s)) → EndsSo first now s Status.Done text
   run_done text of ran has apart None read = tt
   run_done text of ran has apart (Some bytes) read =
-      let all : HasAdmitted (hashed_by s) first now = record { has = has; apart = apart } in
+      let all : HasAdmitted (hashed_by s) first now = record { has = has; apart = apart; fit = λ limit is. (kept_once (hashed_by s) limit now.kept (subst (λ (k : Option Book). HasTaken (hashed_by s) k now.kept) is has.taken)).1 } in
       (s, read, of, sound, ran, all, λ kept. sound_legal s of sound (apart kept))
 
   pub clash_ends : (kept new text : List ℕ) → HasClashed (hashed_by s) first kept new now → text ≡ clash_line kept new → EndsSo first now s Status.Clash text
@@ -56,7 +58,7 @@ module _ (first now : Account) (s : Schedule) (sound : first_unsound s ≡ None)
 
   pub book_ends : (text : List ℕ) → HasFilled (hashed_by s) first now → text ≡ codes "limit book 1073741824" ++ 10 ∷ [] → EndsSo first now s Status.Limit text
   book_ends text has is None read = inr (inr (has.2, tt, is))
-  book_ends text has is (Some bytes) read = inr (inr (has.2, (s, read, sound, has), is))
+  book_ends text has is (Some bytes) read = inr (inr (has.2, (s, read, sound, has, λ limit kept. filled_beyond (hashed_by s) limit first now kept has), is))
 
   pub limit_ends : (text : List ℕ) → IsPastMessages (schedule_run s) → text ≡ codes "limit messages 500000" ++ 10 ∷ [] → EndsSo first now s Status.Limit text
   limit_ends text past is None read = inr (inl (tt, is))
@@ -74,8 +76,9 @@ module _ (first now : Account) (s : Schedule) (sound : first_unsound s ≡ None)
   limit_ending (Err e) line is made past = tt
 
 -- the account of a book that was just made
-pub empty_account : (strings : List (List ℕ)) (clashes fulls : ℕ) → strings ≡ [] → clashes ≡ 0 → fulls ≡ 0 → account (λ (b : Unit {0}). Some strings) (λ b. clashes) (λ b. fulls) tt ≡ nothing_hashed
-empty_account strings clashes fulls none no_clash not_full = rw none (rw no_clash (rw not_full refl))
+pub empty_account : (strings : List (List ℕ)) (limit clashes fulls : ℕ) → strings ≡ [] → limit ≡ 1073741824 → clashes ≡ 0 → fulls ≡ 0
+    → account (λ (b : Unit {0}). Some (record { strings = strings; limit = limit })) (λ b. clashes) (λ b. fulls) tt ≡ nothing_hashed
+empty_account strings limit clashes fulls none limit_is no_clash not_full = rw none (rw limit_is (rw no_clash (rw not_full refl)))
 
 -- what a replay prints over a hasher with this account, it prints over one with an equal account
 pub prints_from : (first same now : Account) (source : Option (List ℕ)) (status : Status) (text : List ℕ) → first ≡ same → PrintsWith first now source status text → PrintsWith same now source status text

@@ -1,11 +1,12 @@
 -- A run has one text, and the text of a schedule is read as the schedule.
-use Rattle.std.proofs.Common.{◌≡◌, Less, ℕ, List, [], ◌∷◌, ◌++◌, map, Option, Some, None, Result, Ok, Err, refl, sym, ap, subst, ◌∙◌, inl, inr}
+use Rattle.std.proofs.Common.{◌≡◌, ◌<◌, ◌≤◌, Less, ℕ, List, [], ◌∷◌, ◌++◌, map, Option, Some, None, Result, Ok, Err, refl, sym, ap, subst, ◌∙◌, inl, inr}
 use Rattle.std.specs.List.{AllByRecursion, flat_map}
 use Rattle.std.specs.List.Sorted.{IsStrictlySortedBy}
 use Rattle.std.specs.Ordering.{ordering_reverse}
 use Rattle.std.proofs.lemmas.Cmp.{nat_list_cmp_total}
 use Rattle.ens_base.specs.Lists.{◌∈◌, bytes_cmp}
 use Rattle.ens_base.specs.declared.status.Status.{Status}
+use Rattle.ens_hashing.specs.Hashing.{total}
 use Rattle.history_scribe.specs.Histories.{AreHistories, history_of}
 use Rattle.register_model.specs.declared.history.History.{History}
 use Rattle.register_model.specs.declared.note.Note.{Note}
@@ -17,7 +18,7 @@ use Rattle.schedule_text.specs.declared.error.ScheduleError.{ScheduleError}
 use Rattle.schedule_text.specs.declared.schedule.Schedule.{Schedule}
 use Rattle.world_spec.specs.Messages.{IsPastMessages}
 use Rattle.world_spec.specs.Runs.{Run}
-use Rattle.held_stores.specs.Held.{HasNoClash}
+use Rattle.held_stores.specs.Held.{HasNoClash, once}
 use Rattle.held_stores.specs.Laws.{HasClashed, HasFilled}
 use Rattle.replay.specs.Jobs.{EndsInRun, IsRunText, Prints, PrintsWith, hashed_by, nothing_hashed}
 use Rattle.replay.specs.Text.{IsTextOfRun, history_line, printed_line}
@@ -88,7 +89,7 @@ pub text_replayed : (s : Schedule) (status : Status) (text : List ℕ) → IsSch
 text_replayed s Status.Done text is sound h =
     let r = h.1 in
     let same : r.0 ≡ s = read_same s r.0 is r.1 in
-    (subst (λ (t : Schedule). IsRunText t text) same r.4, subst (λ (t : Schedule). HasNoClash (hashed_by t)) same (r.5.apart refl))
+    (subst (λ (t : Schedule). IsRunText t text) same r.4, subst (λ (t : Schedule). HasNoClash (hashed_by t)) same (r.5.apart (1073741824, refl)), subst (λ (t : Schedule). total (once (hashed_by t)) ≤ 1073741824) same (r.5.fit 1073741824 refl))
 text_replayed s Status.Schedule text is sound h = absurd (no_error (sym (schedule_of-text s is) ∙ h.1.2))
 text_replayed s Status.Premise text is sound h =
     let r = h.1 in
@@ -105,7 +106,7 @@ text_replayed s Status.Limit text is sound h = by_limit h.1
     by_limit (inr (inl m)) = inl (subst (λ (t : Schedule). IsPastMessages (schedule_run t)) (read_same s m.0.0 is m.0.1) m.0.3, m.1)
     by_limit (inr (inr b)) =
         let met : HasFilled (hashed_by s) nothing_hashed h.0 = subst (λ (t : Schedule). HasFilled (hashed_by t) nothing_hashed h.0) (read_same s b.1.0 is b.1.1) b.1.3 in
-        inr (h.0, met, b.2)
+        inr (h.0, met, subst (λ (t : Schedule). 1073741824 < total (once (hashed_by t))) (read_same s b.1.0 is b.1.1) (b.1.4 1073741824 refl), b.2)
 text_replayed s Status.ReadFault text is sound h = h.1
 text_replayed s Status.Memory text is sound h = h.1
 text_replayed s status text is sound h = absurd h.1

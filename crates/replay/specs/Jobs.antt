@@ -1,8 +1,8 @@
 -- What a job prints, and why it ends as it does.
-use Rattle.std.specs.Prelude.{◌≡◌, ◌⊎◌, ℕ, List, [], ◌∷◌, ◌++◌, codes, Option, None, Some, Ok, IfSome}
+use Rattle.std.specs.Prelude.{◌≡◌, ◌⊎◌, ◌<◌, ◌≤◌, ℕ, List, [], ◌∷◌, ◌++◌, codes, Option, None, Some, Ok, IfSome}
 use Rattle.call_refinement.specs.Causes.{HaveCauses}
 use Rattle.call_refinement.specs.Lines.{AreLegal}
-use Rattle.held_stores.specs.Held.{Account, HasHashed, HasNoClash}
+use Rattle.held_stores.specs.Held.{Account, HasHashed, HasNoClash, once}
 use Rattle.held_stores.specs.Laws.{HasClashed, HasFilled}
 use Rattle.schedule_premise.specs.Premise.{first_unsound}
 use Rattle.schedule_text.specs.Reading.{schedule_of}
@@ -11,7 +11,7 @@ use Rattle.schedule_text.specs.declared.schedule.Schedule.{Schedule}
 use Rattle.ens_base.specs.Causes.{Rose}
 use Rattle.ens_base.specs.Words.{bytes_word}
 use Rattle.ens_base.specs.declared.status.Status.{Status}
-use Rattle.ens_hashing.specs.Hashing.{IsClash}
+use Rattle.ens_hashing.specs.Hashing.{IsClash, KeepsNothing, empty_book, total}
 use Rattle.history_scribe.specs.Histories.{AreHistories}
 use Rattle.register_model.specs.declared.history.History.{History}
 use Rattle.schedule_input.specs.Endings.{IsBadLine, IsLineLimit, IsUnsound}
@@ -28,11 +28,20 @@ IsRunText s text = IsWithinMessages (schedule_run s) × IsTextOfRun (schedule_ru
 abbrev pub hashed_by : Schedule → List (List ℕ)
 hashed_by s = (schedule_run s).hashed
 
--- a hasher took all these strings; so if it kept none before, and says what it keeps, no two different
--- ones have the same MD5
+-- if it is known that the hasher kept nothing before, the strings, each counted once, fit into its book
+abbrev pub Fit : List (List ℕ) → Account → Type 0
+Fit strings first = (limit : ℕ) → first.kept ≡ Some (empty_book limit) → total (once strings) ≤ limit
+
+-- if that is known, they have more bytes than its limit
+abbrev pub Exceed : List (List ℕ) → Account → Type 0
+Exceed strings first = (limit : ℕ) → first.kept ≡ Some (empty_book limit) → limit < total (once strings)
+
+-- a hasher took all these strings; so if it is known that it kept none before, no two different ones
+-- have the same MD5, and they fit into its book
 pub record HasAdmitted (strings : List (List ℕ)) (first now : Account) : Type 0 where
   pub has : HasHashed strings first now
-  pub apart : first.kept ≡ Some [] → HasNoClash strings
+  pub apart : KeepsNothing first.kept → HasNoClash strings
+  pub fit : Fit strings first
 
 -- the histories that the notes of the run give are legal, for the calls of the schedule and the answers
 -- printed
@@ -45,7 +54,7 @@ HasCausedAnswers s = HaveCauses s.events (schedule_run s).printed (schedule_run 
 
 -- both, if the hasher kept nothing before: then no two different strings of the run have the same MD5
 abbrev pub IsLegalRun : Account → Schedule → Type 0
-IsLegalRun first s = first.kept ≡ Some [] → HasLegalHistories s × HasCausedAnswers s
+IsLegalRun first s = KeepsNothing first.kept → HasLegalHistories s × HasCausedAnswers s
 
 -- the bytes are a sound schedule, the text is that of its run, the hasher took the strings of the run,
 -- the histories are legal, and the answers have causes
@@ -73,10 +82,10 @@ IsPastLimit bytes = (s : Schedule) × (schedule_of bytes ≡ Ok s) × (first_uns
 abbrev pub IsMessageLimit : Option (List ℕ) → List ℕ → Type 0
 IsMessageLimit source text = IfSome source IsPastLimit × (text ≡ codes "limit messages 500000" ++ 10 ∷ [])
 
--- the bytes are a sound schedule, and the hasher rejected the next string of its run, since its book
--- was full
+-- the bytes are a sound schedule, and the next string of its run did not fit into the book of the
+-- hasher, so that the strings of the run exceed this book
 abbrev pub IsFilling : Account → Account → List ℕ → Type 0
-IsFilling first now bytes = (s : Schedule) × (schedule_of bytes ≡ Ok s) × (first_unsound s ≡ None) × HasFilled (hashed_by s) first now
+IsFilling first now bytes = (s : Schedule) × (schedule_of bytes ≡ Ok s) × (first_unsound s ≡ None) × HasFilled (hashed_by s) first now × Exceed (hashed_by s) first
 
 -- a full book was found and counted, and the text reports the limit of the book of `replay`
 abbrev pub IsBookLimit : Account → Account → Option (List ℕ) → List ℕ → Type 0
@@ -94,9 +103,9 @@ PrintsWith first now source Status.ReadFault text = text ≡ codes "read fault" 
 PrintsWith first now source Status.Memory text = text ≡ codes "memory" ++ 10 ∷ []
 PrintsWith first now source status text = ⊥
 
--- the account of a book that has met no string
+-- the account of the book of `replay` before it meets a string
 abbrev pub nothing_hashed : Account
-nothing_hashed = record { kept = Some []; clashes = 0; fulls = 0 }
+nothing_hashed = record { kept = Some (empty_book 1073741824); clashes = 0; fulls = 0 }
 
 -- the text that a replay prints over such a book
 abbrev pub Prints : Option (List ℕ) → Status → List ℕ → Type 0
@@ -108,9 +117,9 @@ EndsSo first now s status text = (source : Option (List ℕ)) → IfSome source 
 
 -- how a replay over such a book ends if it reads this schedule and runs it
 abbrev pub EndsInRun : Schedule → Status → List ℕ → Type 0
-EndsInRun s Status.Done text = IsRunText s text × HasNoClash (hashed_by s)
+EndsInRun s Status.Done text = IsRunText s text × HasNoClash (hashed_by s) × (total (once (hashed_by s)) ≤ 1073741824)
 EndsInRun s Status.Clash text = (now : Account) × (kept : List ℕ) × (new : List ℕ) × HasClashed (hashed_by s) nothing_hashed kept new now × IsClash kept new × (text ≡ clash_line kept new)
-EndsInRun s Status.Limit text = (IsPastMessages (schedule_run s) × (text ≡ codes "limit messages 500000" ++ 10 ∷ [])) ⊎ ((now : Account) × HasFilled (hashed_by s) nothing_hashed now × (text ≡ codes "limit book 1073741824" ++ 10 ∷ []))
+EndsInRun s Status.Limit text = (IsPastMessages (schedule_run s) × (text ≡ codes "limit messages 500000" ++ 10 ∷ [])) ⊎ ((now : Account) × HasFilled (hashed_by s) nothing_hashed now × (1073741824 < total (once (hashed_by s))) × (text ≡ codes "limit book 1073741824" ++ 10 ∷ []))
 EndsInRun s Status.ReadFault text = text ≡ codes "read fault" ++ 10 ∷ []
 EndsInRun s Status.Memory text = text ≡ codes "memory" ++ 10 ∷ []
 EndsInRun s status text = ⊥

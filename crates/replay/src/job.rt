@@ -61,9 +61,10 @@ fn replay_ending<S: Source, H: Hasher16, R: Threads + Sync>(
 /// A job that ends in any other way writes one line: `read fault` if the input failed, `schedule
 /// LINE CAUSE` if the input is not a schedule, `limit lines 200000` if it has too many lines,
 /// `premise VIEW reverted MEMBERS` if at least half of the members of a view are reverted, `clash KEPT
-/// NEW` if the hasher finds two different strings of the run with the same MD5, `limit book 1073741824`
-/// if its book is full, `limit messages 500000` if the run would send more messages, and `memory` when
-/// out of memory. If the output fails, a prefix of the text was written.
+/// NEW` if the hasher finds two different strings of the run with the same MD5, `limit book
+/// 1073741824` if a string of the run does not fit into its book, `limit messages 500000` if the run
+/// would send more messages, and `memory` when out of memory. If the output fails, a prefix of the
+/// text was written.
 pub fn replay_with<S: Source, O: Sink, H: Hasher16, R: Threads + Sync>(
     rt: &R,
     alloc: Global,

@@ -4,6 +4,7 @@ use Rattle.std.proofs.Common.{◌≡◌, ◌⊎◌, ℕ, zero, suc, ◌-◌, ◌
 use Rattle.std.specs.Prelude.{IsErr, if◌then◌else◌}
 use Rattle.std.specs.Option.{is_some}
 use Rattle.std.specs.Result.{IsErrAnd}
+use Rattle.ens_hashing.specs.Hashing.{Book}
 use Rattle.md5.specs.Md5.{md5}
 use Rattle.ens_base.specs.declared.entry.Entry.{Entry}
 use Rattle.ens_base.specs.Lists.{◌∈◌, same_bytes}
@@ -32,7 +33,7 @@ use Rattle.synctree.proofs.Meaning.{ok_once, apart_left, apart_right, parted, op
 -- ## The steps of the code
 
 module _ {N H : Type 0} (may : N → (call : NodeCall) → NodeAnswer call → N → Type 0) (loses : N → NodeCall → StoreError → N → Type 0) (top : N → Option (Option (List ℕ))) (faults : N → ℕ)
-    (kept : H → Option (List (List ℕ))) (clashes fulls : H → ℕ) (F : Form) where
+    (kept : H → Option Book) (clashes fulls : H → ℕ) (F : Form) where
   pub name_first : (level index : ℕ) (digest : List ℕ) (s : N × H) → level ≡ 0 → DidOutside may loses top faults kept clashes fulls (name_at F digest level index) s (Ok (Some digest)) s
   name_first level index digest s is = rw is ([], (refl, refl, refl))
 

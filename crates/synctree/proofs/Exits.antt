@@ -2,6 +2,7 @@
 use Rattle.std.proofs.Common.{◌≡◌, ℕ, List, [], Option, None, Some, Result, Ok, Err, refl, ap, sym, ◌∙◌, subst, inl, inr}
 use Rattle.std.specs.Prelude.{IsErr}
 use Rattle.std.specs.Result.{IsErrAnd}
+use Rattle.ens_hashing.specs.Hashing.{Book}
 use Rattle.ens_outside.specs.Stores.{NodeCall, NodeAnswer, Read}
 use Rattle.ens_outside.specs.declared.errors.StoreError.{StoreError}
 use Rattle.synctree.specs.declared.error.TreeError.{TreeError}
@@ -26,7 +27,7 @@ passed_on {A} (Err d) e G P is and same h = subst (λ (x : TreeError). P (failed
     failed A x = Err x
 
 module _ {N H : Type 0} (may : N → (call : NodeCall) → NodeAnswer call → N → Type 0) (loses : N → NodeCall → StoreError → N → Type 0) (top : N → Option (Option (List ℕ))) (faults : N → ℕ)
-    (kept : H → Option (List (List ℕ))) (clashes fulls : H → ℕ) where
+    (kept : H → Option Book) (clashes fulls : H → ℕ) where
   abbrev pub DidOutside : {A : Type 0} → Plan A → N × H → Result A TreeError → N × H → Type 0
   DidOutside plan s r t = Did (outside_does may top faults kept clashes fulls) (outside_refuses loses top faults kept clashes fulls) plan s r t
 

@@ -3,6 +3,7 @@ use Rattle.std.proofs.Common.{◌≡◌, ℕ, suc, List, [], Option, None, Some,
 use Rattle.std.specs.Prelude.{IsErr}
 use Rattle.std.specs.Result.{IsErrAnd}
 use Rattle.ens_base.specs.declared.entry.Entry.{Entry}
+use Rattle.ens_hashing.specs.Hashing.{Book}
 use Rattle.ens_outside.specs.Stores.{NodeCall, NodeAnswer}
 use Rattle.ens_outside.specs.declared.errors.StoreError.{StoreError}
 use Rattle.tree_node.specs.declared.position.Position.{Position}
@@ -12,7 +13,7 @@ use Rattle.synctree.specs.Walks.{open_node, onward, find}
 use Rattle.synctree.proofs.Exits.{DidOutside, after, cut_off}
 
 module _ {N H : Type 0} (may : N → (call : NodeCall) → NodeAnswer call → N → Type 0) (loses : N → NodeCall → StoreError → N → Type 0) (top : N → Option (Option (List ℕ))) (faults : N → ℕ)
-    (kept : H → Option (List (List ℕ))) (clashes fulls : H → ℕ) (F : Form) where
+    (kept : H → Option Book) (clashes fulls : H → ℕ) (F : Form) where
   pub find_segment : (h : ℕ) (at : Position) (digest key : List ℕ) (s t : N × H) (r : Result (Option Entry) TreeError) → h ≡ 0
       → DidOutside may loses top faults kept clashes fulls (find F 0 at digest key) s r t → DidOutside may loses top faults kept clashes fulls (find F h at digest key) s r t
   find_segment h at digest key s t r z d = subst (λ (n : ℕ). DidOutside may loses top faults kept clashes fulls (find F n at digest key) s r t) (sym z) d

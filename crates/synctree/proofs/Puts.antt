@@ -6,6 +6,7 @@ use Rattle.std.specs.declared.cmp.Ordering.{Ordering}
 use Rattle.std.specs.declared.cmp.Ordering.TheVariants.{Less, Equal, Greater}
 use Rattle.ens_base.specs.declared.entry.Entry.{Entry}
 use Rattle.ens_base.specs.Lists.{bytes_cmp}
+use Rattle.ens_hashing.specs.Hashing.{Book}
 use Rattle.ens_outside.specs.Stores.{NodeCall, NodeAnswer}
 use Rattle.ens_outside.specs.declared.errors.StoreError.{StoreError}
 use Rattle.tree_node.specs.declared.position.Position.{Position}
@@ -111,7 +112,7 @@ put_last e [] above = refl
 put_last e (x ∷ xs) above = rw (above 0 (omega arith)) (ap (λ ys. x ∷ ys) (put_last e xs (λ j b. above (suc j) (omega arith))))
 
 module _ {N H : Type 0} (may : N → (call : NodeCall) → NodeAnswer call → N → Type 0) (loses : N → NodeCall → StoreError → N → Type 0) (top : N → Option (Option (List ℕ))) (faults : N → ℕ)
-    (kept : H → Option (List (List ℕ))) (clashes fulls : H → ℕ) (F : Form) where
+    (kept : H → Option Book) (clashes fulls : H → ℕ) (F : Form) where
   pub enter_err : (h b : ℕ) (at : Position) (named : Option (List ℕ)) (x : Entry) (s t : N × H) (r : Result (List ℕ) TreeError) (e : TreeError) (G : TreeError → Type 0) → h ≡ suc b
       → DidOutside may loses top faults kept clashes fulls (reach (F.inner_at at) (replicate F.width None) at named) s (Err e) t → IsErr r → IsErrAnd r G → ((d : TreeError) → G d → d ≡ e) → DidOutside may loses top faults kept clashes fulls (enter F h at named x) s r t
   enter_err h b at named x s t r e G z d is and same = subst (λ (n : ℕ). DidOutside may loses top faults kept clashes fulls (enter F n at named x) s r t) (sym z)

@@ -1,5 +1,6 @@
 -- The steps of writing a node.
 use Rattle.std.proofs.Common.{◌≡◌, ℕ, List, [], Option, Ok, Err, refl, sym, subst}
+use Rattle.ens_hashing.specs.Hashing.{Book}
 use Rattle.md5.specs.Md5.{md5}
 use Rattle.ens_outside.specs.Stores.{NodeCall, NodeAnswer, Write}
 use Rattle.ens_outside.specs.declared.errors.StoreError.{StoreError}
@@ -18,7 +19,7 @@ unfolding sixteen
 empty_is = refl
 
 module _ {N H : Type 0} (may : N → (call : NodeCall) → NodeAnswer call → N → Type 0) (loses : N → NodeCall → StoreError → N → Type 0) (top : N → Option (Option (List ℕ))) (faults : N → ℕ)
-    (kept : H → Option (List (List ℕ))) (clashes fulls : H → ℕ) where
+    (kept : H → Option Book) (clashes fulls : H → ℕ) where
   pub store_err : (bytes digest : List ℕ) (n u : N) (h v : H) (e : TreeError) → digest ≡ md5 bytes → HasherDid {A = List ℕ} kept clashes fulls bytes h (Ok digest) v → NodesDid may loses top faults (Write digest bytes) n (Err e) u → DidOutside may loses top faults kept clashes fulls (store bytes) (n, h) (Err e) (u, v)
   store_err bytes digest n u h v e is k d = hash_ok may loses top faults kept clashes fulls bytes (λ _. Ask (Node (Write (md5 bytes) bytes)) (λ _. Done (md5 bytes))) n h v digest (Err e) (u, v) k
       (node_err may loses top faults kept clashes fulls (Write (md5 bytes) bytes) (λ _. Done (md5 bytes)) n u v e (subst (λ (x : List ℕ). NodesDid may loses top faults (Write x bytes) n (Err e) u) is d))

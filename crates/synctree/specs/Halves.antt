@@ -1,7 +1,7 @@
 -- What one call to the store, or to the hasher, did.
 use Rattle.std.specs.Prelude.{◌≡◌, ◌≤◌, ℕ, List, Option, Result, Ok, Err}
 use Rattle.ens_base.specs.Causes.{Rose}
-use Rattle.ens_hashing.specs.Hashing.{Takes, Stays, Refuses}
+use Rattle.ens_hashing.specs.Hashing.{Book, Takes, Stays, Refuses}
 use Rattle.ens_hashing.specs.declared.error.HashError.{HashError}
 use Rattle.ens_hashing.specs.declared.error.HashError.TheVariants as hashes
 use Rattle.ens_outside.specs.Stores.{NodeCall, NodeAnswer}
@@ -18,7 +18,7 @@ NodesDid may loses top faults call s (Err Failed) t = loses s call stores.Failed
 NodesDid may loses top faults call s (Err Memory) t = loses s call stores.Memory t × TopRefused (top s) (top t) call stores.Memory × (faults t ≡ faults s)
 NodesDid may loses top faults call s (Err e) t = ⊥
 
-abbrev pub HasherDid : {A H : Type 0} → (H → Option (List (List ℕ))) → (H → ℕ) → (H → ℕ) → List ℕ → H → Result A TreeError → H → Type 0
+abbrev pub HasherDid : {A H : Type 0} → (H → Option Book) → (H → ℕ) → (H → ℕ) → List ℕ → H → Result A TreeError → H → Type 0
 HasherDid kept clashes fulls bytes s (Ok x) t = Takes bytes (kept s) (kept t) × (clashes s ≤ clashes t) × (fulls s ≤ fulls t)
 HasherDid kept clashes fulls bytes s (Err (Clash first second)) t = Stays (kept s) (kept t) × Refuses bytes (kept s) (clashes s) (clashes t) (fulls s) (fulls t) (hashes.Clash first second)
 HasherDid kept clashes fulls bytes s (Err (BookFull n)) t = Stays (kept s) (kept t) × Refuses bytes (kept s) (clashes s) (clashes t) (fulls s) (fulls t) (hashes.BookFull n)

@@ -1,7 +1,7 @@
 -- What the store of nodes and the hasher may answer to a tree, taken together.
 use Rattle.std.specs.Prelude.{◌≡◌, ◌≤◌, ℕ, List, Option, Ok, Err}
 use Rattle.ens_base.specs.Causes.{Rose}
-use Rattle.ens_hashing.specs.Hashing.{Takes, Stays, Refuses}
+use Rattle.ens_hashing.specs.Hashing.{Book, Takes, Stays, Refuses}
 use Rattle.ens_hashing.specs.declared.error.HashError.TheVariants as hashes
 use Rattle.ens_outside.specs.Stores.{NodeCall, Read, Write, Top, SetTop, NodeAnswer, SetsTop}
 use Rattle.ens_outside.specs.Told.{StaysTold, IsTold}
@@ -30,14 +30,14 @@ TopRefused old new (SetTop digest) e = SetsTop {T = Unit {0}} old new digest (Er
 -- A call is answered: the store answers as it may and its count of faults does not decrease, or the
 -- hasher takes the string. The other of the two stays as it was.
 abbrev pub outside_does : {N H : Type 0} → (N → (call : NodeCall) → NodeAnswer call → N → Type 0) → (N → Option (Option (List ℕ))) → (N → ℕ)
-    → (H → Option (List (List ℕ))) → (H → ℕ) → (H → ℕ) → N × H → (call : Call) → AnswerOf call → N × H → Type 0
+    → (H → Option Book) → (H → ℕ) → (H → ℕ) → N × H → (call : Call) → AnswerOf call → N × H → Type 0
 outside_does may top faults kept clashes fulls s (Node call) answer t = may s.0 call answer t.0 × TopAfter (top s.0) (top t.0) call answer × (faults s.0 ≤ faults t.0) × (t.1 ≡ s.1)
 outside_does may top faults kept clashes fulls s (Hash bytes) answer t = (t.0 ≡ s.0) × Takes bytes (kept s.1) (kept t.1) × (clashes s.1 ≤ clashes t.1) × (fulls s.1 ≤ fulls t.1)
 
 -- A call is refused: the store failed and its count of faults rose, the hasher refused the string
 -- and the count of such refusals rose, or out of memory. The other of the two stays as it was.
 abbrev pub outside_refuses : {N H : Type 0} → (N → NodeCall → StoreError → N → Type 0) → (N → Option (Option (List ℕ))) → (N → ℕ)
-    → (H → Option (List (List ℕ))) → (H → ℕ) → (H → ℕ) → N × H → Call → TreeError → N × H → Type 0
+    → (H → Option Book) → (H → ℕ) → (H → ℕ) → N × H → Call → TreeError → N × H → Type 0
 outside_refuses may top faults kept clashes fulls s (Node call) Failed t = may s.0 call stores.Failed t.0 × TopRefused (top s.0) (top t.0) call stores.Failed × (faults s.0 ≤ faults t.0) × Rose (faults s.0) (faults t.0) × (t.1 ≡ s.1)
 outside_refuses may top faults kept clashes fulls s (Node call) Memory t = may s.0 call stores.Memory t.0 × TopRefused (top s.0) (top t.0) call stores.Memory × (faults t.0 ≡ faults s.0) × (t.1 ≡ s.1)
 outside_refuses may top faults kept clashes fulls s (Node call) e t = ⊥

@@ -2,7 +2,7 @@
 use Rattle.std.proofs.Common.{◌≡◌, ℕ, List, [], ◌∷◌, ◌++◌, Option, Result, Ok, Err, refl, sym, subst, inl, inr}
 use Rattle.std.specs.Prelude.{IsErr}
 use Rattle.std.specs.Result.{IsErrAnd}
-use Rattle.ens_hashing.specs.Hashing.{Admits}
+use Rattle.ens_hashing.specs.Hashing.{Book, Admits}
 use Rattle.ens_hashing.specs.declared.error.HashError.{HashError}
 use Rattle.ens_hashing.specs.declared.error.HashError.TheVariants.{Memory}
 use Rattle.tree_repair.specs.Admitting.{Admitted, Rejected, AdmitsAll}
@@ -17,7 +17,7 @@ passed_on {A} (Err d) e G P is and same h = subst (λ (x : HashError). P (failed
     failed : (A : Type 0) → HashError → Result A HashError
     failed A x = Err x
 
-module _ {H : Type 0} (kept : H → Option (List (List ℕ))) (clashes fulls : H → ℕ) where
+module _ {H : Type 0} (kept : H → Option Book) (clashes fulls : H → ℕ) where
   pub admitted_append : (xs ys : List (List ℕ)) (s u t : H) → Admitted kept clashes fulls xs s u → Admitted kept clashes fulls ys u t → Admitted kept clashes fulls (xs ++ ys) s t
   admitted_append [] ys s u t same b = subst (λ (v : H). Admitted kept clashes fulls ys v t) same b
   admitted_append (x ∷ xs) ys s u t (v, k, c, f, rest) b = (v, k, c, f, admitted_append xs ys v u t rest b)

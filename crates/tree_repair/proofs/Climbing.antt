@@ -1,5 +1,6 @@
 -- A build, level by level.
 use Rattle.std.proofs.Common.{◌≡◌, ℕ, suc, ◌+◌, ◌-◌, ◌<◌, List, [], ◌∷◌, ◌++◌, Option, Some, length, get_or, map, refl, ap, sym, ◌∙◌, subst, arith, append_assoc}
+use Rattle.ens_hashing.specs.Hashing.{Book}
 use Rattle.md5.specs.Md5.{md5}
 use Rattle.ens_base.specs.declared.entry.Entry.{Entry}
 use Rattle.tree_maps.specs.Forms.{root}
@@ -62,7 +63,7 @@ kept_more x rest old new all is e = ap (λ (ns : List StoredNode). ns ++ map sto
     ∙ append_assoc old (map stored (somes (x ∷ []))) (map stored (somes rest))
     ∙ ap (λ (ns : List StoredNode). old ++ ns) (sym (ap (map stored) (somes_cons x rest) ∙ map_append stored (somes (x ∷ [])) (somes rest))) ∙ e
 
-module _ {H : Type 0} (kept : H → Option (List (List ℕ))) (clashes fulls : H → ℕ) where
+module _ {H : Type 0} (kept : H → Option Book) (clashes fulls : H → ℕ) where
   -- the levels below were refused, memory ran out behind them, or the level was tried behind them
   pub level_err : {A : Type 0} (l : ℕ) (m : List Entry) (s t : H) (e : HashError) (r : Result A HashError) (G : HashError → Type 0) → l < 3 → Rejected kept clashes fulls (nodes_down sixteen (3 - (l + 1)) (l + 1) m) s e t → IsErr r → IsErrAnd r G → ((d : HashError) → G d → d ≡ e) → AdmitsAll kept clashes fulls (nodes_down sixteen (3 - l) l m) s r t
   level_err l m s t e r G b a is and same = subst (λ (xs : List (List ℕ)). AdmitsAll kept clashes fulls xs s r t) (down_step l m (level_of sixteen l m) b refl)

@@ -1,7 +1,7 @@
 -- What the hasher admitted and what the store wrote, as one plan over both.
 use Rattle.std.proofs.Common.{◌≡◌, ℕ, List, [], ◌∷◌, Option, None, Some, Result, Ok, Err, refl, ap, subst, inl, inr}
 use Rattle.ens_base.specs.declared.entry.Entry.{Entry}
-use Rattle.ens_hashing.specs.Hashing.{Stays, Refuses as Rejects}
+use Rattle.ens_hashing.specs.Hashing.{Book, Stays, Refuses as Rejects}
 use Rattle.ens_hashing.specs.declared.error.HashError.{HashError}
 use Rattle.ens_hashing.specs.declared.error.HashError.TheVariants as hashes
 use Rattle.ens_outside.specs.Stores.{NodeCall, NodeAnswer}
@@ -24,7 +24,7 @@ use Rattle.tree_repair.specs.Rebuilds.{hash_all, rebuild_plan}
 use Rattle.tree_repair.specs.declared.built.Built.{Built}
 
 module _ {N H : Type 0} (may : N → (call : NodeCall) → NodeAnswer call → N → Type 0) (loses : N → NodeCall → StoreError → N → Type 0) (top : N → Option (Option (List ℕ))) (faults : N → ℕ)
-    (kept : H → Option (List (List ℕ))) (clashes fulls : H → ℕ) where
+    (kept : H → Option Book) (clashes fulls : H → ℕ) where
   abbrev Does : N × H → (call : Call) → AnswerOf call → N × H → Type 0
   Does s call a t = outside_does may top faults kept clashes fulls s call a t
 

@@ -1,5 +1,6 @@
 -- Loops that follow a plan for each item of a list, and calls that use the store or the hasher alone.
 use Rattle.std.proofs.Common.{◌≡◌, ℕ, zero, suc, ◌+◌, ◌<◌, ◌≤◌, List, [], ◌∷◌, ◌++◌, Option, Some, Result, Ok, Err, length, get_or, drop, take, map, refl, ap, sym, ◌∙◌, subst, arith, append_assoc, append-nil, inl, inr}
+use Rattle.ens_hashing.specs.Hashing.{Book}
 use Rattle.ens_outside.specs.Stores.{NodeCall, NodeAnswer}
 use Rattle.ens_outside.specs.declared.errors.StoreError.{StoreError}
 use Rattle.tree_node.specs.declared.position.Position.{Position}
@@ -96,7 +97,7 @@ module _ {S : Type 0} (does : S → (call : Call) → AnswerOf call → S → Ty
 -- ## The store alone, the hasher alone
 
 module _ {N H : Type 0} (may : N → (call : NodeCall) → NodeAnswer call → N → Type 0) (loses : N → NodeCall → StoreError → N → Type 0) (top : N → Option (Option (List ℕ))) (faults : N → ℕ)
-    (kept : H → Option (List (List ℕ))) (clashes fulls : H → ℕ) where
+    (kept : H → Option Book) (clashes fulls : H → ℕ) where
   store_ends : {A : Type 0} (plan : Plan A) (s t : N) (h : H) (xs : List (List ℕ)) (out : Result A Position) → Ends (store_does may top faults) plan s xs out t → Ends (outside_does may top faults kept clashes fulls) plan (s, h) xs out (t, h)
   store_ends (Done x) s t h xs out (e, is, same) = (e, is, ap (λ n. (n, h)) same)
   store_ends (Broken at) s t h xs out (e, is, same) = (e, is, ap (λ n. (n, h)) same)
@@ -153,7 +154,7 @@ module _ {N H : Type 0} (may : N → (call : NodeCall) → NodeAnswer call → N
   hasher_did plan n s t (Err (BookFull b)) d = hasher_stops plan n s t (BookFull b) d
   hasher_did plan n s t (Err Memory) d = hasher_stops plan n s t Memory d
 
-module _ {H : Type 0} (kept : H → Option (List (List ℕ))) (clashes fulls : H → ℕ) where
+module _ {H : Type 0} (kept : H → Option Book) (clashes fulls : H → ℕ) where
   pub admit_did : (read : Option (List ℕ)) (bytes b : List ℕ) (s t : H) (r : Result (Unit {0}) TreeError) → read ≡ Some bytes → b ≡ bytes → HasherDid {A = Unit {0}} kept clashes fulls b s r t → Did (hasher_does kept clashes fulls) (hasher_refuses kept clashes fulls) (hash_read read) s r t
   admit_did read bytes b s t r is same d = subst (λ (q : Option (List ℕ)). Did (hasher_does kept clashes fulls) (hasher_refuses kept clashes fulls) (hash_read q) s r t) (sym is)
       (by r (subst (λ (q : List ℕ). HasherDid {A = Unit {0}} kept clashes fulls q s r t) same d))

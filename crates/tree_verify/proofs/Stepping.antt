@@ -3,6 +3,7 @@ use Rattle.std.proofs.Common.{◌≡◌, ℕ, zero, suc, ◌+◌, ◌<◌, ◌�
 use Rattle.std.specs.Prelude.{IsErr}
 use Rattle.std.specs.Result.{IsErrAnd}
 use Rattle.std.proofs.lemmas.List.Elements.{All-nil, All-cons, All-head, All-tail, All-append}
+use Rattle.ens_hashing.specs.Hashing.{Book}
 use Rattle.md5.specs.Md5.{md5}
 use Rattle.ens_base.specs.Lists.{same_bytes}
 use Rattle.ens_base.specs.declared.entry.Entry.{Entry}
@@ -155,7 +156,7 @@ level_are h (x ∷ xs) (r ∷ rs) a = All-append (IsSlot h) (slots_below sixteen
 -- ## The steps of a scan
 
 module _ {N H : Type 0} (may : N → (call : NodeCall) → NodeAnswer call → N → Type 0) (loses : N → NodeCall → StoreError → N → Type 0) (top : N → Option (Option (List ℕ))) (faults : N → ℕ)
-    (kept : H → Option (List (List ℕ))) (clashes fulls : H → ℕ) (F : Form) where
+    (kept : H → Option Book) (clashes fulls : H → ℕ) (F : Form) where
   pub scan_err : (h : ℕ) (slots : List Slot) (s t : N × H) (r : Result Scan TreeError) (e : TreeError) (G : TreeError → Type 0) → DidOutside may loses top faults kept clashes fulls (read_level slots) s (Err e) t → IsErr r → IsErrAnd r G → ((d : TreeError) → G d → d ≡ e) → DidOutside may loses top faults kept clashes fulls (scan_from F h slots) s r t
   scan_err zero slots s t r e G d bad and same = cut_off may loses top faults kept clashes fulls (read_level slots) _ s t r e G d bad and same
   scan_err (suc h) slots s t r e G d bad and same = cut_off may loses top faults kept clashes fulls (read_level slots) _ s t r e G d bad and same

@@ -3,19 +3,19 @@ use Rattle.std.specs.Prelude.{◌≤◌, ℕ, List, Option, None, Some}
 use Rattle.std.specs.Prelude.{Bool, false}
 use Rattle.ens_base.specs.Lists.{same_bytes}
 use Rattle.md5.specs.Md5.{md5}
-use Rattle.ens_hashing.specs.Hashing.{Takes, Stays, Refuses}
+use Rattle.ens_hashing.specs.Hashing.{Book, Takes, Stays, Refuses}
 use Rattle.ens_hashing.specs.declared.error.HashError.TheVariants as hashes
 use Rattle.synctree.specs.Plans.{Call, Node, Hash, AnswerOf}
 use Rattle.synctree.specs.declared.error.TreeError.{TreeError}
 use Rattle.synctree.specs.declared.error.TreeError.TheVariants.{Clash, BookFull, Memory}
 
 -- The hasher alone takes a string, and no count of refusals decreases.
-abbrev pub hasher_does : {H : Type 0} → (H → Option (List (List ℕ))) → (H → ℕ) → (H → ℕ) → H → (call : Call) → AnswerOf call → H → Type 0
+abbrev pub hasher_does : {H : Type 0} → (H → Option Book) → (H → ℕ) → (H → ℕ) → H → (call : Call) → AnswerOf call → H → Type 0
 hasher_does kept clashes fulls s (Node call) answer t = ⊥
 hasher_does kept clashes fulls s (Hash bytes) answer t = Takes bytes (kept s) (kept t) × (clashes s ≤ clashes t) × (fulls s ≤ fulls t)
 
 -- The hasher refuses a string and the count of such refusals rose, or out of memory.
-abbrev pub hasher_refuses : {H : Type 0} → (H → Option (List (List ℕ))) → (H → ℕ) → (H → ℕ) → H → Call → TreeError → H → Type 0
+abbrev pub hasher_refuses : {H : Type 0} → (H → Option Book) → (H → ℕ) → (H → ℕ) → H → Call → TreeError → H → Type 0
 hasher_refuses kept clashes fulls s (Node call) e t = ⊥
 hasher_refuses kept clashes fulls s (Hash bytes) (Clash first second) t = Stays (kept s) (kept t) × Refuses bytes (kept s) (clashes s) (clashes t) (fulls s) (fulls t) (hashes.Clash first second)
 hasher_refuses kept clashes fulls s (Hash bytes) (BookFull n) t = Stays (kept s) (kept t) × Refuses bytes (kept s) (clashes s) (clashes t) (fulls s) (fulls t) (hashes.BookFull n)

@@ -1,6 +1,7 @@
 -- A step of a peer over stores in memory is the step of its node.
 use Rattle.std.proofs.Common.{◌≡◌, ◌↔◌, ℕ, true, false, Option, None, Some, List, [], Result, Ok, Err, inl, inr, refl, ap, subst, sym, ◌∙◌, arith}
 use Rattle.std.specs.Prelude.{IsErrOf}
+use Rattle.ens_hashing.specs.Hashing.{Book}
 use Rattle.step_plans.specs.Outboxes.{HasNotesAlone, out_of}
 use Rattle.step_plans.specs.Steps.{HasFinished, HasStopped}
 use Rattle.step_plans.specs.declared.error.PeerError.{PeerError}
@@ -64,7 +65,7 @@ module _ (peer : MemPeer) (event : Event) (come : MayCome peer.me event) (up : p
   abbrev pub running : Node
   running = Up peer.machine.state peer.machine.stores
 
-  module _ (new : MemPeer) (before after : Outbox) (none : HasNotesAlone before) (quiet : before.notes.items ≡ []) {H : Type 0} (strings : H → Option (List (List ℕ))) (c d : H → ℕ) (h k : H) where
+  module _ (new : MemPeer) (before after : Outbox) (none : HasNotesAlone before) (quiet : before.notes.items ≡ []) {H : Type 0} (strings : H → Option Book) (c d : H → ℕ) (h k : H) where
     -- what is known of the hasher before and after
     abbrev before_it : Account
     before_it = account strings c d h
@@ -121,7 +122,7 @@ module _ (peer : MemPeer) (event : Event) (come : MayCome peer.me event) (up : p
         → IsCutOff (taken peer.me event running).hashed before_it after_it w
     refused_cut {T} e w is halted took = stopped_cut e w is (took (not_halted peer up {T = T} (Err e) halted))
 
-module _ {H : Type 0} (strings : H → Option (List (List ℕ))) (c d : H → ℕ) (view : List ℕ) (node : MemNode) (s : HeldStores) (h k : H) (down : node ≡ memory.Down s) where
+module _ {H : Type 0} (strings : H → Option Book) (c d : H → ℕ) (view : List ℕ) (node : MemNode) (s : HeldStores) (h k : H) (down : node ≡ memory.Down s) where
   -- a start that ended well is that of the node
   pub start_ok : (state : State) (t : HeldStores) → Runs (HeldDo strings c d) (HeldRefuse strings c d) (start_of view) (s, h) [] (Finished state nothing) (t, k) []
       → StartsAs (account strings c d h) (account strings c d k) view (node_by node) (Up state t)

@@ -1,4 +1,5 @@
-ghost use Rattle.std.specs.Prelude.{◌≡◌, [], OnOk, Some};
+ghost use Rattle.std.specs.Prelude.{OnOk};
+ghost use Rattle.ens_hashing.specs.Hashing.{KeepsNothing};
 ghost use Rattle.held_stores.specs.Held.{account, HasNoClash};
 ghost use Rattle.schedule_text.specs.Spelling.{IsSchedule};
 ghost use Rattle.world_spec.specs.Lines.{run_of_schedule};
@@ -15,14 +16,15 @@ use wire_frames::Frame;
 
 impl World {
     /// Opens a world and applies every event of the schedule. The hasher took the strings that the
-    /// run hashes, in order. If it kept none before and says what it keeps, no two different strings
-    /// of the run have the same MD5.
+    /// run hashes, in order. If it is known that it kept none before, no two different strings of the
+    /// run have the same MD5.
     ///
     /// # Errors
     ///
     /// `MessageLimit` exactly if the run would send more than 500,000 messages, unless it is cut off
     /// first: `Memory` when out of memory, `Clash` or `BookFull` if the hasher rejected one of the
-    /// strings of the run and counted that in this call, after it took those before.
+    /// strings of the run and counted that in this call, after it took those before. `BookFull` comes
+    /// only if that string does not fit into the book, where a book is known.
     pub fn run<H: Hasher16, R: Threads + Sync>(
         rt: &R,
         alloc: Global,
@@ -31,7 +33,7 @@ impl World {
     ) -> Result<World, WorldError>
         requires { IsSchedule schedule.now }
         ensures reaches { RunReaches (account H.kept H.clashes H.fulls hasher.old) (run_of_schedule schedule.now.peers schedule.now.view schedule.now.events) result (account H.kept H.clashes H.fulls hasher.new) }
-        ensures apart { H.kept hasher.old ≡ Some [] → OnOk result (HasNoClash (run_of_schedule schedule.now.peers schedule.now.view schedule.now.events).hashed) }
+        ensures apart { KeepsNothing (H.kept hasher.old) → OnOk result (HasNoClash (run_of_schedule schedule.now.peers schedule.now.view schedule.now.events).hashed) }
     {
         let mut world = World::open(rt, alloc, schedule, hasher)?;
         let events = schedule.events.as_slice();

@@ -1,5 +1,6 @@
 -- A step or a start of a peer over stores in memory is that of its node.
 use Rattle.std.proofs.Common.{◌≡◌, ◌⊎◌, ℕ, List, [], Option, inl, inr, refl, sym, ap, subst}
+use Rattle.ens_hashing.specs.Hashing.{Book}
 use Rattle.held_stores.proofs.Determined.{determined}
 use Rattle.held_stores.proofs.Taken.{hashed_none}
 use Rattle.held_stores.specs.Held.{Held, HeldStores, Account, account, HasHashed}
@@ -24,7 +25,7 @@ taken_strings : (e : Ending State) (h : Held) (notes : List Note) → (taken_by 
 taken_strings (Finished x out) h notes = refl
 taken_strings (Stopped error) h notes = refl
 
-module _ {H : Type 0} (strings : H → Option (List (List ℕ))) (c d : H → ℕ) where
+module _ {H : Type 0} (strings : H → Option Book) (c d : H → ℕ) where
   -- what is known of a hasher
   abbrev pub tells : H → Account
   tells h = account strings c d h

@@ -2,7 +2,8 @@ use Rattle.std.proofs.Common.{◌≡◌, ◌∙◌, ◌∷◌, [], ◌++◌, rul
 use Rattle.indexmap.proofs.CallerLemmas.{insert_entry-new}
 use Rattle.ens_hashing.proofs.Lookups.{absent, total-push, strings_of-push, IsKeyed-push}
 use Rattle.ens_hashing.proofs.ClashFree.{free_push}
-use Rattle.ens_hashing.specs.Kept.{strings_of, total}
+use Rattle.ens_hashing.specs.Hashing.{total}
+use Rattle.ens_hashing.specs.Kept.{strings_of}
 use Rattle.ens_base.specs.contracts.digest.DigestPartialEq.TheImpl.{eq-value}
 use Rattle.ens_hashing.proofs.book.HashBook.keep.Goals as goal
 

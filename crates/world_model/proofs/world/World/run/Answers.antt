@@ -1,7 +1,8 @@
-use Rattle.std.proofs.Common.{arith, rules, ◌≡◌, ◌∙◌, ◌≤◌, ℕ, Option, Some, List, [], length, sym, subst, slice_get}
+use Rattle.std.proofs.Common.{arith, rules, ◌≡◌, ◌∙◌, ◌≤◌, Option, Some, [], length, sym, subst, slice_get}
 use Rattle.std.proofs.lemmas.Grind.{common_steps}
 use Rattle.std.proofs.lemmas.List.{length-map}
 use Rattle.std.proofs.lemmas.Option.{slice_get_read}
+use Rattle.ens_hashing.specs.Hashing.{Book}
 use Rattle.held_stores.proofs.Taken.{are_apart, hashed_none}
 use Rattle.held_stores.specs.Held.{HasTaken}
 use Rattle.world_spec.specs.Lines.{applied, run_of_schedule}
@@ -53,4 +54,4 @@ returns-clause-apart g c = λ told.
     let whole = run_of_schedule c.args.schedule.now.peers c.args.schedule.now.view c.args.schedule.now.events in
     let is = running_last c.args.schedule.now.peers c.args.schedule.now.view c.args.schedule.now.events c.loop-place.place _ (run_of c.loop-place.world) _ past c.loop-place.invariant in
     let has = (led_to c.loop-place.invariant.strings c.loop-place.world whole _ _ is c.loop-place.world.within c.loop-place.invariant.has).2 in
-    are_apart whole.hashed (g.H.Hasher16.kept c.loop-place.hasher) (subst (λ (k : Option (List (List ℕ))). HasTaken whole.hashed k (g.H.Hasher16.kept c.loop-place.hasher)) told has.taken) (g.met.H.Hasher16.clash_free c.loop-place.hasher)
+    are_apart whole.hashed told.0 (g.H.Hasher16.kept c.loop-place.hasher) (subst (λ (k : Option Book). HasTaken whole.hashed k (g.H.Hasher16.kept c.loop-place.hasher)) told.1 has.taken) (g.met.H.Hasher16.clash_free c.loop-place.hasher)
