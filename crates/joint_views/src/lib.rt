@@ -10,4 +10,4 @@ mod laws;
 mod tally;
 
 pub use laws::{no_quorum_is_missed, quorums_meet, tests_decide};
-pub use tally::{Tally, is_in, is_member};
+pub use tally::{Tally, is_in, is_member, members};

@@ -1,5 +1,6 @@
-ghost use Rattle.std.specs.Prelude.{◌≡◌, ◌↔◌, ◌≤◌, ◌==◌, ◌||◌, ℕ, IsTrue, Contains, count_by, replicate, true, false};
+ghost use Rattle.std.specs.Prelude.{◌≡◌, ◌↔◌, ◌≤◌, ◌==◌, ◌||◌, ℕ, IsTrue, Contains, count_by, length, replicate, true, false};
 ghost use Rattle.ens_base.specs.PeerSet.{holds};
+ghost use Rattle.joint_views.specs.Members.{members as members_of};
 ghost use Rattle.joint_views.specs.Quorums.{is_majority, is_quorum, is_in as is_in_list, is_member as is_member_of, has_all as has_all_of, has_every, voted, IsMember, HasAll, HasEvery};
 
 use ens_base::{PeerId, PeerSet, View, Views};
@@ -35,6 +36,31 @@ pub fn is_in(view: &View, peer: PeerId) -> bool
     ensures range { IsTrue result → (1 ≤ peer) × (peer ≤ 31) }
 {
     view.members().contains(&peer)
+}
+
+/// Returns the set with the members of the view added.
+fn with_view(set: PeerSet, view: &View) -> PeerSet
+    ensures size { length result ≡ length set }
+    ensures members { (p : ℕ) → holds result p ≡ (is_in_list view.now p || holds set p) }
+    ensures none { holds set 0 ≡ false → holds result 0 ≡ false }
+{
+    let mut all = set;
+    for member in view.members() {
+        all.insert(*member);
+    }
+    all
+}
+
+/// Returns the members of all the views.
+pub fn members(views: &Views) -> PeerSet
+    ensures set { result ≡ members_of views.now }
+    ensures members { (p : ℕ) → holds result p ≡ is_member_of views.now p }
+{
+    let set = with_view(PeerSet::empty(), &views.first());
+    match views.second() {
+        None => set,
+        Some(old) => with_view(set, &old),
+    }
 }
 
 /// Returns whether the peer is a member of some view.

@@ -9,4 +9,4 @@ mod error;
 mod out;
 
 pub use error::LeadError;
-pub use out::{AnswerOut, LeadOut, Outgoing, Own, is_other_member};
+pub use out::{AnswerOut, LeadOut, Outgoing, Own, is_other_of};

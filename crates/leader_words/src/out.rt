@@ -1,11 +1,13 @@
-ghost use Rattle.std.specs.Prelude.{◌≡◌, ◌++◌, ◌∷◌, [], OnOk, IfOk};
+ghost use Rattle.std.specs.Prelude.{◌≡◌, ℕ, ◌++◌, ◌∷◌, [], OnOk, IfOk};
+ghost use Rattle.ens_base.specs.PeerSet.{holds};
+ghost use Rattle.joint_views.specs.Quorums.{is_member};
 ghost use Rattle.leader_words.specs.Outs.{comes, rests as rests_row, leaves as leaves_row, leads_on as leads_on_row, and_key, and_then, and_answer, and_note, and_send, and_own};
 ghost use Rattle.leader_words.specs.Sends.{is_other, sent_up_to, tells_all as tells_all_row};
 
 use crate::error::LeadError;
-use ens_base::{Key, PeerId, Reply, Seq, Views};
+use ens_base::{Key, PeerId, PeerSet, Reply, Seq, Views};
 use ens_object::Object;
-use joint_views::is_member;
+use joint_views::members;
 use register_model::Note;
 use std::alloc::Global;
 use wire_frames::{Message, Then};
@@ -139,9 +141,30 @@ impl LeadOut {
         self.own = Some(own);
     }
 
+    /// Adds the message to each of the members, which are those of the views, except `me`.
+    #[tactic(auto, unfolding(crate::specs::Sends::sent_up_to))]
+    fn tell_others(
+        &mut self,
+        alloc: Global,
+        me: PeerId,
+        views: &Views,
+        members: &PeerSet,
+        message: &Message,
+    ) -> Result<(), LeadError>
+        requires { (p : ℕ) → holds members.now p ≡ is_member views.now p }
+        ensures { OnOk result (self.new ≡ tells_all_row me views.now message.now self.old) }
+    {
+        for below in 0..31 {
+            let peer = PeerId(below + 1);
+            if is_other_of(me, views, members, peer) {
+                self.send(peer, message.copy(alloc)?)?;
+            }
+        }
+        Ok(())
+    }
+
     /// Adds the message to each member of the views except `me`, in ascending order. Fails only
     /// when out of memory.
-    #[tactic(auto, unfolding(crate::specs::Sends::sent_up_to))]
     pub fn tell_all(
         &mut self,
         alloc: Global,
@@ -151,19 +174,16 @@ impl LeadOut {
     ) -> Result<(), LeadError>
         ensures { OnOk result (self.new ≡ tells_all_row me views.now message.now self.old) }
     {
-        for below in 0..31 {
-            let peer = PeerId(below + 1);
-            if is_other_member(me, views, peer) {
-                self.send(peer, message.copy(alloc)?)?;
-            }
-        }
-        Ok(())
+        self.tell_others(alloc, me, views, &members(views), message)
     }
 }
 
-/// Whether `peer` is a member of the views other than `me`.
-pub fn is_other_member(me: PeerId, views: &Views, peer: PeerId) -> bool
+/// Whether `peer` is one of the members, which are those of the views, and is not `me`.
+pub fn is_other_of(me: PeerId, views: &Views, members: &PeerSet, peer: PeerId) -> bool
+    requires { (p : ℕ) → holds members.now p ≡ is_member views.now p }
     ensures { result ≡ is_other me views.now peer }
 {
-    is_member(views, peer) && peer != me
+    // The views stand for what the set holds.
+    let _ = views;
+    members.has(peer) && peer != me
 }

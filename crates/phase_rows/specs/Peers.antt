@@ -1,12 +1,8 @@
 -- Sets of peers, as the rules use them. A set is one flag for each number from 0 to 31.
-use Rattle.std.specs.Prelude.{ℕ, Bool, true, false, not, ◌&&◌, ◌||◌, ◌==◌, List, ◌∷◌, map, replicate, slice_set}
-use Rattle.std.specs.List.{range_with_len}
+use Rattle.std.specs.Prelude.{ℕ, Bool, true, false, not, ◌&&◌, ◌||◌, ◌==◌, List, replicate, slice_set}
 use Rattle.ens_base.specs.PeerSet.{holds}
 use Rattle.joint_views.specs.Quorums.{is_member}
-
--- the peers, 1 to 31, that pass the test
-abbrev pub those : (ℕ → Bool) → List Bool
-those test = false ∷ map test (range_with_len 1 31)
+pub use Rattle.joint_views.specs.Members.{those, members}
 
 -- the empty set
 abbrev pub nobody : List Bool
@@ -19,10 +15,6 @@ joined peer set = slice_set set peer true
 -- the set of this peer alone
 abbrev pub alone : ℕ → List Bool
 alone peer = joined peer nobody
-
--- the members of all the views
-abbrev pub members : List (List ℕ) → List Bool
-members views = those (is_member views)
 
 -- the members of the views that are not in the set, except `me`
 abbrev pub others_outside : ℕ → List Bool → List (List ℕ) → List Bool

@@ -16,7 +16,7 @@ mod peers;
 pub use answers::{
     anew_at_6, at_ballot, leave_leading, refuse, refuse_below, save, save_and_send, send, silent,
 };
-pub use joint_views::is_member;
+pub use joint_views::{is_member, members};
 pub use laws::tests_are_the_orders;
 pub use orders::{is_below, is_newer, is_same, may_accept};
-pub use peers::{alone, are_quorum, joined, members, others_of, others_outside, with_members};
+pub use peers::{alone, are_quorum, joined, others_of, others_outside, with_members};

@@ -2,7 +2,7 @@ ghost use Rattle.std.specs.Prelude.{◌≡◌, ◌≤◌, ◌<◌};
 ghost use Rattle.ens_base.specs.PeerSet.{holds};
 ghost use Rattle.ens_base.specs.View.{IsPeer};
 ghost use Rattle.joint_views.specs.Quorums.{is_quorum};
-ghost use Rattle.phase_rows.specs.Peers.{alone as alone_set, joined as joined_set, members as members_set, others_outside as outside_set, with_members as with_set, others_of as others_set};
+ghost use Rattle.phase_rows.specs.Peers.{alone as alone_set, joined as joined_set, others_outside as outside_set, with_members as with_set, others_of as others_set};
 
 use ens_base::{PeerId, PeerSet, Views};
 use joint_views::{Tally, is_member};
@@ -23,19 +23,6 @@ pub fn joined(set: PeerSet, peer: PeerId) -> PeerSet
     let mut joined = set;
     joined.insert(peer);
     joined
-}
-
-/// Returns the members of all the views.
-pub fn members(views: &Views) -> PeerSet
-    ensures { result ≡ members_set views.now }
-{
-    let mut set = PeerSet::empty();
-    for number in 1..32 {
-        if is_member(views, PeerId(number)) {
-            set.insert(PeerId(number));
-        }
-    }
-    set
 }
 
 /// Returns the members of the views that are not in the set, except `me`.
