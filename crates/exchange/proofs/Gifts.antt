@@ -31,7 +31,7 @@ present_is zero es t = inr refl
 present_is (suc l) [] t = inl (refl, refl)
 present_is (suc l) (e ∷ es) t = inr refl
 
-is_last : (l : ℕ) → l ≡ 3 → (l == 3) ≡ true
+pub is_last : (l : ℕ) → l ≡ 3 → (l == 3) ≡ true
 is_last l e = grind (arith, nat_tests)
 
 -- ## A segment

@@ -32,11 +32,11 @@ use Rattle.exchange.specs.Covers.{Has, Passes, IsLeft, Covers, give_of, IsOwn, A
 use Rattle.exchange.proofs.Having.{has_in, in_has, from_filter}
 use Rattle.exchange.proofs.Covering.{page_keeps, IsFair, inner_keeps}
 use Rattle.exchange.proofs.Lying.{passes_none}
-use Rattle.exchange.proofs.Gifts.{give_page, give_inner, own_names}
+use Rattle.exchange.proofs.Gifts.{is_last, give_page, give_inner, own_names}
 
 -- ## The open question
 
-same_number : (a b : ℕ) → (a == b) ≡ true → a ≡ b
+pub same_number : (a b : ℕ) → (a == b) ≡ true → a ≡ b
 same_number a b e = grind (arith, nat_tests)
 
 after_is : (a b : Option (List ℕ)) → same_after a b ≡ true → a ≡ b
@@ -128,9 +128,6 @@ known_has h at own scan m n p ok is apart c d k v wide known names passing has =
         found parts.1 (subst (λ (es : List Entry). Has es k v) (same some digest) has)
 
 -- ## The whole
-
-is_last : (l : ℕ) → l ≡ 3 → (l == 3) ≡ true
-is_last l e = grind (arith, nat_tests)
 
 not_last : (l : ℕ) → l < 3 → (l == 3) ≡ false
 not_last l e = grind (arith, nat_tests)

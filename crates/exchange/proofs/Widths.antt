@@ -3,6 +3,7 @@ use Rattle.std.proofs.Common.{◌≡◌, ℕ, zero, suc, ◌+◌, ◌-◌, ◌<�
 use Rattle.std.specs.List.{AllByRecursion}
 use Rattle.tree_node.specs.declared.position.Position.{Position}
 use Rattle.tree_node.specs.Positions.{IsPosition}
+use Rattle.tree_maps.proofs.Slices.{drop_all}
 use Rattle.tree_maps.specs.Forms.{root, child}
 use Rattle.tree_maps.specs.Sixteen.{sixteen, children_of}
 use Rattle.synctree.proofs.Places.{place_of, place_below, position_of}
@@ -27,7 +28,7 @@ ask_next damaged at own names i x all old now l is e step =
     ∙ sym (append_assoc old (if_unknown damaged (child sixteen at i) (get_or own i None) x) (to_ask damaged at own (i + 1) (drop (i + 1) names)))
     ∙ ap (λ (ps : List Position). ps ++ to_ask damaged at own (i + 1) (drop (i + 1) names)) (sym step)
 
-all_append : (a b : List Position) → AllByRecursion IsPosition a → AllByRecursion IsPosition b → AllByRecursion IsPosition (a ++ b)
+pub all_append : (a b : List Position) → AllByRecursion IsPosition a → AllByRecursion IsPosition b → AllByRecursion IsPosition (a ++ b)
 all_append [] b p q = q
 all_append (x ∷ a) b p q = (p.0, all_append a b p.1 q)
 
@@ -47,12 +48,6 @@ pub asked_places : (damaged : List Position) (at : Position) (own cs : List (Opt
 asked_places damaged at own [] i p l few = tt
 asked_places damaged at own (c ∷ cs) i p l few = all_append (if_unknown damaged (child sixteen at i) (get_or own i None) c) (to_ask damaged at own (i + 1) cs)
     (one_places damaged (child sixteen at i) (get_or own i None) c (child_position at i p l (omega (arith, few)))) (asked_places damaged at own cs (i + 1) p l (omega (arith, few)))
-
-drop_all : (xs : List (Option (List ℕ))) (i : ℕ) → length xs ≤ i → drop i xs ≡ []
-drop_all [] zero l = refl
-drop_all [] (suc i) l = refl
-drop_all (x ∷ xs) zero l = absurd (omega arith)
-drop_all (x ∷ xs) (suc i) l = drop_all xs i (omega arith)
 
 pub ask_end : (damaged : List Position) (at : Position) (own names : List (Option (List ℕ))) (i : ℕ) (all old : List Position) → length names ≤ i → all ≡ old ++ to_ask damaged at own i (drop i names) → old ≡ all
 ask_end damaged at own names i all old l e = sym (e ∙ ap (λ (cs : List (Option (List ℕ))). old ++ to_ask damaged at own i cs) (drop_all names i l) ∙ append-nil old)

@@ -83,7 +83,7 @@ segment_kind at bytes low = let zero_is : 3 - at.level ≡ 0 = omega (arith, low
 
 -- ## What is read
 
-present_is : (l : ℕ) (es : List Entry) (t : List ℕ) → ((present l es t ≡ None) × (es ≡ [])) ⊎ (IsThere l es × (present l es t ≡ Some t))
+pub present_is : (l : ℕ) (es : List Entry) (t : List ℕ) → ((present l es t ≡ None) × (es ≡ [])) ⊎ (IsThere l es × (present l es t ≡ Some t))
 present_is zero es t = inr (tt, refl)
 present_is (suc l) [] t = inl (refl, refl)
 present_is (suc l) (e ∷ es) t = inr (λ is. cc, refl)
@@ -93,7 +93,7 @@ abbrev digested : Option (List ℕ) → Option (List ℕ)
 digested None = None
 digested (Some t) = Some (md5 t)
 
-named_is : (l : ℕ) (es : List Entry) (t : List ℕ) → named es t ≡ digested (present (suc l) es t)
+pub named_is : (l : ℕ) (es : List Entry) (t : List ℕ) → named es t ≡ digested (present (suc l) es t)
 named_is l [] t = refl
 named_is l (e ∷ es) t = refl
 

@@ -1,6 +1,5 @@
 -- Positions in the tree of sixteen.
-use Rattle.std.proofs.Common.{◌≡◌, ℕ, zero, suc, ◌+◌, ◌-◌, ◌*◌, ◌/◌, ◌%◌, ◌<◌, ◌≤◌, ◌^◌, Bool, true, false, cond, List, refl, sym, subst, arith}
-use Rattle.std.specs.Prelude.{slice_index, ◌==◌}
+use Rattle.std.proofs.Common.{◌≡◌, ℕ, zero, suc, ◌+◌, ◌-◌, ◌*◌, ◌<◌, ◌≤◌, ◌^◌, List, refl, sym, subst, arith}
 use Rattle.tree_maps.proofs.Unique.{child_place}
 use Rattle.tree_node.specs.declared.position.Position.{Position}
 use Rattle.tree_node.specs.Positions.{IsPosition}
@@ -56,13 +55,6 @@ index_room at c p l d = room at.index c (16 ^ at.level) p.index (pow_small at.le
   where
     room : (i c w : ℕ) → i < w → w ≤ 16 ^ 2 → c < 16 → 16 * i + c < 2 ^ 32
     room i c w a b d = omega arith
-
-pub nibble_below : (digest : List ℕ) (level : ℕ) → nibble digest level < 16
-nibble_below digest level = by (level % 2 == 0)
-  where
-    by : (b : Bool) → cond b (slice_index digest (level / 2) / 16 % 16) (slice_index digest (level / 2) % 16) < 16
-    by true = omega arith
-    by false = omega arith
 
 pub place_below : (h : ℕ) (at below : Position) (c : ℕ) → IsPlace sixteen h at → 0 < h → below ≡ child sixteen at c → c < 16 → IsPlace sixteen (h - 1) below
 place_below h at below c p some is l = subst (λ (x : Position). IsPlace sixteen (h - 1) x) (sym is)

@@ -19,6 +19,7 @@ use Rattle.tree_maps.specs.Entries.{IsBelowAll, Ascends, put}
 use Rattle.tree_maps.specs.Forms.{Form, child}
 use Rattle.tree_maps.specs.Sixteen.{sixteen, spread, children_of, inner_node, segment, children_in}
 use Rattle.tree_maps.proofs.Parts.{ascends-put, below_trans}
+use Rattle.tree_maps.proofs.Formats.{above_of, key_above}
 use Rattle.synctree.specs.declared.error.TreeError.{TreeError}
 use Rattle.synctree.specs.Plans.{Call, AnswerOf, Did}
 use Rattle.synctree.specs.Walks.{open_node, reach, store, enter}
@@ -56,7 +57,7 @@ width_of does refuses at digest s t (Err e) d = tt
 
 -- ## Entries in order
 
-above_is_less : (a b : List ℕ) → is_above a b ≡ true → bytes_cmp a b ≡ Less
+pub above_is_less : (a b : List ℕ) → is_above a b ≡ true → bytes_cmp a b ≡ Less
 above_is_less a b e = by (bytes_cmp a b) e
   where
     by : (o : Ordering) → is_less o ≡ true → o ≡ Less
@@ -72,29 +73,21 @@ listed_ascends : (low : List ℕ) (es : List Entry) → AreListed IsNext (λ e. 
 listed_ascends low [] a = tt
 listed_ascends low (e ∷ es) a = (listed_below e.key es a.1, listed_ascends e.key es a.1)
 
-ascends_above : (low : List ℕ) (es : List Entry) → IsBelowAll low es → Ascends es → AreAbove low es
-ascends_above low [] b a = tt
-ascends_above low (e ∷ es) b a = (ap is_less b.0, ascends_above e.key es a.0 a.1)
-
-some_above : (key : List ℕ) → 1 ≤ length key → is_above [] key ≡ true
-some_above [] l = absurd (omega arith)
-some_above (x ∷ key) l = refl
-
 above_start : (es : List Entry) → ((low : List ℕ) (first : Entry) (rest : List Entry) → es ≡ first ∷ rest → 1 ≤ length first.key) → Ascends es → AreAbove [] es
 above_start [] f a = tt
-above_start (e ∷ es) f a = (some_above e.key (f [] e es refl), ascends_above e.key es a.0 a.1)
+above_start (e ∷ es) f a = (key_above e.key (f [] e es refl), above_of e.key es a.0 a.1)
 
 pub put_above : (e : Entry) (es : List Entry) → 1 ≤ length e.key → AreEntries es → AreAbove [] (put e es)
-put_above e [] l a = (some_above e.key l, tt)
+put_above e [] l a = (key_above e.key l, tt)
 put_above e (x ∷ es) l a = by (bytes_cmp e.key x.key) refl
   where
     sorted : Ascends (put e (x ∷ es))
     sorted = ascends-put e (x ∷ es) (listed_ascends [] (x ∷ es) a)
 
     by : (o : Ordering) → bytes_cmp e.key x.key ≡ o → AreAbove [] (put e (x ∷ es))
-    by Less is = let s = rw is at sorted in rw is (some_above e.key l, ascends_above e.key (x ∷ es) s.0 s.1)
-    by Equal is = let s = rw is at sorted in rw is (some_above e.key l, ascends_above e.key es s.0 s.1)
-    by Greater is = let s = rw is at sorted in rw is (some_above x.key a.0.1.key.size.0, ascends_above x.key (put e es) s.0 s.1)
+    by Less is = let s = rw is at sorted in rw is (key_above e.key l, above_of e.key (x ∷ es) s.0 s.1)
+    by Equal is = let s = rw is at sorted in rw is (key_above e.key l, above_of e.key es s.0 s.1)
+    by Greater is = let s = rw is at sorted in rw is (key_above x.key a.0.1.key.size.0, above_of x.key (put e es) s.0 s.1)
 
 -- the place of an entry
 pub put_same : (e : Entry) (xs : List Entry) (i : ℕ) → i < length xs → ((j : ℕ) → j < i → bytes_cmp e.key (get_or xs j e).key ≡ Greater) → bytes_cmp e.key (get_or xs i e).key ≡ Equal → put e xs ≡ set xs i e

@@ -1,7 +1,8 @@
 -- The steps of an install.
-use Rattle.std.proofs.Common.{◌≡◌, ℕ, zero, suc, ◌+◌, ◌<◌, ◌≤◌, List, [], ◌∷◌, Option, Result, Ok, Err, length, get_or, drop, refl, ap, sym, subst, arith, inl, inr}
+use Rattle.std.proofs.Common.{◌≡◌, ℕ, ◌+◌, ◌<◌, ◌≤◌, List, [], Option, Result, Ok, Err, length, get_or, drop, refl, sym, subst, inl, inr}
 use Rattle.ens_outside.specs.Stores.{NodeCall, NodeAnswer, Write, SetTop}
 use Rattle.ens_outside.specs.declared.errors.StoreError.{StoreError}
+use Rattle.tree_maps.proofs.Slices.{drop_at, drop_all}
 use Rattle.synctree.specs.declared.error.TreeError.{TreeError}
 use Rattle.synctree.specs.declared.error.TreeError.TheVariants.{Damaged, Failed, Clash, BookFull, Memory}
 use Rattle.synctree.specs.declared.stored_node.StoredNode.{StoredNode}
@@ -10,20 +11,6 @@ use Rattle.synctree.specs.Plans.{Node, Plan, Done, Ask, Did}
 use Rattle.synctree.specs.Walks.{set_top}
 use Rattle.synctree.specs.Installs.{store_does, store_refuses, write_all, install_plan}
 use Rattle.synctree.proofs.Composing.{did_ask, did_then, did_err}
-
-drop_at : {A : Type 0} (xs : List A) (i : ℕ) (x d : A) → i < length xs → x ≡ get_or xs i d → drop i xs ≡ x ∷ drop (i + 1) xs
-drop_at {A = A} xs i x d l e = let next : i + 1 ≡ suc i = omega arith in rw next (by xs i l e)
-  where
-    by : (ys : List A) (j : ℕ) → j < length ys → x ≡ get_or ys j d → drop j ys ≡ x ∷ drop (suc j) ys
-    by [] j l e = absurd (omega arith)
-    by (y ∷ ys) zero l e = ap (λ z. z ∷ ys) (sym e)
-    by (y ∷ ys) (suc j) l e = by ys j (omega arith) e
-
-drop_all : {A : Type 0} (xs : List A) (i : ℕ) → length xs ≤ i → drop i xs ≡ []
-drop_all [] zero h = refl
-drop_all [] (suc i) h = refl
-drop_all (x ∷ xs) zero h = absurd (omega arith)
-drop_all (x ∷ xs) (suc i) h = drop_all xs i (omega arith)
 
 module _ {N : Type 0} (may : N → (call : NodeCall) → NodeAnswer call → N → Type 0) (loses : N → NodeCall → StoreError → N → Type 0) (top : N → Option (Option (List ℕ))) (faults : N → ℕ) where
   abbrev pub DidStore : {A : Type 0} → Plan A → N → Result A TreeError → N → Type 0

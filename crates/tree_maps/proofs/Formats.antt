@@ -67,11 +67,11 @@ place_position h at p = record { level = omega (arith, p.level); index = p.index
 above_less : (low key : List ℕ) → bytes_cmp low key ≡ Less → is_above low key ≡ true
 above_less low key e = ap is_less e
 
-above_of : (low : List ℕ) (es : List Entry) → IsBelowAll low es → Ascends es → AreAbove low es
+pub above_of : (low : List ℕ) (es : List Entry) → IsBelowAll low es → Ascends es → AreAbove low es
 above_of low [] b a = tt
 above_of low (e ∷ es) b a = (above_less low e.key b.0, above_of e.key es a.0 a.1)
 
-key_above : (key : List ℕ) → 1 ≤ length key → is_above [] key ≡ true
+pub key_above : (key : List ℕ) → 1 ≤ length key → is_above [] key ≡ true
 key_above [] l = absurd (omega arith)
 key_above (x ∷ key) l = refl
 
@@ -88,7 +88,7 @@ segment_reads : (h : ℕ) (at : Position) (es : List Entry) → IsPlace sixteen 
 segment_reads h at es p ok =
     ap entries_in (segment_again at (place_position h at p) (segment_spelling (segment at es)) (segment at es) (record { position = place_position h at p; few = ok.few; entries = entries_valid [] es (map_above es ok.entries ok.ascends) ok.entries }) refl refl)
 
-nibble_below : (digest : List ℕ) (level : ℕ) → nibble digest level < 16
+pub nibble_below : (digest : List ℕ) (level : ℕ) → nibble digest level < 16
 nibble_below digest level = by (level % 2 == 0)
   where
     by : (b : Bool) → cond b (slice_index digest (level / 2) / 16 % 16) (slice_index digest (level / 2) % 16) < 16

@@ -4,3 +4,4 @@ pub mod Names
 pub mod Unique
 pub mod Formats
 pub mod Below
+pub mod Slices

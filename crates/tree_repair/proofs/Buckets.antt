@@ -1,12 +1,9 @@
 -- The segments of a map, filled with one entry after another.
 use Rattle.std.proofs.Common.{◌≡◌, ◌≢◌, ℕ, zero, suc, ◌+◌, ◌-◌, ◌*◌, ◌/◌, ◌%◌, ◌<◌, ◌≤◌, ◌^◌, Bool, true, false, cond, List, [], ◌∷◌, ◌++◌, length, get_or, set, map, refl, ap, sym, ◌∙◌, subst, arith}
 use Rattle.std.specs.Prelude.{◌==◌, ◌&&◌, filter}
-use Rattle.std.specs.declared.cmp.Ordering.{Ordering}
-use Rattle.std.specs.declared.cmp.Ordering.TheVariants.{Less, Equal, Greater}
 use Rattle.std.proofs.lemmas.Bool.Decides.{nat_tests}
 use Rattle.md5.specs.Md5.{md5}
 use Rattle.ens_base.specs.declared.entry.Entry.{Entry}
-use Rattle.ens_base.specs.Lists.{bytes_cmp}
 use Rattle.tree_node.specs.Entries.{is_less, is_above, AreAbove}
 use Rattle.tree_node.specs.Positions.{IsPosition}
 use Rattle.tree_node.specs.declared.node.Segment.{Segment}
@@ -16,7 +13,9 @@ use Rattle.tree_maps.specs.Paths.{passes, under, present, node_of}
 use Rattle.tree_maps.specs.Sixteen.{sixteen, nibble, segment}
 use Rattle.tree_maps.proofs.Orders.{less_trans}
 use Rattle.tree_maps.proofs.Parts.{get-each, length-each}
-use Rattle.synctree.proofs.Places.{width_is, depth_is, digit_is, nibble_below}
+use Rattle.tree_maps.proofs.Formats.{nibble_below}
+use Rattle.synctree.proofs.Places.{width_is, depth_is, digit_is}
+use Rattle.synctree.proofs.Puts.{above_is_less as above_less}
 use Rattle.tree_repair.specs.Builds.{place, level_of}
 use Rattle.tree_repair.specs.Levels.{segment_index, segment_slot, with_entry}
 use Rattle.tree_repair.proofs.Lists.{each_from, map_each, filter_push, append_nil}
@@ -82,14 +81,6 @@ pub segment_at : (f : ℕ → Segment) (n i : ℕ) (ss : List Segment) (s : Segm
 segment_at f n i ss s e l is = let zeros : 0 + i ≡ i = omega arith in is ∙ ap (λ (xs : List Segment). get_or xs i s) e ∙ get-each f n 0 i s l ∙ ap f zeros
 
 -- ## Parts of ascending entries ascend
-
-above_less : (a b : List ℕ) → is_above a b ≡ true → bytes_cmp a b ≡ Less
-above_less a b e = by (bytes_cmp a b) e
-  where
-    by : (o : Ordering) → is_less o ≡ true → o ≡ Less
-    by Less e = refl
-    by Equal e = absurd cc
-    by Greater e = absurd cc
 
 above_further : (low k : List ℕ) (es : List Entry) → is_above low k ≡ true → AreAbove k es → AreAbove low es
 above_further low k [] l a = tt

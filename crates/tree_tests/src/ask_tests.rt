@@ -1,11 +1,13 @@
-use crate::synctree_tests::{entry, fresh};
-use ens_base::Seq;
+ghost use Rattle.tree_node.specs.Positions.{IsPosition};
+
+use crate::trees::{MemTree, entry, fresh, insert};
+use ens_base::{Entry, Seq};
 use ens_hashing::PlainHasher;
-use ens_outside::MemNodes;
-use exchange::{Ask, Question, Step, give};
+use exchange::{Ask, AskError, Question, Step, give};
 use std::alloc::Global;
 use std::test::Fail;
-use synctree::Tree;
+use std::thread::Threads;
+use synctree::ROOT;
 use tree_node::{Position, Scan, TreeBody};
 use tree_verify::{NoGate, scan};
 
@@ -18,10 +20,19 @@ const KEYS: [&str; 33] = [
 ];
 
 /// A tree of the keys 0 to `count` - 1, of one byte each.
-fn numbers(alloc: Global, count: u8) -> Result<Tree<MemNodes>, Fail> {
+fn numbers(alloc: Global, count: u8) -> Result<MemTree, Fail> {
     let mut tree = fresh(alloc)?;
     for key in 0..count {
-        tree.insert(alloc, &mut PlainHasher, &entry(alloc, &[key], 1)?)?;
+        insert(alloc, &mut tree, &entry(alloc, &[key], 1)?)?;
+    }
+    Ok(tree)
+}
+
+/// A tree of the keys that begin with 900.
+fn one_segment(alloc: Global) -> Result<MemTree, Fail> {
+    let mut tree = fresh(alloc)?;
+    for key in KEYS {
+        insert(alloc, &mut tree, &entry(alloc, key.as_bytes(), 1)?)?;
     }
     Ok(tree)
 }
@@ -30,114 +41,118 @@ fn numbers(alloc: Global, count: u8) -> Result<Tree<MemNodes>, Fail> {
 fn answer(
     alloc: Global,
     ask: &mut Ask,
-    own: &mut Tree<MemNodes>,
+    own: &mut MemTree,
     scan: &Scan,
-    other: &mut Tree<MemNodes>,
-) -> Result<Step, Fail> {
+    other: &mut MemTree,
+) -> Result<Step, AskError> {
     let question = match ask.question() {
         Some(question) => question.copy(alloc)?,
         None => return Ok(Step::Done),
     };
     let body = give(alloc, other, &mut PlainHasher, &question)?;
-    Ok(ask.take(alloc, own, scan, &mut PlainHasher, &question, &body)?)
+    ask.take(alloc, own, scan, &mut PlainHasher, &question, &body)
 }
 
-/// 40 of 100 keys are missing, each in a segment of its own: 40 segments under 15 children of the
-/// root, in 39 nodes of the second level.
+/// What an ask came to: how many entries it had after each answer, and the bytes of their keys.
+#[derive(Drop)]
+struct Asked {
+    counts: Vec<usize>,
+    keys: Vec<u8>,
+}
+
+fn keys_of(alloc: Global, entries: &[Entry]) -> Result<Vec<u8>, Fail> {
+    let mut keys = Vec::new(alloc);
+    for entry in entries {
+        keys.extend_from_slice(entry.key.bytes())?;
+    }
+    Ok(keys)
+}
+
+/// Asks the other tree until nothing is left to ask, or 200 questions were answered.
+fn ask_all(
+    alloc: Global,
+    own: &mut MemTree,
+    scan: &Scan,
+    other: &mut MemTree,
+) -> Result<Asked, Fail> {
+    let mut ask = Ask::start(alloc);
+    let mut counts = Vec::new(alloc);
+    for _ in 0..200u32 {
+        if ask.question().is_some() {
+            answer(alloc, &mut ask, own, scan, other)?;
+            counts.push(ask.entries().len())?;
+        }
+    }
+    Ok(Asked {
+        counts,
+        keys: keys_of(alloc, ask.entries())?,
+    })
+}
+
+/// Scans the own tree, and asks the other one.
+fn scan_and_ask<R: Threads + Sync>(
+    rt: &R,
+    alloc: Global,
+    mut own: MemTree,
+    mut other: MemTree,
+) -> Result<Asked, Fail> {
+    let found = scan(rt, alloc, &mut own, &mut PlainHasher, &NoGate)?;
+    ask_all(alloc, &mut own, &found, &mut other)
+}
+
+/// Equal trees ask for the root alone. Where 40 of 100 keys are missing, each stands in a segment of its
+/// own: 40 segments under 15 children of the root, in 39 nodes of the second level.
 #[test]
 fn an_ask_receives_what_the_own_tree_lacks(rt: HostRuntime) -> Result<(), Fail> {
     let alloc = rt.alloc();
-    let mut own = numbers(alloc, 60)?;
-    let mut other = numbers(alloc, 100)?;
-    let found = scan(&rt, alloc, &mut own, &mut PlainHasher, &NoGate)?;
-    let mut ask = Ask::start(alloc);
-    let mut questions = 0u32;
-    for _ in 0..200u32 {
-        if ask.question().is_some() {
-            questions = questions.wrapping_add(1);
-            answer(alloc, &mut ask, &mut own, &found, &mut other)?;
-        }
+    for (own, other, questions) in [(20u8, 20u8, 1usize), (60, 100, 95)] {
+        let asked = scan_and_ask(&rt, alloc, numbers(alloc, own)?, numbers(alloc, other)?)?;
+        let mut keys = asked.keys;
+        keys.sort()?;
+        assert!(rt; asked.counts.len() == questions && keys.iter().copied().eq(own..other));
     }
-    assert!(rt; ask.question().is_none());
-    assert_eq!(rt; questions, 95u32);
-    assert_eq!(rt; ask.entries().len(), 40);
-    for entry in ask.entries() {
-        assert!(rt; entry.key.bytes() >= [60u8].as_slice());
-    }
-    Ok(())
-}
-
-#[test]
-fn equal_trees_ask_for_the_root_alone(rt: HostRuntime) -> Result<(), Fail> {
-    let alloc = rt.alloc();
-    let mut own = numbers(alloc, 20)?;
-    let mut other = numbers(alloc, 20)?;
-    let found = scan(&rt, alloc, &mut own, &mut PlainHasher, &NoGate)?;
-    let mut ask = Ask::start(alloc);
-    let step = answer(alloc, &mut ask, &mut own, &found, &mut other)?;
-    assert_eq!(rt; step, Step::Done);
-    assert_eq!(rt; ask.entries().len(), 0);
     Ok(())
 }
 
 #[test]
 fn a_segment_comes_in_pages(rt: HostRuntime) -> Result<(), Fail> {
     let alloc = rt.alloc();
-    let mut own = fresh(alloc)?;
-    let mut other = fresh(alloc)?;
-    for key in KEYS {
-        other.insert(alloc, &mut PlainHasher, &entry(alloc, key.as_bytes(), 1)?)?;
-    }
-    let found = scan(&rt, alloc, &mut own, &mut PlainHasher, &NoGate)?;
-    let mut ask = Ask::start(alloc);
-    for _ in 0..4u32 {
-        let step = answer(alloc, &mut ask, &mut own, &found, &mut other)?;
-        assert_eq!(rt; step, Step::Next);
-    }
-    assert_eq!(rt; ask.entries().len(), 32);
-    let step = answer(alloc, &mut ask, &mut own, &found, &mut other)?;
-    assert_eq!(rt; step, Step::Done);
-    let entries = ask.entries();
-    assert!(rt; entries.len() == 33);
-    for i in 0..33usize {
-        assert_eq!(rt; entries[i].key.bytes(), KEYS[i].as_bytes());
-    }
+    let asked = scan_and_ask(&rt, alloc, fresh(alloc)?, one_segment(alloc)?)?;
+    assert!(rt; asked.counts.as_slice() == [0, 0, 0, 32, 33].as_slice());
+    assert!(rt; asked.keys.as_slice() == KEYS.concat(alloc)?.as_bytes());
     Ok(())
+}
+
+/// The step of an ask of an empty tree on a body.
+fn taken(alloc: Global, ask: &mut Ask, position: Position, body: &TreeBody) -> Result<Step, Fail>
+    requires { IsPosition position }
+{
+    let question = Question {
+        position,
+        after: None,
+    };
+    let scan = Scan {
+        entries: Seq::new(Vec::new(alloc)),
+        damaged: Seq::new(Vec::new(alloc)),
+    };
+    Ok(ask.take_read(alloc, &None, &scan, &question, body)?)
 }
 
 #[test]
 fn damage_a_wrong_form_and_an_endless_page_drop_an_ask(rt: HostRuntime) -> Result<(), Fail> {
     let alloc = rt.alloc();
-    let mut own = fresh(alloc)?;
-    let found = scan(&rt, alloc, &mut own, &mut PlainHasher, &NoGate)?;
     let mut ask = Ask::start(alloc);
-    let root = Position { level: 0, index: 0 };
-    let question = Question {
-        position: root,
-        after: None,
-    };
-    let other = Question {
-        position: Position { level: 1, index: 0 },
-        after: None,
-    };
+    let child = Position { level: 1, index: 0 };
     let page = TreeBody::Page {
         entries: Seq::new(Vec::new(alloc)),
         more: false,
     };
-    let damaged = TreeBody::Damaged(root);
-    let step = ask.take(alloc, &mut own, &found, &mut PlainHasher, &question, &page)?;
-    assert_eq!(rt; step, Step::Dropped);
-    let step = ask.take(
-        alloc,
-        &mut own,
-        &found,
-        &mut PlainHasher,
-        &question,
-        &damaged,
-    )?;
-    assert_eq!(rt; step, Step::Dropped);
-    let step = ask.take(alloc, &mut own, &found, &mut PlainHasher, &other, &damaged)?;
-    assert_eq!(rt; step, Step::Ignored);
-    assert!(rt; ask.question().is_some());
+    let damaged = TreeBody::Damaged(ROOT);
+    let steps = [
+        taken(alloc, &mut ask, ROOT, &page)?,
+        taken(alloc, &mut ask, ROOT, &damaged)?,
+        taken(alloc, &mut ask, child, &damaged)?,
+    ];
+    assert!(rt; steps == [Step::Dropped, Step::Dropped, Step::Ignored] && ask.question().is_some());
     Ok(())
 }

@@ -1,15 +1,14 @@
-//! Tests of the hash tree, one file a tested crate.
+//! Tests of the hash tree: what it finds, its nodes, an ask between two trees, and a build and a scan by
+//! threads.
 #![tactic(auto)]
 
 #[cfg(test)]
 mod ask_tests;
 #[cfg(test)]
-mod exchange_tests;
-#[cfg(test)]
 mod gate_tests;
 #[cfg(test)]
-mod synctree_tests;
+mod map_tests;
 #[cfg(test)]
-mod tree_repair_tests;
+mod node_tests;
 #[cfg(test)]
-mod tree_verify_tests;
+mod trees;

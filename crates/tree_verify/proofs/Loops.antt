@@ -1,5 +1,5 @@
 -- Loops that follow a plan for each item of a list, and calls that use the store or the hasher alone.
-use Rattle.std.proofs.Common.{◌≡◌, ℕ, zero, suc, ◌+◌, ◌<◌, ◌≤◌, List, [], ◌∷◌, ◌++◌, Option, Some, Result, Ok, Err, length, get_or, drop, take, map, refl, ap, sym, ◌∙◌, subst, arith, append_assoc, append-nil, inl, inr}
+use Rattle.std.proofs.Common.{◌≡◌, ℕ, zero, suc, ◌+◌, ◌<◌, List, [], ◌∷◌, ◌++◌, Option, Some, Result, Ok, Err, length, get_or, map, refl, ap, sym, ◌∙◌, subst, arith, append_assoc, append-nil, inl, inr}
 use Rattle.ens_hashing.specs.Hashing.{Book}
 use Rattle.ens_outside.specs.Stores.{NodeCall, NodeAnswer}
 use Rattle.ens_outside.specs.declared.errors.StoreError.{StoreError}
@@ -14,34 +14,6 @@ use Rattle.synctree.proofs.Composing.{stops_memory, did_then, did_err}
 use Rattle.synctree.proofs.Exits.{DidOutside}
 use Rattle.tree_verify.specs.Hashers.{hasher_does, hasher_refuses}
 use Rattle.tree_verify.specs.Levels.{for_each, hash_read, hash_all}
-
-pub drop_at : {A : Type 0} (xs : List A) (i : ℕ) (x d : A) → i < length xs → x ≡ get_or xs i d → drop i xs ≡ x ∷ drop (i + 1) xs
-drop_at {A = A} xs i x d l e = let next : i + 1 ≡ suc i = omega arith in rw next (by xs i l e)
-  where
-    by : (ys : List A) (j : ℕ) → j < length ys → x ≡ get_or ys j d → drop j ys ≡ x ∷ drop (suc j) ys
-    by [] j l e = absurd (omega arith)
-    by (y ∷ ys) zero l e = ap (λ z. z ∷ ys) (sym e)
-    by (y ∷ ys) (suc j) l e = by ys j (omega arith) e
-
-pub drop_all : {A : Type 0} (xs : List A) (i : ℕ) → length xs ≤ i → drop i xs ≡ []
-drop_all [] zero h = refl
-drop_all [] (suc i) h = refl
-drop_all (x ∷ xs) zero h = absurd (omega arith)
-drop_all (x ∷ xs) (suc i) h = drop_all xs i (omega arith)
-
-pub take_at : {A : Type 0} (xs : List A) (i : ℕ) (x d : A) → i < length xs → x ≡ get_or xs i d → take (i + 1) xs ≡ take i xs ++ x ∷ []
-take_at {A = A} xs i x d l e = let next : i + 1 ≡ suc i = omega arith in rw next (by xs i l e)
-  where
-    by : (ys : List A) (j : ℕ) → j < length ys → x ≡ get_or ys j d → take (suc j) ys ≡ take j ys ++ x ∷ []
-    by [] j l e = absurd (omega arith)
-    by (y ∷ ys) zero l e = ap (λ z. z ∷ []) (sym e)
-    by (y ∷ ys) (suc j) l e = ap (λ zs. y ∷ zs) (by ys j (omega arith) e)
-
-pub take_whole : {A : Type 0} (xs : List A) (i : ℕ) → length xs ≤ i → take i xs ≡ xs
-take_whole [] zero h = refl
-take_whole [] (suc i) h = refl
-take_whole (x ∷ xs) zero h = absurd (omega arith)
-take_whole (x ∷ xs) (suc i) h = ap (λ zs. x ∷ zs) (take_whole xs i (omega arith))
 
 pub map_at : {A B : Type 0} (f : A → B) (xs : List A) (i : ℕ) (d : A) (e : B) → i < length xs → get_or (map f xs) i e ≡ f (get_or xs i d)
 map_at f [] i d e l = absurd (omega arith)

@@ -15,6 +15,7 @@ use Rattle.tree_node.specs.Nodes.{inner_of, segment_of}
 use Rattle.tree_maps.specs.Forms.{Form, IsPlace, child}
 use Rattle.tree_maps.specs.Sixteen.{sixteen, children_in, entries_in as segment_entries}
 use Rattle.tree_maps.proofs.Unique.{child_place}
+use Rattle.tree_maps.proofs.Slices.{take_at}
 use Rattle.synctree.specs.Answers.{Makes}
 use Rattle.synctree.specs.declared.error.TreeError.{TreeError}
 use Rattle.synctree.specs.declared.error.TreeError.TheVariants.{Memory}
@@ -22,7 +23,6 @@ use Rattle.synctree.proofs.Exits.{DidOutside, after, cut_off, made_did, memory_d
 use Rattle.synctree.proofs.Places.{width_is, inner_is, segment_is, position_of, place_of}
 use Rattle.synctree.proofs.Puts.{read_width}
 use Rattle.tree_verify.specs.declared.slot.Slot.{Slot}
-use Rattle.tree_verify.proofs.Loops.{take_at}
 use Rattle.tree_verify.specs.Hashers.{digest_if, agree}
 use Rattle.tree_verify.specs.Levels.{verified, slot, child_slots, slots_below, next_level, entries_of, damage_of, entries_in, damage_in, found, read_level, scan_from}
 use Rattle.tree_verify.specs.Slots.{HasBelow, IsSlot, AreSlots}

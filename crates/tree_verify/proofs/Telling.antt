@@ -27,7 +27,7 @@ use Rattle.tree_verify.specs.Scans.{lost, Scans}
 
 -- ## Lists
 
-in_filter : (q : Entry → Bool) (e : Entry) (m : List Entry) → e ∈ m → q e ≡ true → e ∈ filter q m
+pub in_filter : (q : Entry → Bool) (e : Entry) (m : List Entry) → e ∈ m → q e ≡ true → e ∈ filter q m
 in_filter q e [] i h = absurd i
 in_filter q e (x ∷ m) (inl is) h = let here : q x ≡ true = subst (λ (y : Entry). q y ≡ true) is h in subst (λ ys. e ∈ ys) (sym (ap (λ (t : Bool). cond t (x ∷ filter q m) (filter q m)) here)) (inl is)
 in_filter q e (x ∷ m) (inr i) h = by (q x) (in_filter q e m i h)

@@ -7,12 +7,12 @@ use Rattle.tree_verify.specs.declared.slot.Slot.{Slot}
 use Rattle.tree_verify.specs.Levels.{read_named, read_all, hash_all, read_level, slot, next_level, scan_from, scan_plan}
 
 -- whatever the answers, the plan breaks off at no position
-abbrev IsUnbroken : {A : Type 0} → Plan A → Type 0
+abbrev pub IsUnbroken : {A : Type 0} → Plan A → Type 0
 IsUnbroken (Done x) = Unit {0}
 IsUnbroken (Broken at) = ⊥
 IsUnbroken (Ask call next) = (answer : AnswerOf call) → IsUnbroken (next answer)
 
-then_unbroken : {A B : Type 0} (p : Plan A) (f : A → Plan B) → IsUnbroken p → ((x : A) → IsUnbroken (f x)) → IsUnbroken (p >>= f)
+pub then_unbroken : {A B : Type 0} (p : Plan A) (f : A → Plan B) → IsUnbroken p → ((x : A) → IsUnbroken (f x)) → IsUnbroken (p >>= f)
 then_unbroken (Done x) f here after = after x
 then_unbroken (Broken at) f here after = here
 then_unbroken (Ask call next) f here after = λ answer. then_unbroken (next answer) f (here answer) after
@@ -33,11 +33,11 @@ hash_unbroken (Some bytes ∷ rs) = λ answer. hash_unbroken rs
 level_unbroken : (xs : List Slot) → IsUnbroken (read_level xs)
 level_unbroken xs = then_unbroken (read_all xs) (λ reads. hash_all reads >>= (λ _. Done reads)) (read_unbroken xs) (λ reads. then_unbroken (hash_all reads) (λ _. Done reads) (hash_unbroken reads) (λ _. tt))
 
-from_unbroken : (F : Form) (h : ℕ) (xs : List Slot) → IsUnbroken (scan_from F h xs)
+pub from_unbroken : (F : Form) (h : ℕ) (xs : List Slot) → IsUnbroken (scan_from F h xs)
 from_unbroken F zero xs = then_unbroken (read_level xs) _ (level_unbroken xs) (λ reads. tt)
 from_unbroken F (suc h) xs = then_unbroken (read_level xs) _ (level_unbroken xs) (λ reads. from_unbroken F h (next_level F xs reads))
 
-ends_well : {A S : Type 0} (does : S → (call : Call) → AnswerOf call → S → Type 0) (p : Plan A) (s t : S) (strings : List (List ℕ)) (at : Position) → IsUnbroken p → Ends does p s strings (Err at) t → ⊥
+pub ends_well : {A S : Type 0} (does : S → (call : Call) → AnswerOf call → S → Type 0) (p : Plan A) (s t : S) (strings : List (List ℕ)) (at : Position) → IsUnbroken p → Ends does p s strings (Err at) t → ⊥
 ends_well does (Done x) s t strings at here (none, is, same) = absurd cc
 ends_well does (Broken place) s t strings at here ends = here
 ends_well does (Ask call next) s t strings at here (answer, u, rest, did, is, more) = ends_well does (next answer) u t rest at (here answer) more

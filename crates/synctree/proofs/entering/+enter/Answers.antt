@@ -1,9 +1,10 @@
 use Rattle.std.proofs.Common.{◌<◌, ◌∙◌, ◌-◌, get_or, replicate, ap, sym, subst, arith, ℕ, List, Option, None, Ok, Err}
 use Rattle.tree_node.specs.declared.position.Position.{Position}
 use Rattle.tree_maps.specs.Sixteen.{sixteen, nibble}
+use Rattle.tree_maps.proofs.Formats.{nibble_below}
 use Rattle.synctree.specs.Walks.{reach, store, enter}
 use Rattle.synctree.proofs.Exits.{DidOutside}
-use Rattle.synctree.proofs.Places.{position_of, level_below, digit_is, nibble_below, place_below, width_is}
+use Rattle.synctree.proofs.Places.{position_of, level_below, digit_is, place_below, width_is}
 use Rattle.synctree.proofs.Puts.{enter_err, enter_below_err, enter_ok}
 use Rattle.synctree.proofs.entering.+enter.Goals as goal
 

@@ -1,9 +1,10 @@
 use Rattle.std.proofs.Common.{◌<◌, ◌∙◌, ◌-◌, get_or, ap, sym, subst, arith, ℕ, List, None}
 use Rattle.tree_node.specs.declared.position.Position.{Position}
 use Rattle.tree_maps.specs.Sixteen.{sixteen, nibble}
+use Rattle.tree_maps.proofs.Formats.{nibble_below}
 use Rattle.synctree.specs.Walks.{find}
 use Rattle.synctree.proofs.Exits.{DidOutside}
-use Rattle.synctree.proofs.Places.{position_of, level_below, digit_is, nibble_below, place_below}
+use Rattle.synctree.proofs.Places.{position_of, level_below, digit_is, place_below}
 use Rattle.synctree.proofs.Finding.{find_err, find_none, find_down}
 use Rattle.synctree.proofs.walk.+find.Goals as goal
 

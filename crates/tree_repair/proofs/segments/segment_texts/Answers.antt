@@ -1,6 +1,6 @@
 use Rattle.std.proofs.Common.{◌∙◌, ap, map}
 use Rattle.tree_repair.specs.Levels.{segment_slot}
-use Rattle.tree_repair.proofs.Lists.{take_all}
+use Rattle.tree_maps.proofs.Slices.{take_all}
 use Rattle.tree_repair.proofs.Buckets.{segments_level, segment_place, segment_above}
 use Rattle.tree_repair.proofs.segments.segment_texts.Goals as goal
 

@@ -3,8 +3,9 @@ use Rattle.synctree.specs.Plans.{Did}
 use Rattle.synctree.proofs.Exits.{passed_on}
 use Rattle.tree_verify.specs.Hashers.{hasher_does, hasher_refuses}
 use Rattle.tree_verify.specs.Levels.{hash_all}
-use Rattle.tree_verify.proofs.Loops.{HashesOn, hashes_next, hashes_err, hashes_end, drop_at, drop_all}
+use Rattle.tree_verify.proofs.Loops.{HashesOn, hashes_next, hashes_err, hashes_end}
 use Rattle.tree_verify.proofs.admitting.admit_level.Goals as goal
+use Rattle.tree_maps.proofs.Slices.{drop_at, drop_all}
 
 pub returns-in_err-admit_read : goal.returns-in_err-admit_read
 returns-in_err-admit_read g c = passed_on c.from_residual.result c.in_err-admit_read.field-0.0 _ (λ r. Did (hasher_does g.H.Hasher16.kept g.H.Hasher16.clashes g.H.Hasher16.fulls) (hasher_refuses g.H.Hasher16.kept g.H.Hasher16.clashes g.H.Hasher16.fulls) (hash_all c.args.reads.now) c.args.hasher.now r c.admit_read.new.hasher) c.from_residual.ensures.0 c.from_residual.ensures.1 (λ d h. h)

@@ -5,8 +5,9 @@ use Rattle.synctree.specs.declared.error.TreeError.TheVariants.{Memory}
 use Rattle.synctree.proofs.Exits.{passed_on}
 use Rattle.tree_verify.specs.declared.slot.Slot.{Slot}
 use Rattle.tree_verify.specs.Levels.{read_named, read_all}
-use Rattle.tree_verify.proofs.Loops.{GoesOn, goes_next, goes_err, goes_memory, goes_end, drop_at, drop_all, length_one}
+use Rattle.tree_verify.proofs.Loops.{GoesOn, goes_next, goes_err, goes_memory, goes_end, length_one}
 use Rattle.tree_verify.proofs.level.read_all.Goals as goal
+use Rattle.tree_maps.proofs.Slices.{drop_at, drop_all}
 
 pub returns-in_err-read-clause-did : goal.returns-in_err-read-clause-did
 returns-in_err-read-clause-did g c = passed_on c.from_residual.result c.in_err-read.field-0.0 _ (λ r. Did (store_does g.N.NodeStore.may_answer g.N.NodeStore.top_record g.N.NodeStore.fault_count) (store_refuses g.N.NodeStore.may_refuse g.N.NodeStore.top_record g.N.NodeStore.fault_count) (read_all c.args.slots.now) c.args.tree.now.store r c.read_slot.new.tree.store) c.from_residual.ensures.0 c.from_residual.ensures.1 (λ d h. h)

@@ -2,7 +2,7 @@ use Rattle.std.proofs.Common.{◌∙◌, ◌+◌, ap, sym, subst, take, length, 
 use Rattle.tree_maps.specs.Sixteen.{sixteen}
 use Rattle.tree_verify.specs.declared.slot.Slot.{Slot}
 use Rattle.tree_verify.specs.Slots.{AreSlots}
-use Rattle.tree_verify.proofs.Loops.{take_whole}
+use Rattle.tree_maps.proofs.Slices.{take_all}
 use Rattle.tree_verify.proofs.Stepping.{level_next, level_are, next_height}
 use Rattle.tree_verify.proofs.step.next_level.Goals as goal
 
@@ -11,4 +11,4 @@ loop-i-preserved c = (c.in_ok-push_below.ensures).ok ∙ level_next sixteen c.lo
 
 pub returns-clause-slots : goal.returns-clause-slots
 returns-clause-slots c = subst (λ (xs : List Slot). AreSlots c.args.height xs) (sym (c.new.ensures ∙ c.loop-i.invariant))
-    (level_are c.args.height (take c.loop-i.i c.args.slots.now) (take c.loop-i.i c.as_slice-reads.result.now) (next_height c.args.height (take c.loop-i.i c.args.slots.now) (subst (λ (xs : List Slot). AreSlots (c.args.height + 1) xs) (sym (take_whole c.args.slots.now c.loop-i.i c.loop-i-test.false)) (c.requires).slots)))
+    (level_are c.args.height (take c.loop-i.i c.args.slots.now) (take c.loop-i.i c.as_slice-reads.result.now) (next_height c.args.height (take c.loop-i.i c.args.slots.now) (subst (λ (xs : List Slot). AreSlots (c.args.height + 1) xs) (sym (take_all c.args.slots.now c.loop-i.i c.loop-i-test.false)) (c.requires).slots)))

@@ -1,0 +1,178 @@
+ghost use Rattle.tree_node.specs.Positions.{IsPosition};
+
+use crate::trees::{MemTree, entry, find, fresh, insert, opened};
+use ens_base::{Digest, Entry, Key};
+use ens_hashing::PlainHasher;
+use ens_outside::{MemNodes, NodeStore};
+use exchange::{Question, give};
+use std::alloc::Global;
+use std::test::Fail;
+use synctree::{ROOT, Tree, TreeError};
+use tree_node::{Position, TreeBody};
+use tree_repair::{Built, ascends, build};
+use tree_verify::{NoGate, scan};
+
+/// The MD5 of the eight bytes of a root without children, `01 00 00000000 0000`, taken with another
+/// program.
+const EMPTY: Digest = Digest([
+    0x33, 0xcd, 0xec, 0xcc, 0xce, 0xbe, 0x80, 0x32, 0x9f, 0x1f, 0xdb, 0xee, 0x7f, 0x58, 0x74, 0xcb,
+]);
+
+/// The top of the tree of one entry with the key `abc`, version 1.1.1 and a digest of 16 times 7. The
+/// MD5 of `abc` begins with 900: the digest of its segment stands in child 0 of a node that is child 0
+/// of child 9 of the root. Taken with another program.
+const ABC: Digest = Digest([
+    0x7b, 0xc2, 0x80, 0x35, 0x57, 0x99, 0x3e, 0x60, 0xe0, 0x94, 0x34, 0xca, 0x77, 0xa1, 0x9c, 0x9a,
+]);
+
+/// The first bytes of the nodes of that tree, the segment first.
+const HEADS: [&[u8]; 4] = [
+    &[2, 3, 0, 0, 9, 0],
+    &[1, 2, 0, 0, 0, 0x90, 0, 1],
+    &[1, 1, 0, 0, 0, 9, 0, 1],
+    &[1, 0, 0, 0, 0, 0, 2, 0],
+];
+
+fn abc(alloc: Global) -> Result<Entry, Fail> {
+    entry(alloc, b"abc", 1)
+}
+
+/// The tree of `abc`.
+fn tree_of_abc(alloc: Global) -> Result<MemTree, Fail> {
+    let mut tree = fresh(alloc)?;
+    insert(alloc, &mut tree, &abc(alloc)?)?;
+    Ok(tree)
+}
+
+fn no_nodes(alloc: Global) -> MemNodes {
+    MemNodes::new(alloc, Vec::new(alloc))
+}
+
+/// The top of a tree over no nodes, of that tree emptied, of the tree of `abc` opened again, and of
+/// that tree emptied.
+fn tops(alloc: Global) -> Result<[Option<Digest>; 4], Fail> {
+    let mut tree = Tree::unopened(no_nodes(alloc));
+    tree.reopen()?;
+    let unopened = tree.top();
+    tree.empty(alloc, &mut PlainHasher)?;
+    let empty = tree.top();
+    insert(alloc, &mut tree, &abc(alloc)?)?;
+    let (_mark, nodes) = tree.split();
+    let mut again = Tree::unopened(nodes);
+    again.reopen()?;
+    let reopened = again.top();
+    again.empty(alloc, &mut PlainHasher)?;
+    Ok([unopened, empty, reopened, again.top()])
+}
+
+#[test]
+fn the_top_is_the_digest_of_the_root(rt: HostRuntime) -> Result<(), Fail> {
+    let tops = tops(rt.alloc())?;
+    assert!(rt; tops == [None, Some(EMPTY), Some(ABC), Some(EMPTY)]);
+    Ok(())
+}
+
+/// Whether the nodes begin with these bytes.
+fn has_heads(built: &Built, heads: &[&[u8]]) -> bool {
+    let nodes = built.nodes.as_slice();
+    for (node, head) in nodes.iter().zip(heads) {
+        if !node.bytes.as_slice().starts_with(head) {
+            return false;
+        }
+    }
+    nodes.len() == heads.len()
+}
+
+#[test]
+fn a_build_has_the_nodes_of_its_entries(rt: HostRuntime) -> Result<(), Fail> {
+    let alloc = rt.alloc();
+    let built = build(&rt, alloc, &mut PlainHasher, &NoGate, &[])?;
+    assert!(rt; built.top == EMPTY && has_heads(&built, &[&[1, 0, 0, 0, 0, 0, 0, 0]]));
+    let entries = [abc(alloc)?];
+    assert!(rt; ascends(&entries));
+    let built = build(&rt, alloc, &mut PlainHasher, &NoGate, &entries)?;
+    assert!(rt; built.top == ABC && has_heads(&built, &HEADS));
+    Ok(())
+}
+
+/// The mask of an inner body, the number of entries of a page, or 99 for damage.
+fn size(body: &TreeBody) -> usize {
+    match body {
+        TreeBody::Inner { mask, .. } => *mask as usize,
+        TreeBody::Page { entries, .. } => entries.as_slice().len(),
+        TreeBody::Damaged(_) => 99,
+    }
+}
+
+/// The size of what is given of a position.
+fn given(alloc: Global, tree: &mut MemTree, position: Position) -> Result<usize, Fail>
+    requires { IsPosition position }
+{
+    let question = Question {
+        position,
+        after: None,
+    };
+    Ok(size(&give(alloc, tree, &mut PlainHasher, &question)?))
+}
+
+/// How many bytes the node at a position has, none if there is no node.
+fn length(alloc: Global, tree: &mut MemTree, position: Position) -> Result<Option<usize>, TreeError>
+    requires { IsPosition position }
+{
+    match tree.node(alloc, &mut PlainHasher, position)? {
+        Some(bytes) => Ok(Some(bytes.as_slice().len())),
+        None => Ok(None),
+    }
+}
+
+/// The root has the child 9, its segment 900 has one entry, and its segment 901 is empty.
+#[test]
+fn nodes_are_read_and_given_by_position(rt: HostRuntime) -> Result<(), Fail> {
+    let alloc = rt.alloc();
+    let mut tree = tree_of_abc(alloc)?;
+    let segment = Position {
+        level: 3,
+        index: 0x900,
+    };
+    let other = Position {
+        level: 3,
+        index: 0x901,
+    };
+    assert!(rt;
+        length(alloc, &mut tree, ROOT)? == Some(24) && given(alloc, &mut tree, ROOT)? == 1 << 9
+    );
+    assert!(rt;
+        length(alloc, &mut tree, segment)?.is_some() && given(alloc, &mut tree, segment)? == 1
+    );
+    assert!(rt; length(alloc, &mut tree, other)?.is_none() && given(alloc, &mut tree, other)? == 0);
+    Ok(())
+}
+
+#[test]
+fn a_store_without_a_top_record_is_damaged(rt: HostRuntime) -> Result<(), Fail> {
+    let alloc = rt.alloc();
+    let mut tree = opened(no_nodes(alloc))?;
+    let found = find(alloc, &mut tree, &Key::new(alloc, b"abc")?);
+    assert!(rt;
+        found.err() == Some(TreeError::Damaged(ROOT)) && given(alloc, &mut tree, ROOT)? == 99
+    );
+    Ok(())
+}
+
+/// The tree of `abc`, whose root was overwritten.
+fn spoiled(alloc: Global) -> Result<MemTree, Fail> {
+    let (_mark, mut nodes) = tree_of_abc(alloc)?.split();
+    nodes.write(alloc, &ABC, b"other bytes")?;
+    Ok(opened(nodes)?)
+}
+
+#[test]
+fn a_root_with_other_bytes_is_damaged(rt: HostRuntime) -> Result<(), Fail> {
+    let alloc = rt.alloc();
+    let mut tree = spoiled(alloc)?;
+    let found = scan(&rt, alloc, &mut tree, &mut PlainHasher, &NoGate)?;
+    assert!(rt;
+        found.damaged.as_slice() == [ROOT].as_slice() && found.entries.as_slice().is_empty()
+    );
+    Ok(())
+}
