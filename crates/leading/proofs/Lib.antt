@@ -6,3 +6,4 @@ pub mod Joins
 pub mod TimeOuts
 pub mod Idle
 pub mod Settling
+pub mod Ticking

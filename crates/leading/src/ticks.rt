@@ -4,7 +4,8 @@ ghost use Rattle.leading.specs.Ticks.{is_late, and_key_if, timed_out, after_ages
 use crate::leader::Leader;
 use call_table::DueCall;
 use ens_base::{Key, PeerId, PeerSet, Reply};
-use leader_words::{LeadError, LeadOut, is_other_member};
+use joint_views::members;
+use leader_words::{LeadError, LeadOut, is_other_of};
 use peer_fact::{Change, Fact};
 use std::alloc::Global;
 use wire_frames::{Message, Then};
@@ -107,9 +108,10 @@ impl Leader {
     ) -> Result<(), LeadError>
         ensures { OnOk result (out.new ≡ record out.old { sends = out.old.sends ++ ticks_up_to finishing.now fact.now self.now 31 }) }
     {
+        let members = members(&self.fact.views);
         for below in 0..31 {
             let peer = PeerId(below + 1);
-            if is_other_member(self.me, &self.fact.views, peer) {
+            if is_other_of(self.me, &self.fact.views, &members, peer) {
                 out.send(peer, self.tick_message(finishing, fact, peer))?;
             }
         }
