@@ -32,7 +32,7 @@ use Rattle.leader_words.specs.declared.out.Own.TheVariants.{Look}
 use Rattle.leading.specs.Leaders.{stands, is_spent}
 use Rattle.leading.specs.Rounds.{counts, asked, asked_for, heard}
 use Rattle.leading.specs.declared.leader.Leader.{Leader}
-use Rattle.leading.proofs.Steps.{free as ready_free}
+use Rattle.leading.proofs.Moves.{free as ready_free}
 use Rattle.leading.specs.declared.pending.Pending.{Pending}
 use Rattle.leading.specs.declared.pending.Pending.TheVariants as tasks
 use Rattle.leader_laws.proofs.Moves.{reply_counts}

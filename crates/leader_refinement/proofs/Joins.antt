@@ -28,7 +28,7 @@ use Rattle.leader_words.specs.declared.out.LeadOut.{LeadOut}
 use Rattle.leader_words.specs.declared.out.Outgoing.{Outgoing}
 use Rattle.register_model.specs.declared.note.Note.{Note as Told}
 use Rattle.version_laws.proofs.Maps.{put_here, put_other}
-use Rattle.leading.proofs.Steps.{free as ready_free}
+use Rattle.leading.proofs.Moves.{free as ready_free}
 use Rattle.leading.specs.Leaders.{joined}
 use Rattle.leading.specs.Starts.{row_27}
 use Rattle.leading.specs.declared.leader.Leader.{Leader}

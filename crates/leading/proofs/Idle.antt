@@ -35,7 +35,8 @@ use Rattle.leading.specs.declared.leader.Leader.{Leader}
 use Rattle.leading.specs.declared.pending.Pending.{Pending}
 use Rattle.leading.specs.declared.pending.Pending.TheVariants as tasks
 use Rattle.leading.proofs.Lookups.{running_other}
-use Rattle.leading.proofs.Steps.{IsStep, by_number}
+use Rattle.leading.proofs.Moves.{IsStep}
+use Rattle.leading.proofs.Steps.{by_number}
 
 -- ## No call
 

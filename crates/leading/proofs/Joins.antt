@@ -13,11 +13,7 @@ use Rattle.leading.specs.Measure.{turns_after, weight, task_turns}
 use Rattle.leading.specs.Starts.{row_27}
 use Rattle.leading.specs.Steps.{NamesOn, KeepsOthers, IsReadyFor, IsCalm, IsAtRest, CountsInOwnViews}
 use Rattle.leading.specs.declared.leader.Leader.{Leader}
-use Rattle.leading.proofs.Steps.{free}
-
-either : {A : Type 0} (P : A → Type 0) (t : Bool) (a b : A) → P a → P b → P (if t then a else b)
-either P true a b p q = p
-either P false a b p q = q
+use Rattle.leading.proofs.Moves.{either, free}
 
 -- rule 27 sends nothing and asks nothing of the stores
 pub record IsJoin (key : List ℕ) (l : Leader) (r : Leader × LeadOut) : Type 0 where
@@ -58,7 +54,7 @@ refused key l from id reply = record {
 }
 
 -- a key without a call after one joined had none before
-none_before : (k : List ℕ) (calls : List Waiting) (w : Waiting) → running k (calls ++ w ∷ []) ≡ None → running k calls ≡ None
+pub none_before : (k : List ℕ) (calls : List Waiting) (w : Waiting) → running k (calls ++ w ∷ []) ≡ None → running k calls ≡ None
 none_before k [] w e = refl
 none_before k (v ∷ calls) w e = by_key (same_bytes v.key k) e (none_before k calls w)
   where

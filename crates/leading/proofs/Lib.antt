@@ -1,6 +1,8 @@
 pub mod Lookups
 pub mod Sends
 pub mod Votes
+pub mod Moves
+pub mod Rows
 pub mod Steps
 pub mod Joins
 pub mod TimeOuts

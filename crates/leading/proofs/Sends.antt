@@ -13,14 +13,14 @@ use Rattle.leading.specs.Steps.{MayGo}
 use Rattle.leading.specs.Ticks.{Finishing, finishing_message, tick_message, ticks_up_to}
 use Rattle.leading.specs.declared.leader.Leader.{Leader}
 
-itself : (p : ℕ) → (p == p) ≡ true
+pub itself : (p : ℕ) → (p == p) ≡ true
 itself p = grind (arith, nat_tests)
 
-not_itself : (b : Bool) (p : ℕ) → (b && not (p == p)) ≡ false
+pub not_itself : (b : Bool) (p : ℕ) → (b && not (p == p)) ≡ false
 not_itself true p = rw (itself p) refl
 not_itself false p = refl
 
-other_than : (test : ℕ → Bool) (me p : ℕ) → test me ≡ false → test p ≡ true → p ≢ me
+pub other_than : (test : ℕ → Bool) (me p : ℕ) → test me ≡ false → test p ≡ true → p ≢ me
 other_than test me p none here same = let both : true ≡ false = sym here ∙ ap test same ∙ none in absurd (true≢false both)
 
 not_me : (me : ℕ) (views : List (List ℕ)) → is_other me views me ≡ false

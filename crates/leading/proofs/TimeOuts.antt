@@ -108,11 +108,11 @@ due_count before (w ∷ ws) = by_age (is_due w) (due_count (before ++ w ∷ []) 
 
 -- ## The keys that become idle
 
-rested_calls : (key : List ℕ) (t : CallTable) → (rested key t).calls ≡ t.calls
+pub rested_calls : (key : List ℕ) (t : CallTable) → (rested key t).calls ≡ t.calls
 unfolding rested
 rested_calls key t = refl
 
-all_calls : (ds : List DueCall) (t : CallTable) → (rested_all ds t).calls ≡ t.calls
+pub all_calls : (ds : List DueCall) (t : CallTable) → (rested_all ds t).calls ≡ t.calls
 all_calls [] t = refl
 all_calls (d ∷ ds) t = by_key d.running (all_calls ds)
   where
@@ -188,7 +188,7 @@ no_more k before (w ∷ ws) first e = by_key (same_bytes w.key k) refl (is_due w
     by_key false off false none later =
         in_others k w ws (due_after (before ++ w ∷ []) ws) off (later (counted k before w off first) (sym (ap (λ (b : Bool). cond b (Some w) (running k (not_due ws))) off) ∙ none))
 
-without_due_calls : (t : CallTable) → (without_due t).calls ≡ not_due t.calls
+pub without_due_calls : (t : CallTable) → (without_due t).calls ≡ not_due t.calls
 unfolding without_due
 without_due_calls t = ap not_due (all_calls (due t.calls) t)
 

@@ -10,13 +10,14 @@ use Rattle.joint_views.proofs.Majorities.{quorum_more}
 use Rattle.quorum_round.specs.Rounds.{begun, answered as heard_from, state_of}
 use Rattle.quorum_round.specs.declared.round.Round.{Round}
 use Rattle.quorum_round.specs.declared.round.RoundState.TheVariants.{Open, Met, AllAnswered}
+use Rattle.leading.proofs.Sends.{itself}
 
-none_held : (n q : ℕ) → slice_index_or (replicate n false) q false ≡ false
+pub none_held : (n q : ℕ) → slice_index_or (replicate n false) q false ≡ false
 none_held zero q = refl
 none_held (suc n) zero = refl
 none_held (suc n) (suc q) = none_held n q
 
-set_then : (P : ℕ → Type 0) (peer : ℕ) (votes : List Bool) → P peer → ((q : ℕ) → holds votes q ≡ true → P q) → (q : ℕ) → holds (slice_set votes peer true) q ≡ true → P q
+pub set_then : (P : ℕ → Type 0) (peer : ℕ) (votes : List Bool) → P peer → ((q : ℕ) → holds votes q ≡ true → P q) → (q : ℕ) → holds (slice_set votes peer true) q ≡ true → P q
 set_then P peer votes here old q h = by_same (peer == q) refl
   where
     by_same : (b : Bool) → (peer == q) ≡ b → P q
@@ -52,9 +53,6 @@ closed_quorum round closed = by_quorum (is_quorum (holds round.tally.votes) roun
     by_quorum : (b : Bool) → ((if b then (if has_every (holds round.tally.votes) round.tally.views then AllAnswered else Met) else Open) ≡ Open → ⊥) → b ≡ true
     by_quorum true closed = refl
     by_quorum false closed = absurd (closed refl)
-
-itself : (p : ℕ) → (p == p) ≡ true
-itself p = grind (arith, nat_tests)
 
 with_itself : (votes : List Bool) (p : ℕ) → (p == p || holds votes p) ≡ true
 with_itself votes p = grind (arith, nat_tests)
