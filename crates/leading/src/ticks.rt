@@ -56,6 +56,7 @@ impl Leader {
         Ok(out)
     }
 
+    #[inline(never)]
     fn tick_calls(
         &mut self,
         alloc: Global,
@@ -134,6 +135,7 @@ impl Leader {
         }
     }
 
+    #[inline(never)]
     fn tick_rest(
         &self,
         alloc: Global,

@@ -52,6 +52,7 @@ impl State {
     }
 
     /// Rule 7: begins to probe.
+    #[inline(never)]
     fn rule_7(&mut self, me: PeerId) -> PhaseOut
         requires { IsPeer me }
         ensures { (self.new, result) ≡ begun me self.old }
@@ -78,6 +79,7 @@ impl State {
     }
 
     /// Rule 9: a probing peer asks for a ballot once it heard enough peers.
+    #[inline(never)]
     fn rule_9(&mut self) -> PhaseOut
         ensures { (self.new, result) ≡ while_9 self.old.phase self.old }
     {
@@ -104,6 +106,7 @@ impl State {
 
     /// Rule 10, from what the peer found while probing, or from its own fact at the end of its
     /// epoch.
+    #[inline(never)]
     fn rule_10(&mut self, me: PeerId) -> PhaseOut
         requires { IsPeer me }
         ensures { (self.new, result) ≡ while_10 self.old.phase me self.old }
@@ -135,6 +138,7 @@ impl State {
     }
 
     /// Rule 13: a preparing peer starts its epoch once enough peers promised.
+    #[inline(never)]
     fn rule_13(&mut self, me: PeerId) -> PhaseOut
         requires { IsPeer me }
         ensures { (self.new, result) ≡ while_13 self.old.phase me self.old }
@@ -151,6 +155,7 @@ impl State {
     }
 
     /// Rule 14: a starting peer leads its epoch once enough peers accepted it.
+    #[inline(never)]
     fn rule_14(&mut self, me: PeerId) -> PhaseOut
         requires { IsPeer me }
         ensures { (self.new, result) ≡ while_14 self.old.phase me self.old }
@@ -208,6 +213,7 @@ impl State {
     }
 
     /// Rule 25: a leader begins the change that is wanted, if there is one.
+    #[inline(never)]
     fn rule_25(&mut self, me: PeerId) -> PhaseOut
         requires { IsPeer me }
         ensures { (self.new, result) ≡ while_25 self.old.phase me self.old }
@@ -238,22 +244,15 @@ impl State {
         requires { IsPeer me }
         ensures { (self.new, result) ≡ phase_row rule me self.old }
     {
-        if rule == 7 {
-            self.rule_7(me)
-        } else if rule == 9 {
-            self.rule_9()
-        } else if rule == 10 {
-            self.rule_10(me)
-        } else if rule == 13 {
-            self.rule_13(me)
-        } else if rule == 14 {
-            self.rule_14(me)
-        } else if rule == 25 {
-            self.rule_25(me)
-        } else if rule == 26 {
-            self.rule_26(me)
-        } else {
-            silent(Then::Stay)
+        match rule {
+            7 => self.rule_7(me),
+            9 => self.rule_9(),
+            10 => self.rule_10(me),
+            13 => self.rule_13(me),
+            14 => self.rule_14(me),
+            25 => self.rule_25(me),
+            26 => self.rule_26(me),
+            _ => silent(Then::Stay),
         }
     }
 
