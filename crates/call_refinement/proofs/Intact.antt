@@ -27,7 +27,8 @@ use Rattle.world_spec.proofs.Ending.{EndsIn, run_reaches, opening_is}
 use Rattle.world_spec.proofs.Obeying.{IsOwnNode, IsFine, opening_fine, stepped_fine, changed_fine, started_own, stopped_own, over_stores_own, while_down_own}
 use Rattle.world_spec.specs.Nodes.{Node, Up, Down, taken, taken_by, run_over, started, hashed_by_start, stopped, over_stores, while_down, opening_node}
 use Rattle.world_spec.specs.Runs.{Run, opening_run, place_of, with_taken, stepped_at, changed_at, hashing}
-use Rattle.call_refinement.proofs.Places.{get_put, replicated}
+use Rattle.election_refinement.proofs.Worlds.{get_put}
+use Rattle.election_refinement.proofs.Openings.{replicated}
 
 -- a running peer has not waited long
 abbrev pub IsReady : Node → Type 0

@@ -29,7 +29,7 @@ use Rattle.election_laws.proofs.Sound.{Sound, run_sound}
 use Rattle.version_laws.proofs.Maps.{epoch_mono, put_other}
 use Rattle.version_laws.proofs.Trees.{run_versions}
 use Rattle.version_laws.specs.Versions.{VersionsAreSafe, IsSettled}
-use Rattle.entry_laws.proofs.Later.{stay_step}
+use Rattle.entry_laws.proofs.Later.{stay_step, stay_then as stays_then}
 use Rattle.entry_laws.specs.Stays.{EntriesStay}
 use Rattle.election_refinement.specs.Refinement.{may_wait, SyncHolds}
 use Rattle.call_table.specs.Best.{better}
@@ -82,7 +82,6 @@ use Rattle.world_stores.specs.Nodes.{top_of}
 use Rattle.world_stores.specs.declared.fact.HeldFact.{HeldFact}
 use Rattle.call_refinement.proofs.Frame.{Scene, state_before, Reached, now, Here, Rests, Ends, Answers, IsRefused, ask_ends, ask_may_end}
 use Rattle.call_refinement.proofs.Keys.{length_keys, key_from}
-use Rattle.call_refinement.proofs.Moving.{stays_then}
 use Rattle.call_refinement.proofs.Refusing.{Looks, Finds, Breaks, find_ends, put_ends, EnterEnds, Enters, Stops, Tears, enter_ends, broken_recorded}
 use Rattle.call_refinement.proofs.Resting.{rests_down, rests_over}
 use Rattle.call_refinement.proofs.Staying.{sends_stay, sync_stays, phase_stays}

@@ -1,17 +1,15 @@
 -- What stays over several stretches of a run: roles that are replaced, answers that are owed, entries, and
 -- what the steps of a peer leave to the others.
-use Rattle.std.proofs.Common.{◌≡◌, ℕ, List, [], ◌∷◌, ◌++◌, ◌⊎◌, inl, inr, refl, subst, ◌∙◌, le_trans, true}
+use Rattle.std.proofs.Common.{◌≡◌, ℕ, List, [], ◌∷◌, ◌++◌, refl, subst, ◌∙◌}
 use Rattle.abstract_protocol.specs.Ledger.{put}
 use Rattle.abstract_protocol.specs.Protocol.{State}
 use Rattle.election_refinement.proofs.Keeps.{keeps_none, keeps_both}
-use Rattle.entry_laws.proofs.Later.{stay_same}
-use Rattle.entry_laws.specs.Stays.{EntriesStay}
+use Rattle.entry_laws.proofs.Later.{stay_same, stay_then as stays_then}
 use Rattle.leader_laws.specs.Roles.{Role, Sent, RoleHolds, RolesHold}
 use Rattle.leader_laws.specs.Tables.{Ghosts, Owed}
 use Rattle.leader_refinement.specs.Seen.{owed_after}
 use Rattle.leader_words.specs.declared.out.AnswerOut.{AnswerOut}
 use Rattle.version_laws.proofs.Maps.{put_here, put_other, put_then}
-use Rattle.version_laws.proofs.Stays.{versions_then}
 use Rattle.call_refinement.proofs.Frame.{Elsewhere}
 
 -- ## Roles
@@ -46,31 +44,6 @@ owed_both owed [] b = refl
 owed_both owed (x ∷ a) b = owed_both (owed ++ record { call = x.id; reply = x.reply } ∷ []) a b
 
 -- ## Stretches of a run
-
--- what is preserved from s to t and from t to u is preserved from s to u
-pub stays_then : (s t u : State) → EntriesStay s t → EntriesStay t u → EntriesStay s u
-stays_then s t u a b = record {
-  versions = versions_then s.objects t.objects u.objects a.versions b.versions;
-  now = le_trans a.now b.now;
-  elected_at = λ d h. b.elected_at d (a.versions.ledger.elected d h) ∙ a.elected_at d h;
-  proposed_at = λ v h. b.proposed_at v (a.versions.proposed v h) ∙ a.proposed_at v h;
-  settled_at = λ v h. b.settled_at v (a.versions.settled v h) ∙ a.settled_at v h;
-  call = λ v h. b.call v (a.versions.proposed v h) ∙ a.call v h;
-  stamp = λ v h. b.stamp v (a.versions.proposed v h) ∙ a.stamp v h;
-  content = λ v h. b.content v (a.versions.proposed v h) ∙ a.content v h;
-  register = λ v h. b.register v (old v h) ∙ a.register v h;
-  called = λ i h. b.called i (a.called i h);
-  asked = λ i h. b.asked i (a.called i h) ∙ a.asked i h;
-  stood = λ i q h. b.stood i q (a.called i h) ∙ a.stood i q h;
-  noted = λ i h. b.noted i (a.noted i h);
-  seen = λ i h. b.seen i (a.noted i h) ∙ a.seen i h;
-  answered = λ i h. b.answered i (a.answered i h);
-  answer = λ i h. b.answer i (a.answered i h) ∙ a.answer i h;
-}
-  where
-    old : (v : ℕ) → (v ≡ 0) ⊎ (s.objects.proposed v ≡ true) → (v ≡ 0) ⊎ (t.objects.proposed v ≡ true)
-    old v (inl none) = inl none
-    old v (inr there) = inr (a.versions.proposed v there)
 
 -- no step was taken
 pub elsewhere_none : (p : ℕ) (s : State) → Elsewhere p s s

@@ -1,16 +1,14 @@
 -- The world before the first event agrees with the opening state of the protocol: each peer has started over empty stores.
-use Rattle.std.proofs.Common.{◌≡◌, ◌^◌, eqb-true, lit<, ℕ, zero, suc, ◌<◌, ◌≤◌, true, List, [], inl, Option, None, Some, Result, Ok, slice_get, replicate, arith, refl, sym, ap, ◌∙◌, subst}
+use Rattle.std.proofs.Common.{◌≡◌, ◌^◌, eqb-true, lit<, ℕ, zero, suc, ◌<◌, true, List, [], Option, None, Some, Result, Ok, slice_get, replicate, refl, sym, ap, ◌∙◌, subst}
 use Rattle.std.proofs.lemmas.Bool.{false≢true}
-use Rattle.std.proofs.lemmas.Bool.Decides.{nat_tests}
 use Rattle.std.proofs.lemmas.List.Elements.{All-nil}
 use Rattle.ens_base.specs.Lists.{◌∈◌}
 use Rattle.ens_base.specs.View.{IsView}
 use Rattle.abstract_protocol.specs.Ledger.{opening_ledger}
 use Rattle.abstract_protocol.specs.Protocol.{opening}
 use Rattle.election_refinement.proofs.Listed.{listed_opening}
-use Rattle.election_refinement.proofs.Numbers.{number_zero}
 use Rattle.election_refinement.specs.Listed.{IsListedMessage}
-use Rattle.election_refinement.specs.Refinement.{IsKnown, IsSaved, FrameHolds, IsOrderly}
+use Rattle.election_refinement.specs.Refinement.{FrameHolds}
 use Rattle.held_stores.specs.Answers.{answered, with_facts}
 use Rattle.held_stores.specs.Held.{Held, empty_stores}
 use Rattle.held_stores.specs.Laws.{held_with}
@@ -36,7 +34,8 @@ use Rattle.world_spec.specs.Nodes.{Node, Up, taken_of, run_over, opening_node, o
 use Rattle.world_spec.specs.Runs.{repeated, opening_run}
 use Rattle.world_stores.specs.declared.fact.HeldFact.{HeldFact}
 use Rattle.safety_laws.proofs.Ordered.{in_right}
-use Rattle.call_refinement.proofs.Places.{replicated, roles_same}
+use Rattle.election_refinement.proofs.Openings.{replicated, saved_first, orderly_first}
+use Rattle.call_refinement.proofs.Places.{roles_same}
 use Rattle.call_refinement.proofs.Trees.{tree_behind, tree_saved, tree_written}
 use Rattle.call_refinement.specs.Peers.{TreeHolds, FrameFits}
 use Rattle.call_refinement.specs.Roles.{role_of, role_at, roles_of}
@@ -48,30 +47,6 @@ start_among zero place x y strings at s here = absurd (cc)
 start_among (suc n) place x y strings at s here = in_right (repeated n strings) strings s here
 
 module _ (view : List ℕ) where
-  known_first : IsKnown (opening_ledger view) (opening_fact view)
-  known_first = record {
-    ballot = omega arith;
-    epoch = omega arith;
-    below = omega arith;
-    elected = rw number_zero refl;
-    is_fact = inl (number_zero, refl);
-    leader = refl;
-    views = refl;
-    change = refl;
-  }
-
-  saved_first : (p : ℕ) → IsSaved (opening_ledger view) p (opening_fact view)
-  saved_first p = record { known = known_first; ballot = sym number_zero; place = rw number_zero refl }
-
-  orderly_first : IsOrderly (opening_ledger view)
-  orderly_first = record { reached = λ d h. zero_only d h; fits = λ d h. absurd (false≢true h); adopted = λ q d h. absurd (false≢true h); left = λ d h later. absurd (none d (zero_only d h) later) }
-    where
-      none : (d : ℕ) → d ≤ 0 → 0 < d → ⊥
-      none d low later = omega (arith, low, later)
-
-      zero_only : (d : ℕ) → (opening_ledger view).elected d ≡ true → d ≤ 0
-      zero_only d h = grind (arith, nat_tests)
-
   -- ## The start of a peer
 
   -- nothing is stored yet
@@ -111,7 +86,7 @@ module _ (view : List ℕ) where
 
   node_first : (lines : Lines) (strings more : List (List ℕ)) (q : ℕ) → view ∈ lines.voting → AreAmong (opening_strings view) more → NodeFits lines strings more (opening view) q (opening_node view)
   node_first lines strings more q votes among = subst (λ (n : Node). NodeFits lines strings more (opening view) q n) node_is (record {
-    holds = record { saved = saved_first q; kept = refl; phase = tt; sync = tt };
+    holds = record { saved = saved_first view q; kept = refl; phase = tt; sync = tt };
     listed = listed_opening lines.voting q view votes;
     trust = refl;
     tree = tree_behind (opening view) strings q saved.stores fresh.hashed more (subst (λ (xs : List (List ℕ)). AreAmong xs more) strings_are among) (fresh_tree strings q);
@@ -133,7 +108,7 @@ module _ (view : List ℕ) where
   opening_holds lines peers strings is_view votes = record {
     parts = record {
       run = is_view.size.0;
-      orderly = orderly_first;
+      orderly = orderly_first view;
       acks = λ v q is acked. absurd (false≢true acked);
       asked = λ i came. absurd (false≢true came);
       epochs = λ d elected. subst (λ (n : ℕ). n < 2 ^ 96) (sym (eqb-true d 0 elected)) (lit< tt);

@@ -1,8 +1,7 @@
 -- The nodes and the roles of a world after the node of one peer changed, and what was said once a peer
 -- has sent its messages.
-use Rattle.std.proofs.Common.{◌≡◌, ℕ, zero, suc, ◌⊎◌, inl, inr, List, [], ◌∷◌, ◌++◌, map, Option, None, Some, slice_get, slice_set, replicate, append_assoc, append-nil, arith, refl, sym, ap, ◌∙◌, subst}
+use Rattle.std.proofs.Common.{◌≡◌, ℕ, zero, suc, ◌⊎◌, inl, inr, List, [], ◌∷◌, ◌++◌, map, Option, None, Some, slice_get, slice_set, append_assoc, append-nil, arith, refl, sym, ap, ◌∙◌, subst}
 use Rattle.std.specs.Prelude.{All}
-use Rattle.std.proofs.lemmas.List.Elements.{All-push, All-head, All-tail}
 use Rattle.std.proofs.lemmas.Option.{none-some, same_Some, get_or_from_slice_get, slice_get_within}
 use Rattle.ens_base.specs.Lists.{◌∈◌}
 use Rattle.ens_base.specs.View.{IsPeer}
@@ -21,18 +20,6 @@ use Rattle.call_refinement.specs.Roles.{role_of, role_at, roles_of, said_of, sai
 
 -- ## Places
 
--- the element at a place after an element was set
-pub get_put : {A : Type 0} (xs : List A) (p q : ℕ) (y m : A) → slice_get (slice_set xs p y) q ≡ Some m → ((p ≡ q) × (m ≡ y)) ⊎ ((p ≡ q → ⊥) × (slice_get xs q ≡ Some m))
-get_put [] p q y m is = absurd (none-some m is)
-get_put (x ∷ xs) zero zero y m is = inl (refl, sym (same_Some y m is))
-get_put (x ∷ xs) zero (suc q) y m is = inr ((λ e. omega (arith, e)), is)
-get_put (x ∷ xs) (suc p) zero y m is = inr ((λ e. omega (arith, e)), is)
-get_put (x ∷ xs) (suc p) (suc q) y m is = later (get_put xs p q y m is)
-  where
-    later : ((p ≡ q) × (m ≡ y)) ⊎ ((p ≡ q → ⊥) × (slice_get xs q ≡ Some m)) → ((suc p ≡ suc q) × (m ≡ y)) ⊎ ((suc p ≡ suc q → ⊥) × (slice_get xs q ≡ Some m))
-    later (inl here) = inl (ap suc here.0, here.1)
-    later (inr other) = inr ((λ e. other.0 (omega (arith, e))), other.1)
-
 set_same : {A : Type 0} (xs : List A) (p : ℕ) (y m : A) → slice_get xs p ≡ Some m → slice_get (slice_set xs p y) p ≡ Some y
 set_same [] p y m is = absurd (none-some m is)
 set_same (x ∷ xs) zero y m is = refl
@@ -44,12 +31,6 @@ set_other (x ∷ xs) zero zero y other = absurd (other refl)
 set_other (x ∷ xs) zero (suc q) y other = refl
 set_other (x ∷ xs) (suc p) zero y other = refl
 set_other (x ∷ xs) (suc p) (suc q) y other = set_other xs p q y (λ same. other (ap suc same))
-
--- each element of a list of equal ones
-pub replicated : {A : Type 0} (n place : ℕ) (x y : A) → slice_get (replicate n x) place ≡ Some y → x ≡ y
-replicated zero place x y at = absurd (none-some y at)
-replicated (suc n) zero x y at = same_Some x y at
-replicated (suc n) (suc place) x y at = replicated n place x y at
 
 -- ## Roles
 
@@ -128,11 +109,6 @@ said_at (x ∷ frames) (suc n) f said is says = further (said_of x.message) (sai
     further (Some other) at = inr at
 
 -- ## All messages
-
--- what holds of each message holds after more are sent
-pub posted_all_hold : (P : Frame → Type 0) (frames : List Frame) (m : Mail) → All P m.sent → All P frames → All P (posted_all frames m).sent
-posted_all_hold P [] m old new = old
-posted_all_hold P (f ∷ more) m old new = posted_all_hold P more (posted m f) (All-push P m.sent f old (All-head P f more new)) (All-tail P f more new)
 
 -- what the message of this number holds
 pub frame_at : (P : Frame → Type 0) (frames : List Frame) (n : ℕ) (f : Frame) → slice_get frames n ≡ Some f → All P frames → P f

@@ -44,14 +44,14 @@ use Rattle.peer_core.specs.declared.state.Phase.TheVariants as phases
 use Rattle.peer_core.specs.declared.state.State.{State as PeerState}
 use Rattle.register_model.specs.declared.call.Call.{Call}
 use Rattle.register_model.specs.declared.note.Note.{Note}
-use Rattle.request_refinement.specs.Naming.{hash_of, object_of_version}
+use Rattle.request_refinement.specs.Naming.{hash_of}
 use Rattle.step_plans.specs.Calls.{Find, Fetch}
 use Rattle.step_plans.specs.Plans.{Ask, Out, Rest, asked}
 use Rattle.step_plans.specs.declared.tasks.Task.{Task}
 use Rattle.step_plans.specs.declared.tasks.Task.TheVariants as tasks
 use Rattle.step_plans.specs.declared.walked.Walked.{Walked}
 use Rattle.step_plans.specs.declared.walked.Walked.TheVariants.{Reached as Came, Broken}
-use Rattle.sync_refinement.proofs.Staying.{object_from}
+use Rattle.request_refinement.proofs.Staying.{put_object as said_object}
 use Rattle.tree_node.specs.declared.position.Position.{Position}
 use Rattle.wire_frames.specs.declared.phase.Seen.{Seen}
 use Rattle.wire_frames.specs.declared.phase.Seen.TheVariants as seens
@@ -74,10 +74,6 @@ use Rattle.call_refinement.specs.Peers.{AsksFit, EpochsFit, TaskFits}
 pub record Grounds (c : Scene) : Type 0 where
   pub few : (view : List ℕ) (steps : List Step) → IsRun view steps → KeysAreFew (state_after view steps)
   pub epochs : EpochsFit (state_before c)
-
--- the object of a put is that of its version
-said_object : (s : State) (d : ℕ) (o : Object) → PutSays s d o.key (rank o.version) (content_of o) → object_of_version s o.version ≡ o
-said_object s d o says = object_from o (s.book.stamp (rank o.version)) (s.objects.key (rank o.version)) (s.book.content (rank o.version)) (sym says.object.stamp) says.key (sym says.object.content)
 
 -- ## A look by a leader that has only begun one
 

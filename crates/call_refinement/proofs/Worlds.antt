@@ -47,7 +47,8 @@ use Rattle.call_refinement.proofs.Obeying.{epochs_here, epochs_there}
 use Rattle.call_refinement.proofs.Lines.{with_answers, answers_in_front, answers_many, down_agrees}
 use Rattle.call_refinement.proofs.Losing.{elsewhere_lost}
 use Rattle.call_refinement.proofs.Moving.{elsewhere_none}
-use Rattle.call_refinement.proofs.Places.{get_put, number, apart, role_there, role_put, roles_same, said_posted, posted_all_hold}
+use Rattle.election_refinement.proofs.Worlds.{get_put, posted_all_hold}
+use Rattle.call_refinement.proofs.Places.{number, apart, role_there, role_put, roles_same, said_posted}
 use Rattle.call_refinement.proofs.Staying.{StaysFor, elsewhere_stays, node_fits, acks_stay, messages_same, messages_elsewhere}
 use Rattle.call_refinement.specs.Lines.{AreSame, given_at, StepAgrees, IsQuiet}
 use Rattle.call_refinement.specs.Peers.{AcksSay, AsksFit, EpochsFit, PhaseFits, IsAtRest, SendFits, FrameFits}

@@ -20,13 +20,13 @@ use Rattle.election_refinement.specs.Refinement.{IsKnown, IsSaved, NodeHolds, Fr
 use Rattle.election_refinement.specs.Worlds.{AllSpare, IsRefinement, HasRun, GoesOn}
 
 -- each element of a list of equal ones
-replicated : {A : Type 0} (n place : ℕ) (x y : A) → slice_get (replicate n x) place ≡ Some y → x ≡ y
+pub replicated : {A : Type 0} (n place : ℕ) (x y : A) → slice_get (replicate n x) place ≡ Some y → x ≡ y
 replicated zero place x y at = absurd (cc)
 replicated (suc n) zero x y at = cc
 replicated (suc n) (suc place) x y at = replicated n place x y at
 
 module _ (view : List ℕ) where
-  known_first : IsKnown (opening_ledger view) (opening_fact view)
+  pub known_first : IsKnown (opening_ledger view) (opening_fact view)
   known_first = record {
     ballot = omega arith;
     epoch = omega arith;
@@ -38,7 +38,7 @@ module _ (view : List ℕ) where
     change = refl;
   }
 
-  saved_first : (p : ℕ) → IsSaved (opening_ledger view) p (opening_fact view)
+  pub saved_first : (p : ℕ) → IsSaved (opening_ledger view) p (opening_fact view)
   saved_first p = record { known = known_first; ballot = sym number_zero; place = rw number_zero refl }
 
   started : (p : ℕ) → NodeHolds (opening_ledger view) p (opening_node view)
@@ -46,7 +46,7 @@ module _ (view : List ℕ) where
       let o = opening_is view in
       subst (NodeHolds (opening_ledger view) p) (sym o.is) (record { saved = saved_first p; kept = o.kept; phase = tt; sync = tt })
 
-  orderly_first : IsOrderly (opening_ledger view)
+  pub orderly_first : IsOrderly (opening_ledger view)
   orderly_first = record { reached = λ d h. zero_only d h; fits = λ d h. absurd (false≢true h); adopted = λ q d h. absurd (false≢true h); left = λ d h later. absurd (none d (zero_only d h) later) }
     where
       none : (d : ℕ) → d ≤ 0 → 0 < d → ⊥

@@ -50,7 +50,7 @@ use Rattle.election_refinement.specs.Refinement.{PeerHolds, IsKept, NodeHolds, S
 use Rattle.election_refinement.specs.Worlds.{Spares, Refines, ledger_after, IsRefinement, GoesOn}
 
 -- the element at a place after an element was set
-get_put : {A : Type 0} (xs : List A) (p q : ℕ) (y m : A) → slice_get (slice_set xs p y) q ≡ Some m → ((p ≡ q) × (m ≡ y)) ⊎ ((p ≡ q → ⊥) × (slice_get xs q ≡ Some m))
+pub get_put : {A : Type 0} (xs : List A) (p q : ℕ) (y m : A) → slice_get (slice_set xs p y) q ≡ Some m → ((p ≡ q) × (m ≡ y)) ⊎ ((p ≡ q → ⊥) × (slice_get xs q ≡ Some m))
 get_put xs p q y m is = by_cases (p == q) refl
   where
     within : q < length xs
@@ -65,7 +65,7 @@ get_put xs p q y m is = by_cases (p == q) refl
         inr (eqb-false p q e, slice_get-get_or xs q m within ∙ ap (λ z. Some z) (sym (get_or-set_other xs p q y m apart) ∙ get_or_from_slice_get (slice_set xs p y) q m m is))
 
 -- a property of all messages before and of all new ones
-posted_all_hold : (P : Frame → Type 0) (frames : List Frame) (m : Mail) → All P m.sent → All P frames → All P (posted_all frames m).sent
+pub posted_all_hold : (P : Frame → Type 0) (frames : List Frame) (m : Mail) → All P m.sent → All P frames → All P (posted_all frames m).sent
 posted_all_hold P [] m old new = old
 posted_all_hold P (f ∷ more) m old new = posted_all_hold P more (posted m f) (All-push P m.sent f old (All-head P f more new)) (All-tail P f more new)
 

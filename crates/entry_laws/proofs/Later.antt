@@ -178,7 +178,7 @@ stay_same s = record {
   answer = λ i h. refl;
 }
 
-stay_then : (s t u : State) → EntriesStay s t → EntriesStay t u → EntriesStay s u
+pub stay_then : (s t u : State) → EntriesStay s t → EntriesStay t u → EntriesStay s u
 stay_then s t u a b = record {
   versions = versions_then s.objects t.objects u.objects a.versions b.versions;
   now = le_trans a.now b.now;

@@ -47,7 +47,8 @@ use Rattle.leader_laws.specs.Tables.{Ghosts, Owed, Seat}
 use Rattle.leader_refinement.proofs.Base.{AreElsewhere, row_of_work, finish, no_move, rests_so, stands_elsewhere, stage_row, staged_fits, calm_staged, set_here, off_same}
 use Rattle.leader_refinement.proofs.Numbers.{plus_one, same_epochs}
 use Rattle.leader_refinement.proofs.Orders.{IsBetter, better_seen, better_fits, better_names}
-use Rattle.leader_refinement.proofs.Votes.{answered_fewer, begun_fewer, answered_on, begun_on, sent_say}
+use Rattle.leading.proofs.Votes.{answered_on, begun_on}
+use Rattle.leader_refinement.proofs.Votes.{answered_fewer, begun_fewer, sent_say}
 use Rattle.leader_refinement.specs.Seen.{known_of, voters, best_rank, best_object, entry_rank, shown, waiting_behind, row_parts, row_seen, table_of}
 use Rattle.leader_refinement.specs.Follows.{StageFits, FoundFits, FoundNames, IsOn, TaskHolds, IsAtWork, LeaderFits, Follows, GoesOn, SentSays}
 use Rattle.leader_refinement.specs.Laws.{EntryFits, LookSays, LookNames, looked_next, ReadsStart, ReadsCount}

@@ -36,6 +36,7 @@ use Rattle.leader_laws.specs.Leaders.{RowHolds, LeaderHolds}
 use Rattle.leader_laws.specs.Moves.{IsLeaderMove}
 use Rattle.leader_laws.specs.Tables as theory
 use Rattle.leader_laws.specs.Tables.{Ghosts, Owed, Seat}
+use Rattle.leading.proofs.Moves.{runs as runs_now}
 use Rattle.leader_refinement.specs.Seen.{ids_on, waiting_behind, row_parts, row_seen, task_on, table_of, owed_after, known_of}
 use Rattle.leader_refinement.specs.Follows.{IsAtWork, CallsAgree, TaskHolds, IsReadyFor, NextFits, Follows, SentSays, Hash, RowFits, StageFits}
 
@@ -228,10 +229,6 @@ calm_ended key t calm k none = by_key (same_bytes key k) refl none
     by_key false off none = ap (λ (row : KeyRow). row.stage) (stage_other key k stages.Idle t.rows off) ∙ calm k (sym (running_other key k t.calls off) ∙ none)
 
 -- ## Nothing changes
-
--- the key has a call
-pub runs_now : (key : List ℕ) (calls : List Waiting) (w : Waiting) → running key calls ≡ Some w → IsSome (running key calls)
-runs_now key calls w is = subst (λ (call : Option Waiting). IsSome call) (sym is) refl
 
 module _ (g : Ghosts) (s : State) (key : List ℕ) (owed : List Owed) (l : Leader) (work : IsAtWork g s key owed l) where
   -- the leader stays as it is, and owes and notes nothing

@@ -49,7 +49,8 @@ use Rattle.leader_laws.specs.Leaders.{RowHolds, IsObjectOf, IsParent}
 use Rattle.leader_laws.specs.Tables as theory
 use Rattle.leader_laws.specs.Tables.{Ghosts, Owed, Seat}
 use Rattle.leader_refinement.proofs.Answers.{answered_so, seat_owing}
-use Rattle.leader_refinement.proofs.Base.{row_of_work, finish, no_move, rests_so, tasked_so, runs_now, knows_elsewhere, known_row, rows_fit, calm_known, set_here, set_off, same_elsewhere, off_same}
+use Rattle.leading.proofs.Moves.{runs as runs_now}
+use Rattle.leader_refinement.proofs.Base.{row_of_work, finish, no_move, rests_so, tasked_so, knows_elsewhere, known_row, rows_fit, calm_known, set_here, set_off, same_elsewhere, off_same}
 use Rattle.leader_refinement.proofs.Numbers.{rank_back, same_epochs}
 use Rattle.leader_refinement.proofs.Puts.{gone_same}
 use Rattle.leader_refinement.proofs.Votes.{IsClosed, closed_quorum}

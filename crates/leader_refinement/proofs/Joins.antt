@@ -41,6 +41,7 @@ use Rattle.leader_laws.specs.Leaders.{RowHolds, TurnsHold}
 use Rattle.leader_laws.specs.Moves.{GhostsGrow, IsLeaderMove}
 use Rattle.leader_laws.specs.Tables as theory
 use Rattle.leader_laws.specs.Tables.{Ghosts, Owed}
+use Rattle.leading.proofs.Joins.{none_before}
 use Rattle.leader_refinement.proofs.Base.{Elsewhere, IsSplit, finish, no_move, task_here, set_here, set_off, calls_split}
 use Rattle.leader_refinement.specs.Seen.{ids_on, known_of, running_stage, waiting_behind, row_seen, task_on, table_of, owed_after}
 use Rattle.leader_refinement.specs.Follows.{TaskHolds, IsAtWork, CallsAgree, IsReadyFor, NextFits, Follows, TakesCall, SentSays}
@@ -85,15 +86,6 @@ nobody_waits key (v ∷ calls) e = by_key (same_bytes v.key key) e (nobody_waits
   where
     by_key : (b : Bool) → cond b (waiting_on key calls + 1) (waiting_on key calls) ≡ 0 → (waiting_on key calls ≡ 0 → running key calls ≡ None) → cond b (Some v) (running key calls) ≡ None
     by_key true e later = absurd (omega (arith, e))
-    by_key false e later = later e
-
--- a key without a call after one more had none before
-none_before : (key : List ℕ) (calls : List Waiting) (w : Waiting) → running key (calls ++ w ∷ []) ≡ None → running key calls ≡ None
-none_before key [] w e = refl
-none_before key (v ∷ calls) w e = by_key (same_bytes v.key key) e (none_before key calls w)
-  where
-    by_key : (b : Bool) → cond b (Some v) (running key (calls ++ w ∷ [])) ≡ None → (running key (calls ++ w ∷ []) ≡ None → running key calls ≡ None) → cond b (Some v) (running key calls) ≡ None
-    by_key true e later = e
     by_key false e later = later e
 
 -- ## A new call

@@ -54,9 +54,11 @@ use Rattle.leader_laws.specs.Moves.{IsLeaderMove}
 use Rattle.leader_laws.specs.Tables as theory
 use Rattle.leader_laws.specs.Tables.{Ghosts, Owed, Seat}
 use Rattle.leader_refinement.proofs.Answers.{answered_so, seat_owing}
-use Rattle.leader_refinement.proofs.Base.{AreElsewhere, row_of_work, finish, no_move, rests_so, runs_now, stands_elsewhere, knows_elsewhere, stage_row, known_row, staged_fits, rows_fit, calm_staged, calm_known, set_here, off_same}
+use Rattle.leading.proofs.Moves.{runs as runs_now}
+use Rattle.leader_refinement.proofs.Base.{AreElsewhere, row_of_work, finish, no_move, rests_so, stands_elsewhere, knows_elsewhere, stage_row, known_row, staged_fits, rows_fit, calm_staged, calm_known, set_here, off_same}
 use Rattle.leader_refinement.proofs.Numbers.{rank_back, same_versions}
-use Rattle.leader_refinement.proofs.Votes.{answered_fewer, begun_fewer, answered_on, begun_on, IsClosed, closed_quorum, sent_say}
+use Rattle.leading.proofs.Votes.{answered_on, begun_on}
+use Rattle.leader_refinement.proofs.Votes.{answered_fewer, begun_fewer, IsClosed, closed_quorum, sent_say}
 use Rattle.leader_refinement.specs.Seen.{rank, content_of, known_of, voters, put_of, waiting_behind, row_parts, row_seen, table_of}
 use Rattle.leader_refinement.specs.Follows.{IsOn, PutFits, StageFits, RowFits, ProposeHolds, TaskHolds, IsAtWork, LeaderFits, IsLeaderStep, AreLeaderSteps, Follows, GoesOn, SentSays}
 use Rattle.leader_refinement.specs.Laws.{PutGoesIn, PutsGoIn, StoredSays, PutsAreStored, PutsCount}

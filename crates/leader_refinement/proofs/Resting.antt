@@ -5,7 +5,7 @@ use Rattle.std.proofs.lemmas.Bool.{or_parts, or_left, or_right}
 use Rattle.ens_base.specs.Lists.{◌∈◌, same_bytes}
 use Rattle.ens_base.proofs.Lists.{bytes_same, bytes_itself}
 use Rattle.ens_base.specs.declared.reply.Reply.TheVariants as replies
-use Rattle.call_table.specs.Calls.{running, waiting_on, is_due, not_due, due, due_after, key_if_running}
+use Rattle.call_table.specs.Calls.{running, waiting_on, is_due, due, due_after, key_if_running}
 use Rattle.call_table.specs.Late.{late_put_after}
 use Rattle.call_table.specs.Rows.{Rows, row_at, with_stage, has_put}
 use Rattle.call_table.specs.Tables.{rested, rested_if, rested_all, without_due, late_put}
@@ -56,22 +56,6 @@ idle_twice false b row = refl
 rested_all_row : (ds : List DueCall) (k : List ℕ) (t : CallTable) → row_at k (rested_all ds t).rows ≡ idle_if (is_named k ds) (row_at k t.rows)
 rested_all_row [] k t = refl
 rested_all_row (d ∷ ds) k t = rested_all_row ds k (rested_if d.running t) ∙ ap (idle_if (is_named k ds)) (rested_if_row d.running k t) ∙ idle_twice (is_named_by k d.running) (is_named k ds) (row_at k t.rows)
-
-rested_calls : (key : List ℕ) (t : CallTable) → (rested key t).calls ≡ t.calls
-unfolding rested
-rested_calls key t = refl
-
-rested_if_calls : (o : Option (List ℕ)) (t : CallTable) → (rested_if o t).calls ≡ t.calls
-rested_if_calls None t = refl
-rested_if_calls (Some key) t = rested_calls key t
-
-rested_all_calls : (ds : List DueCall) (t : CallTable) → (rested_all ds t).calls ≡ t.calls
-rested_all_calls [] t = refl
-rested_all_calls (d ∷ ds) t = rested_all_calls ds (rested_if d.running t) ∙ rested_if_calls d.running t
-
-pub calls_left : (t : CallTable) → (without_due t).calls ≡ not_due t.calls
-unfolding without_due
-calls_left t = ap not_due (rested_all_calls (due t.calls) t)
 
 -- ## Which keys are named
 

@@ -24,7 +24,7 @@ use Rattle.leading.specs.Ticks.{Finishing, is_late, timed_out, aged, row_5_calls
 use Rattle.leading.specs.declared.leader.Leader.{Leader}
 use Rattle.leading.specs.declared.pending.Pending.{Pending}
 use Rattle.leading.specs.declared.pending.Pending.TheVariants as tasks
-use Rattle.leading.proofs.TimeOuts.{IsTick, row_5_ticks}
+use Rattle.leading.proofs.TimeOuts.{IsTick, row_5_ticks, without_due_calls as calls_left}
 use Rattle.leader_laws.proofs.Acts.{reading_began, checking_began, began_ends}
 use Rattle.leader_laws.proofs.Tables.{leader_same}
 use Rattle.leader_laws.proofs.Turns.{leader_leaves}
@@ -33,7 +33,7 @@ use Rattle.leader_laws.specs.Tables as theory
 use Rattle.leader_laws.specs.Tables.{Ghosts, Owed, Seat, calls_owed, timeouts}
 use Rattle.leader_refinement.proofs.Base.{IsSplit, calls_split, begins, no_move}
 use Rattle.leader_refinement.proofs.Leaving.{running_calls, ids_distinct, ids_among, owed_timeouts, no_task_on, keys_alike}
-use Rattle.leader_refinement.proofs.Resting.{idle_if, calls_left, row_left, named_idle, due_has_no_put}
+use Rattle.leader_refinement.proofs.Resting.{idle_if, row_left, named_idle, due_has_no_put}
 use Rattle.leader_refinement.proofs.Staying.{IsFewer, fewer_both, filtered, stays_or_due, one_of_all, is_due_call, RunsOn, young_runs, due_runs}
 use Rattle.leader_refinement.specs.Seen.{known_of, voters, best_rank, best_object, stage_of, running_stage, ids_on, ids_of, waiting_behind, row_parts, row_seen, task_on, table_of, owed_after}
 use Rattle.leader_refinement.specs.Follows.{Hash, RowFits, CallsAgree, LeaderFits, IsAtWork, Ends, TimesOut}

@@ -1,9 +1,8 @@
 -- The peers that answered in a round, and messages to all members.
-use Rattle.std.specs.Prelude.{All, replicate, slice_index_or, slice_set}
-use Rattle.std.proofs.Common.{◌≡◌, ℕ, zero, suc, ◌+◌, Bool, true, false, ◌==◌, if◌then◌else◌, eqb-true, List, [], ◌∷◌, arith, refl, sym, ◌∙◌, subst}
-use Rattle.std.proofs.lemmas.Bool.{eqb-false, false≢true}
+use Rattle.std.specs.Prelude.{All, replicate, slice_set}
+use Rattle.std.proofs.Common.{◌≡◌, ℕ, zero, suc, ◌+◌, Bool, true, false, if◌then◌else◌, List, [], ◌∷◌, arith, refl, sym, ◌∙◌}
+use Rattle.std.proofs.lemmas.Bool.{false≢true}
 use Rattle.std.proofs.lemmas.Bool.Decides.{nat_tests}
-use Rattle.std.proofs.lemmas.List.{get_or-set_other}
 use Rattle.std.proofs.lemmas.List.Elements.{All-nil, All-cons, All-append}
 use Rattle.abstract_protocol.specs.Ledger.{put}
 use Rattle.ens_base.specs.PeerSet.{holds}
@@ -17,20 +16,9 @@ use Rattle.leader_words.specs.declared.out.Outgoing.{Outgoing}
 use Rattle.wire_frames.specs.declared.message.Message.{Message}
 use Rattle.abstract_protocol.specs.Protocol.{State}
 use Rattle.leader_laws.specs.Tables.{Ghosts}
+use Rattle.leading.proofs.Votes.{none_held, set_then}
 use Rattle.leader_refinement.specs.Seen.{voters}
 use Rattle.leader_refinement.specs.Follows.{SendSays, SentSays}
-
-none_held : (n q : ℕ) → slice_index_or (replicate n false) q false ≡ false
-none_held zero q = refl
-none_held (suc n) zero = refl
-none_held (suc n) (suc q) = none_held n q
-
-set_then : (P : ℕ → Type 0) (peer : ℕ) (votes : List Bool) → P peer → ((q : ℕ) → holds votes q ≡ true → P q) → (q : ℕ) → holds (slice_set votes peer true) q ≡ true → P q
-set_then P peer votes here old q h = by_same (peer == q) refl
-  where
-    by_same : (b : Bool) → (peer == q) ≡ b → P q
-    by_same true e = subst P (eqb-true peer q e) here
-    by_same false e = old q (sym (get_or-set_other votes peer q true false (λ s. eqb-false peer q e (sym s))) ∙ h)
 
 -- what holds of a peer and of all that answered before holds of all that have answered
 pub answered_then : (P : ℕ → Type 0) (round : Round) (from : ℕ) → P from → ((q : ℕ) → voters round q ≡ true → P q) → (q : ℕ) → voters (answered from round) q ≡ true → P q
@@ -44,14 +32,6 @@ answered_then P round from here old q = by_member (is_member round.tally.views f
 pub begun_then : (P : ℕ → Type 0) (views : List (List ℕ)) (me : ℕ) → P me → (q : ℕ) → voters (begun views me) q ≡ true → P q
 unfolding begun
 begun_then P views me here = answered_then P (record { tally = record { views = views; votes = replicate 32 false } }) me here (λ q h. absurd (false≢true (sym (none_held 32 q) ∙ h)))
-
-pub answered_on : (round : Round) (from : ℕ) → (answered from round).tally.views ≡ round.tally.views
-unfolding answered
-answered_on round from = refl
-
-pub begun_on : (views : List (List ℕ)) (me : ℕ) → (begun views me).tally.views ≡ views
-unfolding begun answered
-begun_on views me = refl
 
 put_here : (f : ℕ → Bool) (p : ℕ) → put f p true p ≡ true
 put_here f p = grind (arith, nat_tests)

@@ -27,11 +27,11 @@ use Rattle.request_refinement.specs.Laws.{PutsAreEntries, WritesShow, EntriesSta
 
 -- ## Entries
 
-object_from : (o : Object) (stamp : Version) (key : List ℕ) (value : Option (List ℕ)) → stamp ≡ o.stamp → key ≡ o.key → value ≡ o.value → (let made : Object = record { version = o.version; stamp = stamp; key = key; value = value } in made) ≡ o
+pub object_from : (o : Object) (stamp : Version) (key : List ℕ) (value : Option (List ℕ)) → stamp ≡ o.stamp → key ≡ o.key → value ≡ o.value → (let made : Object = record { version = o.version; stamp = stamp; key = key; value = value } in made) ≡ o
 object_from o stamp key value a b c = λ i. record { version = o.version; stamp = a i; key = b i; value = c i }
 
 -- the object of a put is that of its version
-put_object : (s : State) (d : ℕ) (o : Object) → PutSays s d o.key (rank o.version) (content_of o) → object_of_version s o.version ≡ o
+pub put_object : (s : State) (d : ℕ) (o : Object) → PutSays s d o.key (rank o.version) (content_of o) → object_of_version s o.version ≡ o
 put_object s d o says = object_from o (s.book.stamp (rank o.version)) (s.objects.key (rank o.version)) (s.book.content (rank o.version)) (sym says.object.stamp) says.key (sym says.object.content)
 
 pub put_entry : (s : State) → PutsAreEntries s
@@ -46,10 +46,10 @@ put_entry s strings d o digest says obeys hashed is = let own : o ≡ object_of_
 }
 
 -- the version keeps its object
-same_object : (s t : State) (v : Version) → EntriesStay s t → s.objects.proposed (rank v) ≡ true → object_of_version s v ≡ object_of_version t v
+pub same_object : (s t : State) (v : Version) → EntriesStay s t → s.objects.proposed (rank v) ≡ true → object_of_version s v ≡ object_of_version t v
 same_object s t v stay proposed = sym (object_from (object_of_version s v) (t.book.stamp (rank v)) (t.objects.key (rank v)) (t.book.content (rank v)) (stay.stamp (rank v) proposed) (stay.versions.key (rank v) proposed) (stay.content (rank v) proposed))
 
-entry_stays : (s t : State) (strings more : List (List ℕ)) (e : Entry) → EntriesStay s t → AreAmong strings more → EntrySays s strings e → EntrySays t more e
+pub entry_stays : (s t : State) (strings more : List (List ℕ)) (e : Entry) → EntriesStay s t → AreAmong strings more → EntrySays s strings e → EntrySays t more e
 entry_stays s t strings more e stay among says = record {
   version = record {
     proposed = stay.versions.proposed (rank e.version) says.version.proposed;

@@ -17,15 +17,11 @@ use Rattle.exchange.specs.Asks.{onward, started, same_after, is_open, is_empty, 
 use Rattle.exchange.specs.declared.question.Question.{Question}
 use Rattle.exchange.specs.declared.step.Step.TheVariants as steps
 use Rattle.exchange.proofs.Stacks.{left_places}
-use Rattle.exchange.proofs.Widths.{children_width, asked_places}
+use Rattle.exchange.proofs.Widths.{children_width, asked_places, all_append}
 
 -- what is left to ask are positions of the tree
 abbrev pub IsInTree : Asked → Type 0
 IsInTree ask = ArePlaces ask.current ask.left
-
-all_append : (a b : List Position) → AllByRecursion IsPosition a → AllByRecursion IsPosition b → AllByRecursion IsPosition (a ++ b)
-all_append [] b p q = q
-all_append (x ∷ a) b p q = (p.0, all_append a b p.1 q)
 
 onward_places : (ps : List Position) (es : List Entry) → AllByRecursion IsPosition ps → IsInTree (onward ps es)
 onward_places [] es h = tt

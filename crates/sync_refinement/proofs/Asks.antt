@@ -7,15 +7,12 @@ use Rattle.ens_base.proofs.Lists.{in-map}
 use Rattle.ens_base.specs.Lists.{◌∈◌, AreDistinct}
 use Rattle.running_sync.specs.Asks.{place_of}
 use Rattle.running_sync.specs.declared.asking.Asking.{Asking}
+use Rattle.exchange.proofs.Keeping.{same_number}
 use Rattle.sync_refinement.specs.Seen.{seen_ask, ask_of}
 
 -- the peers that are asked
 abbrev pub peers_of : List Asking → List ℕ
 peers_of asks = map (λ (a : Asking). a.peer) asks
-
--- numbers that pass the test are equal
-pub same_number : (a b : ℕ) → (a == b) ≡ true → a ≡ b
-same_number a b e = grind (arith, nat_tests)
 
 -- each number passes it against itself
 pub number_itself : (a : ℕ) → (a == a) ≡ true

@@ -10,7 +10,7 @@ use Rattle.ens_base.specs.declared.entry.Entry.{Entry}
 use Rattle.ens_fields.specs.Entries.{IsEntry}
 use Rattle.exchange.proofs.Gifts.{give_page}
 use Rattle.exchange.proofs.Having.{in_has, from_filter}
-use Rattle.exchange.proofs.Keeping.{take_keeps}
+use Rattle.exchange.proofs.Keeping.{take_keeps, same_number}
 use Rattle.exchange.specs.Asked.{Asked}
 use Rattle.exchange.specs.Asks.{onward, is_open, is_empty, to_ask, names_in, after_inner, after_page, step_to, stepped, reply, taken}
 use Rattle.exchange.specs.Covers.{Has, Covers, give_of, IsOwn, AreApart}
@@ -34,7 +34,6 @@ use Rattle.tree_node.specs.declared.body.TreeBody.{TreeBody}
 use Rattle.tree_node.specs.declared.body.TreeBody.TheVariants.{Inner, Page, Damaged}
 use Rattle.tree_node.specs.declared.position.Position.{Position}
 use Rattle.sync_refinement.specs.Seen.{ranks, greatest, is_left, seen_stage, seen_ask}
-use Rattle.sync_refinement.proofs.Asks.{same_number}
 use Rattle.sync_refinement.proofs.Maps.{not_zero, both_ways, max_one_of, HasRank, ranks_found, ranks_has, greatest_append, greatest_has, greatest_of, in_take, left_is, is_left_of}
 
 -- ## Steps

@@ -1,5 +1,5 @@
 -- Maps of versions against lists of entries, and tests of positions against what they test.
-use Rattle.std.proofs.Common.{◌≡◌, ◌⊎◌, ℕ, zero, ◌<◌, ◌≤◌, suc, max, Bool, true, false, cond, not, ◌&&◌, ◌||◌, List, [], ◌∷◌, ◌++◌, Option, None, Some, take, filter, arith, refl, ap, sym, ◌∙◌, subst, inl, inr, le_trans}
+use Rattle.std.proofs.Common.{◌≡◌, ◌⊎◌, ℕ, zero, ◌<◌, ◌≤◌, suc, max, Bool, true, false, cond, not, ◌&&◌, ◌||◌, List, [], ◌∷◌, ◌++◌, Option, None, Some, take, arith, refl, ap, sym, ◌∙◌, subst, inl, inr, le_trans}
 use Rattle.std.specs.Prelude.{if◌then◌else◌}
 use Rattle.std.specs.declared.cmp.Ordering.TheVariants.{Less}
 use Rattle.std.proofs.lemmas.Bool.{and_parts}
@@ -189,20 +189,6 @@ greatest_of m es ascends among k = by_found (greatest_found es k)
     by_found (inr h) = inr (h.rank_is ∙ sym (ranks_in m h.entry k ascends (among h.entry h.inside) h.key_is))
 
 -- ## Lists
-
--- an item that passes the test is kept
-pub in_filter : (q : Entry → Bool) (e : Entry) (m : List Entry) → e ∈ m → q e ≡ true → e ∈ filter q m
-in_filter q e [] at h = absurd at
-in_filter q e (x ∷ m) (inl same) h = here (q x) (ap q (sym same) ∙ h)
-  where
-    here : (b : Bool) → b ≡ true → e ∈ cond b (x ∷ filter q m) (filter q m)
-    here true t = inl same
-    here false t = absurd cc
-in_filter q e (x ∷ m) (inr at) h = later (q x) (in_filter q e m at h)
-  where
-    later : (b : Bool) → e ∈ filter q m → e ∈ cond b (x ∷ filter q m) (filter q m)
-    later true there = inr there
-    later false there = there
 
 -- the first items of a list are in it
 pub in_take : {A : Type 0} (n : ℕ) (xs : List A) (x : A) → x ∈ take n xs → x ∈ xs

@@ -16,7 +16,8 @@ use Rattle.sync_rule.specs.Merges.{Exceeds, IsMerge}
 use Rattle.sync_rule.specs.Syncs.{is_source, all_entries}
 use Rattle.sync_rule.specs.declared.sync.Source.{Source}
 use Rattle.tree_maps.specs.Entries.{Ascends}
-use Rattle.sync_refinement.proofs.Asks.{same_number, number_itself, ask_in}
+use Rattle.exchange.proofs.Keeping.{same_number}
+use Rattle.sync_refinement.proofs.Asks.{number_itself, ask_in}
 use Rattle.sync_refinement.proofs.Maps.{right_true, HasRank, ranks_in, ranks_found, greatest_in, greatest_found, in_append}
 use Rattle.sync_refinement.proofs.Ranks.{merge_ascends, no_lower}
 use Rattle.sync_refinement.proofs.Scans.{scan_ascends}

@@ -17,7 +17,8 @@ use Rattle.tree_node.specs.declared.position.Position.{Position}
 use Rattle.tree_verify.specs.Scans.{lost}
 use Rattle.sync_refinement.specs.Seen.{ranks, seen_tree, seen_scan}
 use Rattle.sync_refinement.specs.Syncs.{IsScanOf}
-use Rattle.sync_refinement.proofs.Maps.{both_ways, true_not, not_true, in_filter, passes_of_any, lost_is_any}
+use Rattle.tree_verify.proofs.Telling.{in_filter}
+use Rattle.sync_refinement.proofs.Maps.{both_ways, true_not, not_true, passes_of_any, lost_is_any}
 
 -- a scan without damage lost no key
 pub clean_keeps : (damaged : List Position) (k : List ℕ) → not (is_none damaged) ≡ false → lost sixteen damaged k ≡ false

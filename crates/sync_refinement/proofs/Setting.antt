@@ -16,7 +16,8 @@ use Rattle.sync_rule.specs.Syncs.{is_source, is_trusted_source}
 use Rattle.sync_rule.specs.declared.sync.Source.{Source}
 use Rattle.sync_refinement.specs.Seen.{ranks, seen_stage, seen_ask, ask_of}
 use Rattle.sync_refinement.specs.Syncs.{EntriesSay, SourcesAre, SyncSays}
-use Rattle.sync_refinement.proofs.Asks.{same_number, number_itself, at_place, in_set, set_there, still_there, set_itself, set_peers, ask_in, ask_set}
+use Rattle.exchange.proofs.Keeping.{same_number}
+use Rattle.sync_refinement.proofs.Asks.{number_itself, at_place, in_set, set_there, still_there, set_itself, set_peers, ask_in, ask_set}
 use Rattle.sync_refinement.proofs.Maps.{both_ways, left_true, right_true, in_append}
 
 -- ## Sources

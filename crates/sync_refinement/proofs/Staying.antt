@@ -1,5 +1,5 @@
 -- What is said of versions, entries, trees, syncs and gives stays so in later states.
-use Rattle.std.proofs.Common.{◌≡◌, ℕ, Bool, true, List, Option, sym, ap, ◌∙◌, subst, le_trans}
+use Rattle.std.proofs.Common.{◌≡◌, ℕ, Bool, List, ap, ◌∙◌, subst, le_trans}
 use Rattle.abstract_protocol.specs.Numbers.{epoch_number}
 use Rattle.abstract_protocol.specs.Objects.{Map}
 use Rattle.abstract_protocol.specs.Protocol.{State}
@@ -12,44 +12,32 @@ use Rattle.ens_object.specs.declared.object.Object.{Object}
 use Rattle.entry_laws.specs.Stays.{EntriesStay}
 use Rattle.exchange.specs.declared.question.Question.{Question}
 use Rattle.leader_refinement.specs.Seen.{rank}
-use Rattle.md5.specs.Md5.{md5}
 use Rattle.peer_fact.specs.declared.fact.Fact.{Fact}
-use Rattle.request_refinement.specs.Naming.{object_of_version, VersionSays, EntrySays}
+use Rattle.request_refinement.specs.Naming.{VersionSays, EntrySays}
 use Rattle.running_sync.specs.Running.{Running}
 use Rattle.sync_laws.proofs.Peers.{sync_stays, give_stays}
 use Rattle.sync_laws.specs.Facts.{Lines}
 use Rattle.tree_node.specs.declared.body.TreeBody.{TreeBody}
 use Rattle.tree_node.specs.declared.body.TreeBody.TheVariants as bodies
+use Rattle.request_refinement.proofs.Staying.{same_object, entry_stays as same_entry}
 use Rattle.sync_refinement.specs.Laws.{SyncsStay}
 use Rattle.sync_refinement.specs.Seen.{ranks, seen_fact, seen_tree, seen_sync}
 use Rattle.sync_refinement.specs.Syncs.{EntriesSay, TreeSays, MayReturn, SyncSays, GiveShows, GiveFits}
 
 -- ## Versions and entries
 
--- an object from its parts
-pub object_from : (o : Object) (stamp : Version) (key : List ℕ) (value : Option (List ℕ)) → stamp ≡ o.stamp → key ≡ o.key → value ≡ o.value → (let made : Object = record { version = o.version; stamp = stamp; key = key; value = value } in made) ≡ o
-object_from o stamp key value a b c = λ i. record { version = o.version; stamp = a i; key = b i; value = c i }
-
 module _ (s t : State) (strings : List (List ℕ)) (stay : EntriesStay s t) where
-  -- the object of a version is the same in both states
-  same_object : (v : Version) → s.objects.proposed (rank v) ≡ true → object_of_version s v ≡ object_of_version t v
-  same_object v proposed = sym (object_from (object_of_version s v) (t.book.stamp (rank v)) (t.objects.key (rank v)) (t.book.content (rank v)) (stay.stamp (rank v) proposed) (stay.versions.key (rank v) proposed) (stay.content (rank v) proposed))
-
   -- so a version says what it said
   pub version_stays : (v : Version) → VersionSays s strings v → VersionSays t strings v
   version_stays v says = record {
     proposed = stay.versions.proposed (rank v) says.proposed;
-    object = subst IsObject (same_object v says.proposed) says.object;
-    hashed = subst (λ (x : Object). object_spelling x ∈ strings) (same_object v says.proposed) says.hashed;
+    object = subst IsObject (same_object s t v stay says.proposed) says.object;
+    hashed = subst (λ (x : Object). object_spelling x ∈ strings) (same_object s t v stay says.proposed) says.hashed;
   }
 
   -- so does an entry
   pub entry_stays : (e : Entry) → EntrySays s strings e → EntrySays t strings e
-  entry_stays e says = record {
-    version = version_stays e.version says.version;
-    key = says.key ∙ sym (stay.versions.key (rank e.version) says.version.proposed);
-    digest = says.digest ∙ ap (λ (x : Object). md5 (object_spelling x)) (same_object e.version says.version.proposed);
-  }
+  entry_stays e says = same_entry s t strings strings e stay (λ x h. h) says
 
   -- and all entries of a map
   pub entries_stay : (m : List Entry) → EntriesSay s strings m → EntriesSay t strings m

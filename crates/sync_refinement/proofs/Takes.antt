@@ -42,7 +42,8 @@ use Rattle.tree_refinement.specs.Trees.{AreFree}
 use Rattle.sync_refinement.specs.Laws.{SyncsTake}
 use Rattle.sync_refinement.specs.Seen.{ranks, seen_stage, seen_ask}
 use Rattle.sync_refinement.specs.Syncs.{SyncSays, GiveShows, GiveFits}
-use Rattle.sync_refinement.proofs.Asks.{same_number, peer_there}
+use Rattle.exchange.proofs.Keeping.{same_number}
+use Rattle.sync_refinement.proofs.Asks.{peer_there}
 use Rattle.sync_refinement.proofs.Counting.{done_is, ignored_is, damage_is, Receives, taken_receives, taken_counts}
 use Rattle.sync_refinement.proofs.Maps.{both_ways, either_true, in_append}
 use Rattle.sync_refinement.proofs.Scans.{scan_ascends, scan_own}
