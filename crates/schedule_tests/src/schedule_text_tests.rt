@@ -112,3 +112,16 @@ fn a_reading_goes_on_behind_a_refused_line(rt: HostRuntime) -> Result<(), Fail> 
     assert!(rt; reading.end(b"")?.events.as_slice().len() == 2);
     Ok(())
 }
+
+#[test]
+fn an_error_says_what_is_wrong_and_where(rt: HostRuntime) -> Result<(), Fail> {
+    let bad = ScheduleError::Bad { line: 5, cause: 7 };
+    let (lines, memory) = (ScheduleError::Lines, ScheduleError::Memory);
+    let said = format!(in rt.alloc(); "{bad}\n{lines}\n{memory}\n")?;
+    assert!(rt;
+        said.as_str()
+            == "line 5: bytes are malformed, or their length is out of range\n\
+the schedule has more than 200000 lines\nout of memory\n"
+    );
+    Ok(())
+}
