@@ -90,10 +90,6 @@ too_long t r long = by_test (nat_lt line_limit (length t)) (grind (arith, nat_te
 by_length : {A : Type 0} (p : Progress) (t : List ℕ) (r : Result A Cause) → 4400 < length t → (if lines_so_far p == most_lines then Err Lines else at_next p (bounded t r)) ≡ (if lines_so_far p == most_lines then Err Lines else at_next p (Err TooLong))
 by_length {A} p t r long = ap (λ (x : Result A Cause). if lines_so_far p == most_lines then Err Lines else at_next p x) (too_long t r long)
 
-refusal_of : Bool → ℕ → ScheduleError
-refusal_of true n = Lines
-refusal_of false n = Bad n 1
-
 abbrev long_error : {A : Type 0} → Progress → Result A ScheduleError
 long_error p = if lines_so_far p == most_lines then Err Lines else at_next p (Err TooLong)
 
@@ -101,28 +97,22 @@ same_error : {A B : Type 0} (p : Progress) (e : ScheduleError) (b : Bool) → (l
 same_error p e true h = let is : Lines ≡ e = cc in ap (λ (x : ScheduleError). Err x) is
 same_error p e false h = let is : Bad (lines_so_far p + 1) 1 ≡ e = cc in ap (λ (x : ScheduleError). Err x) is
 
-never_ok : {A : Type 0} (p : Progress) (x : A) (b : Bool) → (let r : Result A ScheduleError = if b then Err Lines else at_next p (Err TooLong) in r ≡ Ok x) → ⊥
-never_ok p x true h = cc
-never_ok p x false h = cc
-
-pub long_never : (p q : Progress) (t : List ℕ) → 4400 < length t → next_line p t ≡ Ok q → ⊥
-long_never p q t long ok = never_ok p q (lines_so_far p == most_lines) (sym (by_length p t (with_line p t) long) ∙ ok)
-
 long_parts : (p : Progress) (w : List ℕ) (more : List (List ℕ)) (e : ScheduleError) → 4400 < length w → (let r : Result Progress ScheduleError = long_error p in r ≡ Err e) → read_parts p (w ∷ more) ≡ Err e
 long_parts p [] more e long is = absurd (omega arith)
 long_parts p (byte ∷ w) [] e long is = by_length p (byte ∷ w) (Err Unfinished) long ∙ same_error p e (lines_so_far p == most_lines) is
 long_parts p (byte ∷ w) (n ∷ more) e long is = ap (λ (r : Result Progress ScheduleError). and_then r (λ q. read_parts q (n ∷ more))) (by_length p (byte ∷ w) (with_line p (byte ∷ w)) long ∙ is)
 
-pub long_refused : (a : Option (List ℕ)) (p : Progress) (t : List ℕ) (e : ScheduleError) → BeginsLong a → 4400 < length t → next_line p t ≡ Err e → ReadsAs a p (Err e)
+long_refused : (a : Option (List ℕ)) (p : Progress) (t : List ℕ) (e : ScheduleError) → BeginsLong a → 4400 < length t → next_line p t ≡ Err e → ReadsAs a p (Err e)
 long_refused None p t e begins long bad = tt
 long_refused (Some x) p t e begins long bad =
     let part = long_part 4401 x (omega (arith, begins.0)) begins.1 in
     ap (λ (l : List (List ℕ)). read_parts p l) part.2 ∙ long_parts p part.0 part.1 e (let more : 4401 ≤ length part.0 = part.3 in omega arith) (sym (by_length p t (with_line p t) long) ∙ bad)
 
-pub refuses_long : (a : Option (List ℕ)) (p new : Progress) (t : List ℕ) (e : ScheduleError) → BeginsLong a → 4400 < length t → TakesLine p t new (Err e) → Refuses a p (of_schedule e)
-refuses_long a p new t (Bad line cause) begins long bad = long_refused a p t (Bad line cause) begins long bad.0
-refuses_long a p new t Lines begins long bad = long_refused a p t Lines begins long bad.0
-refuses_long a p new t Memory begins long bad = tt
+-- a long line is rejected as another one, whatever its bytes are
+pub refuses_long : (a : Option (List ℕ)) (p : Progress) (t : List ℕ) (e : ScheduleError) → BeginsLong a → 4400 < length t → next_line p t ≡ Err e → Refuses a p (of_schedule e)
+refuses_long a p t (Bad line cause) begins long bad = long_refused a p t (Bad line cause) begins long bad
+refuses_long a p t Lines begins long bad = long_refused a p t Lines begins long bad
+refuses_long a p t Memory begins long bad = tt
 
 -- what follows the last line feed
 pub rest_read : (a b : Option (List ℕ)) (p : Progress) (v : List ℕ) → HasNoFeed v → Consumes a b v → IsAtEnd b → ReadsAs a p (ended p v)
@@ -230,15 +220,6 @@ pub ended_left : (pending : List ℕ) (left : Option (List ℕ)) → IsAtEnd (pr
 ended_left pending None h = tt
 ended_left [] (Some y) h = h
 ended_left (x ∷ pending) (Some y) h = let never : x ∷ (pending ++ y) ≡ [] = h in absurd cc
-
--- a long line is rejected, whatever its bytes are
-pub long_refuses : (p new : Progress) (t : List ℕ) (r : Result (Unit {0}) ScheduleError) → 4400 < length t → TakesLine p t new r → IfErr r (λ e. (rest : Option (List ℕ)) → BeginsLong rest → Refuses rest p (of_schedule e))
-long_refuses p new t (Ok u) long takes = tt
-long_refuses p new t (Err e) long takes = λ rest begins. refuses_long rest p new t e begins long takes
-
-pub long_errs : (p new : Progress) (t : List ℕ) (r : Result (Unit {0}) ScheduleError) → 4400 < length t → TakesLine p t new r → IsErr r
-long_errs p new t (Ok u) long takes = absurd (long_never p new t long takes)
-long_errs p new t (Err e) long takes = refl
 
 -- a text ends as a schedule only after a line feed
 pub ended_ok : (p : Progress) (rest : List ℕ) (s : Schedule) → ended p rest ≡ Ok s → ended p [] ≡ Ok s

@@ -7,7 +7,7 @@ ghost use Rattle.schedule_text.specs.Reading.{ended, schedule_of};
 ghost use Rattle.schedule_text.specs.Spelling.{IsSchedule};
 ghost use Rattle.schedule_input.specs.Reading.{IsReached, ReadsAs, ReadsOn, Refuses, of_schedule};
 
-use ens_outside::{LINE_LIMIT, Lines, Next, NextError, Source};
+use ens_outside::{Lines, Next, NextError, Source};
 use schedule_text::{Reading, Schedule, ScheduleError};
 use std::alloc::Global;
 
@@ -77,19 +77,16 @@ fn take_line<S: Source>(
             Ok(None)
         }
         Next::Rest(rest) => Ok(Some(rest)),
-        Next::TooLong => {
-            take_long(reading)?;
-            Ok(None)
-        }
+        Next::TooLong => Err(long_line(reading)),
     }
 }
 
-/// Takes a line of more than 4,400 bytes, which is rejected for its length, whatever its bytes are.
-fn take_long(reading: &mut Reading) -> Result<(), ScheduleError>
-    ensures refused { IfErr result (λ e. (rest : Option (List ℕ)) → BeginsLong rest → Refuses rest reading.old (of_schedule e)) }
-    ensures never { IsErr result }
+/// Returns why the next line is rejected, which has more than 4,400 bytes.
+fn long_line(reading: &Reading) -> ReadError
+    ensures refused { (rest : Option (List ℕ)) → BeginsLong rest → Refuses rest reading.now result }
+    ensures read { result ≢ ReadError.Failed }
 {
-    reading.line(&[0; LINE_LIMIT + 1])
+    ReadError::from(reading.long_line())
 }
 
 /// Reads a schedule up to the end of the source, its first bad line, or the first byte of line

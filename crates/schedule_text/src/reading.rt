@@ -1,7 +1,8 @@
-ghost use Rattle.std.specs.Prelude.{◌≡◌, ◌<◌, ◌≤◌, ◌+◌};
+ghost use Rattle.std.specs.Prelude.{◌≡◌, ◌<◌, ◌≤◌, ◌+◌, ℕ, List, length, Err};
 ghost use Rattle.schedule_words.specs.Causes.{Gives};
+ghost use Rattle.schedule_text.specs.Events.{line_limit};
 ghost use Rattle.schedule_text.specs.Progress.{Blank, lines_so_far};
-ghost use Rattle.schedule_text.specs.Reading.{ended, finished, TakesLine, TakesWords};
+ghost use Rattle.schedule_text.specs.Reading.{ended, finished, next_line, TakesLine, TakesWords};
 
 use crate::error::ScheduleError;
 use crate::event_lines::event;
@@ -104,6 +105,17 @@ impl Reading {
             Ok(()) => Ok(()),
             Err(e) => Err(ScheduleError::at(lines + 1, e)),
         }
+    }
+
+    /// Returns the error of the next line if it has more than 4,400 bytes, whatever its bytes are.
+    pub fn long_line(&self) -> ScheduleError
+        ensures { (text : List ℕ) → line_limit < length text → next_line self.now text ≡ Err result }
+    {
+        let lines = self.lines();
+        if lines == MAX_LINES {
+            return ScheduleError::Lines;
+        }
+        ScheduleError::at(lines + 1, WordError::Bad(Cause::TooLong))
     }
 
     // The schedule, where the heading is whole.
