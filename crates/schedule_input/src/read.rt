@@ -7,12 +7,10 @@ ghost use Rattle.schedule_text.specs.Reading.{ended, schedule_of};
 ghost use Rattle.schedule_text.specs.Spelling.{IsSchedule};
 ghost use Rattle.schedule_input.specs.Reading.{IsReached, ReadsAs, ReadsOn, Refuses, of_schedule};
 
+use ens_base::MAX_LINES;
 use ens_outside::{Lines, Next, NextError, Source};
 use schedule_text::{Reading, Schedule, ScheduleError};
 use std::alloc::Global;
-
-/// The greatest number of lines of a schedule.
-const MOST_LINES: u32 = 200_000;
 
 /// Why no schedule was read.
 #[derive(Clone, Copy, Debug, PartialEq, Eq)]
@@ -101,7 +99,7 @@ pub fn read_schedule<S: Source>(alloc: Global, input: &mut S) -> Result<Schedule
 {
     let mut lines = Lines::new(alloc);
     let mut reading = Reading::new(alloc);
-    for _turn in 0..MOST_LINES {
+    for _turn in 0..MAX_LINES {
         if let Some(rest) = take_line(alloc, &mut lines, input, &mut reading)? {
             return end_of(reading, &rest);
         }
