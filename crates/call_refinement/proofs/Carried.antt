@@ -1,5 +1,6 @@
 -- The agreement of a world with a run is carried through the lines of a schedule.
 use Rattle.std.proofs.Common.{◌≡◌, ℕ, suc, ◌<◌, ◌≤◌, ◌^◌, ◌==◌, if◌then◌else◌, Bool, true, false, List, [], ◌∷◌, ◌++◌, length, Some, slice_get, slice_set, arith, refl, sym, subst, inl, inr}
+use Rattle.ens_base.proofs.Lists.{in_left}
 use Rattle.std.specs.Prelude.{All, Contains}
 use Rattle.ens_base.specs.Limits.{IsKey, IsCommand}
 use Rattle.ens_base.specs.Lists.{◌∈◌, AreDistinct}
@@ -41,7 +42,6 @@ use Rattle.call_refinement.proofs.Good.{StepGood, CallGood}
 use Rattle.call_refinement.proofs.Intact.{is_peer, taken_intact}
 use Rattle.call_refinement.proofs.Keys.{run_calls_few}
 use Rattle.call_refinement.proofs.Opening.{opening_holds}
-use Rattle.safety_laws.proofs.Ordered.{in_left}
 use Rattle.call_refinement.proofs.Places.{frame_at, said_at}
 use Rattle.call_refinement.proofs.Schedules.{IsInRun, AreAlike, TakesStep, GoesAlong, Changes, Starts, IsCarried, next_call, IsAfter, schedule_agrees, schedule_legal}
 use Rattle.call_refinement.proofs.Worlds.{own_fits, NodesGo, renewed, stops, puts_back, scene, StepGoes, stepped_goes, called_goes}

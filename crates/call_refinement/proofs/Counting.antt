@@ -1,8 +1,8 @@
 -- Distinct items of one list that each come from an item of another are no more than the items of the other.
 use Rattle.std.proofs.Common.{◌≡◌, ℕ, suc, ◌+◌, ◌≤◌, ◌⊎◌, List, [], ◌∷◌, ◌++◌, append_assoc, length, arith, ap, refl, inl, inr, sym, ◌∙◌, subst}
+use Rattle.ens_base.proofs.Lists.{in_append, in_left, in_right}
 use Rattle.std.proofs.lemmas.List.{length-append}
 use Rattle.ens_base.specs.Lists.{◌∈◌, AreDistinct}
-use Rattle.safety_laws.proofs.Ordered.{in_append, in_left, in_right}
 
 -- the list without one of its items
 record Without {A : Type 0} (xs : List A) (x : A) : Type 0 where

@@ -1,5 +1,6 @@
 -- The book of the abstract protocol agrees with a world through the steps of a line.
 use Rattle.std.proofs.Common.{◌≡◌, ℕ, suc, ◌+◌, ◌<◌, ◌^◌, ◌⊎◌, Bool, List, [], ◌∷◌, ◌++◌, map, length, arith, ap, refl, inl, inr, sym, ◌∙◌, subst}
+use Rattle.ens_base.proofs.Lists.{in_append, in_left, in_right}
 use Rattle.std.proofs.lemmas.List.{append-nil, length-append, length-map}
 use Rattle.ens_base.specs.Lists.{◌∈◌}
 use Rattle.abstract_protocol.specs.Book.{Book, opening_book}
@@ -12,7 +13,6 @@ use Rattle.register_model.specs.declared.call.Call.{Call}
 use Rattle.register_model.specs.declared.note.Note.{Note}
 use Rattle.register_model.specs.declared.printed.Printed.{Printed}
 use Rattle.register_model.specs.declared.printed.Printed.TheVariants as printed
-use Rattle.safety_laws.proofs.Ordered.{in_append, in_left, in_right}
 use Rattle.schedule_text.specs.declared.event.ScheduleEvent.{ScheduleEvent}
 use Rattle.schedule_text.specs.declared.event.ScheduleEvent.TheVariants as line
 use Rattle.step_plans.specs.Plans.{Out}

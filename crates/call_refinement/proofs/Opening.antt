@@ -1,5 +1,6 @@
 -- The world before the first event agrees with the opening state of the protocol: each peer has started over empty stores.
 use Rattle.std.proofs.Common.{◌≡◌, ◌^◌, eqb-true, lit<, ℕ, zero, suc, ◌<◌, true, List, [], Option, None, Some, Result, Ok, slice_get, replicate, refl, sym, ap, ◌∙◌, subst}
+use Rattle.ens_base.proofs.Lists.{in_right}
 use Rattle.std.proofs.lemmas.Bool.{false≢true}
 use Rattle.std.proofs.lemmas.List.Elements.{All-nil}
 use Rattle.ens_base.specs.Lists.{◌∈◌}
@@ -33,7 +34,6 @@ use Rattle.wire_frames.specs.declared.frame.Frame.{Frame}
 use Rattle.world_spec.specs.Nodes.{Node, Up, taken_of, run_over, opening_node, opening_strings}
 use Rattle.world_spec.specs.Runs.{repeated, opening_run}
 use Rattle.world_stores.specs.declared.fact.HeldFact.{HeldFact}
-use Rattle.safety_laws.proofs.Ordered.{in_right}
 use Rattle.election_refinement.proofs.Openings.{replicated, saved_first, orderly_first}
 use Rattle.call_refinement.proofs.Places.{roles_same}
 use Rattle.call_refinement.proofs.Trees.{tree_behind, tree_saved, tree_written}

@@ -1,6 +1,7 @@
 -- The nodes and the roles of a world after the node of one peer changed, and what was said once a peer
 -- has sent its messages.
 use Rattle.std.proofs.Common.{◌≡◌, ℕ, zero, suc, ◌⊎◌, inl, inr, List, [], ◌∷◌, ◌++◌, map, Option, None, Some, slice_get, slice_set, append_assoc, append-nil, arith, refl, sym, ap, ◌∙◌, subst}
+use Rattle.ens_base.proofs.Lists.{in_left, in_right}
 use Rattle.std.specs.Prelude.{All}
 use Rattle.std.proofs.lemmas.Option.{none-some, same_Some, get_or_from_slice_get, slice_get_within}
 use Rattle.ens_base.specs.Lists.{◌∈◌}
@@ -11,7 +12,6 @@ use Rattle.leader_laws.specs.Roles.{Role, Said, Sent, RoleHolds, RolesHold}
 use Rattle.leader_laws.specs.Tables.{Ghosts}
 use Rattle.leader_words.specs.declared.out.Outgoing.{Outgoing}
 use Rattle.network.specs.Mail.{Mail, posted}
-use Rattle.safety_laws.proofs.Ordered.{in_left, in_right}
 use Rattle.version_laws.proofs.Maps.{put_then}
 use Rattle.wire_frames.specs.declared.frame.Frame.{Frame}
 use Rattle.world_spec.specs.Nodes.{Node}

@@ -1,6 +1,7 @@
 -- The peer in mid-step, as a refusal leaves it: it is down, it no longer trusts its tree, and what it
 -- would have answered and sent is lost.
 use Rattle.std.proofs.Common.{◌≡◌, ℕ, false, List, [], ◌∷◌, ◌++◌, Some, refl, sym, ap, subst, ◌∙◌}
+use Rattle.ens_base.proofs.Lists.{in_right}
 use Rattle.ens_base.specs.declared.entry.Entry.{Entry}
 use Rattle.abstract_protocol.specs.Ledger.{put}
 use Rattle.abstract_protocol.specs.Protocol.{State, Lose, happens}
@@ -14,7 +15,6 @@ use Rattle.leader_refinement.specs.Seen.{owed_after}
 use Rattle.leader_words.specs.declared.out.Outgoing.{Outgoing}
 use Rattle.peer_core.specs.declared.state.State.{State as PeerState}
 use Rattle.register_model.specs.declared.note.Note.{Note}
-use Rattle.safety_laws.proofs.Ordered.{in_right}
 use Rattle.step_plans.specs.Plans.{Out}
 use Rattle.sync_refinement.proofs.Staying.{tree_says_stay}
 use Rattle.sync_refinement.specs.Syncs.{TreeSays}

@@ -1,6 +1,7 @@
 -- The tree of a running peer through the calls of a step: which map it shows, and which maps its top
 -- records name.
 use Rattle.std.proofs.Common.{◌≡◌, ◌⊎◌, inl, inr, ℕ, true, List, [], ◌∷◌, ◌++◌, sym, ap, subst, ◌∙◌}
+use Rattle.ens_base.proofs.Lists.{in_append}
 use Rattle.ens_base.specs.Lists.{◌∈◌}
 use Rattle.ens_base.specs.declared.entry.Entry.{Entry}
 use Rattle.abstract_protocol.specs.Protocol.{State}
@@ -8,7 +9,6 @@ use Rattle.entry_laws.specs.Stays.{EntriesStay}
 use Rattle.held_stores.specs.Answers.{answered, with_facts}
 use Rattle.held_stores.specs.Held.{Held, HeldStores}
 use Rattle.held_stores.specs.Laws.{held_with}
-use Rattle.safety_laws.proofs.Ordered.{in_append}
 use Rattle.step_plans.specs.Calls.{Call}
 use Rattle.sync_refinement.proofs.Staying.{stays, tree_says_stay}
 use Rattle.sync_refinement.specs.Syncs.{TreeSays, MayReturn}

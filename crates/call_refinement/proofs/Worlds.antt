@@ -1,5 +1,6 @@
 -- A step of one peer in a world: the world after it agrees with a run that goes on.
 use Rattle.std.proofs.Common.{◌≡◌, ℕ, suc, ◌<◌, ◌^◌, ◌⊎◌, inl, inr, true, false, List, [], ◌∷◌, ◌++◌, map, length, Some, slice_get, slice_set, append-nil, refl, sym, ap, ◌∙◌, subst}
+use Rattle.ens_base.proofs.Lists.{in_left}
 use Rattle.std.specs.Prelude.{All, Bool}
 use Rattle.std.proofs.lemmas.Bool.{true≢false}
 use Rattle.std.proofs.lemmas.List.Elements.{All-nil, All-map, All-weaker}
@@ -28,7 +29,6 @@ use Rattle.peer_core.specs.declared.state.State.{State as PeerState}
 use Rattle.register_model.specs.declared.answer.Answer.{Answer}
 use Rattle.register_model.specs.declared.note.Note.{Note}
 use Rattle.request_refinement.specs.Naming.{hash_of}
-use Rattle.safety_laws.proofs.Ordered.{in_left}
 use Rattle.step_plans.specs.Plans.{Ending, Finished, Stopped, Plan, nothing}
 use Rattle.sync_laws.specs.Facts.{Lines, AreFirm}
 use Rattle.sync_refinement.specs.Laws.{FirmAreKept}

@@ -1,9 +1,10 @@
 -- Rules 12 and 13: promises are counted, and an epoch starts.
 use Rattle.std.proofs.Common.{◌≡◌, ℕ, ◌<◌, ◌≤◌, Bool, true, false, ◌==◌, if◌then◌else◌, List, [], ◌∷◌, inl, inr, Option, arith, refl, ap, le_trans, ◌∙◌, sym, subst}
+use Rattle.ens_base.specs.Lists.{is_in}
 use Rattle.std.specs.Prelude.{◌&&◌, not}
 use Rattle.std.proofs.lemmas.Bool.{and_parts, false≢true}
 use Rattle.std.proofs.lemmas.Bool.Decides.{nat_tests}
-use Rattle.joint_views.specs.Quorums.{is_in, is_quorum, is_member}
+use Rattle.joint_views.specs.Quorums.{is_quorum, is_member}
 use Rattle.abstract_protocol.specs.Ledger.{Ledger, Place, Change, Add, Drop, IsAtMost, elect, accept, changed_views as ledger_views, next_views, IsNew, MayElect}
 use Rattle.abstract_protocol.specs.Numbers.{epoch_number}
 use Rattle.election.specs.Preparing.{promised_by, starts, first_fact}

@@ -8,11 +8,11 @@ use Rattle.std.proofs.lemmas.Bool.Decides.{nat_tests}
 use Rattle.std.proofs.lemmas.List.{get_or-set_other}
 use Rattle.std.proofs.lemmas.List.Elements.{All-nil, All-cons, All-append}
 use Rattle.call_table.specs.Calls.{has_calls}
-use Rattle.ens_base.specs.Lists.{◌∈◌}
+use Rattle.ens_base.specs.Lists.{◌∈◌, is_in}
 use Rattle.ens_base.specs.PeerSet.{holds}
 use Rattle.ens_base.specs.Views.{first_view}
 use Rattle.ens_base.specs.declared.epoch.Epoch.{Epoch}
-use Rattle.joint_views.specs.Quorums.{is_quorum, is_in, is_member}
+use Rattle.joint_views.specs.Quorums.{is_quorum, is_member}
 use Rattle.election.specs.Ballots.{row_11, row_15}
 use Rattle.election.specs.Preparing.{first_fact, starts}
 use Rattle.election.specs.declared.election.Election.{Election}

@@ -6,9 +6,8 @@ use Rattle.std.proofs.lemmas.Bool.Decides.{nat_tests}
 use Rattle.std.proofs.lemmas.List.{get_or-set_other}
 use Rattle.std.proofs.lemmas.List.Elements.{All-nil, All-cons, All-append}
 use Rattle.abstract_protocol.specs.Ledger.{Ledger}
-use Rattle.ens_base.specs.Lists.{◌∈◌}
+use Rattle.ens_base.specs.Lists.{◌∈◌, is_in}
 use Rattle.ens_base.specs.PeerSet.{holds}
-use Rattle.joint_views.specs.Quorums.{is_in}
 use Rattle.step_plans.specs.Sends.{posted, posted_to}
 use Rattle.leader_words.specs.declared.out.Outgoing.{Outgoing}
 use Rattle.phase_rows.specs.Peers.{nobody, joined, alone}

@@ -1,5 +1,5 @@
 -- Lists: equality of bytes, membership, and distinct items.
-use Rattle.std.specs.Prelude.{◌≡◌, ◌⊎◌, ℕ, Bool, List, [], ◌∷◌, nat_eq}
+use Rattle.std.specs.Prelude.{◌≡◌, ◌⊎◌, ◌==◌, ◌||◌, ℕ, Bool, false, List, [], ◌∷◌, nat_eq}
 use Rattle.std.specs.Cmp.Lexicographic.{slice_cmp}
 use Rattle.std.specs.Ordering.{nat_cmp}
 use Rattle.std.specs.declared.cmp.Ordering.{Ordering}
@@ -14,6 +14,11 @@ infix 45 ◌∈◌
 abbrev pub ◌∈◌ : {A : Type 0} → A → List A → Type 0
 x ∈ [] = ⊥
 x ∈ (y ∷ ys) = (x ≡ y) ⊎ (x ∈ ys)
+
+-- whether the number is an item of the list, as a test
+abbrev pub is_in : List ℕ → ℕ → Bool
+is_in [] n = false
+is_in (m ∷ ms) n = n == m || is_in ms n
 
 -- no item occurs twice
 abbrev pub AreDistinct : {A : Type 0} → List A → Type 0

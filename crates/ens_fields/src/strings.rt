@@ -6,7 +6,7 @@ ghost use Rattle.ens_fields.specs.Strings.{key_spelling, key_at, value_spelling,
 use crate::field_error::FieldError;
 use crate::numbers::{take_u8, take_u16};
 use byteorder::{BigEndian, ByteOrder};
-use ens_base::{Key, Value};
+use ens_base::{Key, LengthError, Value};
 use std::alloc::Global;
 
 /// Reads a key at `at`: its length in one byte, and 1 to 64 bytes. Returns it and the place after it.
@@ -26,7 +26,8 @@ pub fn take_key(alloc: Global, bytes: &[u8], at: usize) -> Result<(Key, usize), 
     }
     match Key::new(alloc, &bytes[start..start + size]) {
         Ok(key) => Ok((key, start + size)),
-        Err(_) => Err(FieldError::Memory),
+        Err(LengthError::Memory) => Err(FieldError::Memory),
+        Err(LengthError::Length(_)) => unreachable!(),
     }
 }
 
@@ -48,7 +49,8 @@ pub fn take_value(alloc: Global, bytes: &[u8], at: usize) -> Result<(Value, usiz
     }
     match Value::new(alloc, &bytes[start..start + size]) {
         Ok(value) => Ok((value, start + size)),
-        Err(_) => Err(FieldError::Memory),
+        Err(LengthError::Memory) => Err(FieldError::Memory),
+        Err(LengthError::Length(_)) => unreachable!(),
     }
 }
 

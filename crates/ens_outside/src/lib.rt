@@ -28,7 +28,7 @@ pub use backend::Backend;
 pub use ending::finish;
 pub use errors::{LinkError, StoreError};
 pub use laws::{exactly_the_listed_fail, frames_come_in_order, what_was_put_is_found};
-pub use lines::{LINE_LIMIT, Lines, Next, NextError};
+pub use lines::{Lines, Next, NextError};
 pub use link::Link;
 pub use memory::{
     FailingCall, Leaves, MemBackend, MemLink, MemNodes, MemQueue, MemSink, MemSource, MemTicker,

@@ -4,12 +4,9 @@ ghost use Rattle.ens_base.specs.Causes.{Rose};
 ghost use Rattle.ens_outside.specs.Lines.{IsNext, IsReady, IsLine, HasNoFeed};
 
 use crate::source::Source;
-use ens_base::Failed;
+use ens_base::{Failed, MAX_LINE_BYTES};
 use std::alloc::{AllocError, Global};
 use std::mem;
-
-/// The greatest length of a line in bytes, without its line feed.
-pub const LINE_LIMIT: usize = 4400;
 
 const PIECE: usize = 512;
 
@@ -87,13 +84,13 @@ impl Lines {
         ensures err { OnErr result (self.new.pending.items ≡ self.old.pending.items) }
         ensures memory { IfErr result (λ e. e ≡ NextError.Memory) }
     {
-        let seen = self.pending.len().min(LINE_LIMIT + 1);
+        let seen = self.pending.len().min(MAX_LINE_BYTES + 1);
         match find_feed(&self.pending[..seen]) {
             Some(k) => match self.take_line(alloc, k) {
                 Ok(line) => Ok(Some(Next::Line(line))),
                 Err(_) => Err(NextError::Memory),
             },
-            None if self.pending.len() > LINE_LIMIT => Ok(Some(Next::TooLong)),
+            None if self.pending.len() > MAX_LINE_BYTES => Ok(Some(Next::TooLong)),
             None => Ok(None),
         }
     }
@@ -132,7 +129,7 @@ impl Lines {
         ensures later { S.fault_count source.old ≤ S.fault_count source.new }
         ensures failed { IsErrOf result NextError.Failed → Rose (S.fault_count source.old) (S.fault_count source.new) }
     {
-        for turn in 0..LINE_LIMIT + 2 {
+        for turn in 0..MAX_LINE_BYTES + 2 {
             if let Some(next) = self.ready(alloc)? {
                 return Ok(next);
             }

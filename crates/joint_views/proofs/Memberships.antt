@@ -1,10 +1,11 @@
 -- The tests of membership decide membership.
 use Rattle.std.specs.Prelude.{slice_index_or, Contains, ◌||◌, ◌&&◌, ◌↔◌}
+use Rattle.ens_base.specs.Lists.{is_in}
 use Rattle.std.proofs.Common.{◌≡◌, ℕ, zero, suc, ◌<◌, ◌⊎◌, Bool, true, ◌==◌, List, [], ◌∷◌, length, arith, refl, inl, inr}
 use Rattle.std.proofs.lemmas.Bool.{false≢true}
 use Rattle.std.proofs.lemmas.Bool.Decides.{nat_tests}
 use Rattle.std.proofs.lemmas.List.Elements.{All-cons, All-tail}
-use Rattle.joint_views.specs.Quorums.{is_in, is_member, has_all, has_every, IsMember, HasAll, HasEvery}
+use Rattle.joint_views.specs.Quorums.{is_member, has_all, has_every, IsMember, HasAll, HasEvery}
 
 found_at : (view : List ℕ) (peer k : ℕ) → k < length view → slice_index_or view k peer ≡ peer → is_in view peer ≡ true
 found_at [] peer k h e = absurd (omega (arith, h))

@@ -1,5 +1,6 @@
 -- Sets that a loop over the members of a view fills.
 use Rattle.std.specs.Prelude.{replicate, slice_set, ◌||◌}
+use Rattle.ens_base.specs.Lists.{is_in}
 use Rattle.std.proofs.Common.{◌≡◌, ℕ, zero, suc, ◌+◌, ◌<◌, ◌≤◌, Bool, true, false, ◌==◌, List, [], ◌∷◌, ◌++◌, length, take, get_or, ◌⊎◌, inl, inr, arith, refl, sym, ap, ◌∙◌}
 use Rattle.std.proofs.lemmas.Bool.{cases_lt}
 use Rattle.std.proofs.lemmas.Bool.Decides.{nat_tests}
@@ -7,7 +8,7 @@ use Rattle.std.proofs.lemmas.List.{length-set, ext_get_or, take_more, get_or-rep
 use Rattle.std.proofs.lemmas.List.FromFn.{get_or-map-range_with_len}
 use Rattle.ens_base.specs.PeerSet.{holds}
 use Rattle.joint_views.specs.Members.{those, members}
-use Rattle.joint_views.specs.Quorums.{is_in, is_member}
+use Rattle.joint_views.specs.Quorums.{is_member}
 
 -- the set has the members of the list, and those of the set before
 pub record HasJoined (view : List ℕ) (before set : List Bool) : Type 0 where

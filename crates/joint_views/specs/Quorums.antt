@@ -1,7 +1,7 @@
 -- Majorities and quorums. A view is the list of its members. A set of peers is a test of
 -- membership.
-use Rattle.std.specs.Prelude.{◌≡◌, ℕ, ◌*◌, Bool, true, false, ◌&&◌, ◌||◌, ◌==◌, if◌then◌else◌, List, [], ◌∷◌, ◌⊎◌, length, count_by, nat_lt, slice_set, All, Contains}
-use Rattle.ens_base.specs.Lists.{◌∈◌}
+use Rattle.std.specs.Prelude.{◌≡◌, ℕ, ◌*◌, Bool, true, false, ◌&&◌, ◌||◌, if◌then◌else◌, List, [], ◌∷◌, ◌⊎◌, length, count_by, nat_lt, slice_set, All, Contains}
+use Rattle.ens_base.specs.Lists.{◌∈◌, is_in}
 
 -- more than half of the members of the view are in the set
 abbrev pub is_majority : (ℕ → Bool) → List ℕ → Bool
@@ -58,11 +58,6 @@ HasAll peers view = All (λ m. peers m ≡ true) view
 abbrev pub HasEvery : (ℕ → Bool) → List (List ℕ) → Type 0
 HasEvery peers [] = Unit {0}
 HasEvery peers (view ∷ views) = HasAll peers view × HasEvery peers views
-
--- whether the peer is a member of the view
-abbrev pub is_in : List ℕ → ℕ → Bool
-is_in [] peer = false
-is_in (member ∷ view) peer = (peer == member) || is_in view peer
 
 -- whether the peer is a member of some view
 abbrev pub is_member : List (List ℕ) → ℕ → Bool

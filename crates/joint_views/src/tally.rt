@@ -1,7 +1,8 @@
 ghost use Rattle.std.specs.Prelude.{◌≡◌, ◌↔◌, ◌≤◌, ◌==◌, ◌||◌, ℕ, IsTrue, Contains, count_by, length, replicate, true, false};
+ghost use Rattle.ens_base.specs.Lists.{is_in as is_in_list};
 ghost use Rattle.ens_base.specs.PeerSet.{holds};
 ghost use Rattle.joint_views.specs.Members.{members as members_of};
-ghost use Rattle.joint_views.specs.Quorums.{is_majority, is_quorum, is_in as is_in_list, is_member as is_member_of, has_all as has_all_of, has_every, voted, IsMember, HasAll, HasEvery};
+ghost use Rattle.joint_views.specs.Quorums.{is_majority, is_quorum, is_member as is_member_of, has_all as has_all_of, has_every, voted, IsMember, HasAll, HasEvery};
 
 use ens_base::{PeerId, PeerSet, View, Views};
 

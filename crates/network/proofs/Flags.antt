@@ -1,12 +1,13 @@
 -- The flags that say which messages wait.
 use Rattle.std.proofs.Common.{◌≡◌, ◌<◌, ◌==◌, ◌&&◌, ◌||◌, refl, ap, sym, ◌∙◌, arith, ℕ, zero, suc, Bool, true, false, List, [], ◌∷◌, ◌++◌, length}
+use Rattle.ens_base.specs.Lists.{is_in}
 use Rattle.std.specs.Prelude.{not, take, drop, slice_get, slice_index_or, slice_set}
 use Rattle.std.specs.Option.{option_map_or}
 use Rattle.std.proofs.lemmas.Bool.{and_right, eqb-true, eqb-false, both_ways}
 use Rattle.std.proofs.lemmas.List.{length-set, get_or-set_other, take_all, take-append-le}
 use Rattle.wire_frames.specs.declared.frame.Frame.{Frame}
 use Rattle.network.specs.Mail.{waits_without}
-use Rattle.network.specs.Lines.{is_in, cleared}
+use Rattle.network.specs.Lines.{cleared}
 use Rattle.network.proofs.MailLaws.{settled_flag}
 
 and_not_false : (w : Bool) → w ≡ (w && not false)

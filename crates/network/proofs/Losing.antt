@@ -1,5 +1,6 @@
 -- The waiting messages are still in the lines when those of a line are lost.
 use Rattle.std.proofs.Common.{◌≡◌, ◌==◌, ◌&&◌, refl, ap, sym, ◌∙◌, subst, ℕ, Bool, true, false, List, [], ◌∷◌}
+use Rattle.ens_base.specs.Lists.{is_in}
 use Rattle.std.specs.Prelude.{not, All, slice_get, slice_index_or}
 use Rattle.std.specs.Option.{option_map_or}
 use Rattle.std.proofs.lemmas.Bool.{and_parts, and_from, eq-eqb, eqb-true, both_ways, not-true, not_from_false, cond_both, false_from_ne_true}
@@ -7,7 +8,7 @@ use Rattle.std.proofs.lemmas.Option.{same_Some}
 use Rattle.ens_base.specs.View.{IsPeer}
 use Rattle.wire_frames.specs.declared.frame.Frame.{Frame}
 use Rattle.network.specs.Mail.{goes, lost, MayBeSent}
-use Rattle.network.specs.Lines.{line_place, line_of, line, is_in, Ascends, FrontWaits, cleared, Changes}
+use Rattle.network.specs.Lines.{line_place, line_of, line, Ascends, FrontWaits, cleared, Changes}
 use Rattle.network.specs.Representation.{mail_in, AreInLine}
 use Rattle.network.proofs.Numbers.{first_in}
 use Rattle.network.proofs.Flags.{flag_cleared, flag_without, length-cleared, same_flags}

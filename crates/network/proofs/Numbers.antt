@@ -1,9 +1,10 @@
 -- Which numbers are in a line, and the order in which they stand.
 use Rattle.std.proofs.Common.{◌≡◌, ◌<◌, ◌==◌, ◌||◌, refl, ap, sym, ◌∙◌, arith, ℕ, Bool, true, false, List, [], ◌∷◌, ◌++◌, length, drop}
+use Rattle.ens_base.specs.Lists.{is_in}
 use Rattle.std.specs.Prelude.{slice_index_or, if◌then◌else◌}
 use Rattle.std.proofs.lemmas.Bool.{or_left, or_right, eq-eqb, eqb-true, both_ways, cond-false}
 use Rattle.std.proofs.lemmas.Bool.Decides.{nat_tests}
-use Rattle.network.specs.Lines.{is_in, Ascends, AreBelow, FrontWaits, from_waiting}
+use Rattle.network.specs.Lines.{Ascends, AreBelow, FrontWaits, from_waiting}
 
 -- the first number is in the line
 pub first_in : (n : ℕ) (ns : List ℕ) → is_in (n ∷ ns) n ≡ true

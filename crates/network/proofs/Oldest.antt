@@ -1,5 +1,6 @@
 -- The front of a line is the oldest message that waits from its sender to its receiver.
 use Rattle.std.proofs.Common.{◌≡◌, ◌==◌, ◌&&◌, refl, ap, sym, ◌∙◌, arith, subst, ℕ, Bool, true, false, List, [], ◌∷◌, Option, None, Some}
+use Rattle.ens_base.specs.Lists.{is_in}
 use Rattle.std.specs.Prelude.{All, slice_get, slice_index_or}
 use Rattle.std.specs.Option.{option_map, option_map_or}
 use Rattle.std.proofs.lemmas.Bool.{and_from, and_right, eq-eqb, ne_eqb, both_ways}
@@ -9,7 +10,7 @@ use Rattle.std.proofs.lemmas.Option.{none-some, same_Some, slice_get_within, get
 use Rattle.ens_base.specs.View.{IsPeer}
 use Rattle.wire_frames.specs.declared.frame.Frame.{Frame}
 use Rattle.network.specs.Mail.{goes, oldest, is_waiting, MayBeSent}
-use Rattle.network.specs.Lines.{line_place, line_of, line, is_in, Ascends, FrontWaits}
+use Rattle.network.specs.Lines.{line_place, line_of, line, Ascends, FrontWaits}
 use Rattle.network.specs.Representation.{mail_in, AreInLine}
 use Rattle.network.proofs.Numbers.{first_in, before_first}
 use Rattle.network.proofs.Least.{least_found, least_none}

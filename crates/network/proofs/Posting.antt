@@ -1,12 +1,13 @@
 -- The waiting messages are still in the lines when one more message is sent.
 use Rattle.std.proofs.Common.{◌≡◌, ◌<◌, ◌≤◌, ◌==◌, ◌&&◌, ◌||◌, refl, ap, sym, ◌∙◌, arith, subst, ⊎_elim, ℕ, zero, suc, Bool, true, false, List, [], ◌∷◌, ◌++◌, length, Option, None, Some}
+use Rattle.ens_base.specs.Lists.{is_in}
 use Rattle.std.specs.Prelude.{slice_get, slice_index_or, if◌then◌else◌}
 use Rattle.std.specs.Option.{option_map}
 use Rattle.std.proofs.lemmas.Bool.{and_parts, and_from, eq-eqb, eqb-true, or_left, or_right, or_cases, cond_both, cases_lt}
 use Rattle.std.proofs.lemmas.List.{length_push, get_or_push}
 use Rattle.std.proofs.lemmas.Option.{none-some, same_Some, slice_get_within}
 use Rattle.wire_frames.specs.declared.frame.Frame.{Frame}
-use Rattle.network.specs.Lines.{line, line_of, is_in, AreBelow, Ascends, FrontWaits, Changes}
+use Rattle.network.specs.Lines.{line, line_of, AreBelow, Ascends, FrontWaits, Changes}
 use Rattle.network.specs.Representation.{AreInLine}
 use Rattle.network.proofs.Numbers.{is_in-push, Ascends-push}
 use Rattle.network.proofs.Flags.{flag_stays, flag_was}

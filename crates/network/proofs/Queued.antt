@@ -1,12 +1,13 @@
 -- What a network keeps: when nothing was sent, when nothing changes, and when one message more is sent.
 use Rattle.std.proofs.Common.{◌≡◌, ◌≤◌, refl, ap, sym, ◌∙◌, arith, subst, ℕ, Bool, true, List, [], ◌∷◌, ◌++◌, length}
+use Rattle.ens_base.specs.Lists.{is_in}
 use Rattle.std.proofs.lemmas.Bool.{both_ways}
 use Rattle.std.proofs.lemmas.List.{length_push}
 use Rattle.std.proofs.lemmas.List.Elements.{All-nil, All-push}
 use Rattle.std.proofs.lemmas.Option.{none-some}
 use Rattle.wire_frames.specs.declared.frame.Frame.{Frame}
 use Rattle.network.specs.Mail.{Mail, MayBeSent, posted}
-use Rattle.network.specs.Lines.{line, line_of, is_in, Ascends, FrontWaits, Changes}
+use Rattle.network.specs.Lines.{line, line_of, Ascends, FrontWaits, Changes}
 use Rattle.network.specs.Representation.{mail_in, IsBelow, AreInLine, IsQueued, IsKept}
 use Rattle.network.proofs.Bounds.{below_more}
 use Rattle.network.proofs.Posting.{posted_in_line}

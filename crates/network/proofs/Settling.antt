@@ -1,12 +1,13 @@
 -- The waiting messages are still in the lines when a message is settled.
 use Rattle.std.proofs.Common.{◌≡◌, ◌==◌, ap, sym, ◌∙◌, subst, ℕ, Bool, true, false, List, [], ◌∷◌, Some}
+use Rattle.ens_base.specs.Lists.{is_in}
 use Rattle.std.specs.Prelude.{slice_get, slice_index_or, slice_set}
 use Rattle.std.specs.Option.{option_map}
 use Rattle.std.proofs.lemmas.Bool.{eq-eqb, both_ways, cond_both, true_from_ne_false}
 use Rattle.std.proofs.lemmas.List.{get_or-set_other}
 use Rattle.std.proofs.lemmas.Option.{same_Some}
 use Rattle.wire_frames.specs.declared.frame.Frame.{Frame}
-use Rattle.network.specs.Lines.{line, line_of, is_in, Ascends, FrontWaits, from_waiting, Changes}
+use Rattle.network.specs.Lines.{line, line_of, Ascends, FrontWaits, from_waiting, Changes}
 use Rattle.network.specs.Representation.{AreInLine}
 use Rattle.network.proofs.Numbers.{first_in, skip_from, skip_keeps, Ascends-skip, FrontWaits-skip}
 use Rattle.network.proofs.MailLaws.{flag_settled}

@@ -1,5 +1,6 @@
 -- Lines: for each sender and receiver, a queue of numbers of messages.
-use Rattle.std.specs.Prelude.{◌≡◌, ◌<◌, ◌+◌, ◌*◌, ◌==◌, ◌||◌, ℕ, Bool, true, false, List, [], ◌∷◌, if◌then◌else◌, slice_index_or, slice_set}
+use Rattle.std.specs.Prelude.{◌≡◌, ◌<◌, ◌+◌, ◌*◌, ℕ, true, List, [], ◌∷◌, if◌then◌else◌, slice_index_or, slice_set}
+use Rattle.ens_base.specs.Lists.{is_in}
 use Rattle.wire_frames.specs.declared.frame.Frame.{Frame}
 
 -- the place of the line of this sender and receiver
@@ -13,11 +14,6 @@ line_of f = line_place f.from f.to
 -- the numbers in the line at this place, the front first
 abbrev pub line : List (List ℕ) → ℕ → List ℕ
 line lines place = slice_index_or lines place []
-
--- whether the number is in the line
-abbrev pub is_in : List ℕ → ℕ → Bool
-is_in [] n = false
-is_in (m ∷ ns) n = n == m || is_in ns n
 
 -- all numbers in the line are below this one
 abbrev pub AreBelow : ℕ → List ℕ → Type 0

@@ -1,9 +1,10 @@
 -- How a network represents the waiting messages by flags and lines.
 use Rattle.std.specs.Prelude.{◌≡◌, ◌<◌, ◌≤◌, ℕ, Bool, true, false, List, All, Some, slice_get, slice_index_or}
+use Rattle.ens_base.specs.Lists.{is_in}
 use Rattle.std.specs.Option.{option_map}
 use Rattle.wire_frames.specs.declared.frame.Frame.{Frame}
 use Rattle.network.specs.Mail.{Mail, MayBeSent, IsMail}
-use Rattle.network.specs.Lines.{line_of, line, is_in, Ascends, FrontWaits}
+use Rattle.network.specs.Lines.{line_of, line, Ascends, FrontWaits}
 
 -- the mail of these messages and flags
 abbrev pub mail_in : List Frame → List Bool → Mail

@@ -1,5 +1,6 @@
 -- The plain build of a map has exactly the nodes of the map.
 use Rattle.std.proofs.Common.{◌≡◌, ◌⊎◌, ℕ, zero, suc, ◌+◌, ◌-◌, ◌<◌, ◌≤◌, ◌^◌, Bool, true, false, List, [], ◌∷◌, ◌++◌, Option, None, Some, refl, ap, sym, ◌∙◌, subst, arith, inl, inr}
+use Rattle.ens_base.proofs.Lists.{in_left, in_right}
 use Rattle.md5.specs.Md5.{md5}
 use Rattle.ens_base.specs.declared.entry.Entry.{Entry}
 use Rattle.ens_base.specs.Lists.{◌∈◌, same_bytes}
@@ -13,7 +14,6 @@ use Rattle.tree_maps.specs.Paths.{under, text_at, present, node_of}
 use Rattle.tree_maps.proofs.Orders.{same_is, same_itself}
 use Rattle.tree_maps.proofs.Unique.{root_is_node, root_place, child_place}
 use Rattle.tree_maps.proofs.Below.{IsThere, there_if_some, place, every, child_under, node_below}
-use Rattle.synctree.proofs.Meaning.{in_left, in_right}
 use Rattle.tree_repair.specs.Builds.{somes, level_of, nodes_down, build_nodes}
 use Rattle.world_stores.specs.Nodes.{Nodes, top_of}
 use Rattle.node_faults.specs.Laws.{HoldsMap, stored_all}
@@ -98,8 +98,8 @@ module _ (F : Form) (laws : Laws F) (m : List Entry) where
 
   in_down : (h l k : ℕ) (s : List ℕ) → k ≤ h → s ∈ somes (level_of F (l + k) m) → s ∈ nodes_down F h l m
   in_down zero l k s few i = let same : l + k ≡ l = omega (arith, few) in subst (λ (n : ℕ). s ∈ somes (level_of F n m)) same i
-  in_down (suc h) l zero s few i = let same : l + 0 ≡ l = omega arith in in_right s (nodes_down F h (suc l) m) (somes (level_of F l m)) (subst (λ (n : ℕ). s ∈ somes (level_of F n m)) same i)
-  in_down (suc h) l (suc k) s few i = let same : l + suc k ≡ suc l + k = omega arith in in_left s (nodes_down F h (suc l) m) (somes (level_of F l m)) (in_down h (suc l) k s (omega (arith, few)) (subst (λ (n : ℕ). s ∈ somes (level_of F n m)) same i))
+  in_down (suc h) l zero s few i = let same : l + 0 ≡ l = omega arith in in_right (nodes_down F h (suc l) m) (somes (level_of F l m)) s (subst (λ (n : ℕ). s ∈ somes (level_of F n m)) same i)
+  in_down (suc h) l (suc k) s few i = let same : l + suc k ≡ suc l + k = omega arith in in_left (nodes_down F h (suc l) m) (somes (level_of F l m)) s (in_down h (suc l) k s (omega (arith, few)) (subst (λ (n : ℕ). s ∈ somes (level_of F n m)) same i))
 
   text_in : (h : ℕ) (at : Position) → IsPlace F h at → IsThere at.level (under F at m) → text F h at (under F at m) ∈ build_nodes F m
   text_in h at p there =

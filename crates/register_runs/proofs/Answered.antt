@@ -19,11 +19,11 @@ use Rattle.register_runs.specs.Meanings.{OfSome, IsTaken}
 use Rattle.register_runs.specs.declared.guess.Guess.{Guess}
 use Rattle.register_runs.specs.declared.guess.Guess.TheVariants.{Absent, Told, Untold}
 use Rattle.register_runs.specs.declared.guess.Possible.{Possible}
-use Rattle.register_runs.proofs.Stands.{in_left, in_right, in_with, with_old, with_new, unused, version_same, version_itself, same_of, no_true}
+use Rattle.register_runs.proofs.Stands.{in_with, with_old, with_new, unused, version_same, version_itself, same_of, no_true}
 use Rattle.register_runs.proofs.Fresh.{Has, IsFree}
 use Rattle.register_runs.proofs.Outcomes.{IsBlind, blind_if, Fits, fits_absent, fits_present, Wanted, either_of, reply_itself, reply_same, shown_quiet, learned_more, learned_shown, learned_write, write_learned, shown_under, shown_over}
 use Rattle.register_runs.proofs.Silent.{new_true, new_gives, may_true, may_gives, StepTo, Step, Leaves, after_old, moved, single}
-use Rattle.ens_base.proofs.Lists.{bytes_same, bytes_itself}
+use Rattle.ens_base.proofs.Lists.{bytes_same, bytes_itself, in_left, in_right}
 
 -- one more stamp in front of both lists
 beside : (u : Version) (S T : List Version) → Has S T → Has (u ∷ S) (u ∷ T)

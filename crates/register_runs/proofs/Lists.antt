@@ -15,10 +15,10 @@ use Rattle.register_runs.specs.Meanings.{OfSome}
 use Rattle.register_runs.specs.declared.guess.Guess.{Guess}
 use Rattle.register_runs.specs.declared.guess.Guess.TheVariants.{Absent, Told, Untold}
 use Rattle.register_runs.specs.declared.guess.Possible.{Possible}
-use Rattle.register_runs.proofs.Stands.{in_left, in_right, in_either, in_within, version_same}
+use Rattle.register_runs.proofs.Stands.{in_either, in_within, version_same}
 use Rattle.register_runs.proofs.Fresh.{Has}
 use Rattle.register_runs.proofs.Outcomes.{either_of}
-use Rattle.ens_base.proofs.Lists.{bytes_same}
+use Rattle.ens_base.proofs.Lists.{bytes_same, in_left, in_right}
 
 -- ## A register that covers another can go on like it
 

@@ -13,8 +13,8 @@ use Rattle.register_model.specs.declared.register.Register.TheVariants.{Absent, 
 use Rattle.register_runs.specs.Stamps.{with_stamp}
 use Rattle.register_runs.specs.Guesses.{same_reply, learned, with_wanted}
 use Rattle.register_runs.proofs.Fresh.{Has}
-use Rattle.register_runs.proofs.Stands.{in_left, in_right, in_either, version_same, version_itself, in_with, with_old, with_new}
-use Rattle.ens_base.proofs.Lists.{bytes_same, bytes_itself}
+use Rattle.register_runs.proofs.Stands.{in_either, version_same, version_itself, in_with, with_old, with_new}
+use Rattle.ens_base.proofs.Lists.{bytes_same, bytes_itself, in_left, in_right}
 
 -- ## Equal replies
 

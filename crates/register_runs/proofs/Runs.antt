@@ -1,5 +1,6 @@
 -- The walk decides whether the order is a run.
 use Rattle.std.proofs.Common.{◌≡◌, ◌≢◌, ℕ, ◌+◌, ◌<◌, ◌≤◌, Bool, true, false, List, [], ◌∷◌, ◌++◌, length, get_or, drop, map, Option, None, Some, Bor, inl, inr, refl, sym, ap, subst, ◌∙◌, arith}
+use Rattle.ens_base.proofs.Lists.{in_left, in_right}
 use Rattle.std.specs.Prelude.{IfSome, IfNone, MatchOption, ◌↔◌, ◌==◌, not, IsTrue}
 use Rattle.std.proofs.lemmas.Bool.{false≢true, true≢false, not-true, not_from_false, eq-eqb, ne_eqb}
 use Rattle.std.proofs.lemmas.List.{drop_more, drop_all}
@@ -20,7 +21,7 @@ use Rattle.register_runs.specs.declared.guess.Guess.{Guess}
 use Rattle.register_runs.specs.declared.guess.Guess.TheVariants.{Absent, Told, Untold}
 use Rattle.register_runs.specs.declared.guess.Possible.{Possible}
 use Rattle.register_runs.specs.declared.walk.Walk.{Walk}
-use Rattle.register_runs.proofs.Stands.{in_left, in_right, unused}
+use Rattle.register_runs.proofs.Stands.{unused}
 use Rattle.register_runs.proofs.Fresh.{runs_fewer, runs_free}
 use Rattle.register_runs.proofs.Silent.{Tells, Step, silent_to, silent_from}
 use Rattle.register_runs.proofs.Answered.{answered_to, answered_from}

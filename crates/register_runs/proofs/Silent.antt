@@ -1,5 +1,6 @@
 -- What a call without a printed reply leaves of one possible register.
 use Rattle.std.proofs.Common.{◌≡◌, ℕ, Bool, true, false, List, [], ◌∷◌, ◌++◌, inl, inr, refl, sym, subst, ◌∙◌, Option, None, Some}
+use Rattle.ens_base.proofs.Lists.{in_left, in_right}
 use Rattle.std.specs.Prelude.{if◌then◌else◌, not}
 use Rattle.std.proofs.lemmas.Bool.{and_parts, and_from, false≢true, true≢false, not-true, not_from_false}
 use Rattle.ens_base.specs.Lists.{◌∈◌}
@@ -19,7 +20,7 @@ use Rattle.register_runs.specs.Meanings.{OfSome}
 use Rattle.register_runs.specs.declared.guess.Guess.{Guess}
 use Rattle.register_runs.specs.declared.guess.Guess.TheVariants.{Absent, Told, Untold}
 use Rattle.register_runs.specs.declared.guess.Possible.{Possible}
-use Rattle.register_runs.proofs.Stands.{in_left, in_right, in_either, not_in, has_not, unused, version_same, version_itself, same_of, no_true}
+use Rattle.register_runs.proofs.Stands.{in_either, not_in, has_not, unused, version_same, version_itself, same_of, no_true}
 use Rattle.register_runs.proofs.Fresh.{Has, IsFree}
 use Rattle.register_runs.proofs.Outcomes.{IsBlind, blind_if, either_of, quiet_absent, quiet_present}
 

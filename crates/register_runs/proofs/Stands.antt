@@ -1,5 +1,6 @@
 -- Membership in lists, and in lists of stamps.
 use Rattle.std.proofs.Common.{◌≡◌, ℕ, suc, ◌+◌, ◌<◌, Bool, true, false, List, [], ◌∷◌, ◌++◌, ◌⊎◌, inl, inr, refl, sym, ap, subst, ◌∙◌, arith}
+use Rattle.ens_base.proofs.Lists.{in_left, in_right}
 use Rattle.std.specs.Prelude.{if◌then◌else◌}
 use Rattle.std.proofs.lemmas.Bool.{false≢true, or_cases, or_left, or_right, and_parts}
 use Rattle.std.proofs.lemmas.Bool.Decides.{nat_tests}
@@ -7,15 +8,6 @@ use Rattle.ens_base.specs.Lists.{◌∈◌}
 use Rattle.ens_base.specs.Epochs.{same_version}
 use Rattle.ens_base.specs.declared.epoch.Version.{Version}
 use Rattle.register_runs.specs.Stamps.{has, within, with_stamp}
-
-pub in_left : {A : Type 0} (xs ys : List A) (x : A) → x ∈ xs → x ∈ (xs ++ ys)
-in_left [] ys x h = absurd h
-in_left (y ∷ xs) ys x (inl e) = inl e
-in_left (y ∷ xs) ys x (inr h) = inr (in_left xs ys x h)
-
-pub in_right : {A : Type 0} (xs ys : List A) (x : A) → x ∈ ys → x ∈ (xs ++ ys)
-in_right [] ys x h = h
-in_right (y ∷ xs) ys x h = inr (in_right xs ys x h)
 
 further : {A : Type 0} (y : A) (xs ys : List A) (x : A) → (x ∈ xs) ⊎ (x ∈ ys) → (x ∈ (y ∷ xs)) ⊎ (x ∈ ys)
 further y xs ys x (inl h) = inl (inr h)

@@ -1,5 +1,6 @@
 -- The stamps that were shown stay known.
 use Rattle.std.proofs.Common.{◌≡◌, ℕ, Bool, true, false, List, [], ◌∷◌, ◌++◌, inl, inr, refl, sym, subst, Option, None, Some}
+use Rattle.ens_base.proofs.Lists.{in_right}
 use Rattle.std.specs.Prelude.{if◌then◌else◌, not, ◌&&◌, fold}
 use Rattle.ens_base.specs.Lists.{◌∈◌, same_bytes}
 use Rattle.ens_base.specs.Epochs.{same_version}
@@ -15,7 +16,7 @@ use Rattle.register_runs.specs.Meanings.{IsTaken, AreTaken}
 use Rattle.register_runs.specs.declared.guess.Guess.{Guess}
 use Rattle.register_runs.specs.declared.guess.Guess.TheVariants.{Absent, Told, Untold}
 use Rattle.register_runs.specs.declared.guess.Possible.{Possible}
-use Rattle.register_runs.proofs.Stands.{in_right, with_new}
+use Rattle.register_runs.proofs.Stands.{with_new}
 use Rattle.register_runs.proofs.Fresh.{Has}
 use Rattle.register_runs.proofs.Outcomes.{learned_more, learned_stamp}
 use Rattle.register_runs.proofs.Lists.{some_from}

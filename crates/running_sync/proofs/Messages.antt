@@ -1,11 +1,11 @@
 -- What a sync that asks other members alone sends.
 use Rattle.std.specs.Prelude.{All, map, if◌then◌else◌}
+use Rattle.ens_base.specs.Lists.{is_in}
 use Rattle.std.proofs.Common.{◌≡◌, ℕ, Bool, true, false, List, [], ◌∷◌, Option, None, Some, refl}
 use Rattle.std.proofs.lemmas.List.Concat.{flat_map-cons}
 use Rattle.std.proofs.lemmas.List.Elements.{All-nil, All-cons, All-append, All-head, All-tail, All-weaker}
 use Rattle.ens_base.specs.Views.{last_view}
 use Rattle.ens_base.specs.declared.epoch.Epoch.{Epoch}
-use Rattle.joint_views.specs.Quorums.{is_in}
 use Rattle.peer_fact.specs.declared.fact.Fact.{Fact}
 use Rattle.tree_node.specs.declared.body.Scan.{Scan}
 use Rattle.leader_words.specs.declared.out.Outgoing.{Outgoing}

@@ -1,11 +1,11 @@
 -- A sync asks other members of its view alone.
 use Rattle.std.specs.Prelude.{◌≢◌, ◌==◌, not, All, slice_get, slice_set, if◌then◌else◌}
+use Rattle.ens_base.specs.Lists.{is_in}
 use Rattle.std.proofs.Common.{◌≡◌, ◌+◌, ◌≤◌, ℕ, zero, suc, Bool, true, false, List, [], ◌∷◌, Option, Some, refl, sym, subst, arith, lit≤}
 use Rattle.std.proofs.lemmas.Bool.{and_parts}
 use Rattle.std.proofs.lemmas.Bool.Decides.{nat_tests}
 use Rattle.std.proofs.lemmas.List.Elements.{All-nil, All-cons, All-append, All-map, All-set, All-weaker}
 use Rattle.std.proofs.lemmas.Option.{slice_get_within, get_or_from_slice_get}
-use Rattle.joint_views.specs.Quorums.{is_in}
 use Rattle.tree_node.specs.declared.body.Scan.{Scan}
 use Rattle.exchange.specs.Asked.{Asked}
 use Rattle.exchange.specs.Asks.{taken}

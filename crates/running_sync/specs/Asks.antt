@@ -1,8 +1,8 @@
 -- The asks of a sync, one for each source.
 use Rattle.std.specs.Prelude.{ℕ, zero, suc, ◌+◌, Bool, true, false, not, ◌==◌, ◌&&◌, if◌then◌else◌, List, [], ◌∷◌, ◌++◌, Option, None, Some}
+use Rattle.ens_base.specs.Lists.{is_in}
 use Rattle.std.specs.List.{flat_map}
 use Rattle.ens_base.specs.declared.epoch.Epoch.{Epoch}
-use Rattle.joint_views.specs.Quorums.{is_in}
 use Rattle.tree_node.specs.declared.body.Scan.{Scan}
 use Rattle.wire_frames.specs.declared.message.Message.TheVariants.{TreeAsk}
 use Rattle.leader_words.specs.declared.out.Outgoing.{Outgoing}

@@ -1,8 +1,8 @@
 -- Whom a sync asks, and what it sends.
 use Rattle.std.specs.Prelude.{◌≡◌, ◌≢◌, ℕ, true, List, All}
+use Rattle.ens_base.specs.Lists.{is_in}
 use Rattle.ens_base.specs.View.{IsPeer}
 use Rattle.ens_base.specs.declared.epoch.Epoch.{Epoch}
-use Rattle.joint_views.specs.Quorums.{is_in}
 use Rattle.wire_frames.specs.Messages.{Obeys}
 use Rattle.wire_frames.specs.declared.message.Message.{Message}
 use Rattle.wire_frames.specs.declared.message.Message.TheVariants.{TreeAsk}

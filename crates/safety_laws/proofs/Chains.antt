@@ -1,5 +1,6 @@
 -- The chain of the settled versions of a key, as the notes give it.
 use Rattle.std.proofs.Common.{◌≡◌, ℕ, zero, suc, ◌<◌, ◌≤◌, Bool, true, false, ◌&&◌, ◌⊎◌, List, [], ◌∷◌, ◌++◌, Option, eqb, eqb-true, eq-eqb, arith, ap, refl, inl, inr, sym, ◌∙◌, subst, le_trans, max}
+use Rattle.ens_base.proofs.Lists.{in_append, in_left, in_right}
 use Rattle.std.proofs.lemmas.Bool.Decides.{nat_tests}
 use Rattle.std.proofs.lemmas.Bool.{cases_order, eqb-false, and_parts}
 use Rattle.ens_base.specs.Lists.{same_bytes, ◌∈◌}
@@ -10,7 +11,7 @@ use Rattle.register_model.specs.Orders.{rank, rank_or_none, lower_or_none, paren
 use Rattle.election_laws.proofs.Epochs.{not_both}
 use Rattle.version_laws.proofs.Trees.{ancestor_low}
 use Rattle.version_laws.proofs.Maps.{zero_not, same_bytes_eq, eq_same_bytes}
-use Rattle.safety_laws.proofs.Ordered.{Ordered, ordered_push, in_append, in_left, in_right}
+use Rattle.safety_laws.proofs.Ordered.{Ordered, ordered_push}
 use Rattle.version_laws.proofs.Basics.{Basics}
 use Rattle.entry_laws.specs.Entries.{EntriesAreSafe}
 use Rattle.safety_laws.proofs.Noted.{Holds, ProposedHolds, SettledHolds}

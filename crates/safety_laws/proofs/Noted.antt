@@ -1,5 +1,6 @@
 -- How the lists of the book relate to its entries.
 use Rattle.std.proofs.Common.{◌≡◌, ℕ, ◌<◌, ◌≤◌, Bool, true, false, ◌⊎◌, List, [], ◌∷◌, ◌++◌, Option, arith, ap, refl, inl, inr, sym, ◌∙◌, subst}
+use Rattle.ens_base.proofs.Lists.{in_left, in_right}
 use Rattle.std.proofs.lemmas.Bool.{false≢true}
 use Rattle.ens_base.specs.Lists.{◌∈◌}
 use Rattle.ens_base.specs.declared.epoch.Version.{Version}
@@ -12,7 +13,7 @@ use Rattle.register_model.specs.Orders.{rank, rank_or_none}
 use Rattle.election_laws.proofs.Epochs.{not_both}
 use Rattle.version_laws.proofs.Maps.{put_other, put_here}
 use Rattle.abstract_protocol.proofs.Ranks.{rank-version_of, rank-version_or_none}
-use Rattle.safety_laws.proofs.Ordered.{Ordered, ordered_push, ordered_more, in_left, in_right, pushed_then}
+use Rattle.safety_laws.proofs.Ordered.{Ordered, ordered_push, ordered_more, pushed_then}
 use Rattle.version_laws.proofs.Basics.{proposed_then, Settled}
 use Rattle.version_laws.proofs.Descent.{Whole, run_whole}
 use Rattle.entry_laws.proofs.Later.{later_step}

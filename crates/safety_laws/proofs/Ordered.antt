@@ -1,25 +1,8 @@
 -- Lists: membership in concatenations, and lists in which each item is related to all later ones.
 use Rattle.std.proofs.Common.{◌≡◌, ℕ, zero, suc, ◌<◌, ◌⊎◌, List, [], ◌∷◌, ◌++◌, Some, arith, refl, inl, inr, sym, subst}
+use Rattle.ens_base.proofs.Lists.{in_append}
 use Rattle.std.specs.Prelude.{slice_get}
 use Rattle.ens_base.specs.Lists.{◌∈◌, AreDistinct}
-
-pub in_append : {A : Type 0} (xs ys : List A) (z : A) → z ∈ (xs ++ ys) → (z ∈ xs) ⊎ (z ∈ ys)
-in_append [] ys z h = inr h
-in_append (x ∷ xs) ys z (inl e) = inl (inl e)
-in_append (x ∷ xs) ys z (inr h) = more (in_append xs ys z h)
-  where
-    more : (z ∈ xs) ⊎ (z ∈ ys) → ((z ≡ x) ⊎ (z ∈ xs)) ⊎ (z ∈ ys)
-    more (inl p) = inl (inr p)
-    more (inr p) = inr p
-
-pub in_left : {A : Type 0} (xs ys : List A) (z : A) → z ∈ xs → z ∈ (xs ++ ys)
-in_left [] ys z h = absurd h
-in_left (x ∷ xs) ys z (inl e) = inl e
-in_left (x ∷ xs) ys z (inr h) = inr (in_left xs ys z h)
-
-pub in_right : {A : Type 0} (xs ys : List A) (z : A) → z ∈ ys → z ∈ (xs ++ ys)
-in_right [] ys z h = h
-in_right (x ∷ xs) ys z h = inr (in_right xs ys z h)
 
 -- what holds of the new last item, and of each old one, holds of each
 pub pushed_then : {A : Type 0} (xs : List A) (y : A) (P : A → Type 0) → P y → ((x : A) → x ∈ xs → P x) → (z : A) → z ∈ (xs ++ y ∷ []) → P z

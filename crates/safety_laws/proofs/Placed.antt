@@ -1,5 +1,6 @@
 -- Where each call is placed in the order of a key; the order follows versions and notes.
 use Rattle.std.proofs.Common.{◌≡◌, ℕ, zero, suc, ◌<◌, ◌≤◌, Bool, true, false, ◌&&◌, ◌⊎◌, List, [], ◌∷◌, ◌++◌, Option, None, Some, eqb, eqb-true, eq-eqb, arith, ap, refl, inl, inr, sym, ◌∙◌, subst}
+use Rattle.ens_base.proofs.Lists.{in_append, in_left, in_right}
 use Rattle.std.specs.Prelude.{if◌then◌else◌}
 use Rattle.std.proofs.lemmas.Bool.{cases_order, and_parts}
 use Rattle.ens_base.specs.Lists.{same_bytes, ◌∈◌}
@@ -10,7 +11,7 @@ use Rattle.register_model.specs.Orders.{rank_or_none, parent_in, call_in, newest
 use Rattle.election_laws.proofs.Epochs.{not_both}
 use Rattle.version_laws.proofs.Maps.{epoch_mono, same_bytes_eq, eq_same_bytes}
 use Rattle.abstract_protocol.proofs.Ranks.{rank-version_of, rank-version_or_none}
-use Rattle.safety_laws.proofs.Ordered.{Ordered, ordered_append, ordered_more, in_append, in_left, in_right}
+use Rattle.safety_laws.proofs.Ordered.{Ordered, ordered_append, ordered_more}
 use Rattle.version_laws.proofs.Dead.{settled_alive}
 use Rattle.version_laws.proofs.Descent.{Whole}
 use Rattle.entry_laws.specs.Entries.{EntriesAreSafe}

@@ -4,8 +4,8 @@ use Rattle.version_laws.proofs.Stays.{versions_step}
 use Rattle.std.specs.Prelude.{if◌then◌else◌, ◌==◌}
 use Rattle.std.proofs.lemmas.Bool.Decides.{nat_tests}
 use Rattle.std.proofs.lemmas.Bool.{and_parts}
-use Rattle.ens_base.specs.Lists.{◌∈◌}
-use Rattle.joint_views.specs.Quorums.{is_majority, is_quorum, is_in, has_all}
+use Rattle.ens_base.specs.Lists.{◌∈◌, is_in}
+use Rattle.joint_views.specs.Quorums.{is_majority, is_quorum, has_all}
 use Rattle.election_laws.proofs.Sound.{run_sound}
 use Rattle.version_laws.proofs.Trees.{run_versions}
 use Rattle.abstract_protocol.specs.Protocol.{State, Step, Raise, Elect, Accept, Install, EndSync, happens, IsRun, state_after}

@@ -1,7 +1,8 @@
 -- Rules of a peer as functions, each a move: the end of a sync, a counted give, an announced epoch, an
 -- election.
 use Rattle.std.specs.Prelude.{◌≡◌, ℕ, Bool, true, false, not, ◌&&◌, ◌||◌, nat_lt, List, [], ◌∷◌, ◌++◌, ◌==◌, Option, None, Some, if◌then◌else◌, ◌<◌, ◌≤◌, ◌^◌}
-use Rattle.joint_views.specs.Quorums.{is_majority, is_quorum, is_in, has_all}
+use Rattle.ens_base.specs.Lists.{is_in}
+use Rattle.joint_views.specs.Quorums.{is_majority, is_quorum, has_all}
 use Rattle.abstract_protocol.specs.Ledger.{IsNew, put}
 use Rattle.abstract_protocol.specs.Objects.{Map}
 use Rattle.abstract_protocol.specs.Protocol.{State, Step, Raise, Elect, Accept, Install, EndSync}

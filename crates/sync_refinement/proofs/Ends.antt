@@ -1,5 +1,6 @@
 -- The end of a sync: the merged entries are a map, and the peer may install it.
 use Rattle.std.proofs.Common.{◌≡◌, ◌⊎◌, inl, inr, ℕ, ◌<◌, ◌≤◌, Bool, true, false, ◌&&◌, ◌||◌, not, List, [], ◌∷◌, map, arith, refl, sym, ap, subst, ◌∙◌}
+use Rattle.ens_base.proofs.Lists.{in_append}
 use Rattle.std.specs.Prelude.{◌==◌, if◌then◌else◌, filter}
 use Rattle.std.specs.List.{AllByRecursion}
 use Rattle.std.specs.declared.cmp.Ordering.TheVariants.{Less, Equal}
@@ -35,7 +36,7 @@ use Rattle.tree_maps.specs.Sixteen.{sixteen}
 use Rattle.tree_node.specs.declared.body.Scan.{Scan}
 use Rattle.tree_node.specs.declared.position.Position.{Position}
 use Rattle.tree_verify.specs.Scans.{lost}
-use Rattle.sync_refinement.proofs.Maps.{either_true, in_append}
+use Rattle.sync_refinement.proofs.Maps.{either_true}
 use Rattle.sync_refinement.proofs.Ranks.{merge_ascends}
 use Rattle.sync_refinement.proofs.Scans.{scan_among}
 use Rattle.sync_refinement.proofs.Merging.{sent_by, sent_of, ask_none, merged_same}

@@ -197,16 +197,6 @@ in_take (suc n) [] x at = absurd at
 in_take (suc n) (y ∷ xs) x (inl same) = inl same
 in_take (suc n) (y ∷ xs) x (inr at) = inr (in_take n xs x at)
 
--- an item of two lists in a row is in one of them
-pub in_append : {A : Type 0} (xs ys : List A) (x : A) → x ∈ (xs ++ ys) → (x ∈ xs) ⊎ (x ∈ ys)
-in_append [] ys x at = inr at
-in_append (y ∷ xs) ys x (inl same) = inl (inl same)
-in_append {A = A} (y ∷ xs) ys x (inr at) = further (in_append xs ys x at)
-  where
-    further : (x ∈ xs) ⊎ (x ∈ ys) → (x ∈ (y ∷ xs)) ⊎ (x ∈ ys)
-    further (inl there) = inl (inr there)
-    further (inr there) = inr there
-
 -- ## Positions
 
 -- the test whether a path goes through one of some positions says so

@@ -1,5 +1,6 @@
 -- What a sync merges is, as a map from keys to versions, what the theory merges.
 use Rattle.std.proofs.Common.{◌≡◌, ◌⊎◌, inl, inr, ℕ, ◌≤◌, Bool, true, false, ◌||◌, max, List, [], ◌∷◌, ◌++◌, map, arith, refl, sym, subst, ◌∙◌, le_trans, le_antisymm}
+use Rattle.ens_base.proofs.Lists.{in_append}
 use Rattle.std.specs.Prelude.{◌==◌, if◌then◌else◌}
 use Rattle.std.specs.List.{flat_map}
 use Rattle.std.proofs.lemmas.Bool.Decides.{nat_tests}
@@ -18,7 +19,7 @@ use Rattle.sync_rule.specs.declared.sync.Source.{Source}
 use Rattle.tree_maps.specs.Entries.{Ascends}
 use Rattle.exchange.proofs.Keeping.{same_number}
 use Rattle.sync_refinement.proofs.Asks.{number_itself, ask_in}
-use Rattle.sync_refinement.proofs.Maps.{right_true, HasRank, ranks_in, ranks_found, greatest_in, greatest_found, in_append}
+use Rattle.sync_refinement.proofs.Maps.{right_true, HasRank, ranks_in, ranks_found, greatest_in, greatest_found}
 use Rattle.sync_refinement.proofs.Ranks.{merge_ascends, no_lower}
 use Rattle.sync_refinement.proofs.Scans.{scan_ascends}
 use Rattle.sync_refinement.specs.Seen.{ranks, greatest, seen_ask, ask_of, seen_sync}

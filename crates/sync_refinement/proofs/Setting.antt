@@ -1,5 +1,6 @@
 -- An open ask of a sync is set: it goes on, or its source has finished.
 use Rattle.std.proofs.Common.{◌≡◌, ◌⊎◌, ℕ, Bool, true, false, ◌&&◌, ◌||◌, List, [], ◌∷◌, ◌++◌, Some, arith, refl, ap, sym, ◌∙◌, subst, inl, inr}
+use Rattle.ens_base.proofs.Lists.{in_append}
 use Rattle.std.specs.Prelude.{◌==◌, slice_get, slice_set, if◌then◌else◌}
 use Rattle.abstract_protocol.specs.Numbers.{epoch_number}
 use Rattle.abstract_protocol.specs.Protocol.{State}
@@ -18,7 +19,7 @@ use Rattle.sync_refinement.specs.Seen.{ranks, seen_stage, seen_ask, ask_of}
 use Rattle.sync_refinement.specs.Syncs.{EntriesSay, SourcesAre, SyncSays}
 use Rattle.exchange.proofs.Keeping.{same_number}
 use Rattle.sync_refinement.proofs.Asks.{number_itself, at_place, in_set, set_there, still_there, set_itself, set_peers, ask_in, ask_set}
-use Rattle.sync_refinement.proofs.Maps.{both_ways, left_true, right_true, in_append}
+use Rattle.sync_refinement.proofs.Maps.{both_ways, left_true, right_true}
 
 -- ## Sources
 

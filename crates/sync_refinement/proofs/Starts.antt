@@ -1,13 +1,13 @@
 -- A sync begins: nothing was received yet.
 use Rattle.std.proofs.Common.{◌≡◌, ◌⊎◌, ℕ, zero, suc, ◌+◌, ◌≤◌, Bool, true, false, not, ◌&&◌, List, [], ◌∷◌, ◌++◌, arith, refl, ap, sym, ◌∙◌, subst, inl, inr, append-nil}
+use Rattle.ens_base.proofs.Lists.{in_append}
 use Rattle.std.specs.Prelude.{◌==◌, if◌then◌else◌}
 use Rattle.std.proofs.lemmas.Bool.Decides.{nat_tests}
 use Rattle.abstract_protocol.specs.Numbers.{epoch_number}
 use Rattle.abstract_protocol.specs.Objects.{IsGenuine}
 use Rattle.abstract_protocol.specs.Protocol.{State, Step, IsRun, state_after}
-use Rattle.ens_base.specs.Lists.{◌∈◌, AreDistinct}
+use Rattle.ens_base.specs.Lists.{◌∈◌, AreDistinct, is_in}
 use Rattle.ens_base.specs.Views.{last_view}
-use Rattle.joint_views.specs.Quorums.{is_in}
 use Rattle.running_sync.specs.Asks.{anew, is_other, asks_up_to, asks_of}
 use Rattle.running_sync.specs.declared.asking.Asking.{Asking}
 use Rattle.running_sync.specs.declared.asking.Stage.TheVariants.{Open}
@@ -24,7 +24,6 @@ use Rattle.sync_refinement.specs.Seen.{ranks, seen_ask, ask_of}
 use Rattle.sync_refinement.specs.Syncs.{EntriesSay}
 use Rattle.sync_refinement.proofs.Asks.{peers_of, peer_in, in_push}
 use Rattle.sync_refinement.proofs.Gives.{tree_genuine, tree_floor}
-use Rattle.sync_refinement.proofs.Maps.{in_append}
 use Rattle.sync_refinement.proofs.Scans.{clean_keeps, scan_entries, scan_lost, scan_found}
 
 -- ## New asks

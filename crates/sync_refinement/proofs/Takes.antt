@@ -1,12 +1,13 @@
 -- A sync takes what a source sends.
 use Rattle.std.proofs.Common.{◌≡◌, ◌⊎◌, ℕ, Bool, true, false, not, ◌&&◌, List, [], ◌∷◌, ◌++◌, Option, None, Some, arith, refl, ap, sym, ◌∙◌, subst, inl, inr}
+use Rattle.ens_base.proofs.Lists.{in_append}
 use Rattle.std.specs.Prelude.{◌==◌, slice_get, slice_set, if◌then◌else◌}
 use Rattle.std.proofs.lemmas.Bool.{and_parts}
 use Rattle.std.proofs.lemmas.Bool.Decides.{nat_tests}
 use Rattle.std.proofs.lemmas.Option.{slice_get_within, get_or_from_slice_get}
 use Rattle.abstract_protocol.specs.Numbers.{epoch_number}
 use Rattle.abstract_protocol.specs.Protocol.{State, Step, IsRun, state_after}
-use Rattle.ens_base.specs.Lists.{◌∈◌}
+use Rattle.ens_base.specs.Lists.{◌∈◌, is_in}
 use Rattle.ens_base.specs.declared.entry.Entry.{Entry}
 use Rattle.ens_base.specs.declared.epoch.Epoch.{Epoch}
 use Rattle.exchange.specs.Asked.{Asked}
@@ -15,7 +16,6 @@ use Rattle.exchange.specs.Covers.{AreApart}
 use Rattle.exchange.specs.declared.question.Question.{Question}
 use Rattle.exchange.specs.declared.step.Step.{Step as Reply}
 use Rattle.exchange.specs.declared.step.Step.TheVariants as steps
-use Rattle.joint_views.specs.Quorums.{is_in}
 use Rattle.peer_fact.specs.declared.fact.Fact.{Fact}
 use Rattle.phase_rows.specs.Orders.{is_same}
 use Rattle.request_refinement.specs.Naming.{EntrySays}
@@ -45,7 +45,7 @@ use Rattle.sync_refinement.specs.Syncs.{SyncSays, GiveShows, GiveFits}
 use Rattle.exchange.proofs.Keeping.{same_number}
 use Rattle.sync_refinement.proofs.Asks.{peer_there}
 use Rattle.sync_refinement.proofs.Counting.{done_is, ignored_is, damage_is, Receives, taken_receives, taken_counts}
-use Rattle.sync_refinement.proofs.Maps.{both_ways, either_true, in_append}
+use Rattle.sync_refinement.proofs.Maps.{both_ways, either_true}
 use Rattle.sync_refinement.proofs.Scans.{scan_ascends, scan_own}
 use Rattle.sync_refinement.proofs.Setting.{AskSays, source_of, ask_was, same_says, no_source, goes_on, finishes}
 

@@ -3,14 +3,13 @@ use Rattle.std.specs.Prelude.{ℕ, Bool, true, false, not, ◌&&◌, ◌||◌, �
 use Rattle.std.specs.List.{flat_map}
 use lib.Pointwise.{pointwise}
 use Rattle.ens_base.specs.Epochs.{same_version}
-use Rattle.ens_base.specs.Lists.{same_bytes}
+use Rattle.ens_base.specs.Lists.{same_bytes, is_in}
 use Rattle.ens_base.specs.declared.entry.Entry.{Entry}
 use Rattle.ens_base.specs.Views.{last_view}
 use Rattle.peer_fact.specs.declared.fact.Fact.{Fact}
 use Rattle.tree_node.specs.declared.body.Scan.{Scan}
 use Rattle.tree_node.specs.declared.position.Position.{Position}
 use Rattle.tree_node.specs.Entries.{AreAbove}
-use Rattle.joint_views.specs.Quorums.{is_in}
 use Rattle.sync_rule.specs.declared.sync.Outcome.{Outcome}
 use Rattle.sync_rule.specs.declared.sync.Outcome.TheVariants.{Pending, Trusted}
 use Rattle.sync_rule.specs.declared.sync.Source.{Source}

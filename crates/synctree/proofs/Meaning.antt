@@ -1,5 +1,6 @@
 -- What the walks of a tree return, for every map that stands under its digest.
 use Rattle.std.proofs.Common.{◌≡◌, ◌≢◌, ℕ, zero, suc, ◌<◌, Bool, true, false, cond, List, [], ◌∷◌, ◌++◌, Option, None, Some, Result, Ok, Err, IfOk, get_or, arith, refl, ap, sym, ◌∙◌, subst, inl, inr}
+use Rattle.ens_base.proofs.Lists.{in_left, in_right}
 use Rattle.std.specs.Prelude.{◌==◌}
 use Rattle.md5.specs.Md5.{md5}
 use Rattle.ens_base.specs.declared.entry.Entry.{Entry}
@@ -21,20 +22,11 @@ use Rattle.synctree.proofs.Composing.{hashed_append}
 pub ok_once : {A : Type 0} (x y : A) → (let r : Result A Position = Ok x in r) ≡ Ok y → x ≡ y
 ok_once x y e = cc
 
-pub in_left : (x : List ℕ) (xs ys : List (List ℕ)) → x ∈ xs → x ∈ (xs ++ ys)
-in_left x [] ys h = absurd h
-in_left x (y ∷ xs) ys (inl e) = inl e
-in_left x (y ∷ xs) ys (inr h) = inr (in_left x xs ys h)
-
-pub in_right : (x : List ℕ) (xs ys : List (List ℕ)) → x ∈ ys → x ∈ (xs ++ ys)
-in_right x [] ys h = h
-in_right x (y ∷ xs) ys h = inr (in_right x xs ys h)
-
 pub apart_left : (F : Form) (h : ℕ) (at : Position) (m : List Entry) (xs ys : List (List ℕ)) → AreApart (xs ++ ys) F h at m → AreApart xs F h at m
-apart_left F h at m xs ys a s t i = a s t (in_left s xs ys i)
+apart_left F h at m xs ys a s t i = a s t (in_left xs ys s i)
 
 pub apart_right : (F : Form) (h : ℕ) (at : Position) (m : List Entry) (xs ys : List (List ℕ)) → AreApart (xs ++ ys) F h at m → AreApart ys F h at m
-apart_right F h at m xs ys a s t i = a s t (in_right s xs ys i)
+apart_right F h at m xs ys a s t i = a s t (in_right xs ys s i)
 
 pub apart_child : (F : Form) (h : ℕ) (at : Position) (m : List Entry) (c : ℕ) → c < F.width → within F at c m ≢ [] → (xs : List (List ℕ)) → AreApart xs F (suc h) at m → AreApart xs F h (child F at c) (within F at c m)
 apart_child F h at m c l some xs a s t i n = a s t i (inr (c, l, some, n))

@@ -1,5 +1,6 @@
 -- When the walk of a plan comes to a value.
 use Rattle.std.proofs.Common.{◌≡◌, ℕ, Bool, true, cond, List, [], ◌∷◌, ◌++◌, Option, None, Some, refl, ap, sym, ◌∙◌, subst, inl}
+use Rattle.ens_base.proofs.Lists.{in_right}
 use Rattle.md5.specs.Md5.{md5}
 use Rattle.ens_base.specs.Lists.{◌∈◌, same_bytes}
 use Rattle.ens_outside.specs.Maps.{value_at}
@@ -8,7 +9,6 @@ use Rattle.held_stores.specs.Held.{unless_failing}
 use Rattle.held_stores.specs.Walks.{Came, Failed, Walk, walk, nodes_failed}
 use Rattle.synctree.specs.Plans.{Node, Hash, Plan, Done, Broken, Ask, ◌>>=◌}
 use Rattle.synctree.specs.Walks.{verified, fetch, spelled, open_node}
-use Rattle.synctree.proofs.Meaning.{in_right}
 use Rattle.tree_maps.proofs.Orders.{same_itself}
 use Rattle.tree_node.specs.declared.position.Position.{Position}
 use Rattle.world_stores.specs.Nodes.{Nodes, refusal, answer, after}
@@ -42,7 +42,7 @@ unfolding walk
 arrives strings (Done x) s hashed holds r among = record { value = x; came = refl; held = r }
 arrives strings (Broken at) s hashed holds r among = absurd r
 arrives strings (Ask (Hash bytes) next) s hashed holds r among =
-    arrives strings (next tt) s (hashed ++ bytes ∷ []) holds (r (among bytes (walk_grows (next tt) s (hashed ++ bytes ∷ []) bytes (in_right bytes hashed (bytes ∷ []) (inl refl))))) among
+    arrives strings (next tt) s (hashed ++ bytes ∷ []) holds (r (among bytes (walk_grows (next tt) s (hashed ++ bytes ∷ []) bytes (in_right hashed (bytes ∷ []) bytes (inl refl))))) among
 arrives {A} strings (Ask (Node call) next) s hashed holds r among =
     goes_on (λ (w : Walk A). AreAmong w.hashed strings → Arrives w holds) (refusal s call) (walk (next (answer s call)) (after s call) hashed) (λ leaves. record { end = Failed; nodes = nodes_failed s call leaves; hashed = hashed }) r.0
     (λ a. arrives strings (next (answer s call)) (after s call) hashed holds r.1 a) among

@@ -1,5 +1,6 @@
 -- What each call does to the map that the tree shows.
 use Rattle.std.proofs.Common.{◌≡◌, ◌⊎◌, ℕ, ◌-◌, ◌<◌, ◌^◌, List, [], ◌∷◌, ◌++◌, Option, None, Some, Ok, Err, length, refl, sym, subst, inl, inr}
+use Rattle.ens_base.proofs.Lists.{in_left, in_right}
 use Rattle.ens_base.specs.declared.entry.Entry.{Entry}
 use Rattle.ens_base.specs.Lists.{◌∈◌}
 use Rattle.ens_fields.specs.Entries.{IsEntry}
@@ -15,7 +16,7 @@ use Rattle.synctree.specs.Nodes.{node_plan}
 use Rattle.synctree.specs.Plans.{Plan, Ends}
 use Rattle.synctree.specs.Trees.{open_plan, fresh_plan, get_plan, insert_plan}
 use Rattle.synctree.proofs.Descending.{node_is}
-use Rattle.synctree.proofs.Meaning.{in_left, in_right, get_answers, fresh_stands}
+use Rattle.synctree.proofs.Meaning.{get_answers, fresh_stands}
 use Rattle.synctree.proofs.Places.{place_of}
 use Rattle.synctree.proofs.Standing.{insert_stands}
 use Rattle.tree_maps.specs.Entries.{lookup, put}
@@ -60,7 +61,7 @@ still_shows p h m shows = record { digest = shows.digest; top = shows.top; stand
 -- strings without clashes are apart from the nodes of a map that was hashed
 pub apart_of : (strings now hashed xs : List (List ℕ)) (m : List Entry) → AreFree strings → AreAmong now strings → now ≡ hashed ++ xs → ((x : List ℕ) → IsNode sixteen sixteen.depth root m x → x ∈ hashed) → AreApart xs sixteen sixteen.depth root m
 apart_of strings now hashed xs m free among grew texts x y i n e =
-    free x y (among x (subst (λ zs. x ∈ zs) (sym grew) (in_right x hashed xs i))) (among y (subst (λ zs. y ∈ zs) (sym grew) (in_left y hashed xs (texts y n)))) e
+    free x y (among x (subst (λ zs. x ∈ zs) (sym grew) (in_right hashed xs x i))) (among y (subst (λ zs. y ∈ zs) (sym grew) (in_left hashed xs y (texts y n)))) e
 
 -- ## Looking
 
@@ -111,7 +112,7 @@ scans strings h m free among shows =
 
 -- a tree with its old root shows what it showed, after a walk that hashed more
 old_root : (h : Held) (w : Walk (List ℕ)) (xs : List (List ℕ)) → w.hashed ≡ h.hashed ++ xs → (m : List Entry) → Shows h m → Shows (with_tree h.stores.tree.top w h) m
-old_root h w xs grew m shows = record { digest = shows.digest; top = shows.top; stands = shows.stands; texts = λ x n. subst (λ zs. x ∈ zs) (sym grew) (in_left x h.hashed xs (shows.texts x n)) }
+old_root h w xs grew m shows = record { digest = shows.digest; top = shows.top; stands = shows.stands; texts = λ x n. subst (λ zs. x ∈ zs) (sym grew) (in_left h.hashed xs x (shows.texts x n)) }
 
 entered_end : (h : Held) (m : List Entry) (e : Entry) (digest : List ℕ) (w : Walk (List ℕ)) (xs : List (List ℕ)) (end : End (List ℕ)) → Shows h m → IsEntry e → length (put e m) < 2 ^ 32 → Stands sixteen digest m → AreApart xs sixteen sixteen.depth root m → w.hashed ≡ h.hashed ++ xs
     → Ended (insert_plan sixteen (Some digest) e) h.stores.tree.store xs end w.nodes → IsEntered e m (entered end) (with_tree (root_after h.stores.tree.top end) w h)
@@ -123,8 +124,8 @@ entered_end h m e digest w xs (Came new) shows fits few stands apart grew ends =
 }
   where
     known : (x : List ℕ) → (x ∈ xs) ⊎ IsNode sixteen sixteen.depth root m x → x ∈ w.hashed
-    known x (inl i) = subst (λ zs. x ∈ zs) (sym grew) (in_right x h.hashed xs i)
-    known x (inr n) = subst (λ zs. x ∈ zs) (sym grew) (in_left x h.hashed xs (shows.texts x n))
+    known x (inl i) = subst (λ zs. x ∈ zs) (sym grew) (in_right h.hashed xs x i)
+    known x (inr n) = subst (λ zs. x ∈ zs) (sym grew) (in_left h.hashed xs x (shows.texts x n))
 entered_end h m e digest w xs (Broke at) shows fits few stands apart grew ends = old_root h w xs grew m shows
 entered_end h m e digest w xs Failed shows fits few stands apart grew ends = (refl, old_root h w xs grew m shows)
 
@@ -150,7 +151,7 @@ made_end h m p w xs (Came new) grew stands texts ends = record {
   digest = new;
   top = refl;
   stands = stands new ends;
-  texts = λ x n. subst (λ zs. x ∈ zs) (sym grew) (in_right x h.hashed xs (texts new ends x n));
+  texts = λ x n. subst (λ zs. x ∈ zs) (sym grew) (in_right h.hashed xs x (texts new ends x n));
 }
 made_end h m p w xs (Broke at) grew stands texts ends = (refl, refl, old_root h w xs grew)
 made_end h m p w xs Failed grew stands texts ends = (refl, refl, old_root h w xs grew)
@@ -183,7 +184,7 @@ keeps (ReadNode at) h m k shows = still_shows (node_plan sixteen h.stores.tree.t
 keeps (Install entries) h m k shows = absurd k
 keeps (Fetch key) h m k shows = shows
 keeps (Put key bytes) h m k shows = after_putting key bytes h (λ t. Shows t m) (λ objects. shows)
-keeps (Hash bytes) h m k shows = record { digest = shows.digest; top = shows.top; stands = shows.stands; texts = λ x n. in_left x h.hashed (bytes ∷ []) (shows.texts x n) }
+keeps (Hash bytes) h m k shows = record { digest = shows.digest; top = shows.top; stands = shows.stands; texts = λ x n. in_left h.hashed (bytes ∷ []) x (shows.texts x n) }
 
 pub grows : KeepsHashed
 grows Load h x i = i
@@ -197,10 +198,10 @@ grows (ReadNode at) h x i = walk_grows (node_plan sixteen h.stores.tree.top at) 
 grows (Install entries) h x i = walk_grows (rebuild_plan sixteen entries) h.stores.tree.store h.hashed x i
 grows (Fetch key) h x i = i
 grows (Put key bytes) h x i = after_putting key bytes h (λ t. x ∈ t.hashed) (λ objects. i)
-grows (Hash bytes) h x i = in_left x h.hashed (bytes ∷ []) i
+grows (Hash bytes) h x i = in_left h.hashed (bytes ∷ []) x i
 
 pub hashes : HashesBytes
-hashes bytes h = (refl, in_right bytes h.hashed (bytes ∷ []) (inl refl))
+hashes bytes h = (refl, in_right h.hashed (bytes ∷ []) bytes (inl refl))
 
 pub spares : KeepsStores
 spares Load h = refl

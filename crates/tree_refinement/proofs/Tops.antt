@@ -1,5 +1,6 @@
 -- What each call does to the top records.
 use Rattle.std.proofs.Common.{◌≡◌, ◌⊎◌, ℕ, zero, suc, ◌-◌, ◌<◌, ◌^◌, List, [], ◌∷◌, ◌++◌, Option, Some, length, refl, ap, sym, ◌∙◌, subst, arith, inl, inr}
+use Rattle.ens_base.proofs.Lists.{in_left, in_right}
 use Rattle.std.specs.Prelude.{max, slice_get, take}
 use Rattle.ens_base.specs.declared.entry.Entry.{Entry}
 use Rattle.ens_base.specs.Lists.{◌∈◌}
@@ -12,7 +13,7 @@ use Rattle.step_plans.specs.declared.error.PeerError.TheVariants.{StoreFault}
 use Rattle.synctree.specs.Nodes.{node_plan}
 use Rattle.synctree.specs.Plans.{Plan}
 use Rattle.synctree.specs.Trees.{fresh_plan, get_plan, insert_plan}
-use Rattle.synctree.proofs.Meaning.{in_left, in_right, fresh_stands}
+use Rattle.synctree.proofs.Meaning.{fresh_stands}
 use Rattle.synctree.proofs.Standing.{insert_stands}
 use Rattle.tree_maps.specs.Entries.{put}
 use Rattle.tree_maps.specs.Forms.{root}
@@ -114,8 +115,8 @@ put_named strings h m e digest now new free among shows stands fits few leads =
     }
   where
     known : (x : List ℕ) → (x ∈ leads.strings) ⊎ IsNode sixteen sixteen.depth root m x → x ∈ now
-    known x (inl i) = subst (λ zs. x ∈ zs) (sym leads.grew) (in_right x h.hashed leads.strings i)
-    known x (inr n) = subst (λ zs. x ∈ zs) (sym leads.grew) (in_left x h.hashed leads.strings (shows.texts x n))
+    known x (inl i) = subst (λ zs. x ∈ zs) (sym leads.grew) (in_right h.hashed leads.strings x i)
+    known x (inr n) = subst (λ zs. x ∈ zs) (sym leads.grew) (in_left h.hashed leads.strings x (shows.texts x n))
 
 -- the ends of an entering, from those of its walk
 entered_end : (h : Held) (m : List Entry) (e : Entry) (p : Plan (List ℕ)) (w : Walk (List ℕ)) (end : End (List ℕ)) → ((new : List ℕ) → LeadsTo p h.stores.tree.store h.hashed w.hashed new → IsNamed w.hashed new (put e m)) → Shows (with_tree h.stores.tree.top w h) m
@@ -151,7 +152,7 @@ makes h = built_end h [] (fresh_plan sixteen) (walked (fresh_plan sixteen) h) (w
     named : (new : List ℕ) → LeadsTo (fresh_plan sixteen) h.stores.tree.store h.hashed (walked (fresh_plan sixteen) h).hashed new → IsNamed (walked (fresh_plan sixteen) h).hashed new []
     named new leads = record {
       stands = fresh_stands would sixteen new h.stores.tree.store leads.last leads.strings leads.came;
-      texts = λ x n. subst (λ zs. x ∈ zs) (sym leads.grew) (in_right x h.hashed leads.strings (fresh_nodes would sixteen new h.stores.tree.store leads.last leads.strings leads.came x n));
+      texts = λ x n. subst (λ zs. x ∈ zs) (sym leads.grew) (in_right h.hashed leads.strings x (fresh_nodes would sixteen new h.stores.tree.store leads.last leads.strings leads.came x n));
     }
 
 pub installs : InstallsTops
@@ -160,7 +161,7 @@ installs h m ok = built_end h m (rebuild_plan sixteen m) (walked (rebuild_plan s
     named : (new : List ℕ) → LeadsTo (rebuild_plan sixteen m) h.stores.tree.store h.hashed (walked (rebuild_plan sixteen m) h).hashed new → IsNamed (walked (rebuild_plan sixteen m) h).hashed new m
     named new leads = record {
       stands = rebuild_stands would sixteen sixteen_laws m new h.stores.tree.store leads.last leads.strings ok leads.came;
-      texts = λ x n. subst (λ zs. x ∈ zs) (sym leads.grew) (in_right x h.hashed leads.strings (rebuild_nodes would sixteen sixteen_laws m new h.stores.tree.store leads.last leads.strings leads.came x n));
+      texts = λ x n. subst (λ zs. x ∈ zs) (sym leads.grew) (in_right h.hashed leads.strings x (rebuild_nodes would sixteen sixteen_laws m new h.stores.tree.store leads.last leads.strings leads.came x n));
     }
 
 pub opens : OpensMaps

@@ -1,7 +1,7 @@
 ghost use Rattle.std.specs.Prelude.{◌≡◌, length};
+ghost use Rattle.ens_base.specs.Lists.{is_in};
 ghost use Rattle.ens_base.specs.View.{IsPeer};
 ghost use Rattle.held_stores.specs.Held.{account};
-ghost use Rattle.joint_views.specs.Quorums.{is_in};
 ghost use Rattle.peer_core.specs.declared.event.Event.TheVariants.{Call};
 ghost use Rattle.schedule_text.specs.Spelling.{MayStand};
 ghost use Rattle.world_spec.specs.Lines.{applied, call_of, effect, everyone, set_of, stores_effect};

@@ -1,7 +1,7 @@
 -- The effect of each line of a schedule, and the run of a schedule.
 use Rattle.std.specs.Prelude.{ℕ, ◌-◌, Bool, true, List, [], ◌∷◌, ◌++◌}
+use Rattle.ens_base.specs.Lists.{is_in}
 use Rattle.ens_base.specs.declared.command.Command.{Command}
-use Rattle.joint_views.specs.Quorums.{is_in}
 use Rattle.network.specs.Mail.{lost, goes, oldest, most_messages}
 use Rattle.peer_core.specs.declared.event.CallIn.{CallIn}
 use Rattle.peer_core.specs.declared.event.Event.TheVariants as events

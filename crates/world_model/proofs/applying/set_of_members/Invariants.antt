@@ -1,5 +1,5 @@
-use Rattle.joint_views.specs.Quorums.{is_in}
 use Rattle.phase_rows.proofs.Filled.{IsFilled}
+use Rattle.ens_base.specs.Lists.{is_in}
 use Rattle.world_model.proofs.applying.set_of_members.Given as goal
 
 abbrev pub invariant-loop-number : goal.invariant-loop-number
