@@ -6,3 +6,4 @@ pub mod Joining
 pub mod Descending
 pub mod Walking
 pub mod Unbroken
+pub mod Filling

@@ -1,4 +1,4 @@
-ghost use Rattle.std.specs.Prelude.{◌≡◌, ◌++◌, ◌+◌, ◌≤◌, ◌<◌, ◌*◌, List, ℕ, map, IfOk, IfErr, length};
+ghost use Rattle.std.specs.Prelude.{◌≡◌, ◌≤◌, ◌<◌, map, IfOk, IfErr, length};
 ghost use Rattle.std.specs.Thread.{IsSync};
 ghost use Rattle.synctree.specs.declared.error.TreeError.TheVariants.{Memory};
 ghost use Rattle.tree_verify.specs.Hashers.{digest_if};
@@ -7,11 +7,8 @@ use crate::gate::Gate;
 use ens_base::{Bytes, Digest, Seq};
 use ens_hashing::digest_of;
 use std::alloc::{AllocError, Global};
-use std::thread::{Threads, join};
+use std::thread::{Threads, join_mut};
 use synctree::TreeError;
-
-/// The number of nodes from which on a level is hashed in halves.
-const FEWEST_IN_HALVES: usize = 16;
 
 /// Returns the MD5 of the node, if there is one.
 fn digest_of_node(node: &Option<Bytes>) -> Option<Digest>
@@ -23,62 +20,73 @@ fn digest_of_node(node: &Option<Bytes>) -> Option<Digest>
     }
 }
 
-/// Returns the MD5 of each node that is there, by one thread.
-fn digests_whole(alloc: Global, nodes: &[Option<Bytes>]) -> Result<Vec<Option<Digest>>, AllocError>
-    ensures { IfOk result (λ v. v.items ≡ map digest_if nodes.now) }
+/// Writes the MD5 of each node that is there into its place, by one thread.
+fn hash_whole(nodes: &[Option<Bytes>], found: &mut [Option<Digest>])
+    requires { length found.old ≡ length nodes.now }
+    ensures { found.new ≡ map digest_if nodes.now }
 {
-    let mut all = Vec::with_capacity(alloc, nodes.len())?;
-    for node in nodes {
-        all.push(digest_of_node(node))?;
+    for i in 0..nodes.len() {
+        found[i] = digest_of_node(&nodes[i]);
     }
-    Ok(all)
 }
 
-/// Appends the right digests to the left ones.
-fn joined(
-    mut left: Vec<Option<Digest>>,
-    right: Vec<Option<Digest>>,
-) -> Result<Vec<Option<Digest>>, AllocError>
-    ensures { IfOk result (λ v. v.items ≡ left.items ++ right.items) }
-{
-    left.extend_from_slice(right.as_slice())?;
-    Ok(left)
-}
-
-/// Returns the MD5 of each node that is there, by threads. The halves of part `p` are the parts
-/// `2 * p` and `2 * p + 1`, each a piece of its number less 2. The parts from 8 on are not halved.
-fn halves<R: Threads + Sync, G: Gate + Sync>(
+/// Writes the MD5 of each node that is there into its place, by threads. The halves of part `p` are
+/// the parts `2 * p` and `2 * p + 1`, each a piece of its number less 2. The parts from 8 on are not
+/// halved.
+#[cycle(halves)]
+fn hash_part<R: Threads + Sync, G: Gate + Sync>(
     rt: &R,
-    alloc: Global,
-    nodes: &[Option<Bytes>],
     gate: &G,
     part: u32,
-) -> Result<Vec<Option<Digest>>, AllocError>
+    nodes: &[Option<Bytes>],
+    found: &mut [Option<Digest>],
+)
     requires part { 1 ≤ part × part < 16 }
-    ensures { IfOk result (λ v. v.items ≡ map digest_if nodes.now) }
+    requires places { length found.old ≡ length nodes.now }
+    ensures { found.new ≡ map digest_if nodes.now }
 {
     if part >= 8 {
-        return digests_whole(alloc, nodes);
+        hash_whole(nodes, found);
+        return;
     }
-    let (left, right) = nodes.split_at(nodes.len() / 2);
-    let (a, b) = join(
-        rt,
-        || -> Result<Vec<Option<Digest>>, AllocError>
-            requires { IsSync R.row × IsSync G.row × (1 ≤ part) × (part < 8) }
-            ensures { IfOk result (λ v. v.items ≡ map digest_if left.entry.now) }
-        {
-            gate.enter(2 * part - 2);
-            halves(rt, alloc, left, gate, 2 * part)
-        },
-        || -> Result<Vec<Option<Digest>>, AllocError>
-            requires { IsSync R.row × IsSync G.row × (1 ≤ part) × (part < 8) }
-            ensures { IfOk result (λ v. v.items ≡ map digest_if right.entry.now) }
-        {
-            gate.enter(2 * part - 1);
-            halves(rt, alloc, right, gate, 2 * part + 1)
-        },
-    );
-    joined(a?, b?)
+    let middle = nodes.len() / 2;
+    let (left, right) = nodes.split_at(middle);
+    let (low, high) = found.split_at_mut(middle);
+    hash_halves(rt, gate, part, left, right, low, high);
+}
+
+/// Writes the MD5 of each node that is there into its place, each half by a thread of its own.
+#[cycle(halves)]
+fn hash_halves<R: Threads + Sync, G: Gate + Sync>(
+    rt: &R,
+    gate: &G,
+    part: u32,
+    left: &[Option<Bytes>],
+    right: &[Option<Bytes>],
+    low: &mut [Option<Digest>],
+    high: &mut [Option<Digest>],
+)
+    requires part { 1 ≤ part × part < 8 }
+    requires low { length low.old ≡ length left.now }
+    requires high { length high.old ≡ length right.now }
+    ensures low { low.new ≡ map digest_if left.now }
+    ensures high { high.new ≡ map digest_if right.now }
+{
+    let mut first = ||
+        requires { IsSync R.row × IsSync G.row × (1 ≤ part) × (part < 8) × (length low.now ≡ length left.now) }
+        ensures { low.exit.now ≡ map digest_if left.entry.now }
+    {
+        gate.enter(2 * part - 2);
+        hash_part(rt, gate, 2 * part, left, low)
+    };
+    let mut second = ||
+        requires { IsSync R.row × IsSync G.row × (1 ≤ part) × (part < 8) × (length high.now ≡ length right.now) }
+        ensures { high.exit.now ≡ map digest_if right.entry.now }
+    {
+        gate.enter(2 * part - 1);
+        hash_part(rt, gate, 2 * part + 1, right, high)
+    };
+    join_mut(rt, &mut first, &mut second);
 }
 
 /// Counts the nodes that are there.
@@ -94,8 +102,8 @@ fn count(nodes: &[Option<Bytes>]) -> usize
     count
 }
 
-/// Returns the MD5 of each node that is there, by threads in halves to a depth of 3; with fewer than
-/// 16 nodes, by one thread and without the gate.
+/// Returns the MD5 of each node that is there, by threads in halves to a depth of 3; with fewer nodes
+/// than the gate says, by one thread, and no piece begins.
 pub fn digests<R: Threads + Sync, G: Gate + Sync>(
     rt: &R,
     alloc: Global,
@@ -104,10 +112,13 @@ pub fn digests<R: Threads + Sync, G: Gate + Sync>(
 ) -> Result<Vec<Option<Digest>>, AllocError>
     ensures { IfOk result (λ v. v.items ≡ map digest_if nodes.now) }
 {
-    if count(nodes) < FEWEST_IN_HALVES {
-        return digests_whole(alloc, nodes);
+    let mut found = vec![in alloc; None; nodes.len()]?;
+    if count(nodes) < gate.fewest_in_halves() {
+        hash_whole(nodes, found.as_mut_slice());
+    } else {
+        hash_part(rt, gate, 1, nodes, found.as_mut_slice());
     }
-    halves(rt, alloc, nodes, gate, 1)
+    Ok(found)
 }
 
 /// Returns the MD5 of each node of a level that was read, as [`digests`] does. Fails only when out of

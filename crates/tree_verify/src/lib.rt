@@ -2,9 +2,9 @@
 //!
 //! [`scan`] goes through the tree level by level: it reads the nodes of a level, hashes them by
 //! threads ([`digests`]), and goes on with their children. A [`Gate`] sees each piece of that work
-//! begin. `specs/Levels.antt` has the plan of a scan, `specs/PlainScans.antt` the plain
-//! scan by recursion that finds the same, and `specs/Scans.antt` what it means for the map that
-//! stands under the top record.
+//! begin, and says from how many nodes on threads share a level. `specs/Levels.antt` has the plan of a
+//! scan, `specs/PlainScans.antt` the plain scan by recursion that finds the same, and
+//! `specs/Scans.antt` what it means for the map that stands under the top record.
 #![tactic(auto)]
 
 mod admitting;
