@@ -18,7 +18,7 @@ use Rattle.synctree.proofs.Places.{width_is, depth_is, digit_is}
 use Rattle.synctree.proofs.Puts.{above_is_less as above_less}
 use Rattle.tree_repair.specs.Builds.{place, level_of}
 use Rattle.tree_repair.specs.Levels.{segment_index, segment_slot, with_entry}
-use Rattle.tree_repair.proofs.Lists.{each_from, map_each, filter_push, append_nil}
+use Rattle.tree_repair.proofs.Lists.{each_from, get_map_or, map_each, filter_push, append_nil}
 
 pub count_is : sixteen.width ^ 3 ≡ 4096
 count_is = ap (λ (w : ℕ). w ^ 3) width_is ∙ omega arith
@@ -41,6 +41,10 @@ passes_segment key i l =
 
 pub segment_below : (key : List ℕ) → segment_index key < 4096
 segment_below key = omega (arith, nibble_below (md5 key) 0, nibble_below (md5 key) 1, nibble_below (md5 key) 2)
+
+-- the index that a list of them has at the place of an entry
+pub index_at : (es : List Entry) (ns : List ℕ) (i n : ℕ) (e : Entry) → ns ≡ map (λ x. segment_index x.key) es → i < length es → n ≡ get_or ns i n → e ≡ get_or es i e → n ≡ segment_index e.key
+index_at es ns i n e all l at is = at ∙ ap (λ (ms : List ℕ). get_or ms i n) all ∙ get_map_or (λ x. segment_index x.key) es i e n l is
 
 -- ## One more entry
 

@@ -103,7 +103,7 @@ fn build_level<H: Hasher16, R: Threads + Sync, G: Gate + Sync>(
     ensures admits { AdmitsAll H.kept H.clashes H.fulls (nodes_down sixteen (3 - level) level entries.now) hasher.old result hasher.new }
 {
     if level == LAST_LEVEL {
-        let texts = segment_texts(alloc, entries)?;
+        let texts = segment_texts(rt, alloc, entries)?;
         return keep_level(rt, alloc, hasher, gate, texts, nodes);
     }
     let names = build_level(rt, alloc, hasher, gate, level + 1, entries, nodes)?;
@@ -112,9 +112,9 @@ fn build_level<H: Hasher16, R: Threads + Sync, G: Gate + Sync>(
 }
 
 /// Returns the plain build of a map, given as its entries in ascending order of keys. The nodes of a
-/// level are hashed by threads, in pieces that the gate sees begin. The hasher admits each node, in
-/// the order of the build. Fails only if the hasher rejects a node, or when out of memory, which a
-/// segment of 2^32 entries or more counts as.
+/// level are hashed by threads, in pieces that the gate sees begin; the keys too, without the gate.
+/// The hasher admits each node, in the order of the build. Fails only if the hasher rejects a node, or
+/// when out of memory, which a segment of 2^32 entries or more counts as.
 pub fn build<H: Hasher16, R: Threads + Sync, G: Gate + Sync>(
     rt: &R,
     alloc: Global,

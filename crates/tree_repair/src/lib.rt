@@ -1,9 +1,9 @@
 //! The plain build of a hash tree, and its install.
 //!
 //! [`build`] returns the nodes of the tree of a map, the lowest level first, each with its digest,
-//! and the digest of the root; it hashes the nodes of a level by threads. [`install`] writes the
-//! nodes into the store of a tree, and the top record last; then the map stands under the new top
-//! record. [`rebuild`] builds and installs in one call.
+//! and the digest of the root; it hashes the keys, and the nodes of a level, by threads. [`install`]
+//! writes the nodes into the store of a tree, and the top record last; then the map stands under the
+//! new top record. [`rebuild`] builds and installs in one call.
 //! `specs/Builds.antt` defines the plain build, which knows of no store and of no hasher,
 //! `specs/Admitting.antt` what the hasher did, and `specs/Rebuilds.antt` the plan of a rebuild.
 #![tactic(auto)]

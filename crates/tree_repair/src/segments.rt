@@ -1,4 +1,4 @@
-ghost use Rattle.std.specs.Prelude.{◌≡◌, ◌<◌, ◌^◌, [], length, IfOk, OnOk, set, get_or};
+ghost use Rattle.std.specs.Prelude.{◌≡◌, ◌<◌, ◌^◌, [], length, map, IfOk, OnOk, set, get_or};
 ghost use Rattle.tree_node.specs.Entries.{AreAbove};
 ghost use Rattle.tree_node.specs.Positions.{IsPosition};
 ghost use Rattle.tree_maps.specs.Maps.{each_of};
@@ -10,6 +10,7 @@ ghost use Rattle.tree_repair.specs.Levels.{segment_index, segment_slot, with_ent
 use ens_base::{Bytes, Entry, Key, Seq};
 use ens_hashing::digest_of;
 use std::alloc::{AllocError, Global};
+use std::thread::{Threads, for_each_mut};
 use synctree::encode_segment;
 use tree_node::{Position, Segment};
 
@@ -19,13 +20,44 @@ const LEVEL: u8 = 3;
 /// The number of segments.
 const COUNT: usize = 4096;
 
+/// The number of keys from which on threads share the hashing of keys.
+const FEWEST_SHARED: usize = 1_000;
+
+/// The number of threads that share it.
+const THREADS: usize = 8;
+
 /// Returns the index of the segment of a key: the first 12 bits of its MD5.
 fn segment_of(key: &Key) -> usize
-    ensures index { result ≡ segment_index key.now }
-    ensures below { result < 4096 }
+    ensures { result ≡ segment_index key.now }
 {
     let path = digest_of(key.bytes());
     usize::from(path.0[0]) * 16 + usize::from(path.0[1] / 16)
+}
+
+/// Returns the index of the segment of the key of each entry. Threads share the work; below 1,000
+/// entries one thread does it, since to start threads takes longer than to hash a few hundred keys.
+fn segments_of<R: Threads + Sync>(
+    rt: &R,
+    alloc: Global,
+    entries: &[Entry],
+) -> Result<Vec<usize>, AllocError>
+    ensures { IfOk result (λ v. v.items ≡ map (λ e. segment_index e.key) entries.now) }
+{
+    let threads = if entries.len() < FEWEST_SHARED {
+        1
+    } else {
+        THREADS
+    };
+    let mut indexes = vec![in alloc; 0; entries.len()]?;
+    for_each_mut(
+        rt,
+        indexes.as_mut_slice(),
+        threads,
+        &|i, index| {
+            *index = segment_of(&entries[i].key);
+        },
+    );
+    Ok(indexes)
 }
 
 /// Returns every segment of the tree, without entries.
@@ -53,13 +85,18 @@ fn append(segments: &mut Vec<Segment>, i: usize, entry: Entry) -> Result<(), All
     Ok(())
 }
 
-/// Returns every segment of the tree of these entries.
-fn sort_out(alloc: Global, entries: &[Entry]) -> Result<Vec<Segment>, AllocError>
+/// Returns every segment of the tree of these entries, whose keys are hashed by threads.
+fn sort_out<R: Threads + Sync>(
+    rt: &R,
+    alloc: Global,
+    entries: &[Entry],
+) -> Result<Vec<Segment>, AllocError>
     ensures { IfOk result (λ v. v.items ≡ each_of (λ i. segment (place 3 i) (under sixteen (place 3 i) entries.now)) (sixteen.width ^ 3) 0) }
 {
     let mut segments = empty_segments(alloc)?;
-    for entry in entries {
-        append(&mut segments, segment_of(&entry.key), entry.copy(alloc)?)?;
+    let indexes = segments_of(rt, alloc, entries)?;
+    for i in 0..entries.len() {
+        append(&mut segments, indexes[i], entries[i].copy(alloc)?)?;
     }
     Ok(segments)
 }
@@ -78,14 +115,15 @@ fn segment_text(alloc: Global, segment: &Segment) -> Result<Option<Bytes>, Alloc
 
 /// Returns the bytes of each segment of the tree of these entries, or `None` for a segment without
 /// entries.
-pub(crate) fn segment_texts(
+pub(crate) fn segment_texts<R: Threads + Sync>(
+    rt: &R,
     alloc: Global,
     entries: &[Entry],
 ) -> Result<Vec<Option<Bytes>>, AllocError>
     requires { AreAbove [] entries.now }
     ensures { IfOk result (λ v. v.items ≡ level_of sixteen 3 entries.now) }
 {
-    let segments = sort_out(alloc, entries)?;
+    let segments = sort_out(rt, alloc, entries)?;
     let mut texts = Vec::new(alloc);
     for segment in &segments {
         texts.push(segment_text(alloc, segment)?)?;

@@ -5,10 +5,10 @@ use Rattle.tree_repair.proofs.Buckets.{segments_level, segment_place, segment_ab
 use Rattle.tree_repair.proofs.segments.segment_texts.Goals as goal
 
 pub segment_text-requires-clause-position : goal.segment_text-requires-clause-position
-segment_text-requires-clause-position c = segment_place c.args.entries.now c.deref-segment-items.result.now c.loop-segment.segment-index c.segment-item.result (c.deref-segment-items.ensures.value ∙ c.in_ok-segments.ensures) c.loop-segment-test.true c.segment-item.is
+segment_text-requires-clause-position g c = segment_place c.args.entries.now c.deref-segment-items.result.now c.loop-segment.segment-index c.segment-item.result (c.deref-segment-items.ensures.value ∙ c.in_ok-segments.ensures) c.loop-segment-test.true c.segment-item.is
 
 pub segment_text-requires-clause-ascending : goal.segment_text-requires-clause-ascending
-segment_text-requires-clause-ascending c = segment_above c.args.entries.now c.deref-segment-items.result.now c.loop-segment.segment-index c.segment-item.result (c.deref-segment-items.ensures.value ∙ c.in_ok-segments.ensures) c.loop-segment-test.true c.segment-item.is c.requires
+segment_text-requires-clause-ascending g c = segment_above c.args.entries.now c.deref-segment-items.result.now c.loop-segment.segment-index c.segment-item.result (c.deref-segment-items.ensures.value ∙ c.in_ok-segments.ensures) c.loop-segment-test.true c.segment-item.is c.requires
 
 pub returns : goal.returns
-returns c = c.loop-segment.invariant ∙ ap (map segment_slot) (take_all c.deref-segment-items.result.now c.loop-segment.segment-index c.loop-segment-test.false) ∙ segments_level c.args.entries.now c.deref-segment-items.result.now (c.deref-segment-items.ensures.value ∙ c.in_ok-segments.ensures)
+returns g c = c.loop-segment.invariant ∙ ap (map segment_slot) (take_all c.deref-segment-items.result.now c.loop-segment.segment-index c.loop-segment-test.false) ∙ segments_level c.args.entries.now c.deref-segment-items.result.now (c.deref-segment-items.ensures.value ∙ c.in_ok-segments.ensures)
