@@ -1,6 +1,5 @@
 -- Whatever the stores answer, a step makes only the calls of a step, and leaves ages below their
 -- limits.
-use Rattle.std.specs.Prelude.{◌≢◌}
 use Rattle.std.proofs.Common.{◌≡◌, ◌<◌, ◌+◌, ◌-◌, ◌^◌, ◌∙◌, ◌||◌, nat_le, lit<, sym, ℕ, zero, suc, Bool, true, false, ◌==◌, if◌then◌else◌, List, [], ◌∷◌, ◌++◌, Option, Some, None, refl, arith}
 use Rattle.std.proofs.lemmas.Bool.{true≢false}
 use Rattle.std.proofs.lemmas.Bool.Decides.{nat_tests}
@@ -74,7 +73,7 @@ use Rattle.peer_core.specs.declared.state.Phase.{Phase}
 use Rattle.peer_core.specs.declared.state.Phase.TheVariants as phases
 use Rattle.peer_core.specs.declared.state.State.{State}
 use Rattle.peer_core.proofs.Grammar.{either}
-use Rattle.peer_core.proofs.Kept.{left_young, turned_young, begun_good, phase_row_good, received_good, asked_young}
+use Rattle.peer_core.proofs.Kept.{left_young, turned_young, phase_row_young, received_young, asked_young}
 
 -- the part makes only the calls of a step, and what follows may take any answer; the state is the
 -- same at its end
@@ -198,7 +197,7 @@ ticked_young l x =
     left_tick_young (row_5_calls x.fact l).1.leave (row_5_calls x.fact l).0 x
     (λ e. older_young l.change (second_false (late_put (aged l.leader.table)) (is_late (end_of (older l.change))) (sym tick.timely.leave ∙ e)))
 
-module _ (me : ℕ) (peer : IsPeer me) (P : State → Out → Type 0) where
+module _ (me : ℕ) (P : State → Out → Type 0) where
   abbrev Goes : {A : Type 0} → Rest State A → Type 0
   Goes {A} next = (v : A) (y : State) (o : Out) → IsYoung y.phase → Follows IsStepCall P (next v y o)
 
@@ -288,7 +287,7 @@ module _ (me : ℕ) (peer : IsPeer me) (P : State → Out → Type 0) where
   task_done_passes : (t : Task) → Passes (task_done me t)
   task_done_passes (tasks.Phase n) x out next young go =
       if_follows P (n == 5) _ _ (reminded_passes x.phase young x out next young go)
-      (row_done_passes (phase_row n me x).1 (phase_row n me x).0 out next (phase_row_good me peer n x young).0 go)
+      (row_done_passes (phase_row n me x).1 (phase_row n me x).0 out next (phase_row_young n me x young) go)
   task_done_passes (tasks.Key n key) x out next young go = lead_passes (lead_row n key seens.Nothing) n x.phase young x out next young go
   task_done_passes (tasks.Again n key seen) x out next young go = lead_passes (lead_row n key seen) n x.phase young x out next young go
 
@@ -303,7 +302,7 @@ module _ (me : ℕ) (peer : IsPeer me) (P : State → Out → Type 0) where
   driven_7 : (n : ℕ) (x : State) (out : Out) (next : Rest State (List Task)) → Goes next → Follows IsStepCall P (driven me (suc n) (tasks.Phase 7 ∷ []) x out next)
   unfolding driven
   driven_7 n x out next go =
-      row_done_passes (begun me x).1 (begun me x).0 out (λ more y o. driven me n (more ++ []) y o next) (begun_good me peer x).0
+      row_done_passes (begun me x).1 (begun me x).0 out (λ more y o. driven me n (more ++ []) y o next) (lit< tt)
       (λ more y o fine. driven_passes n (more ++ []) y o next fine go)
 
   -- what follows a row, until no task is left
@@ -350,40 +349,40 @@ module _ (me : ℕ) (peer : IsPeer me) (P : State → Out → Type 0) where
       written_asks P o x out (λ seen y p. row_done me (after_put from ballot row seen) y p next) (λ seen. row_done_passes (after_put from ballot row seen) x out next young go)
   put_done_passes other from ballot o row x out next young go = row_done_passes row x out next young go
 
-  delivered_passes : (from : ℕ) → from ≢ me → (message : Message) → Passes (delivered me from message)
-  delivered_passes from other (messages.Get ballot round key) x out next young go =
+  delivered_passes : (from : ℕ) (message : Message) → Passes (delivered me from message)
+  delivered_passes from (messages.Get ballot round key) x out next young go =
       shown_asks P (is_served x.fact x.trusted ballot) (looked key) (looked_asks P key) x out (λ seen y o. row_done me (row_21 y.fact y.trusted from ballot round key seen) y o next)
       (λ seen. row_done_passes (row_21 x.fact x.trusted from ballot round key seen) x out next young go)
-  delivered_passes from other (messages.Put ballot o) x out next young go =
+  delivered_passes from (messages.Put ballot o) x out next young go =
       shown_asks P (is_served x.fact x.trusted ballot) (found o.key) (found_asks P o.key) x out
       (λ seen y p. put_done (row_22 y.fact y.trusted from ballot o seen).then me from ballot o (row_22 y.fact y.trusted from ballot o seen) y p next)
       (λ seen. put_done_passes (row_22 x.fact x.trusted from ballot o seen).then from ballot o (row_22 x.fact x.trusted from ballot o seen) x out next young go)
-  delivered_passes from other (messages.GetReply ballot round key entry object) x out next young go =
+  delivered_passes from (messages.GetReply ballot round key entry object) x out next young go =
       if_follows P (leads x.phase) _ _
       (confirmed_asks P entry object x out (λ named y o. lead (row_29_reply from ballot round key entry named) me 29 y.phase y o next)
       (λ named. lead_passes (row_29_reply from ballot round key entry named) 29 x.phase young x out next young go))
       (go [] x out young)
-  delivered_passes from other (messages.PutReply ballot key version) x out next young go = lead_passes (row_35_reply from ballot key version) 35 x.phase young x out next young go
-  delivered_passes from other (messages.CheckReply ballot round) x out next young go = lead_passes (row_33_reply from ballot round) 33 x.phase young x out next young go
-  delivered_passes from other (messages.TreeAsk ballot at after) x out next young go =
+  delivered_passes from (messages.PutReply ballot key version) x out next young go = lead_passes (row_35_reply from ballot key version) 35 x.phase young x out next young go
+  delivered_passes from (messages.CheckReply ballot round) x out next young go = lead_passes (row_33_reply from ballot round) 33 x.phase young x out next young go
+  delivered_passes from (messages.TreeAsk ballot at after) x out next young go =
       let q : Question = record { position = at; after = after } in
       shown_node_asks P (is_same ballot x.fact.ballot) q x out (λ body y o. row_done me (row_23 y.fact y.trusted from ballot q.position q.after body) y o next)
       (λ body. row_done_passes (row_23 x.fact x.trusted from ballot at after body) x out next young go)
-  delivered_passes from other (messages.TreeGive ballot at after trusted body) x out next young go =
+  delivered_passes from (messages.TreeGive ballot at after trusted body) x out next young go =
       let give : Give = record { ballot = ballot; question = record { position = at; after = after }; trusted = trusted; body = body } in
       own_node_asks P (needs_node from give x.sync) at x out (λ own y o. taken_give me from give own y.sync y o next)
       (λ own. taken_give_passes from give own x.sync x out next young go)
-  delivered_passes from other message x out next young go =
-      row_done_passes (received me from message x).1 (received me from message x).0 out next (received_good me peer from message x other young).0 go
+  delivered_passes from message x out next young go =
+      row_done_passes (received me from message x).1 (received me from message x).0 out next (received_young me from message x young) go
 
-  pub responded_passes : (event : Event) → MayCome me event → Passes (responded me event)
-  responded_passes (events.Deliver from message) come x out next young go = delivered_passes from come.1 message x out (onward next) young (onward_goes next go)
-  responded_passes events.Tick come x out next young go = ticked_passes x.phase young x out next go
-  responded_passes (events.Call call) come x out next young go =
+  pub responded_passes : (event : Event) → Passes (responded me event)
+  responded_passes (events.Deliver from message) x out next young go = delivered_passes from message x out (onward next) young (onward_goes next go)
+  responded_passes events.Tick x out next young go = ticked_passes x.phase young x out next go
+  responded_passes (events.Call call) x out next young go =
       if_follows P (leads x.phase) _ _
       (lead_passes (row_27 call.from call.id call.key call.command (changes x.phase)) 27 x.phase young x out (onward next) young (onward_goes next go))
       (onward_goes next go [] x _ young)
-  responded_passes (events.Change view) come x out next young go =
+  responded_passes (events.Change view) x out next young go =
       row_done_passes (asked_change view x).1.0 (asked_change view x).0 _ (onward next) (asked_young view x young) (onward_goes next go)
 
   concluded_passes : Passes (concluded me)
@@ -393,5 +392,5 @@ module _ (me : ℕ) (peer : IsPeer me) (P : State → Out → Type 0) where
 pub steps_young : (me : ℕ) (event : Event) (x : State) → IsPeer me → MayCome me event → IsYoung x.phase → Follows IsStepCall (λ y out. IsYoung y.phase) (step_of me event x)
 steps_young me event x peer come young =
     let P : State → Out → Type 0 = λ y out. IsYoung y.phase in
-    responded_passes me peer P event come x nothing (λ u y o. concluded me y o (λ v z q. Done z q)) young
-    (λ u y o fine. concluded_passes me peer P y o (λ v z q. Done z q) fine (λ v z q young. young))
+    responded_passes me P event x nothing (λ u y o. concluded me y o (λ v z q. Done z q)) young
+    (λ u y o fine. concluded_passes me P y o (λ v z q. Done z q) fine (λ v z q young. young))

@@ -1,28 +1,26 @@
 -- Each row leaves the sync that runs, or none: a sync that runs asks other peers alone.
-use Rattle.std.proofs.Common.{◌≡◌, ℕ, Bool, true, false, ◌==◌, List, Option, Some, None}
-use Rattle.ens_base.specs.declared.epoch.Epoch.{Epoch}
+use Rattle.std.proofs.Common.{ℕ, Bool, true, false, ◌==◌, List, Option, Some, None}
 use Rattle.election.specs.Preparing.{row_10}
 use Rattle.election.specs.declared.election.Election.{Election}
 use Rattle.election.specs.declared.election.Election.TheVariants.{Preparing, Starting}
 use Rattle.following.specs.Announcements.{row_16}
 use Rattle.peer_fact.specs.declared.fact.Change.{Change}
 use Rattle.peer_fact.specs.declared.fact.Change.TheVariants.{Add}
-use Rattle.peer_fact.specs.declared.fact.Fact.{Fact}
 use Rattle.view_change.specs.Changes.{row_24}
 use Rattle.wire_frames.specs.declared.message.Message.{Message}
 use Rattle.wire_frames.specs.declared.message.Message.TheVariants as messages
-use Rattle.wire_frames.specs.declared.message.NackCause.{NackCause}
 use Rattle.wire_frames.specs.declared.phase.PhaseOut.{PhaseOut}
 use Rattle.wire_frames.specs.declared.phase.Then.{Then}
 use Rattle.wire_frames.specs.declared.phase.Then.TheVariants as thens
 use Rattle.peer_core.specs.Kept.{IsOwn, SyncsAs}
 use Rattle.peer_core.specs.Moves.{left, turned, stood, waiting_for}
-use Rattle.peer_core.specs.Rows.{runs_sync, aged, aged_election, while_8, while_9, while_10, while_12, while_13, while_14, while_15, while_17, leads, changes, wanting, asked_change, while_25, while_26, phase_row, received}
+use Rattle.peer_core.specs.Rows.{runs_sync, aged, aged_election, leads, changes, wanting, asked_change, phase_row, received}
 use Rattle.peer_core.specs.declared.state.Phase.{Phase}
 use Rattle.peer_core.specs.declared.state.Phase.TheVariants as phases
 use Rattle.peer_core.specs.declared.state.State.{State}
 use Rattle.peer_core.proofs.Going.{left_as, turned_as}
 use Rattle.peer_core.proofs.Grammar.{either}
+use Rattle.peer_core.proofs.Phases.{by_probing, by_electing, by_leading}
 
 module _ (me : ℕ) where
   abbrev Asks : State → Type 0
@@ -71,75 +69,19 @@ module _ (me : ℕ) where
   pub asked_syncs : (view : List ℕ) (x : State) → Asks x → Asks (asked_change view x).0
   asked_syncs view x asks = either Asks (row_24 x.fact (leads x.phase) (changes x.phase) view).1 _ _ (wanting_syncs (Add view) x.phase x asks) asks
 
-  while_8_syncs : (phase : Phase) (from : ℕ) (reply : Fact) (x : State) → Asks x → Asks (while_8 phase me from reply x).0
-  while_8_syncs (phases.Probing p) from reply x asks = asks
-  while_8_syncs (phases.Following f) from reply x asks = asks
-  while_8_syncs (phases.Electing e) from reply x asks = asks
-  while_8_syncs (phases.Leading l) from reply x asks = asks
-
-  while_9_syncs : (phase : Phase) (x : State) → Asks x → Asks (while_9 phase x).0
-  while_9_syncs (phases.Probing p) x asks = asks
-  while_9_syncs (phases.Following f) x asks = asks
-  while_9_syncs (phases.Electing e) x asks = asks
-  while_9_syncs (phases.Leading l) x asks = asks
-
-  while_10_syncs : (phase : Phase) (x : State) → Asks x → Asks (while_10 phase me x).0
-  while_10_syncs (phases.Probing p) x asks = stood_syncs (row_10 x.fact me p.best p.count).1 x asks
-  while_10_syncs (phases.Leading l) x asks = stood_syncs (row_10 x.fact me x.fact x.fact.ballot.count).1 x asks
-  while_10_syncs (phases.Following f) x asks = asks
-  while_10_syncs (phases.Electing e) x asks = asks
-
-  while_12_syncs : (phase : Phase) (from : ℕ) (ballot : Epoch) (promised : Fact) (x : State) → Asks x → Asks (while_12 phase me from ballot promised x).0
-  while_12_syncs (phases.Electing e) from ballot promised x asks = asks
-  while_12_syncs (phases.Following f) from ballot promised x asks = asks
-  while_12_syncs (phases.Probing p) from ballot promised x asks = asks
-  while_12_syncs (phases.Leading l) from ballot promised x asks = asks
-
-  while_13_syncs : (phase : Phase) (x : State) → Asks x → Asks (while_13 phase me x).0
-  while_13_syncs (phases.Electing e) x asks = asks
-  while_13_syncs (phases.Following f) x asks = asks
-  while_13_syncs (phases.Probing p) x asks = asks
-  while_13_syncs (phases.Leading l) x asks = asks
-
-  while_14_syncs : (phase : Phase) (x : State) → Asks x → Asks (while_14 phase me x).0
-  while_14_syncs (phases.Electing e) x asks = asks
-  while_14_syncs (phases.Following f) x asks = asks
-  while_14_syncs (phases.Probing p) x asks = asks
-  while_14_syncs (phases.Leading l) x asks = asks
-
-  while_15_syncs : (phase : Phase) (ballot : Epoch) (cause : NackCause) (x : State) → Asks x → Asks (while_15 phase ballot cause x).0
-  while_15_syncs (phases.Electing e) ballot cause x asks = asks
-  while_15_syncs (phases.Leading l) ballot cause x asks = asks
-  while_15_syncs (phases.Following f) ballot cause x asks = asks
-  while_15_syncs (phases.Probing p) ballot cause x asks = asks
-
-  while_17_syncs : (phase : Phase) (from : ℕ) (ballot : Epoch) (seq : ℕ) (x : State) → Asks x → Asks (while_17 phase from ballot seq x).0
-  while_17_syncs (phases.Electing e) from ballot seq x asks = asks
-  while_17_syncs (phases.Leading l) from ballot seq x asks = asks
-  while_17_syncs (phases.Following f) from ballot seq x asks = asks
-  while_17_syncs (phases.Probing p) from ballot seq x asks = asks
-
-  while_25_syncs : (phase : Phase) (x : State) → Asks x → Asks (while_25 phase me x).0
-  while_25_syncs (phases.Leading l) x asks = asks
-  while_25_syncs (phases.Following f) x asks = asks
-  while_25_syncs (phases.Probing p) x asks = asks
-  while_25_syncs (phases.Electing e) x asks = asks
-
-  while_26_syncs : (phase : Phase) (x : State) → Asks x → Asks (while_26 phase me x).0
-  while_26_syncs (phases.Leading l) x asks = asks
-  while_26_syncs (phases.Following f) x asks = asks
-  while_26_syncs (phases.Probing p) x asks = asks
-  while_26_syncs (phases.Electing e) x asks = asks
+  -- the row leaves a sync that asks other peers alone, or none
+  abbrev AsksStill : State × PhaseOut → Type 0
+  AsksStill row = Asks row.0
 
   pub phase_row_syncs : (n : ℕ) (x : State) → Asks x → Asks (phase_row n me x).0
   phase_row_syncs n x asks =
-      either (λ (r : State × PhaseOut). Asks r.0) (n == 7) _ _ tt
-      (either (λ (r : State × PhaseOut). Asks r.0) (n == 9) _ _ (while_9_syncs x.phase x asks)
-      (either (λ (r : State × PhaseOut). Asks r.0) (n == 10) _ _ (while_10_syncs x.phase x asks)
-      (either (λ (r : State × PhaseOut). Asks r.0) (n == 13) _ _ (while_13_syncs x.phase x asks)
-      (either (λ (r : State × PhaseOut). Asks r.0) (n == 14) _ _ (while_14_syncs x.phase x asks)
-      (either (λ (r : State × PhaseOut). Asks r.0) (n == 25) _ _ (while_25_syncs x.phase x asks)
-      (either (λ (r : State × PhaseOut). Asks r.0) (n == 26) _ _ (while_26_syncs x.phase x asks) asks))))))
+      either AsksStill (n == 7) _ _ tt
+      (either AsksStill (n == 9) _ _ (by_probing AsksStill x.phase (λ p is. asks) asks)
+      (either AsksStill (n == 10) _ _ (by_probing AsksStill x.phase (λ p is. stood_syncs (row_10 x.fact me p.best p.count).1 x asks) (by_leading AsksStill x.phase (λ l is. stood_syncs (row_10 x.fact me x.fact x.fact.ballot.count).1 x asks) asks))
+      (either AsksStill (n == 13) _ _ (by_electing AsksStill x.phase (λ e is. asks) asks)
+      (either AsksStill (n == 14) _ _ (by_electing AsksStill x.phase (λ e is. asks) asks)
+      (either AsksStill (n == 25) _ _ (by_leading AsksStill x.phase (λ l is. asks) asks)
+      (either AsksStill (n == 26) _ _ (by_leading AsksStill x.phase (λ l is. asks) asks) asks))))))
 
   aged_election_syncs : (e : Election) (x : State) → Asks x → Asks (aged_election e me x).0
   aged_election_syncs (Preparing base promises asked age) x asks = asks
@@ -153,12 +95,12 @@ module _ (me : ℕ) where
 
   pub received_syncs : (from : ℕ) (message : Message) (x : State) → Asks x → Asks (received me from message x).0
   received_syncs from messages.Probe x asks = asks
-  received_syncs from (messages.ProbeReply fact) x asks = while_8_syncs x.phase from fact x asks
+  received_syncs from (messages.ProbeReply fact) x asks = by_probing AsksStill x.phase (λ p is. asks) asks
   received_syncs from (messages.Prepare ballot) x asks = asks
-  received_syncs from (messages.Promise ballot fact) x asks = while_12_syncs x.phase from ballot fact x asks
-  received_syncs from (messages.Nack ballot cause) x asks = while_15_syncs x.phase ballot cause x asks
+  received_syncs from (messages.Promise ballot fact) x asks = by_electing AsksStill x.phase (λ e is. asks) asks
+  received_syncs from (messages.Nack ballot cause) x asks = by_electing AsksStill x.phase (λ e is. asks) (by_leading AsksStill x.phase (λ l is. asks) asks)
   received_syncs from (messages.NewEpoch fact) x asks = waiting_syncs (row_16 x.fact me x.trusted (runs_sync x.sync) from fact).then x asks
-  received_syncs from (messages.Accepted ballot seq) x asks = while_17_syncs x.phase from ballot seq x asks
+  received_syncs from (messages.Accepted ballot seq) x asks = by_electing AsksStill x.phase (λ e is. asks) (by_leading AsksStill x.phase (λ l is. asks) asks)
   received_syncs from (messages.Commit fact) x asks = asks
   received_syncs from (messages.Beat ballot) x asks = asks
   received_syncs from (messages.Check ballot round) x asks = asks

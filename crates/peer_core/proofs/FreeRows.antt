@@ -54,9 +54,7 @@ ended_silent (Finishes f) fact me unanswered steady = rw steady refl
 
 while_26_silent : (phase : Phase) (me : ℕ) (x : State) → is_over_in phase x.fact ≡ false → while_26 phase me x ≡ (x, silent thens.Stay)
 while_26_silent (phases.Leading l) me x steady = rw (ended_silent l.change x.fact me (has_calls l.leader.table.calls) steady) refl
-while_26_silent (phases.Following f) me x steady = refl
-while_26_silent (phases.Probing p) me x steady = refl
-while_26_silent (phases.Electing e) me x steady = refl
+while_26_silent other me x steady = refl
 
 module _ (o : Outbox) (phase : Phase) where
   abbrev IsFree : PhaseOut → Type 0

@@ -1,9 +1,11 @@
 -- Why no task is left at the end of a step: each task lowers the number of tasks that can still run.
 use Rattle.std.proofs.Common.{◌≡◌, ◌≤◌, ◌<◌, ◌+◌, ◌*◌, ◌^◌, ◌==◌, ◌&&◌, lit<, lit≤, mul-suc, mul-zero, ap, refl, sym, arith, length, map, ℕ, zero, suc, Bool, true, false, if◌then◌else◌, List, [], ◌∷◌, ◌++◌, Option, Some, None}
+use Rattle.call_table.specs.Calls.{has_calls}
 use Rattle.ens_base.specs.declared.entry.Entry.{Entry}
 use Rattle.ens_base.specs.declared.epoch.Epoch.{Epoch}
 use Rattle.ens_object.specs.declared.object.Object.{Object}
-use Rattle.election.specs.Preparing.{row_10}
+use Rattle.election.specs.Preparing.{row_10, row_13}
+use Rattle.election.specs.Starting.{row_14}
 use Rattle.election.specs.declared.election.Election.{Election}
 use Rattle.election.specs.declared.election.Election.TheVariants.{Preparing, Starting}
 use Rattle.following.specs.Announcements.{row_16}
@@ -19,6 +21,7 @@ use Rattle.leading.specs.Puts.{row_35_reply}
 use Rattle.leading.specs.Rounds.{row_29_reply, row_33_reply}
 use Rattle.leading.specs.Rules.{lead_row}
 use Rattle.leading.specs.Starts.{row_27}
+use Rattle.probe.specs.Probing.{row_9}
 use Rattle.leading.specs.declared.leader.Leader.{Leader}
 use Rattle.leading.specs.declared.pending.Pending.{Pending}
 use Rattle.leading.specs.declared.pending.Pending.TheVariants as pendings
@@ -50,7 +53,6 @@ use Rattle.view_change.specs.Changes.{row_24, row_25}
 use Rattle.view_change.specs.declared.finishing.Finishing.{Finishing}
 use Rattle.wire_frames.specs.declared.message.Message.{Message}
 use Rattle.wire_frames.specs.declared.message.Message.TheVariants as messages
-use Rattle.wire_frames.specs.declared.message.NackCause.{NackCause}
 use Rattle.wire_frames.specs.declared.phase.PhaseOut.{PhaseOut}
 use Rattle.wire_frames.specs.declared.phase.Seen.{Seen}
 use Rattle.wire_frames.specs.declared.phase.Seen.TheVariants as seens
@@ -61,7 +63,7 @@ use Rattle.peer_core.specs.Syncs.{saved, and_sends, with_sync, accepted, accepte
 use Rattle.peer_core.specs.Leading.{older, end_of, row_5_calls, wished, begins}
 use Rattle.peer_core.specs.Moves.{stopped_leading, without_candidacy, left, left_answers, turned, turned_answers, stood, leading, with_leader, and_answers, electing, without_sync, waiting_phase, waiting_for}
 use Rattle.peer_core.specs.Owns.{looked, looked_at, held, fetched, found, written, entered}
-use Rattle.peer_core.specs.Rows.{runs_sync, aged, aged_election, begun, while_8, while_9, while_10, while_12, while_13, while_14, while_15, accepted_by, while_17, leads, changes, wanting, asked_change, finishing, begun_change, while_25, while_26, phase_row, received}
+use Rattle.peer_core.specs.Rows.{runs_sync, aged, aged_election, begun, while_9, prepared, while_10, while_13, while_14, accepted_by, leads, changes, wanting, asked_change, finishing, begun_change, while_25, ended, while_26, phase_row, received}
 use Rattle.peer_core.specs.Turns.{StepsAlone, IsFineAtNone, HasFewCalls}
 use Rattle.peer_core.specs.declared.event.Event.{Event}
 use Rattle.peer_core.specs.declared.event.Event.TheVariants as events
@@ -73,7 +75,8 @@ use Rattle.peer_core.specs.declared.state.Phase.TheVariants as phases
 use Rattle.peer_core.specs.declared.state.State.{State}
 use Rattle.peer_core.proofs.Aging.{if_follows, asked_asks, installed_asks, own_node_asks, shown_node_asks, kept_asks, looked_asks, found_asks, written_asks, confirmed_asks, noted_follows, shown_asks}
 use Rattle.peer_core.proofs.Grammar.{either}
-use Rattle.peer_core.proofs.Names.{NamesOnly, NamesNone, while_9_names, while_10_names, while_13_names, while_14_names, while_25_names, while_26_names}
+use Rattle.peer_core.proofs.Names.{NamesOnly, NamesNone, then_9, then_10, then_13, then_14, then_changed, then_ended}
+use Rattle.peer_core.proofs.Phases.{by_probing, by_electing, by_leading}
 
 -- ## The measure
 
@@ -284,57 +287,9 @@ OwesNoMore x r = owed r.0.phase ≤ owed x.phase
 same_owed : (x : State) → owed x.phase ≤ owed x.phase
 same_owed x = owed_self (owed x.phase)
 
-while_8_owes : (phase : Phase) (me from : ℕ) (reply : Fact) (x : State) → OwesNoMore x (while_8 phase me from reply x)
-while_8_owes (phases.Probing p) me from reply x = owed_none (owed x.phase)
-while_8_owes (phases.Following f) me from reply x = same_owed x
-while_8_owes (phases.Electing e) me from reply x = same_owed x
-while_8_owes (phases.Leading l) me from reply x = same_owed x
-
-while_9_owes : (phase : Phase) (x : State) → OwesNoMore x (while_9 phase x)
-while_9_owes (phases.Probing p) x = owed_none (owed x.phase)
-while_9_owes (phases.Following f) x = same_owed x
-while_9_owes (phases.Electing e) x = same_owed x
-while_9_owes (phases.Leading l) x = same_owed x
-
 stood_owes : (election : Option Election) (x : State) → owed (stood election x).phase ≤ owed x.phase
 stood_owes None x = same_owed x
 stood_owes (Some e) x = owed_none (owed x.phase)
-
-while_10_owes : (phase : Phase) (me : ℕ) (x : State) → OwesNoMore x (while_10 phase me x)
-while_10_owes (phases.Probing p) me x = stood_owes (row_10 x.fact me p.best p.count).1 x
-while_10_owes (phases.Leading l) me x = stood_owes (row_10 x.fact me x.fact x.fact.ballot.count).1 x
-while_10_owes (phases.Following f) me x = same_owed x
-while_10_owes (phases.Electing e) me x = same_owed x
-
-while_12_owes : (phase : Phase) (me from : ℕ) (ballot : Epoch) (promised : Fact) (x : State) → OwesNoMore x (while_12 phase me from ballot promised x)
-while_12_owes (phases.Electing e) me from ballot promised x = owed_none (owed x.phase)
-while_12_owes (phases.Following f) me from ballot promised x = same_owed x
-while_12_owes (phases.Probing p) me from ballot promised x = same_owed x
-while_12_owes (phases.Leading l) me from ballot promised x = same_owed x
-
-while_13_owes : (phase : Phase) (me : ℕ) (x : State) → OwesNoMore x (while_13 phase me x)
-while_13_owes (phases.Electing e) me x = owed_none (owed x.phase)
-while_13_owes (phases.Following f) me x = same_owed x
-while_13_owes (phases.Probing p) me x = same_owed x
-while_13_owes (phases.Leading l) me x = same_owed x
-
-while_14_owes : (phase : Phase) (me : ℕ) (x : State) → OwesNoMore x (while_14 phase me x)
-while_14_owes (phases.Electing e) me x = owed_none (owed x.phase)
-while_14_owes (phases.Following f) me x = same_owed x
-while_14_owes (phases.Probing p) me x = same_owed x
-while_14_owes (phases.Leading l) me x = same_owed x
-
-while_15_owes : (phase : Phase) (ballot : Epoch) (cause : NackCause) (x : State) → OwesNoMore x (while_15 phase ballot cause x)
-while_15_owes (phases.Electing e) ballot cause x = same_owed x
-while_15_owes (phases.Leading l) ballot cause x = same_owed x
-while_15_owes (phases.Following f) ballot cause x = same_owed x
-while_15_owes (phases.Probing p) ballot cause x = same_owed x
-
-while_17_owes : (phase : Phase) (from : ℕ) (ballot : Epoch) (seq : ℕ) (x : State) → owed phase ≤ owed x.phase → OwesNoMore x (while_17 phase from ballot seq x)
-while_17_owes (phases.Electing e) from ballot seq x less = owed_none (owed x.phase)
-while_17_owes (phases.Leading l) from ballot seq x less = either (λ (m : Leader). weight m ≤ owed x.phase) (is_same ballot x.fact.ballot && seq == 1) (accepted_by from l.leader) l.leader less less
-while_17_owes (phases.Following f) from ballot seq x less = same_owed x
-while_17_owes (phases.Probing p) from ballot seq x less = same_owed x
 
 finishing_owes : (f : Option Finishing) (l : Leadership) → weight (finishing f l).leader ≤ weight l.leader
 finishing_owes None l = owed_self (weight l.leader)
@@ -345,36 +300,29 @@ begun_change_owes (Wanted change) l fact me = finishing_owes (row_25 fact me l.l
 begun_change_owes Settled l fact me = owed_self (weight l.leader)
 begun_change_owes (Finishes f) l fact me = owed_self (weight l.leader)
 
-while_25_owes : (phase : Phase) (me : ℕ) (x : State) → owed phase ≤ owed x.phase → OwesNoMore x (while_25 phase me x)
-while_25_owes (phases.Leading l) me x less = let still = begun_change_owes l.change l x.fact me in omega (arith, less, still)
-while_25_owes (phases.Following f) me x less = same_owed x
-while_25_owes (phases.Probing p) me x less = same_owed x
-while_25_owes (phases.Electing e) me x less = same_owed x
-
-while_26_owes : (phase : Phase) (me : ℕ) (x : State) → OwesNoMore x (while_26 phase me x)
-while_26_owes (phases.Leading l) me x = same_owed x
-while_26_owes (phases.Following f) me x = same_owed x
-while_26_owes (phases.Probing p) me x = same_owed x
-while_26_owes (phases.Electing e) me x = same_owed x
+led_less : (l : Leadership) (x : State) → x.phase ≡ phases.Leading l → weight l.leader ≤ owed x.phase
+led_less l x is = rw is (owed_self (weight l.leader))
 
 phase_row_owes : (n me : ℕ) (x : State) → OwesNoMore x (phase_row n me x)
 phase_row_owes n me x =
     either (OwesNoMore x) (n == 7) _ _ (owed_none (owed x.phase))
-    (either (OwesNoMore x) (n == 9) _ _ (while_9_owes x.phase x)
-    (either (OwesNoMore x) (n == 10) _ _ (while_10_owes x.phase me x)
-    (either (OwesNoMore x) (n == 13) _ _ (while_13_owes x.phase me x)
-    (either (OwesNoMore x) (n == 14) _ _ (while_14_owes x.phase me x)
-    (either (OwesNoMore x) (n == 25) _ _ (while_25_owes x.phase me x (same_owed x))
-    (either (OwesNoMore x) (n == 26) _ _ (while_26_owes x.phase me x) (same_owed x)))))))
+    (either (OwesNoMore x) (n == 9) _ _ (by_probing (OwesNoMore x) x.phase (λ p is. owed_none (owed x.phase)) (same_owed x))
+    (either (OwesNoMore x) (n == 10) _ _ (by_probing (OwesNoMore x) x.phase (λ p is. stood_owes (row_10 x.fact me p.best p.count).1 x) (by_leading (OwesNoMore x) x.phase (λ l is. stood_owes (row_10 x.fact me x.fact x.fact.ballot.count).1 x) (same_owed x)))
+    (either (OwesNoMore x) (n == 13) _ _ (by_electing (OwesNoMore x) x.phase (λ e is. owed_none (owed x.phase)) (same_owed x))
+    (either (OwesNoMore x) (n == 14) _ _ (by_electing (OwesNoMore x) x.phase (λ e is. owed_none (owed x.phase)) (same_owed x))
+    (either (OwesNoMore x) (n == 25) _ _ (by_leading (OwesNoMore x) x.phase (λ l is. let still = begun_change_owes l.change l x.fact me in let leads = led_less l x is in omega (arith, leads, still)) (same_owed x))
+    (either (OwesNoMore x) (n == 26) _ _ (by_leading (OwesNoMore x) x.phase (λ l is. same_owed x) (same_owed x)) (same_owed x)))))))
 
 received_owes : (me from : ℕ) (message : Message) (x : State) → OwesNoMore x (received me from message x)
 received_owes me from messages.Probe x = same_owed x
-received_owes me from (messages.ProbeReply fact) x = while_8_owes x.phase me from fact x
+received_owes me from (messages.ProbeReply fact) x = by_probing (OwesNoMore x) x.phase (λ p is. owed_none (owed x.phase)) (same_owed x)
 received_owes me from (messages.Prepare ballot) x = same_owed x
-received_owes me from (messages.Promise ballot fact) x = while_12_owes x.phase me from ballot fact x
-received_owes me from (messages.Nack ballot cause) x = while_15_owes x.phase ballot cause x
+received_owes me from (messages.Promise ballot fact) x = by_electing (OwesNoMore x) x.phase (λ e is. owed_none (owed x.phase)) (same_owed x)
+received_owes me from (messages.Nack ballot cause) x = by_electing (OwesNoMore x) x.phase (λ e is. same_owed x) (by_leading (OwesNoMore x) x.phase (λ l is. same_owed x) (same_owed x))
 received_owes me from (messages.NewEpoch fact) x = waiting_owed (row_16 x.fact me x.trusted (runs_sync x.sync) from fact).then x
-received_owes me from (messages.Accepted ballot seq) x = while_17_owes x.phase from ballot seq x (same_owed x)
+received_owes me from (messages.Accepted ballot seq) x =
+    by_electing (OwesNoMore x) x.phase (λ e is. owed_none (owed x.phase))
+    (by_leading (OwesNoMore x) x.phase (λ l is. either (λ (m : Leader). weight m ≤ owed x.phase) (is_same ballot x.fact.ballot && seq == 1) (accepted_by from l.leader) l.leader (led_less l x is) (led_less l x is)) (same_owed x))
 received_owes me from (messages.Commit fact) x = same_owed x
 received_owes me from (messages.Beat ballot) x = same_owed x
 received_owes me from (messages.Check ballot round) x = same_owed x
@@ -409,16 +357,19 @@ each R false a b p q first second = second
 abbrev NamesFewer : ℕ → State × PhaseOut → Type 0
 NamesFewer k r = then_turns r.1.then < k
 
+prepared_names : (me : ℕ) (best : Fact) (count : ℕ) (x : State) → NamesFewer 3 (prepared me best count x)
+prepared_names me best count x = named_only 13 3 (row_10 x.fact me best count).0.then (then_10 x.fact me best count) (lit< tt)
+
 later_names : (n me : ℕ) (x : State)
     → NamesFewer (if n == 7 then 5 else (if n == 9 then 4 else (if n == 10 then 3 else (if n == 13 then 2 else (if n == 14 then 1 else (if n == 25 then 1 else (if n == 26 then 4 else 1))))))) (phase_row n me x)
 later_names n me x =
     each NamesFewer (n == 7) 5 _ (begun me x) _ (lit< tt)
-    (each NamesFewer (n == 9) 4 _ (while_9 x.phase x) _ (named_only 10 4 (while_9 x.phase x).1.then (while_9_names x.phase x) (lit< tt))
-    (each NamesFewer (n == 10) 3 _ (while_10 x.phase me x) _ (named_only 13 3 (while_10 x.phase me x).1.then (while_10_names x.phase me x) (lit< tt))
-    (each NamesFewer (n == 13) 2 _ (while_13 x.phase me x) _ (named_only 14 2 (while_13 x.phase me x).1.then (while_13_names x.phase me x) (lit< tt))
-    (each NamesFewer (n == 14) 1 _ (while_14 x.phase me x) _ (named_none (while_14 x.phase me x).1.then (while_14_names x.phase me x))
-    (each NamesFewer (n == 25) 1 _ (while_25 x.phase me x) _ (named_none (while_25 x.phase me x).1.then (while_25_names x.phase me x))
-    (each NamesFewer (n == 26) 4 1 (while_26 x.phase me x) _ (named_only 10 4 (while_26 x.phase me x).1.then (while_26_names x.phase me x) (lit< tt)) (lit< tt)))))))
+    (each NamesFewer (n == 9) 4 _ (while_9 x.phase x) _ (by_probing (NamesFewer 4) x.phase (λ p is. named_only 10 4 (row_9 p).1.then (then_9 p) (lit< tt)) (lit< tt))
+    (each NamesFewer (n == 10) 3 _ (while_10 x.phase me x) _ (by_probing (NamesFewer 3) x.phase (λ p is. prepared_names me p.best p.count x) (by_leading (NamesFewer 3) x.phase (λ l is. prepared_names me x.fact x.fact.ballot.count x) (lit< tt)))
+    (each NamesFewer (n == 13) 2 _ (while_13 x.phase me x) _ (by_electing (NamesFewer 2) x.phase (λ e is. named_only 14 2 (row_13 e x.fact me x.trusted).1.then (then_13 e x.fact me x.trusted) (lit< tt)) (lit< tt))
+    (each NamesFewer (n == 14) 1 _ (while_14 x.phase me x) _ (by_electing (NamesFewer 1) x.phase (λ e is. named_none (row_14 e me).1.then (then_14 e me)) (lit< tt))
+    (each NamesFewer (n == 25) 1 _ (while_25 x.phase me x) _ (by_leading (NamesFewer 1) x.phase (λ l is. named_none (begun_change l.change l x.fact me).1.then (then_changed l.change l x.fact me)) (lit< tt))
+    (each NamesFewer (n == 26) 4 1 (while_26 x.phase me x) _ (by_leading (NamesFewer 4) x.phase (λ l is. named_only 10 4 (ended l.change x.fact me (has_calls l.leader.table.calls)).then (then_ended l.change x.fact me (has_calls l.leader.table.calls)) (lit< tt)) (lit< tt)) (lit< tt)))))))
 
 phase_row_names : (n me : ℕ) (x : State) → (n == 5) ≡ false → NamesFewer (phase_turns n) (phase_row n me x)
 phase_row_names n me x e = rw e (later_names n me x)

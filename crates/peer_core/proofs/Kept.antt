@@ -1,8 +1,6 @@
--- What each row keeps to: its messages obey the grammar and go to other peers, and ages stay below
--- their limits.
-use Rattle.std.proofs.Common.{◌≡◌, ◌≢◌, ◌<◌, ◌-◌, ◌^◌, lit<, ℕ, Bool, true, false, not, ◌&&◌, ◌||◌, ◌==◌, List, refl}
+-- Each row keeps ages below their limits.
+use Rattle.std.proofs.Common.{◌≡◌, ◌<◌, ◌-◌, ◌^◌, lit<, ℕ, Bool, true, false, not, ◌&&◌, ◌||◌, ◌==◌, List, refl, subst}
 use Rattle.ens_base.specs.PeerSet.{holds}
-use Rattle.ens_base.specs.View.{IsPeer}
 use Rattle.ens_base.specs.declared.epoch.Epoch.{Epoch}
 use Rattle.election.specs.Preparing.{row_12, row_13, starts, first_fact}
 use Rattle.election.specs.Starting.{row_14, row_17}
@@ -15,35 +13,31 @@ use Rattle.peer_fact.specs.declared.fact.Change.{Change}
 use Rattle.peer_fact.specs.declared.fact.Change.TheVariants.{Add}
 use Rattle.peer_fact.specs.declared.fact.Fact.{Fact}
 use Rattle.phase_rows.specs.Orders.{is_same, is_newer, may_accept}
-use Rattle.phase_rows.specs.Peers.{members}
-use Rattle.phase_rows.specs.Rows.{silent}
 use Rattle.probe.specs.Probing.{row_8}
 use Rattle.probe.specs.declared.probing.Probing.{Probing}
 use Rattle.step_plans.specs.Plans.{asked}
-use Rattle.view_change.specs.Changes.{may_change, row_24}
+use Rattle.view_change.specs.Changes.{row_24}
 use Rattle.view_change.specs.declared.finishing.Finishing.{Finishing}
 use Rattle.wire_frames.specs.declared.message.Message.{Message}
 use Rattle.wire_frames.specs.declared.message.Message.TheVariants as messages
-use Rattle.wire_frames.specs.declared.message.NackCause.{NackCause}
 use Rattle.wire_frames.specs.declared.phase.PhaseOut.{PhaseOut}
 use Rattle.wire_frames.specs.declared.phase.Then.{Then}
 use Rattle.wire_frames.specs.declared.phase.Then.TheVariants as thens
-use Rattle.call_table.specs.Calls.{has_calls}
 use Rattle.peer_core.specs.Ages.{IsYoung, IsYoungChange, IsYoungElection}
 use Rattle.peer_core.specs.Moves.{stopped_leading, without_candidacy, left, turned, waiting_phase, waiting_for}
-use Rattle.peer_core.specs.Rows.{runs_sync, begun, while_8, while_9, prepared, while_10, while_12, while_13, while_14, while_15, change_heard, while_17, leads, changes, wanting, asked_change, begun_change, while_25, ended, while_26, phase_row, received}
+use Rattle.peer_core.specs.Rows.{runs_sync, prepared, change_heard, leads, changes, wanting, asked_change, begun_change, phase_row, received}
 use Rattle.peer_core.specs.declared.state.ChangeState.{ChangeState}
 use Rattle.peer_core.specs.declared.state.ChangeState.TheVariants.{Settled, Wanted, Finishing as Finishes}
 use Rattle.peer_core.specs.declared.state.Leadership.{Leadership}
 use Rattle.peer_core.specs.declared.state.Phase.{Phase}
 use Rattle.peer_core.specs.declared.state.Phase.TheVariants as phases
 use Rattle.peer_core.specs.declared.state.State.{State}
-use Rattle.peer_core.proofs.Grammar.{either, RowObeys, IsElsewhere, MayGo, none_me, alone_me, others_me, row_8_obeys, row_10_obeys, row_11_obeys, row_12_obeys, row_13_obeys, row_14_obeys, row_17_obeys, row_15_obeys, row_16_obeys, row_18_obeys, row_19_obeys, row_20_obeys, row_8_elsewhere, row_10_elsewhere, row_12_elsewhere, row_13_elsewhere, row_14_elsewhere, row_17_elsewhere, row_15_elsewhere, row_11_elsewhere, row_16_elsewhere, row_18_elsewhere, row_19_elsewhere, row_20_elsewhere}
+use Rattle.peer_core.proofs.Grammar.{either}
+use Rattle.peer_core.proofs.Phases.{by_probing, by_electing, by_leading}
 
--- the row leaves a phase with ages below their limits, and its message obeys the grammar and goes
--- to other peers
-abbrev pub IsGoodRow : ℕ → State × PhaseOut → Type 0
-IsGoodRow me r = IsYoung r.0.phase × MayGo me r.1
+-- the row leaves a phase with ages below their limits
+abbrev pub LeavesYoung : State × PhaseOut → Type 0
+LeavesYoung row = IsYoung row.0.phase
 
 -- a change of phase keeps ages below their limits
 stopped_young : (phase : Phase) → IsYoung phase → IsYoung (stopped_leading phase)
@@ -139,16 +133,6 @@ begun_change_young Settled l fact me young = young
 begun_change_young (Wanted change) l fact me young = lit< tt
 begun_change_young (Finishes f) l fact me young = young
 
-pub begun_change_obeys : (change : ChangeState) (l : Leadership) (fact : Fact) (me : ℕ) → RowObeys (begun_change change l fact me).1
-begun_change_obeys Settled l fact me = tt
-begun_change_obeys (Wanted change) l fact me = tt
-begun_change_obeys (Finishes f) l fact me = tt
-
-pub ended_obeys : (change : ChangeState) (fact : Fact) (me : ℕ) (unanswered : Bool) → RowObeys (ended change fact me unanswered)
-ended_obeys Settled fact me unanswered = tt
-ended_obeys (Wanted change) fact me unanswered = tt
-ended_obeys (Finishes f) fact me unanswered = tt
-
 wanting_young : (change : Change) (phase : Phase) (x : State) → IsYoung x.phase → IsYoung (wanting change phase x).phase
 wanting_young change (phases.Leading l) x young = tt
 wanting_young change (phases.Following f) x young = young
@@ -158,113 +142,22 @@ wanting_young change (phases.Electing e) x young = young
 pub asked_young : (view : List ℕ) (x : State) → IsYoung x.phase → IsYoung (asked_change view x).0.phase
 asked_young view x young = either (λ (y : State). IsYoung y.phase) (row_24 x.fact (leads x.phase) (changes x.phase) view).1 _ _ (wanting_young (Add view) x.phase x young) young
 
--- the rows of the rules are good
-module _ (me : ℕ) (peer : IsPeer me) where
-  -- nothing is sent
-  pub quiet : MayGo me (silent thens.Stay)
-  quiet = (tt, none_me me peer)
+pub phase_row_young : (n me : ℕ) (x : State) → IsYoung x.phase → LeavesYoung (phase_row n me x)
+phase_row_young n me x young =
+    either LeavesYoung (n == 7) _ _ (lit< tt)
+    (either LeavesYoung (n == 9) _ _ (by_probing LeavesYoung x.phase (λ p is. subst IsYoung is young) young)
+    (either LeavesYoung (n == 10) _ _ (by_probing LeavesYoung x.phase (λ p is. prepared_young me p.best p.count x young) (by_leading LeavesYoung x.phase (λ l is. prepared_young me x.fact x.fact.ballot.count x young) young))
+    (either LeavesYoung (n == 13) _ _ (by_electing LeavesYoung x.phase (λ e is. row_13_young e x.fact me x.trusted (subst IsYoung is young)) young)
+    (either LeavesYoung (n == 14) _ _ (by_electing LeavesYoung x.phase (λ e is. row_14_young e me (subst IsYoung is young)) young)
+    (either LeavesYoung (n == 25) _ _ (by_leading LeavesYoung x.phase (λ l is. begun_change_young l.change l x.fact me (subst IsYoung is young)) young)
+    (either LeavesYoung (n == 26) _ _ (by_leading LeavesYoung x.phase (λ l is. young) young) young))))))
 
-  pub changed_elsewhere : (change : ChangeState) (l : Leadership) (fact : Fact) → IsElsewhere me (begun_change change l fact me).1
-  changed_elsewhere Settled l fact = none_me me peer
-  changed_elsewhere (Wanted change) l fact = others_me me l.leader.accepts peer
-  changed_elsewhere (Finishes f) l fact = none_me me peer
-
-  pub ended_elsewhere : (change : ChangeState) (fact : Fact) (unanswered : Bool) → IsElsewhere me (ended change fact me unanswered)
-  ended_elsewhere Settled fact unanswered = none_me me peer
-  ended_elsewhere (Wanted change) fact unanswered = none_me me peer
-  ended_elsewhere (Finishes f) fact unanswered = none_me me peer
-
-  pub begun_good : (x : State) → IsGoodRow me (begun me x)
-  begun_good x = (lit< tt, (tt, others_me me (members x.fact.views) peer))
-
-  while_8_good : (phase : Phase) (from : ℕ) (reply : Fact) (x : State) → IsYoung phase → IsYoung x.phase → IsGoodRow me (while_8 phase me from reply x)
-  while_8_good (phases.Probing p) from reply x is young = (row_8_age p me from reply is, (row_8_obeys p me from reply, row_8_elsewhere me peer p from reply))
-  while_8_good (phases.Following f) from reply x is young = (young, quiet)
-  while_8_good (phases.Electing e) from reply x is young = (young, quiet)
-  while_8_good (phases.Leading l) from reply x is young = (young, quiet)
-
-  while_9_good : (phase : Phase) (x : State) → IsYoung phase → IsYoung x.phase → IsGoodRow me (while_9 phase x)
-  while_9_good (phases.Probing p) x is young = (is, (tt, none_me me peer))
-  while_9_good (phases.Following f) x is young = (young, quiet)
-  while_9_good (phases.Electing e) x is young = (young, quiet)
-  while_9_good (phases.Leading l) x is young = (young, quiet)
-
-  prepared_good : (best : Fact) (count : ℕ) (x : State) → IsYoung x.phase → IsGoodRow me (prepared me best count x)
-  prepared_good best count x young = (prepared_young me best count x young, (row_10_obeys x.fact me best count, row_10_elsewhere me peer x.fact best count))
-
-  while_10_good : (phase : Phase) (x : State) → IsYoung x.phase → IsGoodRow me (while_10 phase me x)
-  while_10_good (phases.Probing p) x young = prepared_good p.best p.count x young
-  while_10_good (phases.Leading l) x young = prepared_good x.fact x.fact.ballot.count x young
-  while_10_good (phases.Following f) x young = (young, quiet)
-  while_10_good (phases.Electing e) x young = (young, quiet)
-
-  while_12_good : (phase : Phase) (from : ℕ) (ballot : Epoch) (promised : Fact) (x : State) → IsYoung phase → IsYoung x.phase → IsGoodRow me (while_12 phase me from ballot promised x)
-  while_12_good (phases.Electing e) from ballot promised x is young =
-      (row_12_young e x.fact me from ballot promised is, (row_12_obeys e x.fact me from ballot promised, row_12_elsewhere me peer e x.fact from ballot promised))
-  while_12_good (phases.Following f) from ballot promised x is young = (young, quiet)
-  while_12_good (phases.Probing p) from ballot promised x is young = (young, quiet)
-  while_12_good (phases.Leading l) from ballot promised x is young = (young, quiet)
-
-  while_13_good : (phase : Phase) (x : State) → IsYoung phase → IsYoung x.phase → IsGoodRow me (while_13 phase me x)
-  while_13_good (phases.Electing e) x is young = (row_13_young e x.fact me x.trusted is, (row_13_obeys e x.fact me x.trusted, row_13_elsewhere me peer e x.fact x.trusted))
-  while_13_good (phases.Following f) x is young = (young, quiet)
-  while_13_good (phases.Probing p) x is young = (young, quiet)
-  while_13_good (phases.Leading l) x is young = (young, quiet)
-
-  while_14_good : (phase : Phase) (x : State) → IsYoung phase → IsYoung x.phase → IsGoodRow me (while_14 phase me x)
-  while_14_good (phases.Electing e) x is young = (row_14_young e me is, (row_14_obeys e me, row_14_elsewhere me peer e))
-  while_14_good (phases.Following f) x is young = (young, quiet)
-  while_14_good (phases.Probing p) x is young = (young, quiet)
-  while_14_good (phases.Leading l) x is young = (young, quiet)
-
-  while_15_good : (phase : Phase) (ballot : Epoch) (cause : NackCause) (x : State) → IsYoung x.phase → IsGoodRow me (while_15 phase ballot cause x)
-  while_15_good (phases.Electing e) ballot cause x young = (young, (row_15_obeys x.fact ballot cause, row_15_elsewhere me peer x.fact ballot cause))
-  while_15_good (phases.Leading l) ballot cause x young = (young, (row_15_obeys x.fact ballot cause, row_15_elsewhere me peer x.fact ballot cause))
-  while_15_good (phases.Following f) ballot cause x young = (young, quiet)
-  while_15_good (phases.Probing p) ballot cause x young = (young, quiet)
-
-  while_17_good : (phase : Phase) (from : ℕ) (ballot : Epoch) (seq : ℕ) (x : State) → IsYoung phase → IsYoung x.phase → IsGoodRow me (while_17 phase from ballot seq x)
-  while_17_good (phases.Electing e) from ballot seq x is young = (row_17_young e x.fact from ballot seq is, (row_17_obeys e x.fact from ballot seq, row_17_elsewhere me peer e x.fact from ballot seq))
-  while_17_good (phases.Leading l) from ballot seq x is young = (heard_young l.change x.fact from ballot seq is, quiet)
-  while_17_good (phases.Following f) from ballot seq x is young = (young, quiet)
-  while_17_good (phases.Probing p) from ballot seq x is young = (young, quiet)
-
-  while_25_good : (phase : Phase) (x : State) → IsYoung phase → IsYoung x.phase → IsGoodRow me (while_25 phase me x)
-  while_25_good (phases.Leading l) x is young = (begun_change_young l.change l x.fact me is, (begun_change_obeys l.change l x.fact me, changed_elsewhere l.change l x.fact))
-  while_25_good (phases.Following f) x is young = (young, quiet)
-  while_25_good (phases.Probing p) x is young = (young, quiet)
-  while_25_good (phases.Electing e) x is young = (young, quiet)
-
-  while_26_good : (phase : Phase) (x : State) → IsYoung x.phase → IsGoodRow me (while_26 phase me x)
-  while_26_good (phases.Leading l) x young = (young, (ended_obeys l.change x.fact me (has_calls l.leader.table.calls), ended_elsewhere l.change x.fact (has_calls l.leader.table.calls)))
-  while_26_good (phases.Following f) x young = (young, quiet)
-  while_26_good (phases.Probing p) x young = (young, quiet)
-  while_26_good (phases.Electing e) x young = (young, quiet)
-
-  pub phase_row_good : (n : ℕ) (x : State) → IsYoung x.phase → IsGoodRow me (phase_row n me x)
-  phase_row_good n x young =
-      either (IsGoodRow me) (n == 7) _ _ (begun_good x)
-      (either (IsGoodRow me) (n == 9) _ _ (while_9_good x.phase x young young)
-      (either (IsGoodRow me) (n == 10) _ _ (while_10_good x.phase x young)
-      (either (IsGoodRow me) (n == 13) _ _ (while_13_good x.phase x young young)
-      (either (IsGoodRow me) (n == 14) _ _ (while_14_good x.phase x young young)
-      (either (IsGoodRow me) (n == 25) _ _ (while_25_good x.phase x young young)
-      (either (IsGoodRow me) (n == 26) _ _ (while_26_good x.phase x young) (young, quiet)))))))
-
-  pub received_good : (from : ℕ) (message : Message) (x : State) → from ≢ me → IsYoung x.phase → IsGoodRow me (received me from message x)
-  received_good from messages.Probe x other young = (young, (tt, alone_me me from peer other))
-  received_good from (messages.ProbeReply fact) x other young = while_8_good x.phase from fact x young young
-  received_good from (messages.Prepare ballot) x other young = (young, (row_11_obeys x.fact from ballot, row_11_elsewhere me peer from other x.fact ballot))
-  received_good from (messages.Promise ballot fact) x other young = while_12_good x.phase from ballot fact x young young
-  received_good from (messages.Nack ballot cause) x other young = while_15_good x.phase ballot cause x young
-  received_good from (messages.NewEpoch fact) x other young =
-      let runs = runs_sync x.sync in
-      (waiting_young (row_16 x.fact me x.trusted runs from fact).then x young, (row_16_obeys x.fact me x.trusted runs from fact, row_16_elsewhere me peer from other x.fact x.trusted runs fact))
-  received_good from (messages.Accepted ballot seq) x other young = while_17_good x.phase from ballot seq x young young
-  received_good from (messages.Commit fact) x other young = (young, (row_18_obeys x.fact x.trusted from fact, row_18_elsewhere me peer from other x.fact x.trusted fact))
-  received_good from (messages.Beat ballot) x other young = (young, (row_19_obeys x.fact x.trusted from ballot, row_19_elsewhere me peer from other x.fact x.trusted ballot))
-  received_good from (messages.Check ballot round) x other young = (young, (row_20_obeys x.fact from ballot round, row_20_elsewhere me peer from other x.fact ballot round))
-  received_good from other_message x other young = (young, quiet)
-
-  pub asked_may : (view : List ℕ) (x : State) → MayGo me (asked_change view x).1.0
-  asked_may view x = either (λ (r : PhaseOut × Bool). MayGo me r.0) (may_change x.fact (leads x.phase) (changes x.phase) view) _ _ (tt, none_me me peer) (tt, none_me me peer)
+pub received_young : (me from : ℕ) (message : Message) (x : State) → IsYoung x.phase → LeavesYoung (received me from message x)
+received_young me from (messages.ProbeReply fact) x young = by_probing LeavesYoung x.phase (λ p is. row_8_age p me from fact (subst IsYoung is young)) young
+received_young me from (messages.Promise ballot fact) x young = by_electing LeavesYoung x.phase (λ e is. row_12_young e x.fact me from ballot fact (subst IsYoung is young)) young
+received_young me from (messages.Nack ballot cause) x young = by_electing LeavesYoung x.phase (λ e is. young) (by_leading LeavesYoung x.phase (λ l is. young) young)
+received_young me from (messages.NewEpoch fact) x young = waiting_young (row_16 x.fact me x.trusted (runs_sync x.sync) from fact).then x young
+received_young me from (messages.Accepted ballot seq) x young =
+    by_electing LeavesYoung x.phase (λ e is. row_17_young e x.fact from ballot seq (subst IsYoung is young))
+    (by_leading LeavesYoung x.phase (λ l is. heard_young l.change x.fact from ballot seq (subst IsYoung is young)) young)
+received_young me from other x young = young

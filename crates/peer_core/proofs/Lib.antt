@@ -1,5 +1,6 @@
 pub mod Parts
 pub mod Grammar
+pub mod Phases
 pub mod Kept
 pub mod Replies
 pub mod Going

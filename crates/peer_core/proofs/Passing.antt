@@ -41,7 +41,6 @@ use Rattle.sync_rule.specs.Syncs.{needs_build, outcome_of}
 use Rattle.sync_rule.specs.declared.sync.Outcome.{Outcome}
 use Rattle.sync_rule.specs.declared.sync.Outcome.TheVariants.{Pending, Trusted}
 use Rattle.tree_node.specs.Positions.{IsPosition}
-use Rattle.tree_node.specs.declared.body.TreeBody.{TreeBody}
 use Rattle.tree_node.specs.declared.position.Position.{Position}
 use Rattle.wire_frames.specs.Messages.{Obeys}
 use Rattle.register_model.specs.declared.note.Note.{Note}
@@ -78,10 +77,9 @@ use Rattle.peer_core.specs.declared.state.Phase.TheVariants as phases
 use Rattle.peer_core.specs.declared.state.State.{State}
 use Rattle.peer_core.proofs.Ends.{same_end}
 use Rattle.peer_core.proofs.Asking.{left_own, turned_own, asked_syncs, phase_row_syncs, aged_syncs, received_syncs}
-use Rattle.peer_core.proofs.Going.{asked_as, phase_row_goes, aged_goes, received_goes}
+use Rattle.peer_core.proofs.Going.{asked_as, asked_may, phase_row_goes, aged_goes, received_goes}
 use Rattle.peer_core.proofs.Grammar.{MayGo, posted_to_may, and_sends_may}
 use Rattle.peer_core.proofs.Gives.{body_obeys}
-use Rattle.peer_core.proofs.Kept.{asked_may}
 use Rattle.peer_core.proofs.Replies.{IsSeenInTree, IsShown, row_21_may, row_22_may, row_23_may, after_put_may}
 
 -- what a row of a leader keeps to: it sends as the same peer, and its messages may be sent

@@ -42,7 +42,8 @@ use Rattle.peer_core.specs.declared.state.Phase.{Phase}
 use Rattle.peer_core.specs.declared.state.Phase.TheVariants as phases
 use Rattle.peer_core.specs.declared.state.State.{State}
 use Rattle.peer_core.proofs.Aging.{asked_asks, installed_asks, responded_passes, most_is_some}
-use Rattle.peer_core.proofs.Names.{NamesOnly, NamesNone, while_13_names, while_14_names}
+use Rattle.peer_core.proofs.Names.{NamesOnly, NamesNone, then_13, then_14}
+use Rattle.peer_core.proofs.Phases.{by_electing}
 
 -- no change has begun
 abbrev pub IsSettled : ChangeState → Type 0
@@ -96,19 +97,6 @@ turned_none me thens.Put x none = none
 turned_none me thens.Resume x none = none
 turned_none me (thens.SyncOn fact) x none = none
 turned_none me (thens.Rule n) x none = none
-
--- the rows of rules 13 and 14 begin no change
-while_13_none : (phase : Phase) (me : ℕ) (x : State) → HasBegunNone x.phase → HasBegunNone (while_13 phase me x).0.phase
-while_13_none (phases.Electing e) me x none = tt
-while_13_none (phases.Following f) me x none = none
-while_13_none (phases.Probing p) me x none = none
-while_13_none (phases.Leading l) me x none = none
-
-while_14_none : (phase : Phase) (me : ℕ) (x : State) → HasBegunNone x.phase → HasBegunNone (while_14 phase me x).0.phase
-while_14_none (phases.Electing e) me x none = tt
-while_14_none (phases.Following f) me x none = none
-while_14_none (phases.Probing p) me x none = none
-while_14_none (phases.Leading l) me x none = none
 
 module _ (me : ℕ) (P : State → Out → Type 0) where
   -- from each state in which no change has begun, the end is reached
@@ -201,17 +189,17 @@ module _ (me : ℕ) (P : State → Out → Type 0) where
   unfolding driven
   settles_14 zero x out next none go = go _ x out none
   settles_14 (suc n) x out next none go =
-      row_done_settles (while_14 x.phase me x).1 (while_14 x.phase me x).0 out (λ ts y o. driven me n (ts ++ []) y o next) (while_14_none x.phase me x none)
+      row_done_settles (while_14 x.phase me x).1 (while_14 x.phase me x).0 out (λ ts y o. driven me n (ts ++ []) y o next) (by_electing (λ r. HasBegunNone r.0.phase) x.phase (λ e is. tt) none)
       (λ y o still. nothing_settles n y o next still go) (λ y o still. settles_14 n y o next still go)
-      (λ y o still. none_settles n (while_14 x.phase me x).1.then (while_14_names x.phase me x) y o next still go)
+      (λ y o still. none_settles n (while_14 x.phase me x).1.then (by_electing (λ r. NamesNone r.1.then) x.phase (λ e is. then_14 e me) tt) y o next still go)
 
   settles_13 : (n : ℕ) → Settles (driven me n (tasks.Phase 13 ∷ []))
   unfolding driven
   settles_13 zero x out next none go = go _ x out none
   settles_13 (suc n) x out next none go =
-      row_done_settles (while_13 x.phase me x).1 (while_13 x.phase me x).0 out (λ ts y o. driven me n (ts ++ []) y o next) (while_13_none x.phase me x none)
+      row_done_settles (while_13 x.phase me x).1 (while_13 x.phase me x).0 out (λ ts y o. driven me n (ts ++ []) y o next) (by_electing (λ r. HasBegunNone r.0.phase) x.phase (λ e is. tt) none)
       (λ y o still. nothing_settles n y o next still go) (λ y o still. settles_14 n y o next still go)
-      (λ y o still. only_settles n 14 (while_13 x.phase me x).1.then (while_13_names x.phase me x) (settles_14 n) y o next still go)
+      (λ y o still. only_settles n 14 (while_13 x.phase me x).1.then (by_electing (λ r. NamesOnly 14 r.1.then) x.phase (λ e is. then_13 e x.fact me x.trusted) tt) (settles_14 n) y o next still go)
 
   -- what comes next reaches the end from each steady state
   abbrev GoesOn : Rest State (Unit {0}) → Type 0
@@ -270,9 +258,7 @@ module _ (me : ℕ) (P : State → Out → Type 0) where
   while_26_settles : (phase : Phase) (x : State) (out : Out) (next : Rest State (Unit {0})) → x.phase ≡ phase → GoesOn next
       → Follows IsStepCall P (row_done me (while_26 phase me x).1 (while_26 phase me x).0 out (onward next))
   while_26_settles (phases.Leading l) x out next is go = ended_settles l l.change x out next is refl go
-  while_26_settles (phases.Following f) x out next is go = no_task most_turns _ _ (λ rest z q. next tt z q) (go x _ (let Q : Phase → Type 0 = λ phase. is_over_in phase x.fact ≡ false in subst Q (sym is) refl))
-  while_26_settles (phases.Probing p) x out next is go = no_task most_turns _ _ (λ rest z q. next tt z q) (go x _ (let Q : Phase → Type 0 = λ phase. is_over_in phase x.fact ≡ false in subst Q (sym is) refl))
-  while_26_settles (phases.Electing e) x out next is go = no_task most_turns _ _ (λ rest z q. next tt z q) (go x _ (let Q : Phase → Type 0 = λ phase. is_over_in phase x.fact ≡ false in subst Q (sym is) refl))
+  while_26_settles other x out next is go = no_task most_turns _ _ (λ rest z q. next tt z q) (go x _ (let Q : Phase → Type 0 = λ phase. is_over_in phase x.fact ≡ false in subst Q (sym is) refl))
 
   -- the end of a step reaches a steady state
   pub concluded_settles : (x : State) (out : Out) (next : Rest State (Unit {0})) → GoesOn next → Follows IsStepCall P (concluded me x out next)
@@ -282,5 +268,5 @@ module _ (me : ℕ) (P : State → Out → Type 0) where
 pub steps_steady : (me : ℕ) (event : Event) (x : State) → IsPeer me → MayCome me event → IsYoung x.phase → Follows IsStepCall (λ y o. IsSteady y) (step_of me event x)
 steps_steady me event x peer come young =
     let P : State → Out → Type 0 = λ y o. IsSteady y in
-    responded_passes me peer P event come x nothing (λ u y o. concluded me y o (λ v z q. Done z q)) young
+    responded_passes me P event x nothing (λ u y o. concluded me y o (λ v z q. Done z q)) young
     (λ u y o good. concluded_settles me P y o (λ v z q. Done z q) (λ z q steady. steady))

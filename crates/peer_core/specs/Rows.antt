@@ -20,6 +20,7 @@ use Rattle.phase_rows.specs.Peers.{joined}
 use Rattle.phase_rows.specs.Rows.{silent}
 use Rattle.running_sync.specs.Running.{Running}
 use Rattle.probe.specs.Probing.{row_3 as probing_row_3, row_7, row_8, row_8_probe, row_9}
+use Rattle.probe.specs.declared.probing.Probing.{Probing}
 use Rattle.view_change.specs.Changes.{row_24, row_25}
 use Rattle.view_change.specs.Finishing.{row_17 as finishing_row_17, row_26}
 use Rattle.view_change.specs.declared.finishing.Finishing.{Finishing}
@@ -41,6 +42,25 @@ use Rattle.peer_core.specs.declared.state.State.{State}
 abbrev pub calm : State → State × PhaseOut
 calm x = (x, silent thens.Stay)
 
+-- a row of one phase as a row of the peer; `into` puts what the phase holds into its state
+abbrev pub lifted : {A : Type 0} → (A → State → State) → A × PhaseOut → State → State × PhaseOut
+lifted into row x = (into row.0 x, row.1)
+
+-- this row while the peer probes, and the other one in any other phase
+abbrev pub while_probing : (Probing → State × PhaseOut) → Phase → State × PhaseOut → State × PhaseOut
+while_probing row (phases.Probing p) other = row p
+while_probing row phase other = other
+
+-- this row while the peer prepares a ballot or starts an epoch, and the other one in any other phase
+abbrev pub while_electing : (Election → State × PhaseOut) → Phase → State × PhaseOut → State × PhaseOut
+while_electing row (phases.Electing e) other = row e
+while_electing row phase other = other
+
+-- this row while the peer leads, and the other one in any other phase
+abbrev pub while_leading : (Leadership → State × PhaseOut) → Phase → State × PhaseOut → State × PhaseOut
+while_leading row (phases.Leading l) other = row l
+while_leading row phase other = other
+
 -- whether a sync runs
 abbrev pub runs_sync : Option Running → Bool
 runs_sync None = false
@@ -48,14 +68,13 @@ runs_sync (Some r) = true
 
 -- rules 3 and 4, a tick while preparing or starting
 abbrev pub aged_election : Election → ℕ → State → State × PhaseOut
-aged_election (Preparing base promises asked age) me x = (electing (row_3 (Preparing base promises asked age)).0 x, (row_3 (Preparing base promises asked age)).1)
-aged_election (Starting new accepts age) me x =
-    (electing (row_4 (Starting new accepts age) me (runs_sync x.sync)).0 x, (row_4 (Starting new accepts age) me (runs_sync x.sync)).1)
+aged_election (Preparing base promises asked age) me x = lifted electing (row_3 (Preparing base promises asked age)) x
+aged_election (Starting new accepts age) me x = lifted electing (row_4 (Starting new accepts age) me (runs_sync x.sync)) x
 
 -- rules 2 to 4, a tick of a peer that does not lead
 abbrev pub aged : Phase → ℕ → State → State × PhaseOut
-aged (phases.Following f) me x = (following (row_2 f x.fact me).0 x, (row_2 f x.fact me).1)
-aged (phases.Probing p) me x = (probing (probing_row_3 p).0 x, (probing_row_3 p).1)
+aged (phases.Following f) me x = lifted following (row_2 f x.fact me) x
+aged (phases.Probing p) me x = lifted probing (probing_row_3 p) x
 aged (phases.Electing e) me x = aged_election e me x
 aged (phases.Leading l) me x = calm x
 
@@ -65,13 +84,11 @@ begun me x = (sought (row_7 x.fact me).1 x, (row_7 x.fact me).0)
 
 -- rule 8: a reply to a probe
 abbrev pub while_8 : Phase → ℕ → ℕ → Fact → State → State × PhaseOut
-while_8 (phases.Probing p) me from reply x = (probing (row_8 p me from reply).0 x, (row_8 p me from reply).1)
-while_8 other me from reply x = calm x
+while_8 phase me from reply x = while_probing (λ p. lifted probing (row_8 p me from reply) x) phase (calm x)
 
 -- rule 9: a probing peer asks for a ballot once it heard enough peers
 abbrev pub while_9 : Phase → State → State × PhaseOut
-while_9 (phases.Probing p) x = (probing (row_9 p).0 x, (row_9 p).1)
-while_9 other x = calm x
+while_9 phase x = while_probing (λ p. lifted probing (row_9 p) x) phase (calm x)
 
 -- rule 10: prepare the ballot after this count, with this fact as the base so far
 abbrev pub prepared : ℕ → Fact → ℕ → State → State × PhaseOut
@@ -79,30 +96,23 @@ prepared me best count x = (stood (row_10 x.fact me best count).1 x, (row_10 x.f
 
 -- rule 10, from what the peer found while probing, or from its own fact at the end of its epoch
 abbrev pub while_10 : Phase → ℕ → State → State × PhaseOut
-while_10 (phases.Probing p) me x = prepared me p.best p.count x
-while_10 (phases.Leading l) me x = prepared me x.fact x.fact.ballot.count x
-while_10 other me x = calm x
+while_10 phase me x = while_probing (λ p. prepared me p.best p.count x) phase (while_leading (λ l. prepared me x.fact x.fact.ballot.count x) phase (calm x))
 
 -- rule 12: a promise
 abbrev pub while_12 : Phase → ℕ → ℕ → Epoch → Fact → State → State × PhaseOut
-while_12 (phases.Electing e) me from ballot promised x = (electing (row_12 e x.fact me from ballot promised).0 x, (row_12 e x.fact me from ballot promised).1)
-while_12 other me from ballot promised x = calm x
+while_12 phase me from ballot promised x = while_electing (λ e. lifted electing (row_12 e x.fact me from ballot promised) x) phase (calm x)
 
 -- rule 13: a preparing peer starts its epoch once enough peers promised
 abbrev pub while_13 : Phase → ℕ → State → State × PhaseOut
-while_13 (phases.Electing e) me x = (electing (row_13 e x.fact me x.trusted).0 x, (row_13 e x.fact me x.trusted).1)
-while_13 other me x = calm x
+while_13 phase me x = while_electing (λ e. lifted electing (row_13 e x.fact me x.trusted) x) phase (calm x)
 
 -- rule 14: a starting peer leads its epoch once enough peers accepted it
 abbrev pub while_14 : Phase → ℕ → State → State × PhaseOut
-while_14 (phases.Electing e) me x = (electing (row_14 e me).0 x, (row_14 e me).1)
-while_14 other me x = calm x
+while_14 phase me x = while_electing (λ e. lifted electing (row_14 e me) x) phase (calm x)
 
 -- rule 15: a refusal; a following or probing peer has asked for no ballot
 abbrev pub while_15 : Phase → Epoch → NackCause → State → State × PhaseOut
-while_15 (phases.Electing e) ballot cause x = (x, row_15 x.fact ballot cause)
-while_15 (phases.Leading l) ballot cause x = (x, row_15 x.fact ballot cause)
-while_15 other ballot cause x = calm x
+while_15 phase ballot cause x = while_electing (λ e. (x, row_15 x.fact ballot cause)) phase (while_leading (λ l. (x, row_15 x.fact ballot cause)) phase (calm x))
 
 -- rule 16: a leader announces the first fact of its epoch
 abbrev pub announced : ℕ → ℕ → Fact → State → State × PhaseOut
@@ -127,9 +137,9 @@ leader_heard l fact from ballot seq = record {
 
 -- rule 17: an acceptance
 abbrev pub while_17 : Phase → ℕ → Epoch → ℕ → State → State × PhaseOut
-while_17 (phases.Electing e) from ballot seq x = (electing (row_17 e x.fact from ballot seq).0 x, (row_17 e x.fact from ballot seq).1)
-while_17 (phases.Leading l) from ballot seq x = (leading (leader_heard l x.fact from ballot seq) x, silent thens.Stay)
-while_17 other from ballot seq x = calm x
+while_17 phase from ballot seq x =
+    while_electing (λ e. lifted electing (row_17 e x.fact from ballot seq) x) phase
+    (while_leading (λ l. (leading (leader_heard l x.fact from ballot seq) x, silent thens.Stay)) phase (calm x))
 
 -- whether the peer leads
 abbrev pub leads : Phase → Bool
@@ -168,8 +178,7 @@ begun_change Settled l fact me = (l, silent thens.Stay)
 begun_change (Finishes f) l fact me = (l, silent thens.Stay)
 
 abbrev pub while_25 : Phase → ℕ → State → State × PhaseOut
-while_25 (phases.Leading l) me x = (leading (begun_change l.change l x.fact me).0 x, (begun_change l.change l x.fact me).1)
-while_25 other me x = calm x
+while_25 phase me x = while_leading (λ l. lifted leading (begun_change l.change l x.fact me) x) phase (calm x)
 
 -- rule 26: the epoch ends once enough peers accepted its second fact and no call is unanswered
 abbrev pub ended : ChangeState → Fact → ℕ → Bool → PhaseOut
@@ -178,8 +187,7 @@ ended Settled fact me unanswered = silent thens.Stay
 ended (Wanted change) fact me unanswered = silent thens.Stay
 
 abbrev pub while_26 : Phase → ℕ → State → State × PhaseOut
-while_26 (phases.Leading l) me x = (x, ended l.change x.fact me (has_calls l.leader.table.calls))
-while_26 other me x = calm x
+while_26 phase me x = while_leading (λ l. (x, ended l.change x.fact me (has_calls l.leader.table.calls))) phase (calm x)
 
 -- the row of the rule with this number, which a row may name
 abbrev pub phase_row : ℕ → ℕ → State → State × PhaseOut

@@ -1,6 +1,6 @@
 ghost use Rattle.std.specs.Prelude.{◌≡◌};
 ghost use Rattle.ens_base.specs.View.{IsPeer};
-ghost use Rattle.peer_core.specs.Ages.{IsYoung, IsYoungElection};
+ghost use Rattle.peer_core.specs.Ages.{IsYoung};
 
 use crate::state::{Phase, State};
 use election::{Election, rule_10, rule_11, rule_15};
@@ -12,41 +12,20 @@ use probe::{rule_7, rule_8_probe};
 use wire_frames::{Message, NackCause, PhaseOut, Then};
 
 impl State {
-    ghost use Rattle.peer_core.specs.Rows.{aged_election, aged, begun, while_8, while_9, prepared, while_10, while_12, while_13, while_14, while_15, while_17};
-
-    /// Rules 3 and 4: a tick while preparing or starting.
-    fn age_election(&mut self, me: PeerId, election: Election) -> PhaseOut
-        requires { IsYoungElection election }
-        ensures { (self.new, result) ≡ aged_election election me self.old }
-    {
-        let mut election = election;
-        let row = match election {
-            Election::Preparing { .. } => election.rule_3(),
-            Election::Starting { .. } => election.rule_4(me, self.sync.is_some()),
-        };
-        self.phase = Phase::Electing(election);
-        row
-    }
+    ghost use Rattle.peer_core.specs.Rows.{aged, begun, while_8, while_9, prepared, while_10, while_12, while_13, while_14, while_15, while_17};
 
     /// Rules 2 to 4: a tick of a peer that does not lead.
     pub(crate) fn age(&mut self, me: PeerId) -> PhaseOut
         requires { IsYoung self.old.phase }
         ensures { (self.new, result) ≡ aged self.old.phase me self.old }
     {
-        match self.phase {
-            Phase::Following(follower) => {
-                let mut follower = follower;
-                let row = follower.rule_2(self.fact, me);
-                self.phase = Phase::Following(follower);
-                row
-            }
-            Phase::Probing(probing) => {
-                let mut probing = probing;
-                let row = probing.rule_3();
-                self.phase = Phase::Probing(probing);
-                row
-            }
-            Phase::Electing(election) => self.age_election(me, election),
+        match &mut self.phase {
+            Phase::Following(follower) => follower.rule_2(self.fact, me),
+            Phase::Probing(probing) => probing.rule_3(),
+            Phase::Electing(election) => match election {
+                Election::Preparing { .. } => election.rule_3(),
+                Election::Starting { .. } => election.rule_4(me, self.sync.is_some()),
+            },
             Phase::Leading(_) => silent(Then::Stay),
         }
     }
@@ -67,13 +46,8 @@ impl State {
         requires { IsPeer from }
         ensures { (self.new, result) ≡ while_8 self.old.phase me from reply self.old }
     {
-        match self.phase {
-            Phase::Probing(probing) => {
-                let mut probing = probing;
-                let row = probing.rule_8(me, from, reply);
-                self.phase = Phase::Probing(probing);
-                row
-            }
+        match &mut self.phase {
+            Phase::Probing(probing) => probing.rule_8(me, from, reply),
             _ => silent(Then::Stay),
         }
     }
@@ -83,13 +57,8 @@ impl State {
     fn rule_9(&mut self) -> PhaseOut
         ensures { (self.new, result) ≡ while_9 self.old.phase self.old }
     {
-        match self.phase {
-            Phase::Probing(probing) => {
-                let mut probing = probing;
-                let row = probing.rule_9();
-                self.phase = Phase::Probing(probing);
-                row
-            }
+        match &mut self.phase {
+            Phase::Probing(probing) => probing.rule_9(),
             _ => silent(Then::Stay),
         }
     }
@@ -111,11 +80,8 @@ impl State {
         requires { IsPeer me }
         ensures { (self.new, result) ≡ while_10 self.old.phase me self.old }
     {
-        match &self.phase {
-            Phase::Probing(probing) => {
-                let (best, count) = (probing.best, probing.count);
-                self.prepare(me, best, count)
-            }
+        match self.phase {
+            Phase::Probing(probing) => self.prepare(me, probing.best, probing.count),
             Phase::Leading(_) => self.prepare(me, self.fact, self.fact.ballot.count),
             _ => silent(Then::Stay),
         }
@@ -126,13 +92,8 @@ impl State {
         requires { IsPeer me × IsPeer from }
         ensures { (self.new, result) ≡ while_12 self.old.phase me from ballot promised self.old }
     {
-        match self.phase {
-            Phase::Electing(election) => {
-                let mut election = election;
-                let row = election.rule_12(self.fact, me, from, ballot, promised);
-                self.phase = Phase::Electing(election);
-                row
-            }
+        match &mut self.phase {
+            Phase::Electing(election) => election.rule_12(self.fact, me, from, ballot, promised),
             _ => silent(Then::Stay),
         }
     }
@@ -143,13 +104,8 @@ impl State {
         requires { IsPeer me }
         ensures { (self.new, result) ≡ while_13 self.old.phase me self.old }
     {
-        match self.phase {
-            Phase::Electing(election) => {
-                let mut election = election;
-                let row = election.rule_13(self.fact, me, self.trusted);
-                self.phase = Phase::Electing(election);
-                row
-            }
+        match &mut self.phase {
+            Phase::Electing(election) => election.rule_13(self.fact, me, self.trusted),
             _ => silent(Then::Stay),
         }
     }
@@ -160,13 +116,8 @@ impl State {
         requires { IsPeer me }
         ensures { (self.new, result) ≡ while_14 self.old.phase me self.old }
     {
-        match self.phase {
-            Phase::Electing(election) => {
-                let mut election = election;
-                let row = election.rule_14(me);
-                self.phase = Phase::Electing(election);
-                row
-            }
+        match &mut self.phase {
+            Phase::Electing(election) => election.rule_14(me),
             _ => silent(Then::Stay),
         }
     }
