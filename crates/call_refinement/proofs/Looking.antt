@@ -8,6 +8,7 @@ use Rattle.std.proofs.lemmas.Bool.Decides.{nat_tests}
 use Rattle.std.proofs.lemmas.Option.{none-some, same_Some}
 use Rattle.md5.specs.Md5.{md5}
 use Rattle.ens_base.proofs.Lists.{bytes_same}
+use Rattle.ens_base.proofs.Orders.{version_same}
 use Rattle.ens_base.specs.Epochs.{same_version}
 use Rattle.ens_base.specs.Lists.{◌∈◌, same_bytes}
 use Rattle.ens_base.specs.declared.entry.Entry.{Entry}
@@ -40,7 +41,7 @@ use Rattle.leader_laws.specs.Leaders.{IsObjectOf}
 use Rattle.leader_laws.specs.Messages.{PutSays, GetReplySays}
 use Rattle.leader_laws.specs.Roles.{RolesHold}
 use Rattle.leader_laws.specs.Tables as theory
-use Rattle.leader_refinement.proofs.Numbers.{rank_back, rank_some, same_versions}
+use Rattle.leader_refinement.proofs.Numbers.{rank_back, rank_some}
 use Rattle.leader_refinement.specs.Follows.{Hash as Digests}
 use Rattle.leader_refinement.specs.Laws.{BackendSays, FoundSays, LookSays, LookNames}
 use Rattle.leader_refinement.specs.Seen.{rank, content_of, entry_rank, shown, owed_after}
@@ -211,7 +212,7 @@ matches e o = by_name (is_named e o (md5 (object_spelling o))) refl
     by_name true is =
         let parts = and_parts (same_bytes o.key e.key && same_version o.version e.version) (same_bytes (md5 (object_spelling o)) e.digest) is in
         let both = and_parts (same_bytes o.key e.key) (same_version o.version e.version) parts.0 in
-        record { object = refl; key = bytes_same o.key e.key both.0; version = same_versions o.version e.version both.1; digest = sym (bytes_same (md5 (object_spelling o)) e.digest parts.1) }
+        record { object = refl; key = bytes_same o.key e.key both.0; version = version_same o.version e.version both.1; digest = sym (bytes_same (md5 (object_spelling o)) e.digest parts.1) }
     by_name false other = tt
 
 -- a genuine entry is of the key

@@ -1,7 +1,7 @@
 -- What is found at each key after a change at one key.
 use Rattle.std.proofs.Common.{◌≡◌, ◌≤◌, arith, ℕ, Bool, true, false, cond, List, [], ◌∷◌, length, Option, None, Some, Result, Ok, Err, refl, sym, ap, subst, ◌∙◌}
 use Rattle.std.specs.Prelude.{IsSome, OnErr}
-use Rattle.std.specs.BTreeMap.{is_at, get, BTreeMap, UpdatesBy, WritesThrough}
+use Rattle.std.specs.BTreeMap.{get, BTreeMap, UpdatesBy, WritesThrough}
 use Rattle.std.proofs.lemmas.Map.Text.{is_eq-slice_cmp}
 use Rattle.ens_base.specs.Lists.{bytes_cmp, same_bytes}
 use Rattle.ens_base.proofs.Lists.{bytes_same}

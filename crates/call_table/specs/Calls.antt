@@ -1,6 +1,6 @@
 -- The unanswered calls of a leader, in order of arrival. The running call of a key is the first
 -- call on it.
-use Rattle.std.specs.Prelude.{ℕ, ◌+◌, Bool, true, false, ◌==◌, ◌&&◌, not, min, nat_le, filter, map, if◌then◌else◌, Option, Some, None, List, [], ◌∷◌, ◌++◌}
+use Rattle.std.specs.Prelude.{ℕ, ◌+◌, Bool, true, false, ◌==◌, not, min, nat_le, filter, if◌then◌else◌, Option, Some, None, List, [], ◌∷◌, ◌++◌}
 use Rattle.ens_base.specs.Lists.{same_bytes}
 use Rattle.call_table.specs.declared.waiting.Waiting.{Waiting}
 use Rattle.call_table.specs.declared.waiting.DueCall.{DueCall}

@@ -1,5 +1,5 @@
 -- Puts that wait too long for acknowledgements.
-use Rattle.std.specs.Prelude.{ℕ, ◌==◌, ◌&&◌, ◌||◌, Bool, false, List, [], ◌∷◌, ◌++◌}
+use Rattle.std.specs.Prelude.{◌==◌, ◌&&◌, ◌||◌, Bool, false, List, [], ◌∷◌, ◌++◌}
 use Rattle.call_table.specs.Calls.{is_due, waiting_on}
 use Rattle.call_table.specs.Rows.{Rows, row_at, has_put}
 use Rattle.call_table.specs.declared.waiting.Waiting.{Waiting}

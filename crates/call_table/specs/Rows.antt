@@ -1,5 +1,5 @@
 -- What a leader knows of each key, and what it asks about it.
-use Rattle.std.specs.Prelude.{ℕ, Bool, true, false, ◌==◌, if◌then◌else◌, Option, Some, None, List}
+use Rattle.std.specs.Prelude.{ℕ, Bool, true, false, Option, Some, None, List}
 use Rattle.std.specs.BTreeMap.{is_at, insert_entry}
 use Rattle.std.specs.Map.{lookup, remove_entry}
 use Rattle.std.specs.Ordering.{nat_cmp}
@@ -8,7 +8,7 @@ use Rattle.ens_base.specs.declared.epoch.Version.{Version}
 use Rattle.call_table.specs.declared.row.Known.{Known}
 use Rattle.call_table.specs.declared.row.Known.TheVariants.{Unknown, Absent, Present}
 use Rattle.call_table.specs.declared.row.Stage.{Stage}
-use Rattle.call_table.specs.declared.row.Stage.TheVariants.{Idle, Reading, Checking, Putting}
+use Rattle.call_table.specs.declared.row.Stage.TheVariants.{Idle, Checking, Putting}
 use Rattle.call_table.specs.declared.row.KeyRow.{KeyRow}
 
 -- the row of a key of which nothing is known, and about which nothing is asked

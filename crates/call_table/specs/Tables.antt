@@ -3,7 +3,6 @@ use Rattle.std.specs.Prelude.{ℕ, Bool, Option, Some, None, List, [], ◌∷◌
 use Rattle.call_table.specs.declared.table.CallTable.{CallTable}
 use Rattle.call_table.specs.declared.waiting.DueCall.{DueCall}
 use Rattle.call_table.specs.declared.row.Stage.TheVariants.{Idle}
-use Rattle.call_table.specs.declared.row.KeyRow.{KeyRow}
 use Rattle.call_table.specs.Calls.{without_running, due, not_due}
 use Rattle.call_table.specs.Late.{late_put_after}
 use Rattle.call_table.specs.Rows.{row_at, with_stage, without_check, check_round}

@@ -1,5 +1,6 @@
 -- Rules 12 and 13: promises are counted, and an epoch starts.
 use Rattle.std.proofs.Common.{◌≡◌, ℕ, ◌<◌, ◌≤◌, Bool, true, false, ◌==◌, if◌then◌else◌, List, [], ◌∷◌, inl, inr, Option, arith, refl, ap, le_trans, ◌∙◌, sym, subst}
+use Rattle.ens_base.proofs.Lists.{tested_in}
 use Rattle.ens_base.specs.Lists.{is_in}
 use Rattle.std.specs.Prelude.{◌&&◌, not}
 use Rattle.std.proofs.lemmas.Bool.{and_parts, false≢true}
@@ -35,7 +36,7 @@ use Rattle.election_refinement.proofs.Numbers.{proposer_of-number, same_epochs, 
 use Rattle.election_refinement.proofs.Reaching.{Course, Reaches, reaches_sound, elect_reaches}
 use Rattle.election_refinement.proofs.Rows.{Fits, Goes, none_runs, unmoved, enters, quiet, follows, rests_in, names}
 use Rattle.election_refinement.proofs.Saving.{mark_here, accepted_fits}
-use Rattle.election_refinement.proofs.Sets.{view_in, nobody_then, alone_then, joined_then}
+use Rattle.election_refinement.proofs.Sets.{nobody_then, alone_then, joined_then}
 use Rattle.election_refinement.proofs.Tests.{by_test}
 use Rattle.election_refinement.specs.Refinement.{fact_place, told_change, change_at, IsFitting, second_of, IsKnown, IsFirst, HasPromised, IsPreparing, IsStarting, PhaseHolds, may_wait, SyncHolds, IsPrepare, IsPromise, IsOrderly}
 
@@ -70,7 +71,7 @@ not_new trusted me new may is_new = by_views new.views is_new (part trusted (not
     by_views : (views : List (List ℕ)) → IsNew views me → not (is_joint views && is_in (first_view views) me) ≡ true → ⊥
     by_views [] is old = is
     by_views (view ∷ []) is old = is
-    by_views (view ∷ other ∷ rest) is old = not_both (view_in view me is) (false_of (is_in view me) old)
+    by_views (view ∷ other ∷ rest) is old = not_both (tested_in view me is) (false_of (is_in view me) old)
       where
         false_of : (b : Bool) → not (true && b) ≡ true → b ≡ false
         false_of true h = absurd (false≢true h)

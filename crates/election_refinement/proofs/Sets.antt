@@ -1,12 +1,10 @@
 -- Sets of peers, and messages to them.
-use Rattle.std.proofs.Common.{◌≡◌, ℕ, zero, suc, ◌≤◌, ◌+◌, Bool, true, false, ◌==◌, ◌||◌, if◌then◌else◌, eqb-true, List, [], ◌∷◌, inl, inr, Option, Some, None, arith, refl, sym, ◌∙◌, subst}
+use Rattle.std.proofs.Common.{◌≡◌, ℕ, zero, suc, ◌≤◌, ◌+◌, Bool, true, false, ◌==◌, if◌then◌else◌, eqb-true, List, [], ◌∷◌, Option, Some, None, arith, refl, sym, ◌∙◌, subst}
 use Rattle.std.specs.Prelude.{All, replicate, slice_index_or}
 use Rattle.std.proofs.lemmas.Bool.{eqb-false, false≢true}
-use Rattle.std.proofs.lemmas.Bool.Decides.{nat_tests}
 use Rattle.std.proofs.lemmas.List.{get_or-set_other}
 use Rattle.std.proofs.lemmas.List.Elements.{All-nil, All-cons, All-append}
 use Rattle.abstract_protocol.specs.Ledger.{Ledger}
-use Rattle.ens_base.specs.Lists.{◌∈◌, is_in}
 use Rattle.ens_base.specs.PeerSet.{holds}
 use Rattle.step_plans.specs.Sends.{posted, posted_to}
 use Rattle.leader_words.specs.declared.out.Outgoing.{Outgoing}
@@ -14,18 +12,6 @@ use Rattle.phase_rows.specs.Peers.{nobody, joined, alone}
 use Rattle.wire_frames.specs.declared.message.Message.{Message}
 use Rattle.election_refinement.proofs.Tests.{by_test}
 use Rattle.election_refinement.specs.Refinement.{MessageHolds, SendHolds}
-
--- a member of a view passes the test for its members
-pub view_in : (view : List ℕ) (q : ℕ) → q ∈ view → is_in view q ≡ true
-view_in [] q at = absurd at
-view_in (x ∷ view) q (inl same) = first (is_in view q) same
-  where
-    first : (b : Bool) → q ≡ x → (q == x || b) ≡ true
-    first b e = grind (arith, nat_tests)
-view_in (x ∷ view) q (inr at) = later (q == x) (is_in view q) (view_in view q at)
-  where
-    later : (a b : Bool) → b ≡ true → (a || b) ≡ true
-    later a b h = grind arith
 
 none_held : (n q : ℕ) → slice_index_or (replicate n false) q false ≡ false
 none_held zero q = refl

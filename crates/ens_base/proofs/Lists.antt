@@ -1,7 +1,9 @@
 -- Equal bytes, and members of mapped lists and of concatenations.
-use Rattle.std.proofs.Common.{◌≡◌, ◌⊎◌, ℕ, true, List, [], ◌∷◌, ◌++◌, map, inl, inr, refl, ap}
+use Rattle.std.proofs.Common.{◌≡◌, ◌⊎◌, ℕ, Bool, true, false, List, [], ◌∷◌, ◌++◌, eqb, map, inl, inr, refl, ap}
+use Rattle.std.specs.Prelude.{◌||◌}
+use Rattle.std.proofs.lemmas.Bool.{false≢true, eqb-true, eq-eqb}
 use Rattle.std.proofs.lemmas.Slice.Eq.{bytes_eq-Decides}
-use Rattle.ens_base.specs.Lists.{◌∈◌, same_bytes}
+use Rattle.ens_base.specs.Lists.{◌∈◌, is_in, same_bytes}
 
 -- equal bytes are equal lists
 pub bytes_same : (xs ys : List ℕ) → same_bytes xs ys ≡ true → xs ≡ ys
@@ -32,3 +34,21 @@ in_left (x ∷ xs) ys z (inr h) = inr (in_left xs ys z h)
 pub in_right : {A : Type 0} (xs ys : List A) (z : A) → z ∈ ys → z ∈ (xs ++ ys)
 in_right [] ys z h = h
 in_right (x ∷ xs) ys z h = inr (in_right xs ys z h)
+
+-- the test of membership decides it
+pub in_tested : (xs : List ℕ) (q : ℕ) → is_in xs q ≡ true → q ∈ xs
+in_tested [] q h = absurd (false≢true h)
+in_tested (x ∷ xs) q h = by_cases (in_tested xs q) (eqb q x) refl h
+  where
+    by_cases : (is_in xs q ≡ true → q ∈ xs) → (b : Bool) → eqb q x ≡ b → (b || is_in xs q) ≡ true → (q ≡ x) ⊎ (q ∈ xs)
+    by_cases rest true t h = inl (eqb-true q x t)
+    by_cases rest false t h = inr (rest h)
+
+pub tested_in : (xs : List ℕ) (q : ℕ) → q ∈ xs → is_in xs q ≡ true
+tested_in [] q h = absurd h
+tested_in (x ∷ xs) q (inl e) = rw (eq-eqb q x e) refl
+tested_in (x ∷ xs) q (inr h) = by_cases (tested_in xs q h) (eqb q x)
+  where
+    by_cases : is_in xs q ≡ true → (b : Bool) → (b || is_in xs q) ≡ true
+    by_cases rest true = refl
+    by_cases rest false = rest

@@ -12,7 +12,7 @@ use Rattle.ens_fields.proofs.GrammarLaws.{valid_as, spelled_as, field_then, fiel
 use Rattle.ens_fields.proofs.NumberLaws.{run_grammar}
 use Rattle.ens_fields.proofs.FieldLaws.{key_grammar, version_grammar}
 
-remade : (e : Entry) (key : List ℕ) (version : Version) → key ≡ e.key → version ≡ e.version → (let made : Entry = record { key = key; version = version; digest = e.digest } in made) ≡ e
+pub remade : (e : Entry) (key : List ℕ) (version : Version) → key ≡ e.key → version ≡ e.version → (let made : Entry = record { key = key; version = version; digest = e.digest } in made) ≡ e
 remade e key version k v = λ i. record { key = k i; version = v i; digest = e.digest }
 
 pub entry_grammar : IsGrammar IsEntry entry_spelling entry_at

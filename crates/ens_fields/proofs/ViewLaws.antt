@@ -214,7 +214,7 @@ count_of (new ∷ []) h = inl refl
 count_of (new ∷ old ∷ []) h = inr refl
 count_of (new ∷ old ∷ more ∷ views) h = absurd h
 
-err_is_no : {A : Type 0} (d : FieldError) (x : A) → (let left : Result A FieldError = Err d in left) ≡ Ok x → ⊥
+pub err_is_no : {A : Type 0} (d : FieldError) (x : A) → (let left : Result A FieldError = Err d in left) ≡ Ok x → ⊥
 err_is_no d x e = cc
 
 counted_by : (n start : ℕ) (one two : Bool) → eqb n 1 ≡ one → eqb n 2 ≡ two → IsGrammar (λ views. (Unit {0} × (length views ≡ n)) × AreViews views) (flat_map view_spelling)

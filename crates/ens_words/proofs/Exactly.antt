@@ -1,11 +1,12 @@
 -- The words that are read as a job are those that ask for it.
 use Rattle.std.proofs.Common.{◌≡◌, ℕ, ◌-◌, ◌^◌, Bool, true, false, if◌then◌else◌, List, [], ◌∷◌, codes, Result, Ok, Err, refl, sym, ap, subst, ◌∙◌, arith, lit<}
+use Rattle.ens_base.proofs.Lists.{bytes_same}
 use Rattle.std.specs.Fmt.{decimal}
 use Rattle.ens_base.specs.Lists.{same_bytes}
 use Rattle.ens_base.specs.Results.{◌>>=◌}
 use Rattle.schedule_words.proofs.Ascending.{view_of-ok, view_of-words}
 use Rattle.schedule_words.proofs.Dotted.{number_of-ok, number_of-decimal}
-use Rattle.schedule_words.proofs.Fields.{peer_of-ok, peer_of-decimal, same_bytes-same}
+use Rattle.schedule_words.proofs.Fields.{peer_of-ok, peer_of-decimal}
 use Rattle.schedule_words.proofs.Results.{bind_ok, ok_same}
 use Rattle.schedule_words.specs.Spelling.{member_words}
 use Rattle.schedule_words.specs.Words.{number_of, peer_of, view_of}
@@ -81,11 +82,11 @@ cluster_read verb (a ∷ []) job is h = cc h
 summary_read : (word : List ℕ) (summary : Bool) → summary_of word ≡ Ok summary → word ≡ output_word summary
 summary_read word summary h = one (same_bytes word (codes "schedule")) refl h where
   two : (b : Bool) → same_bytes word (codes "summary") ≡ b → (if b then Ok true else Err Unknown) ≡ Ok summary → word ≡ output_word summary
-  two true same h = let is : true ≡ summary = ok_same h in same_bytes-same word (codes "summary") same ∙ ap output_word is
+  two true same h = let is : true ≡ summary = ok_same h in bytes_same word (codes "summary") same ∙ ap output_word is
   two false same h = cc h
 
   one : (b : Bool) → same_bytes word (codes "schedule") ≡ b → (if b then Ok false else (if same_bytes word (codes "summary") then Ok true else Err Unknown)) ≡ Ok summary → word ≡ output_word summary
-  one true same h = let is : false ≡ summary = ok_same h in same_bytes-same word (codes "schedule") same ∙ ap output_word is
+  one true same h = let is : false ≡ summary = ok_same h in bytes_same word (codes "schedule") same ∙ ap output_word is
   one false same h = two (same_bytes word (codes "summary")) refl h
 
 four_same : (a b c d e f g i : List ℕ) → a ≡ e → b ≡ f → c ≡ g → d ≡ i → a ∷ b ∷ c ∷ d ∷ [] ≡ e ∷ f ∷ g ∷ i ∷ []
@@ -112,10 +113,10 @@ verb_read : (verb : List ℕ) (rest : List (List ℕ)) (job : Job) → job_of (v
 verb_read verb rest job h = one (same_bytes verb (codes "replay")) refl (same_bytes verb (codes "peer")) refl (same_bytes verb (codes "cluster")) refl (same_bytes verb (codes "generate")) refl h where
   one : (a : Bool) → same_bytes verb (codes "replay") ≡ a → (b : Bool) → same_bytes verb (codes "peer") ≡ b → (c : Bool) → same_bytes verb (codes "cluster") ≡ c → (d : Bool) → same_bytes verb (codes "generate") ≡ d
       → (if a then replay_of rest else if b then peer_of_words rest else if c then cluster_of rest else if d then generate_of rest else Err Unknown) ≡ Ok job → AskFor (verb ∷ rest) job
-  one true p b q c r d s h = replay_read verb rest job (same_bytes-same verb (codes "replay") p) h
-  one false p true q c r d s h = peer_read verb rest job (same_bytes-same verb (codes "peer") q) h
-  one false p false q true r d s h = cluster_read verb rest job (same_bytes-same verb (codes "cluster") r) h
-  one false p false q false r true s h = generate_read verb rest job (same_bytes-same verb (codes "generate") s) h
+  one true p b q c r d s h = replay_read verb rest job (bytes_same verb (codes "replay") p) h
+  one false p true q c r d s h = peer_read verb rest job (bytes_same verb (codes "peer") q) h
+  one false p false q true r d s h = cluster_read verb rest job (bytes_same verb (codes "cluster") r) h
+  one false p false q false r true s h = generate_read verb rest job (bytes_same verb (codes "generate") s) h
   one false p false q false r false s h = cc h
 
 pub job_read : (words : List (List ℕ)) (job : Job) → job_of words ≡ Ok job → AskFor words job

@@ -1,6 +1,7 @@
 -- The walk of `clap` over words that do not begin with `-`: the first one is the verb's value, and
 -- each one behind it is one more value of the rest.
-use Rattle.std.proofs.Common.{◌≡◌, ◌∙◌, ◌&&◌, ◌||◌, Bool, true, false, refl, ap, List, [], ◌∷◌, ◌++◌, codes, Some, None, append_assoc}
+use Rattle.std.proofs.Common.{◌≡◌, ◌∙◌, ◌&&◌, Bool, true, false, refl, ap, List, [], ◌∷◌, ◌++◌, codes, Some, None, append_assoc}
+use Rattle.std.proofs.lemmas.Bool.{or_parts, and_from}
 use Rattle.std.specs.List.{fold, list_all}
 use Rattle.std.specs.Prelude.{slice_get}
 use Rattle.clap.specs.Walk.{Row, Rule, Text, Walk, all_of, finished, first_of, idle, nothing_held, positional, rows_of, walk_from, walked}
@@ -102,13 +103,6 @@ more_turn v before w (b ∷ bs) plain = rw (plain, plain) refl
 
 -- ---- all the words
 
-either_parts : (a b : Bool) → (a || b) ≡ false → (a ≡ false) × (b ≡ false)
-either_parts true b h = cc h
-either_parts false b h = (refl, h)
-
-both_true : (a b : Bool) → a ≡ true → b ≡ true → (a && b) ≡ true
-both_true a b p q = rw (p, q) refl
-
 -- the walk passes the words, and then it stands behind the verb v and the words of `all`
 record WalksTo (from : Walk) (words : List Text) (v : Text) (all : List Text) : Type 0 where
   pub before : List Text
@@ -123,7 +117,7 @@ unfolding walk_passes
 walks_on from next x v xs all turn is more = record {
   before = more.before;
   last = more.last;
-  passes = both_true _ _ turn (ap (λ (k : Walk). walk_passes top [] k xs) is ∙ more.passes);
+  passes = and_from _ _ turn (ap (λ (k : Walk). walk_passes top [] k xs) is ∙ more.passes);
   end = ap (λ (k : Walk). fold (walked top.rules []) k xs) is ∙ more.end;
   whole = more.whole;
 }
@@ -133,7 +127,7 @@ walks_rest : (v : Text) (before : List Text) (w : Text) (words : List Text) → 
 unfolding walk_passes
 walks_rest v before w [] plain = record { before = before; last = w; passes = refl; end = refl; whole = refl }
 walks_rest v before w (x ∷ xs) plain =
-    let p = either_parts (is_option x) (has_option xs) plain in
+    let p = or_parts (is_option x) (has_option xs) plain in
     let later = walks_rest v (before ++ w ∷ []) x xs p.1 in
     walks_on (after_rest v before w) (after_rest v (before ++ w ∷ []) x) x v xs (before ++ w ∷ x ∷ xs) (more_turn v before w x p.0) (more_walked v before w x p.0)
     (record {
@@ -146,8 +140,8 @@ walks_rest v before w (x ∷ xs) plain =
 
 walks : (v w : Text) (ws : List Text) → has_option (v ∷ w ∷ ws) ≡ false → WalksTo at_start (v ∷ w ∷ ws) v (w ∷ ws)
 walks v w ws plain =
-    let p = either_parts (is_option v) (has_option (w ∷ ws)) plain in
-    let q = either_parts (is_option w) (has_option ws) p.1 in
+    let p = or_parts (is_option v) (has_option (w ∷ ws)) plain in
+    let q = or_parts (is_option w) (has_option ws) p.1 in
     walks_on at_start (after_verb v) v v (w ∷ ws) (w ∷ ws) (verb_turn v p.0) (verb_walked v p.0)
     (walks_on (after_verb v) (after_rest v [] w) w v ws (w ∷ ws) (first_turn v w q.0) (first_walked v w q.0) (walks_rest v [] w ws q.1))
 
@@ -159,7 +153,7 @@ finished_rest v (d ∷ ds) last = refl
 
 matches_are : (words : List Text) → has_option words ≡ false → matches_of command words ≡ rows_for words
 matches_are [] plain = refl
-matches_are (v ∷ []) plain = ap (λ (k : Walk). finished top.rules k.held) (verb_walked v (either_parts (is_option v) false plain).0)
+matches_are (v ∷ []) plain = ap (λ (k : Walk). finished top.rules k.held) (verb_walked v (or_parts (is_option v) false plain).0)
 matches_are (v ∷ w ∷ ws) plain =
     let end = walks v w ws plain in
     ap (λ (k : Walk). finished top.rules k.held) end.end ∙ finished_rest v end.before end.last ∙ ap (λ (all : List Text). rows_for (v ∷ all)) end.whole
@@ -174,11 +168,11 @@ level_passed : (words : List Text) → has_option words ≡ false → level_pass
 unfolding walk_passes
 level_passed [] plain = refl
 level_passed (v ∷ []) plain =
-    let p = (either_parts (is_option v) false plain).0 in
-    both_true _ _ (both_true _ _ (verb_turn v p) refl) (ap passes_after (verb_walked v p))
+    let p = (or_parts (is_option v) false plain).0 in
+    and_from _ _ (and_from _ _ (verb_turn v p) refl) (ap passes_after (verb_walked v p))
 level_passed (v ∷ w ∷ ws) plain =
     let end = walks v w ws plain in
-    both_true _ _ end.passes (ap passes_after end.end ∙ rest_passes v end.before end.last)
+    and_from _ _ end.passes (ap passes_after end.end ∙ rest_passes v end.before end.last)
 
 -- ---- what a caller has
 

@@ -1,5 +1,6 @@
 -- Taking what a peer with some map sends keeps covered what that map has.
 use Rattle.std.proofs.Common.{◌≡◌, ◌≢◌, ◌⊎◌, ℕ, zero, suc, ◌+◌, ◌-◌, ◌*◌, ◌/◌, ◌%◌, ◌<◌, ◌≤◌, Bool, true, false, List, [], ◌∷◌, Option, None, Some, length, get_or, take, refl, ap, sym, ◌∙◌, subst, arith, inl, inr}
+use Rattle.ens_base.proofs.Lists.{bytes_same}
 use Rattle.std.specs.Prelude.{nat_lt, ◌==◌, ◌&&◌, not, if◌then◌else◌}
 use Rattle.std.proofs.lemmas.Bool.{and_parts}
 use Rattle.std.proofs.lemmas.Bool.Decides.{nat_tests}
@@ -19,7 +20,6 @@ use Rattle.tree_maps.specs.Paths.{passes, under}
 use Rattle.tree_maps.specs.Sixteen.{sixteen, children_of}
 use Rattle.tree_maps.proofs.Below.{there_if_some, under_map, node_below, some_width}
 use Rattle.tree_maps.proofs.Formats.{sixteen_laws}
-use Rattle.tree_maps.proofs.Orders.{same_is}
 use Rattle.tree_maps.proofs.Parts.{map_part}
 use Rattle.tree_maps.proofs.Unique.{has_entries, one_map, child_is, child_place}
 use Rattle.synctree.proofs.Places.{position_of, place_of}
@@ -43,7 +43,7 @@ after_is : (a b : Option (List ℕ)) → same_after a b ≡ true → a ≡ b
 after_is None None e = refl
 after_is None (Some b) e = absurd cc
 after_is (Some a) None e = absurd cc
-after_is (Some a) (Some b) e = ap Some (same_is a b e)
+after_is (Some a) (Some b) e = ap Some (bytes_same a b e)
 
 question_is : (a b : Question) → same_question a b ≡ true → a ≡ b
 question_is a b e =
@@ -62,7 +62,7 @@ open_is (Some a) q e = ap Some (question_is a q e)
 
 known_parts : (damaged : List Position) (at : Position) (own : Option (List ℕ)) (d : List ℕ) → is_known damaged at own d ≡ true → (own ≡ Some d) × (meets damaged at ≡ false)
 known_parts damaged at None d e = absurd cc
-known_parts damaged at (Some o) d e = let both = and_parts (same_bytes o d) (not (meets damaged at)) e in (ap Some (same_is o d both.0), turned (meets damaged at) both.1)
+known_parts damaged at (Some o) d e = let both = and_parts (same_bytes o d) (not (meets damaged at)) e in (ap Some (bytes_same o d both.0), turned (meets damaged at) both.1)
   where
     turned : (b : Bool) → not b ≡ true → b ≡ false
     turned true z = absurd cc

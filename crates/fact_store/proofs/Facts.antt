@@ -1,6 +1,6 @@
 -- A record that encodes a fact.
 use Rattle.std.proofs.Common.{◌≡◌, inl, inr, ⊎_elim, ℕ, List, ◌++◌, length, take, Option, Some, Result, Ok, sym, ◌∙◌, ap}
-use Rattle.std.specs.Prelude.{OnOk, IfErr, Err}
+use Rattle.std.specs.Prelude.{IfErr, Err}
 use Rattle.std.proofs.lemmas.List.{take_at}
 use Rattle.slot_disk.specs.Slots.{IsOldOrNew as IsOldOrNewRecord, record_of}
 use Rattle.peer_fact.specs.declared.fact.Fact.{Fact}
@@ -20,11 +20,6 @@ fact_kept fact bytes spelled again held is = ap fact_in (is ∙ ap (λ (l : List
 -- the old record or the new one encodes the old fact or the new one
 pub facts_too : (old : Option (List ℕ)) (fact : Fact) (bytes file : List ℕ) → bytes ≡ fact_spelling fact → fact_of (fact_spelling fact) ≡ Ok fact → IsOldOrNewRecord old bytes file → IsOldOrNewIn (fact_in old) fact file
 facts_too old fact bytes file spelled again is = ⊎_elim (λ e. inl (ap fact_in e)) (λ e. inr (fact_kept fact bytes spelled again (record_of file) e)) is
-
--- a fact after success, weakened
-pub on_ok : {T E : Type 0} (r : Result T E) (P Q : Type 0) → (P → Q) → OnOk r P → OnOk r Q
-on_ok (Ok x) P Q implies p = implies p
-on_ok (Err e) P Q implies p = p
 
 -- what holds of each bad fact holds of an error that is one
 pub bad_only : {T : Type 0} (r : Result T KeepError) (P : KeepError → Type 0) → IfErr r IsBad → ((why : FactError) → P (errors.Bad why)) → IfErr r P

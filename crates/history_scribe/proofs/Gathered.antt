@@ -1,12 +1,12 @@
 -- What was gathered so far, after one more mark.
 use Rattle.std.proofs.Common.{◌≡◌, ℕ, ◌++◌, ◌∷◌, [], List, Bool, true, false, cond, eqb, max, arith, refl, sym, ap, ◌∙◌, Option, None, Some}
-use Rattle.std.specs.Prelude.{if◌then◌else◌, ◌&&◌, Result, Ok, Err, OnOk}
+use Rattle.ens_base.proofs.Lists.{bytes_itself}
+use Rattle.std.specs.Prelude.{if◌then◌else◌, ◌&&◌}
 use Rattle.std.specs.BTreeMap.{is_at}
 use Rattle.std.specs.Map.{lookup}
 use Rattle.std.specs.Option.{option_or, option_cmp}
 use Rattle.std.specs.Ordering.{is_eq}
 use Rattle.std.proofs.lemmas.List.{append_assoc, append-nil}
-use lib.Pointwise.{bytes_decides}
 use Rattle.ens_base.specs.Epochs.{version_cmp}
 use Rattle.ens_base.specs.Lists.{same_bytes}
 use Rattle.ens_base.specs.declared.epoch.Version.{Version}
@@ -17,9 +17,6 @@ use Rattle.history_scribe.specs.Told.{Fits, FitsIfAny, proposal_at, reads_at, pa
 use Rattle.history_scribe.specs.declared.told.Proposal.{Proposal}
 use Rattle.history_scribe.specs.declared.told.Told.{Told}
 use Rattle.history_scribe.proofs.Ranks.{same_rank, same_base}
-
-pub same_self : (key : List ℕ) → same_bytes key key ≡ true
-same_self key = (bytes_decides key key).1 refl
 
 -- ## The beginning and the end
 
@@ -47,7 +44,7 @@ call_first None false p other = refl
 call_first (Some q) b p other = refl
 
 test_is : (key : List ℕ) (b c : Bool) → b ≡ c → (same_bytes key key && c) ≡ b
-test_is key b c e = rw (same_self key) (sym e)
+test_is key b c e = rw (bytes_itself key) (sym e)
 
 pub takes_proposal : (s t : Told) (rest all : List Note) (key : List ℕ) (v : Version) (p : Proposal) → Fits v
     → ((q : Version) → proposal_at t q ≡ option_or (proposal_at s q) (if is_eq (version_cmp v q) then Some p else None)) → t.newest ≡ s.newest → t.reads ≡ s.reads
@@ -80,7 +77,7 @@ takes_settled s t rest all key v newest proposals reads old = record {
 }
   where
     before : max (rank_or_none s.newest) (max (rank v) (newest_in rest key)) ≡ newest_in all key
-    before = rw (same_self key) at old.newest
+    before = rw (bytes_itself key) at old.newest
 
 -- ## A read
 
@@ -112,7 +109,3 @@ pub order_begun : (t : Told) (notes : List Note) (key : List ℕ) (calls reads v
 order_begun t notes key calls reads versions told e f g = λ i. (f ∙ e ∙ told_reads t notes key told None tt) i ++ blocks notes key (g i)
 
 -- ## A call that may fail
-
-pub on_ok : {T F : Type 0} (r : Result T F) (P Q : Type 0) → (P → Q) → OnOk r P → OnOk r Q
-on_ok (Ok x) P Q f p = f p
-on_ok (Err e) P Q f p = tt

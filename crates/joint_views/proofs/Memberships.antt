@@ -2,7 +2,7 @@
 use Rattle.std.specs.Prelude.{slice_index_or, Contains, ◌||◌, ◌&&◌, ◌↔◌}
 use Rattle.ens_base.specs.Lists.{is_in}
 use Rattle.std.proofs.Common.{◌≡◌, ℕ, zero, suc, ◌<◌, ◌⊎◌, Bool, true, ◌==◌, List, [], ◌∷◌, length, arith, refl, inl, inr}
-use Rattle.std.proofs.lemmas.Bool.{false≢true}
+use Rattle.std.proofs.lemmas.Bool.{false≢true, or_cases, or_left, or_right, and_parts}
 use Rattle.std.proofs.lemmas.Bool.Decides.{nat_tests}
 use Rattle.std.proofs.lemmas.List.Elements.{All-cons, All-tail}
 use Rattle.joint_views.specs.Quorums.{is_member, has_all, has_every, IsMember, HasAll, HasEvery}
@@ -39,18 +39,9 @@ same_test a b there back = grind (arith, nat_tests)
 pub in_is : (view : List ℕ) (peer : ℕ) (b : Bool) → ((b ≡ true) ↔ Contains view peer) → b ≡ is_in view peer
 in_is view peer b h = same_test b (is_in view peer) (λ t. in_of_contains view peer (h.0 t)) (λ t. h.1 (contains_of_in view peer t))
 
-one_of : (a b : Bool) → (a || b) ≡ true → (a ≡ true) ⊎ (b ≡ true)
-one_of a b h = grind (arith, nat_tests)
-
-left_of : (a b : Bool) → a ≡ true → (a || b) ≡ true
-left_of a b h = grind (arith, nat_tests)
-
-right_of : (a b : Bool) → b ≡ true → (a || b) ≡ true
-right_of a b h = grind (arith, nat_tests)
-
 pub member_of_test : (views : List (List ℕ)) (peer : ℕ) → is_member views peer ≡ true → IsMember views peer
 member_of_test [] peer h = false≢true h
-member_of_test (view ∷ views) peer h = by_view (one_of (is_in view peer) (is_member views peer) h) (λ (t : is_member views peer ≡ true). member_of_test views peer t)
+member_of_test (view ∷ views) peer h = by_view (or_cases (is_in view peer) (is_member views peer) h) (λ (t : is_member views peer ≡ true). member_of_test views peer t)
   where
     by_view : (is_in view peer ≡ true) ⊎ (is_member views peer ≡ true) → (is_member views peer ≡ true → IsMember views peer) → IsMember (view ∷ views) peer
     by_view (inl t) rest = inl (contains_of_in view peer t)
@@ -58,18 +49,15 @@ member_of_test (view ∷ views) peer h = by_view (one_of (is_in view peer) (is_m
 
 pub test_of_member : (views : List (List ℕ)) (peer : ℕ) → IsMember views peer → is_member views peer ≡ true
 test_of_member [] peer h = absurd h
-test_of_member (view ∷ views) peer (inl c) = left_of (is_in view peer) (is_member views peer) (in_of_contains view peer c)
-test_of_member (view ∷ views) peer (inr m) = right_of (is_in view peer) (is_member views peer) (test_of_member views peer m)
+test_of_member (view ∷ views) peer (inl c) = or_left (is_in view peer) (is_member views peer) (in_of_contains view peer c)
+test_of_member (view ∷ views) peer (inr m) = or_right (is_in view peer) (is_member views peer) (test_of_member views peer m)
 
 pub member_decides : (views : List (List ℕ)) (peer : ℕ) → (is_member views peer ≡ true) ↔ IsMember views peer
 member_decides views peer = (member_of_test views peer, test_of_member views peer)
 
-both_of : (a b : Bool) → (a && b) ≡ true → (a ≡ true) × (b ≡ true)
-both_of a b h = grind (arith, nat_tests)
-
 all_of_test : (peers : ℕ → Bool) (view : List ℕ) → has_all peers view ≡ true → HasAll peers view
 all_of_test peers [] h = λ k d at. absurd (omega (arith, at))
-all_of_test peers (member ∷ view) h = let both : (peers member ≡ true) × (has_all peers view ≡ true) = both_of (peers member) (has_all peers view) h in
+all_of_test peers (member ∷ view) h = let both : (peers member ≡ true) × (has_all peers view ≡ true) = and_parts (peers member) (has_all peers view) h in
     All-cons (λ m. peers m ≡ true) member view both.0 (all_of_test peers view both.1)
 
 test_of_all : (peers : ℕ → Bool) (view : List ℕ) → HasAll peers view → has_all peers view ≡ true
@@ -84,7 +72,7 @@ all_decides peers view = (all_of_test peers view, test_of_all peers view)
 
 every_of_test : (peers : ℕ → Bool) (views : List (List ℕ)) → has_every peers views ≡ true → HasEvery peers views
 every_of_test peers [] h = tt
-every_of_test peers (view ∷ views) h = let both : (has_all peers view ≡ true) × (has_every peers views ≡ true) = both_of (has_all peers view) (has_every peers views) h in
+every_of_test peers (view ∷ views) h = let both : (has_all peers view ≡ true) × (has_every peers views ≡ true) = and_parts (has_all peers view) (has_every peers views) h in
     (all_of_test peers view both.0, every_of_test peers views both.1)
 
 test_of_every : (peers : ℕ → Bool) (views : List (List ℕ)) → HasEvery peers views → has_every peers views ≡ true

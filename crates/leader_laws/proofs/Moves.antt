@@ -1,5 +1,6 @@
 -- Each move of a leader keeps what its table says.
 use Rattle.std.proofs.Common.{◌≡◌, ℕ, ◌<◌, ◌≤◌, Bool, true, false, List, ◌∷◌, Option, None, Some, arith, refl, inl, inr, sym, ◌∙◌, subst, le_trans, ◌⊎◌}
+use Rattle.ens_base.proofs.Lists.{bytes_same}
 use Rattle.std.specs.Prelude.{nat_lt, max}
 use Rattle.std.proofs.lemmas.Bool.{false≢true, true≢false}
 use Rattle.std.proofs.lemmas.Bool.Decides.{nat_tests}
@@ -7,7 +8,7 @@ use Rattle.ens_base.specs.Lists.{same_bytes}
 use Rattle.ens_base.specs.declared.reply.Reply.{Reply}
 use Rattle.register_model.specs.Registers.{outcome, Keeps}
 use Rattle.joint_views.specs.Quorums.{is_quorum}
-use Rattle.version_laws.proofs.Maps.{zero_not, same_bytes_eq, eq_same_bytes}
+use Rattle.version_laws.proofs.Maps.{zero_not, eq_same_bytes}
 use Rattle.std.proofs.Math.Nat.{le-max_left, le-max_right}
 use Rattle.version_laws.proofs.Basics.{proposed_then}
 use Rattle.version_laws.proofs.Descent.{Whole}
@@ -30,7 +31,7 @@ pub row_then : (rows : List ℕ → KeyRow) (k : List ℕ) (row : KeyRow) (P : L
 row_then rows k row P here old j = by_cases (same_bytes k j) refl
   where
     by_cases : (b : Bool) → same_bytes k j ≡ b → P j (set_row rows k row j)
-    by_cases true t = rw t (subst (λ (i : List ℕ). P i row) (same_bytes_eq k j t) here)
+    by_cases true t = rw t (subst (λ (i : List ℕ). P i row) (bytes_same k j t) here)
     by_cases false t = rw t (old j (λ e. false≢true (sym t ∙ eq_same_bytes k j e)))
 
 -- a move without a step

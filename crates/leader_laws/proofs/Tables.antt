@@ -1,10 +1,11 @@
 -- Moves one after another, tables as lists, and what no table may say.
 use Rattle.std.proofs.Common.{◌≡◌, ℕ, ◌≤◌, Bool, true, false, List, [], ◌∷◌, ◌++◌, arith, refl, sym, ◌∙◌, subst}
+use Rattle.ens_base.proofs.Lists.{bytes_same}
 use Rattle.abstract_protocol.proofs.Steps.{after_both, may_both}
 use Rattle.std.specs.Prelude.{if◌then◌else◌}
 use Rattle.ens_base.specs.Lists.{same_bytes}
 use Rattle.election_laws.proofs.Epochs.{not_both}
-use Rattle.version_laws.proofs.Maps.{same_bytes_eq, eq_same_bytes}
+use Rattle.version_laws.proofs.Maps.{eq_same_bytes}
 use Rattle.version_laws.proofs.Descent.{Whole}
 use Rattle.abstract_protocol.specs.Protocol.{State, Step, Propose, Settle, Note, Answer, after}
 use Rattle.leader_laws.specs.Tables.{Object, Known, Unknown, Nothing, Held, KeyRow, Leader, Ghosts, set_row, Unknown, TableEntry, rows_of, put_row}
@@ -56,7 +57,7 @@ put_found [] k row j = refl
 put_found (e ∷ table) k row j = by_cases (put_found table k row j) (same_bytes e.key k) refl
   where
     by_cases : rows_of (put_row table k row) j ≡ set_row (rows_of table) k row j → (b : Bool) → same_bytes e.key k ≡ b → rows_of (put_row (e ∷ table) k row) j ≡ set_row (rows_of (e ∷ table)) k row j
-    by_cases rest true t = rw t (here (same_bytes_eq e.key k t) (same_bytes k j) refl)
+    by_cases rest true t = rw t (here (bytes_same e.key k t) (same_bytes k j) refl)
       where
         here : e.key ≡ k → (b : Bool) → same_bytes k j ≡ b → (if same_bytes e.key j then row else rows_of table j) ≡ (if same_bytes k j then row else if same_bytes e.key j then e.row else rows_of table j)
         here same true u = rw (same, u) refl
@@ -64,7 +65,7 @@ put_found (e ∷ table) k row j = by_cases (put_found table k row j) (same_bytes
     by_cases rest false t = rw t (there (same_bytes e.key j) refl (same_bytes k j) refl)
       where
         there : (a : Bool) → same_bytes e.key j ≡ a → (b : Bool) → same_bytes k j ≡ b → (if same_bytes e.key j then e.row else rows_of (put_row table k row) j) ≡ (if same_bytes k j then row else if same_bytes e.key j then e.row else rows_of table j)
-        there true u true v = absurd (not_true (sym (eq_same_bytes e.key k (same_bytes_eq e.key j u ∙ sym (same_bytes_eq k j v))) ∙ t))
+        there true u true v = absurd (not_true (sym (eq_same_bytes e.key k (bytes_same e.key j u ∙ sym (bytes_same k j v))) ∙ t))
         there true u false v = rw (u, v) refl
         there false u true v = rw (u, v) (rest ∙ found_here v)
           where

@@ -1,7 +1,6 @@
 -- Versions and their numbers.
 use Rattle.std.proofs.Common.{◌≡◌, ℕ, suc, ◌<◌, ◌+◌, true, false, ◌==◌, Option, Some, None, arith, refl, ap}
 use Rattle.std.proofs.lemmas.Bool.Decides.{nat_tests}
-use Rattle.ens_base.specs.Epochs.{same_version}
 use Rattle.ens_base.specs.declared.epoch.Epoch.{Epoch}
 use Rattle.ens_base.specs.declared.epoch.Version.{Version}
 use Rattle.phase_rows.specs.Orders.{is_same}
@@ -54,6 +53,3 @@ plus_one n = omega arith
 
 pub same_epochs : (a b : Epoch) → is_same a b ≡ true → a ≡ b
 same_epochs a b h = grind (arith, nat_tests)
-
-pub same_versions : (a b : Version) → same_version a b ≡ true → a ≡ b
-same_versions a b h = grind (arith, nat_tests)

@@ -1,12 +1,12 @@
 -- The best of the replies of a round has the greatest version, and the object of a reply with it.
 use Rattle.std.specs.Prelude.{max}
-use Rattle.std.proofs.Common.{is_eq, List, ◌≡◌, ◌⊎◌, inl, inr, ℕ, suc, ◌<◌, ◌+◌, ◌*◌, ◌^◌, Option, None, Some, arith, refl, sym, ap, subst, ◌∙◌}
+use Rattle.std.proofs.Common.{is_eq, List, ◌≡◌, ◌⊎◌, inl, inr, ℕ, ◌<◌, ◌+◌, ◌*◌, ◌^◌, Option, None, Some, arith, refl, sym, ap, subst, ◌∙◌}
 use Rattle.std.proofs.lemmas.Bool.{cases_order}
-use Rattle.std.proofs.lemmas.Bool.Decides.{nat_tests}
 use Rattle.std.proofs.lemmas.Map.Text.{is_eq-slice_cmp}
 use Rattle.std.specs.Ordering.{nat_cmp, ordering_then}
 use Rattle.std.specs.declared.cmp.Ordering.{Ordering}
 use Rattle.std.specs.declared.cmp.Ordering.TheVariants.{Less, Equal, Greater}
+use Rattle.ens_base.proofs.Orders.{cmp_less, cmp_greater, epochs_compared, ranks_compared}
 use Rattle.ens_base.specs.Epochs.{version_cmp}
 use Rattle.ens_base.specs.Lists.{bytes_cmp}
 use Rattle.ens_base.proofs.Lists.{bytes_same}
@@ -24,38 +24,6 @@ use Rattle.leader_refinement.specs.Follows.{FoundFits, FoundNames, Hash}
 use Rattle.leader_refinement.specs.Laws.{EntryFits}
 
 -- ## Versions compare as their numbers
-
-cmp_less : (a b : ℕ) → a < b → nat_cmp a b ≡ Less
-cmp_less a b h = grind (arith, nat_tests)
-
-cmp_equal : (a b : ℕ) → a ≡ b → nat_cmp a b ≡ Equal
-cmp_equal a b h = grind (arith, nat_tests)
-
-cmp_greater : (a b : ℕ) → b < a → nat_cmp a b ≡ Greater
-cmp_greater a b h = grind (arith, nat_tests)
-
--- two pairs of numbers compare by the first part, then by the second
-then_by : (a b x y m n : ℕ) → (a ≡ b → x ≡ y → m ≡ n) → (a ≡ b → x < y → m < n) → (a ≡ b → y < x → n < m) → (a < b → m < n) → (b < a → n < m) → ordering_then (nat_cmp a b) (nat_cmp x y) ≡ nat_cmp m n
-then_by a b x y m n same less more below above = by_first (cases_order a b)
-  where
-    first : (o : Ordering) → nat_cmp a b ≡ o → ordering_then (nat_cmp a b) (nat_cmp x y) ≡ ordering_then o (nat_cmp x y)
-    first o e = ap (λ (p : Ordering). ordering_then p (nat_cmp x y)) e
-
-    by_second : a ≡ b → (x ≡ y) ⊎ ((x < y) ⊎ (y < x)) → nat_cmp x y ≡ nat_cmp m n
-    by_second e (inl f) = cmp_equal x y f ∙ sym (cmp_equal m n (same e f))
-    by_second e (inr (inl f)) = cmp_less x y f ∙ sym (cmp_less m n (less e f))
-    by_second e (inr (inr f)) = cmp_greater x y f ∙ sym (cmp_greater m n (more e f))
-
-    by_first : (a ≡ b) ⊎ ((a < b) ⊎ (b < a)) → ordering_then (nat_cmp a b) (nat_cmp x y) ≡ nat_cmp m n
-    by_first (inl e) = first Equal (cmp_equal a b e) ∙ by_second e (cases_order x y)
-    by_first (inr (inl f)) = first Less (cmp_less a b f) ∙ sym (cmp_less m n (below f))
-    by_first (inr (inr f)) = first Greater (cmp_greater a b f) ∙ sym (cmp_greater m n (above f))
-
-epochs_compared : (a b x y : ℕ) → x < 2 ^ 32 → y < 2 ^ 32 → ordering_then (nat_cmp a b) (nat_cmp x y) ≡ nat_cmp (a * 2 ^ 32 + x) (b * 2 ^ 32 + y)
-epochs_compared a b x y h k = then_by a b x y (a * 2 ^ 32 + x) (b * 2 ^ 32 + y) (λ e f. omega arith) (λ e f. omega arith) (λ e f. omega arith) (λ f. omega arith) (λ f. omega arith)
-
-ranks_compared : (a b x y : ℕ) → x < 2 ^ 64 → y < 2 ^ 64 → ordering_then (nat_cmp a b) (nat_cmp x y) ≡ nat_cmp (suc (a * 2 ^ 64 + x)) (suc (b * 2 ^ 64 + y))
-ranks_compared a b x y h k = then_by a b x y (suc (a * 2 ^ 64 + x)) (suc (b * 2 ^ 64 + y)) (λ e f. omega arith) (λ e f. omega arith) (λ e f. omega arith) (λ f. omega arith) (λ f. omega arith)
 
 compared : (u v : Version) → IsVersion u → IsVersion v → version_cmp u v ≡ nat_cmp (rank u) (rank v)
 unfolding theory.version_at epoch_number

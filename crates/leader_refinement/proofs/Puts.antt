@@ -5,6 +5,7 @@ use Rattle.std.proofs.lemmas.Bool.{and_parts}
 use Rattle.std.proofs.lemmas.Bool.Decides.{nat_tests}
 use Rattle.std.proofs.lemmas.List.{append-nil}
 use Rattle.std.proofs.lemmas.List.Elements.{All-nil}
+use Rattle.ens_base.proofs.Orders.{version_same}
 use Rattle.ens_base.specs.Epochs.{same_version}
 use Rattle.ens_base.proofs.Lists.{bytes_itself}
 use Rattle.ens_base.specs.declared.epoch.Epoch.{Epoch}
@@ -56,7 +57,7 @@ use Rattle.leader_laws.specs.Tables.{Ghosts, Owed, Seat}
 use Rattle.leader_refinement.proofs.Answers.{answered_so, seat_owing}
 use Rattle.leading.proofs.Moves.{runs as runs_now}
 use Rattle.leader_refinement.proofs.Base.{AreElsewhere, row_of_work, finish, no_move, rests_so, stands_elsewhere, knows_elsewhere, stage_row, known_row, staged_fits, rows_fit, calm_staged, calm_known, set_here, off_same}
-use Rattle.leader_refinement.proofs.Numbers.{rank_back, same_versions}
+use Rattle.leader_refinement.proofs.Numbers.{rank_back}
 use Rattle.leading.proofs.Votes.{answered_on, begun_on}
 use Rattle.leader_refinement.proofs.Votes.{answered_fewer, begun_fewer, IsClosed, closed_quorum, sent_say}
 use Rattle.leader_refinement.specs.Seen.{rank, content_of, known_of, voters, put_of, waiting_behind, row_parts, row_seen, table_of}
@@ -258,7 +259,7 @@ module _ (g : Ghosts) (s : State) (laws : LeadersMove s) (tables : TablesStay s)
         work.turns work.fits (answered_on acks from ∙ stage_fits.0) stage_fits.1.0 stage_fits.1.1 [] (λ t says. All-nil (SentSays g t)) (state_of (heard_from from acks)) refl
 
     by_version : (b : Bool) → (is_same ballot l.fact.epoch && same_version version o.version) ≡ b → Follows g s key owed l (if b then acknowledged (state_of (heard_from from acks)) o digest (heard_from from acks) rewrite key rests l else (l, rests))
-    by_version true e = counted_so (same_versions version o.version (and_parts (is_same ballot l.fact.epoch) (same_version version o.version) e).1)
+    by_version true e = counted_so (version_same version o.version (and_parts (is_same ballot l.fact.epoch) (same_version version o.version) e).1)
     by_version false e = rests_so g s key owed l work free
 
   acknowledged_by_so : (call : Option Waiting) → running key l.table.calls ≡ call → (stage : Stage) → (row_at key l.table.rows).stage ≡ stage → Follows g s key owed l (acknowledged_by stage from ballot version key l)

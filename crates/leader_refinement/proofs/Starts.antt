@@ -2,6 +2,7 @@
 use Rattle.std.specs.Prelude.{◌&&◌}
 use Rattle.std.proofs.Common.{◌≡◌, inr, ℕ, Bool, true, false, if◌then◌else◌, List, [], Option, Some, None, refl, sym, ap, subst, ◌∙◌}
 use Rattle.std.proofs.lemmas.Bool.{and_parts}
+use Rattle.ens_base.proofs.Orders.{version_same}
 use Rattle.ens_base.specs.Epochs.{same_version}
 use Rattle.ens_base.specs.Lists.{same_bytes}
 use Rattle.ens_base.proofs.Lists.{bytes_same}
@@ -45,7 +46,7 @@ use Rattle.leader_laws.specs.Rows.{needs_bytes}
 use Rattle.leader_laws.specs.Tables as theory
 use Rattle.leader_laws.specs.Tables.{Ghosts, Owed}
 use Rattle.leader_refinement.proofs.Base.{row_of_work, stays, rests_so, tasked_so, agree_running}
-use Rattle.leader_refinement.proofs.Numbers.{base_rank, base_fits, same_versions}
+use Rattle.leader_refinement.proofs.Numbers.{base_rank, base_fits}
 use Rattle.leader_refinement.specs.Seen.{rank, content_of, known_of, waiting_behind, row_parts}
 use Rattle.leader_refinement.specs.Follows.{settled_rank, IsAtWork, Follows}
 use Rattle.leader_refinement.specs.Laws.{KeptSays, BackendSays, CallsStart, NextIsSought}
@@ -125,7 +126,7 @@ matched key version digest kept o e = by_name (is_named (record { key = key; ver
         let second = and_parts (same_bytes kept.0.key key) (same_version kept.0.version version) first.0 in record {
           object = some_object kept.0 o e;
           on_key = bytes_same kept.0.key key second.0;
-          version_is = same_versions kept.0.version version second.1;
+          version_is = version_same kept.0.version version second.1;
           digest_is = bytes_same kept.1 digest first.1;
         }
     by_name false other e = absurd cc

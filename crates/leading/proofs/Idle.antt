@@ -1,7 +1,7 @@
 -- A leader without calls does nothing, and what is kept in each step.
 use Rattle.std.specs.Prelude.{IsSome}
 use Rattle.std.proofs.lemmas.Bool.{true≢false}
-use Rattle.std.proofs.Common.{is_some, ◌≡◌, ◌⊎◌, ◌==◌, ◌||◌, ◌∙◌, ap, sym, refl, subst, inl, inr, ℕ, Bool, true, false, map, if◌then◌else◌, List, [], ◌∷◌, Option, Some, None}
+use Rattle.std.proofs.Common.{is_some, ◌≡◌, ◌⊎◌, ◌||◌, ◌∙◌, ap, sym, refl, subst, inl, inr, ℕ, Bool, true, false, map, if◌then◌else◌, List, [], ◌∷◌, Option, Some, None}
 use Rattle.ens_base.specs.Lists.{same_bytes}
 use Rattle.ens_base.proofs.Lists.{bytes_same}
 use Rattle.ens_base.specs.declared.entry.Entry.{Entry}

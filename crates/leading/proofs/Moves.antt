@@ -1,6 +1,6 @@
 -- What a step on a key keeps to, and the steps that many rules share.
 use Rattle.std.specs.Prelude.{All, IsSome}
-use Rattle.std.proofs.Common.{◌≡◌, ◌≤◌, ◌<◌, ◌⊎◌, ◌+◌, ◌*◌, ◌∙◌, ap, sym, refl, subst, inl, inr, lit≤, ℕ, Bool, true, false, length, if◌then◌else◌, List, [], ◌∷◌, Option, Some, None, arith}
+use Rattle.std.proofs.Common.{◌≡◌, ◌<◌, ◌⊎◌, ◌+◌, ◌*◌, ◌∙◌, ap, sym, refl, subst, inl, inr, lit≤, ℕ, Bool, true, false, length, if◌then◌else◌, List, [], ◌∷◌, Option, Some, None, arith}
 use Rattle.std.proofs.lemmas.Bool.{true≢false}
 use Rattle.std.proofs.lemmas.List.Elements.{All-nil}
 use Rattle.ens_base.specs.Lists.{◌∈◌, same_bytes}
@@ -22,7 +22,6 @@ use Rattle.leader_words.specs.declared.out.LeadOut.{LeadOut}
 use Rattle.leader_words.specs.declared.out.Outgoing.{Outgoing}
 use Rattle.leader_words.specs.declared.out.Own.{Own}
 use Rattle.leading.specs.Leaders.{idle, with_task, knows, stands, base, answered}
-use Rattle.leading.specs.Rounds.{counts}
 use Rattle.leading.specs.Measure.{task_turns, weight, turns_next, turns_after}
 use Rattle.leading.specs.Steps.{MayGo, NamesOn, AsksOn, TellsOf, IsCause, IsEnded, Serves, KeepsOthers, Numbers, Runs, is_start, Fits, IsReady, IsReadyFor, CountsIn, CountsInOwnViews}
 use Rattle.leading.specs.declared.leader.Leader.{Leader}

@@ -41,7 +41,7 @@ use Rattle.leader_words.specs.declared.out.Outgoing.{Outgoing}
 use Rattle.leader_words.specs.declared.out.Own.TheVariants as owns
 use Rattle.leading.specs.Leaders.{with_task, knows, stands, base, settled_as, answered, read_answered, decided, concluded, is_spent, next_version}
 use Rattle.leading.specs.Starts.{on_object, by_value, by_stamp, by_known, started, row_28, next_call, row_36}
-use Rattle.leading.specs.Rounds.{counts, asked, asked_for, row_29, without_object, on_found, on_greatest, on_best, by_state, gathered, gathered_for, row_30, begins_check, checked_for, row_33, register_at, applied_for, row_34}
+use Rattle.leading.specs.Rounds.{asked, asked_for, row_29, without_object, on_found, on_greatest, on_best, by_state, gathered, gathered_for, row_30, begins_check, checked_for, row_33, register_at, applied_for, row_34}
 use Rattle.leading.specs.Puts.{proposed, written_for, row_31, rewritten, row_32, write_settled, settled_for, acknowledged, put_stored, put_seen, put_for, row_35}
 use Rattle.leading.specs.Measure.{turns_of, turns_seen, task_turns}
 use Rattle.leading.specs.Steps.{MayGo, IsCause, Runs, Fits, IsReady, CountsIn, CountsInOwnViews}

@@ -2,6 +2,7 @@
 use Rattle.std.proofs.Common.{◌≡◌, ◌∙◌, ◌&&◌, ap, sym, refl, subst, inl, inr, ℕ, Bool, true, false, is_none, if◌then◌else◌, List, [], ◌∷◌, ◌++◌, Option, Some, None, arith}
 use Rattle.std.proofs.lemmas.Bool.{and_parts}
 use Rattle.std.proofs.lemmas.Bool.Decides.{nat_tests}
+use Rattle.ens_base.proofs.Orders.{version_same}
 use Rattle.ens_base.specs.Lists.{◌∈◌}
 use Rattle.ens_base.specs.Epochs.{same_version}
 use Rattle.ens_base.specs.declared.command.Command.{Command}
@@ -111,9 +112,6 @@ key_settles n key seen l k version h =
 same_epochs : (a b : Epoch) → is_same a b ≡ true → a ≡ b
 same_epochs a b h = grind (arith, nat_tests)
 
-same_versions : (a b : Version) → same_version a b ≡ true → a ≡ b
-same_versions a b h = grind (arith, nat_tests)
-
 stage_settles : (stage : Stage) (from : ℕ) (ballot : Epoch) (key : List ℕ) (version : Version) (l : Leader) (k : List ℕ) (settled : Version) → (row_at key l.table.rows).stage ≡ stage → CountsInOwnViews l
     → Settled k settled ∈ (acknowledged_by stage from ballot version key l).1.notes → (k ≡ key) × (settled ≡ version) × SettlesWith from ballot key version l
 stage_settles (stages.Putting o digest acks rewrite) from ballot key version l k settled stage counts h = by_test (is_same ballot l.fact.epoch && same_version version o.version) refl h
@@ -123,7 +121,7 @@ stage_settles (stages.Putting o digest acks rewrite) from ballot key version l k
     by_test true e h =
         let at = acknowledged_settles (state_of (heard_from from acks)) o digest (heard_from from acks) rewrite key k settled rests l refl h in
         let parts = and_parts (is_same ballot l.fact.epoch) (same_version version o.version) e in
-        let put : version ≡ o.version = same_versions version o.version parts.1 in (
+        let put : version ≡ o.version = version_same version o.version parts.1 in (
           at.on_key,
           sym (put ∙ at.of_object),
           record {

@@ -1,5 +1,5 @@
 -- The state of a leader, its small changes, and the answer to a running call.
-use Rattle.std.specs.Prelude.{ℕ, ◌+◌, ◌-◌, ◌^◌, ◌==◌, Bool, Option, Some, None, is_none, List, [], ◌∷◌, ◌++◌}
+use Rattle.std.specs.Prelude.{ℕ, ◌+◌, ◌-◌, ◌^◌, ◌==◌, Bool, Option, is_none, List, [], ◌∷◌, ◌++◌}
 use Rattle.ens_base.specs.declared.epoch.Version.{Version}
 use Rattle.ens_base.specs.declared.reply.Reply.{Reply}
 use Rattle.ens_object.specs.declared.object.Object.{Object}

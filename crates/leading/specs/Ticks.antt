@@ -1,5 +1,5 @@
 -- Rule 5: a tick of a leader. And the answers of a leader that steps down.
-use Rattle.std.specs.Prelude.{ℕ, zero, suc, ◌+◌, ◌==◌, ◌&&◌, ◌||◌, not, nat_le, Bool, true, false, is_none, map, if◌then◌else◌, Option, Some, None, List, [], ◌∷◌, ◌++◌}
+use Rattle.std.specs.Prelude.{ℕ, zero, suc, ◌+◌, ◌&&◌, ◌||◌, nat_le, Bool, true, false, is_none, map, if◌then◌else◌, Option, Some, None, List, [], ◌∷◌, ◌++◌}
 use Rattle.ens_base.specs.PeerSet.{holds}
 use Rattle.ens_base.specs.declared.reply.Reply.TheVariants as replies
 use Rattle.peer_fact.specs.declared.fact.Fact.{Fact}

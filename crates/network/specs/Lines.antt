@@ -1,5 +1,5 @@
 -- Lines: for each sender and receiver, a queue of numbers of messages.
-use Rattle.std.specs.Prelude.{◌≡◌, ◌<◌, ◌+◌, ◌*◌, ℕ, true, List, [], ◌∷◌, if◌then◌else◌, slice_index_or, slice_set}
+use Rattle.std.specs.Prelude.{◌≡◌, ◌<◌, ◌+◌, ◌*◌, ◌==◌, ℕ, Bool, true, false, List, [], ◌∷◌, if◌then◌else◌, slice_index_or, slice_set}
 use Rattle.ens_base.specs.Lists.{is_in}
 use Rattle.wire_frames.specs.declared.frame.Frame.{Frame}
 

@@ -1,6 +1,6 @@
 -- The plain build of a map has exactly the nodes of the map.
-use Rattle.std.proofs.Common.{◌≡◌, ◌⊎◌, ℕ, zero, suc, ◌+◌, ◌-◌, ◌<◌, ◌≤◌, ◌^◌, Bool, true, false, List, [], ◌∷◌, ◌++◌, Option, None, Some, refl, ap, sym, ◌∙◌, subst, arith, inl, inr}
-use Rattle.ens_base.proofs.Lists.{in_left, in_right}
+use Rattle.std.proofs.Common.{◌≡◌, ◌⊎◌, ℕ, zero, suc, ◌+◌, ◌<◌, ◌≤◌, ◌^◌, Bool, true, false, List, [], ◌∷◌, ◌++◌, Option, None, Some, refl, ap, sym, ◌∙◌, subst, arith, inl, inr}
+use Rattle.ens_base.proofs.Lists.{in_left, in_right, bytes_same, bytes_itself}
 use Rattle.md5.specs.Md5.{md5}
 use Rattle.ens_base.specs.declared.entry.Entry.{Entry}
 use Rattle.ens_base.specs.Lists.{◌∈◌, same_bytes}
@@ -11,7 +11,6 @@ use Rattle.tree_maps.specs.Entries.{IsMap}
 use Rattle.tree_maps.specs.Forms.{Form, Laws, IsPlace, root, child}
 use Rattle.tree_maps.specs.Maps.{each_of, text, IsNode, NodesApart}
 use Rattle.tree_maps.specs.Paths.{under, text_at, present, node_of}
-use Rattle.tree_maps.proofs.Orders.{same_is, same_itself}
 use Rattle.tree_maps.proofs.Unique.{root_is_node, root_place, child_place}
 use Rattle.tree_maps.proofs.Below.{IsThere, there_if_some, place, every, child_under, node_below}
 use Rattle.tree_repair.specs.Builds.{somes, level_of, nodes_down, build_nodes}
@@ -123,11 +122,11 @@ found_stored [] s apart i = absurd i
 found_stored (t ∷ ts) s apart i = by (same_bytes (md5 s) (md5 t)) refl (λ j. found_stored ts s (λ u k e. apart u (inr k) e) j) i
   where
     no : same_bytes (md5 s) (md5 t) ≡ false → md5 s ≡ md5 t → ⊥
-    no differ e = let bad : true ≡ false = sym (same_itself (md5 t)) ∙ ap (λ k. same_bytes k (md5 t)) (sym e) ∙ differ in cc
+    no differ e = let bad : true ≡ false = sym (bytes_itself (md5 t)) ∙ ap (λ k. same_bytes k (md5 t)) (sym e) ∙ differ in cc
 
     by : (b : Bool) → same_bytes (md5 s) (md5 t) ≡ b → (s ∈ ts → value_at (md5 s) (stored_all ts) ≡ Some s) → s ∈ (t ∷ ts) → value_at (md5 s) (with_value (md5 t) t (stored_all ts)) ≡ Some s
     by true same rest j =
-        let is : s ≡ t = apart t (inl refl) (same_is (md5 s) (md5 t) same) in
+        let is : s ≡ t = apart t (inl refl) (bytes_same (md5 s) (md5 t) same) in
         subst (λ (u : List ℕ). value_at (md5 u) (with_value (md5 t) t (stored_all ts)) ≡ Some u) (sym is) (found_after (md5 t) t (stored_all ts))
     by false differ rest (inl is) = absurd (no differ (ap md5 is))
     by false differ rest (inr j) = others_after (md5 t) (md5 s) t (stored_all ts) (no differ) ∙ rest j

@@ -1,8 +1,7 @@
 -- The digests that the stored nodes of a map name.
-use Rattle.std.proofs.Common.{◌≡◌, ◌⊎◌, ℕ, zero, suc, ◌-◌, ◌/◌, ◌%◌, ◌<◌, List, [], ◌∷◌, Option, None, Some, get_or, arith, refl, ap, sym, ◌∙◌, inl, inr}
+use Rattle.std.proofs.Common.{◌≡◌, ◌⊎◌, ℕ, zero, suc, ◌-◌, ◌/◌, ◌%◌, List, [], Option, None, Some, get_or, arith, ap, sym, ◌∙◌, inl, inr}
 use Rattle.std.specs.Option.{option_and_then, option_map}
 use Rattle.std.proofs.Math.Nat.{mod-lt}
-use native.Mathlib.Nat.{pow-zero}
 use Rattle.md5.specs.Md5.{md5}
 use Rattle.ens_base.specs.declared.entry.Entry.{Entry}
 use Rattle.ens_outside.specs.Maps.{Entries, value_at}
@@ -14,20 +13,11 @@ use Rattle.tree_maps.specs.Maps.{within, named, text, IsNode}
 use Rattle.tree_maps.specs.Paths.{under, present}
 use Rattle.tree_maps.proofs.Formats.{sixteen_laws}
 use Rattle.tree_maps.proofs.Unique.{root_is_node, child_is, children_again}
-use Rattle.tree_maps.proofs.Below.{IsThere, place, every, under_child, child_again, parent_place, node_below, some_width}
+use Rattle.tree_maps.proofs.Below.{IsThere, place, under_child, child_again, parent_place, node_below, some_width, present_is, named_is, first_text}
 use Rattle.synctree.proofs.Places.{place_of}
 use Rattle.world_stores.specs.Nodes.{Nodes}
 use Rattle.node_faults.specs.Laws.{HoldsMap, digest_of_node}
 use Rattle.node_faults.specs.Naming.{child_in, child_under, named_in, named_at}
-
-present_is : (l : ℕ) (es : List Entry) (t : List ℕ) → ((present l es t ≡ None) × (es ≡ [])) ⊎ (IsThere l es × (present l es t ≡ Some t))
-present_is zero es t = inr (tt, refl)
-present_is (suc l) [] t = inl (refl, refl)
-present_is (suc l) (e ∷ es) t = inr (λ is. cc, refl)
-
-named_is : (l : ℕ) (es : List Entry) (t : List ℕ) → named es t ≡ option_map md5 (present (suc l) es t)
-named_is l [] t = refl
-named_is l (e ∷ es) t = refl
 
 module _ (F : Form) (laws : Laws F) where
   -- a stored inner node of the map names its children
@@ -43,14 +33,8 @@ module _ (F : Form) (laws : Laws F) where
       ∙ ap (λ (q : Position). named (within F (place l (i / F.width)) (i % F.width) (under F (place l (i / F.width)) m)) (text F h q (within F (place l (i / F.width)) (i % F.width) (under F (place l (i / F.width)) m)))) (child_again F laws l i)
       ∙ ap (λ (es : List Entry). named es (text F h (place (suc l) i) es)) (sym (under_child F l i m))
 
-  first_text : (h i : ℕ) (m : List Entry) → IsPlace F h (place 0 i) → text F h (place 0 i) (under F (place 0 i) m) ≡ text F F.depth root m
-  first_text h i m p = let zero_is : i ≡ 0 = small (rw (pow-zero F.width) at p.index) in let all : h ≡ F.depth = omega (arith, p.level) in rw (every m, all, zero_is) refl
-    where
-      small : i < 1 → i ≡ 0
-      small l = omega arith
-
   name_is : (h l i : ℕ) (s : Nodes) (m : List Entry) → IsPlace F h (place l i) → HoldsMap F s m → named_in F s l i ≡ option_map md5 (present l (under F (place l i) m) (text F h (place l i) (under F (place l i) m)))
-  name_is h zero i s m p holds = holds.top_is ∙ ap Some (holds.stands.root_is ∙ ap md5 (sym (first_text h i m p)))
+  name_is h zero i s m p holds = holds.top_is ∙ ap Some (holds.stands.root_is ∙ ap md5 (sym (first_text F h i m p)))
   name_is h (suc l) i s m p holds =
       ap (option_and_then (child_under F s.entries (place l (i / F.width)) (i % F.width))) (name_is (suc h) l (i / F.width) s m (parent_place F laws h l i p) holds)
       ∙ by (present_is l (under F (place l (i / F.width)) m) (text F (suc h) (place l (i / F.width)) (under F (place l (i / F.width)) m)))

@@ -1,6 +1,6 @@
 -- What a peer gives of a node obeys the grammar of frames, whatever bytes the node has.
-use Rattle.std.proofs.Common.{◌≡◌, ℕ, zero, suc, ◌≤◌, Bool, true, false, cond, List, [], ◌∷◌, length, take, Option, None, Some, Result, Ok, Err, refl, ap, arith, eqb}
-use Rattle.std.specs.Prelude.{IfOk, count_ones, nat_lt, ◌==◌}
+use Rattle.std.proofs.Common.{◌≡◌, ℕ, zero, suc, ◌≤◌, Bool, true, false, cond, List, [], ◌∷◌, length, take, Option, None, Some, Result, Ok, Err, refl, ap, arith}
+use Rattle.std.specs.Prelude.{IfOk, count_ones, ◌==◌}
 use Rattle.std.proofs.lemmas.Nat.{ones_le_self}
 use Rattle.ens_base.specs.declared.entry.Entry.{Entry}
 use Rattle.ens_base.specs.Results.{◌>>=◌}
@@ -22,7 +22,7 @@ use Rattle.tree_node.specs.Nodes.{ended, ordered, asked_at, inner_fields_at, inn
 use Rattle.tree_repair.proofs.Buckets.{above_part}
 use Rattle.wire_frames.specs.Messages.{ObeysBody}
 use Rattle.exchange.specs.declared.question.Question.{Question}
-use Rattle.exchange.specs.Gives.{is_beyond, beyond, page_of, inner_body, segment_body, nothing, given}
+use Rattle.exchange.specs.Gives.{is_beyond, beyond, page_of, inner_body, segment_body, given}
 use Rattle.step_plans.specs.declared.walked.Walked.{Walked}
 use Rattle.step_plans.specs.declared.walked.Walked.TheVariants.{Reached, Broken}
 use Rattle.peer_core.specs.Kept.{IsInTree}

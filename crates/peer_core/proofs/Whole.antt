@@ -1,7 +1,7 @@
 -- The plans of the tree that report no damage: a scan, and a rebuild.
-use Rattle.std.proofs.Common.{◌≡◌, ℕ, zero, suc, List, [], ◌∷◌, Option, None, Some, Result, Err, arith}
+use Rattle.std.proofs.Common.{ℕ, zero, suc, List, [], ◌∷◌, Option, None, Some, Err, arith}
 use Rattle.ens_base.specs.declared.entry.Entry.{Entry}
-use Rattle.synctree.specs.Installs.{write_all, install_plan}
+use Rattle.synctree.specs.Installs.{write_all}
 use Rattle.synctree.specs.Plans.{Plan, Done, Broken, Ask, ◌>>=◌, Ends, Call, AnswerOf}
 use Rattle.synctree.specs.Walks.{set_top}
 use Rattle.synctree.specs.declared.stored_node.StoredNode.{StoredNode}
@@ -9,7 +9,7 @@ use Rattle.tree_maps.specs.Forms.{Form, root}
 use Rattle.tree_node.specs.declared.position.Position.{Position}
 use Rattle.tree_repair.specs.Builds.{build_nodes, build_of}
 use Rattle.tree_repair.specs.Rebuilds.{hash_all as hash_strings, rebuild_plan}
-use Rattle.tree_verify.specs.Levels.{for_each, read_named, hash_read, hash_all, read_all, read_level, next_level, found, scan_from, scan_plan, slot}
+use Rattle.tree_verify.specs.Levels.{for_each, read_named, hash_read, hash_all, read_all, read_level, next_level, scan_from, scan_plan, slot}
 use Rattle.tree_verify.specs.declared.slot.Slot.{Slot}
 
 -- the plan reports no damage

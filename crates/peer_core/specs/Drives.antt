@@ -11,7 +11,6 @@ use Rattle.exchange.specs.declared.question.Question.{Question}
 use Rattle.following.specs.Requests.{row_21, row_22, row_23}
 use Rattle.leader_words.specs.declared.out.AnswerOut.{AnswerOut}
 use Rattle.leader_words.specs.declared.out.LeadOut.{LeadOut}
-use Rattle.leader_words.specs.declared.out.Outgoing.{Outgoing}
 use Rattle.leader_words.specs.declared.out.Own.{Own}
 use Rattle.leader_words.specs.declared.out.Own.TheVariants as owns
 use Rattle.leading.specs.Puts.{row_35_reply}
@@ -19,8 +18,7 @@ use Rattle.leading.specs.Rounds.{row_29_reply, row_33_reply}
 use Rattle.leading.specs.Rules.{lead_row}
 use Rattle.leading.specs.Starts.{row_27}
 use Rattle.leading.specs.declared.leader.Leader.{Leader}
-use Rattle.peer_fact.specs.declared.fact.Fact.{Fact}
-use Rattle.step_plans.specs.Plans.{Plan, Done, Out, nothing, Part, asked, noted}
+use Rattle.step_plans.specs.Plans.{Plan, Done, Out, nothing, Part, noted}
 use Rattle.step_plans.specs.Sends.{posted_to}
 use Rattle.step_plans.specs.Tasks.{named, keyed}
 use Rattle.phase_rows.specs.Orders.{is_same}

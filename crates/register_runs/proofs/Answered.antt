@@ -1,7 +1,8 @@
 -- What a call with a printed reply leaves of one possible register.
 use Rattle.std.proofs.Common.{◌≡◌, ℕ, Bool, true, false, List, [], ◌∷◌, ◌++◌, inl, inr, refl, sym, ap, subst, ◌∙◌, Option, None, Some}
 use Rattle.std.specs.Prelude.{if◌then◌else◌, not, ◌&&◌}
-use Rattle.std.proofs.lemmas.Bool.{and_parts, and_from, false≢true, not-true, not_from_false}
+use Rattle.std.proofs.lemmas.Bool.{and_parts, and_from, false≢true, not-true, not_from_false, false_from_ne_true}
+use Rattle.ens_base.proofs.Orders.{version_same, version_itself}
 use Rattle.ens_base.specs.Lists.{◌∈◌, same_bytes}
 use Rattle.ens_base.specs.Epochs.{same_version}
 use Rattle.ens_base.specs.declared.epoch.Version.{Version}
@@ -19,7 +20,7 @@ use Rattle.register_runs.specs.Meanings.{OfSome, IsTaken}
 use Rattle.register_runs.specs.declared.guess.Guess.{Guess}
 use Rattle.register_runs.specs.declared.guess.Guess.TheVariants.{Absent, Told, Untold}
 use Rattle.register_runs.specs.declared.guess.Possible.{Possible}
-use Rattle.register_runs.proofs.Stands.{in_with, with_old, with_new, unused, version_same, version_itself, same_of, no_true}
+use Rattle.register_runs.proofs.Stands.{in_with, with_old, with_new, unused, same_of}
 use Rattle.register_runs.proofs.Fresh.{Has, IsFree}
 use Rattle.register_runs.proofs.Outcomes.{IsBlind, blind_if, Fits, fits_absent, fits_present, Wanted, either_of, reply_itself, reply_same, shown_quiet, learned_more, learned_shown, learned_write, write_learned, shown_under, shown_over}
 use Rattle.register_runs.proofs.Silent.{new_true, new_gives, may_true, may_gives, StepTo, Step, Leaves, after_old, moved, single}
@@ -173,7 +174,7 @@ module _ (P : List Version → Register → Type 0) (fewer : (S T : List Version
       let B : Version → Type 0 = λ v. ¬ (v ∈ (N ++ K)) in
       let p = moved P (u ∷ (N ++ K)) s.0 (Reply.Ok t) s.1 (Present t new) s.3.1 s.3.3 s.4 in
       let sub = learned_write N K c t (t ∷ u ∷ (N ++ K)) (λ x there. inr (inr there)) (inl refl) (λ x f. inr (inl (f ∙ sym at))) in
-      let differ : same_version t w ≡ false = no_true (same_version t w) (λ f. s.3.2 (inl (version_same t w f ∙ sym at))) in
+      let differ : same_version t w ≡ false = false_from_ne_true (same_version t w) (λ f. s.3.2 (inl (version_same t w f ∙ sym at))) in
       let tests = and_from (is_new K N t) (not (same_version t w)) (new_true K N t (λ there. s.3.2 (inr there))) (not_from_false (same_version t w) differ) in
       let test = and_from (may_be K N E w) (is_new K N t && not (same_version t w)) (may_true K N E w (subst A at out) (subst B at fresh)) tests in
       subst Q is (chosen (learned K c (Reply.Ok t)) (may_be K N E w && (is_new K N t && not (same_version t w))) (record { held = Told t new; named = N }) test (fewer (t ∷ u ∷ (N ++ K)) (N ++ learned K c (Reply.Ok t)) (Present t new) sub p))
@@ -216,7 +217,7 @@ module _ (P : List Version → Register → Type 0) (fewer : (S T : List Version
       over x (inr (inr there)) = write_learned N K (Update w new) t x (inr there)
   update_from K N E w new b Reply.Failed h =
       let g = single P fewer free K (record { held = Untold b (with_stamp E w); named = N }) h.0 h.1 h.2 in
-      let differ : same_version w g.0 ≡ false = no_true (same_version w g.0) (λ e. g.1 (let A : Version → Type 0 = λ y. y ∈ with_stamp E w in subst A (version_same w g.0 e) (with_new E w))) in
+      let differ : same_version w g.0 ≡ false = false_from_ne_true (same_version w g.0) (λ e. g.1 (let A : Version → Type 0 = λ y. y ∈ with_stamp E w in subst A (version_same w g.0 e) (with_new E w))) in
       let Q : Bool → Type 0 = λ same. UpdateStep Reply.Failed same new (N ++ K) g.0 b in
       (g.0, λ there. g.1 (with_old E w g.0 there), g.2, subst Q (sym differ) (Reply.Failed, Present g.0 b, refl, (refl, refl), g.3))
   update_from K N E w new b r h = absurd h.1

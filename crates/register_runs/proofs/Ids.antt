@@ -9,8 +9,7 @@ use Rattle.register_model.specs.Histories.{IsDone, MayHave}
 use Rattle.register_model.specs.declared.answer.Answer.{Answer}
 use Rattle.register_model.specs.declared.call.Call.{Call}
 use Rattle.register_runs.specs.Places.{ArePlaces}
-use Rattle.register_runs.proofs.Stands.{in_either}
-use Rattle.ens_base.proofs.Lists.{in-map}
+use Rattle.ens_base.proofs.Lists.{in-map, in_append}
 
 -- two items of a list with the same name are equal, if the names are distinct
 pub one_of : {A : Type 0} (f : A → ℕ) (xs : List A) (x y : A) → AreDistinct (map f xs) → x ∈ xs → y ∈ xs → f x ≡ f y → x ≡ y
@@ -55,7 +54,7 @@ module _ (find next : ℕ → Option ℕ) (ids : List ℕ) (n d : ℕ) (lt : n <
 
   missing_next : (id : ℕ) (b : Bool) → nat_eq (get_or ids n d) id ≡ b → next id ≡ None → ¬ (id ∈ take (n + 1) ids)
   missing_next id true t e h = let bad : Some n ≡ None = sym (updates id ∙ ap (λ c. cond c (Some n) (find id)) t) ∙ e in absurd cc
-  missing_next id false t e h = by (in_either (take n ids) (get_or ids n d ∷ []) id (let P : List ℕ → Type 0 = λ l. id ∈ l in subst P (take_more ids n d lt) h))
+  missing_next id false t e h = by (in_append (take n ids) (get_or ids n d ∷ []) id (let P : List ℕ → Type 0 = λ l. id ∈ l in subst P (take_more ids n d lt) h))
     where
       by : (id ∈ take n ids) ⊎ (id ∈ (get_or ids n d ∷ [])) → ⊥
       by (inl there) = old.missing id (sym (updates id ∙ ap (λ c. cond c (Some n) (find id)) t) ∙ e) there

@@ -3,6 +3,7 @@ use Rattle.std.proofs.Common.{◌≡◌, ℕ, Bool, true, false, List, [], ◌�
 use Rattle.std.specs.Prelude.{if◌then◌else◌, fold}
 use Rattle.std.specs.List.{list_any}
 use Rattle.std.proofs.lemmas.Bool.{and_parts, or_cases, false≢true}
+use Rattle.ens_base.proofs.Orders.{version_same}
 use Rattle.ens_base.specs.Lists.{◌∈◌, same_bytes}
 use Rattle.ens_base.specs.Epochs.{same_version}
 use Rattle.ens_base.specs.declared.epoch.Version.{Version}
@@ -15,10 +16,10 @@ use Rattle.register_runs.specs.Meanings.{OfSome}
 use Rattle.register_runs.specs.declared.guess.Guess.{Guess}
 use Rattle.register_runs.specs.declared.guess.Guess.TheVariants.{Absent, Told, Untold}
 use Rattle.register_runs.specs.declared.guess.Possible.{Possible}
-use Rattle.register_runs.proofs.Stands.{in_either, in_within, version_same}
+use Rattle.register_runs.proofs.Stands.{in_within}
 use Rattle.register_runs.proofs.Fresh.{Has}
 use Rattle.register_runs.proofs.Outcomes.{either_of}
-use Rattle.ens_base.proofs.Lists.{bytes_same, in_left, in_right}
+use Rattle.ens_base.proofs.Lists.{bytes_same, in_left, in_right, in_append}
 
 -- ## A register that covers another can go on like it
 
@@ -47,7 +48,7 @@ module _ (P : List Version → Register → Type 0) (fewer : (S T : List Version
       parts = and_parts (held_within p.held q.held) (within p.named q.named) e
 
       under : Has (q.named ++ K) (p.named ++ K)
-      under x there = either_of (in_either p.named K x there) (λ l. in_left q.named K x (in_within p.named q.named x parts.1 l)) (λ k. in_right q.named K x k)
+      under x there = either_of (in_append p.named K x there) (λ l. in_left q.named K x (in_within p.named q.named x parts.1 l)) (λ k. in_right q.named K x k)
 
 -- ## Some register of a list
 
@@ -60,7 +61,7 @@ AnyOf G f list = (p : Possible) × (p ∈ list) × Any G (f p)
 module _ (G : Possible → Type 0) where
   added_from : (b : Bool) (done : List Possible) (p : Possible) → Any G (if b then done else done ++ p ∷ []) → Any G done ⊎ G p
   added_from true done p h = inl h
-  added_from false done p h = by (in_either done (p ∷ []) h.0 h.1)
+  added_from false done p h = by (in_append done (p ∷ []) h.0 h.1)
     where
       by : (h.0 ∈ done) ⊎ (h.0 ∈ (p ∷ [])) → Any G done ⊎ G p
       by (inl there) = inl (h.0, there, h.2)

@@ -2,6 +2,7 @@
 use Rattle.std.proofs.Common.{◌≡◌, ℕ, Bool, true, false, List, [], ◌∷◌, ◌++◌, ◌⊎◌, inl, inr, refl, sym, ap, subst, ◌∙◌}
 use Rattle.std.specs.Prelude.{if◌then◌else◌, Option, Some}
 use Rattle.std.proofs.lemmas.Bool.{and_parts, and_from, false≢true}
+use Rattle.ens_base.proofs.Orders.{version_same, version_itself}
 use Rattle.ens_base.specs.Lists.{◌∈◌, same_bytes}
 use Rattle.ens_base.specs.Epochs.{same_version}
 use Rattle.ens_base.specs.declared.epoch.Version.{Version}
@@ -13,8 +14,8 @@ use Rattle.register_model.specs.declared.register.Register.TheVariants.{Absent, 
 use Rattle.register_runs.specs.Stamps.{with_stamp}
 use Rattle.register_runs.specs.Guesses.{same_reply, learned, with_wanted}
 use Rattle.register_runs.proofs.Fresh.{Has}
-use Rattle.register_runs.proofs.Stands.{in_either, version_same, version_itself, in_with, with_old, with_new}
-use Rattle.ens_base.proofs.Lists.{bytes_same, bytes_itself, in_left, in_right}
+use Rattle.register_runs.proofs.Stands.{in_with, with_old, with_new}
+use Rattle.ens_base.proofs.Lists.{bytes_same, bytes_itself, in_left, in_right, in_append}
 
 -- ## Equal replies
 
@@ -127,19 +128,19 @@ either_of (inr b) f g = g b
 module _ (named known : List Version) (c : Command) where
   -- more is known after a reply
   pub learned_more : (r : Reply) → Has (named ++ learned known c r) (named ++ known)
-  learned_more r x h = either_of (in_either named known x h) (λ l. in_left named (learned known c r) x l) (λ k. in_right named (learned known c r) x (learned_old known c r x k))
+  learned_more r x h = either_of (in_append named known x h) (λ l. in_left named (learned known c r) x l) (λ k. in_right named (learned known c r) x (learned_old known c r x k))
 
   -- a reply that shows no further stamp teaches none
   pub learned_shown : (a : Reply) → ShowsOf (named ++ known) a → Has (named ++ known) (named ++ learned known c a)
   learned_shown (Reply.Value t b) shown x h =
-      either_of (in_either named (with_stamp known t) x h) (λ l. in_left named known x l) (λ k. either_of (in_with known t x k) (λ e. let P : Version → Type 0 = λ y. y ∈ (named ++ known) in subst P (sym e) shown) (λ old. in_right named known x old))
+      either_of (in_append named (with_stamp known t) x h) (λ l. in_left named known x l) (λ k. either_of (in_with known t x k) (λ e. let P : Version → Type 0 = λ y. y ∈ (named ++ known) in subst P (sym e) shown) (λ old. in_right named known x old))
   learned_shown (Reply.Ok t) shown x h = absurd shown
   learned_shown a shown x h = h
 
   -- the reply to a write teaches its stamp, and the one that it asked for
   pub learned_write : (t : Version) (taken : List Version) → Has taken (named ++ known) → t ∈ taken → ((x : Version) → Wanted c x → x ∈ taken) → Has taken (named ++ learned known c (Reply.Ok t))
   learned_write t taken old new wanted x h =
-      either_of (in_either named (with_wanted (with_stamp known t) c) x h)
+      either_of (in_append named (with_wanted (with_stamp known t) c) x h)
       (λ l. old x (in_left named known x l))
       (λ k. either_of (in_wanted (with_stamp known t) c x k)
       (λ s. either_of (in_with known t x s) (λ e. let P : Version → Type 0 = λ y. y ∈ taken in subst P (sym e) new) (λ before. old x (in_right named known x before)))
@@ -155,11 +156,11 @@ module _ (named known : List Version) (c : Command) where
   -- the same for a stamp that a read shows
   pub shown_under : (t : Version) → Has (t ∷ (named ++ known)) (named ++ with_stamp known t)
   shown_under t x h =
-      either_of (in_either named (with_stamp known t) x h) (λ l. inr (in_left named known x l)) (λ k. either_of (in_with known t x k) (λ e. inl e) (λ old. inr (in_right named known x old)))
+      either_of (in_append named (with_stamp known t) x h) (λ l. inr (in_left named known x l)) (λ k. either_of (in_with known t x k) (λ e. inl e) (λ old. inr (in_right named known x old)))
 
   pub shown_over : (t : Version) → Has (named ++ with_stamp known t) (t ∷ (named ++ known))
   shown_over t x (inl e) = in_right named (with_stamp known t) x (let P : Version → Type 0 = λ y. y ∈ with_stamp known t in subst P (sym e) (with_new known t))
-  shown_over t x (inr h) = either_of (in_either named known x h) (λ l. in_left named (with_stamp known t) x l) (λ k. in_right named (with_stamp known t) x (with_old known t x k))
+  shown_over t x (inr h) = either_of (in_append named known x h) (λ l. in_left named (with_stamp known t) x l) (λ k. in_right named (with_stamp known t) x (with_old known t x k))
 
 -- ## An outcome that leaves the register unchanged takes no stamp
 

@@ -1,8 +1,9 @@
 -- What a call without a printed reply leaves of one possible register.
 use Rattle.std.proofs.Common.{◌≡◌, ℕ, Bool, true, false, List, [], ◌∷◌, ◌++◌, inl, inr, refl, sym, subst, ◌∙◌, Option, None, Some}
-use Rattle.ens_base.proofs.Lists.{in_left, in_right}
+use Rattle.ens_base.proofs.Lists.{in_left, in_right, in_append}
 use Rattle.std.specs.Prelude.{if◌then◌else◌, not}
-use Rattle.std.proofs.lemmas.Bool.{and_parts, and_from, false≢true, true≢false, not-true, not_from_false}
+use Rattle.std.proofs.lemmas.Bool.{and_parts, and_from, false≢true, true≢false, not-true, not_from_false, false_from_ne_true}
+use Rattle.ens_base.proofs.Orders.{version_same, version_itself}
 use Rattle.ens_base.specs.Lists.{◌∈◌}
 use Rattle.ens_base.specs.Epochs.{same_version}
 use Rattle.ens_base.specs.declared.epoch.Version.{Version}
@@ -20,7 +21,7 @@ use Rattle.register_runs.specs.Meanings.{OfSome}
 use Rattle.register_runs.specs.declared.guess.Guess.{Guess}
 use Rattle.register_runs.specs.declared.guess.Guess.TheVariants.{Absent, Told, Untold}
 use Rattle.register_runs.specs.declared.guess.Possible.{Possible}
-use Rattle.register_runs.proofs.Stands.{in_either, not_in, has_not, unused, version_same, version_itself, same_of, no_true}
+use Rattle.register_runs.proofs.Stands.{not_in, has_not, unused, same_of}
 use Rattle.register_runs.proofs.Fresh.{Has, IsFree}
 use Rattle.register_runs.proofs.Outcomes.{IsBlind, blind_if, either_of, quiet_absent, quiet_present}
 
@@ -35,7 +36,7 @@ new_true known named t n =
 pub new_gives : (known named : List Version) (t : Version) → is_new known named t ≡ true → ¬ (t ∈ (named ++ known))
 new_gives known named t e h =
     let parts = and_parts (not (has known t)) (not (has named t)) e in
-    either_of (in_either named known t h) (λ l. not_in named t (not-true (has named t) parts.1) l) (λ k. not_in known t (not-true (has known t) parts.0) k)
+    either_of (in_append named known t h) (λ l. not_in named t (not-true (has named t) parts.1) l) (λ k. not_in known t (not-true (has known t) parts.0) k)
 
 pub may_true : (known named excluded : List Version) (t : Version) → ¬ (t ∈ excluded) → ¬ (t ∈ (named ++ known)) → may_be known named excluded t ≡ true
 may_true known named excluded t out n = and_from (is_new known named t) (not (has excluded t)) (new_true known named t n) (not_from_false (has excluded t) (has_not excluded t out))
@@ -76,7 +77,7 @@ pub moved : (P : List Version → Register → Type 0) (S : List Version) (a b :
 moved P S a b r q e f p = let Q : Register → Type 0 = λ x. P (stamps_after b S) x in subst Q f (let R : Reply → Type 0 = λ x. P (stamps_after x S) r in subst R e p)
 
 pub excluded_not : (E : List Version) (u w : Version) → ¬ (u ∈ E) → ¬ (u ≡ w) → ¬ (u ∈ (E ++ w ∷ []))
-excluded_not E u w out differ h = either_of (in_either E (w ∷ []) u h) out last
+excluded_not E u w out differ h = either_of (in_append E (w ∷ []) u h) out last
   where
     last : ¬ (u ∈ (w ∷ []))
     last (inl e) = differ e
@@ -200,8 +201,8 @@ module _ (P : List Version → Register → Type 0) (fewer : (S T : List Version
     where
       inside : (x : Version) → x ∈ ((N ++ w ∷ []) ++ K) → x ∈ (u ∷ (N ++ K))
       inside x h =
-          either_of (in_either (N ++ w ∷ []) K x h)
-          (λ l. either_of (in_either N (w ∷ []) x l) (λ n. inr (in_left N K x n)) (λ o. inl (alone x o ∙ version_same w u e)))
+          either_of (in_append (N ++ w ∷ []) K x h)
+          (λ l. either_of (in_append N (w ∷ []) x l) (λ n. inr (in_left N K x n)) (λ o. inl (alone x o ∙ version_same w u e)))
           (λ k. inr (in_right N K x k))
         where
           alone : (x : Version) → x ∈ (w ∷ []) → x ≡ w
@@ -226,7 +227,7 @@ module _ (P : List Version → Register → Type 0) (fewer : (S T : List Version
   -- the update failed, on a value with another stamp
   fails_from : (S : List Version) (w u : Version) (new b : List ℕ) → ¬ (u ≡ w) → P (u ∷ S) (Present u b) → UpdateStep None (same_version w u) new S u b
   fails_from S w u new b differ p =
-      let e : same_version w u ≡ false = no_true (same_version w u) (λ h. differ (sym (version_same w u h))) in
+      let e : same_version w u ≡ false = false_from_ne_true (same_version w u) (λ h. differ (sym (version_same w u h))) in
       let Q : Bool → Type 0 = λ same. UpdateStep None same new S u b in
       subst Q (sym e) (Reply.Failed, Present u b, tt, (refl, refl), p)
 
@@ -248,7 +249,7 @@ module _ (P : List Version → Register → Type 0) (fewer : (S T : List Version
         where
           back : (x : Version) → x ∈ (w ∷ (N ++ K)) → x ∈ ((N ++ w ∷ []) ++ K)
           back x (inl e) = in_left (N ++ w ∷ []) K x (in_right N (w ∷ []) x (inl e))
-          back x (inr h) = either_of (in_either N K x h) (λ l. in_left (N ++ w ∷ []) K x (in_left N (w ∷ []) x l)) (λ k. in_right (N ++ w ∷ []) K x k)
+          back x (inr h) = either_of (in_append N K x h) (λ l. in_left (N ++ w ∷ []) K x (in_left N (w ∷ []) x l)) (λ k. in_right (N ++ w ∷ []) K x k)
 
           apart : (t : Version) → ¬ (t ∈ ((N ++ w ∷ []) ++ K)) → ¬ (t ∈ (w ∷ (N ++ K)))
           apart t n h = n (back t h)

@@ -1,22 +1,13 @@
 -- Membership in lists, and in lists of stamps.
 use Rattle.std.proofs.Common.{◌≡◌, ℕ, suc, ◌+◌, ◌<◌, Bool, true, false, List, [], ◌∷◌, ◌++◌, ◌⊎◌, inl, inr, refl, sym, ap, subst, ◌∙◌, arith}
-use Rattle.ens_base.proofs.Lists.{in_left, in_right}
+use Rattle.ens_base.proofs.Lists.{in_left, in_right, in_append}
 use Rattle.std.specs.Prelude.{if◌then◌else◌}
-use Rattle.std.proofs.lemmas.Bool.{false≢true, or_cases, or_left, or_right, and_parts}
-use Rattle.std.proofs.lemmas.Bool.Decides.{nat_tests}
+use Rattle.std.proofs.lemmas.Bool.{false≢true, or_cases, or_left, or_right, and_parts, false_from_ne_true}
+use Rattle.ens_base.proofs.Orders.{version_itself, version_same}
 use Rattle.ens_base.specs.Lists.{◌∈◌}
 use Rattle.ens_base.specs.Epochs.{same_version}
 use Rattle.ens_base.specs.declared.epoch.Version.{Version}
 use Rattle.register_runs.specs.Stamps.{has, within, with_stamp}
-
-further : {A : Type 0} (y : A) (xs ys : List A) (x : A) → (x ∈ xs) ⊎ (x ∈ ys) → (x ∈ (y ∷ xs)) ⊎ (x ∈ ys)
-further y xs ys x (inl h) = inl (inr h)
-further y xs ys x (inr h) = inr h
-
-pub in_either : {A : Type 0} (xs ys : List A) (x : A) → x ∈ (xs ++ ys) → (x ∈ xs) ⊎ (x ∈ ys)
-in_either [] ys x h = inr h
-in_either (y ∷ xs) ys x (inl e) = inl (inl e)
-in_either (y ∷ xs) ys x (inr h) = further y xs ys x (in_either xs ys x h)
 
 only : {A : Type 0} (y x : A) → x ∈ (y ∷ []) → x ≡ y
 only y x (inl e) = e
@@ -24,24 +15,8 @@ only y x (inr h) = absurd h
 
 -- ## Versions
 
-counts : (a b : Version) → same_version a b ≡ true → a.epoch.count ≡ b.epoch.count
-counts a b h = grind (arith, nat_tests)
-
-proposers : (a b : Version) → same_version a b ≡ true → a.epoch.proposer ≡ b.epoch.proposer
-proposers a b h = grind (arith, nat_tests)
-
-seqs : (a b : Version) → same_version a b ≡ true → a.seq ≡ b.seq
-seqs a b h = grind (arith, nat_tests)
-
 abbrev made : ℕ → ℕ → ℕ → Version
 made n p s = record { epoch = record { count = n; proposer = p }; seq = s }
-
-pub version_same : (a b : Version) → same_version a b ≡ true → a ≡ b
-version_same a b h =
-    ap (λ (n : ℕ). made n a.epoch.proposer a.seq) (counts a b h) ∙ ap (λ (p : ℕ). made b.epoch.count p a.seq) (proposers a b h) ∙ ap (λ (s : ℕ). made b.epoch.count b.epoch.proposer s) (seqs a b h)
-
-pub version_itself : (a : Version) → same_version a a ≡ true
-version_itself a = grind (arith, nat_tests)
 
 pub same_of : (a b : Version) → a ≡ b → same_version a b ≡ true
 same_of a b e = let P : Version → Type 0 = λ c. same_version a c ≡ true in subst P e (version_itself a)
@@ -64,12 +39,8 @@ in_has (s ∷ ss) x (inr h) = or_right (same_version s x) (has ss x) (in_has ss 
 pub not_in : (stamps : List Version) (x : Version) → has stamps x ≡ false → ¬ (x ∈ stamps)
 not_in stamps x e h = false≢true (sym e ∙ in_has stamps x h)
 
-pub no_true : (b : Bool) → (b ≡ true → ⊥) → b ≡ false
-no_true true n = absurd (n refl)
-no_true false n = refl
-
 pub has_not : (stamps : List Version) (x : Version) → ¬ (x ∈ stamps) → has stamps x ≡ false
-has_not stamps x n = no_true (has stamps x) (λ e. n (has_in stamps x e))
+has_not stamps x n = false_from_ne_true (has stamps x) (λ e. n (has_in stamps x e))
 
 pub in_within : (some all : List Version) (x : Version) → within some all ≡ true → x ∈ some → x ∈ all
 in_within [] all x h there = absurd there
@@ -80,7 +51,7 @@ in_within (s ∷ some) all x h (inr there) = in_within some all x (and_parts (ha
 
 with_either : (b : Bool) (stamps : List Version) (t x : Version) → x ∈ (if b then stamps else stamps ++ t ∷ []) → (x ≡ t) ⊎ (x ∈ stamps)
 with_either true stamps t x h = inr h
-with_either false stamps t x h = swapped (in_either stamps (t ∷ []) x h)
+with_either false stamps t x h = swapped (in_append stamps (t ∷ []) x h)
   where
     swapped : (x ∈ stamps) ⊎ (x ∈ (t ∷ [])) → (x ≡ t) ⊎ (x ∈ stamps)
     swapped (inl there) = inr there

@@ -1,11 +1,12 @@
 -- What is found in a map with one more entry.
 use Rattle.std.proofs.Common.{◌≡◌, ◌⊎◌, inl, inr, ℕ, Bool, true, false, cond, List, [], ◌∷◌, Some, refl, sym, ap, ◌∙◌}
+use Rattle.ens_base.proofs.Lists.{bytes_same}
 use Rattle.std.specs.declared.cmp.Ordering.{Ordering}
 use Rattle.std.specs.declared.cmp.Ordering.TheVariants.{Less, Equal, Greater}
 use Rattle.ens_base.specs.declared.entry.Entry.{Entry}
 use Rattle.ens_base.specs.Lists.{◌∈◌, bytes_cmp, same_bytes}
 use Rattle.tree_maps.specs.Entries.{placed, put, lookup}
-use Rattle.tree_maps.proofs.Orders.{cmp_same, cmp_equal, same_is}
+use Rattle.tree_maps.proofs.Orders.{cmp_same, cmp_equal}
 
 some_is : (x y : Entry) → Some x ≡ Some y → x ≡ y
 some_is x y e = cc
@@ -24,7 +25,7 @@ lookup_put e (x ∷ m) k = by_order (bytes_cmp e.key x.key) refl (lookup_put e m
     after_it b false here there more rest = rest
     after_it false true here there more rest = refl
     after_it true true here there more rest =
-        let keys : x.key ≡ e.key = same_is x.key k there ∙ sym (same_is e.key k here) in
+        let keys : x.key ≡ e.key = bytes_same x.key k there ∙ sym (bytes_same e.key k here) in
         let no : Greater ≡ Equal = sym more ∙ ap (λ (j : List ℕ). bytes_cmp e.key j) keys ∙ cmp_same e.key in absurd cc
 
     by_order : (o : Ordering) → bytes_cmp e.key x.key ≡ o → lookup k (put e m) ≡ cond (same_bytes e.key k) (Some e) (lookup k m) → lookup k (placed o e x m (put e m)) ≡ cond (same_bytes e.key k) (Some e) (cond (same_bytes x.key k) (Some x) (lookup k m))
@@ -62,5 +63,5 @@ lookup_key k [] e h = absurd cc
 lookup_key k (x ∷ m) e h = by_same (same_bytes x.key k) refl h (λ t. lookup_key k m e t)
   where
     by_same : (b : Bool) → same_bytes x.key k ≡ b → cond b (Some x) (lookup k m) ≡ Some e → (lookup k m ≡ Some e → e.key ≡ k) → e.key ≡ k
-    by_same true same h later = ap (λ (f : Entry). f.key) (sym (some_is x e h)) ∙ same_is x.key k same
+    by_same true same h later = ap (λ (f : Entry). f.key) (sym (some_is x e h)) ∙ bytes_same x.key k same
     by_same false other h later = later h

@@ -2,6 +2,7 @@
 use Rattle.std.proofs.Common.{◌≡◌, inl, inr, ◌≤◌, ℕ, Bool, true, false, if◌then◌else◌, List, Option, None, Some, arith, refl, sym, ap, subst, ◌∙◌}
 use Rattle.std.specs.Prelude.{not}
 use Rattle.std.proofs.lemmas.Bool.Decides.{nat_tests}
+use Rattle.ens_base.proofs.Orders.{version_same}
 use Rattle.ens_base.specs.Epochs.{same_version}
 use Rattle.ens_base.specs.declared.entry.Entry.{Entry}
 use Rattle.ens_base.specs.declared.epoch.Epoch.{Epoch}
@@ -29,7 +30,7 @@ use Rattle.leader_laws.specs.Laws.{PeersReply}
 use Rattle.leader_laws.specs.Leaders.{TurnsHold, IsObjectOf}
 use Rattle.leader_laws.specs.Messages.{GetSays, CheckSays, PutSays, GetReplySays}
 use Rattle.leader_laws.specs.Tables.{Ghosts}
-use Rattle.leader_refinement.proofs.Numbers.{same_epochs, same_versions}
+use Rattle.leader_refinement.proofs.Numbers.{same_epochs}
 use Rattle.leader_refinement.specs.Seen.{rank, content_of, entry_rank, shown}
 use Rattle.kept_objects.specs.Kept.{entry_of}
 use Rattle.request_refinement.proofs.Lookups.{lookup_in}
@@ -166,7 +167,7 @@ module _ (s : State) (g : Ghosts) (strings : List (List ℕ)) (q : ℕ) (fact : 
         by_below false less = inr (inr (takes_version is (lower (not_below_version o.version e.version (version_fits o.version obeys.version) (version_fits e.version here.version.object.version) less))))
 
         by_same : (b : Bool) → same_version e.version o.version ≡ b → IsReply (if b then acknowledges from ballot o Stay else (if is_version_below o.version e.version then silent Stay else acknowledges from ballot o Put))
-        by_same true same = inr (inl (has_version is (shows ∙ ap rank (same_versions e.version o.version same))))
+        by_same true same = inr (inl (has_version is (shows ∙ ap rank (version_same e.version o.version same))))
         by_same false other = by_below (is_version_below o.version e.version) refl
 
     at_entry : IsServed → (entry : Option Entry) → entry ≡ lookup o.key m → IsReply (puts_at from ballot o entry)

@@ -1,6 +1,6 @@
 -- The chain of the settled versions of a key, as the notes give it.
 use Rattle.std.proofs.Common.{◌≡◌, ℕ, zero, suc, ◌<◌, ◌≤◌, Bool, true, false, ◌&&◌, ◌⊎◌, List, [], ◌∷◌, ◌++◌, Option, eqb, eqb-true, eq-eqb, arith, ap, refl, inl, inr, sym, ◌∙◌, subst, le_trans, max}
-use Rattle.ens_base.proofs.Lists.{in_append, in_left, in_right}
+use Rattle.ens_base.proofs.Lists.{in_append, in_left, in_right, bytes_same}
 use Rattle.std.proofs.lemmas.Bool.Decides.{nat_tests}
 use Rattle.std.proofs.lemmas.Bool.{cases_order, eqb-false, and_parts}
 use Rattle.ens_base.specs.Lists.{same_bytes, ◌∈◌}
@@ -10,7 +10,7 @@ use Rattle.register_model.specs.declared.note.Note.TheVariants.{Proposed, Settle
 use Rattle.register_model.specs.Orders.{rank, rank_or_none, lower_or_none, parent_in, call_in, newest_in, chain}
 use Rattle.election_laws.proofs.Epochs.{not_both}
 use Rattle.version_laws.proofs.Trees.{ancestor_low}
-use Rattle.version_laws.proofs.Maps.{zero_not, same_bytes_eq, eq_same_bytes}
+use Rattle.version_laws.proofs.Maps.{zero_not, eq_same_bytes}
 use Rattle.safety_laws.proofs.Ordered.{Ordered, ordered_push}
 use Rattle.version_laws.proofs.Basics.{Basics}
 use Rattle.entry_laws.specs.Entries.{EntriesAreSafe}
@@ -47,7 +47,7 @@ module _ (s : State) (basics : Basics s.objects) (k : List ℕ) where
   lower_is p v h = grind (arith, nat_tests)
 
   test_true : (j : List ℕ) (x v : ℕ) → (same_bytes j k && eqb x v) ≡ true → (j ≡ k) × (x ≡ v)
-  test_true j x v h = let p = and_parts (same_bytes j k) (eqb x v) h in (same_bytes_eq j k p.0, eqb-true x v p.1)
+  test_true j x v h = let p = and_parts (same_bytes j k) (eqb x v) h in (bytes_same j k p.0, eqb-true x v p.1)
 
   test_holds : (j : List ℕ) (x v : ℕ) → j ≡ k → x ≡ v → (same_bytes j k && eqb x v) ≡ true
   test_holds j x v e f = rw (eq_same_bytes j k e, eq-eqb x v f) refl
@@ -125,7 +125,7 @@ module _ (s : State) (basics : Basics s.objects) (k : List ℕ) where
       by_max e (inr r) m (inr f) = inr (subst (SettledHolds s k) (sym f) r)
 
       by_test : (newest_in ns k ≡ 0) ⊎ SettledHolds s k (newest_in ns k) → (b : Bool) → same_bytes j k ≡ b → (newest_in (SettledNote j x ∷ ns) k ≡ 0) ⊎ SettledHolds s k (newest_in (SettledNote j x ∷ ns) k)
-      by_test rest true t = subst (λ (n : ℕ). (n ≡ 0) ⊎ SettledHolds s k n) (sym (unfolded t)) (by_max (same_bytes_eq j k t) rest (max (rank x) (newest_in ns k)) (either (rank x) (newest_in ns k)))
+      by_test rest true t = subst (λ (n : ℕ). (n ≡ 0) ⊎ SettledHolds s k n) (sym (unfolded t)) (by_max (bytes_same j k t) rest (max (rank x) (newest_in ns k)) (either (rank x) (newest_in ns k)))
         where
           unfolded : same_bytes j k ≡ true → newest_in (SettledNote j x ∷ ns) k ≡ max (rank x) (newest_in ns k)
           unfolded t = rw t refl

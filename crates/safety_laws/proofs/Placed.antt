@@ -1,6 +1,6 @@
 -- Where each call is placed in the order of a key; the order follows versions and notes.
 use Rattle.std.proofs.Common.{◌≡◌, ℕ, zero, suc, ◌<◌, ◌≤◌, Bool, true, false, ◌&&◌, ◌⊎◌, List, [], ◌∷◌, ◌++◌, Option, None, Some, eqb, eqb-true, eq-eqb, arith, ap, refl, inl, inr, sym, ◌∙◌, subst}
-use Rattle.ens_base.proofs.Lists.{in_append, in_left, in_right}
+use Rattle.ens_base.proofs.Lists.{in_append, in_left, in_right, bytes_same}
 use Rattle.std.specs.Prelude.{if◌then◌else◌}
 use Rattle.std.proofs.lemmas.Bool.{cases_order, and_parts}
 use Rattle.ens_base.specs.Lists.{same_bytes, ◌∈◌}
@@ -9,7 +9,7 @@ use Rattle.register_model.specs.declared.note.Note.{Note as Noted}
 use Rattle.register_model.specs.declared.note.Note.TheVariants.{Proposed, Settled as SettledNote, Read}
 use Rattle.register_model.specs.Orders.{rank_or_none, parent_in, call_in, newest_in, reads_on, chain, write_of, block, blocks, settled_chain, order}
 use Rattle.election_laws.proofs.Epochs.{not_both}
-use Rattle.version_laws.proofs.Maps.{epoch_mono, same_bytes_eq, eq_same_bytes}
+use Rattle.version_laws.proofs.Maps.{epoch_mono, eq_same_bytes}
 use Rattle.abstract_protocol.proofs.Ranks.{rank-version_of, rank-version_or_none}
 use Rattle.safety_laws.proofs.Ordered.{Ordered, ordered_append, ordered_more}
 use Rattle.version_laws.proofs.Dead.{settled_alive}
@@ -133,7 +133,7 @@ module _ (s : State) (w : Whole s.objects) (entries : EntriesAreSafe s) (listed 
       same_note e f = cc
 
       by_test : (i ∈ reads_on ns k v → (c : Option Version) × (Read i k c ∈ ns) × (rank_or_none c ≡ v)) → (t : Bool) → (same_bytes l k && eqb (rank_or_none b) v) ≡ t → i ∈ (if t then j ∷ reads_on ns k v else reads_on ns k v) → (c : Option Version) × (Read i k c ∈ (Read j l b ∷ ns)) × (rank_or_none c ≡ v)
-      by_test rest true t (inl e) = (b, inl (same_note e (same_bytes_eq l k ((and_parts (same_bytes l k) (eqb (rank_or_none b) v) t).0))), eqb-true (rank_or_none b) v ((and_parts (same_bytes l k) (eqb (rank_or_none b) v) t).1))
+      by_test rest true t (inl e) = (b, inl (same_note e (bytes_same l k ((and_parts (same_bytes l k) (eqb (rank_or_none b) v) t).0))), eqb-true (rank_or_none b) v ((and_parts (same_bytes l k) (eqb (rank_or_none b) v) t).1))
       by_test rest true t (inr p) = later (rest p)
       by_test rest false t p = later (rest p)
   in_reads (Proposed l x p c ∷ ns) v i h = let r = in_reads ns v i h in (r.0, inr r.1, r.2)

@@ -1,7 +1,7 @@
 -- Peers of lines `revert`, and views of lines `change`.
 use Rattle.std.proofs.Common.{◌≡◌, ℕ, zero, suc, ◌<◌, Bool, true, false, ◌||◌, List, [], ◌∷◌, ◌++◌, length, get_or, refl, sym, ap, subst, ◌∙◌, inl, inr, eqb-true, arith}
 use Rattle.std.specs.Prelude.{replicate, slice_index_or}
-use Rattle.std.proofs.lemmas.Bool.{eq-eqb, false≢true}
+use Rattle.std.proofs.lemmas.Bool.{eq-eqb, false≢true, or_right, or_left}
 use Rattle.ens_base.specs.Lists.{◌∈◌}
 use Rattle.ens_base.specs.PeerSet.{holds}
 use Rattle.ens_base.specs.View.{IsView}
@@ -38,14 +38,6 @@ reverted_by p (event ∷ more) h = by (reverts p event) refl h (reverted_by p mo
     by : (b : Bool) → reverts p event ≡ b → (b || is_reverted more p) ≡ true → (is_reverted more p ≡ true → (changes : ℕ) × (Revert p changes ∈ more)) → (changes : ℕ) × (Revert p changes ∈ event ∷ more)
     by true e h later = let here = reverting p event e in (here.0, inl here.1)
     by false e h later = let there = later h in (there.0, inr there.1)
-
-or_right : (a b : Bool) → b ≡ true → (a || b) ≡ true
-or_right true b h = refl
-or_right false b h = h
-
-or_left : (a b : Bool) → a ≡ true → (a || b) ≡ true
-or_left true b h = refl
-or_left false b h = absurd (false≢true h)
 
 pub by_revert : (p changes : ℕ) (events : List ScheduleEvent) → Revert p changes ∈ events → is_reverted events p ≡ true
 by_revert p changes [] at = absurd at

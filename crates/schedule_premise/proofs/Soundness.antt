@@ -1,7 +1,7 @@
 -- What the search for a failing view says of a schedule.
 use Rattle.std.proofs.Common.{◌≡◌, ℕ, Bool, true, false, not, None, Some, List, [], ◌∷◌, refl, sym, ap, subst, ◌∙◌, inl, inr, arith}
 use Rattle.std.specs.Prelude.{◌↔◌, find}
-use Rattle.std.proofs.lemmas.Bool.{true≢false, false≢true}
+use Rattle.std.proofs.lemmas.Bool.{true≢false, false≢true, not-false}
 use Rattle.ens_base.specs.Lists.{◌∈◌}
 use Rattle.ens_base.specs.PeerSet.{holds}
 use Rattle.ens_base.specs.View.{IsView}
@@ -17,10 +17,6 @@ use Rattle.schedule_premise.proofs.Searches.{FoundAt, finds_none, found_at, foun
 not_true : (b : Bool) → not b ≡ true → b ≡ true → ⊥
 not_true true h e = false≢true h
 not_true false h e = false≢true e
-
-not_false : (b : Bool) → not b ≡ false → b ≡ true
-not_false true h = refl
-not_false false h = absurd (true≢false h)
 
 not_of_true : (b : Bool) → b ≡ true → not b ≡ false
 not_of_true true h = refl
@@ -40,7 +36,7 @@ module _ (s : Schedule) where
   -- ## One view
 
   keeps : (view : List ℕ) → fails (is_reverted s.events) view ≡ false → KeepsMajority s view
-  keeps view h = record { peers = λ p. not (is_reverted s.events p); majority = not_false (keeps_majority (is_reverted s.events) view) h; kept = kept_not }
+  keeps view h = record { peers = λ p. not (is_reverted s.events p); majority = not-false (keeps_majority (is_reverted s.events) view) h; kept = kept_not }
 
   kept_holds : (view : List ℕ) → KeepsMajority s view → keeps_majority (is_reverted s.events) view ≡ true
   kept_holds view k = majority_more k.peers (λ p. not (is_reverted s.events p)) (λ p inside. true_of_not (is_reverted s.events p) (λ r. k.kept p inside (reverted_by p s.events r))) view k.majority

@@ -1,9 +1,9 @@
 -- Searches in lists.
 use Rattle.std.proofs.Common.{◌≡◌, ℕ, Bool, true, false, ◌||◌, if◌then◌else◌, Some, List, [], ◌∷◌, map, refl, sym, ap}
+use Rattle.ens_base.proofs.Lists.{bytes_same}
 use Rattle.std.specs.List.{list_any}
 use Rattle.std.specs.Prelude.{find}
 use Rattle.ens_base.specs.Lists.{same_bytes}
-use Rattle.schedule_words.proofs.Fields.{same_bytes-same}
 
 -- a test of the images
 pub list_any-map : {A B : Type 0} (p : B → Bool) (f : A → B) (xs : List A) → list_any p (map f xs) ≡ list_any (λ x. p (f x)) xs
@@ -21,4 +21,4 @@ find_passes {A = A} p (y ∷ ys) x h = by (p y) (find_passes p ys x) refl h
 
 -- the word that was looked up is that of what was found
 pub find_word : {A : Type 0} (word_of : A → List ℕ) (xs : List A) (word : List ℕ) (x : A) → find (λ a. same_bytes (word_of a) word) xs ≡ Some x → word ≡ word_of x
-find_word word_of xs word x h = sym (same_bytes-same (word_of x) word (find_passes (λ a. same_bytes (word_of a) word) xs x h))
+find_word word_of xs word x h = sym (bytes_same (word_of x) word (find_passes (λ a. same_bytes (word_of a) word) xs x h))

@@ -1,5 +1,6 @@
 -- What is read as a schedule is one, and its text is what was read.
 use Rattle.std.proofs.Common.{◌≡◌, ℕ, ◌+◌, ◌<◌, ◌≤◌, ◌==◌, Bool, true, false, nat_lt, if◌then◌else◌, List, [], ◌∷◌, ◌++◌, length, codes, map, Result, Ok, Err, refl, sym, ap, ◌∙◌, arith, lit<, append_assoc, append-nil}
+use Rattle.ens_base.proofs.Lists.{bytes_same}
 use Rattle.std.proofs.lemmas.Bool.Decides.{nat_tests}
 use Rattle.std.proofs.lemmas.List.{length-append}
 use Rattle.std.proofs.lemmas.List.Concat.{flat_map-append}
@@ -14,7 +15,6 @@ use Rattle.schedule_words.specs.declared.cause.Cause.{Cause}
 use Rattle.schedule_words.specs.declared.cause.Cause.TheVariants.{TooLong, Unfinished, Heading, Repeated}
 use Rattle.schedule_words.proofs.Ascending.{view_of-ok}
 use Rattle.schedule_words.proofs.Dotted.{number_of-ok}
-use Rattle.schedule_words.proofs.Fields.{same_bytes-same}
 use Rattle.schedule_words.proofs.Results.{bind_ok, ok_same}
 use Rattle.schedule_text.specs.Errors.{at_line}
 use Rattle.schedule_text.specs.Events.{event_of, line_limit}
@@ -62,7 +62,7 @@ peers_of-ok (a ∷ []) peers h = cc h
 peers_of-ok (a ∷ b ∷ []) peers h =
     let parts = if_heading (same_bytes a (codes "peers")) (heading (number_of 1 31 b)) peers h in
     let number = number_of-ok 1 31 b peers (lit< tt) (heading_ok (number_of 1 31 b) peers parts.1) in
-    let first = same_bytes-same a (codes "peers") parts.0 in
+    let first = bytes_same a (codes "peers") parts.0 in
     ((λ i. first i ∷ number.0 i ∷ []), number.1, number.2)
 peers_of-ok (a ∷ b ∷ c ∷ more) peers h = cc h
 
@@ -72,7 +72,7 @@ opening_of-ok peers [] view few h = cc h
 opening_of-ok peers (a ∷ members) view few h =
     let parts = if_heading (same_bytes a (codes "view")) (heading (view_of peers members)) view h in
     let read = view_of-ok peers members view few (heading_ok (view_of peers members) view parts.1) in
-    let first = same_bytes-same a (codes "view") parts.0 in
+    let first = bytes_same a (codes "view") parts.0 in
     ((λ i. first i ∷ read.2 i), (read.0, read.1))
 
 -- ---- a line
@@ -93,7 +93,7 @@ with_line-ok : (p q : Progress) (text : List ℕ) → IsSound p → lines_so_far
     → IsSound q × (lines_read q ≡ lines_read p ++ text ∷ [])
 with_line-ok Blank q text sound few h =
     let parts = if_heading (same_bytes text ensemble_line) (Ok Titled) q h in
-    let word = same_bytes-same text ensemble_line parts.0 in
+    let word = bytes_same text ensemble_line parts.0 in
     rw (← (ok_same parts.1)) (tt, λ i. sym word i ∷ [])
 with_line-ok Titled q text sound few h =
     let n = bind_ok (peers_of (words_of text)) _ q h in

@@ -1,6 +1,6 @@
 -- One word: what was read is spelled so, and what is spelled so is read.
 use Rattle.std.proofs.Common.{◌≡◌, ℕ, ◌≤◌, Bool, true, false, ◌&&◌, ◌/◌, if◌then◌else◌, List, [], ◌∷◌, length, slice_index, codes, Option, Some, None, Ok, refl, sym, ap, ◌∙◌, arith, lit≤, nat_eq, ◌*◌}
-use Rattle.std.proofs.lemmas.Bool.{and_parts, eqb-true}
+use Rattle.ens_base.proofs.Lists.{bytes_same}
 use Rattle.std.specs.Fmt.{decimal}
 use Rattle.hex.proofs.HexLemmas.{length-encode_with}
 use Rattle.hex.specs.Hex.{encode_lower, encode_with, lower_digits}
@@ -17,17 +17,6 @@ use Rattle.schedule_words.proofs.Numerals.{number_within-some, number_within-dec
 use Rattle.schedule_words.proofs.Results.{bind_ok, ok_same, or_cause_ok}
 
 -- ---- equal bytes
-
-pub same_bytes-same : (a b : List ℕ) → same_bytes a b ≡ true → a ≡ b
-same_bytes-same [] [] h = refl
-same_bytes-same [] (y ∷ ys) h = cc h
-same_bytes-same (x ∷ xs) [] h = cc h
-same_bytes-same (x ∷ xs) (y ∷ ys) h =
-    let parts = and_parts (nat_eq x y) (same_bytes xs ys) h in
-    cons_same (eqb-true x y parts.0) (same_bytes-same xs ys parts.1)
-  where
-    cons_same : x ≡ y → xs ≡ ys → x ∷ xs ≡ y ∷ ys
-    cons_same p q = λ i. p i ∷ q i
 
 -- ---- peers
 
@@ -62,7 +51,7 @@ value_of-ok word value h = by (same_bytes word (codes "-")) refl h
   where
     by : (b : Bool) → same_bytes word (codes "-") ≡ b → (if b then Ok [] else or_cause Bytes (bytes_within 1 1024 word)) ≡ Ok value
         → (word ≡ value_word value) × IsValue value
-    by true e h = rw (← (ok_same h)) (same_bytes-same word (codes "-") e, record { size = omega arith; bytes = λ i. omega arith })
+    by true e h = rw (← (ok_same h)) (bytes_same word (codes "-") e, record { size = omega arith; bytes = λ i. omega arith })
     by false e h =
         let parts = bytes_within-some 1 1024 word value (or_cause_ok Bytes (bytes_within 1 1024 word) value h) in
         (parts.0 ∙ sym (value_word-some value parts.1.least), record { size = parts.1.most; bytes = parts.1.each })
@@ -87,7 +76,7 @@ content_of-ok word content h = by (same_bytes word (codes "-")) refl h
     by : (b : Bool) → same_bytes word (codes "-") ≡ b
         → (if b then Ok None else or_cause Bytes (bytes_within 1 2000 word) >>= λ bytes. Ok (Some bytes)) ≡ Ok content
         → (word ≡ content_word content) × IsContent content
-    by true e h = rw (← (ok_same h)) (same_bytes-same word (codes "-") e, tt)
+    by true e h = rw (← (ok_same h)) (bytes_same word (codes "-") e, tt)
     by false e h =
         let read = bind_ok (or_cause Bytes (bytes_within 1 2000 word)) _ content h in
         rw (← (ok_same read.2)) (bytes_within-some 1 2000 word read.0 (or_cause_ok Bytes (bytes_within 1 2000 word) read.0 read.1))

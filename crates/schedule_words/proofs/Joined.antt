@@ -1,6 +1,6 @@
 -- Words joined by a byte are parted at it again.
-use Rattle.std.proofs.Common.{◌≡◌, ℕ, zero, suc, nat_le, Option, Some, None, ◌/◌, ◌%◌, ◌<◌, ◌≤◌, ◌^◌, ◌==◌, Bool, true, false, ◌&&◌, ◌||◌, inl, inr, List, [], ◌∷◌, ◌++◌, length, slice_index, refl, ap, ◌∙◌, arith, lit<}
-use Rattle.std.proofs.lemmas.Bool.{and_parts, cases_lt}
+use Rattle.std.proofs.Common.{◌≡◌, ℕ, zero, suc, nat_le, Option, Some, None, ◌/◌, ◌%◌, ◌<◌, ◌≤◌, ◌^◌, ◌==◌, Bool, true, false, ◌&&◌, inl, inr, List, [], ◌∷◌, ◌++◌, length, slice_index, refl, ap, ◌∙◌, arith, lit<}
+use Rattle.std.proofs.lemmas.Bool.{and_parts, cases_lt, or_parts}
 use Rattle.std.proofs.lemmas.Bool.Decides.{nat_tests}
 use Rattle.std.proofs.lemmas.Str.Parse.{digit_from_value}
 use Rattle.std.proofs.lemmas.Fmt.{decimal_is_IsNumeral, decimal_nonempty}
@@ -15,10 +15,6 @@ use Rattle.schedule_words.specs.Words.{parts_of}
 -- whether the byte stands in the text
 abbrev pub has : ℕ → List ℕ → Bool
 has at text = list_any (λ b. b == at) text
-
-or_parts : (a b : Bool) → (a || b) ≡ false → (a ≡ false) × (b ≡ false)
-or_parts true b h = cc h
-or_parts false b h = (refl, h)
 
 same : (n : ℕ) → (n == n) ≡ true
 same n = grind (arith, nat_tests)

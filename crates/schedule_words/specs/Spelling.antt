@@ -1,5 +1,5 @@
 -- How words are written, and what has a spelling.
-use Rattle.std.specs.Prelude.{ℕ, ◌+◌, ◌<◌, ◌≤◌, ◌^◌, List, [], ◌∷◌, map, length, codes, Option, Some, None}
+use Rattle.std.specs.Prelude.{ℕ, ◌+◌, ◌≤◌, List, [], ◌∷◌, map, length, codes, Option, Some, None}
 use Rattle.std.specs.Fmt.{decimal}
 use Rattle.ens_base.specs.Words.{bytes_word}
 use Rattle.ens_base.specs.Limits.{IsBytes}

@@ -1,6 +1,5 @@
 -- Writes that lie in one slot.
 use Rattle.std.proofs.Common.{◌≡◌, ◌⊎◌, inl, inr, ℕ, ◌+◌, ◌-◌, ◌<◌, ◌≤◌, min, List, [], ◌∷◌, ◌++◌, length, take, drop, replicate, Option, Bool, true, false, refl, sym, ◌∙◌, ap, subst, arith, length-append, append_assoc}
-use Rattle.std.specs.Prelude.{OnOk, Result, Ok, Err}
 use Rattle.std.proofs.lemmas.List.{drop-drop, drop_at, drop_all, take_at, take-append-drop, append-nil, length-take}
 use Rattle.std.proofs.lemmas.Bool.{cases_lt}
 use Rattle.slot_disk.specs.Crash.{written, Torn, LeavesOnly, IsOn, SeenIn}
@@ -46,11 +45,6 @@ pub slot_range : (s t : Slot) (spelled bytes : List ℕ) (serial : ℕ) (file c 
 slot_range s t spelled bytes serial file c is so torn =
     let size : 1 + length spelled ≡ 11 + length bytes = omega (arith, ap (λ (l : List ℕ). length l) so, length-body serial bytes) in
     subst (λ (u : Slot). Torn (start u) (11 + length bytes) file c) is (subst (λ (n : ℕ). Torn (start s) n file c) size torn)
-
--- a fact after success, weakened
-pub on_ok : {T E : Type 0} (r : Result T E) (P Q : Type 0) → (P → Q) → OnOk r P → OnOk r Q
-on_ok (Ok x) P Q implies p = implies p
-on_ok (Err e) P Q implies p = p
 
 -- a disk on which nothing was done
 module _ {D : Type 0} (seen : D → Option (List ℕ)) (may_leave : D → List ℕ → Type 0) (moment : D → ℕ) (left_since : D → ℕ → List ℕ → Type 0) (only_now : (d : D) (c : List ℕ) → left_since d (moment d) c → may_leave d c) where

@@ -1,5 +1,6 @@
 -- Preparing, electing with the next views, accepting, leading, changing the views and ending the epoch.
 use Rattle.std.proofs.Common.{◌≡◌, ℕ, ◌^◌, ◌<◌, ◌≤◌, Bool, true, false, [], ◌∷◌, Option, None, Some, arith, ap, refl, inl, inr, sym, ◌∙◌, subst}
+use Rattle.std.proofs.lemmas.Bool.{false_from_ne_true}
 use Rattle.version_laws.proofs.Stays.{versions_step}
 use Rattle.version_laws.specs.Versions.{VersionsStay}
 use Rattle.std.specs.Prelude.{if◌then◌else◌, ◌==◌}
@@ -41,10 +42,6 @@ next_own count p l = omega arith
 less : (a b : ℕ) → a < b → a ≤ b
 less a b l = omega arith
 
-false_of : (b : Bool) → (b ≡ true → ⊥) → b ≡ false
-false_of true n = absurd (n refl)
-false_of false n = refl
-
 module _ (g : Lines) (s : State) (sound : Sound s.objects.ledger) (p : ℕ) (f : Fact) (t : Tree) (trusted : Bool) (phase : Phase) (sync : Option Sync) (a : PeerHolds g s.objects p (peer_of f t trusted phase sync)) where
   -- the peer prepares a ballot; after a change of views the best fact is its own second one
   pub prepares : IsOrderly g s.objects.ledger → (best : Fact) (count : ℕ) → p < 2 ^ 32 → IsTrue s.objects.ledger best → f.epoch ≤ best.epoch → count_of best.ballot ≤ count → count_of f.ballot ≤ count
@@ -60,7 +57,7 @@ module _ (g : Lines) (s : State) (sound : Sound s.objects.ledger) (p : ℕ) (f :
       mode = (
         record {
           own = next_own count p small;
-          fresh = false_of (s.objects.ledger.elected d) (λ e. low (subst (λ x. d ≤ s.objects.ledger.ballot x) (next_own count p small) (orderly.reached d e)) a.saved.ballot (next_above count p f.ballot own));
+          fresh = false_from_ne_true (s.objects.ledger.elected d) (λ e. low (subst (λ x. d ≤ s.objects.ledger.ballot x) (next_own count p small) (orderly.reached d e)) a.saved.ballot (next_above count p f.ballot own));
           known = true_stays s.objects.ledger next.ledger (versions_step s.objects (Raise p d) may).ledger best known;
           above = above best.epoch best.ballot known.below (next_above count p best.ballot counts);
           promised = λ q h. subst (λ x. HasPromised next.ledger x d best.epoch) (only q h) (promised g s p f t sound d best.epoch newer a.saved);
@@ -117,7 +114,7 @@ module _ (g : Lines) (s : State) (sound : Sound s.objects.ledger) (p : ℕ) (f :
             stands = refl;
             accepted = λ q h. absurd (not_both h refl);
           };
-          unchanged = false_of (s.objects.ledger.changed f.ballot) (λ h. not_both (sound.leaders.changed f.ballot h) prepared.fresh);
+          unchanged = false_from_ne_true (s.objects.ledger.changed f.ballot) (λ h. not_both (sound.leaders.changed f.ballot h) prepared.fresh);
           sees = λ e. absurd (not_both (subst (λ d. s.objects.ledger.elected d ≡ true) e a.saved.known.elected) prepared.fresh);
         },
         tt,

@@ -1,10 +1,11 @@
 -- Each of these rules is a move.
-use Rattle.std.proofs.Common.{◌≡◌, ℕ, ◌^◌, ◌<◌, ◌≤◌, Bool, true, false, not, ◌&&◌, ◌||◌, nat_lt, ◌⊎◌, List, [], ◌∷◌, Option, None, Some, refl, inl, inr, sym, ◌∙◌, subst, arith}
+use Rattle.std.proofs.Common.{◌≡◌, ℕ, ◌^◌, ◌<◌, ◌≤◌, Bool, true, false, not, ◌&&◌, nat_lt, ◌⊎◌, List, [], ◌∷◌, Option, None, Some, refl, inl, inr, sym, ◌∙◌, subst, arith}
 use Rattle.version_laws.proofs.Stays.{versions_step}
 use Rattle.std.specs.Prelude.{if◌then◌else◌, ◌==◌}
 use Rattle.std.proofs.lemmas.Bool.Decides.{nat_tests}
-use Rattle.std.proofs.lemmas.Bool.{and_parts}
-use Rattle.ens_base.specs.Lists.{◌∈◌, is_in}
+use Rattle.std.proofs.lemmas.Bool.{and_parts, or_cases}
+use Rattle.ens_base.proofs.Lists.{tested_in}
+use Rattle.ens_base.specs.Lists.{◌∈◌}
 use Rattle.joint_views.specs.Quorums.{is_majority, is_quorum, has_all}
 use Rattle.election_laws.proofs.Sound.{run_sound}
 use Rattle.version_laws.proofs.Trees.{run_versions}
@@ -28,12 +29,8 @@ all_of f [] h q at = absurd at
 all_of f (x ∷ rest) h q (inl e) = subst (λ z. f z ≡ true) (sym e) (and_parts (f x) (has_all f rest) h).0
 all_of f (x ∷ rest) h q (inr at) = all_of f rest (and_parts (f x) (has_all f rest) h).1 q at
 
-either : (a b : Bool) → (a || b) ≡ true → (a ≡ true) ⊎ (b ≡ true)
-either true b h = inl refl
-either false b h = inr h
-
 pub over : (p : ℕ) (trusted : Bool) (y : Sync) → is_over p trusted y ≡ true → IsOver p trusted y
-over p trusted y h = by_one (either (is_majority (is_sure p trusted y) (sources_of y)) (has_all (has_finished p y) (sources_of y)) h)
+over p trusted y h = by_one (or_cases (is_majority (is_sure p trusted y) (sources_of y)) (has_all (has_finished p y) (sources_of y)) h)
   where
     by_one : (is_majority (is_sure p trusted y) (sources_of y) ≡ true) ⊎ (has_all (has_finished p y) (sources_of y) ≡ true) → IsOver p trusted y
     by_one (inl m) = inl m
@@ -188,21 +185,10 @@ prepares view steps run g p f t trusted phase sync best count scan differs may o
     raised : IsPeerMove g s p (step ∷ []) (peer_of (at_ballot f (next_ballot count p)) t trusted (Preparing best (put nobody p true)) None)
     raised = elections.prepares g s (run_sound view steps run) p f t trusted phase sync a orderly best count small known newer counts own
 
-member : (xs : List ℕ) (q : ℕ) → q ∈ xs → is_in xs q ≡ true
-member [] q at = absurd at
-member (x ∷ xs) q (inl e) = first (is_in xs q) e
-  where
-    first : (b : Bool) → q ≡ x → (q == x || b) ≡ true
-    first b e = grind (arith, nat_tests)
-member (x ∷ xs) q (inr at) = later (q == x) (is_in xs q) (member xs q at)
-  where
-    later : (a b : Bool) → b ≡ true → (a || b) ≡ true
-    later a b h = grind arith
-
 new_is : (vs : List (List ℕ)) (q : ℕ) → IsNew vs q → is_new vs q ≡ true
 new_is [] q h = absurd h
 new_is (view ∷ []) q h = absurd h
-new_is (view ∷ old ∷ rest) q h = member view q h
+new_is (view ∷ old ∷ rest) q h = tested_in view q h
 
 pub may_is : (p : ℕ) (trusted : Bool) (n : Fact) → May p trusted n (may_accept p trusted n)
 may_is p trusted n h = let parts = and_parts trusted (not (is_new n.views p)) h in (parts.0, λ new. none (is_new n.views p) parts.1 (new_is n.views p new))

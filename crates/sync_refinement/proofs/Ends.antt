@@ -1,5 +1,6 @@
 -- The end of a sync: the merged entries are a map, and the peer may install it.
 use Rattle.std.proofs.Common.{◌≡◌, ◌⊎◌, inl, inr, ℕ, ◌<◌, ◌≤◌, Bool, true, false, ◌&&◌, ◌||◌, not, List, [], ◌∷◌, map, arith, refl, sym, ap, subst, ◌∙◌}
+use Rattle.std.proofs.lemmas.Bool.{or_cases}
 use Rattle.ens_base.proofs.Lists.{in_append}
 use Rattle.std.specs.Prelude.{◌==◌, if◌then◌else◌, filter}
 use Rattle.std.specs.List.{AllByRecursion}
@@ -36,7 +37,6 @@ use Rattle.tree_maps.specs.Sixteen.{sixteen}
 use Rattle.tree_node.specs.declared.body.Scan.{Scan}
 use Rattle.tree_node.specs.declared.position.Position.{Position}
 use Rattle.tree_verify.specs.Scans.{lost}
-use Rattle.sync_refinement.proofs.Maps.{either_true}
 use Rattle.sync_refinement.proofs.Ranks.{merge_ascends}
 use Rattle.sync_refinement.proofs.Scans.{scan_among}
 use Rattle.sync_refinement.proofs.Merging.{sent_by, sent_of, ask_none, merged_same}
@@ -145,7 +145,7 @@ module _ (g : Lines) (s : State) (strings : List (List ℕ)) (p : ℕ) (fact : F
 
   -- so the sync is over in the theory
   over : syncs.IsOver p trusted (seen_sync r)
-  over = by_kind (either_true (is_majority (is_trusted r.sync) r.sync.view) (has_all (has_finished r.sync) r.sync.view) outcome.over)
+  over = by_kind (or_cases (is_majority (is_trusted r.sync) r.sync.view) (has_all (has_finished r.sync) r.sync.view) outcome.over)
     where
       by_kind : (is_majority (is_trusted r.sync) r.sync.view ≡ true) ⊎ (has_all (has_finished r.sync) r.sync.view ≡ true) → syncs.IsOver p trusted (seen_sync r)
       by_kind (inl most) = inl (majority_more_on (is_trusted r.sync) (syncs.is_sure p trusted (seen_sync r)) (last_view r.fact.views) (λ q i h. sure q h) (subst (λ (v : List ℕ). is_majority (is_trusted r.sync) v ≡ true) says.view most))

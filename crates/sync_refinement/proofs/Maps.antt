@@ -1,8 +1,9 @@
 -- Maps of versions against lists of entries, and tests of positions against what they test.
 use Rattle.std.proofs.Common.{◌≡◌, ◌⊎◌, ℕ, zero, ◌<◌, ◌≤◌, suc, max, Bool, true, false, cond, not, ◌&&◌, ◌||◌, List, [], ◌∷◌, ◌++◌, Option, None, Some, take, arith, refl, ap, sym, ◌∙◌, subst, inl, inr, le_trans}
+use Rattle.ens_base.proofs.Lists.{bytes_same, bytes_itself}
 use Rattle.std.specs.Prelude.{if◌then◌else◌}
 use Rattle.std.specs.declared.cmp.Ordering.TheVariants.{Less}
-use Rattle.std.proofs.lemmas.Bool.{and_parts}
+use Rattle.std.proofs.lemmas.Bool.{and_parts, or_cases, or_left, or_right, and_from}
 use Rattle.std.proofs.lemmas.Bool.Decides.{nat_tests}
 use Rattle.ens_base.specs.Lists.{◌∈◌, bytes_cmp, same_bytes}
 use Rattle.ens_base.specs.declared.entry.Entry.{Entry}
@@ -17,7 +18,7 @@ use Rattle.leader_laws.specs.Tables as theory
 use Rattle.leader_refinement.specs.Seen.{rank, entry_rank}
 use Rattle.request_refinement.proofs.Lookups.{lookup_in, lookup_key}
 use Rattle.sync_laws.proofs.Coverage.{max_left, max_right}
-use Rattle.tree_maps.proofs.Orders.{same_is, same_itself, not_same, less_not_same}
+use Rattle.tree_maps.proofs.Orders.{not_same, less_not_same}
 use Rattle.tree_maps.specs.Entries.{IsBelowAll, Ascends, lookup}
 use Rattle.tree_maps.specs.Sixteen.{sixteen}
 use Rattle.tree_node.specs.declared.position.Position.{Position}
@@ -48,25 +49,6 @@ max_zero a = grind (arith, nat_tests)
 pub both_ways : (b : Bool) → b ≡ true → b ≡ false → ⊥
 both_ways b e f = absurd cc
 
--- if one of two tests is true, the first is, or the second
-pub either_true : (a b : Bool) → (a || b) ≡ true → (a ≡ true) ⊎ (b ≡ true)
-either_true a b h = grind arith
-
--- one of two tests is true if the first is
-pub left_true : (a b : Bool) → a ≡ true → (a || b) ≡ true
-left_true a b h = grind arith
-
--- one of two tests is true if the second is
-pub right_true : (a b : Bool) → b ≡ true → (a || b) ≡ true
-right_true a b h = grind arith
-
-both_true : (a b : Bool) → a ≡ true → b ≡ true → (a && b) ≡ true
-both_true a b h k = grind arith
-
--- a test is false if its opposite is true
-pub not_true : (b : Bool) → not b ≡ true → b ≡ false
-not_true b h = grind arith
-
 -- the opposite of a false test is true
 pub true_not : (b : Bool) → b ≡ false → not b ≡ true
 true_not b h = grind arith
@@ -94,7 +76,7 @@ below_in k (x ∷ m) e below (inr at) = below_in k m e below.1 at
 -- an entry of a map is found under its key
 pub lookup_of_in : (m : List Entry) (e : Entry) → Ascends m → e ∈ m → lookup e.key m ≡ Some e
 lookup_of_in [] e ascends at = absurd at
-lookup_of_in (x ∷ m) e ascends (inl same) = subst (λ (y : Entry). lookup y.key (x ∷ m) ≡ Some y) (sym same) (here (same_bytes x.key x.key) (same_itself x.key))
+lookup_of_in (x ∷ m) e ascends (inl same) = subst (λ (y : Entry). lookup y.key (x ∷ m) ≡ Some y) (sym same) (here (same_bytes x.key x.key) (bytes_itself x.key))
   where
     here : (b : Bool) → b ≡ true → cond b (Some x) (lookup x.key m) ≡ Some x
     here true h = refl
@@ -147,7 +129,7 @@ greatest_in [] e k at key = absurd at
 greatest_in (x ∷ es) e k (inl same) key = subst (λ (y : Entry). y.key ≡ k → rank y.version ≤ greatest (x ∷ es) k) (sym same) first key
   where
     first : x.key ≡ k → rank x.version ≤ greatest (x ∷ es) k
-    first is = subst (λ (j : List ℕ). rank x.version ≤ greatest (x ∷ es) j) is (rw (same_itself x.key) (max_left (rank x.version) (greatest es x.key)))
+    first is = subst (λ (j : List ℕ). rank x.version ≤ greatest (x ∷ es) j) is (rw (bytes_itself x.key) (max_left (rank x.version) (greatest es x.key)))
 greatest_in (x ∷ es) e k (inr at) key = later (same_bytes x.key k) (greatest_in es e k at key)
   where
     later : (b : Bool) → rank e.version ≤ greatest es k → rank e.version ≤ (if b then max (rank x.version) (greatest es k) else greatest es k)
@@ -177,7 +159,7 @@ greatest_found (x ∷ es) k = by_same (same_bytes x.key k) refl (greatest_found 
     either n key found (inr is) = subst (Found (x ∷ es)) (sym is) (further n found)
 
     by_same : (b : Bool) → same_bytes x.key k ≡ b → Found es (greatest es k) → Found (x ∷ es) (if b then max (rank x.version) (greatest es k) else greatest es k)
-    by_same true same found = either (greatest es k) (same_is x.key k same) found (max_one_of (rank x.version) (greatest es k))
+    by_same true same found = either (greatest es k) (bytes_same x.key k same) found (max_one_of (rank x.version) (greatest es k))
     by_same false same found = further (greatest es k) found
 
 -- entries of a map have no other versions than the map
@@ -202,7 +184,7 @@ in_take (suc n) (y ∷ xs) x (inr at) = inr (in_take n xs x at)
 -- the test whether a path goes through one of some positions says so
 pub passes_of_any : (key : List ℕ) (ps : List Position) → through_any key ps ≡ true → PassesAny key ps
 passes_of_any key [] h = absurd (both_ways true refl (sym h))
-passes_of_any key (p ∷ ps) h = by_either (either_true (through key p) (through_any key ps) h) (λ t. passes_of_any key ps t)
+passes_of_any key (p ∷ ps) h = by_either (or_cases (through key p) (through_any key ps) h) (λ t. passes_of_any key ps t)
   where
     by_either : (through key p ≡ true) ⊎ (through_any key ps ≡ true) → (through_any key ps ≡ true → PassesAny key ps) → PassesAny key (p ∷ ps)
     by_either (inl here) further = inl here
@@ -211,8 +193,8 @@ passes_of_any key (p ∷ ps) h = by_either (either_true (through key p) (through
 -- and it is true if so
 pub any_of_passes : (key : List ℕ) (ps : List Position) → PassesAny key ps → through_any key ps ≡ true
 any_of_passes key [] h = absurd h
-any_of_passes key (p ∷ ps) (inl here) = left_true (through key p) (through_any key ps) here
-any_of_passes key (p ∷ ps) (inr there) = right_true (through key p) (through_any key ps) (any_of_passes key ps there)
+any_of_passes key (p ∷ ps) (inl here) = or_left (through key p) (through_any key ps) here
+any_of_passes key (p ∷ ps) (inr there) = or_right (through key p) (through_any key ps) (any_of_passes key ps there)
 
 -- a key is lost if its path goes through a damaged position
 pub lost_is_any : (key : List ℕ) (ps : List Position) → lost sixteen ps key ≡ through_any key ps
@@ -222,7 +204,7 @@ lost_is_any key (p ∷ ps) = ap (λ b. through key p || b) (lost_is_any key ps)
 -- the test whether a key is left to ask says so
 pub left_is : (current : Option Question) (left : List Position) (key : List ℕ) → is_left current left key ≡ true → IsLeft current left key
 left_is None left key h = absurd (both_ways true refl (sym h))
-left_is (Some q) left key h = by_either (either_true (through key q.position && is_beyond q.after key) (through_any key left) h)
+left_is (Some q) left key h = by_either (or_cases (through key q.position && is_beyond q.after key) (through_any key left) h)
   where
     by_either : ((through key q.position && is_beyond q.after key) ≡ true) ⊎ (through_any key left ≡ true) → IsLeft (Some q) left key
     by_either (inl here) = inl (and_parts (through key q.position) (is_beyond q.after key) here)
@@ -231,5 +213,5 @@ left_is (Some q) left key h = by_either (either_true (through key q.position && 
 -- and it is true if so
 pub is_left_of : (current : Option Question) (left : List Position) (key : List ℕ) → IsLeft current left key → is_left current left key ≡ true
 is_left_of None left key h = absurd h
-is_left_of (Some q) left key (inl (here, past)) = left_true (through key q.position && is_beyond q.after key) (through_any key left) (both_true (through key q.position) (is_beyond q.after key) here past)
-is_left_of (Some q) left key (inr there) = right_true (through key q.position && is_beyond q.after key) (through_any key left) (any_of_passes key left there)
+is_left_of (Some q) left key (inl (here, past)) = or_left (through key q.position && is_beyond q.after key) (through_any key left) (and_from (through key q.position) (is_beyond q.after key) here past)
+is_left_of (Some q) left key (inr there) = or_right (through key q.position && is_beyond q.after key) (through_any key left) (any_of_passes key left there)

@@ -1,5 +1,6 @@
 -- What a sync merges is, as a map from keys to versions, what the theory merges.
 use Rattle.std.proofs.Common.{◌≡◌, ◌⊎◌, inl, inr, ℕ, ◌≤◌, Bool, true, false, ◌||◌, max, List, [], ◌∷◌, ◌++◌, map, arith, refl, sym, subst, ◌∙◌, le_trans, le_antisymm}
+use Rattle.std.proofs.lemmas.Bool.{or_right}
 use Rattle.ens_base.proofs.Lists.{in_append}
 use Rattle.std.specs.Prelude.{◌==◌, if◌then◌else◌}
 use Rattle.std.specs.List.{flat_map}
@@ -19,7 +20,7 @@ use Rattle.sync_rule.specs.declared.sync.Source.{Source}
 use Rattle.tree_maps.specs.Entries.{Ascends}
 use Rattle.exchange.proofs.Keeping.{same_number}
 use Rattle.sync_refinement.proofs.Asks.{number_itself, ask_in}
-use Rattle.sync_refinement.proofs.Maps.{right_true, HasRank, ranks_in, ranks_found, greatest_in, greatest_found}
+use Rattle.sync_refinement.proofs.Maps.{HasRank, ranks_in, ranks_found, greatest_in, greatest_found}
 use Rattle.sync_refinement.proofs.Ranks.{merge_ascends, no_lower}
 use Rattle.sync_refinement.proofs.Scans.{scan_ascends}
 use Rattle.sync_refinement.specs.Seen.{ranks, greatest, seen_ask, ask_of, seen_sync}
@@ -68,7 +69,7 @@ not_equal m n h = grind (arith, nat_tests)
 source_in : (ss : List Source) (source : Source) → source ∈ ss → is_source ss source.peer ≡ true
 source_in [] source i = absurd i
 source_in (x ∷ ss) source (inl same) = rw (same, number_itself x.peer) refl
-source_in (x ∷ ss) source (inr i) = right_true (x.peer == source.peer) (is_source ss source.peer) (source_in ss source i)
+source_in (x ∷ ss) source (inr i) = or_right (x.peer == source.peer) (is_source ss source.peer) (source_in ss source i)
 
 -- a source that is this peer
 abbrev SourceOf : List Source → ℕ → Type 0

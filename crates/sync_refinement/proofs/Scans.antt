@@ -1,5 +1,6 @@
 -- What a scan found, as the theory sees it.
 use Rattle.std.proofs.Common.{◌≡◌, ◌⊎◌, ℕ, Bool, true, false, not, List, [], ◌∷◌, Option, None, Some, filter, refl, ap, sym, ◌∙◌, subst}
+use Rattle.std.proofs.lemmas.Bool.{not-true}
 use Rattle.ens_base.specs.Lists.{◌∈◌}
 use Rattle.ens_base.specs.declared.entry.Entry.{Entry}
 use Rattle.exchange.proofs.Having.{from_filter}
@@ -18,7 +19,7 @@ use Rattle.tree_verify.specs.Scans.{lost}
 use Rattle.sync_refinement.specs.Seen.{ranks, seen_tree, seen_scan}
 use Rattle.sync_refinement.specs.Syncs.{IsScanOf}
 use Rattle.tree_verify.proofs.Telling.{in_filter}
-use Rattle.sync_refinement.proofs.Maps.{both_ways, true_not, not_true, passes_of_any, lost_is_any}
+use Rattle.sync_refinement.proofs.Maps.{both_ways, true_not, passes_of_any, lost_is_any}
 
 -- a scan without damage lost no key
 pub clean_keeps : (damaged : List Position) (k : List ℕ) → not (is_none damaged) ≡ false → lost sixteen damaged k ≡ false
@@ -49,7 +50,7 @@ module _ (m : List Entry) (scan : Scan) (is : IsScanOf m scan) where
       no : (e : Entry) → lookup k (filter (λ (e : Entry). is_kept e.key) m) ≡ Some e → ⊥
       no e found =
           let there = from_filter (λ (x : Entry). is_kept x.key) e m (lookup_in k (filter (λ (x : Entry). is_kept x.key) m) e found) in
-          both_ways (lost sixteen scan.damaged k) gone (subst (λ (j : List ℕ). lost sixteen scan.damaged j ≡ false) (lookup_key k (filter (λ (x : Entry). is_kept x.key) m) e found) (not_true (lost sixteen scan.damaged e.key) there.1))
+          both_ways (lost sixteen scan.damaged k) gone (subst (λ (j : List ℕ). lost sixteen scan.damaged j ≡ false) (lookup_key k (filter (λ (x : Entry). is_kept x.key) m) e found) (not-true (lost sixteen scan.damaged e.key) there.1))
 
       by_entry : (o : Option Entry) → lookup k (filter (λ (e : Entry). is_kept e.key) m) ≡ o → entry_rank o ≡ 0
       by_entry None found = refl

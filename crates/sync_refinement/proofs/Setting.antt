@@ -1,5 +1,6 @@
 -- An open ask of a sync is set: it goes on, or its source has finished.
 use Rattle.std.proofs.Common.{◌≡◌, ◌⊎◌, ℕ, Bool, true, false, ◌&&◌, ◌||◌, List, [], ◌∷◌, ◌++◌, Some, arith, refl, ap, sym, ◌∙◌, subst, inl, inr}
+use Rattle.std.proofs.lemmas.Bool.{or_left, or_right}
 use Rattle.ens_base.proofs.Lists.{in_append}
 use Rattle.std.specs.Prelude.{◌==◌, slice_get, slice_set, if◌then◌else◌}
 use Rattle.abstract_protocol.specs.Numbers.{epoch_number}
@@ -19,14 +20,14 @@ use Rattle.sync_refinement.specs.Seen.{ranks, seen_stage, seen_ask, ask_of}
 use Rattle.sync_refinement.specs.Syncs.{EntriesSay, SourcesAre, SyncSays}
 use Rattle.exchange.proofs.Keeping.{same_number}
 use Rattle.sync_refinement.proofs.Asks.{number_itself, at_place, in_set, set_there, still_there, set_itself, set_peers, ask_in, ask_set}
-use Rattle.sync_refinement.proofs.Maps.{both_ways, left_true, right_true}
+use Rattle.sync_refinement.proofs.Maps.{both_ways}
 
 -- ## Sources
 
 source_in : (ss : List Source) (x : Source) → x ∈ ss → is_source ss x.peer ≡ true
 source_in [] x at = absurd at
-source_in (y ∷ ss) x (inl same) = left_true (y.peer == x.peer) (is_source ss x.peer) (subst (λ (z : Source). (y.peer == z.peer) ≡ true) (sym same) (number_itself y.peer))
-source_in (y ∷ ss) x (inr at) = right_true (y.peer == x.peer) (is_source ss x.peer) (source_in ss x at)
+source_in (y ∷ ss) x (inl same) = or_left (y.peer == x.peer) (is_source ss x.peer) (subst (λ (z : Source). (y.peer == z.peer) ≡ true) (sym same) (number_itself y.peer))
+source_in (y ∷ ss) x (inr at) = or_right (y.peer == x.peer) (is_source ss x.peer) (source_in ss x at)
 
 one_more : (a b c : Bool) → (a || (b || c)) ≡ ((a || b) || c)
 one_more a b c = grind arith

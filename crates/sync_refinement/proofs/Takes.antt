@@ -1,6 +1,6 @@
 -- A sync takes what a source sends.
 use Rattle.std.proofs.Common.{◌≡◌, ◌⊎◌, ℕ, Bool, true, false, not, ◌&&◌, List, [], ◌∷◌, ◌++◌, Option, None, Some, arith, refl, ap, sym, ◌∙◌, subst, inl, inr}
-use Rattle.ens_base.proofs.Lists.{in_append}
+use Rattle.ens_base.proofs.Lists.{in_append, in_tested}
 use Rattle.std.specs.Prelude.{◌==◌, slice_get, slice_set, if◌then◌else◌}
 use Rattle.std.proofs.lemmas.Bool.{and_parts}
 use Rattle.std.proofs.lemmas.Bool.Decides.{nat_tests}
@@ -45,7 +45,7 @@ use Rattle.sync_refinement.specs.Syncs.{SyncSays, GiveShows, GiveFits}
 use Rattle.exchange.proofs.Keeping.{same_number}
 use Rattle.sync_refinement.proofs.Asks.{peer_there}
 use Rattle.sync_refinement.proofs.Counting.{done_is, ignored_is, damage_is, Receives, taken_receives, taken_counts}
-use Rattle.sync_refinement.proofs.Maps.{both_ways, either_true}
+use Rattle.sync_refinement.proofs.Maps.{both_ways}
 use Rattle.sync_refinement.proofs.Scans.{scan_ascends, scan_own}
 use Rattle.sync_refinement.proofs.Setting.{AskSays, source_of, ask_was, same_says, no_source, goes_on, finishes}
 
@@ -60,14 +60,6 @@ open_stage : (stage : Stage) → is_open stage ≡ true → stage ≡ stages.Ope
 open_stage stages.Open h = refl
 open_stage stages.Finished h = absurd cc
 open_stage stages.Dropped h = absurd cc
-
-member_in : (view : List ℕ) (q : ℕ) → is_in view q ≡ true → q ∈ view
-member_in [] q h = absurd cc
-member_in (x ∷ view) q h = by_either (either_true (q == x) (is_in view q) h) (λ t. member_in view q t)
-  where
-    by_either : ((q == x) ≡ true) ⊎ (is_in view q ≡ true) → (is_in view q ≡ true → q ∈ view) → (q ≡ x) ⊎ (q ∈ view)
-    by_either (inl here) further = inl (same_number q x here)
-    by_either (inr there) further = inr (further there)
 
 -- a part of a tree without damage is of a map
 shows_of : (g : Lines) (s : State) (strings : List (List ℕ)) (q : ℕ) (ballot : Epoch) (question : Question) (flag : Bool) (body : TreeBody) → GiveFits g s strings q ballot question flag body → ((at : Position) → body ≡ bodies.Damaged at → ⊥) → GiveShows g s strings q ballot question flag body
@@ -139,7 +131,7 @@ module _ (g : Lines) (s : State) (strings : List (List ℕ)) (p : ℕ) (fact : F
   -- the source has finished
   done_says : a.stage ≡ stages.Open → Says (counted stages.Finished) → (t : Bool) → t ≡ true
       → SyncSays g s strings p fact trusted m (record r { sync = if t then record r.sync { sources = r.sync.sources ++ source_of (counted stages.Finished) ∷ [] } else r.sync; asks = slice_set r.asks place (counted stages.Finished) })
-  done_says waits says true h = finishes g s strings p fact trusted m r old place a at waits (counted stages.Finished) refl refl (member_in r.sync.view a.peer other.member) says
+  done_says waits says true h = finishes g s strings p fact trusted m r old place a at waits (counted stages.Finished) refl refl (in_tested r.sync.view a.peer other.member) says
   done_says waits says false h = absurd cc
 
   -- the sync after a step of the ask

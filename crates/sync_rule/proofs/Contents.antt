@@ -3,53 +3,27 @@ use Rattle.std.proofs.Common.{◌≡◌, ℕ, Bool, true, false, List, [], ◌�
 use Rattle.std.specs.Prelude.{◌⊎◌}
 use Rattle.std.specs.Cmp.{IsTotalOrder}
 use Rattle.std.specs.Cmp.Lexicographic.{nat_list_cmp_total}
-use Rattle.std.specs.FinMap.{nat_cmp-IsAntisymmetric}
-use Rattle.std.specs.Ordering.{on, then_cmp, nat_cmp, ordering_reverse, is_lt}
+use Rattle.std.specs.Ordering.{on, ordering_reverse, is_lt}
 use Rattle.std.specs.declared.cmp.Ordering.{Ordering}
 use Rattle.std.specs.declared.cmp.Ordering.TheVariants.{Less, Equal, Greater}
-use Rattle.std.proofs.lemmas.Cmp.{then_total, on_total, nat_cmp_total}
+use Rattle.std.proofs.lemmas.Cmp.{then_total, on_total}
 use Rattle.std.proofs.lemmas.Map.Lookups.{exact_bytes}
-use Rattle.ens_base.specs.Epochs.{epoch_cmp, version_cmp}
+use Rattle.ens_base.proofs.Orders.{versions, both_equal, equal_versions}
+use Rattle.ens_base.specs.Epochs.{version_cmp}
 use Rattle.ens_base.specs.Lists.{bytes_cmp, ◌∈◌}
 use Rattle.ens_base.specs.declared.entry.Entry.{Entry}
-use Rattle.ens_base.specs.declared.epoch.Epoch.{Epoch}
-use Rattle.ens_base.specs.declared.epoch.Version.{Version}
 use Rattle.tree_node.specs.Entries.{AreAbove, is_above, is_less}
 use Rattle.sync_rule.specs.Merges.{rank_cmp, is_lower, greater, with_entry, with_entries, merged, Ascend, Exceeds, IsMerge}
 
 -- ## The order of entries by version and digest
 
-epochs : IsTotalOrder epoch_cmp
-epochs = then_total (on_total (λ (e : Epoch). e.count) nat_cmp_total) (on_total (λ (e : Epoch). e.proposer) nat_cmp_total)
-
-versions : IsTotalOrder version_cmp
-versions = then_total (on_total (λ (v : Version). v.epoch) epochs) (on_total (λ (v : Version). v.seq) nat_cmp_total)
-
 ranks : IsTotalOrder rank_cmp
 ranks = then_total (on_total (λ (e : Entry). e.version) versions) (on_total (λ (e : Entry). e.digest) nat_list_cmp_total)
-
-both_equal : {K : Type 0} (R S : K → K → Ordering) (a b : K) → then_cmp R S a b ≡ Equal → (R a b ≡ Equal) × (S a b ≡ Equal)
-both_equal R S a b h = by_first (R a b) refl
-  where
-    by_first : (o : Ordering) → R a b ≡ o → (R a b ≡ Equal) × (S a b ≡ Equal)
-    by_first Less e = let no : Less ≡ Equal = rw e at h in absurd cc
-    by_first Equal e = (e, rw e at h)
-    by_first Greater e = let no : Greater ≡ Equal = rw e at h in absurd cc
-
-same_epochs : (a b : Epoch) → epoch_cmp a b ≡ Equal → a ≡ b
-same_epochs a b h =
-    let parts = both_equal (on (λ (e : Epoch). e.count) nat_cmp) (on (λ (e : Epoch). e.proposer) nat_cmp) a b h in
-    λ i. record { count = nat_cmp-IsAntisymmetric a.count b.count parts.0 i; proposer = nat_cmp-IsAntisymmetric a.proposer b.proposer parts.1 i }
-
-same_versions : (a b : Version) → version_cmp a b ≡ Equal → a ≡ b
-same_versions a b h =
-    let parts = both_equal (on (λ (v : Version). v.epoch) epoch_cmp) (on (λ (v : Version). v.seq) nat_cmp) a b h in
-    λ i. record { epoch = same_epochs a.epoch b.epoch parts.0 i; seq = nat_cmp-IsAntisymmetric a.seq b.seq parts.1 i }
 
 same_entries : (a b : Entry) → a.key ≡ b.key → rank_cmp a b ≡ Equal → a ≡ b
 same_entries a b k h =
     let parts = both_equal (on (λ (e : Entry). e.version) version_cmp) (on (λ (e : Entry). e.digest) bytes_cmp) a b h in
-    λ i. record { key = k i; version = same_versions a.version b.version parts.0 i; digest = exact_bytes a.digest b.digest parts.1 i }
+    λ i. record { key = k i; version = equal_versions a.version b.version parts.0 i; digest = exact_bytes a.digest b.digest parts.1 i }
 
 not_less : (o : Ordering) → is_lt o ≡ false → (o ≡ Less → ⊥)
 not_less Less h e = absurd cc

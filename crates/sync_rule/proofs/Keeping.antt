@@ -1,6 +1,6 @@
 -- The ranks of a merge, after one more entry.
-use Rattle.std.proofs.Common.{◌≡◌, ℕ, Bool, true, false, List, [], ◌∷◌, Option, None, refl, ap, sym, ◌∙◌}
-use Rattle.std.specs.Prelude.{not}
+use Rattle.std.proofs.Common.{◌≡◌, ℕ, true, false, List, [], ◌∷◌, Option, None, refl, ap, sym, ◌∙◌}
+use Rattle.std.proofs.lemmas.Bool.{not-false, not-true}
 use Rattle.std.specs.List.{AllByRecursion}
 use Rattle.std.specs.List.Sorted.{IsStrictlySortedBy}
 use Rattle.std.specs.Map.{lookup, keys_of}
@@ -23,14 +23,6 @@ Ranks = List (List ℕ × Rank)
 abbrev rank_at : List ℕ → Ranks → Option Rank
 rank_at k xs = lookup (is_at (bytes_cmp k)) xs
 
-not_false : (b : Bool) → not b ≡ false → b ≡ true
-not_false true h = refl
-not_false false h = absurd cc
-
-not_true : (b : Bool) → not b ≡ true → b ≡ false
-not_true true h = absurd cc
-not_true false h = refl
-
 same_place : (k l : List ℕ) (r : Rank) → bytes_cmp k l ≡ Equal → entry_at (l, r) ≡ entry_at (k, r)
 same_place k l r e = ap (λ q. entry_at (q, r)) (sym (exact_bytes k l e))
 
@@ -49,7 +41,7 @@ inserted k r (x ∷ xs) h = by (bytes_cmp k x.0) refl (inserted k r xs)
         → entries_of (insert_entry bytes_cmp (x ∷ xs) k r) ≡ with_entry (entry_at (k, r)) (entries_of (x ∷ xs))
     by Less e later = rw e refl
     by Equal e later =
-        let below : is_below x.1 r ≡ true = not_false (is_below x.1 r) (rw e at h) in
+        let below : is_below x.1 r ≡ true = not-false (is_below x.1 r) (rw e at h) in
         rw e (ap (λ z. z ∷ entries_of xs) (same_place k x.0 r e ∙ second_wins (entry_at x) (entry_at (k, r)) below))
     by Greater e later = rw e (ap (λ zs. entry_at x ∷ zs) (later (rw e at h)))
 
@@ -74,6 +66,6 @@ kept k r (x ∷ xs) s h = by (bytes_cmp k x.0) refl (kept k r xs (sorted_tail by
         let no : false ≡ true = rw none at here in
         absurd cc
     by Equal e later =
-        let above : is_below x.1 r ≡ false = not_true (is_below x.1 r) (rw e at h) in
+        let above : is_below x.1 r ≡ false = not-true (is_below x.1 r) (rw e at h) in
         rw e (ap (λ z. z ∷ entries_of xs) (first_wins (entry_at x) (entry_at (k, r)) above))
     by Greater e later = rw e (ap (λ zs. entry_at x ∷ zs) (later (rw e at h)))

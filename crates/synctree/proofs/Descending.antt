@@ -1,6 +1,7 @@
 -- Reading a node by its position: the steps of the code, and what it means for every map that stands
 -- under the top record.
 use Rattle.std.proofs.Common.{◌≡◌, ◌⊎◌, ℕ, zero, suc, ◌-◌, ◌/◌, ◌%◌, ◌<◌, ◌≤◌, ◌^◌, Bool, true, false, cond, List, [], ◌∷◌, ◌++◌, Option, None, Some, Result, Ok, Err, IfOk, get_or, arith, refl, ap, sym, ◌∙◌, subst, inl, inr}
+use Rattle.ens_base.proofs.Lists.{bytes_same}
 use Rattle.std.specs.Prelude.{IsErr, if◌then◌else◌}
 use Rattle.std.specs.Option.{is_some}
 use Rattle.std.specs.Result.{IsErrAnd}
@@ -17,10 +18,8 @@ use Rattle.tree_maps.specs.Sixteen.{sixteen, children_in, entries_in}
 use Rattle.tree_maps.specs.Forms.{Form, Laws, IsPlace, root}
 use Rattle.tree_maps.specs.Maps.{within, named, text, children, AreApart, Stands}
 use Rattle.tree_maps.specs.Paths.{under, present, node_of}
-use Rattle.tree_maps.proofs.Orders.{same_is}
 use Rattle.tree_maps.proofs.Unique.{root_is_node, child_is}
-use Rattle.tree_maps.proofs.Below.{IsThere, place, every, under_child, child_again, parent_place, node_below, some_width}
-use native.Mathlib.Nat.{pow-zero}
+use Rattle.tree_maps.proofs.Below.{IsThere, place, under_child, child_again, parent_place, node_below, some_width, present_is, first_text}
 use Rattle.std.proofs.Math.Nat.{mod-lt}
 use Rattle.synctree.specs.declared.error.TreeError.{TreeError}
 use Rattle.synctree.specs.Plans.{Call, AnswerOf, Done, Broken, Ends, Did}
@@ -83,11 +82,6 @@ segment_kind at bytes low = let zero_is : 3 - at.level ≡ 0 = omega (arith, low
 
 -- ## What is read
 
-pub present_is : (l : ℕ) (es : List Entry) (t : List ℕ) → ((present l es t ≡ None) × (es ≡ [])) ⊎ (IsThere l es × (present l es t ≡ Some t))
-present_is zero es t = inr (tt, refl)
-present_is (suc l) [] t = inl (refl, refl)
-present_is (suc l) (e ∷ es) t = inr (λ is. cc, refl)
-
 -- the digest of a node that is there
 abbrev digested : Option (List ℕ) → Option (List ℕ)
 digested None = None
@@ -105,7 +99,7 @@ module _ {S : Type 0} (does : S → (call : Call) → AnswerOf call → S → Ty
       by : (test : Bool) → same_bytes (md5 b) digest ≡ test → Ends does (cond test (Done b) (Broken at)) v more (Ok bytes) t → (xs ≡ bytes ∷ []) × (md5 bytes ≡ digest)
       by true is (n, one, same) =
           let b' : bytes ≡ b = ok_once bytes b one in
-          (e ∙ e' ∙ ap (λ zs. b ∷ zs) n ∙ ap (λ z. z ∷ []) (sym b'), ap md5 b' ∙ same_is (md5 b) digest is)
+          (e ∙ e' ∙ ap (λ zs. b ∷ zs) n ∙ ap (λ z. z ∷ []) (sym b'), ap md5 b' ∙ bytes_same (md5 b) digest is)
       by false is (n, bad, same) = absurd cc
 
   whole : (test : Bool) (at : Position) (bytes : List ℕ) (s t : S) (xs : List (List ℕ)) (o : Option (List ℕ)) → Ends does (if test then Done (Some bytes) else Broken at) s xs (Ok o) t → o ≡ Some bytes
@@ -130,15 +124,9 @@ module _ {S : Type 0} (does : S → (call : Call) → AnswerOf call → S → Ty
         ∙ ap (λ (q : Position). named (within F (place l (i / F.width)) (i % F.width) (under F (place l (i / F.width)) m)) (text F h q (within F (place l (i / F.width)) (i % F.width) (under F (place l (i / F.width)) m)))) (child_again F laws l i)
         ∙ ap (λ (es : List Entry). named es (text F h (place (suc l) i) es)) (sym (under_child F l i m))
 
-    first_text : (h i : ℕ) (m : List Entry) → IsPlace F h (place 0 i) → text F h (place 0 i) (under F (place 0 i) m) ≡ text F F.depth root m
-    first_text h i m p = let zero_is : i ≡ 0 = small (rw (pow-zero F.width) at p.index) in let all : h ≡ F.depth = omega (arith, p.level) in rw (every m, all, zero_is) refl
-      where
-        small : i < 1 → i ≡ 0
-        small l = omega arith
-
     name_is : (h l i : ℕ) (m : List Entry) (digest : List ℕ) (s t : S) (xs : List (List ℕ)) (o : Option (List ℕ)) → IsPlace F h (place l i) → AreApart xs F F.depth root m → digest ≡ md5 (text F F.depth root m)
         → Ends does (name_at F digest l i) s xs (Ok o) t → o ≡ digested (present l (under F (place l i) m) (text F h (place l i) (under F (place l i) m)))
-    name_is h zero i m digest s t xs o p apart is (n, one, same) = ok_once o (Some digest) one ∙ ap Some (is ∙ ap md5 (sym (first_text h i m p)))
+    name_is h zero i m digest s t xs o p apart is (n, one, same) = ok_once o (Some digest) one ∙ ap Some (is ∙ ap md5 (sym (first_text F h i m p)))
     name_is h (suc l) i m digest s t xs o p apart is ends =
         let r = parted does (name_at F digest l (i / F.width)) (onward None (child_name F (place l (i / F.width)) (i % F.width))) s t xs o ends in
         let both : AreApart (r.first ++ r.second) F F.depth root m = subst (λ zs. AreApart zs F F.depth root m) r.strings apart in

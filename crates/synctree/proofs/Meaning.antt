@@ -1,6 +1,6 @@
 -- What the walks of a tree return, for every map that stands under its digest.
 use Rattle.std.proofs.Common.{◌≡◌, ◌≢◌, ℕ, zero, suc, ◌<◌, Bool, true, false, cond, List, [], ◌∷◌, ◌++◌, Option, None, Some, Result, Ok, Err, IfOk, get_or, arith, refl, ap, sym, ◌∙◌, subst, inl, inr}
-use Rattle.ens_base.proofs.Lists.{in_left, in_right}
+use Rattle.ens_base.proofs.Lists.{in_left, in_right, bytes_same}
 use Rattle.std.specs.Prelude.{◌==◌}
 use Rattle.md5.specs.Md5.{md5}
 use Rattle.ens_base.specs.declared.entry.Entry.{Entry}
@@ -9,7 +9,6 @@ use Rattle.tree_node.specs.declared.position.Position.{Position}
 use Rattle.tree_maps.specs.Entries.{IsMap, lookup}
 use Rattle.tree_maps.specs.Forms.{Form, Laws, IsPlace, child, root}
 use Rattle.tree_maps.specs.Maps.{within, named, text, children, AreApart, Stands}
-use Rattle.tree_maps.proofs.Orders.{same_is}
 use Rattle.tree_maps.proofs.Parts.{map_part}
 use Rattle.tree_maps.proofs.Unique.{some_once, root_is_node, root_place, child_place, child_is, children_again, lookup_within}
 use Rattle.synctree.specs.declared.error.TreeError.{TreeError}
@@ -64,7 +63,7 @@ module _ {S : Type 0} (does : S → (call : Call) → AnswerOf call → S → Ty
       → Ends does (cond test (Done bytes) (Broken at) >>= (λ b. spelled at (node_at b))) s rest (Ok node) t → Opened node_at digest xs node
   tested node_at at digest bytes s t xs rest node true is e h =
       let r = spelled_is at (node_at bytes) s t rest node h in
-      record { bytes = bytes; hashes = e ∙ ap (λ zs. bytes ∷ zs) r.0; has_digest = same_is (md5 bytes) digest is; is_node = r.1 }
+      record { bytes = bytes; hashes = e ∙ ap (λ zs. bytes ∷ zs) r.0; has_digest = bytes_same (md5 bytes) digest is; is_node = r.1 }
   tested node_at at digest bytes s t xs rest node false is e (n, bad, same) = absurd cc
 
   pub opened : {A : Type 0} (node_at : List ℕ → Option A) (at : Position) (digest : List ℕ) (s t : S) (xs : List (List ℕ)) (node : A) → Ends does (open_node node_at at digest) s xs (Ok node) t → Opened node_at digest xs node

@@ -1,5 +1,5 @@
 -- Nodes and a top record written to a store, as a plan that asks no hasher.
-use Rattle.std.specs.Prelude.{◌≡◌, ◌⊎◌, ◌≤◌, ℕ, List, [], ◌∷◌, Option}
+use Rattle.std.specs.Prelude.{◌≡◌, ◌≤◌, ℕ, List, [], ◌∷◌, Option}
 use Rattle.ens_base.specs.Causes.{Rose}
 use Rattle.ens_outside.specs.Stores.{NodeCall, NodeAnswer, Write}
 use Rattle.ens_outside.specs.declared.errors.StoreError.{StoreError}

@@ -1,14 +1,16 @@
 -- The part of a map below a position, level by level.
-use Rattle.std.proofs.Common.{◌≡◌, ◌≢◌, ℕ, zero, suc, ◌+◌, ◌*◌, ◌/◌, ◌%◌, ◌<◌, ◌^◌, Bool, true, false, cond, List, [], ◌∷◌, refl, ap, sym, ◌∙◌, arith, inr}
+use Rattle.std.proofs.Common.{◌≡◌, ◌≢◌, ℕ, zero, suc, ◌+◌, ◌*◌, ◌/◌, ◌%◌, ◌<◌, ◌^◌, ◌⊎◌, Bool, true, false, cond, List, [], ◌∷◌, None, Some, refl, ap, sym, ◌∙◌, arith, inl, inr}
+use Rattle.std.specs.Option.{option_map}
 use Rattle.std.specs.Prelude.{◌==◌, ◌&&◌, filter}
 use Rattle.std.proofs.Math.Nat.{div-lt_iff_lt-mul, div-add-mod, mod-lt, mod-eq_of_lt, div-eq_of_lt, mul-add-div, mul-add-mod_self_left}
 use native.Mathlib.Nat.{pow-suc, pow-zero}
+use Rattle.md5.specs.Md5.{md5}
 use Rattle.ens_base.specs.declared.entry.Entry.{Entry}
 use Rattle.tree_node.specs.declared.position.Position.{Position}
 use Rattle.tree_maps.specs.Entries.{IsMap}
 use Rattle.tree_maps.specs.Forms.{Form, root, child, IsPlace, Laws}
-use Rattle.tree_maps.specs.Maps.{within, IsNode}
-use Rattle.tree_maps.specs.Paths.{passes, under}
+use Rattle.tree_maps.specs.Maps.{within, named, text, IsNode}
+use Rattle.tree_maps.specs.Paths.{passes, present, under}
 use Rattle.tree_maps.proofs.Parts.{map_part}
 
 both_filters : (p q : Entry → Bool) (m : List Entry) → filter (λ e. p e && q e) m ≡ filter q (filter p m)
@@ -36,6 +38,24 @@ IsThere (suc level) es = es ≢ []
 pub there_if_some : (level : ℕ) (es : List Entry) → es ≢ [] → IsThere level es
 there_if_some zero es some = tt
 there_if_some (suc level) es some = some
+
+-- a node is there exactly if it has a text
+pub present_is : (l : ℕ) (es : List Entry) (t : List ℕ) → ((present l es t ≡ None) × (es ≡ [])) ⊎ (IsThere l es × (present l es t ≡ Some t))
+present_is zero es t = inr (tt, refl)
+present_is (suc l) [] t = inl (refl, refl)
+present_is (suc l) (e ∷ es) t = inr (λ is. cc, refl)
+
+-- the name of a node below the root is the digest of its text
+pub named_is : (l : ℕ) (es : List Entry) (t : List ℕ) → named es t ≡ option_map md5 (present (suc l) es t)
+named_is l [] t = refl
+named_is l (e ∷ es) t = refl
+
+-- the node at the root has the text of the map
+pub first_text : (F : Form) (h i : ℕ) (m : List Entry) → IsPlace F h (place 0 i) → text F h (place 0 i) (under F (place 0 i) m) ≡ text F F.depth root m
+first_text F h i m p = let zero_is : i ≡ 0 = small (rw (pow-zero F.width) at p.index) in let all : h ≡ F.depth = omega (arith, p.level) in rw (every m, all, zero_is) refl
+  where
+    small : i < 1 → i ≡ 0
+    small l = omega arith
 
 module _ (F : Form) where
   -- the entries below a child are those of its parent that belong to it

@@ -1,9 +1,10 @@
 -- The order of keys, and of entries by their keys.
 use Rattle.std.proofs.Common.{◌≡◌, ℕ, Bool, true, false, List, refl, ap, sym, ◌∙◌}
+use Rattle.ens_base.proofs.Lists.{bytes_same}
 use Rattle.std.specs.declared.cmp.Ordering.{Ordering}
 use Rattle.std.specs.declared.cmp.Ordering.TheVariants.{Less, Equal, Greater}
 use Rattle.std.specs.Ordering.{ordering_reverse}
-use Rattle.std.specs.Cmp.Lexicographic.{nat_list_cmp_total, bytes_decides}
+use Rattle.std.specs.Cmp.Lexicographic.{nat_list_cmp_total}
 use Rattle.std.proofs.lemmas.Map.Lookups.{exact_bytes}
 use Rattle.ens_base.specs.Lists.{bytes_cmp, same_bytes}
 
@@ -27,17 +28,11 @@ less_trans a b c = nat_list_cmp_total.trans a b c
 pub cmp_equal : (a b : List ℕ) → bytes_cmp a b ≡ Equal → a ≡ b
 cmp_equal a b e = exact_bytes a b e
 
-pub same_is : (a b : List ℕ) → same_bytes a b ≡ true → a ≡ b
-same_is a b e = (bytes_decides a b).0 e
-
-pub same_itself : (a : List ℕ) → same_bytes a a ≡ true
-same_itself a = (bytes_decides a a).1 refl
-
 pub not_same : (a b : List ℕ) → (a ≡ b → ⊥) → same_bytes a b ≡ false
 not_same a b ne = by (same_bytes a b) refl
   where
     by : (t : Bool) → same_bytes a b ≡ t → t ≡ false
-    by true e = absurd (ne (same_is a b e))
+    by true e = absurd (ne (bytes_same a b e))
     by false e = refl
 
 pub less_not_same : (a b : List ℕ) → bytes_cmp a b ≡ Less → (a ≡ b → ⊥)

@@ -1,5 +1,6 @@
 -- The parts of a map selected by a test on keys, look-ups and puts.
 use Rattle.std.proofs.Common.{◌≡◌, ◌≢◌, ℕ, zero, suc, ◌+◌, ◌<◌, ◌≤◌, ◌^◌, Bool, true, false, cond, List, [], ◌∷◌, Option, None, Some, length, get_or, set, replicate, refl, ap, sym, ◌∙◌, subst, arith, add-zero}
+use Rattle.ens_base.proofs.Lists.{bytes_same, bytes_itself}
 use Rattle.std.specs.Prelude.{filter}
 use Rattle.std.specs.List.{AllByRecursion}
 use Rattle.std.specs.declared.cmp.Ordering.{Ordering}
@@ -9,7 +10,7 @@ use Rattle.ens_base.specs.Lists.{bytes_cmp, same_bytes}
 use Rattle.ens_fields.specs.Entries.{IsEntry}
 use Rattle.tree_maps.specs.Entries.{IsBelowAll, Ascends, IsMap, placed, put, lookup}
 use Rattle.tree_maps.specs.Maps.{each_of, named}
-use Rattle.tree_maps.proofs.Orders.{less_back, less_trans, cmp_equal, same_is, same_itself, not_same, less_not_same}
+use Rattle.tree_maps.proofs.Orders.{less_back, less_trans, cmp_equal, not_same, less_not_same}
 
 pub get-each : {A : Type 0} (f : ℕ → A) (n i j : ℕ) (d : A) → j < n → get_or (each_of f n i) j d ≡ f (i + j)
 get-each f zero i j d h = absurd (omega arith)
@@ -64,7 +65,7 @@ module _ (p : List ℕ → Bool) where
       by true true ea eb rest = rw (ea, eb) (rw ea refl)
       by false true ea eb rest = rw (ea, eb) (rw ea rest)
       by false false ea eb rest = rw (ea, eb) rest
-      by true false ea eb rest = let no : true ≡ false = sym h ∙ ap p (sym (same_is x.key k ea)) ∙ eb in absurd cc
+      by true false ea eb rest = let no : true ≡ false = sym h ∙ ap p (sym (bytes_same x.key k ea)) ∙ eb in absurd cc
 
   below-part : (k : List ℕ) (m : List Entry) → IsBelowAll k m → IsBelowAll k (part m)
   below-part k [] a = tt
@@ -173,7 +174,7 @@ lookup_below k [] a = refl
 lookup_below k (x ∷ m) a = rw (not_same x.key k (λ e. less_not_same k x.key a.0 (sym e))) (lookup_below k m a.1)
 
 found_first : (x : Entry) (m : List Entry) → lookup x.key (x ∷ m) ≡ Some x
-found_first x m = rw (same_itself x.key) refl
+found_first x m = rw (bytes_itself x.key) refl
 
 lower_first : (x y : Entry) (m n : List Entry) → bytes_cmp x.key y.key ≡ Less → Ascends (y ∷ n) → ((k : List ℕ) → lookup k (x ∷ m) ≡ lookup k (y ∷ n)) → ⊥
 lower_first x y m n l a same =
@@ -188,7 +189,7 @@ tails x y m n is a b same k = by (same_bytes x.key k) refl
 
     by : (t : Bool) → same_bytes x.key k ≡ t → lookup k m ≡ lookup k n
     by true e =
-        let at : x.key ≡ k = same_is x.key k e in
+        let at : x.key ≡ k = bytes_same x.key k e in
         lookup_below k m (subst (λ j. IsBelowAll j m) at a) ∙ sym (lookup_below k n (subst (λ j. IsBelowAll j n) (sym keys ∙ at) b))
     by false e =
         let f : same_bytes y.key k ≡ false = rw keys at e in

@@ -3,7 +3,6 @@ use Rattle.std.proofs.Common.{◌≡◌, ℕ, ◌-◌, true, List, [], ◌∷◌
 use Rattle.std.specs.Prelude.{slice_get}
 use Rattle.std.specs.List.{AllByRecursion}
 use Rattle.ens_base.specs.declared.entry.Entry.{Entry}
-use Rattle.ens_base.specs.declared.epoch.Version.{Version}
 use Rattle.ens_fields.specs.declared.field_error.FieldError.TheVariants.{Rule}
 use Rattle.ens_fields.specs.Grammar.{IsGrammar}
 use Rattle.ens_fields.specs.Numbers.{IsRun, run_at}
@@ -14,12 +13,10 @@ use Rattle.ens_fields.specs.Entries.{IsEntry, entry_spelling}
 use Rattle.ens_fields.proofs.GrammarLaws.{valid_as, spelled_as, field_then, field_last, tested}
 use Rattle.ens_fields.proofs.NumberLaws.{run_grammar}
 use Rattle.ens_fields.proofs.FieldLaws.{key_grammar, version_grammar}
+use Rattle.ens_fields.proofs.EntryLaws.{remade}
 use Rattle.tree_node.specs.Entries.{is_above, key_or_none, last_key, AreAbove, IsNext, rest_at, next_at, entries_at, entries_spelling, AreDigests, digests_at, digests_spelling}
 use Rattle.tree_node.specs.Repeats.{AreListed}
 use Rattle.tree_node.proofs.RepeatLaws.{list_grammar}
-
-remade : (e : Entry) (key : List ℕ) (version : Version) → key ≡ e.key → version ≡ e.version → (let made : Entry = record { key = key; version = version; digest = e.digest } in made) ≡ e
-remade e key version k v = λ i. record { key = k i; version = v i; digest = e.digest }
 
 rest_grammar : (key : List ℕ) → IsGrammar (λ (e : Entry). (Unit {0} × (e.key ≡ key)) × (IsVersion e.version × IsRun 16 e.digest)) (λ e. version_spelling e.version ++ e.digest) (rest_at key)
 unfolding rest_at

@@ -1,5 +1,6 @@
 -- What a scan says of every map that stands under the top record.
 use Rattle.std.proofs.Common.{◌≡◌, ℕ, zero, suc, ◌+◌, ◌*◌, ◌/◌, ◌%◌, ◌<◌, ◌≤◌, Bool, true, false, cond, List, [], ◌∷◌, ◌++◌, Option, None, Some, Result, Ok, Err, IfOk, length, refl, ap, sym, ◌∙◌, subst, arith, inl, inr}
+use Rattle.ens_base.proofs.Lists.{bytes_same}
 use Rattle.std.specs.Prelude.{filter, not, ◌==◌, ◌&&◌, ◌||◌, nat_le, nat_lt}
 use Rattle.std.specs.Option.{is_some}
 use Rattle.std.proofs.lemmas.Bool.Decides.{nat_tests}
@@ -15,7 +16,7 @@ use Rattle.tree_maps.specs.Forms.{Form, Laws, IsPlace, child, root}
 use Rattle.tree_maps.specs.Maps.{each_of, within, named, text, children, AreApart, Stands}
 use Rattle.tree_maps.specs.Paths.{passes, under}
 use Rattle.tree_maps.proofs.Below.{IsThere, there_if_some, place as position, every, under_child, under_map, node_below, some_width}
-use Rattle.tree_maps.proofs.Orders.{same_is, cmp_back}
+use Rattle.tree_maps.proofs.Orders.{cmp_back}
 use Rattle.tree_maps.proofs.Unique.{some_once, has_entries, root_is_node, root_place, child_place, children_again}
 use Rattle.synctree.specs.declared.error.TreeError.{TreeError}
 use Rattle.synctree.specs.Plans.{Call, AnswerOf, Plan, Done, ◌>>=◌, Ends, Did}
@@ -241,7 +242,7 @@ module _ (F : Form) (laws : Laws F) (m : List Entry) where
   opened_text h at node_at (Some d) (Some b) node n apart e = (n.0, by (same_bytes (md5 b) d) refl e)
     where
       by : (t : Bool) → same_bytes (md5 b) d ≡ t → cond t (node_at b) None ≡ Some node → node_at (text F h at (under F at m)) ≡ Some node
-      by true is e = ap node_at (sym (apart b (text F h at (under F at m)) (inl refl) (node_below F laws h at.level at.index m (text F h at (under F at m)) n.0 n.1 (root_is_node F h at (under F at m))) (same_is (md5 b) d is ∙ n.2))) ∙ e
+      by true is e = ap node_at (sym (apart b (text F h at (under F at m)) (inl refl) (node_below F laws h at.level at.index m (text F h at (under F at m)) n.0 n.1 (root_is_node F h at (under F at m))) (bytes_same (md5 b) d is ∙ n.2))) ∙ e
       by false is e = absurd cc
 
   names_are : (h : ℕ) (at : Position) (named_by read : Option (List ℕ)) (names : List (Option (List ℕ))) → NamesOne (suc h) at named_by → AreApart (strings_of (read ∷ [])) F F.depth root m → verified (F.inner_at at) named_by read ≡ Some names

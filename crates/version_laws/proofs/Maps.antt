@@ -1,5 +1,6 @@
 -- Maps with one entry set, and the epoch of a version.
 use Rattle.std.proofs.Common.{◌≡◌, ℕ, ◌<◌, ◌≤◌, Bool, true, false, List, eqb, eqb-true, arith, ap, subst, refl}
+use Rattle.ens_base.proofs.Lists.{bytes_same}
 use Rattle.std.proofs.lemmas.Bool.Decides.{nat_tests}
 use lib.Pointwise.{bytes_decides}
 use Rattle.ens_base.specs.Lists.{same_bytes}
@@ -20,9 +21,6 @@ zero_not v h e = low (ap epoch_of e)
     low : epoch_of v ≡ epoch_of 0 → ⊥
     low s = omega (arith, epoch_of-zero)
 
-pub same_bytes_eq : (a b : List ℕ) → same_bytes a b ≡ true → a ≡ b
-same_bytes_eq a b h = (bytes_decides a b).0 h
-
 pub eq_same_bytes : (a b : List ℕ) → a ≡ b → same_bytes a b ≡ true
 eq_same_bytes a b h = (bytes_decides a b).1 h
 
@@ -31,7 +29,7 @@ pub entry_then : (m : Map) (k : List ℕ) (v : ℕ) (P : List ℕ → ℕ → Ty
 entry_then m k v P here old j = by_cases (same_bytes k j) refl
   where
     by_cases : (b : Bool) → same_bytes k j ≡ b → P j (set_entry m k v j)
-    by_cases true t = rw t (subst (λ (i : List ℕ). P i v) (same_bytes_eq k j t) here)
+    by_cases true t = rw t (subst (λ (i : List ℕ). P i v) (bytes_same k j t) here)
     by_cases false t = rw t (old j)
 
 pub put_other : {A : Type 0} (f : ℕ → A) (x : ℕ) (a : A) (v : ℕ) → (x ≡ v → ⊥) → put f x a v ≡ f v

@@ -8,6 +8,7 @@ use Rattle.ens_fields.specs.Grammar.{IsGrammar}
 use Rattle.ens_fields.specs.Numbers.{byte_at}
 use Rattle.ens_fields.proofs.GrammarLaws.{Reader, bind_ok, ok_is, right, valid_as, spelled_as, field_then, field_last, nothing}
 use Rattle.ens_fields.proofs.NumberLaws.{byte_grammar}
+use Rattle.ens_fields.proofs.ViewLaws.{err_is_no}
 use Rattle.wire_frames.specs.Readers.{both, made}
 
 pub both_grammar : {A B : Type 0} {IsA : A → Type 0} {IsB : B → Type 0} {a_spelling : A → List ℕ} {b_spelling : B → List ℕ} {read_a : Reader A FieldError} {read_b : Reader B FieldError}
@@ -52,9 +53,6 @@ choice {M = M} tag IsM spelling t k {this = this} {others = others} g h = by (eq
     by : (b : Bool) → eqb t k ≡ b → IsGrammar (λ m. (tag m ≡ t) × IsM m) spelling (λ bytes at. cond b (this bytes at) (others bytes at))
     by true e = let is : t ≡ k = eqb-true _ _ e in valid_as (λ m v. (v.0 ∙ sym is, v.1)) (λ m v. (v.0 ∙ is, v.1)) g
     by false e = h (eqb-false _ _ e)
-
-err_is_no : {A : Type 0} (d : FieldError) (x : A) → (let left : Result A FieldError = Err d in left) ≡ Ok x → ⊥
-err_is_no d x e = cc
 
 -- no variant has this tag
 pub no_choice : {M : Type 0} (tag : M → ℕ) (IsM : M → Type 0) (spelling : M → List ℕ) (t : ℕ) (fault : ℕ → FieldError) → ((m : M) → tag m ≡ t → ⊥) → IsGrammar (λ m. (tag m ≡ t) × IsM m) spelling (λ bytes at. Err (fault at))

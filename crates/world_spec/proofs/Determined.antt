@@ -14,7 +14,7 @@ use Rattle.step_plans.specs.Plans.{Plan, Out, nothing, Ending, Finished, Stopped
 use Rattle.step_plans.specs.declared.error.PeerError.{PeerError}
 use Rattle.step_plans.specs.declared.error.PeerError.TheVariants.{StoreFault}
 use Rattle.register_model.specs.declared.note.Note.{Note}
-use Rattle.world_spec.specs.Nodes.{Node, Up, Down, Taken, started, hashed_by_start, taken, taken_by, taken_of, run_over}
+use Rattle.world_spec.specs.Nodes.{Node, Up, Down, hashed_by_start, taken, taken_by, taken_of, run_over}
 use Rattle.world_spec.specs.Steps.{outcome, ComesTo, StartsAs}
 
 came_to : (first now : Account) (k : Ended State) (e : Ending State) (t : HeldStores) (strings : List (List ℕ)) (node : Node) (out : Out) (notes : List Note) → k ≡ record { ending = e; held = held_with t strings; notes = notes }

@@ -3,7 +3,8 @@ use Rattle.slot_disk.specs.Crash.{written, Torn, IsOn}
 use Rattle.slot_disk.specs.Slots.{start, current, record_of, IsOldOrNew}
 use Rattle.slot_disk.specs.Saving.{with_gate_closed, IsFree}
 use Rattle.slot_disk.specs.Outcomes.{torn_whole}
-use Rattle.slot_disk.proofs.Ranges.{in_gate, in_body, in_last, gate_torn, slot_in_one, on_ok}
+use Rattle.std.proofs.lemmas.Result.{on_ok_weaker}
+use Rattle.slot_disk.proofs.Ranges.{in_gate, in_body, in_last, gate_torn, slot_in_one}
 use Rattle.slot_disk.proofs.Runs.{weaker, then_on}
 use Rattle.slot_disk.proofs.Saves.{replace_done, old_stays, body_safe, gate_safe, gate_done}
 use Rattle.slot_disk.proofs.writing.replace.Goals as goal
@@ -69,9 +70,9 @@ returns-clause-exact g c =
     let old = c.args.disk.now in
     let mid = c.write_synced.new.disk in
     let new = c.write_synced-2.new.disk in
-    on_ok c.write_synced-2.result
-    ((file : List ℕ) → IsOn seen may_leave mid file → IsOn seen may_leave new (written file (start s) (1 ∷ [])))
-    ((file : List ℕ) → IsOn seen may_leave old file → IsFree file s c.args.is_shut → IsOn seen may_leave new (written file (start s) (1 ∷ spelled)))
+    on_ok_weaker {P = (file : List ℕ) → IsOn seen may_leave mid file → IsOn seen may_leave new (written file (start s) (1 ∷ []))}
+    {Q = (file : List ℕ) → IsOn seen may_leave old file → IsFree file s c.args.is_shut → IsOn seen may_leave new (written file (start s) (1 ∷ spelled))}
+    c.write_synced-2.result
     (λ done file on free. subst (λ (l : List ℕ). IsOn seen may_leave new l) (slot_in_one file spelled s c.args.is_shut free.gate)
     (done (written (with_gate_closed file s c.args.is_shut) (start s + 1) spelled) ((rw c.start.ensures at c.in_ok-write_synced.ensures.done) (with_gate_closed file s c.args.is_shut) (c.in_ok-close.ensures.exact file on))))
     (rw c.start-2.ensures at c.write_synced-2.ensures.done)

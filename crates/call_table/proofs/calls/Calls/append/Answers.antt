@@ -1,4 +1,4 @@
-use Rattle.std.proofs.Common.{◌≡◌, ◌≤◌, ◌++◌, ◌∷◌, [], length, List, Option, Some, rules, arith, ap, ◌∙◌}
+use Rattle.std.proofs.Common.{◌≡◌, ◌++◌, ◌∷◌, [], length, List, Some, rules, arith, ap, ◌∙◌}
 use Rattle.call_table.specs.Slots.{present}
 use Rattle.call_table.specs.declared.waiting.Waiting.{Waiting}
 use Rattle.call_table.proofs.Slots.{present_few, present_more, kept_pushed}

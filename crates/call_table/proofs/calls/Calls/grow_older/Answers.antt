@@ -1,4 +1,4 @@
-use Rattle.std.proofs.Common.{◌≡◌, ◌++◌, map, take, drop, length, ap, sym, subst, List, Option, arith, ◌∙◌}
+use Rattle.std.proofs.Common.{◌≡◌, ◌++◌, map, take, drop, length, ap, sym, subst, List, Option, ◌∙◌}
 use Rattle.std.specs.Prelude.{option_map}
 use Rattle.call_table.specs.Calls.{older}
 use Rattle.call_table.specs.Slots.{present, AreKept}
