@@ -1,5 +1,5 @@
 -- A link in memory that gives the frames sent over it, in their order.
-use Rattle.std.specs.Prelude.{◌≡◌, ℕ, List, [], ◌∷◌, ◌++◌, Option, None, Some, Vec, Result, Ok, Err, Contains, slice_get, count_by}
+use Rattle.std.specs.Prelude.{◌≡◌, ℕ, List, [], ◌∷◌, ◌++◌, Option, Vec, Result, Ok, Err, Contains, slice_get, count_by}
 use Rattle.std.specs.Option.{option_map, is_some}
 use Rattle.std.specs.declared.alloc.Global.{Global}
 use Rattle.ens_base.specs.Causes.{counted}
