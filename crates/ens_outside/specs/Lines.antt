@@ -1,7 +1,8 @@
 -- The next line of the bytes to come.
-use Rattle.std.specs.Prelude.{◌≡◌, ◌≢◌, ℕ, ◌<◌, ◌≤◌, List, [], ◌∷◌, ◌++◌, length, take, Option, Some, None, All}
+use Rattle.std.specs.Prelude.{◌≡◌, ◌≢◌, ℕ, ◌+◌, ◌<◌, ◌≤◌, List, [], ◌∷◌, ◌++◌, length, take, Option, Some, None, Result, Ok, Err, All}
 use Rattle.std.specs.Io.KnownBytes.{Consumes, Keeps, IsAtEnd}
 use Rattle.ens_outside.specs.declared.lines.Next.{Next}
+use Rattle.ens_outside.specs.declared.lines.NextError.{NextError}
 use Rattle.ens_outside.specs.declared.lines.Next.TheVariants.{Line, Rest, TooLong}
 
 -- these bytes contain no line feed
@@ -30,3 +31,10 @@ abbrev pub IsReady : List ℕ → List ℕ → Next → Type 0
 IsReady old new (Line v) = IsLine v.items × (old ≡ (v.items ++ 10 ∷ []) ++ new)
 IsReady old new (Rest v) = ⊥
 IsReady old new TooLong = (4400 < length old) × HasNoFeed (take 4401 old) × (new ≡ old)
+
+-- the number of bytes in what a call returned
+abbrev pub bytes_in : Result Next NextError → ℕ
+bytes_in (Ok (Line v)) = length v.items + 1
+bytes_in (Ok (Rest v)) = length v.items
+bytes_in (Ok TooLong) = 0
+bytes_in (Err e) = 0

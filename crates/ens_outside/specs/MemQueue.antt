@@ -1,17 +1,17 @@
 -- A link in memory that gives the frames sent over it, in their order.
-use Rattle.std.specs.Prelude.{◌≡◌, ℕ, ◌+◌, List, [], ◌∷◌, ◌++◌, Option, None, Some, Vec, Result, Ok, Err, Contains, slice_get}
-use Rattle.std.specs.Option.{option_map}
+use Rattle.std.specs.Prelude.{◌≡◌, ℕ, List, [], ◌∷◌, ◌++◌, Option, Vec, Result, Ok, Err, Contains, slice_get, count_by}
+use Rattle.std.specs.Option.{option_map, is_some}
 use Rattle.std.specs.declared.alloc.Global.{Global}
 use Rattle.ens_base.specs.Causes.{counted}
 use Rattle.ens_outside.specs.Told.{bytes_of}
 use Rattle.ens_outside.specs.declared.errors.LinkError.{LinkError}
 use Rattle.ens_outside.specs.declared.errors.LinkError.TheVariants.{Failed, Memory}
 
--- the frames sent, each with the number it was sent to; how many of them were given; the numbers of
--- the calls that fail, the number of calls so far, and the number of those that failed
+-- the frames sent, each with the number it was sent to; the result of each look, a frame or nothing;
+-- the numbers of the calls that fail, the number of calls so far, and the number of those that failed
 pub record Queue : Type 0 where
   pub sent : List (ℕ × List ℕ)
-  pub given : ℕ
+  pub given : List (Option (List ℕ))
   pub failing : List ℕ
   pub calls : ℕ
   pub faults : ℕ
@@ -20,10 +20,9 @@ pub record Queue : Type 0 where
 abbrev pub frame_at : ℕ → List (ℕ × List ℕ) → Option (List ℕ)
 frame_at n sent = option_map (λ f. f.1) (slice_get sent n)
 
--- one more was given, if there was one
-abbrev pub given_after : ℕ → Option (List ℕ) → ℕ
-given_after given None = given
-given_after given (Some frame) = given + 1
+-- how many of the looks found a frame
+abbrev pub found_in : List (Option (List ℕ)) → ℕ
+found_in given = count_by is_some given
 
 -- the next call is listed to fail
 abbrev pub QueueFails : Queue → Type 0
@@ -47,6 +46,6 @@ QueueSent q to frame (Err Memory) r = ¬ QueueFails q × (r ≡ queue_called q)
 -- a look fails exactly if it is listed; otherwise it gives the first frame that was not given yet,
 -- if there is one, unless out of memory
 abbrev pub QueueGave : Queue → Result (Option (Vec ℕ Global)) LinkError → Queue → Type 0
-QueueGave q (Ok o) r = ¬ QueueFails q × (bytes_of o ≡ frame_at q.given q.sent) × (r ≡ record (queue_called q) { given = given_after q.given (bytes_of o) })
+QueueGave q (Ok o) r = ¬ QueueFails q × (bytes_of o ≡ frame_at (found_in q.given) q.sent) × (r ≡ record (queue_called q) { given = q.given ++ bytes_of o ∷ [] })
 QueueGave q (Err Failed) r = QueueFails q × (r ≡ queue_failed q)
 QueueGave q (Err Memory) r = ¬ QueueFails q × (r ≡ queue_called q)

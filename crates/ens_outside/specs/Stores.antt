@@ -35,8 +35,10 @@ StoreCounts before now (Ok x) = before ≤ now
 StoreCounts before now (Err Failed) = (before ≤ now) × Rose before now
 StoreCounts before now (Err Memory) = now ≡ before
 
--- the top record after `set_top`: this digest or, after an error, this digest or the one before
+-- the top record after `set_top`: this digest; after a failure of the store, this digest or what was
+-- there before; when out of memory, what was there before
 abbrev pub SetsTop : {T : Type 0} → Option (Option (List ℕ)) → Option (Option (List ℕ)) → List ℕ → Result T StoreError → Type 0
 SetsTop None new digest result = Unit {0}
 SetsTop (Some top) new digest (Ok x) = new ≡ Some (Some digest)
-SetsTop (Some top) new digest (Err e) = (new ≡ Some top) ⊎ (new ≡ Some (Some digest))
+SetsTop (Some top) new digest (Err Failed) = (new ≡ Some top) ⊎ (new ≡ Some (Some digest))
+SetsTop (Some top) new digest (Err Memory) = new ≡ Some top

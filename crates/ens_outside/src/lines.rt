@@ -1,7 +1,7 @@
-ghost use Rattle.std.specs.Prelude.{◌≡◌, ◌≢◌, ◌+◌, ◌<◌, ◌≤◌, ◌++◌, ◌∷◌, [], List, ℕ, length, take, drop, slice_index, All, IfOk, IfErr, IfSome, IfNone, OnErr, OnOk, Some, true, false, vec_len, IsErrOf};
+ghost use Rattle.std.specs.Prelude.{◌≡◌, ◌≢◌, ◌⊎◌, ◌+◌, ◌<◌, ◌≤◌, ◌++◌, ◌∷◌, [], List, ℕ, length, take, drop, slice_index, All, IfOk, IfErr, IfSome, IfNone, OnErr, OnOk, Some, true, false, vec_len, IsErrOf};
 ghost use Rattle.std.specs.Io.KnownBytes.{prepend_known, Keeps, IsAtEnd};
 ghost use Rattle.ens_base.specs.Causes.{Rose};
-ghost use Rattle.ens_outside.specs.Lines.{IsNext, IsReady, IsLine, HasNoFeed};
+ghost use Rattle.ens_outside.specs.Lines.{IsNext, IsReady, IsLine, HasNoFeed, bytes_in};
 
 use crate::source::Source;
 use ens_base::{Failed, MAX_LINE_BYTES};
@@ -95,12 +95,16 @@ impl Lines {
         }
     }
 
-    /// Reads one piece after the pending bytes. Returns whether there was any.
-    fn fill<S: Source>(&mut self, source: &mut S) -> Result<bool, NextError>
+    /// Reads one piece of at most `most` bytes after the pending bytes. Returns whether there was
+    /// any.
+    fn fill<S: Source>(&mut self, source: &mut S, most: usize) -> Result<bool, NextError>
+        requires { 0 < most }
         ensures bytes { Keeps (prepend_known self.old.pending.items (S.left source.old)) (prepend_known self.new.pending.items (S.left source.new)) }
         ensures end { IfOk result (λ more. more ≡ false → (self.new.pending.items ≡ self.old.pending.items) × IsAtEnd (S.left source.new)) }
         ensures grows { IfOk result (λ more. more ≡ true → vec_len self.old.pending < vec_len self.new.pending) }
         ensures shrinks_never { vec_len self.old.pending ≤ vec_len self.new.pending }
+        ensures few { length self.new.pending.items ≤ length self.old.pending.items + most }
+        ensures err { OnErr result (self.new.pending.items ≡ self.old.pending.items) }
         ensures later { S.fault_count source.old ≤ S.fault_count source.new }
         ensures failed { IsErrOf result NextError.Failed → Rose (S.fault_count source.old) (S.fault_count source.new) }
     {
@@ -108,7 +112,8 @@ impl Lines {
             return Err(NextError::Memory);
         }
         let mut piece = [0u8; PIECE];
-        match source.read_some(&mut piece) {
+        let size = most.min(PIECE);
+        match source.read_some(&mut piece[..size]) {
             Ok(n) => {
                 self.pending.extend_from_slice(&piece[..n]).unwrap();
                 Ok(n > 0)
@@ -118,7 +123,8 @@ impl Lines {
     }
 
     /// Returns the next line, the rest after the last line feed, or `TooLong` if more than 4,400
-    /// bytes come without a line feed. An error loses no byte, and neither does `TooLong`.
+    /// bytes come without a line feed. An error loses no byte, and neither does `TooLong`. Reads
+    /// nothing past the 4,401 bytes that decide which it is, and nothing if the pending bytes do.
     ///
     /// Each turn reads at least one byte or returns, so 4,402 turns are enough.
     pub fn next<S: Source>(&mut self, alloc: Global, source: &mut S) -> Result<Next, NextError>
@@ -128,12 +134,16 @@ impl Lines {
             (prepend_known self.new.pending.items (S.left source.new))) }
         ensures later { S.fault_count source.old ≤ S.fault_count source.new }
         ensures failed { IsErrOf result NextError.Failed → Rose (S.fault_count source.old) (S.fault_count source.new) }
+        // The source failed before the bytes that it gave decided anything.
+        ensures undecided { IsErrOf result NextError.Failed → IsLine self.new.pending.items }
+        ensures few { (S.left source.new ≡ S.left source.old) ⊎ (bytes_in result + length self.new.pending.items ≤ 4401) }
     {
         for turn in 0..MAX_LINE_BYTES + 2 {
             if let Some(next) = self.ready(alloc)? {
                 return Ok(next);
             }
-            if !self.fill(source)? {
+            let most = MAX_LINE_BYTES + 1 - self.pending.len();
+            if !self.fill(source, most)? {
                 let rest = mem::replace(&mut self.pending, Vec::new(alloc));
                 return Ok(Next::Rest(rest));
             }
@@ -141,18 +151,20 @@ impl Lines {
         unreachable!()
     }
 
-    /// Returns whether nothing is left to read. Reads at most one piece, and consumes nothing.
+    /// Returns whether nothing is left to read. Reads at most one byte, and consumes nothing.
     pub fn is_end<S: Source>(&mut self, source: &mut S) -> Result<bool, NextError>
         ensures end { IfOk result (λ end. end ≡ true → IsAtEnd (prepend_known self.new.pending.items (S.left source.new))) }
         ensures more { IfOk result (λ end. end ≡ false → IfSome (prepend_known self.old.pending.items (S.left source.old)) (λ rest. rest ≢ [])) }
         ensures kept { Keeps (prepend_known self.old.pending.items (S.left source.old)) (prepend_known self.new.pending.items (S.left source.new)) }
         ensures later { S.fault_count source.old ≤ S.fault_count source.new }
         ensures failed { IsErrOf result NextError.Failed → Rose (S.fault_count source.old) (S.fault_count source.new) }
+        ensures undecided { IsErrOf result NextError.Failed → self.new.pending.items ≡ [] }
+        ensures few { (S.left source.new ≡ S.left source.old) ⊎ ((self.old.pending.items ≡ []) × (length self.new.pending.items ≤ 1)) }
     {
         if !self.pending.is_empty() {
             return Ok(false);
         }
-        let more = self.fill(source)?;
+        let more = self.fill(source, 1)?;
         Ok(!more)
     }
 }

@@ -50,8 +50,8 @@ pub trait NodeStore {
         ensures top { StaysTold (top_record self.old) (top_record self.new) }
         ensures counts { StoreCounts (fault_count self.old) (fault_count self.new) result };
 
-    /// Writes `digest` into the top record. On an error the record holds that or what it held
-    /// before.
+    /// Writes `digest` into the top record. After `Failed` the record holds that or what it held
+    /// before; when out of memory, what it held before.
     fn set_top(&mut self, digest: &Digest) -> Result<(), StoreError>
         ensures answer { OnOk result (may_answer self.old (SetTop digest.now) tt self.new) }
         ensures refusal { IfErr result (λ e. may_refuse self.old (SetTop digest.now) e self.new) }

@@ -46,10 +46,10 @@ pub record Saved {D : Type 0} (seen : D → Option (List ℕ)) (may_leave : D �
   pub spent : g.spent ≡ f.spent
   pub good : faults g.slots.disk ≡ faults f.slots.disk
 
--- after the last serial number a save leaves the disk alone, and counts one fault
+-- after the last serial number a save leaves the slot file as it was, and counts one fault
 pub record IsSpent {D : Type 0} (f g : FactFile D) : Type 0 where
   pub last : file_serial f ≡ 2 ^ 64 - 1
-  pub disk : g.slots.disk ≡ f.slots.disk
+  pub slots : g.slots ≡ f.slots
   pub counts : g.spent ≡ counted f.spent
 
 -- before it a save fails only where the disk failed, and counts no fault of its own

@@ -1,6 +1,6 @@
 ghost use Rattle.std.specs.Prelude.{◌≡◌, ◌≤◌, ◌<◌, ◌⊎◌, ◌+◌, ◌-◌, ◌^◌, min, ℕ, List, Option, Some, None, Result, Ok, Err, IfOk, IfErr, IsErrOf, OnOk, OnErr};
 ghost use Rattle.ens_base.specs.Causes.{HasCause, Rose};
-ghost use Rattle.slot_disk.specs.Crash.{Told, StaysSeen, LeavesOnly, SeenIn};
+ghost use Rattle.slot_disk.specs.Crash.{Told, StaysSeen, LeavesOnly, SeenIn, IsOn};
 ghost use Rattle.slot_disk.specs.Slots.{record_in, last_serial};
 ghost use Rattle.slot_disk.specs.SlotFiles.{remembered, IsAtRest};
 ghost use Rattle.peer_fact.specs.FactBytes.{fact_of};
@@ -41,7 +41,7 @@ fn put<D: Disk>(slots: &mut SlotFile<D>, fact: &Fact) -> Result<(), SlotError>
     ensures err { OnErr result (remembered slots.new ≡ remembered slots.old) }
     ensures serial { OnOk result (last_serial (remembered slots.new) ≡ last_serial (remembered slots.old) + 1) }
     ensures can { OnOk result (last_serial (remembered slots.old) < 2 ^ 64 - 1) }
-    ensures refused { OnErr result (IsErrOf result slot_errors.Failed ⊎ (slots.new.disk ≡ slots.old.disk)) }
+    ensures refused { OnErr result (IsErrOf result slot_errors.Failed ⊎ (slots.new ≡ slots.old)) }
     ensures good { OnOk result (D.fault_count slots.new.disk ≡ D.fault_count slots.old.disk) }
     ensures error { IfErr result (λ e. IsPutError (D.fault_count slots.old.disk) (D.fault_count slots.new.disk) (last_serial (remembered slots.old)) e) }
     ensures later { D.fault_count slots.old.disk ≤ D.fault_count slots.new.disk }
@@ -58,9 +58,10 @@ impl<D: Disk> FactFile<D> {
     ///
     /// # Errors
     ///
-    /// `Failed` only if the fault count of the disk rose, or `Memory`, which leaves that count
-    /// unchanged. The error returns the disk. A read of it then returns one of the files that a
-    /// crash might have left before, such as the old one.
+    /// `Failed` only if the fault count of the disk rose: a read of the disk then returns one of the
+    /// files that a crash might have left before, such as the old one. `Memory` leaves that count
+    /// unchanged, and comes after a sync: a read returns the same file as before, and a crash leaves
+    /// exactly that one. Either error returns the disk.
     pub fn open(alloc: Global, disk: D) -> Result<FactFile<D>, Refused<D, KeepError>>
         ensures at_rest { IfOk result (λ f. Told (D.seen disk) (λ bytes. IsAtRest D.seen D.may_leave f.slots × (fact_in (record_in (remembered f.slots)) ≡ file_fact bytes))) }
         ensures spent { IfOk result (λ f. f.spent ≡ 0) }
@@ -70,6 +71,7 @@ impl<D: Disk> FactFile<D> {
         ensures seen { StaysSeen D.seen D.may_leave disk (disk_after result) result }
         ensures crash { (c : List ℕ) → D.may_leave (disk_after result) c → D.may_leave disk c }
         ensures any_moment { LeavesOnly D.moment D.left_since disk (disk_after result) (D.may_leave disk) }
+        ensures memory { IfErr result (λ r. r.error ≡ errors.Memory → Told (D.seen disk) (λ bytes. IsOn D.seen D.may_leave r.held bytes)) }
     {
         match SlotFile::open(alloc, disk) {
             Ok(slots) => Ok(FactFile { slots, spent: 0 }),

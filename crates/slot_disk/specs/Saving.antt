@@ -1,5 +1,5 @@
 -- What a save does to a file of two slots.
-use Rattle.std.specs.Prelude.{◌≡◌, ℕ, ◌+◌, ◌≤◌, ◌<◌, ◌^◌, List, length, Bool, true, [], ◌∷◌, if◌then◌else◌}
+use Rattle.std.specs.Prelude.{◌≡◌, ℕ, ◌+◌, ◌≤◌, ◌<◌, ◌^◌, List, length, Bool, true, [], ◌∷◌, if◌then◌else◌, Result, Err}
 use Rattle.slot_disk.specs.Crash.{written}
 use Rattle.slot_disk.specs.Slots.{start, slot, shut, current, last_serial, next_slot, shut_at, slot_at, other, body}
 use Rattle.ens_base.specs.Causes.{Rose}
@@ -37,6 +37,11 @@ abbrev pub IsReadError : ℕ → ℕ → SlotError → Type 0
 IsReadError before now errors.Failed = Rose before now
 IsReadError before now errors.Memory = now ≡ before
 IsReadError before now e = ⊥
+
+-- this holds unless the disk failed
+abbrev pub UnlessFailed : {T : Type 0} → Result T SlotError → Type 0 → Type 0
+UnlessFailed (Err errors.Failed) P = Unit {0}
+UnlessFailed result P = P
 
 -- these bytes determine what the slot holds, and its gate
 pub record IsSlotOf (file : List ℕ) (s : Slot) (bytes : List ℕ) : Type 0 where

@@ -3,7 +3,7 @@ ghost use Rattle.ens_base.specs.Causes.{Rose};
 ghost use Rattle.slot_disk.specs.Crash.{Told, Stay, StaysSeen, LeavesOnly, IsOn};
 ghost use Rattle.slot_disk.specs.Faults.{CountsFaults};
 ghost use Rattle.slot_disk.specs.Slots.{slot, shut, slot_at, shut_at, held_slot, newer};
-ghost use Rattle.slot_disk.specs.Saving.{IsReadError, IsSlotOf};
+ghost use Rattle.slot_disk.specs.Saving.{IsReadError, IsSlotOf, UnlessFailed};
 ghost use Rattle.slot_disk.specs.Found.{AreSlots, picked};
 
 use crate::disk::Disk;
@@ -113,7 +113,7 @@ pub(crate) struct Both {
 /// Syncs the disk, and then reads both slots.
 pub(crate) fn read_both<D: Disk>(alloc: Global, disk: &mut D) -> Result<Both, SlotError>
     ensures found { IfOk result (λ r. Told (D.seen disk.old) (λ file. AreSlots file r)) }
-    ensures durable { OnOk result (Told (D.seen disk.old) (λ file. IsOn D.seen D.may_leave disk.new file)) }
+    ensures durable { UnlessFailed result (Told (D.seen disk.old) (λ file. IsOn D.seen D.may_leave disk.new file)) }
     ensures error { IfErr result (λ e. IsReadError (D.fault_count disk.old) (D.fault_count disk.new) e) }
     ensures later { D.fault_count disk.old ≤ D.fault_count disk.new }
     ensures good { OnOk result (D.fault_count disk.new ≡ D.fault_count disk.old) }

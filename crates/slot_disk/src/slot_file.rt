@@ -2,7 +2,7 @@ ghost use Rattle.std.specs.Prelude.{◌≡◌, ◌⊎◌, ◌↔◌, ◌+◌, �
 ghost use Rattle.ens_base.specs.Causes.{Rose};
 ghost use Rattle.slot_disk.specs.Crash.{written, Torn, Told, StaysSeen, LeavesOnly, SeenIn, IsOn};
 ghost use Rattle.slot_disk.specs.Slots.{start, open_slot, record_in, last_serial, next_slot, other, IsOldOrNew, newer, held_slot, current, shut_at};
-ghost use Rattle.slot_disk.specs.Saving.{IsReadError};
+ghost use Rattle.slot_disk.specs.Saving.{IsReadError, UnlessFailed};
 ghost use Rattle.slot_disk.specs.Found.{kept_now};
 ghost use Rattle.slot_disk.specs.declared.error.SlotError.TheVariants as errors;
 ghost use Rattle.slot_disk.specs.declared.slot.Slot.TheVariants.{A, B};
@@ -78,7 +78,7 @@ fn parts_of(alloc: Global, both: Both) -> Result<Parts, AllocError>
 fn prepare<D: Disk>(alloc: Global, disk: &mut D) -> Result<Parts, SlotError>
     ensures now { IfOk result (λ p. Told (D.seen disk.old) (λ file. kept_now p.current p.content.bytes.items ≡ current file)) }
     ensures gates { IfOk result (λ p. Told (D.seen disk.old) (λ file. (p.a_is_shut ≡ shut_at file A) × (p.b_is_shut ≡ shut_at file B))) }
-    ensures durable { OnOk result (Told (D.seen disk.old) (λ file. IsOn D.seen D.may_leave disk.new file)) }
+    ensures durable { UnlessFailed result (Told (D.seen disk.old) (λ file. IsOn D.seen D.may_leave disk.new file)) }
     ensures error { IfErr result (λ e. IsReadError (D.fault_count disk.old) (D.fault_count disk.new) e) }
     ensures later { D.fault_count disk.old ≤ D.fault_count disk.new }
     ensures good { OnOk result (D.fault_count disk.new ≡ D.fault_count disk.old) }
@@ -99,9 +99,10 @@ impl<D: Disk> SlotFile<D> {
     ///
     /// # Errors
     ///
-    /// `Failed` only if the fault count of the disk rose, or `Memory`, which leaves that count
-    /// unchanged. The error returns the disk. A read of it then returns one of the files that a
-    /// crash might have left before, such as the old one.
+    /// `Failed` only if the fault count of the disk rose: a read of the disk then returns one of the
+    /// files that a crash might have left before, such as the old one. `Memory` leaves that count
+    /// unchanged, and comes after the sync: a read returns the same file as before, and a crash
+    /// leaves exactly that one. Either error returns the disk.
     pub fn open(alloc: Global, disk: D) -> Result<SlotFile<D>, Refused<D, SlotError>>
         ensures at_rest { IfOk result (λ file. Told (D.seen disk) (λ bytes. IsAtRest D.seen D.may_leave file × (remembered file ≡ current bytes))) }
         ensures error { IfErr result (λ r. IsReadError (D.fault_count disk) (D.fault_count r.held) r.error) }
@@ -110,6 +111,7 @@ impl<D: Disk> SlotFile<D> {
         ensures seen { StaysSeen D.seen D.may_leave disk (disk_after result) result }
         ensures crash { (c : List ℕ) → D.may_leave (disk_after result) c → D.may_leave disk c }
         ensures any_moment { LeavesOnly D.moment D.left_since disk (disk_after result) (D.may_leave disk) }
+        ensures memory { IfErr result (λ r. r.error ≡ errors.Memory → Told (D.seen disk) (λ bytes. IsOn D.seen D.may_leave r.held bytes)) }
     {
         let mut disk = disk;
         let parts = match prepare(alloc, &mut disk) {
@@ -136,7 +138,7 @@ impl<D: Disk> SlotFile<D> {
     ///
     /// `TooLong` exactly if there are more than 480 bytes. `Spent` exactly if there are at most 480
     /// and the last serial number is the greatest u64. `Failed` only if the fault count of the disk
-    /// rose. `TooLong` and `Spent` leave the disk untouched.
+    /// rose. `TooLong` and `Spent` leave the file and its disk as they were.
     pub fn save(&mut self, bytes: &[u8]) -> Result<(), SlotError>
         ensures any_moment { IsAtRest D.seen D.may_leave self.old → LeavesOnly D.moment D.left_since self.old.disk self.new.disk (IsOldOrNew (record_in (remembered self.old)) bytes.now) }
         ensures seen { IsAtRest D.seen D.may_leave self.old → SeenIn D.seen self.new.disk (IsOldOrNew (record_in (remembered self.old)) bytes.now) }
@@ -154,7 +156,7 @@ impl<D: Disk> SlotFile<D> {
         ensures inside_seen { (rest : IsAtRest D.seen D.may_leave self.old) → SeenIn D.seen self.new.disk (Torn (start (next_slot (remembered self.old))) (11 + length bytes.now) rest.bytes) }
         // After a failure the gate of that slot is not taken for closed.
         ensures doubted { IsErrOf result errors.Failed → remembers_shut self.new (next_slot (remembered self.old)) ≡ false }
-        ensures refused { OnErr result (IsErrOf result errors.Failed ⊎ (self.new.disk ≡ self.old.disk)) }
+        ensures refused { OnErr result (IsErrOf result errors.Failed ⊎ (self.new ≡ self.old)) }
     {
         if bytes.len() > RECORD_LIMIT {
             return Err(SlotError::TooLong);

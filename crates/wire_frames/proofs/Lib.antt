@@ -9,3 +9,4 @@ pub mod PlaceLaws
 pub mod PartFaults
 pub mod MessageFaults
 pub mod CauseLaws
+pub mod Obeying

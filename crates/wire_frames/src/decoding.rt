@@ -1,6 +1,7 @@
 ghost use Rattle.std.specs.Prelude.{◌≡◌, ◌≤◌, ◌<◌, ◌+◌, length, drop, Ok, IfOk};
 ghost use Rattle.byteorder.specs.Endian.{big_number};
 ghost use Rattle.wire_frames.specs.declared.frame.Frame.{Frame};
+ghost use Rattle.wire_frames.specs.Messages.{Obeys};
 ghost use Rattle.wire_frames.specs.Frames.{IsFrame, frame_spelling, HasPlaces, all_of, ends_of, sized_of, first_version_of, frame_of, Answers};
 
 use crate::error::FrameError;
@@ -111,6 +112,8 @@ fn read_frame(alloc: Global, bytes: &[u8]) -> Result<Frame, FrameError>
 pub fn decode_frame(alloc: Global, bytes: &[u8]) -> Result<Frame, FrameError>
     // What is read was spelled so.
     ensures found { IfOk result (λ f. IsFrame f × (bytes.now ≡ frame_spelling f)) }
+    // A peer may be given it.
+    ensures obeys { IfOk result (λ f. Obeys f.message) }
     // What is spelled so is read, unless memory runs out.
     ensures only { (f : Frame) → IsFrame f → bytes.now ≡ frame_spelling f → Answers result (Ok f) }
     // Which fault it is.

@@ -1,4 +1,4 @@
-use Rattle.std.proofs.Common.{◌≤◌, vec_len}
+use Rattle.std.proofs.Common.{◌≡◌, ◌⊎◌, ◌≤◌, length, vec_len}
 use Rattle.std.specs.Io.KnownBytes.{prepend_known, Keeps}
 use Rattle.ens_outside.proofs.lines.Lines.next.Given as goal
 
@@ -8,4 +8,5 @@ invariant-loop-turn g l = record {
   later : g.S.Source.fault_count l.fn.source ≤ g.S.Source.fault_count l.source;
   few : l.turn ≤ 4401;
   long : l.turn ≤ vec_len l.self.pending;
+  taken : (g.S.Source.left l.source ≡ g.S.Source.left l.fn.source) ⊎ (length l.self.pending.items ≤ 4401);
 }
