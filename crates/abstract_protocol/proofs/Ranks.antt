@@ -27,7 +27,8 @@ epochs_from a b h k l = by_order (cases_order a.count b.count)
     by_order (inr (inl m)) = inl m
     by_order (inr (inr m)) = absurd (omega arith)
 
-epoch_same : (a b : Epoch) → IsEpoch a → IsEpoch b → epoch_number a ≡ epoch_number b → a ≡ b
+-- epochs with the same number are the same
+pub epoch_same : (a b : Epoch) → IsEpoch a → IsEpoch b → epoch_number a ≡ epoch_number b → a ≡ b
 unfolding epoch_number
 epoch_same a b h k l = λ i. record { count = count i; proposer = proposer i }
   where

@@ -1,5 +1,5 @@
 -- How a state is related to the one after a step, and to each later one.
-use Rattle.std.proofs.Common.{◌≡◌, ℕ, ◌<◌, ◌≤◌, Bool, true, false, List, [], ◌∷◌, Option, None, Some, arith, ap, refl, inl, inr, sym, ◌∙◌, subst, le_trans}
+use Rattle.std.proofs.Common.{◌≡◌, ℕ, ◌<◌, ◌≤◌, Bool, true, false, List, [], ◌∷◌, Option, None, Some, arith, ap, refl, inl, inr, sym, ◌∙◌, subst, le_trans, le_refl}
 use Rattle.std.proofs.lemmas.Bool.Decides.{nat_tests}
 use Rattle.election_laws.proofs.Epochs.{not_both}
 use Rattle.version_laws.proofs.Maps.{zero_not, put_other, put_here}
@@ -15,13 +15,10 @@ use Rattle.abstract_protocol.specs.Protocol.{State, Step, Begin, Ask, Elect, Pro
 
 -- ## Events and epochs
 
-same : (n : ℕ) → n ≤ n
-same n = omega arith
-
 now_step : (s : State) (e : Step) → s.book.now ≤ (happens s e).book.now
 now_step s Begin = omega arith
 now_step s (Ask c) = omega arith
-now_step s e = same s.book.now
+now_step s e = le_refl s.book.now
 
 elected_at_step : (s : State) (e : Step) → MayCome s e → (d : ℕ) → s.objects.ledger.elected d ≡ true → (happens s e).book.elected_at d ≡ s.book.elected_at d
 elected_at_step s (Elect x b) may d h = put_other s.book.elected_at x s.book.now d (λ e. not_both h (rw (← e) may.0.fresh))
@@ -161,7 +158,7 @@ run_later view steps e run = later_step (state_after view steps) e run.1 (run_wh
 pub stay_same : (s : State) → EntriesStay s s
 stay_same s = record {
   versions = versions_same s.objects;
-  now = same s.book.now;
+  now = le_refl s.book.now;
   elected_at = λ d h. refl;
   proposed_at = λ v h. refl;
   settled_at = λ v h. refl;

@@ -27,6 +27,7 @@ use Rattle.leader_laws.proofs.Outcomes.{keeps_done, done_not_refused}
 use Rattle.leader_laws.specs.Tables.{Seat, calls_owed, owe, owing, Object, Known, Stage, Idle, Begun, Reading, Sure, Checking, Writing, Rewriting, KeyRow, Leader, Ghosts, version_at, base_of, calls_of, set_row, with_row, held, row_of}
 use Rattle.leader_laws.specs.Leaders.{OwedHolds, IsUnwritten, IsObjectOf, KnownHolds, IsFresh, PutHolds, CallHolds, RowHolds, LeaderHolds, IsParent}
 use Rattle.leader_laws.specs.Moves.{IsDropped, IsLeaderMove}
+use Rattle.std.proofs.lemmas.Option.{same_Some}
 
 -- ## Every stage without a put has what a call that began has
 
@@ -75,9 +76,6 @@ wrote_then s v k u y z c i x h = by_cases (eqb v x) refl h.0 h.1
 none_some : (i : ℕ) → None ≡ Some i → ⊥
 none_some i e = cc
 
-some_same : (i j : ℕ) → Some i ≡ Some j → i ≡ j
-some_same i j e = cc
-
 module _ (g : Ghosts) (s : State) (p : Seat) (d : ℕ) (k : List ℕ) (known : Known) (rest : List ℕ) (w : Whole s.objects) (elected : s.objects.ledger.elected d ≡ true) (u v : ℕ) (epoch : epoch_of v ≡ d) (below : (y : ℕ) → s.objects.proposed y ≡ true → epoch_of y ≡ d → y ≤ v) (some : 0 < v) (i : ℕ) (a : RowHolds g s p d k (row_of known (Begun i) rest)) where
   new_put : (y : Version) (z : Option (List ℕ)) (c : Option ℕ) → MayCome s (Propose v k u y z c) → PutHolds (happens s (Propose v k u y z c)) d k v (record { stamp = y; content = z }) (λ q. false)
   new_put y z c may = record {
@@ -112,7 +110,7 @@ module _ (g : Ghosts) (s : State) (p : Seat) (d : ℕ) (k : List ℕ) (known : K
       only x (inr h) = absurd (a.stage x h)
 
       none : (j : ℕ) → j ∈ rest → (x : ℕ) → ((v ≡ x) × (Some i ≡ Some j)) ⊎ Wrote s.objects s.book j x → ⊥
-      none j m x (inl h) = a.distinct.0 (rw (some_same i j h.1) m)
+      none j m x (inl h) = a.distinct.0 (rw (same_Some i j h.1) m)
       none j m x (inr h) = a.waiting j m x h
 
   -- a rewrite is proposed for the running call
@@ -164,9 +162,9 @@ pub writes : (g : Ghosts) (s : State) (l : Leader) (k : List ℕ) (known : Known
     → IsLeaderMove g s (Propose (version_at l.epoch (suc l.seq)) k u (version_of (version_at l.epoch (suc l.seq))) z (Some i) ∷ []) g (record l { seq = suc l.seq; rows = set_row l.rows k (row_of known (Writing i (version_at l.epoch (suc l.seq)) (record { stamp = version_of (version_at l.epoch (suc l.seq)); content = z }) (λ q. false)) rest) })
 writes g s l k known i rest u z a w fits row parent applies = record {
   may = (may, tt);
-  holds = leader_propose g s l k u (version_of v) z (Some i) (row_of known (Writing i v (record { stamp = version_of v; content = z }) (λ q. false)) rest) a w (λ j e. subst (λ n. (s.book.asked n).key ≡ k) (some_same i j e) (row.calls i (inl refl)).on_key) (λ j e m. (row.calls i (inl refl)).free (rw (some_same i j e) m)) may
+  holds = leader_propose g s l k u (version_of v) z (Some i) (row_of known (Writing i v (record { stamp = version_of v; content = z }) (λ q. false)) rest) a w (λ j e. subst (λ n. (s.book.asked n).key ≡ k) (same_Some i j e) (row.calls i (inl refl)).on_key) (λ j e m. (row.calls i (inl refl)).free (rw (same_Some i j e) m)) may
       (write_goes_out g s l.seat l.epoch k known rest w a.elected u v (version_epoch l.epoch (suc l.seq) fits) (below_next g s l a) (version_some l.epoch (suc l.seq)) i row z may);
-  own = ((version_epoch l.epoch (suc l.seq) fits, λ j e. subst (λ n. g.home n ≡ l.seat.peer) (some_same i j e) (row.calls i (inl refl)).home), tt);
+  own = ((version_epoch l.epoch (suc l.seq) fits, λ j e. subst (λ n. g.home n ≡ l.seat.peer) (same_Some i j e) (row.calls i (inl refl)).home), tt);
   ghosts = ghosts_same s g;
   turns = λ d r n. refl;
 }

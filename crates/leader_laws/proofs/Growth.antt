@@ -197,6 +197,16 @@ known_old g s d k Unknown a = inl refl
 known_old g s d k Nothing a = inl refl
 known_old g s d k (Held u stamp digest gone) a = inr a.newest.proposed
 
+-- a call that waits is one of the calls of its row
+pub waits : (stage : Stage) (rest : List ℕ) (i : ℕ) → i ∈ rest → i ∈ with_running stage rest
+waits Idle rest i m = m
+waits (Begun j) rest i m = inr m
+waits (Reading j r replied best object) rest i m = inr m
+waits (Sure j) rest i m = inr m
+waits (Checking j r replied reply) rest i m = inr m
+waits (Writing j v x acks) rest i m = inr m
+waits (Rewriting j v x acks) rest i m = inr m
+
 module _ (g h : Ghosts) (s t : State) (p : Seat) (d : ℕ) (k : List ℕ) (stay : EntriesStay s t) (ghosts : GhostsGrow s g h) (elected : s.objects.ledger.elected d ≡ true) where
   pub heard_stays : (u : ℕ) → IsHeard s.objects d k u → IsHeard t.objects d k u
   heard_stays u a = record {
@@ -300,15 +310,6 @@ module _ (g h : Ghosts) (s t : State) (p : Seat) (d : ℕ) (k : List ℕ) (stay 
     call = stay.call v a.put.proposed ∙ a.call;
     fresh = fresh_stays i (calls i (inl refl)).called a.fresh;
   }
-
-  waits : (stage : Stage) (waiting : List ℕ) (i : ℕ) → i ∈ waiting → i ∈ with_running stage waiting
-  waits Idle waiting i m = m
-  waits (Begun j) waiting i m = inr m
-  waits (Reading j r replied best object) waiting i m = inr m
-  waits (Sure j) waiting i m = inr m
-  waits (Checking j r replied reply) waiting i m = inr m
-  waits (Writing j v x acks) waiting i m = inr m
-  waits (Rewriting j v x acks) waiting i m = inr m
 
   pub row_stays : (row : KeyRow) → RowSpared s t d k (calls_of row) → RowHolds g s p d k row → RowHolds h t p d k row
   row_stays row spared a = record {

@@ -20,11 +20,9 @@ use Rattle.leader_laws.proofs.Guards.{newest_of_reread, fresh_of_replies}
 use Rattle.leader_laws.specs.Tables.{Seat, Object, Known, Unknown, Nothing, Held, Stage, Idle, Begun, Reading, Sure, Checking, Writing, Rewriting, KeyRow, Leader, Turn, Ghosts, base_of, set_row, with_row, one_of, better_object, held}
 use Rattle.leader_laws.specs.Leaders.{IsObjectOf, KnownHolds, IsSettledKey, ReadingHolds, PutHolds, RowHolds, LeaderHolds}
 use Rattle.leader_laws.specs.Messages.{GetReplySays, CheckReplySays}
+use Rattle.std.proofs.lemmas.Option.{none-some}
 
 -- ## One row in the table
-
-not_some : {A : Type 0} (x : A) → None ≡ Some x → ⊥
-not_some x e = cc
 
 -- what holds of the new row at its key, and of each other one, holds of each
 pub row_then : (rows : List ℕ → KeyRow) (k : List ℕ) (row : KeyRow) (P : List ℕ → KeyRow → Type 0) → P k row → ((j : List ℕ) → (k ≡ j → ⊥) → P j (rows j)) → (j : List ℕ) → P j (set_row rows k row j)
@@ -39,6 +37,10 @@ pub row_set : (g : Ghosts) (s : State) (l : Leader) (k : List ℕ) (row : KeyRow
 row_set g s l k row a b = record { led = a.led; elected = a.elected; established = a.established; numbers = a.numbers; rounds = a.rounds; owes = a.owes; rows = row_then l.rows k row (RowHolds g s l.seat l.epoch) b (λ j n. a.rows j) }
 
 -- ## Moves of a row without a step
+
+-- the greater of two numbers is one of them
+pub max_cases : (a b : ℕ) → (max a b ≡ a) ⊎ (max a b ≡ b)
+max_cases a b = grind (arith, nat_tests)
 
 module _ (g : Ghosts) (s : State) (p : Seat) (d : ℕ) (k : List ℕ) (known : Known) (rest : List ℕ) where
   abbrev Row : Known → Stage → List ℕ → Type 0
@@ -60,7 +62,7 @@ module _ (g : Ghosts) (s : State) (p : Seat) (d : ℕ) (k : List ℕ) (known : K
       given = λ q e. absurd (false≢true e);
       stood = λ q e. absurd (false≢true e);
       settled = λ q e. absurd (false≢true e);
-      holds = λ x e. absurd (not_some x e);
+      holds = λ x e. absurd (none-some x e);
     };
     calls = a.calls;
     waiting = a.waiting;
@@ -85,9 +87,6 @@ module _ (g : Ghosts) (s : State) (p : Seat) (d : ℕ) (k : List ℕ) (known : K
 
       bases : Some x ≡ Some (record { call = i; base = base }) → x.base ≡ base
       bases same = cc
-
-  max_cases : (best entry : ℕ) → (max best entry ≡ best) ⊎ (max best entry ≡ entry)
-  max_cases best entry = grind (arith, nat_tests)
 
   max_then : (best entry : ℕ) (P : ℕ → Type 0) → P best → P entry → P (max best entry)
   max_then best entry P a b = by_cases (max_cases best entry)

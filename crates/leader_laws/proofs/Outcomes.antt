@@ -1,16 +1,13 @@
 -- What commands come to on settled objects.
-use Rattle.std.proofs.Common.{◌≡◌, ℕ, ◌<◌, Bool, true, false, List, ◌++◌, Option, None, Some, eqb, eqb-true, arith, ap, refl, sym, ◌∙◌, subst}
-use Rattle.std.specs.Prelude.{if◌then◌else◌, nat_le, length, ◌+◌}
+use Rattle.std.proofs.Common.{◌≡◌, ℕ, ◌<◌, Bool, true, false, List, Option, None, Some, eqb, eqb-true, arith, ap, refl, sym, ◌∙◌}
 use Rattle.std.proofs.lemmas.Bool.Decides.{nat_tests}
-use Rattle.ens_base.specs.Lists.{same_bytes}
-use Rattle.ens_base.specs.Epochs.{same_version}
 use Rattle.ens_base.specs.declared.epoch.Version.{Version}
 use Rattle.ens_base.specs.declared.command.Command.{Command}
 use Rattle.ens_base.specs.declared.command.Command.TheVariants.{Get, PutOnce, Update, Append, Add, Swap, Over, Delete}
 use Rattle.ens_base.specs.declared.reply.Reply.{Reply}
 use Rattle.register_model.specs.declared.register.Register.{Register}
 use Rattle.register_model.specs.declared.register.Register.TheVariants.{Absent, Present}
-use Rattle.register_model.specs.Registers.{Keeps, Writes, outcome, written}
+use Rattle.register_model.specs.Registers.{Keeps, outcome, written}
 use Rattle.register_model.specs.Histories.{IsDone, IsRefused}
 use Rattle.version_laws.proofs.Maps.{zero_not}
 use Rattle.version_laws.proofs.Descent.{Whole}
@@ -19,33 +16,12 @@ use Rattle.abstract_protocol.specs.Protocol.{State}
 use Rattle.leader_laws.specs.Rows.{needs_bytes}
 use Rattle.leader_laws.specs.Tables.{Object, Ghosts, is_gone}
 use Rattle.leader_laws.specs.Leaders.{IsObjectOf, HeldHolds, IsNoClash}
-
-chosen : (b : Bool) (c : Option (List ℕ)) (r : Reply) → (if b then Writes c else Keeps Reply.Failed) ≡ Keeps r → Reply.Failed ≡ r
-chosen true c r e = absurd (cc)
-chosen false c r e = cc
-
-keeps_same : (a r : Reply) → Keeps a ≡ Keeps r → a ≡ r
-keeps_same a r e = cc
-
-writes_not : (c : Option (List ℕ)) (r : Reply) → Writes c ≡ Keeps r → ⊥
-writes_not c r e = cc
+use Rattle.abstract_protocol.proofs.Outcomes.{keeps_then}
+use Rattle.std.proofs.lemmas.Bool.{true≢false}
 
 -- an answer without a write completes the call
 pub keeps_done : (c : Command) (x : Register) (r : Reply) → outcome c x ≡ Keeps r → IsDone r
-keeps_done Get Absent r e = subst IsDone (keeps_same Reply.NotFound r e) tt
-keeps_done Get (Present stamp bytes) r e = subst IsDone (keeps_same (Reply.Value stamp bytes) r e) tt
-keeps_done (PutOnce v) Absent r e = absurd (writes_not (Some v) r e)
-keeps_done (PutOnce v) (Present stamp bytes) r e = subst IsDone (keeps_same Reply.Failed r e) tt
-keeps_done (Update w v) Absent r e = subst IsDone (keeps_same Reply.Failed r e) tt
-keeps_done (Update w v) (Present stamp bytes) r e = subst IsDone (chosen (same_version w stamp) (Some v) r e) tt
-keeps_done (Append t) Absent r e = subst IsDone (keeps_same Reply.Failed r e) tt
-keeps_done (Append t) (Present stamp bytes) r e = subst IsDone (chosen (nat_le (length bytes + length t) 1024) (Some (bytes ++ t)) r e) tt
-keeps_done (Add n) Absent r e = subst IsDone (keeps_same Reply.Failed r e) tt
-keeps_done (Add n) (Present stamp bytes) r e = subst IsDone (chosen _ _ r e) tt
-keeps_done (Swap a b) Absent r e = subst IsDone (keeps_same Reply.Failed r e) tt
-keeps_done (Swap a b) (Present stamp bytes) r e = subst IsDone (chosen (same_bytes bytes a) (Some b) r e) tt
-keeps_done (Over v) x r e = absurd (writes_not (Some v) r e)
-keeps_done Delete x r e = absurd (writes_not None r e)
+keeps_done = keeps_then IsDone tt tt (λ stamp bytes. tt)
 
 pub done_not_refused : (r : Reply) → IsDone r → IsRefused r → ⊥
 done_not_refused (Reply.Value stamp bytes) d e = e
@@ -65,19 +41,16 @@ object_register s v x a = by_cases (eqb v 0) refl
     by_cases true t = absurd (grind (arith, nat_tests, a.some))
     by_cases false t = rw (t, a.stamp, a.content) refl
 
-not_true : true ≡ false → ⊥
-not_true e = cc
-
 -- once and update need to know the stamp, and whether it is a tombstone
 pub stamp_is_enough : (c : Command) (stamp : Version) (a b : List ℕ) → needs_bytes c ≡ false → outcome c (Present stamp a) ≡ outcome c (Present stamp b)
 stamp_is_enough (PutOnce v) stamp a b h = refl
 stamp_is_enough (Update w v) stamp a b h = refl
 stamp_is_enough (Over v) stamp a b h = refl
 stamp_is_enough Delete stamp a b h = refl
-stamp_is_enough Get stamp a b h = absurd (not_true h)
-stamp_is_enough (Append t) stamp a b h = absurd (not_true h)
-stamp_is_enough (Add n) stamp a b h = absurd (not_true h)
-stamp_is_enough (Swap x y) stamp a b h = absurd (not_true h)
+stamp_is_enough Get stamp a b h = absurd (true≢false h)
+stamp_is_enough (Append t) stamp a b h = absurd (true≢false h)
+stamp_is_enough (Add n) stamp a b h = absurd (true≢false h)
+stamp_is_enough (Swap x y) stamp a b h = absurd (true≢false h)
 
 -- ## What is held
 
@@ -90,13 +63,13 @@ held_register s u some = by_cases (eqb u 0) refl
 
 gone_written : (stamp : Version) (c : Option (List ℕ)) → true ≡ is_gone c → written stamp c ≡ Absent
 gone_written stamp None e = refl
-gone_written stamp (Some bytes) e = absurd (not_true e)
+gone_written stamp (Some bytes) e = absurd (true≢false e)
 
 pub gone_register : (g : Ghosts) (s : State) (d : ℕ) (k : List ℕ) (u : ℕ) (stamp : Version) (digest : List ℕ) → Whole s.objects → HeldHolds g s d k u stamp digest true → Absent ≡ register_at s.book u
 gone_register g s d k u stamp digest w a = sym (gone_written (s.book.stamp u) (s.book.content u) a.same_gone) ∙ held_register s u (zero_not u (w.basics.led u a.newest.proposed))
 
 there_outcome : (c : Command) (stamp : Version) (bytes : List ℕ) (z : Option (List ℕ)) → needs_bytes c ≡ false → false ≡ is_gone z → outcome c (Present stamp bytes) ≡ outcome c (written stamp z)
-there_outcome c stamp bytes None h e = absurd (not_true (sym e))
+there_outcome c stamp bytes None h e = absurd (true≢false (sym e))
 there_outcome c stamp bytes (Some other) h e = stamp_is_enough c stamp bytes other h
 
 -- of a value, whatever its bytes

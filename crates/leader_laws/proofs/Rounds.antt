@@ -9,6 +9,7 @@ use Rattle.leader_laws.proofs.Growth.{row_stays, owes_stay, call_spared_none}
 use Rattle.leader_laws.specs.Tables.{Seat, Turn, Leader, Known, Unknown, Nothing, Held, Ghosts, base_of, calls_of, start_turn, with_turn, with_home}
 use Rattle.leader_laws.specs.Leaders.{KnownHolds, CallHolds, LeaderHolds, TurnHolds, TurnsHold}
 use Rattle.leader_laws.specs.Moves.{RowSpared, GhostsGrow, AreOfLeader, IsLeaderMove}
+use Rattle.std.proofs.lemmas.Option.{same_Some}
 
 -- ## No step
 
@@ -22,9 +23,6 @@ ghosts_same s g = record { turn = λ d r t h. h; home = λ i h. refl; hash = ref
 
 not_none : {A : Type 0} (x : A) → Some x ≡ None → ⊥
 not_none x e = cc
-
-some_same : {A : Type 0} (x y : A) → Some x ≡ Some y → x ≡ y
-some_same x y e = cc
 
 pub turn_here : (turn : ℕ → ℕ → Option Turn) (d r : ℕ) (x : Turn) → start_turn turn d r x d r ≡ Some x
 turn_here turn d r x = by_cases (eqb d d) (eqb r r) refl refl
@@ -53,7 +51,7 @@ pub turns_start : (g : Ghosts) (s : State) (d r : ℕ) (x : Turn) → TurnHolds 
 turns_start g s d r x here old e q t h = by_cases (eqb d e) (eqb r q) refl refl h
   where
     by_cases : (a b : Bool) → eqb d e ≡ a → eqb r q ≡ b → start_turn g.turn d r x e q ≡ Some t → TurnHolds s e t
-    by_cases true true a b h = subst (λ (n : ℕ). TurnHolds s n t) (eqb-true d e a) (subst (TurnHolds s d) (some_same x t (rw (a, b) at h)) here)
+    by_cases true true a b h = subst (λ (n : ℕ). TurnHolds s n t) (eqb-true d e a) (subst (TurnHolds s d) (same_Some x t (rw (a, b) at h)) here)
     by_cases true false a b h = old e q t (rw (a, b) at h)
     by_cases false b a f h = old e q t (rw a at h)
 

@@ -21,6 +21,7 @@ use Rattle.leader_laws.specs.Tables.{Object, Known, Nothing, Reading, Sure, Lead
 use Rattle.leader_laws.specs.Leaders.{RowHolds, LeaderHolds, IsObjectOf, IsSettledKey}
 use Rattle.leader_laws.specs.Moves.{IsLeaderMove}
 use Rattle.leader_laws.specs.Rows.{Moved, applied, overwrites, by_epoch, by_every, by_object, by_over, by_entry, after_replies, RepliesMove, begun, needs_bytes, by_seen, by_need, call_starts, StartsMove}
+use Rattle.std.proofs.lemmas.Option.{none-some, same_Some}
 
 abbrev Moves : Ghosts → State → Moved → Type 0
 Moves g s m = IsLeaderMove g s m.steps g m.lead
@@ -30,21 +31,15 @@ applied_moves : (g : Ghosts) (s : State) (l : Leader) (k : List ℕ) (known : Kn
 applied_moves g s l k known i rest (Writes z) a w fits row e = sure_writes g s l k known i rest z a w fits row e
 applied_moves g s l k known i rest (Keeps reply) a w fits row e = reads g s l k known i rest reply a w row e
 
-some_same : (a b : Option (List ℕ)) → Some a ≡ Some b → a ≡ b
-some_same a b e = cc
-
-not_some : {A : Type 0} (x : A) → None ≡ Some x → ⊥
-not_some x e = cc
-
 over_outcome : (c : Command) (x : Register) (z : Option (List ℕ)) → overwrites c ≡ Some z → outcome c x ≡ Writes z
-over_outcome (Over v) x z e = ap (λ (y : Option (List ℕ)). Writes y) (some_same (Some v) z e)
-over_outcome Delete x z e = ap (λ (y : Option (List ℕ)). Writes y) (some_same None z e)
-over_outcome Get x z e = absurd (not_some z e)
-over_outcome (PutOnce v) x z e = absurd (not_some z e)
-over_outcome (Update y v) x z e = absurd (not_some z e)
-over_outcome (Append t) x z e = absurd (not_some z e)
-over_outcome (Add n) x z e = absurd (not_some z e)
-over_outcome (Swap a b) x z e = absurd (not_some z e)
+over_outcome (Over v) x z e = ap (λ (y : Option (List ℕ)). Writes y) (same_Some (Some v) z e)
+over_outcome Delete x z e = ap (λ (y : Option (List ℕ)). Writes y) (same_Some None z e)
+over_outcome Get x z e = absurd (none-some z e)
+over_outcome (PutOnce v) x z e = absurd (none-some z e)
+over_outcome (Update y v) x z e = absurd (none-some z e)
+over_outcome (Append t) x z e = absurd (none-some z e)
+over_outcome (Add n) x z e = absurd (none-some z e)
+over_outcome (Swap a b) x z e = absurd (none-some z e)
 
 module _ (g : Ghosts) (s : State) (l : Leader) (k : List ℕ) (known : Known) (i r : ℕ) (replied : ℕ → Bool) (best : ℕ) (rest : List ℕ) (a : LeaderHolds g s l) (w : Whole s.objects) (fits : suc l.seq < 2 ^ 64) (quorum : is_quorum replied (s.objects.ledger.views l.epoch) ≡ true) where
   epoch_moves : (x : Object) → RowHolds g s l.seat l.epoch k (row_of known (Reading i r replied best (Some x)) rest) → (b : Bool) → eqb (epoch_of best) l.epoch ≡ b → Moves g s (by_epoch g l k known i best rest (s.book.asked i).command x b)

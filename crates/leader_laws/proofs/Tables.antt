@@ -11,6 +11,7 @@ use Rattle.abstract_protocol.specs.Protocol.{State, Step, Propose, Settle, Note,
 use Rattle.leader_laws.specs.Tables.{Object, Known, Unknown, Nothing, Held, KeyRow, Leader, Ghosts, set_row, Unknown, TableEntry, rows_of, put_row}
 use Rattle.leader_laws.specs.Leaders.{KnownHolds, PutHolds, RowHolds, LeaderHolds}
 use Rattle.leader_laws.specs.Moves.{IsOfLeader, AreOfLeader, IsLeaderMove}
+use Rattle.std.proofs.lemmas.Bool.{true≢false}
 
 -- ## One move after another
 
@@ -48,9 +49,6 @@ move_then g h f s es fs l m w same_epoch same_peer homes a b = record {
 pub leader_same : (g : Ghosts) (s : State) (l : Leader) (rows : List ℕ → KeyRow) → ((k : List ℕ) → l.rows k ≡ rows k) → LeaderHolds g s l → LeaderHolds g s (record l { rows = rows })
 leader_same g s l rows same a = record { owes = a.owes; led = a.led; elected = a.elected; established = a.established; numbers = a.numbers; rounds = a.rounds; rows = λ k. subst (RowHolds g s l.seat l.epoch k) (same k) (a.rows k) }
 
-not_true : true ≡ false → ⊥
-not_true e = cc
-
 -- a row that is put into the list is found, and every other row is as it was
 pub put_found : (table : List TableEntry) (k : List ℕ) (row : KeyRow) (j : List ℕ) → rows_of (put_row table k row) j ≡ set_row (rows_of table) k row j
 put_found [] k row j = refl
@@ -65,7 +63,7 @@ put_found (e ∷ table) k row j = by_cases (put_found table k row j) (same_bytes
     by_cases rest false t = rw t (there (same_bytes e.key j) refl (same_bytes k j) refl)
       where
         there : (a : Bool) → same_bytes e.key j ≡ a → (b : Bool) → same_bytes k j ≡ b → (if same_bytes e.key j then e.row else rows_of (put_row table k row) j) ≡ (if same_bytes k j then row else if same_bytes e.key j then e.row else rows_of table j)
-        there true u true v = absurd (not_true (sym (eq_same_bytes e.key k (bytes_same e.key j u ∙ sym (bytes_same k j v))) ∙ t))
+        there true u true v = absurd (true≢false (sym (eq_same_bytes e.key k (bytes_same e.key j u ∙ sym (bytes_same k j v))) ∙ t))
         there true u false v = rw (u, v) refl
         there false u true v = rw (u, v) (rest ∙ found_here v)
           where

@@ -17,15 +17,16 @@ use Rattle.abstract_protocol.specs.Ledger.{put}
 use Rattle.abstract_protocol.specs.Objects.{epoch_of, IsGenuine, MayWrite, set_entry}
 use Rattle.abstract_protocol.specs.Book.{register_at, MayCall, MayAnswer, IsWriteReply, IsReadReply}
 use Rattle.abstract_protocol.specs.Protocol.{State, Ask, Write, Acknowledge, Answer, happens, MayCome, Step, MayAll}
-use Rattle.leader_laws.proofs.Growth.{row_stays, owed_called, owes_both, owes_stay, call_spared_step, spared_step}
+use Rattle.leader_laws.proofs.Growth.{row_stays, owed_called, owes_both, owes_stay, call_spared_step, spared_step, waits}
 use Rattle.leader_laws.proofs.Steps.{leader_step}
-use Rattle.leader_laws.proofs.Rounds.{spared_none, turn_here, leader_starts, home_grows, turn_holds, turn_grows, move_same, move_round, move_home, ghosts_same}
+use Rattle.leader_laws.proofs.Rounds.{spared_none, turn_here, leader_starts, home_grows, turn_grows, move_same, move_round, move_home, ghosts_same}
 use Rattle.leader_laws.proofs.Moves.{row_set, read_starts, check_starts}
 use Rattle.leader_laws.proofs.Acts.{dropped, leader_owes}
 use Rattle.leader_laws.proofs.Guards.{IsNewCall, new_call}
 use Rattle.leader_laws.specs.Tables.{Object, Known, Stage, Idle, Begun, Reading, Sure, Checking, Writing, Rewriting, KeyRow, Leader, Turn, Ghosts, base_of, with_running, calls_of, with_row, without, with_home, timeouts, row_of, round_of, turn_of, Seat, Owed, calls_owed, owe, owing, seated}
-use Rattle.leader_laws.specs.Leaders.{IsUnwritten, IsSettledKey, PutHolds, CallHolds, RowHolds, LeaderHolds, TurnHolds, OwedHolds, OwesHold}
+use Rattle.leader_laws.specs.Leaders.{IsUnwritten, IsSettledKey, PutHolds, CallHolds, RowHolds, LeaderHolds, OwedHolds, OwesHold}
 use Rattle.leader_laws.specs.Moves.{IsDropped, IsLeaderMove}
+use Rattle.ens_base.proofs.Lists.{in_append}
 
 -- ## Rounds
 
@@ -46,33 +47,20 @@ module _ (g : Ghosts) (s : State) (l : Leader) (k : List ℕ) (known : Known) (i
   checking_starts reply is keeps = let x : Turn = record { call = i; base = base_of known } in move_round g s l x (round_of l k (row_of known (Checking i (suc l.round) (λ q. false) reply) rest)) a refl
       (row_set (turn_of g l known i) s (record l { round = suc l.round }) k (row_of known (Checking i (suc l.round) (λ q. false) reply) rest) (leader_starts g s l x a) (check_starts (turn_of g l known i) s l.seat l.epoch k known rest i (suc l.round) reply (turn_here g.turn l.epoch (suc l.round) x) is keeps row_then_too))
 
-  -- the new round is of a call on the key
-  pub round_holds : TurnHolds s l.epoch (record { call = i; base = base_of known })
-  round_holds = turn_holds g s l.seat l.epoch k known i a.elected (row.known refl) (row.calls i (inl refl))
-
 -- a move of one row without a step
 pub row_moves : (g : Ghosts) (s : State) (l : Leader) (k : List ℕ) (row : KeyRow) → LeaderHolds g s l → RowHolds g s l.seat l.epoch k row → IsLeaderMove g s [] g (with_row l k row)
 row_moves g s l k row a b = move_same g s [] (with_row l k row) tt (row_set g s l k row a b) tt
 
 -- ## Calls that come
 
-in_append : (xs : List ℕ) (c j : ℕ) → j ∈ (xs ++ c ∷ []) → (j ∈ xs) ⊎ (j ≡ c)
-in_append [] c j (inl e) = inr e
-in_append [] c j (inr m) = absurd m
-in_append (x ∷ xs) c j (inl e) = inl (inl e)
-in_append (x ∷ xs) c j (inr m) = later (in_append xs c j m)
-  where
-    later : (j ∈ xs) ⊎ (j ≡ c) → (j ∈ (x ∷ xs)) ⊎ (j ≡ c)
-    later (inl n) = inl (inr n)
-    later (inr e) = inr e
-
 distinct_append : (xs : List ℕ) (c : ℕ) → (c ∈ xs → ⊥) → AreDistinct xs → AreDistinct (xs ++ c ∷ [])
 distinct_append [] c n d = (λ m. m, tt)
-distinct_append (x ∷ xs) c n d = (λ m. no (in_append xs c x m), distinct_append xs c (λ m. n (inr m)) d.1)
+distinct_append (x ∷ xs) c n d = (λ m. no (in_append xs (c ∷ []) x m), distinct_append xs c (λ m. n (inr m)) d.1)
   where
-    no : (x ∈ xs) ⊎ (x ≡ c) → ⊥
+    no : (x ∈ xs) ⊎ (x ∈ (c ∷ [])) → ⊥
     no (inl m) = d.0 m
-    no (inr e) = n (inl (sym e))
+    no (inr (inl e)) = n (inl (sym e))
+    no (inr (inr none)) = none
 
 running_append : (stage : Stage) (rest : List ℕ) (c : ℕ) → with_running stage (rest ++ c ∷ []) ≡ with_running stage rest ++ c ∷ []
 running_append Idle rest c = refl
@@ -88,18 +76,20 @@ row_joins : (g : Ghosts) (s : State) (p : Seat) (d : ℕ) (k : List ℕ) (row : 
 row_joins g s p d k row c call unwritten new a = record {
   known = a.known;
   stage = a.stage;
-  calls = λ j m. by_old j (in_append (calls_of row) c j (subst (λ xs. j ∈ xs) (running_append row.stage row.waiting c) m));
-  waiting = λ j m. by_wait j (in_append row.waiting c j m);
+  calls = λ j m. by_old j (in_append (calls_of row) (c ∷ []) j (subst (λ xs. j ∈ xs) (running_append row.stage row.waiting c) m));
+  waiting = λ j m. by_wait j (in_append row.waiting (c ∷ []) j m);
   distinct = subst AreDistinct (sym (running_append row.stage row.waiting c)) (distinct_append (calls_of row) c new a.distinct);
 }
   where
-    by_old : (j : ℕ) → (j ∈ calls_of row) ⊎ (j ≡ c) → CallHolds g s p d k j
+    by_old : (j : ℕ) → (j ∈ calls_of row) ⊎ (j ∈ (c ∷ [])) → CallHolds g s p d k j
     by_old j (inl m) = a.calls j m
-    by_old j (inr e) = subst (CallHolds g s p d k) (sym e) call
+    by_old j (inr (inr none)) = absurd none
+    by_old j (inr (inl e)) = subst (CallHolds g s p d k) (sym e) call
 
-    by_wait : (j : ℕ) → (j ∈ row.waiting) ⊎ (j ≡ c) → IsUnwritten s j
+    by_wait : (j : ℕ) → (j ∈ row.waiting) ⊎ (j ∈ (c ∷ [])) → IsUnwritten s j
     by_wait j (inl m) = a.waiting j m
-    by_wait j (inr e) = subst (IsUnwritten s) (sym e) unwritten
+    by_wait j (inr (inr none)) = absurd none
+    by_wait j (inr (inl e)) = subst (IsUnwritten s) (sym e) unwritten
 
 -- the refusal of a call that came
 pub refused_call : (g : Ghosts) (s : State) (c : Call) (r : Reply) (p : ℕ) → IsRefused r → EntriesAreSafe s → MayCall s.book c → OwedHolds (with_home g c.id p) (happens s (Ask c)) p c.id r
@@ -233,15 +223,6 @@ waits_only (Writing i v x acks) rest j m d (inl e) = d.0 (subst (λ x. x ∈ res
 waits_only (Writing i v x acks) rest j m d (inr h) = without_not rest j h
 waits_only (Rewriting i v x acks) rest j m d (inl e) = d.0 (subst (λ x. x ∈ rest) e m)
 waits_only (Rewriting i v x acks) rest j m d (inr h) = without_not rest j h
-
-waits : (stage : Stage) (rest : List ℕ) (i : ℕ) → i ∈ rest → i ∈ with_running stage rest
-waits Idle rest i m = m
-waits (Begun j) rest i m = inr m
-waits (Reading j r replied best object) rest i m = inr m
-waits (Sure j) rest i m = inr m
-waits (Checking j r replied reply) rest i m = inr m
-waits (Writing j v x acks) rest i m = inr m
-waits (Rewriting j v x acks) rest i m = inr m
 
 row_loses : (g : Ghosts) (s : State) (p : Seat) (d : ℕ) (k : List ℕ) (known : Known) (stage : Stage) (rest : List ℕ) (j : ℕ) → RowHolds g s p d k (row_of known stage rest) → RowHolds g s p d k (row_of known stage (without rest j))
 row_loses g s p d k known stage rest j a = record { known = a.known; stage = a.stage; calls = λ i m. a.calls i (running_less stage rest j i m); waiting = λ i m. a.waiting i (without_in rest j i m); distinct = running_distinct stage rest j a.distinct }

@@ -251,9 +251,6 @@ table_11 = with_row table_10 key (row_of wrote_known Idle (3 ∷ []))
 abbrev pub ghosts_12 : Ghosts
 ghosts_12 = turn_of ghosts_11 table_11 wrote_known 3
 
-value : Reply
-value = Reply.Value (version_of wrote) (97 ∷ [])
-
 move_12 : IsLeaderMove ghosts_11 (state_after view steps_11) [] ghosts_12 (round_of table_11 key (row_of wrote_known (Checking 3 2 (λ q. false) (Reply.Value (version_of wrote) (97 ∷ []))) []))
 unfolding version_at
 move_12 = ((run_leaders view steps_11 run_11).rows ghosts_11 table_11 key wrote_known [] move_11.holds).checking_starts 3 (Reply.Value (version_of wrote) (97 ∷ [])) row_11 tt refl

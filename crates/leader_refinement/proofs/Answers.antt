@@ -20,7 +20,6 @@ use Rattle.call_table.specs.Calls.{running, without_running}
 use Rattle.call_table.specs.Rows.{row_at, base_of}
 use Rattle.call_table.specs.Tables.{ended, rested}
 use Rattle.call_table.specs.declared.row.KeyRow.{KeyRow}
-use Rattle.call_table.specs.declared.row.Known.{Known}
 use Rattle.call_table.specs.declared.row.Stage.TheVariants as stages
 use Rattle.call_table.specs.declared.table.CallTable.{CallTable}
 use Rattle.call_table.specs.declared.waiting.Waiting.{Waiting}
@@ -68,9 +67,6 @@ seat_owing l owed i reply = record { peer = l.me; owed = owed ++ record { call =
 
 -- the running call is answered after a move of the theory that owes the answer
 module _ (g h : Ghosts) (s : State) (steps : List Step) (key : List ℕ) (owed : List Owed) (l : Leader) (w : Waiting) (reply : Reply) (rows : List ℕ → theory.KeyRow) (free : l.task ≡ tasks.Nothing) (is : running key l.table.calls ≡ Some w) where
-  abbrev Owing : theory.Leader
-  Owing = record { epoch = epoch_number l.fact.epoch; seat = seat_owing l owed w.id reply; seq = l.seq; round = l.round; rows = rows }
-
   pub answered_so : IsLeaderMove g s steps h (record { epoch = epoch_number l.fact.epoch; seat = seat_owing l owed w.id reply; seq = l.seq; round = l.round; rows = rows }) → AreElsewhere key rows l.table
       → RowHolds h (after s steps) (seat_owing l owed w.id reply) (epoch_number l.fact.epoch) key (theory.row_of (known_of (row_at key l.table.rows).known) theory.Idle (waiting_behind key l.table.calls))
       → TurnsHold h (after s steps) → LeaderFits h.hash (after s steps) l → AreLeaderSteps s l.me steps → (sends : List Outgoing) (notes : List Told) → (after s steps).book.notes ≡ s.book.notes ++ notes → All (SentSays h (after s steps)) sends
@@ -99,9 +95,6 @@ noted_base g s key i d l fits = ap (λ (v : Option Version). s.book.notes ++ Rea
 
 module _ (g : Ghosts) (s : State) (laws : LeadersMove s) (stay : TablesStay s) (key : List ℕ) (owed : List Owed) (l : Leader) (work : IsAtWork g s key owed l) where
   module _ (w : Waiting) (is : running key l.table.calls ≡ Some w) (current : Option Object) (task : l.task ≡ tasks.Apply current) where
-    abbrev Known_here : Known
-    Known_here = (row_at key l.table.rows).known
-
     abbrev Sure_row : Option Waiting → Pending → Type 0
     Sure_row call task = RowHolds g s (record { peer = l.me; owed = owed }) (epoch_number l.fact.epoch) key (row_parts (row_at key l.table.rows).known call task (row_at key l.table.rows).stage (waiting_behind key l.table.calls))
 

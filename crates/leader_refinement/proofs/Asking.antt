@@ -44,7 +44,7 @@ use Rattle.leader_laws.specs.Messages.{GetSays, GetReplySays}
 use Rattle.leader_laws.specs.Moves.{IsLeaderMove}
 use Rattle.leader_laws.specs.Tables as theory
 use Rattle.leader_laws.specs.Tables.{Ghosts, Owed, Seat}
-use Rattle.leader_refinement.proofs.Base.{AreElsewhere, row_of_work, finish, no_move, rests_so, stands_elsewhere, stage_row, staged_fits, calm_staged, set_here, off_same}
+use Rattle.leader_refinement.proofs.Base.{AreElsewhere, finish, no_move, rests_so, stands_elsewhere, stage_row, staged_fits, calm_staged, set_here, off_same, row_told}
 use Rattle.leader_refinement.proofs.Numbers.{plus_one, same_epochs}
 use Rattle.leader_refinement.proofs.Orders.{IsBetter, better_seen, better_fits, better_names}
 use Rattle.leading.proofs.Votes.{answered_on, begun_on}
@@ -140,11 +140,6 @@ module _ (g : Ghosts) (s : State) (laws : LeadersMove s) (key : List ℕ) (owed 
     abbrev K : theory.Known
     K = known_of (row_at key l.table.rows).known
 
-    begun_row : RowHolds g s P D key (theory.row_of K (theory.Begun w.id) Rest)
-    begun_row = subst (λ (st : Stage). RowHolds g s P D key (row_parts (row_at key l.table.rows).known (Some w) tasks.Nothing st Rest)) idle
-        (subst (λ (call : Option Waiting). RowHolds g s P D key (row_parts (row_at key l.table.rows).known call tasks.Nothing (row_at key l.table.rows).stage Rest)) is
-        (subst (λ (t : Pending). RowHolds g s P D key (row_parts (row_at key l.table.rows).known (running key l.table.calls) t (row_at key l.table.rows).stage Rest)) free (row_of_work g s key owed l work.holds)))
-
     abbrev turn : theory.Turn
     turn = record { call = w.id; base = theory.base_of K }
 
@@ -152,16 +147,16 @@ module _ (g : Ghosts) (s : State) (laws : LeadersMove s) (key : List ℕ) (owed 
     after_start = theory.turn_of g (table_of key owed l) K w.id
 
     turns_start : TurnsHold after_start s
-    turns_start = laws.turns_start g D (suc l.round) turn ((laws.rows g (table_of key owed l) key K Rest work.holds).round_holds w.id begun_row) work.turns
+    turns_start = laws.turns_start g D (suc l.round) turn ((laws.rows g (table_of key owed l) key K Rest work.holds).round_holds w.id (row_told g s key owed l work.holds (Some w) is tasks.Nothing free stages.Idle idle)) work.turns
 
     says : GetSays after_start s D (suc l.round) key
-    says = record { turn = turn; started = turn_here g.turn D (suc l.round) turn; on_key = (begun_row.calls w.id (inl refl)).on_key }
+    says = record { turn = turn; started = turn_here g.turn D (suc l.round) turn; on_key = ((row_told g s key owed l work.holds (Some w) is tasks.Nothing free stages.Idle idle).calls w.id (inl refl)).on_key }
 
     abbrev first_row : theory.KeyRow
     first_row = theory.row_of K (theory.Reading w.id (suc l.round) (λ q. false) 0 None) Rest
 
     starts : IsLeaderMove g s [] after_start (theory.round_of (table_of key owed l) key first_row)
-    starts = (laws.rows g (table_of key owed l) key K Rest work.holds).reading_starts w.id begun_row
+    starts = (laws.rows g (table_of key owed l) key K Rest work.holds).reading_starts w.id (row_told g s key owed l work.holds (Some w) is tasks.Nothing free stages.Idle idle)
 
     own_reply : GetReplySays after_start s l.me D (suc l.round) key (entry_rank entry) (shown entry object)
     own_reply = subst (λ (v : ℕ). GetReplySays after_start s l.me D (suc l.round) key v (shown entry object)) shows
@@ -204,9 +199,7 @@ run_asks view steps run g key owed l seen work free idle stands_at trusted look 
 module _ (g : Ghosts) (s : State) (key : List ℕ) (owed : List Owed) (l : Leader) (work : IsAtWork g s key owed l) (free : l.task ≡ tasks.Nothing) (from : ℕ) (ballot : Epoch) (round : ℕ) (entry : Option Entry) (object : Option Object) (says : GetReplySays g s from (epoch_number ballot) round key (entry_rank entry) (shown entry object)) (entry_fits : EntryFits entry) (names : FoundNames g.hash key (better None entry object)) where
   module _ (w : Waiting) (is : running key l.table.calls ≡ Some w) (asked_in : ℕ) (votes : Round) (best : Option Found) (stage : (row_at key l.table.rows).stage ≡ stages.Reading asked_in votes best) where
     reading_row : RowHolds g s (record { peer = l.me; owed = owed }) (epoch_number l.fact.epoch) key (theory.row_of (known_of (row_at key l.table.rows).known) (theory.Reading w.id asked_in (voters votes) (best_rank best) (best_object best)) (waiting_behind key l.table.calls))
-    reading_row = subst (λ (st : Stage). RowHolds g s (record { peer = l.me; owed = owed }) (epoch_number l.fact.epoch) key (row_parts (row_at key l.table.rows).known (Some w) tasks.Nothing st (waiting_behind key l.table.calls))) stage
-        (subst (λ (call : Option Waiting). RowHolds g s (record { peer = l.me; owed = owed }) (epoch_number l.fact.epoch) key (row_parts (row_at key l.table.rows).known call tasks.Nothing (row_at key l.table.rows).stage (waiting_behind key l.table.calls))) is
-        (subst (λ (t : Pending). RowHolds g s (record { peer = l.me; owed = owed }) (epoch_number l.fact.epoch) key (row_parts (row_at key l.table.rows).known (running key l.table.calls) t (row_at key l.table.rows).stage (waiting_behind key l.table.calls))) free (row_of_work g s key owed l work.holds)))
+    reading_row = row_told g s key owed l work.holds (Some w) is tasks.Nothing free _ stage
 
     fits_here : IsOn l.fact.views votes × (FoundFits best × FoundNames g.hash key best)
     fits_here = subst (λ (st : Stage). StageFits g.hash key l.fact.views st) stage (work.fits.rows key).1

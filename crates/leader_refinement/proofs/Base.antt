@@ -49,6 +49,13 @@ task_here key task = rw (bytes_itself key) refl
 pub row_of_work : (g : Ghosts) (s : State) (key : List ℕ) (owed : List Owed) (l : Leader) → LeaderHolds g s (table_of key owed l) → RowHolds g s (record { peer = l.me; owed = owed }) (epoch_number l.fact.epoch) key (row_seen l.task key l.table)
 row_of_work g s key owed l holds = subst (λ (t : Pending). RowHolds g s (record { peer = l.me; owed = owed }) (epoch_number l.fact.epoch) key (row_seen t key l.table)) (task_here key l.task) (holds.rows key)
 
+-- so, with the call, the task and the stage that it has there
+pub row_told : (g : Ghosts) (s : State) (key : List ℕ) (owed : List Owed) (l : Leader) → LeaderHolds g s (table_of key owed l) → (call : Option Waiting) → running key l.table.calls ≡ call → (task : Pending) → l.task ≡ task → (stage : Stage) → (row_at key l.table.rows).stage ≡ stage
+    → RowHolds g s (record { peer = l.me; owed = owed }) (epoch_number l.fact.epoch) key (row_parts (row_at key l.table.rows).known call task stage (waiting_behind key l.table.calls))
+row_told g s key owed l holds call is task at_hand stage stands = subst (λ (st : Stage). RowHolds g s (record { peer = l.me; owed = owed }) (epoch_number l.fact.epoch) key (row_parts (row_at key l.table.rows).known call task st (waiting_behind key l.table.calls))) stands
+    (subst (λ (c : Option Waiting). RowHolds g s (record { peer = l.me; owed = owed }) (epoch_number l.fact.epoch) key (row_parts (row_at key l.table.rows).known c task (row_at key l.table.rows).stage (waiting_behind key l.table.calls))) is
+    (subst (λ (t : Pending). RowHolds g s (record { peer = l.me; owed = owed }) (epoch_number l.fact.epoch) key (row_parts (row_at key l.table.rows).known (running key l.table.calls) t (row_at key l.table.rows).stage (waiting_behind key l.table.calls))) at_hand (row_of_work g s key owed l holds)))
+
 -- the rows of all other keys are the same
 abbrev pub Elsewhere : List ℕ → CallTable → CallTable → Type 0
 Elsewhere key old new = (j : List ℕ) → same_bytes key j ≡ false → row_seen tasks.Nothing j old ≡ row_seen tasks.Nothing j new

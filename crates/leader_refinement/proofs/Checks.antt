@@ -46,7 +46,7 @@ use Rattle.leader_laws.specs.Moves.{IsLeaderMove}
 use Rattle.leader_laws.specs.Tables as theory
 use Rattle.leader_laws.specs.Tables.{Ghosts, Owed, Seat}
 use Rattle.leader_refinement.proofs.Answers.{answered_so, seat_owing, noted_base}
-use Rattle.leader_refinement.proofs.Base.{AreElsewhere, row_of_work, finish, with_row_too, no_move, rests_so, stands_elsewhere, stage_row, agree_running, staged_fits, calm_staged, set_here, off_same}
+use Rattle.leader_refinement.proofs.Base.{AreElsewhere, finish, with_row_too, no_move, rests_so, stands_elsewhere, stage_row, agree_running, staged_fits, calm_staged, set_here, off_same, row_told}
 use Rattle.leader_refinement.proofs.Numbers.{plus_one, same_epochs}
 use Rattle.leading.proofs.Votes.{answered_on, begun_on}
 use Rattle.leader_refinement.proofs.Votes.{answered_fewer, begun_fewer, IsClosed, closed_quorum, sent_say}
@@ -155,15 +155,11 @@ module _ (g : Ghosts) (s : State) (laws : LeadersMove s) (tables : TablesStay s)
     check_holds : CheckHolds s (row_at key l.table.rows).known w reply
     check_holds = subst (λ (call : Option Waiting). TaskHolds s l key (row_at key l.table.rows).known call (tasks.Check reply)) is (subst (λ (t : Pending). TaskHolds s l key (row_at key l.table.rows).known (running key l.table.calls) t) task work.task)
 
-    begun_row : RowHolds g s (record { peer = l.me; owed = owed }) (epoch_number l.fact.epoch) key (theory.row_of (known_of (row_at key l.table.rows).known) (theory.Begun w.id) (waiting_behind key l.table.calls))
-    begun_row = subst (λ (call : Option Waiting). RowHolds g s (record { peer = l.me; owed = owed }) (epoch_number l.fact.epoch) key (row_parts (row_at key l.table.rows).known call (tasks.Check reply) (row_at key l.table.rows).stage (waiting_behind key l.table.calls))) is
-        (subst (λ (t : Pending). RowHolds g s (record { peer = l.me; owed = owed }) (epoch_number l.fact.epoch) key (row_parts (row_at key l.table.rows).known (running key l.table.calls) t (row_at key l.table.rows).stage (waiting_behind key l.table.calls))) task (row_of_work g s key owed l work.holds))
-
     abbrev after_start : Ghosts
     after_start = theory.turn_of g (table_of key owed l) (known_of (row_at key l.table.rows).known) w.id
 
     turns_start : TurnsHold (theory.turn_of g (table_of key owed l) (known_of (row_at key l.table.rows).known) w.id) s
-    turns_start = laws.turns_start g (epoch_number l.fact.epoch) (suc l.round) (record { call = w.id; base = settled_rank (row_at key l.table.rows).known }) ((laws.rows g (table_of key owed l) key (known_of (row_at key l.table.rows).known) (waiting_behind key l.table.calls) work.holds).round_holds w.id begun_row) work.turns
+    turns_start = laws.turns_start g (epoch_number l.fact.epoch) (suc l.round) (record { call = w.id; base = settled_rank (row_at key l.table.rows).known }) ((laws.rows g (table_of key owed l) key (known_of (row_at key l.table.rows).known) (waiting_behind key l.table.calls) work.holds).round_holds w.id (row_told g s key owed l work.holds (Some w) is (tasks.Check reply) task _ refl)) work.turns
 
     says : CheckSays (theory.turn_of g (table_of key owed l) (known_of (row_at key l.table.rows).known) w.id) (epoch_number l.fact.epoch) (suc l.round)
     says = record { turn = record { call = w.id; base = settled_rank (row_at key l.table.rows).known }; started = turn_here g.turn (epoch_number l.fact.epoch) (suc l.round) (record { call = w.id; base = settled_rank (row_at key l.table.rows).known }) }
@@ -173,7 +169,7 @@ module _ (g : Ghosts) (s : State) (laws : LeadersMove s) (tables : TablesStay s)
     first_row = theory.row_of (known_of (row_at key l.table.rows).known) (theory.Checking w.id (suc l.round) (λ q. false) reply) (waiting_behind key l.table.calls)
 
     starts : IsLeaderMove g s [] (theory.turn_of g (table_of key owed l) (known_of (row_at key l.table.rows).known) w.id) (theory.round_of (table_of key owed l) key (theory.row_of (known_of (row_at key l.table.rows).known) (theory.Checking w.id (suc l.round) (λ q. false) reply) (waiting_behind key l.table.calls)))
-    starts = (laws.rows g (table_of key owed l) key (known_of (row_at key l.table.rows).known) (waiting_behind key l.table.calls) work.holds).checking_starts w.id reply begun_row check_holds.settled
+    starts = (laws.rows g (table_of key owed l) key (known_of (row_at key l.table.rows).known) (waiting_behind key l.table.calls) work.holds).checking_starts w.id reply (row_told g s key owed l work.holds (Some w) is (tasks.Check reply) task _ refl) check_holds.settled
         (ap (λ (c : Command). outcome c (register_at s.book (settled_rank (row_at key l.table.rows).known))) (agree_running s.book key l.table.calls w work.fits.calls is) ∙ check_holds.keeps)
 
     own_row : RowHolds (theory.turn_of g (table_of key owed l) (known_of (row_at key l.table.rows).known) w.id) s (record { peer = l.me; owed = owed }) (epoch_number l.fact.epoch) key (theory.row_of (known_of (row_at key l.table.rows).known) (theory.Checking w.id (suc l.round) (voters (begun l.fact.views l.me)) reply) (waiting_behind key l.table.calls))
@@ -218,9 +214,7 @@ run_checks view steps run g key owed l reply work task stands = let s = state_af
 module _ (g : Ghosts) (s : State) (laws : LeadersMove s) (tables : TablesStay s) (key : List ℕ) (owed : List Owed) (l : Leader) (work : IsAtWork g s key owed l) (free : l.task ≡ tasks.Nothing) (from : ℕ) (ballot : Epoch) (round : ℕ) (says : CheckReplySays g s from (epoch_number ballot) round) where
   module _ (w : Waiting) (is : running key l.table.calls ≡ Some w) (asked : ℕ) (votes : Round) (reply : Reply) (stage : (row_at key l.table.rows).stage ≡ stages.Checking asked votes reply) where
     checking_row : RowHolds g s (record { peer = l.me; owed = owed }) (epoch_number l.fact.epoch) key (theory.row_of (known_of (row_at key l.table.rows).known) (theory.Checking w.id asked (voters votes) reply) (waiting_behind key l.table.calls))
-    checking_row = subst (λ (st : Stage). RowHolds g s (record { peer = l.me; owed = owed }) (epoch_number l.fact.epoch) key (row_parts (row_at key l.table.rows).known (Some w) tasks.Nothing st (waiting_behind key l.table.calls))) stage
-        (subst (λ (call : Option Waiting). RowHolds g s (record { peer = l.me; owed = owed }) (epoch_number l.fact.epoch) key (row_parts (row_at key l.table.rows).known call tasks.Nothing (row_at key l.table.rows).stage (waiting_behind key l.table.calls))) is
-        (subst (λ (t : Pending). RowHolds g s (record { peer = l.me; owed = owed }) (epoch_number l.fact.epoch) key (row_parts (row_at key l.table.rows).known (running key l.table.calls) t (row_at key l.table.rows).stage (waiting_behind key l.table.calls))) free (row_of_work g s key owed l work.holds)))
+    checking_row = row_told g s key owed l work.holds (Some w) is tasks.Nothing free _ stage
 
     on : IsOn l.fact.views (heard_from from votes)
     on = answered_on votes from ∙ subst (λ (st : Stage). StageFits g.hash key l.fact.views st) stage (work.fits.rows key).1

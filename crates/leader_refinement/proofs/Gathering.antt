@@ -38,7 +38,6 @@ use Rattle.leading.proofs.Lookups.{known_other}
 use Rattle.leading.specs.Leaders.{with_task, knows, settled_as, decided}
 use Rattle.leading.specs.Rounds.{register_at as object_register, without_object, on_found, on_greatest, on_best, by_state, gathered, gathered_for}
 use Rattle.leading.specs.declared.leader.Leader.{Leader}
-use Rattle.leading.specs.declared.pending.Pending.{Pending}
 use Rattle.leading.specs.declared.pending.Pending.TheVariants as tasks
 use Rattle.leader_laws.proofs.Acts.{reading_began}
 use Rattle.leader_laws.proofs.Guards.{version_epoch, fresh_of_replies}
@@ -50,18 +49,16 @@ use Rattle.leader_laws.specs.Tables as theory
 use Rattle.leader_laws.specs.Tables.{Ghosts, Owed, Seat}
 use Rattle.leader_refinement.proofs.Answers.{answered_so, seat_owing}
 use Rattle.leading.proofs.Moves.{runs as runs_now}
-use Rattle.leader_refinement.proofs.Base.{row_of_work, finish, no_move, rests_so, tasked_so, knows_elsewhere, known_row, rows_fit, calm_known, set_here, set_off, same_elsewhere, off_same}
+use Rattle.leader_refinement.proofs.Base.{finish, no_move, rests_so, tasked_so, knows_elsewhere, known_row, rows_fit, calm_known, set_here, set_off, same_elsewhere, off_same, row_told}
 use Rattle.leader_refinement.proofs.Numbers.{rank_back, same_epochs}
 use Rattle.leader_refinement.proofs.Puts.{gone_same}
 use Rattle.leader_refinement.proofs.Votes.{IsClosed, closed_quorum}
 use Rattle.leader_refinement.specs.Seen.{rank, content_of, content_or_none, known_of, best_rank, best_object, voters, waiting_behind, row_parts, table_of}
 use Rattle.leader_refinement.specs.Follows.{settled_rank, KnownFits, FoundFits, FoundNames, StageFits, RowFits, IsOn, TaskHolds, IsAtWork, Follows, SentSays}
 use Rattle.leader_refinement.specs.Laws.{RepliesAreRead}
+use Rattle.leader_refinement.proofs.Starts.{none_verdict}
 
 -- ## What a quorum showed
-
-none_verdict : {A : Type 0} (b : Verdict) → None ≡ Some b → A
-none_verdict b e = absurd cc
 
 -- a command that is decided blindly writes the same content on every register
 record IsBlind (c : Command) (verdict : Verdict) : Type 0 where
@@ -118,9 +115,7 @@ module _ (g : Ghosts) (s : State) (laws : LeadersMove s) (key : List ℕ) (owed 
 
   module _ (round : ℕ) (votes : Round) (best : Option Found) (stage : (row_at key l.table.rows).stage ≡ stages.Reading round votes best) (rows : RowMoves s g P D key K Rest) where
     reading_row : RowHolds g s P D key (theory.row_of K (theory.Reading w.id round (voters votes) (best_rank best) (best_object best)) Rest)
-    reading_row = subst (λ (st : Stage). RowHolds g s P D key (row_parts (row_at key l.table.rows).known (Some w) tasks.Nothing st Rest)) stage
-        (subst (λ (call : Option Waiting). RowHolds g s P D key (row_parts (row_at key l.table.rows).known call tasks.Nothing (row_at key l.table.rows).stage Rest)) is
-        (subst (λ (t : Pending). RowHolds g s P D key (row_parts (row_at key l.table.rows).known (running key l.table.calls) t (row_at key l.table.rows).stage Rest)) free (row_of_work g s key owed l work.holds)))
+    reading_row = row_told g s key owed l work.holds (Some w) is tasks.Nothing free _ stage
 
     fits_here : IsOn l.fact.views votes × (FoundFits best × FoundNames g.hash key best)
     fits_here = subst (λ (st : Stage). StageFits g.hash key l.fact.views st) stage (work.fits.rows key).1

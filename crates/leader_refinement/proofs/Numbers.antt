@@ -9,21 +9,16 @@ use Rattle.abstract_protocol.specs.Book.{version_of, version_or_none}
 use Rattle.call_table.specs.Rows.{base_of}
 use Rattle.call_table.specs.declared.row.Known.{Known}
 use Rattle.call_table.specs.declared.row.Known.TheVariants as knowns
+use Rattle.abstract_protocol.proofs.Ranks.{version_of-rank}
+use Rattle.register_model.specs.Orders as register
 use Rattle.leader_laws.specs.Tables as theory
 use Rattle.leader_refinement.specs.Seen.{rank, rank_or_none}
 use Rattle.leader_refinement.specs.Follows.{MayBeVersion, KnownFits, settled_rank}
 
-version : ℕ → ℕ → ℕ → Version
-version count proposer seq = record { epoch = record { count = count; proposer = proposer }; seq = seq }
-
-from_parts : (v : Version) (count proposer seq : ℕ) → count ≡ v.epoch.count → proposer ≡ v.epoch.proposer → seq ≡ v.seq → version count proposer seq ≡ v
-unfolding version
-from_parts v count proposer seq e f h = rw (e, f, h) refl
-
 -- the version of the number of a version is the version
 pub rank_back : (v : Version) → IsVersion v → version_of (rank v) ≡ v
-unfolding version_of theory.version_at epoch_number version
-rank_back v fits = from_parts v _ _ _ (omega (arith, fits.0, fits.1)) (omega (arith, fits.0, fits.1)) (omega (arith, fits.0, fits.1))
+unfolding register.rank theory.version_at epoch_number
+rank_back v fits = version_of-rank v fits
 
 some_rank : (v : Version) → (rank v == 0) ≡ false
 unfolding theory.version_at

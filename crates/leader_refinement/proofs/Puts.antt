@@ -1,8 +1,7 @@
 -- Rule 35 after its object is stored, and the replies to a put, are moves of the theory.
 use Rattle.std.specs.Prelude.{All, is_none}
-use Rattle.std.proofs.Common.{◌≡◌, inl, inr, ℕ, ◌&&◌, Bool, true, false, if◌then◌else◌, List, [], ◌∷◌, ◌++◌, Option, Some, None, arith, refl, sym, ap, subst, ◌∙◌}
+use Rattle.std.proofs.Common.{◌≡◌, inl, inr, ℕ, ◌&&◌, Bool, true, false, if◌then◌else◌, List, [], ◌∷◌, ◌++◌, Option, Some, None, refl, sym, ap, subst, ◌∙◌}
 use Rattle.std.proofs.lemmas.Bool.{and_parts}
-use Rattle.std.proofs.lemmas.Bool.Decides.{nat_tests}
 use Rattle.std.proofs.lemmas.List.{append-nil}
 use Rattle.std.proofs.lemmas.List.Elements.{All-nil}
 use Rattle.ens_base.proofs.Orders.{version_same}
@@ -20,7 +19,7 @@ use Rattle.quorum_round.specs.declared.round.RoundState.{RoundState}
 use Rattle.quorum_round.specs.declared.round.RoundState.TheVariants.{Open, Met, AllAnswered}
 use Rattle.register_model.specs.declared.note.Note.TheVariants.{Settled}
 use Rattle.wire_frames.specs.declared.message.Message.TheVariants as messages
-use Rattle.abstract_protocol.specs.Ledger.{put, mark}
+use Rattle.abstract_protocol.specs.Ledger.{put}
 use Rattle.abstract_protocol.specs.Book.{register_at, version_of}
 use Rattle.abstract_protocol.specs.Numbers.{epoch_number, IsVersion}
 use Rattle.abstract_protocol.specs.Objects.{set_entry}
@@ -38,7 +37,7 @@ use Rattle.leader_words.specs.Sends.{is_other, sent_up_to}
 use Rattle.leader_words.specs.declared.out.LeadOut.{LeadOut}
 use Rattle.leader_words.specs.declared.out.Outgoing.{Outgoing}
 use Rattle.leading.proofs.Lookups.{known_other}
-use Rattle.version_laws.proofs.Maps.{put_here}
+use Rattle.version_laws.proofs.Maps.{put_here, mark_here}
 use Rattle.leading.specs.Leaders.{with_task, stands, knows, settled_as}
 use Rattle.leading.specs.Puts.{write_settled, settled_for, acknowledged, put_stored, put_for, acknowledged_by}
 use Rattle.leading.specs.declared.leader.Leader.{Leader}
@@ -56,7 +55,7 @@ use Rattle.leader_laws.specs.Tables as theory
 use Rattle.leader_laws.specs.Tables.{Ghosts, Owed, Seat}
 use Rattle.leader_refinement.proofs.Answers.{answered_so, seat_owing}
 use Rattle.leading.proofs.Moves.{runs as runs_now}
-use Rattle.leader_refinement.proofs.Base.{AreElsewhere, row_of_work, finish, no_move, rests_so, stands_elsewhere, knows_elsewhere, stage_row, known_row, staged_fits, rows_fit, calm_staged, calm_known, set_here, off_same}
+use Rattle.leader_refinement.proofs.Base.{AreElsewhere, row_of_work, finish, no_move, rests_so, stands_elsewhere, knows_elsewhere, stage_row, known_row, staged_fits, rows_fit, calm_staged, calm_known, set_here, off_same, row_told}
 use Rattle.leader_refinement.proofs.Numbers.{rank_back}
 use Rattle.leading.proofs.Votes.{answered_on, begun_on}
 use Rattle.leader_refinement.proofs.Votes.{answered_fewer, begun_fewer, IsClosed, closed_quorum, sent_say}
@@ -245,9 +244,7 @@ module _ (g : Ghosts) (s : State) (laws : LeadersMove s) (tables : TablesStay s)
 module _ (g : Ghosts) (s : State) (laws : LeadersMove s) (tables : TablesStay s) (key : List ℕ) (owed : List Owed) (l : Leader) (work : IsAtWork g s key owed l) (free : l.task ≡ tasks.Nothing) (from : ℕ) (ballot : Epoch) (version : Version) (acked : s.objects.acked (rank version) from ≡ true) where
   module _ (w : Waiting) (is : running key l.table.calls ≡ Some w) (o : Object) (digest : List ℕ) (acks : Round) (rewrite : Bool) (stage : (row_at key l.table.rows).stage ≡ stages.Putting o digest acks rewrite) where
     put_row : OutRow g s (record { peer = l.me; owed = owed }) (epoch_number l.fact.epoch) key (row_at key l.table.rows).known (waiting_behind key l.table.calls) w.id rewrite o (voters acks)
-    put_row = subst (λ (st : Stage). RowHolds g s (record { peer = l.me; owed = owed }) (epoch_number l.fact.epoch) key (row_parts (row_at key l.table.rows).known (Some w) tasks.Nothing st (waiting_behind key l.table.calls))) stage
-        (subst (λ (call : Option Waiting). RowHolds g s (record { peer = l.me; owed = owed }) (epoch_number l.fact.epoch) key (row_parts (row_at key l.table.rows).known call tasks.Nothing (row_at key l.table.rows).stage (waiting_behind key l.table.calls))) is
-        (subst (λ (t : Pending). RowHolds g s (record { peer = l.me; owed = owed }) (epoch_number l.fact.epoch) key (row_parts (row_at key l.table.rows).known (running key l.table.calls) t (row_at key l.table.rows).stage (waiting_behind key l.table.calls))) free (row_of_work g s key owed l work.holds)))
+    put_row = row_told g s key owed l work.holds (Some w) is tasks.Nothing free _ stage
 
     stage_fits : IsOn l.fact.views acks × (IsVersion o.version × PutFits g.hash key rewrite o digest)
     stage_fits = subst (λ (st : Stage). StageFits g.hash key l.fact.views st) stage (work.fits.rows key).1
@@ -275,9 +272,6 @@ run_acknowledged view steps run g key owed l from ballot version work free acked
     inr (acknowledged_by_so g s (run_leaders view steps run) (run_tables view steps run) key owed l work free from ballot version acked (running key l.table.calls) refl (row_at key l.table.rows).stage refl)
 
 -- ## The object is stored
-
-marked : (r : ℕ → ℕ → Bool) (d p : ℕ) → mark r d p d p ≡ true
-marked r d p = grind (arith, nat_tests)
 
 -- a proposal is out
 as_out : (g : Ghosts) (s : State) (p : Seat) (d : ℕ) (key : List ℕ) (known : Known) (w : Waiting) (stage : Stage) (rest : List ℕ) (o : Object) (parent : Option Version) (call : Option ℕ) → RowHolds g s p d key (row_parts known (Some w) (tasks.Propose o parent call) stage rest) → OutRow g s p d key known rest w.id (is_none call) o (λ q. false)
@@ -365,7 +359,7 @@ module _ (view : List ℕ) (events : List Step) (run : IsRun view events) (g : G
 
     own_row : OutRow g (after S own_steps) (record { peer = l.me; owed = owed }) (epoch_number l.fact.epoch) key (row_at key l.table.rows).known (waiting_behind key l.table.calls) w.id (is_none call) o (voters (begun l.fact.views l.me))
     own_row = out_fewer g (after S own_steps) (record { peer = l.me; owed = owed }) (epoch_number l.fact.epoch) key (row_at key l.table.rows).known (waiting_behind key l.table.calls) w.id (is_none call) o (put (λ q. false) l.me true) (voters (begun l.fact.views l.me)) (begun_fewer l.fact.views l.me)
-        (out_counts g (after S own_steps) (record { peer = l.me; owed = owed }) (epoch_number l.fact.epoch) key (row_at key l.table.rows).known (waiting_behind key l.table.calls) w.id (is_none call) o (λ q. false) l.me (marked S.objects.acked (rank o.version) l.me) (out_at (after S own_steps) holds_acked))
+        (out_counts g (after S own_steps) (record { peer = l.me; owed = owed }) (epoch_number l.fact.epoch) key (row_at key l.table.rows).known (waiting_behind key l.table.calls) w.id (is_none call) o (λ q. false) l.me (mark_here S.objects.acked (rank o.version) l.me) (out_at (after S own_steps) holds_acked))
 
     put_fits : PutFits g.hash key (is_none call) o digest
     put_fits = record { on_key = proposes.on_key; hashed = hashed; stamp = by_call call refl }

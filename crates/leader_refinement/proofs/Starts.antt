@@ -43,9 +43,8 @@ use Rattle.leader_laws.proofs.Runs.{run_keys}
 use Rattle.leader_laws.specs.Laws.{KeyLaws}
 use Rattle.leader_laws.specs.Leaders.{RowHolds, KnownHolds, HeldHolds, IsSettledKey, IsObjectOf, IsParent}
 use Rattle.leader_laws.specs.Rows.{needs_bytes}
-use Rattle.leader_laws.specs.Tables as theory
 use Rattle.leader_laws.specs.Tables.{Ghosts, Owed}
-use Rattle.leader_refinement.proofs.Base.{row_of_work, stays, rests_so, tasked_so, agree_running}
+use Rattle.leader_refinement.proofs.Base.{stays, rests_so, tasked_so, row_told}
 use Rattle.leader_refinement.proofs.Numbers.{base_rank, base_fits}
 use Rattle.leader_refinement.specs.Seen.{rank, content_of, known_of, waiting_behind, row_parts}
 use Rattle.leader_refinement.specs.Follows.{settled_rank, IsAtWork, Follows}
@@ -61,23 +60,17 @@ module _ (g : Ghosts) (s : State) (key : List ℕ) (owed : List Owed) (l : Leade
   abbrev Here : Option Waiting → Pending → Stage → Type 0
   Here call task stage = RowHolds g s (record { peer = l.me; owed = owed }) (epoch_number l.fact.epoch) key (row_parts K call task stage (waiting_behind key l.table.calls))
 
-  begun_row : RowHolds g s (record { peer = l.me; owed = owed }) (epoch_number l.fact.epoch) key (theory.row_of (known_of K) (theory.Begun w.id) (waiting_behind key l.table.calls))
-  begun_row = subst (Here (Some w) tasks.Nothing) idle (subst (λ (call : Option Waiting). Here call tasks.Nothing (row_at key l.table.rows).stage) is (subst (λ (task : Pending). Here (running key l.table.calls) task (row_at key l.table.rows).stage) free (row_of_work g s key owed l work.holds)))
-
   pub known_holds : KnownHolds g s (epoch_number l.fact.epoch) key (known_of K)
-  known_holds = begun_row.known refl
-
-  pub asked_command : (s.book.asked w.id).command ≡ w.command
-  asked_command = agree_running s.book key l.table.calls w work.fits.calls is
+  known_holds = (row_told g s key owed l work.holds (Some w) is tasks.Nothing free stages.Idle idle).known refl
 
   -- the outcome of the command on the settled register: a write, or a check
   pub decided_so : IsSettledKey (known_of K) → (o : Outcome) → outcome w.command (register_at s.book (settled_rank K)) ≡ o → Follows g s key owed l (decided (base key l) (verdict_of o) key l)
-  decided_so settled (Writes content) e = tasked_so g s key owed l work w is 31 (tasks.Write content (base key l)) begun_row (record {
+  decided_so settled (Writes content) e = tasked_so g s key owed l work w is 31 (tasks.Write content (base key l)) (row_told g s key owed l work.holds (Some w) is tasks.Nothing free stages.Idle idle) (record {
     parent_holds = subst (λ (u : ℕ). IsParent s (epoch_number l.fact.epoch) key u) (sym (base_rank K)) (settled_parent g s (epoch_number l.fact.epoch) key (known_of K) settled known_holds);
     applies = ap (λ (u : ℕ). outcome w.command (register_at s.book u)) (base_rank K) ∙ e;
     fits = base_fits K (work.fits.rows key).0;
   }) (λ n. idle) (λ runs. (refl, runs))
-  decided_so settled (Keeps reply) e = tasked_so g s key owed l work w is 33 (tasks.Check reply) begun_row (record { settled = settled; keeps = e }) (λ n. idle) (λ runs. (refl, runs))
+  decided_so settled (Keeps reply) e = tasked_so g s key owed l work w is 33 (tasks.Check reply) (row_told g s key owed l work.holds (Some w) is tasks.Nothing free stages.Idle idle) (record { settled = settled; keeps = e }) (λ n. idle) (λ runs. (refl, runs))
 
   pub reads_so : Follows g s key owed l (l, leads_on 29 key)
   reads_so = stays g s key owed l work (leads_on 29 key) refl refl refl (λ e. idle) (refl, ready_free 29 key l refl free)
@@ -87,7 +80,7 @@ module _ (g : Ghosts) (s : State) (key : List ℕ) (owed : List Owed) (l : Leade
 some_verdict : (a b : Verdict) → Some a ≡ Some b → b ≡ a
 some_verdict a b e = cc
 
-none_verdict : {A : Type 0} (b : Verdict) → None ≡ Some b → A
+pub none_verdict : {A : Type 0} (b : Verdict) → None ≡ Some b → A
 none_verdict b e = absurd cc
 
 either_verdict : (b : Bool) (content : Option (List ℕ)) (reply : Reply) → (if b then Write content else Answer reply) ≡ verdict_of (if b then Writes content else Keeps reply)
@@ -138,9 +131,6 @@ module _ (g : Ghosts) (s : State) (key : List ℕ) (owed : List Owed) (l : Leade
   on_nothing w is k = decided_so g s key owed l work free idle w is (subst (λ (known : Known). IsSettledKey (known_of known)) (sym k) tt) (outcome w.command Absent) (ap (λ (known : Known). outcome w.command (register_at s.book (settled_rank known))) k)
 
   module _ (w : Waiting) (is : running key l.table.calls ≡ Some w) (version stamp : Version) (digest : List ℕ) where
-    D : ℕ
-    D = epoch_number l.fact.epoch
-
     settled_so : (gone : Bool) → (row_at key l.table.rows).known ≡ knowns.Present version stamp digest gone → IsSettledKey (known_of (row_at key l.table.rows).known)
     settled_so gone k = subst (λ (known : Known). IsSettledKey (known_of known)) (sym k) tt
 

@@ -2,7 +2,7 @@
 use Rattle.std.specs.Prelude.{map}
 use Rattle.std.proofs.Common.{◌≡◌, ◌⊎◌, inl, inr, ℕ, ◌||◌, Bool, true, false, cond, filter, if◌then◌else◌, List, [], ◌∷◌, ◌++◌, Option, Some, None, refl, sym, ap, subst, ◌∙◌}
 use Rattle.std.proofs.lemmas.Bool.{or_parts}
-use Rattle.ens_base.specs.Lists.{◌∈◌, AreDistinct, same_bytes}
+use Rattle.ens_base.specs.Lists.{◌∈◌, same_bytes}
 use Rattle.abstract_protocol.specs.Book.{Book}
 use Rattle.abstract_protocol.specs.Numbers.{epoch_number}
 use Rattle.abstract_protocol.specs.Protocol.{State, Step, IsRun, state_after}
@@ -171,14 +171,11 @@ abbrev due_ids : Leader → List ℕ
 due_ids l = ids_of (filter is_due l.table.calls)
 
 module _ (g : Ghosts) (s : State) (key : List ℕ) (owed : List Owed) (l : Leader) (free : l.task ≡ tasks.Nothing) (early : late_put l.table ≡ false) (holds : LeaderHolds g s (table_of key owed l)) where
-  distinct : AreDistinct (ids_of l.table.calls)
-  distinct = ids_distinct g s key owed l holds
-
   row_now : (j : List ℕ) → RowHolds g s (seat_of l.me (owed ++ timeouts (due_ids l))) (epoch_number l.fact.epoch) j (row_seen (task_on key l.task j) j (without_due l.table))
   row_now j = subst (λ (task : Pending). RowHolds g s (seat_of l.me (owed ++ timeouts (due_ids l))) (epoch_number l.fact.epoch) j (row_seen task j (without_due l.table))) (sym (no_task_on key l.task j free))
       (subst (RowHolds g s (seat_of l.me (owed ++ timeouts (due_ids l))) (epoch_number l.fact.epoch) j) (sym (row_of_left l.table j))
       (row_passes g s l.me owed (epoch_number l.fact.epoch) j (row_at j l.table.rows).known (due_ids l) l.table.calls (row_at j l.table.rows).stage
-      (λ i m n. stays_or_due l.table.calls distinct i (one_of_all j (not_due l.table.calls) i m) n) (is_due_call (running j l.table.calls)) refl (due_has_no_put j l.table early)
+      (λ i m n. stays_or_due l.table.calls (ids_distinct g s key owed l holds) i (one_of_all j (not_due l.table.calls) i m) n) (is_due_call (running j l.table.calls)) refl (due_has_no_put j l.table early)
       (subst (λ (task : Pending). RowHolds g s (seat_of l.me owed) (epoch_number l.fact.epoch) j (row_seen task j l.table)) (no_task_on key l.task j free) (holds.rows j))))
 
   -- the calls that are due have left their queues, and the others are as before
@@ -190,7 +187,7 @@ module _ (g : Ghosts) (s : State) (key : List ℕ) (owed : List Owed) (l : Leade
     numbers = holds.numbers;
     rounds = holds.rounds;
     rows = row_now;
-    owes = leader_leaves g s (table_of key owed l) (due_ids l) holds ((filtered is_due l.table.calls).distinct distinct) (λ i m. ids_among g s key owed l holds i ((filtered is_due l.table.calls).among i m));
+    owes = leader_leaves g s (table_of key owed l) (due_ids l) holds ((filtered is_due l.table.calls).distinct (ids_distinct g s key owed l holds)) (λ i m. ids_among g s key owed l holds i ((filtered is_due l.table.calls).among i m));
   }
 
 -- ## What the program keeps

@@ -1,8 +1,7 @@
 -- The peers that answered in a round, and messages to all members.
 use Rattle.std.specs.Prelude.{All, replicate, slice_set}
-use Rattle.std.proofs.Common.{◌≡◌, ℕ, zero, suc, ◌+◌, Bool, true, false, if◌then◌else◌, List, [], ◌∷◌, arith, refl, sym, ◌∙◌}
+use Rattle.std.proofs.Common.{◌≡◌, ℕ, zero, suc, ◌+◌, Bool, true, false, if◌then◌else◌, List, [], ◌∷◌, refl, sym, ◌∙◌}
 use Rattle.std.proofs.lemmas.Bool.{false≢true}
-use Rattle.std.proofs.lemmas.Bool.Decides.{nat_tests}
 use Rattle.std.proofs.lemmas.List.Elements.{All-nil, All-cons, All-append}
 use Rattle.abstract_protocol.specs.Ledger.{put}
 use Rattle.ens_base.specs.PeerSet.{holds}
@@ -19,6 +18,8 @@ use Rattle.leader_laws.specs.Tables.{Ghosts}
 use Rattle.leading.proofs.Votes.{none_held, set_then}
 use Rattle.leader_refinement.specs.Seen.{voters}
 use Rattle.leader_refinement.specs.Follows.{SendSays, SentSays}
+use Rattle.version_laws.proofs.Maps.{put_here}
+use Rattle.version_laws.proofs.Descent.{put_stays}
 
 -- what holds of a peer and of all that answered before holds of all that have answered
 pub answered_then : (P : ℕ → Type 0) (round : Round) (from : ℕ) → P from → ((q : ℕ) → voters round q ≡ true → P q) → (q : ℕ) → voters (answered from round) q ≡ true → P q
@@ -33,18 +34,12 @@ pub begun_then : (P : ℕ → Type 0) (views : List (List ℕ)) (me : ℕ) → P
 unfolding begun
 begun_then P views me here = answered_then P (record { tally = record { views = views; votes = replicate 32 false } }) me here (λ q h. absurd (false≢true (sym (none_held 32 q) ∙ h)))
 
-put_here : (f : ℕ → Bool) (p : ℕ) → put f p true p ≡ true
-put_here f p = grind (arith, nat_tests)
-
-put_more : (f : ℕ → Bool) (p q : ℕ) → f q ≡ true → put f p true q ≡ true
-put_more f p q h = grind (arith, nat_tests)
-
 -- a reply counts at most for the peer that sent it
 pub answered_fewer : (round : Round) (from : ℕ) (q : ℕ) → voters (answered from round) q ≡ true → put (voters round) from true q ≡ true
-answered_fewer round from = answered_then (λ q. put (voters round) from true q ≡ true) round from (put_here (voters round) from) (λ q h. put_more (voters round) from q h)
+answered_fewer round from = answered_then (λ q. put (voters round) from true q ≡ true) round from (put_here (voters round) from true) (λ q h. put_stays (voters round) from q h)
 
 pub begun_fewer : (views : List (List ℕ)) (me : ℕ) (q : ℕ) → voters (begun views me) q ≡ true → put (λ p. false) me true q ≡ true
-begun_fewer views me = begun_then (λ q. put (λ p. false) me true q ≡ true) views me (put_here (λ p. false) me)
+begun_fewer views me = begun_then (λ q. put (λ p. false) me true q ≡ true) views me (put_here (λ p. false) me true)
 
 -- the round is no longer open
 abbrev pub IsClosed : RoundState → Type 0

@@ -27,7 +27,7 @@ use Rattle.leader_laws.specs.Leaders.{RowHolds}
 use Rattle.leader_laws.specs.Moves.{IsLeaderMove, put_write, write_step}
 use Rattle.leader_laws.specs.Tables as theory
 use Rattle.leader_laws.specs.Tables.{Ghosts, Owed}
-use Rattle.leader_refinement.proofs.Base.{row_of_work, finish, set_here, agree_running}
+use Rattle.leader_refinement.proofs.Base.{finish, set_here, agree_running, row_told}
 use Rattle.leader_refinement.proofs.Numbers.{rank_back, option_back, plus_one}
 use Rattle.leader_refinement.specs.Seen.{rank, rank_or_none, content_of, known_of, waiting_behind, row_parts, table_of}
 use Rattle.leader_refinement.specs.Follows.{MayBeVersion, WriteHolds, RewriteHolds, TaskHolds, IsAtWork, Follows, GoesOn, SentSays}
@@ -92,12 +92,8 @@ module _ (g : Ghosts) (s : State) (tables : TablesStay s) (key : List ℕ) (owed
     write_holds : WriteHolds s (epoch_number l.fact.epoch) key w content parent
     write_holds = subst (λ (call : Option Waiting). TaskHolds s l key (row_at key l.table.rows).known call (tasks.Write content parent)) is (subst (λ (t : Pending). TaskHolds s l key (row_at key l.table.rows).known (running key l.table.calls) t) task work.task)
 
-    write_row : RowHolds g s (record { peer = l.me; owed = owed }) (epoch_number l.fact.epoch) key (theory.row_of (known_of (row_at key l.table.rows).known) (theory.Begun w.id) (waiting_behind key l.table.calls))
-    write_row = subst (λ (call : Option Waiting). RowHolds g s (record { peer = l.me; owed = owed }) (epoch_number l.fact.epoch) key (row_parts (row_at key l.table.rows).known call (tasks.Write content parent) (row_at key l.table.rows).stage (waiting_behind key l.table.calls))) is
-        (subst (λ (t : Pending). RowHolds g s (record { peer = l.me; owed = owed }) (epoch_number l.fact.epoch) key (row_parts (row_at key l.table.rows).known (running key l.table.calls) t (row_at key l.table.rows).stage (waiting_behind key l.table.calls))) task (row_of_work g s key owed l work.holds))
-
     writes_now : LeadersMove s → is_spent l.seq ≡ false → IsLeaderMove g s (write_step (table_of key owed l) key (rank_or_none parent) content w.id ∷ []) g (put_write (table_of key owed l) key (known_of (row_at key l.table.rows).known) w.id (waiting_behind key l.table.calls) content)
-    writes_now laws unspent = (laws.rows g (table_of key owed l) key (known_of (row_at key l.table.rows).known) (waiting_behind key l.table.calls) work.holds).writes w.id (rank_or_none parent) content (next_fits l.seq work.fits.seq unspent) write_row write_holds.parent_holds
+    writes_now laws unspent = (laws.rows g (table_of key owed l) key (known_of (row_at key l.table.rows).known) (waiting_behind key l.table.calls) work.holds).writes w.id (rank_or_none parent) content (next_fits l.seq work.fits.seq unspent) (row_told g s key owed l work.holds (Some w) is (tasks.Write content parent) task _ refl) write_holds.parent_holds
         (ap (λ (c : Command). outcome c (register_at s.book (rank_or_none parent))) (agree_running s.book key l.table.calls w work.fits.calls is) ∙ write_holds.applies)
 
     written_so : LeadersMove s → is_spent l.seq ≡ false → Follows g s key owed l (proposing l key (suc l.seq) (written_at l key content (suc l.seq)) parent (Some w.id))
@@ -121,13 +117,9 @@ module _ (g : Ghosts) (s : State) (tables : TablesStay s) (key : List ℕ) (owed
     rewrite_holds : RewriteHolds s (epoch_number l.fact.epoch) key w o
     rewrite_holds = subst (λ (call : Option Waiting). TaskHolds s l key (row_at key l.table.rows).known call (tasks.Rewrite o)) is (subst (λ (t : Pending). TaskHolds s l key (row_at key l.table.rows).known (running key l.table.calls) t) task work.task)
 
-    rewrite_row : RowHolds g s (record { peer = l.me; owed = owed }) (epoch_number l.fact.epoch) key (theory.row_of (known_of (row_at key l.table.rows).known) (theory.Begun w.id) (waiting_behind key l.table.calls))
-    rewrite_row = subst (λ (call : Option Waiting). RowHolds g s (record { peer = l.me; owed = owed }) (epoch_number l.fact.epoch) key (row_parts (row_at key l.table.rows).known call (tasks.Rewrite o) (row_at key l.table.rows).stage (waiting_behind key l.table.calls))) is
-        (subst (λ (t : Pending). RowHolds g s (record { peer = l.me; owed = owed }) (epoch_number l.fact.epoch) key (row_parts (row_at key l.table.rows).known (running key l.table.calls) t (row_at key l.table.rows).stage (waiting_behind key l.table.calls))) task (row_of_work g s key owed l work.holds))
-
     again_so : LeadersMove s → is_spent l.seq ≡ false → Follows g s key owed l (proposing l key (suc l.seq) (again_at l key o (suc l.seq)) (Some o.version) None)
     again_so laws unspent = proposed_so (again_at l key o (suc l.seq)) (Some o.version) None (theory.row_of (known_of (row_at key l.table.rows).known) (theory.Rewriting w.id (theory.next_version (table_of key owed l)) (content_of o) (λ q. false)) (waiting_behind key l.table.calls)) refl refl (next_is_version unspent) rewrite_holds.fits (λ i e. absurd cc) (λ i e. absurd cc)
-        ((laws.rows g (table_of key owed l) key (known_of (row_at key l.table.rows).known) (waiting_behind key l.table.calls) work.holds).rewrites w.id (rank o.version) (content_of o) (next_fits l.seq work.fits.seq unspent) rewrite_row rewrite_holds.parent_holds rewrite_holds.object rewrite_holds.fresh)
+        ((laws.rows g (table_of key owed l) key (known_of (row_at key l.table.rows).known) (waiting_behind key l.table.calls) work.holds).rewrites w.id (rank o.version) (content_of o) (next_fits l.seq work.fits.seq unspent) (row_told g s key owed l work.holds (Some w) is (tasks.Rewrite o) task _ refl) rewrite_holds.parent_holds rewrite_holds.object rewrite_holds.fresh)
         refl (next_fits l.seq work.fits.seq unspent)
 
     again_by_spent : LeadersMove s → (b : Bool) → is_spent l.seq ≡ b → GoesOn g s key owed l (noted_next key (if b then (with_task tasks.Nothing l, leaves) else (record l { seq = l.seq + 1; task = tasks.Propose (again_at l key o (l.seq + 1)) (Some o.version) None }, leads_on 35 key)))

@@ -7,9 +7,7 @@ use Rattle.ens_base.specs.declared.entry.Entry.{Entry}
 use Rattle.ens_base.specs.Lists.{◌∈◌, bytes_cmp, same_bytes}
 use Rattle.tree_maps.specs.Entries.{placed, put, lookup}
 use Rattle.tree_maps.proofs.Orders.{cmp_same, cmp_equal}
-
-some_is : (x y : Entry) → Some x ≡ Some y → x ≡ y
-some_is x y e = cc
+use Rattle.std.proofs.lemmas.Option.{same_Some}
 
 -- an entry that is put is found under its key, and under each other key what was found before
 pub lookup_put : (e : Entry) (m : List Entry) (k : List ℕ) → lookup k (put e m) ≡ cond (same_bytes e.key k) (Some e) (lookup k m)
@@ -54,7 +52,7 @@ lookup_in k [] e h = absurd cc
 lookup_in k (x ∷ m) e h = by_same (same_bytes x.key k) h (λ t. lookup_in k m e t)
   where
     by_same : (b : Bool) → cond b (Some x) (lookup k m) ≡ Some e → (lookup k m ≡ Some e → e ∈ m) → (e ≡ x) ⊎ (e ∈ m)
-    by_same true h later = inl (sym (some_is x e h))
+    by_same true h later = inl (sym (same_Some x e h))
     by_same false h later = inr (later h)
 
 -- and it has that key
@@ -63,5 +61,5 @@ lookup_key k [] e h = absurd cc
 lookup_key k (x ∷ m) e h = by_same (same_bytes x.key k) refl h (λ t. lookup_key k m e t)
   where
     by_same : (b : Bool) → same_bytes x.key k ≡ b → cond b (Some x) (lookup k m) ≡ Some e → (lookup k m ≡ Some e → e.key ≡ k) → e.key ≡ k
-    by_same true same h later = ap (λ (f : Entry). f.key) (sym (some_is x e h)) ∙ bytes_same x.key k same
+    by_same true same h later = ap (λ (f : Entry). f.key) (sym (same_Some x e h)) ∙ bytes_same x.key k same
     by_same false other h later = later h

@@ -1,7 +1,6 @@
 -- The rows of the rules 20, 21 and 22 reply what holds.
 use Rattle.std.proofs.Common.{◌≡◌, inl, inr, ◌≤◌, ℕ, Bool, true, false, if◌then◌else◌, List, Option, None, Some, arith, refl, sym, ap, subst, ◌∙◌}
 use Rattle.std.specs.Prelude.{not}
-use Rattle.std.proofs.lemmas.Bool.Decides.{nat_tests}
 use Rattle.ens_base.proofs.Orders.{version_same}
 use Rattle.ens_base.specs.Epochs.{same_version}
 use Rattle.ens_base.specs.declared.entry.Entry.{Entry}
@@ -21,7 +20,6 @@ use Rattle.wire_frames.specs.declared.phase.Seen.TheVariants as seens
 use Rattle.wire_frames.specs.declared.phase.Then.TheVariants.{Stay, Put}
 use Rattle.following.specs.Refusals.{refusal, unless_refused}
 use Rattle.following.specs.Requests.{row_20, gets, row_21, is_version_below, acknowledges, puts_over, puts_at, puts, row_22}
-use Rattle.abstract_protocol.specs.Ledger.{mark}
 use Rattle.abstract_protocol.specs.Numbers.{epoch_number, IsEpoch}
 use Rattle.abstract_protocol.specs.Protocol.{State, Step, IsRun, state_after}
 use Rattle.election_laws.proofs.Sound.{Sound, run_sound}
@@ -40,6 +38,7 @@ use Rattle.request_refinement.proofs.Staying.{put_entry, write_shows}
 use Rattle.request_refinement.specs.Naming.{EntrySays}
 use Rattle.request_refinement.specs.Replies.{Serves, MapSays, FindSees, IsShown, SeenSays, Replies, HasVersion, TakesVersion, IsReplyToPut}
 use Rattle.request_refinement.specs.Laws.{PeersServe, RepliesToChecks, RepliesToGets, RepliesToPuts}
+use Rattle.version_laws.proofs.Maps.{mark_here}
 
 serves : (s : State) → Sound s.objects.ledger → PeersServe s
 serves s sound q fact trusted ballot place trusts ballot_fits epoch_fits below = record {
@@ -137,14 +136,11 @@ module _ (s : State) (g : Ghosts) (strings : List (List ℕ)) (q : ℕ) (fact : 
     abbrev IsReply : PhaseOut → Type 0
     IsReply out = IsReplyToPut g s strings q m from ballot o out
 
-    acked_here : (r : ℕ → ℕ → Bool) (v p : ℕ) → mark r v p v p ≡ true
-    acked_here r v p = grind (arith, nat_tests)
-
     has_version : IsServed → s.objects.visible q o.key ≡ rank o.version → HasVersion g s strings q from ballot o (acknowledges from ballot o Stay)
     has_version is same = record {
       is = refl;
       may = (peers (epoch_number ballot) is.stands).put_is_there o.key (rank o.version) (content_of o) is.trusts is.accepted says same;
-      says = acked_here s.objects.acked (rank o.version) q;
+      says = mark_here s.objects.acked (rank o.version) q;
     }
 
     takes_version : IsServed → s.objects.visible q o.key ≤ rank o.version → TakesVersion g s strings q m from ballot o (acknowledges from ballot o Put)
@@ -152,7 +148,7 @@ module _ (s : State) (g : Ghosts) (strings : List (List ℕ)) (q : ℕ) (fact : 
       is = refl;
       may = (peers (epoch_number ballot) is.stands).put_goes_in o.key (rank o.version) (content_of o) is.trusts is.accepted says low;
       shows = λ more digest among hashed same. write_shows s strings more q m (entry_of o digest) among (map_says is.own_trust) (put_entry s more (epoch_number ballot) o digest says obeys hashed same);
-      says = acked_here s.objects.acked (rank o.version) q;
+      says = mark_here s.objects.acked (rank o.version) q;
       damaged = λ at. record { says = tt; unsaved = refl; next = inr refl };
     }
 

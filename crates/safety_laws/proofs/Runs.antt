@@ -1,19 +1,17 @@
 -- The order of a key is a run of one register with the printed replies.
 use Rattle.std.proofs.Common.{◌≡◌, ℕ, zero, suc, ◌<◌, ◌≤◌, Bool, true, false, ◌&&◌, ◌⊎◌, List, [], ◌∷◌, ◌++◌, append_assoc, Option, None, Some, eqb, eqb-true, eq-eqb, arith, ap, refl, inl, inr, sym, ◌∙◌, subst, le_trans}
-use Rattle.std.specs.Prelude.{if◌then◌else◌, nat_le, length, ◌+◌}
+use Rattle.std.specs.Prelude.{if◌then◌else◌, ◌+◌}
 use Rattle.std.proofs.lemmas.Bool.{and_parts}
 use Rattle.ens_base.specs.Lists.{same_bytes, ◌∈◌}
-use Rattle.ens_base.specs.Epochs.{same_version}
 use Rattle.ens_base.specs.declared.epoch.Version.{Version}
 use Rattle.ens_base.specs.declared.command.Command.{Command}
-use Rattle.ens_base.specs.declared.command.Command.TheVariants.{Get, PutOnce, Update, Append, Add, Swap, Over, Delete}
 use Rattle.ens_base.specs.declared.reply.Reply.{Reply}
 use Rattle.register_model.specs.declared.register.Register.{Register}
-use Rattle.register_model.specs.declared.register.Register.TheVariants.{Absent, Present}
+use Rattle.register_model.specs.declared.register.Register.TheVariants.{Absent}
 use Rattle.register_model.specs.declared.answer.Answer.{Answer as Given}
 use Rattle.register_model.specs.declared.note.Note.{Note as Noted}
 use Rattle.register_model.specs.declared.note.Note.TheVariants.{Proposed, Settled as SettledNote, Read}
-use Rattle.register_model.specs.Registers.{Outcome, Keeps, Writes, outcome, written, Comes, Steps, stamps_after}
+use Rattle.register_model.specs.Registers.{Outcome, Keeps, outcome, written, Comes, Steps, stamps_after}
 use Rattle.register_model.specs.Histories.{IsDone, MayHave, RunsFrom}
 use Rattle.register_model.specs.Orders.{rank, rank_or_none, call_in, newest_in, reads_on, chain, write_of, block, blocks, settled_chain, order}
 use Rattle.election_laws.proofs.Epochs.{not_both}
@@ -26,46 +24,15 @@ use Rattle.safety_laws.proofs.Placed.{call_told, newest_of, versions_same}
 use Rattle.abstract_protocol.specs.Book.{version_of, register_at, Wrote}
 use Rattle.entry_laws.specs.Entries.{WriteKeeps, RewriteKeeps, ReadKeeps, IsByWrite, IsByRead, AnswerKeeps}
 use Rattle.abstract_protocol.specs.Protocol.{State}
+use Rattle.abstract_protocol.proofs.Outcomes.{keeps_then}
 
 -- ## An outcome that leaves the register unchanged is not a write
 
 abbrev IsNoWrite : Reply → Type 0
 IsNoWrite r = (stamps : List Version) → stamps_after r stamps ≡ stamps
 
-chosen : (b : Bool) (c : Option (List ℕ)) (r : Reply) → (if b then Writes c else Keeps Reply.Failed) ≡ Keeps r → Reply.Failed ≡ r
-chosen true c r e = absurd (cc)
-chosen false c r e = cc
-
-no_write_failed : (r : Reply) → Reply.Failed ≡ r → IsNoWrite r
-no_write_failed r e = subst IsNoWrite e (λ stamps. refl)
-
-no_write_found : (stamp : Version) (bytes : List ℕ) (r : Reply) → Reply.Value stamp bytes ≡ r → IsNoWrite r
-no_write_found stamp bytes r e = subst IsNoWrite e (λ stamps. refl)
-
-no_write_absent : (r : Reply) → Reply.NotFound ≡ r → IsNoWrite r
-no_write_absent r e = subst IsNoWrite e (λ stamps. refl)
-
-keeps_same : (a r : Reply) → Keeps a ≡ Keeps r → a ≡ r
-keeps_same a r e = cc
-
-writes_not : (c : Option (List ℕ)) (r : Reply) → Writes c ≡ Keeps r → ⊥
-writes_not c r e = cc
-
 keeps_no_write : (c : Command) (x : Register) (r : Reply) → outcome c x ≡ Keeps r → IsNoWrite r
-keeps_no_write Get Absent r e = no_write_absent r (keeps_same Reply.NotFound r e)
-keeps_no_write Get (Present stamp bytes) r e = no_write_found stamp bytes r (keeps_same (Reply.Value stamp bytes) r e)
-keeps_no_write (PutOnce v) Absent r e = absurd (writes_not (Some v) r e)
-keeps_no_write (PutOnce v) (Present stamp bytes) r e = no_write_failed r (keeps_same Reply.Failed r e)
-keeps_no_write (Update w v) Absent r e = no_write_failed r (keeps_same Reply.Failed r e)
-keeps_no_write (Update w v) (Present stamp bytes) r e = no_write_failed r (chosen (same_version w stamp) (Some v) r e)
-keeps_no_write (Append t) Absent r e = no_write_failed r (keeps_same Reply.Failed r e)
-keeps_no_write (Append t) (Present stamp bytes) r e = no_write_failed r (chosen (nat_le (length bytes + length t) 1024) (Some (bytes ++ t)) r e)
-keeps_no_write (Add n) Absent r e = no_write_failed r (keeps_same Reply.Failed r e)
-keeps_no_write (Add n) (Present stamp bytes) r e = no_write_failed r (chosen _ _ r e)
-keeps_no_write (Swap a b) Absent r e = no_write_failed r (keeps_same Reply.Failed r e)
-keeps_no_write (Swap a b) (Present stamp bytes) r e = no_write_failed r (chosen (same_bytes bytes a) (Some b) r e)
-keeps_no_write (Over v) x r e = absurd (writes_not (Some v) r e)
-keeps_no_write Delete x r e = absurd (writes_not None r e)
+keeps_no_write = keeps_then IsNoWrite (λ stamps. refl) (λ stamps. refl) (λ stamp bytes stamps. refl)
 
 keeps_step : (stamps : List Version) (x : Register) (c : Command) (r : Reply) → outcome c x ≡ Keeps r → Steps stamps x c r x
 keeps_step stamps x c r e = subst (λ (o : Outcome). Comes stamps x o r x) (sym e) (refl, refl)
@@ -92,9 +59,12 @@ module _ (s : State) (w : Whole s.objects) (entries : EntriesAreSafe s) (listed 
   read_reply : (i : ℕ) → (n : s.book.noted i ≡ true) → MayHave s.book.answers i (entries.reads i n).reply
   read_reply i n a h e d = by_done (done_of i a h e d)
     where
+      same : Keeps (entries.reads i n).reply ≡ Keeps a.reply → (entries.reads i n).reply ≡ a.reply
+      same e = cc
+
       by_done : IsByWrite s i a ⊎ IsByRead s i (s.book.seen i) a → (entries.reads i n).reply ≡ a.reply
       by_done (inl b) = absurd (entries.once.apart b.version i (b.proposed, b.call) n)
-      by_done (inr b) = keeps_same (entries.reads i n).reply a.reply (sym (entries.reads i n).keeps ∙ b.keeps)
+      by_done (inr b) = same (sym (entries.reads i n).keeps ∙ b.keeps)
 
   reads_run : (ns : List Noted) → ((n : Noted) → n ∈ ns → Holds s n) → (v : ℕ) (stamps : List Version) (rest : List ℕ) → RunsFrom s.book.calls s.book.answers stamps (register_at s.book v) rest → RunsFrom s.book.calls s.book.answers stamps (register_at s.book v) (reads_on ns k v ++ rest)
   reads_run [] holds v stamps rest run = run

@@ -21,7 +21,7 @@ use Rattle.sync_laws.specs.Messages.{GiveSays}
 covered_none : (a : Asking) (scan : Map) (k : List ℕ) (v : ℕ) → v ≡ 0 → Covered a scan k v
 covered_none a scan k v z none = rw z (omega arith)
 
-max_more : (a b c : ℕ) → a ≤ b → max a c ≤ max b c
+pub max_more : (a b c : ℕ) → a ≤ b → max a c ≤ max b c
 max_more a b c l = grind (arith, nat_tests)
 
 pub max_left : (a b : ℕ) → a ≤ max a b
@@ -30,7 +30,7 @@ max_left a b = grind (arith, nat_tests)
 pub max_right : (a b : ℕ) → b ≤ max a b
 max_right a b = grind (arith, nat_tests)
 
-max_least : (a b c : ℕ) → a ≤ c → b ≤ c → max a b ≤ c
+pub max_least : (a b c : ℕ) → a ≤ c → b ≤ c → max a b ≤ c
 max_least a b c l m = grind (arith, nat_tests)
 
 -- a give that answers keeps covered what the map that it was made from has

@@ -64,9 +64,6 @@ module _ (g : Lines) (l : Ledger) (orderly : IsOrderly g l) where
   commit_orderly : (d : ℕ) (c : Change) → Fits g c (l.views d) → IsOrderly g (commit l d c)
   commit_orderly d c fits = record { reached = orderly.reached; views = orderly.views; changes = put_then l.change d c (λ x y. put l.changed d true x ≡ true → Fits g y (l.views x)) (λ e. fits) (λ x n e. orderly.changes x (true_or l.changed d x n e)) }
 
-same : (q : ℕ) (f : ℕ → ℕ) → f q ≤ f q
-same q f = omega arith
-
 pub orderly_step : (g : Lines) (o : Objects) (p : ℕ) (e : Step) → Sound o.ledger → MayDo o e → IsOfPeer g o.ledger p e → IsOrderly g o.ledger → IsOrderly g (objects_after o e).ledger
 orderly_step g o p (Raise q d) sound may own a = same_ballots g o.ledger a (objects_after o (Raise q d)).ledger (step_stays o (Raise q d) may).ballot refl refl refl refl
 orderly_step g o p (Elect d b) sound may own a = elect_orderly g o.ledger a sound d b (subst (λ x. d ≤ o.ledger.ballot x) (sym own.0) own.1) may

@@ -9,14 +9,11 @@ use Rattle.running_sync.specs.Asks.{place_of}
 use Rattle.running_sync.specs.declared.asking.Asking.{Asking}
 use Rattle.exchange.proofs.Keeping.{same_number}
 use Rattle.sync_refinement.specs.Seen.{seen_ask, ask_of}
+use Rattle.std.proofs.lemmas.Bool.{eq-eqb}
 
 -- the peers that are asked
 abbrev pub peers_of : List Asking → List ℕ
 peers_of asks = map (λ (a : Asking). a.peer) asks
-
--- each number passes it against itself
-pub number_itself : (a : ℕ) → (a == a) ≡ true
-number_itself a = grind (arith, nat_tests)
 
 -- the peer of each ask is asked
 pub in_peers : (asks : List Asking) (a : Asking) → a ∈ asks → a.peer ∈ peers_of asks
@@ -91,7 +88,7 @@ set_peers (x ∷ asks) (suc n) a b at same = ap (λ (ps : List ℕ). x.peer ∷ 
 -- each ask is that of its peer
 pub ask_in : (asks : List Asking) (a : Asking) → AreDistinct (peers_of asks) → a ∈ asks → ask_of asks a.peer ≡ seen_ask a
 ask_in [] a distinct at = absurd at
-ask_in (x ∷ asks) a distinct (inl same) = subst (λ (y : Asking). ask_of (x ∷ asks) y.peer ≡ seen_ask y) (sym same) (here (x.peer == x.peer) (number_itself x.peer))
+ask_in (x ∷ asks) a distinct (inl same) = subst (λ (y : Asking). ask_of (x ∷ asks) y.peer ≡ seen_ask y) (sym same) (here (x.peer == x.peer) (eq-eqb x.peer x.peer refl))
   where
     here : (b : Bool) → b ≡ true → (if b then seen_ask x else ask_of asks x.peer) ≡ seen_ask x
     here true h = refl

@@ -22,7 +22,7 @@ use Rattle.leader_refinement.specs.Seen.{rank}
 use Rattle.request_refinement.proofs.Numbers.{version_fits}
 use Rattle.running_sync.specs.declared.asking.Asking.{Asking}
 use Rattle.running_sync.specs.declared.asking.Stage.{Stage}
-use Rattle.sync_laws.proofs.Coverage.{max_left, max_right}
+use Rattle.sync_laws.proofs.Coverage.{max_left, max_right, max_more}
 use Rattle.sync_laws.specs.Exchange.{Counts}
 use Rattle.sync_laws.specs.Syncs as syncs
 use Rattle.tree_maps.specs.Entries.{Ascends, IsMap}
@@ -34,7 +34,9 @@ use Rattle.tree_node.specs.declared.body.TreeBody.{TreeBody}
 use Rattle.tree_node.specs.declared.body.TreeBody.TheVariants.{Inner, Page, Damaged}
 use Rattle.tree_node.specs.declared.position.Position.{Position}
 use Rattle.sync_refinement.specs.Seen.{ranks, greatest, is_left, seen_stage, seen_ask}
-use Rattle.sync_refinement.proofs.Maps.{not_zero, both_ways, max_one_of, HasRank, ranks_found, ranks_has, greatest_append, greatest_has, greatest_of, in_take, left_is, is_left_of}
+use Rattle.sync_refinement.proofs.Maps.{not_zero, HasRank, ranks_found, ranks_has, greatest_append, greatest_has, greatest_of, in_take, left_is, is_left_of}
+use Rattle.election_laws.proofs.Epochs.{not_both}
+use Rattle.leader_laws.proofs.Moves.{max_cases}
 
 -- ## Steps
 
@@ -144,9 +146,6 @@ all_in [] e all at = absurd at
 all_in (x ∷ m) e all (inl same) = subst IsEntry (sym same) all.0
 all_in (x ∷ m) e all (inr at) = all_in m e all.1 at
 
-max_more : (a b c : ℕ) → a ≤ b → max a c ≤ max b c
-max_more a b c l = grind (arith, nat_tests)
-
 max_none : (a : ℕ) → max a 0 ≡ a
 max_none a = grind (arith, nat_tests)
 
@@ -178,7 +177,7 @@ module _ (m n : List Entry) (scan : Scan) (own : Option (List ℕ)) (q : Questio
 
       by_more : (greatest received.more k ≡ 0) ⊎ (greatest received.more k ≡ ranks m k) → (greatest next.received k ≡ greatest ask.received k) ⊎ (greatest next.received k ≡ ranks m k)
       by_more (inl none) = inl (greatest_is k ∙ ap (λ x. max (greatest ask.received k) x) none ∙ max_none (greatest ask.received k))
-      by_more (inr same) = by_max same (max_one_of (greatest ask.received k) (greatest received.more k))
+      by_more (inr same) = by_max same (max_cases (greatest ask.received k) (greatest received.more k))
 
   -- what the ask takes of a key that was left to ask
   covered_now : (k : List ℕ) → HasRank m k (ranks m k) → is_left ask.current ask.left k ≡ true → is_left next.current next.left k ≡ false → ranks m k ≤ max (greatest next.received k) (ranks scan.entries k)
@@ -191,7 +190,7 @@ module _ (m n : List Entry) (scan : Scan) (own : Option (List ℕ)) (q : Questio
       fits = version_fits found.entry.version (all_in m found.entry ok.entries found.inside).version
 
       by_covers : Covers next scan.entries k found.entry.version → rank found.entry.version ≤ max (greatest next.received k) (ranks scan.entries k)
-      by_covers (inl still) = absurd (both_ways (is_left next.current next.left k) (is_left_of next.current next.left k still) none)
+      by_covers (inl still) = absurd (not_both (is_left_of next.current next.left k still) none)
       by_covers (inr (inl here)) = le_trans (greatest_has next.received k found.entry.version fits here) (max_left (greatest next.received k) (ranks scan.entries k))
       by_covers (inr (inr mine)) = le_trans (ranks_has scan.entries k found.entry.version ascends fits mine) (max_right (greatest next.received k) (ranks scan.entries k))
 

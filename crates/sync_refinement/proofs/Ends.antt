@@ -129,9 +129,6 @@ module _ (g : Lines) (s : State) (strings : List (List ℕ)) (p : ℕ) (fact : F
   merged_says : (e : Entry) → e ∈ entries → EntrySays s strings e
   merged_says e i = entry_says e (outcome.merges.from e i)
 
-  same : (k : List ℕ) → syncs.merged_of (seen_sync r) k ≡ ranks entries k
-  same = merged_same r entries m says.scan says.distinct says.sources says.view (λ e i. (entry_says e i).version.object.version) outcome.merges
-
   -- ## The sources suffice
 
   not_asked : (q : ℕ) → p ≡ q → syncs.is_finished (ask_of r.asks q).stage ≡ false
@@ -161,7 +158,7 @@ module _ (g : Lines) (s : State) (strings : List (List ℕ)) (p : ℕ) (fact : F
   unfolding epoch
   is_synced =
       let most : IsSynced s.objects epoch (syncs.merged_of (seen_sync r)) = synced g s.objects p (seen_fact fact) (seen_tree m) trusted (seen_sync r) says.holds stands firm votes (ap last_view says.holds.first.known.views) over in
-      record { sources = most.sources; majority = most.majority; reached = most.reached; given = λ q k h. subst (λ (v : ℕ). s.objects.floor q epoch k ≤ v) (same k) (most.given q k h) }
+      record { sources = most.sources; majority = most.majority; reached = most.reached; given = λ q k h. subst (λ (v : ℕ). s.objects.floor q epoch k ≤ v) (merged_same r entries m says.scan says.distinct says.sources says.view (λ e i. (entry_says e i).version.object.version) outcome.merges k) (most.given q k h) }
 
   may : MayInstall s.objects p epoch (ranks entries)
   unfolding epoch
@@ -170,22 +167,19 @@ module _ (g : Lines) (s : State) (strings : List (List ℕ)) (p : ℕ) (fact : F
     stands = stands ∙ sym says.holds.stands;
     newer = subst (λ (d : ℕ). d < epoch) (sym accepted) says.holds.newer;
     synced = is_synced;
-    genuine = λ k. subst (IsGenuine s.objects epoch k) (same k) (gathered_genuine g s.objects p (seen_fact fact) (seen_tree m) trusted (seen_sync r) says.holds stands (syncs.sources_of (seen_sync r)) k);
+    genuine = λ k. subst (IsGenuine s.objects epoch k) (merged_same r entries m says.scan says.distinct says.sources says.view (λ e i. (entry_says e i).version.object.version) outcome.merges k) (gathered_genuine g s.objects p (seen_fact fact) (seen_tree m) trusted (seen_sync r) says.holds stands (syncs.sources_of (seen_sync r)) k);
   }
 
   -- ## The merged entries
 
-  ascends : Ascends entries
-  ascends = merge_ascends entries outcome.merges.ascend
-
-  -- so the merged entries are a map that the peer may install
+  -- the merged entries are a map that the peer may install
   pub sync_ends : SyncEnds s strings p m r entries
   unfolding epoch
   sync_ends = record {
     is_map = record {
-      ascends = ascends;
+      ascends = merge_ascends entries outcome.merges.ascend;
       entries = each_is IsEntry entries (λ e i. entry_fits s strings e (merged_says e i));
-      few = few entries (λ e i. (merged_says e i).version.proposed) (λ e i. (merged_says e i).key) (distinct_keys entries ascends);
+      few = few entries (λ e i. (merged_says e i).version.proposed) (λ e i. (merged_says e i).key) (distinct_keys entries (merge_ascends entries outcome.merges.ascend));
     };
     entries_say = merged_says;
     may = may;

@@ -1,5 +1,5 @@
 -- Maps of versions against lists of entries, and tests of positions against what they test.
-use Rattle.std.proofs.Common.{◌≡◌, ◌⊎◌, ℕ, zero, ◌<◌, ◌≤◌, suc, max, Bool, true, false, cond, not, ◌&&◌, ◌||◌, List, [], ◌∷◌, ◌++◌, Option, None, Some, take, arith, refl, ap, sym, ◌∙◌, subst, inl, inr, le_trans}
+use Rattle.std.proofs.Common.{◌≡◌, ◌⊎◌, ℕ, zero, ◌<◌, ◌≤◌, suc, max, Bool, true, false, cond, not, ◌&&◌, ◌||◌, List, [], ◌∷◌, ◌++◌, Option, None, Some, take, arith, refl, ap, sym, ◌∙◌, subst, inl, inr, le_trans, le_refl}
 use Rattle.ens_base.proofs.Lists.{bytes_same, bytes_itself}
 use Rattle.std.specs.Prelude.{if◌then◌else◌}
 use Rattle.std.specs.declared.cmp.Ordering.TheVariants.{Less}
@@ -24,30 +24,20 @@ use Rattle.tree_maps.specs.Sixteen.{sixteen}
 use Rattle.tree_node.specs.declared.position.Position.{Position}
 use Rattle.tree_verify.specs.Scans.{lost}
 use Rattle.sync_refinement.specs.Seen.{ranks, greatest, through, through_any, is_left}
+use Rattle.leader_laws.proofs.Moves.{max_cases}
+use Rattle.election_laws.proofs.Epochs.{not_both}
 
 -- ## Numbers and tests
-
--- each number is at least itself
-pub at_least_itself : (a : ℕ) → a ≤ a
-at_least_itself a = omega arith
 
 -- a number above zero is not zero
 pub not_zero : (a : ℕ) → 0 < a → a ≡ 0 → ⊥
 not_zero a l e = omega (arith, l, e)
-
--- the greater of two numbers is one of them
-pub max_one_of : (a b : ℕ) → (max a b ≡ a) ⊎ (max a b ≡ b)
-max_one_of a b = grind (arith, nat_tests)
 
 max_again : (a b c : ℕ) → max a (max b c) ≡ max (max a b) c
 max_again a b c = grind (arith, nat_tests)
 
 max_zero : (a : ℕ) → a ≡ max 0 a
 max_zero a = grind (arith, nat_tests)
-
--- no test is both true and false
-pub both_ways : (b : Bool) → b ≡ true → b ≡ false → ⊥
-both_ways b e f = absurd cc
 
 -- the opposite of a false test is true
 pub true_not : (b : Bool) → b ≡ false → not b ≡ true
@@ -58,7 +48,7 @@ true_not b h = grind arith
 -- a version that is at least another has no lower rank
 pub rank_at_least : (v least : Version) → IsVersion least → IsAtLeast v least → rank least ≤ rank v
 unfolding theory.version_at epoch_number
-rank_at_least v least fits (inl same) = subst (λ (x : Version). rank least ≤ rank x) (sym same) (at_least_itself (rank least))
+rank_at_least v least fits (inl same) = subst (λ (x : Version). rank least ≤ rank x) (sym same) (le_refl (rank least))
 rank_at_least v least fits (inr (inl (inl count))) = omega (arith, count, fits.0, fits.1)
 rank_at_least v least fits (inr (inl (inr (count, proposer)))) = omega (arith, count, proposer, fits.1)
 rank_at_least v least fits (inr (inr (epoch, seq))) =
@@ -159,7 +149,7 @@ greatest_found (x ∷ es) k = by_same (same_bytes x.key k) refl (greatest_found 
     either n key found (inr is) = subst (Found (x ∷ es)) (sym is) (further n found)
 
     by_same : (b : Bool) → same_bytes x.key k ≡ b → Found es (greatest es k) → Found (x ∷ es) (if b then max (rank x.version) (greatest es k) else greatest es k)
-    by_same true same found = either (greatest es k) (bytes_same x.key k same) found (max_one_of (rank x.version) (greatest es k))
+    by_same true same found = either (greatest es k) (bytes_same x.key k same) found (max_cases (rank x.version) (greatest es k))
     by_same false same found = further (greatest es k) found
 
 -- entries of a map have no other versions than the map
@@ -183,7 +173,7 @@ in_take (suc n) (y ∷ xs) x (inr at) = inr (in_take n xs x at)
 
 -- the test whether a path goes through one of some positions says so
 pub passes_of_any : (key : List ℕ) (ps : List Position) → through_any key ps ≡ true → PassesAny key ps
-passes_of_any key [] h = absurd (both_ways true refl (sym h))
+passes_of_any key [] h = absurd (not_both refl (sym h))
 passes_of_any key (p ∷ ps) h = by_either (or_cases (through key p) (through_any key ps) h) (λ t. passes_of_any key ps t)
   where
     by_either : (through key p ≡ true) ⊎ (through_any key ps ≡ true) → (through_any key ps ≡ true → PassesAny key ps) → PassesAny key (p ∷ ps)
@@ -203,7 +193,7 @@ lost_is_any key (p ∷ ps) = ap (λ b. through key p || b) (lost_is_any key ps)
 
 -- the test whether a key is left to ask says so
 pub left_is : (current : Option Question) (left : List Position) (key : List ℕ) → is_left current left key ≡ true → IsLeft current left key
-left_is None left key h = absurd (both_ways true refl (sym h))
+left_is None left key h = absurd (not_both refl (sym h))
 left_is (Some q) left key h = by_either (or_cases (through key q.position && is_beyond q.after key) (through_any key left) h)
   where
     by_either : ((through key q.position && is_beyond q.after key) ≡ true) ⊎ (through_any key left ≡ true) → IsLeft (Some q) left key

@@ -1,6 +1,5 @@
 -- What a sync merges is, as a map from keys to versions, what the theory merges.
-use Rattle.std.proofs.Common.{◌≡◌, ◌⊎◌, inl, inr, ℕ, ◌≤◌, Bool, true, false, ◌||◌, max, List, [], ◌∷◌, ◌++◌, map, arith, refl, sym, subst, ◌∙◌, le_trans, le_antisymm}
-use Rattle.std.proofs.lemmas.Bool.{or_right}
+use Rattle.std.proofs.Common.{◌≡◌, ◌⊎◌, inl, inr, ℕ, ◌≤◌, Bool, true, false, ◌||◌, List, [], ◌∷◌, ◌++◌, map, arith, refl, sym, subst, ◌∙◌, le_trans, le_antisymm}
 use Rattle.ens_base.proofs.Lists.{in_append}
 use Rattle.std.specs.Prelude.{◌==◌, if◌then◌else◌}
 use Rattle.std.specs.List.{flat_map}
@@ -12,19 +11,20 @@ use Rattle.ens_base.specs.declared.entry.Entry.{Entry}
 use Rattle.leader_refinement.specs.Seen.{rank}
 use Rattle.running_sync.specs.Running.{Running}
 use Rattle.running_sync.specs.declared.asking.Asking.{Asking}
-use Rattle.sync_laws.proofs.Coverage.{scan_below, given_below}
+use Rattle.sync_laws.proofs.Coverage.{scan_below, given_below, max_least}
 use Rattle.sync_laws.specs.Syncs as syncs
 use Rattle.sync_rule.specs.Merges.{Exceeds, IsMerge}
 use Rattle.sync_rule.specs.Syncs.{is_source, all_entries}
 use Rattle.sync_rule.specs.declared.sync.Source.{Source}
 use Rattle.tree_maps.specs.Entries.{Ascends}
 use Rattle.exchange.proofs.Keeping.{same_number}
-use Rattle.sync_refinement.proofs.Asks.{number_itself, ask_in}
+use Rattle.sync_refinement.proofs.Asks.{ask_in}
 use Rattle.sync_refinement.proofs.Maps.{HasRank, ranks_in, ranks_found, greatest_in, greatest_found}
 use Rattle.sync_refinement.proofs.Ranks.{merge_ascends, no_lower}
 use Rattle.sync_refinement.proofs.Scans.{scan_ascends}
 use Rattle.sync_refinement.specs.Seen.{ranks, greatest, seen_ask, ask_of, seen_sync}
 use Rattle.sync_refinement.specs.Syncs.{IsScanOf, SourcesAre}
+use Rattle.sync_refinement.proofs.Setting.{source_in}
 
 -- ## Lists
 
@@ -65,12 +65,6 @@ sent_of (x ∷ ss) e i = by_part (in_append x.entries (sent_by ss) e i) (sent_of
 not_equal : (m n : ℕ) → (m ≡ n → ⊥) → (m == n) ≡ false
 not_equal m n h = grind (arith, nat_tests)
 
--- the peer of each source counts as one
-source_in : (ss : List Source) (source : Source) → source ∈ ss → is_source ss source.peer ≡ true
-source_in [] source i = absurd i
-source_in (x ∷ ss) source (inl same) = rw (same, number_itself x.peer) refl
-source_in (x ∷ ss) source (inr i) = or_right (x.peer == source.peer) (is_source ss source.peer) (source_in ss source i)
-
 -- a source that is this peer
 abbrev SourceOf : List Source → ℕ → Type 0
 SourceOf ss q = (source : Source) × (source ∈ ss) × (source.peer ≡ q)
@@ -92,14 +86,8 @@ ask_none (x ∷ asks) p none = rw (not_equal x.peer p (none x (inl refl))) (ask_
 
 -- ## The merge
 
-zero_least : (n : ℕ) → 0 ≤ n
-zero_least n = omega arith
-
 same_least : (a b : ℕ) → a ≡ b → a ≤ b
 same_least a b e = omega (arith, e)
-
-max_least : (a b c : ℕ) → a ≤ c → b ≤ c → max a b ≤ c
-max_least a b c l m = grind (arith, nat_tests)
 
 module _ (r : Running) (entries m : List Entry) (scan : IsScanOf m r.sync.scan) (distinct : AreDistinct (map (λ (a : Asking). a.peer) r.asks)) (sources : SourcesAre r) (view : r.sync.view ≡ last_view r.fact.views)
     (fits : (e : Entry) → e ∈ all_entries r.sync → limits.IsVersion e.version) (merge : IsMerge (all_entries r.sync) entries) where
@@ -114,7 +102,7 @@ module _ (r : Running) (entries m : List Entry) (scan : IsScanOf m r.sync.scan) 
       by_greatest x = subst (λ (v : ℕ). rank e.version ≤ v) (sym (ranks_in entries x.0 k entries_ascend x.1 (x.2.key ∙ same))) (no_lower x.0 e (fits x.0 (merge.from x.0 x.1)) (fits e i) x.2.not_lower)
 
   version_below : (es : List Entry) (k : List ℕ) (v : ℕ) → ((e : Entry) → e ∈ es → e ∈ all_entries r.sync) → (v ≡ 0) ⊎ HasRank es k v → v ≤ ranks entries k
-  version_below es k v among (inl z) = subst (λ (n : ℕ). n ≤ ranks entries k) (sym z) (zero_least (ranks entries k))
+  version_below es k v among (inl z) = subst (λ (n : ℕ). n ≤ ranks entries k) (sym z) (omega arith)
   version_below es k v among (inr h) = subst (λ (n : ℕ). n ≤ ranks entries k) (sym h.rank_is) (entry_below h.entry k (among h.entry h.inside) h.key_is)
 
   -- what a finished ask received is merged
@@ -135,7 +123,7 @@ module _ (r : Running) (entries m : List Entry) (scan : IsScanOf m r.sync.scan) 
     where
       by_stage : (b : Bool) → syncs.is_finished (ask_of r.asks q).stage ≡ b → (if b then (ask_of r.asks q).received k else 0) ≤ ranks entries k
       by_stage true done = received_below q k done
-      by_stage false none = zero_least (ranks entries k)
+      by_stage false none = omega arith
 
   -- the theory merges nothing greater
   gathered_least : (members : List ℕ) (k : List ℕ) → syncs.gathered (seen_sync r) members k ≤ ranks entries k
@@ -169,5 +157,5 @@ module _ (r : Running) (entries m : List Entry) (scan : IsScanOf m r.sync.scan) 
   merged_same k = le_antisymm (gathered_least (syncs.sources_of (seen_sync r)) k) (by_rank (ranks_found entries k))
     where
       by_rank : (ranks entries k ≡ 0) ⊎ HasRank entries k (ranks entries k) → ranks entries k ≤ syncs.merged_of (seen_sync r) k
-      by_rank (inl z) = subst (λ (n : ℕ). n ≤ syncs.merged_of (seen_sync r) k) (sym z) (zero_least (syncs.merged_of (seen_sync r) k))
+      by_rank (inl z) = subst (λ (n : ℕ). n ≤ syncs.merged_of (seen_sync r) k) (sym z) (omega arith)
       by_rank (inr h) = subst (λ (n : ℕ). n ≤ syncs.merged_of (seen_sync r) k) (sym h.rank_is) (entry_gathered h.entry k (merge.from h.entry h.inside) h.key_is)

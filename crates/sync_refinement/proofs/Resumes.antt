@@ -18,7 +18,7 @@ use Rattle.sync_refinement.specs.Laws.{SyncsResume}
 use Rattle.sync_refinement.specs.Seen.{ranks, seen_stage, seen_ask, ask_of}
 use Rattle.sync_refinement.specs.Syncs.{EntriesSay}
 use Rattle.sync_refinement.proofs.Asks.{peers_of}
-use Rattle.sync_refinement.proofs.Maps.{both_ways}
+use Rattle.election_laws.proofs.Epochs.{not_both}
 
 -- ## One ask
 
@@ -71,7 +71,7 @@ resumed_in (a ∷ asks) x (inr at) = let found = resumed_in asks x at in (found.
 
 resumes_hold : (g : Lines) (o : Objects) (d : ℕ) (scan : Map) (q : ℕ) (a b : syncs.Asking) → Resumes a b → syncs.AskHolds g o d scan q a → syncs.AskHolds g o d scan q b
 resumes_hold g o d scan q a b (inl same) old = subst (syncs.AskHolds g o d scan q) (sym same) old
-resumes_hold g o d scan q a b (inr (waits, is)) old = subst (syncs.AskHolds g o d scan q) (sym is) (record { genuine = old.genuine; reached = old.reached; covered = old.covered; done = λ h. absurd (both_ways false h refl) })
+resumes_hold g o d scan q a b (inr (waits, is)) old = subst (syncs.AskHolds g o d scan q) (sym is) (record { genuine = old.genuine; reached = old.reached; covered = old.covered; done = λ h. absurd (not_both h refl) })
 
 resumes_finished : (a b : syncs.Asking) → Resumes a b → syncs.is_finished a.stage ≡ syncs.is_finished b.stage
 resumes_finished a b (inl same) = ap (λ (x : syncs.Asking). syncs.is_finished x.stage) (sym same)

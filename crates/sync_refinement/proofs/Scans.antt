@@ -19,12 +19,13 @@ use Rattle.tree_verify.specs.Scans.{lost}
 use Rattle.sync_refinement.specs.Seen.{ranks, seen_tree, seen_scan}
 use Rattle.sync_refinement.specs.Syncs.{IsScanOf}
 use Rattle.tree_verify.proofs.Telling.{in_filter}
-use Rattle.sync_refinement.proofs.Maps.{both_ways, true_not, passes_of_any, lost_is_any}
+use Rattle.sync_refinement.proofs.Maps.{true_not, passes_of_any, lost_is_any}
+use Rattle.election_laws.proofs.Epochs.{not_both}
 
 -- a scan without damage lost no key
 pub clean_keeps : (damaged : List Position) (k : List ℕ) → not (is_none damaged) ≡ false → lost sixteen damaged k ≡ false
 clean_keeps [] k h = refl
-clean_keeps (p ∷ ps) k h = absurd (both_ways true refl h)
+clean_keeps (p ∷ ps) k h = absurd (not_both refl h)
 
 module _ (m : List Entry) (scan : Scan) (is : IsScanOf m scan) where
   -- whether the scan found the key
@@ -50,7 +51,7 @@ module _ (m : List Entry) (scan : Scan) (is : IsScanOf m scan) where
       no : (e : Entry) → lookup k (filter (λ (e : Entry). is_kept e.key) m) ≡ Some e → ⊥
       no e found =
           let there = from_filter (λ (x : Entry). is_kept x.key) e m (lookup_in k (filter (λ (x : Entry). is_kept x.key) m) e found) in
-          both_ways (lost sixteen scan.damaged k) gone (subst (λ (j : List ℕ). lost sixteen scan.damaged j ≡ false) (lookup_key k (filter (λ (x : Entry). is_kept x.key) m) e found) (not-true (lost sixteen scan.damaged e.key) there.1))
+          not_both gone (subst (λ (j : List ℕ). lost sixteen scan.damaged j ≡ false) (lookup_key k (filter (λ (x : Entry). is_kept x.key) m) e found) (not-true (lost sixteen scan.damaged e.key) there.1))
 
       by_entry : (o : Option Entry) → lookup k (filter (λ (e : Entry). is_kept e.key) m) ≡ o → entry_rank o ≡ 0
       by_entry None found = refl

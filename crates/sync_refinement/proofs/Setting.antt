@@ -1,6 +1,6 @@
 -- An open ask of a sync is set: it goes on, or its source has finished.
 use Rattle.std.proofs.Common.{◌≡◌, ◌⊎◌, ℕ, Bool, true, false, ◌&&◌, ◌||◌, List, [], ◌∷◌, ◌++◌, Some, arith, refl, ap, sym, ◌∙◌, subst, inl, inr}
-use Rattle.std.proofs.lemmas.Bool.{or_left, or_right}
+use Rattle.std.proofs.lemmas.Bool.{or_left, or_right, eq-eqb}
 use Rattle.ens_base.proofs.Lists.{in_append}
 use Rattle.std.specs.Prelude.{◌==◌, slice_get, slice_set, if◌then◌else◌}
 use Rattle.abstract_protocol.specs.Numbers.{epoch_number}
@@ -19,14 +19,15 @@ use Rattle.sync_rule.specs.declared.sync.Source.{Source}
 use Rattle.sync_refinement.specs.Seen.{ranks, seen_stage, seen_ask, ask_of}
 use Rattle.sync_refinement.specs.Syncs.{EntriesSay, SourcesAre, SyncSays}
 use Rattle.exchange.proofs.Keeping.{same_number}
-use Rattle.sync_refinement.proofs.Asks.{number_itself, at_place, in_set, set_there, still_there, set_itself, set_peers, ask_in, ask_set}
-use Rattle.sync_refinement.proofs.Maps.{both_ways}
+use Rattle.sync_refinement.proofs.Asks.{at_place, in_set, set_there, still_there, set_itself, set_peers, ask_in, ask_set}
+use Rattle.election_laws.proofs.Epochs.{not_both}
 
 -- ## Sources
 
-source_in : (ss : List Source) (x : Source) → x ∈ ss → is_source ss x.peer ≡ true
+-- the peer of each source counts as one
+pub source_in : (ss : List Source) (x : Source) → x ∈ ss → is_source ss x.peer ≡ true
 source_in [] x at = absurd at
-source_in (y ∷ ss) x (inl same) = or_left (y.peer == x.peer) (is_source ss x.peer) (subst (λ (z : Source). (y.peer == z.peer) ≡ true) (sym same) (number_itself y.peer))
+source_in (y ∷ ss) x (inl same) = or_left (y.peer == x.peer) (is_source ss x.peer) (subst (λ (z : Source). (y.peer == z.peer) ≡ true) (sym same) (eq-eqb y.peer y.peer refl))
 source_in (y ∷ ss) x (inr at) = or_right (y.peer == x.peer) (is_source ss x.peer) (source_in ss x at)
 
 one_more : (a b c : Bool) → (a || (b || c)) ≡ ((a || b) || c)
@@ -121,7 +122,7 @@ module _ (g : Lines) (s : State) (strings : List (List ℕ)) (p : ℕ) (fact : F
     given_still b source inside = let (x, there, peer, entries) = old.sources.given source inside in by_place x peer entries (still_there r.asks place a b x at there)
       where
         by_place : (x : Asking) → x.peer ≡ source.peer → source.entries ≡ x.ask.received → (x ≡ a) ⊎ (x ∈ slice_set r.asks place b) → (y : Asking) × (y ∈ slice_set r.asks place b) × (y.peer ≡ source.peer) × (source.entries ≡ y.ask.received)
-        by_place x peer entries (inl same) = absurd (both_ways (is_source r.sync.sources a.peer) (subst (λ q. is_source r.sync.sources q ≡ true) (sym peer ∙ ap (λ (y : Asking). y.peer) same) (source_in r.sync.sources source inside)) no_source)
+        by_place x peer entries (inl same) = absurd (not_both (subst (λ q. is_source r.sync.sources q ≡ true) (sym peer ∙ ap (λ (y : Asking). y.peer) same) (source_in r.sync.sources source inside)) no_source)
         by_place x peer entries (inr there) = (x, there, peer, entries)
 
     -- the ask goes on, or was dropped

@@ -2,7 +2,6 @@
 use Rattle.std.proofs.Common.{◌≡◌, ◌⊎◌, ℕ, Bool, true, false, not, ◌&&◌, List, [], ◌∷◌, ◌++◌, Option, None, Some, arith, refl, ap, sym, ◌∙◌, subst, inl, inr}
 use Rattle.ens_base.proofs.Lists.{in_append, in_tested}
 use Rattle.std.specs.Prelude.{◌==◌, slice_get, slice_set, if◌then◌else◌}
-use Rattle.std.proofs.lemmas.Bool.{and_parts}
 use Rattle.std.proofs.lemmas.Bool.Decides.{nat_tests}
 use Rattle.std.proofs.lemmas.Option.{slice_get_within, get_or_from_slice_get}
 use Rattle.abstract_protocol.specs.Numbers.{epoch_number}
@@ -42,19 +41,12 @@ use Rattle.tree_refinement.specs.Trees.{AreFree}
 use Rattle.sync_refinement.specs.Laws.{SyncsTake}
 use Rattle.sync_refinement.specs.Seen.{ranks, seen_stage, seen_ask}
 use Rattle.sync_refinement.specs.Syncs.{SyncSays, GiveShows, GiveFits}
-use Rattle.exchange.proofs.Keeping.{same_number}
 use Rattle.sync_refinement.proofs.Asks.{peer_there}
 use Rattle.sync_refinement.proofs.Counting.{done_is, ignored_is, damage_is, Receives, taken_receives, taken_counts}
-use Rattle.sync_refinement.proofs.Maps.{both_ways}
 use Rattle.sync_refinement.proofs.Scans.{scan_ascends, scan_own}
 use Rattle.sync_refinement.proofs.Setting.{AskSays, source_of, ask_was, same_says, no_source, goes_on, finishes}
-
-same_epoch : (a b : Epoch) → is_same a b ≡ true → a ≡ b
-same_epoch a b h =
-    let parts = and_parts (a.count == b.count) (a.proposer == b.proposer) h in
-    let count = same_number a.count b.count parts.0 in
-    let proposer = same_number a.proposer b.proposer parts.1 in
-    λ i. record { count = count i; proposer = proposer i }
+use Rattle.election_laws.proofs.Epochs.{not_both}
+use Rattle.leader_refinement.proofs.Numbers.{same_epochs}
 
 open_stage : (stage : Stage) → is_open stage ≡ true → stage ≡ stages.Open
 open_stage stages.Open h = refl
@@ -136,7 +128,7 @@ module _ (g : Lines) (s : State) (strings : List (List ℕ)) (p : ℕ) (fact : F
 
   -- the sync after a step of the ask
   step_says : GiveFits g s strings a.peer give.ballot give.question give.trusted give.body → a.stage ≡ stages.Open → (step : Reply) → next.0 ≡ step → SyncSays g s strings p fact trusted m (replied place (step, after_step step give.trusted (record a { ask = next.1 })) r).0
-  step_says fits waits steps.Next is = goes_on g s strings p fact trusted m r old place a at waits (counted a.stage) refl not_done (counted_says a.stage (shows_of g s strings a.peer give.ballot give.question give.trusted give.body fits (sound steps.Next is (λ e. cc) (λ e. cc))) (λ h. absurd (both_ways (syncs.is_finished (seen_stage a.stage)) h not_done)))
+  step_says fits waits steps.Next is = goes_on g s strings p fact trusted m r old place a at waits (counted a.stage) refl not_done (counted_says a.stage (shows_of g s strings a.peer give.ballot give.question give.trusted give.body fits (sound steps.Next is (λ e. cc) (λ e. cc))) (λ h. absurd (not_both h not_done)))
     where
       not_done : syncs.is_finished (seen_stage a.stage) ≡ false
       not_done = ap (λ (x : Stage). syncs.is_finished (seen_stage x)) waits
@@ -164,7 +156,7 @@ takes_say g s strings p fact trusted m r from give own free position others fits
         (subst (λ q. GiveFits g s strings q give.ballot give.question give.trusted give.body) (sym (peer_there from r.asks a at)) fits)
 
     by_ballot : (b : Bool) → is_same give.ballot r.fact.epoch ≡ b → SyncSays g s strings p fact trusted m (if b then taken_by (place_of from r.asks) (slice_get r.asks (place_of from r.asks)) give own r else (r, [])).0
-    by_ballot true same = by_ask (same_epoch give.ballot r.fact.epoch same) (slice_get r.asks (place_of from r.asks)) refl
+    by_ballot true same = by_ask (same_epochs give.ballot r.fact.epoch same) (slice_get r.asks (place_of from r.asks)) refl
     by_ballot false other = old
 
 -- a sync that takes what a source sends says what holds

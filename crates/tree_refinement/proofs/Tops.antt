@@ -20,7 +20,6 @@ use Rattle.tree_maps.specs.Forms.{root}
 use Rattle.tree_maps.specs.Maps.{IsNode, Stands}
 use Rattle.tree_maps.specs.Sixteen.{sixteen}
 use Rattle.tree_maps.proofs.Formats.{sixteen_laws}
-use Rattle.tree_maps.proofs.Unique.{some_once}
 use Rattle.tree_repair.specs.Rebuilds.{rebuild_plan}
 use Rattle.tree_verify.specs.Levels.{scan_plan}
 use Rattle.world_stores.specs.Nodes.{Nodes, top_of, reverted}
@@ -41,19 +40,7 @@ use Rattle.tree_refinement.proofs.Whole.{get_only, node_only, scan_only}
 pub named_behind : (hashed more : List (List ℕ)) (digest : List ℕ) (m : List Entry) → AreAmong hashed more → IsNamed hashed digest m → IsNamed more digest m
 named_behind hashed more digest m among named = record { stands = named.stands; texts = λ x n. among x (named.texts x n) }
 
--- the root of a tree names the map that the tree shows
-pub shows_named : (h : Held) (m : List Entry) (digest : List ℕ) → Shows h m → h.stores.tree.top ≡ Some digest → IsNamed h.hashed digest m
-shows_named h m digest shows is = record { stands = subst (λ (d : List ℕ). Stands sixteen d m) (some_once h.stores.tree.top shows.digest digest shows.top is) shows.stands; texts = shows.texts }
-
--- and a tree shows the map that its root names
-pub named_shows : (h : Held) (m : List Entry) (digest : List ℕ) → h.stores.tree.top ≡ Some digest → IsNamed h.hashed digest m → Shows h m
-named_shows h m digest is named = record { digest = digest; top = is; stands = named.stands; texts = named.texts }
-
 -- ## Lists of top records
-
--- the top record is the last that was written
-pub top_last : (tops : List (List ℕ)) (digest : List ℕ) → top_of (tops ++ digest ∷ []) ≡ Some digest
-top_last tops digest = last_top tops digest
 
 -- the first records of a list are records of it
 in_take : (n : ℕ) (tops : List (List ℕ)) (digest : List ℕ) → digest ∈ take n tops → digest ∈ tops
@@ -94,7 +81,7 @@ is_written : (m : List Entry) (h : Held) (w : Walk (List ℕ)) (digest : List �
 is_written m h w digest named is = record {
   next = record { digest = digest; tops = is; named = named };
   shows = record { digest = digest; top = refl; stands = named.stands; texts = named.texts };
-  recorded = ap top_of is ∙ top_last (tops_of h.stores) digest;
+  recorded = ap top_of is ∙ last_top (tops_of h.stores) digest;
 }
 
 -- the write was refused

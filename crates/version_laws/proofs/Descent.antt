@@ -136,7 +136,8 @@ module _ (o : Objects) (x : ℕ) (k : List ℕ) (u : ℕ) (may : MayPropose o x 
 
 -- ## All steps
 
-put_stays : (f : ℕ → Bool) (x v : ℕ) → f v ≡ true → put f x true v ≡ true
+-- a set that gains a member keeps the others
+pub put_stays : (f : ℕ → Bool) (x v : ℕ) → f v ≡ true → put f x true v ≡ true
 put_stays f x v h = grind (arith, nat_tests)
 
 pub record Whole (o : Objects) : Type 0 where

@@ -4,7 +4,7 @@ use Rattle.ens_base.proofs.Lists.{bytes_same}
 use Rattle.std.proofs.lemmas.Bool.Decides.{nat_tests}
 use lib.Pointwise.{bytes_decides}
 use Rattle.ens_base.specs.Lists.{same_bytes}
-use Rattle.abstract_protocol.specs.Ledger.{put}
+use Rattle.abstract_protocol.specs.Ledger.{put, mark}
 use Rattle.abstract_protocol.specs.Objects.{Map, epoch_of, set_entry}
 
 pub epoch_mono : (u v : ℕ) → u ≤ v → epoch_of u ≤ epoch_of v
@@ -56,3 +56,6 @@ put_then f x a P here old y = by_cases (eqb x y) refl
       where
         differ : (y : ℕ) → eqb x y ≡ false → x ≡ y → ⊥
         differ y t e = grind (arith, nat_tests)
+
+pub mark_here : (r : ℕ → ℕ → Bool) (d p : ℕ) → mark r d p d p ≡ true
+mark_here r d p = grind (arith, nat_tests)

@@ -18,7 +18,7 @@ use Rattle.abstract_protocol.specs.Protocol.{Step, Begin, Ask, Raise, Elect, Acc
 
 -- ## Genuine maps
 
-genuine_higher : (o : Objects) (d e : ℕ) (k : List ℕ) (v : ℕ) → d ≤ e → IsGenuine o d k v → IsGenuine o e k v
+pub genuine_higher : (o : Objects) (d e : ℕ) (k : List ℕ) (v : ℕ) → d ≤ e → IsGenuine o d k v → IsGenuine o e k v
 genuine_higher o d e k v l (inl z) = inl z
 genuine_higher o d e k v l (inr g) = inr (g.0, g.1, le_trans g.2 l)
 

@@ -1,5 +1,5 @@
 -- Where the old view of an epoch's list comes from.
-use Rattle.std.proofs.Common.{◌≡◌, ℕ, ◌<◌, ◌≤◌, true, ◌⊎◌, List, [], ◌∷◌, length, arith, refl, inl, inr}
+use Rattle.std.proofs.Common.{◌≡◌, ℕ, ◌<◌, true, ◌⊎◌, List, [], ◌∷◌, length, arith, refl, inl, inr}
 use Rattle.std.proofs.lemmas.Bool.{cases_order}
 use Rattle.ens_base.specs.Lists.{◌∈◌}
 use Rattle.ens_base.specs.Views.{last_view}
@@ -7,10 +7,6 @@ use Rattle.election_laws.proofs.Sound.{Sound}
 use Rattle.election_laws.proofs.Epochs.{strong, not_both, not_empty, lists}
 use Rattle.abstract_protocol.specs.Ledger.{Change, Add, Drop, Ledger, changed_views, is_established}
 use Rattle.election_laws.specs.Elections.{IsOpen, IsLastOpen, Follows}
-
--- at most two views
-abbrev pub IsShort : List (List ℕ) → Type 0
-IsShort vs = length vs ≤ 2
 
 -- a change leaves the last view as it was, except that Drop leaves the first of two
 last_after : (c : Change) (vs : List (List ℕ)) → (last_view (changed_views c vs) ≡ last_view vs) ⊎ ((u : List ℕ) × (v : List ℕ) × (vs ≡ u ∷ v ∷ []) × (last_view (changed_views c vs) ≡ u))

@@ -31,9 +31,6 @@ at_either P a b p r q h = by_cases (eqb q a) (eqb q b) refl refl h
     by_cases false true e f t = subst P (sym (eqb-true q b f)) r
     by_cases false false e f t = absurd (false≢true t)
 
-only_opening : (a : ℕ) → (a == 0) ≡ true → a ≤ 0
-only_opening a h = grind (arith, nat_tests)
-
 below_one : (a : ℕ) → a < 1 → a ≤ 0
 below_one a h = omega arith
 

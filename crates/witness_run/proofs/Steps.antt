@@ -1,7 +1,7 @@
 -- A run of the abstract protocol, step by step: peer 1 leads, writes, and is read; the view changes
 -- to peer 2, which syncs, and back to peer 1, which syncs; a rewrite is read, and a dead version
 -- comes back as a parent.
-use Rattle.std.proofs.Common.{◌≡◌, ◌≤◌, sym, List, [], ◌∷◌, refl, inl, inr, lit<, lit≤, None, Some, arith}
+use Rattle.std.proofs.Common.{◌≡◌, ◌≤◌, sym, List, [], ◌∷◌, refl, inl, inr, lit<, lit≤, None, Some, arith, le_refl}
 use Rattle.std.proofs.lemmas.Bool.{false≢true}
 use Rattle.ens_base.specs.declared.command.Command.TheVariants.{Get, Over}
 use Rattle.ens_base.specs.declared.reply.Reply.TheVariants as Reply
@@ -13,7 +13,7 @@ use Rattle.abstract_protocol.specs.Book.{version_of}
 use Rattle.abstract_protocol.specs.Protocol.{Step, Ask, Raise, Elect, Accept, Commit, Adopt, Write, Acknowledge, Install, EndSync, Propose, Settle, Note, Answer, MayCome, IsRun, state_after}
 use Rattle.version_laws.proofs.Maps.{entry_then}
 use Rattle.witness_run.specs.Shown.{ShowsAll}
-use Rattle.witness_run.proofs.Words.{opening_view, first_key, other_key, written, lost, rewritten, found, bytes, others, one, two, both, at_one, at_two, at_both, le_itself, not_member, none_yet, one_yet, two_yet, three_yet, four_yet, keys_differ, some_differs, none_differs}
+use Rattle.witness_run.proofs.Words.{opening_view, first_key, other_key, written, lost, rewritten, found, bytes, others, one, two, both, at_one, at_two, at_both, not_member, none_yet, one_yet, two_yet, three_yet, four_yet, keys_differ, some_differs, none_differs}
 
 abbrev first_call : Call
 first_call = record { id = 1; key = first_key; command = Over (97 ∷ []); event = 1 }
@@ -261,7 +261,7 @@ steps_23 = Install 2 2 ((state_after opening_view steps_22).objects.map 1) ∷ s
 
 may_23 : MayCome (state_after opening_view steps_22) (Install 2 2 ((state_after opening_view steps_22).objects.map 1))
 unfolding epoch_of
-may_23 = (record { elected = refl; stands = refl; newer = lit< tt; synced = record { sources = one; majority = refl; reached = at_one (λ q. 2 ≤ (state_after opening_view steps_22).objects.ledger.ballot q) (lit≤ tt); given = λ q k. at_one (λ q. (state_after opening_view steps_22).objects.floor q 2 k ≤ (state_after opening_view steps_22).objects.map 1 k) (le_itself ((state_after opening_view steps_22).objects.map 1 k)) q }; genuine = entry_then (set_entry (λ k. 0) first_key written) other_key lost (IsGenuine (state_after opening_view steps_22).objects 2) (inr (refl, refl, lit≤ tt)) (entry_then (λ k. 0) first_key written (IsGenuine (state_after opening_view steps_22).objects 2) (inr (refl, refl, lit≤ tt)) (λ k. inl refl)) }, tt)
+may_23 = (record { elected = refl; stands = refl; newer = lit< tt; synced = record { sources = one; majority = refl; reached = at_one (λ q. 2 ≤ (state_after opening_view steps_22).objects.ledger.ballot q) (lit≤ tt); given = λ q k. at_one (λ q. (state_after opening_view steps_22).objects.floor q 2 k ≤ (state_after opening_view steps_22).objects.map 1 k) (le_refl ((state_after opening_view steps_22).objects.map 1 k)) q }; genuine = entry_then (set_entry (λ k. 0) first_key written) other_key lost (IsGenuine (state_after opening_view steps_22).objects 2) (inr (refl, refl, lit≤ tt)) (entry_then (λ k. 0) first_key written (IsGenuine (state_after opening_view steps_22).objects 2) (inr (refl, refl, lit≤ tt)) (λ k. inl refl)) }, tt)
 
 run_23 : IsRun opening_view steps_23
 run_23 = (run_22, may_23)
@@ -271,7 +271,7 @@ steps_24 = EndSync 2 2 ∷ steps_23
 
 may_24 : MayCome (state_after opening_view steps_23) (EndSync 2 2)
 unfolding epoch_of
-may_24 = ((record { elected = refl; stands = refl; newer = lit< tt }, record { honest = λ k. refl; synced = record { sources = one; majority = refl; reached = at_one (λ q. 2 ≤ (state_after opening_view steps_23).objects.ledger.ballot q) (lit≤ tt); given = λ q k. at_one (λ q. (state_after opening_view steps_23).objects.floor q 2 k ≤ (state_after opening_view steps_23).objects.map 2 k) (le_itself ((state_after opening_view steps_23).objects.map 2 k)) q } }), tt)
+may_24 = ((record { elected = refl; stands = refl; newer = lit< tt }, record { honest = λ k. refl; synced = record { sources = one; majority = refl; reached = at_one (λ q. 2 ≤ (state_after opening_view steps_23).objects.ledger.ballot q) (lit≤ tt); given = λ q k. at_one (λ q. (state_after opening_view steps_23).objects.floor q 2 k ≤ (state_after opening_view steps_23).objects.map 2 k) (le_refl ((state_after opening_view steps_23).objects.map 2 k)) q } }), tt)
 
 run_24 : IsRun opening_view steps_24
 run_24 = (run_23, may_24)
@@ -561,7 +561,7 @@ steps_53 = Install 1 4 ((state_after opening_view steps_52).objects.map 2) ∷ s
 
 may_53 : MayCome (state_after opening_view steps_52) (Install 1 4 ((state_after opening_view steps_52).objects.map 2))
 unfolding epoch_of
-may_53 = (record { elected = refl; stands = refl; newer = lit< tt; synced = record { sources = two; majority = refl; reached = at_two (λ q. 4 ≤ (state_after opening_view steps_52).objects.ledger.ballot q) (lit≤ tt); given = λ q k. at_two (λ q. (state_after opening_view steps_52).objects.floor q 4 k ≤ (state_after opening_view steps_52).objects.map 2 k) (le_itself ((state_after opening_view steps_52).objects.map 2 k)) q }; genuine = entry_then (set_entry (set_entry (set_entry (λ k. 0) first_key written) other_key lost) first_key rewritten) other_key found (IsGenuine (state_after opening_view steps_52).objects 4) (inr (refl, refl, lit≤ tt)) (entry_then (set_entry (set_entry (λ k. 0) first_key written) other_key lost) first_key rewritten (IsGenuine (state_after opening_view steps_52).objects 4) (inr (refl, refl, lit≤ tt)) (entry_then (set_entry (λ k. 0) first_key written) other_key lost (IsGenuine (state_after opening_view steps_52).objects 4) (inr (refl, refl, lit≤ tt)) (entry_then (λ k. 0) first_key written (IsGenuine (state_after opening_view steps_52).objects 4) (inr (refl, refl, lit≤ tt)) (λ k. inl refl)))) }, tt)
+may_53 = (record { elected = refl; stands = refl; newer = lit< tt; synced = record { sources = two; majority = refl; reached = at_two (λ q. 4 ≤ (state_after opening_view steps_52).objects.ledger.ballot q) (lit≤ tt); given = λ q k. at_two (λ q. (state_after opening_view steps_52).objects.floor q 4 k ≤ (state_after opening_view steps_52).objects.map 2 k) (le_refl ((state_after opening_view steps_52).objects.map 2 k)) q }; genuine = entry_then (set_entry (set_entry (set_entry (λ k. 0) first_key written) other_key lost) first_key rewritten) other_key found (IsGenuine (state_after opening_view steps_52).objects 4) (inr (refl, refl, lit≤ tt)) (entry_then (set_entry (set_entry (λ k. 0) first_key written) other_key lost) first_key rewritten (IsGenuine (state_after opening_view steps_52).objects 4) (inr (refl, refl, lit≤ tt)) (entry_then (set_entry (λ k. 0) first_key written) other_key lost (IsGenuine (state_after opening_view steps_52).objects 4) (inr (refl, refl, lit≤ tt)) (entry_then (λ k. 0) first_key written (IsGenuine (state_after opening_view steps_52).objects 4) (inr (refl, refl, lit≤ tt)) (λ k. inl refl)))) }, tt)
 
 run_53 : IsRun opening_view steps_53
 run_53 = (run_52, may_53)
@@ -571,7 +571,7 @@ steps_54 = EndSync 1 4 ∷ steps_53
 
 may_54 : MayCome (state_after opening_view steps_53) (EndSync 1 4)
 unfolding epoch_of
-may_54 = ((record { elected = refl; stands = refl; newer = lit< tt }, record { honest = λ k. refl; synced = record { sources = two; majority = refl; reached = at_two (λ q. 4 ≤ (state_after opening_view steps_53).objects.ledger.ballot q) (lit≤ tt); given = λ q k. at_two (λ q. (state_after opening_view steps_53).objects.floor q 4 k ≤ (state_after opening_view steps_53).objects.map 1 k) (le_itself ((state_after opening_view steps_53).objects.map 1 k)) q } }), tt)
+may_54 = ((record { elected = refl; stands = refl; newer = lit< tt }, record { honest = λ k. refl; synced = record { sources = two; majority = refl; reached = at_two (λ q. 4 ≤ (state_after opening_view steps_53).objects.ledger.ballot q) (lit≤ tt); given = λ q k. at_two (λ q. (state_after opening_view steps_53).objects.floor q 4 k ≤ (state_after opening_view steps_53).objects.map 1 k) (le_refl ((state_after opening_view steps_53).objects.map 1 k)) q } }), tt)
 
 run_54 : IsRun opening_view steps_54
 run_54 = (run_53, may_54)

@@ -58,12 +58,6 @@ at_both P a b q h = by_cases (eqb q 1) (eqb q 2) refl refl h
     by_cases false true e f t = subst P (sym (eqb-true q 2 f)) b
     by_cases false false e f t = absurd (false≢true t)
 
-pub le_itself : (n : ℕ) → n ≤ n
-le_itself n = omega arith
-
-pub zero_least : (n : ℕ) → 0 ≤ n
-zero_least n = omega arith
-
 pub not_member : (x y : ℕ) → eqb x y ≡ false → (x ≡ y) ⊎ ⊥ → ⊥
 not_member x y n (inl e) = eqb-false x y n e
 not_member x y n (inr e) = e
