@@ -7,7 +7,6 @@ use Rattle.ens_base.specs.Lists.{◌∈◌, AreDistinct}
 use Rattle.ens_base.specs.declared.reply.Reply.{Reply}
 use Rattle.register_model.specs.Histories.{IsDone, MayHave}
 use Rattle.register_model.specs.declared.answer.Answer.{Answer}
-use Rattle.register_model.specs.declared.call.Call.{Call}
 use Rattle.register_runs.specs.Places.{ArePlaces}
 use Rattle.ens_base.proofs.Lists.{in-map, in_append}
 
@@ -64,19 +63,19 @@ module _ (find next : ℕ → Option ℕ) (ids : List ℕ) (n d : ℕ) (lt : n <
   pub so_far_next : SoFar next ids (n + 1)
   so_far_next = record { found = λ id place e. found_next id place (nat_eq (get_or ids n d) id) refl e; missing = λ id e. missing_next id (nat_eq (get_or ids n d) id) refl e }
 
--- ## A call by its id
+-- ## An item by its name
 
-module _ (calls : List Call) (find : ℕ → Option ℕ) (id : ℕ) (places : ArePlaces find (map (λ c. c.id) calls)) where
-  pub no_call : None ≡ find id → (c : Call) → c ∈ calls → c.id ≢ id
-  no_call none c there e = places.missing id (sym none) (let P : ℕ → Type 0 = λ n. n ∈ map (λ d. d.id) calls in subst P e (in-map (λ d. d.id) calls c there))
+module _ {A : Type 0} (name : A → ℕ) (items : List A) (find : ℕ → Option ℕ) (id : ℕ) (places : ArePlaces find (map name items)) where
+  pub no_item : None ≡ find id → (x : A) → x ∈ items → name x ≢ id
+  no_item none x there e = places.missing id (sym none) (let P : ℕ → Type 0 = λ n. n ∈ map name items in subst P e (in-map name items x there))
 
-  pub call_found : (place : ℕ) (o : Option (Bor Call)) → Some place ≡ find id → IfSome o (λ x. x.now ≡ get_or calls place x.now) → IfSome o (λ c. (c.now ∈ calls) × (c.now.id ≡ id))
-  call_found place None at got = tt
-  call_found place (Some c) at got = at_name (λ d. d.id) calls place id c.now (places.found id place (sym at)) got
+  pub item_found : (place : ℕ) (o : Option (Bor A)) → Some place ≡ find id → IfSome o (λ x. x.now ≡ get_or items place x.now) → IfSome o (λ x. (x.now ∈ items) × (name x.now ≡ id))
+  item_found place None at got = tt
+  item_found place (Some x) at got = at_name name items place id x.now (places.found id place (sym at)) got
 
-  pub call_there : (place : ℕ) (o : Option (Bor Call)) → Some place ≡ find id → is_some o ≡ ltb place (length calls) → IfNone o ((c : Call) → c ∈ calls → c.id ≢ id)
-  call_there place None at got = absurd (no_place (λ d. d.id) calls place id (places.found id place (sym at)) (ltb-false place (length calls) (sym got)))
-  call_there place (Some c) at got = tt
+  pub item_there : (place : ℕ) (o : Option (Bor A)) → Some place ≡ find id → is_some o ≡ ltb place (length items) → IfNone o ((x : A) → x ∈ items → name x ≢ id)
+  item_there place None at got = absurd (no_place name items place id (places.found id place (sym at)) (ltb-false place (length items) (sym got)))
+  item_there place (Some x) at got = tt
 
 -- ## The reply of an answer, by the id of its call
 

@@ -1,9 +1,9 @@
 -- The walk decides whether the order is a run.
-use Rattle.std.proofs.Common.{◌≡◌, ◌≢◌, ℕ, ◌+◌, ◌<◌, ◌≤◌, Bool, true, false, List, [], ◌∷◌, ◌++◌, length, get_or, drop, map, Option, None, Some, Bor, inl, inr, refl, sym, ap, subst, ◌∙◌, arith}
+use Rattle.std.proofs.Common.{◌≡◌, ◌≢◌, ℕ, ◌+◌, ◌<◌, ◌≤◌, Bool, true, false, List, [], ◌∷◌, ◌++◌, length, get_or, take, drop, map, Option, None, Some, Bor, inl, inr, refl, sym, ap, subst, ◌∙◌, arith}
 use Rattle.ens_base.proofs.Lists.{in_left, in_right}
-use Rattle.std.specs.Prelude.{IfSome, IfNone, MatchOption, ◌↔◌, ◌==◌, not, IsTrue}
-use Rattle.std.proofs.lemmas.Bool.{false≢true, true≢false, not-true, not_from_false, eq-eqb, ne_eqb}
-use Rattle.std.proofs.lemmas.List.{drop_more, drop_all}
+use Rattle.std.specs.Prelude.{IfSome, IfNone, MatchOption, ◌↔◌, ◌==◌, IsTrue}
+use Rattle.std.proofs.lemmas.Bool.{false≢true, true≢false, eq-eqb, ne_eqb}
+use Rattle.std.proofs.lemmas.List.{take_more, take_all, append_assoc, append-nil, take-append-drop}
 use Rattle.ens_base.specs.Lists.{◌∈◌, AreDistinct}
 use Rattle.ens_base.specs.declared.epoch.Version.{Version}
 use Rattle.ens_base.specs.declared.reply.Reply.{Reply}
@@ -16,6 +16,7 @@ use Rattle.register_model.specs.declared.register.Register.TheVariants as regist
 use Rattle.register_model.specs.declared.register.Register.TheVariants.{Present}
 use Rattle.register_runs.specs.Guesses.{silent, answered, all_silent, all_answered, learned}
 use Rattle.register_runs.specs.Meanings.{OfSome, Goes, IsTaken, AreTaken}
+use Rattle.register_runs.specs.Fronts.{StopsAt}
 use Rattle.register_runs.specs.Walks.{PassesSilent, PassesAnswered}
 use Rattle.register_runs.specs.declared.guess.Guess.{Guess}
 use Rattle.register_runs.specs.declared.guess.Guess.TheVariants.{Absent, Told, Untold}
@@ -37,9 +38,20 @@ map_some Q R f S Absent h = f S register.Absent h
 map_some Q R f S (Told s b) h = f S (Present s b) h
 map_some Q R f S (Untold b E) h = (h.0, h.1, h.2, f (h.0 ∷ S) (Present h.0 b) h.3)
 
--- the walk passed the first n calls of the order
+-- an order that is a run begins with runs
+runs_front : (calls : List Call) (answers : List Answer) (xs ys : List ℕ) (stamps : List Version) (old : Register) → RunsFrom calls answers stamps old (xs ++ ys) → RunsFrom calls answers stamps old xs
+runs_front calls answers [] ys stamps old h = tt
+runs_front calls answers (id ∷ xs) ys stamps old h = (h.0, h.1, h.2, h.3, h.4, h.5, h.6, runs_front calls answers xs ys _ h.2 h.7)
+
+-- the walk passed the first n calls of the order, which are a run
 pub record HasGone (calls : List Call) (answers : List Answer) (order : List ℕ) (walk : Walk) (n : ℕ) : Type 0 where
-  pub same : IsRun calls answers order ↔ Goes calls answers walk.known walk.possible.items (drop n order)
+  pub same : (rest : List ℕ) → IsRun calls answers (take n order ++ rest) ↔ Goes calls answers walk.known walk.possible.items rest
+  pub taken : AreTaken walk.known walk.possible.items
+  pub run : IsRun calls answers (take n order)
+
+-- the walk passed one call more, with which the order may stop
+pub record HasBegun (calls : List Call) (answers : List Answer) (order : List ℕ) (walk : Walk) (n : ℕ) : Type 0 where
+  pub same : (rest : List ℕ) → IsRun calls answers (take (n + 1) order ++ rest) ↔ Goes calls answers walk.known walk.possible.items rest
   pub taken : AreTaken walk.known walk.possible.items
 
 module _ (calls : List Call) (answers : List Answer) where
@@ -128,30 +140,36 @@ module _ (calls : List Call) (answers : List Answer) where
       taken_by (learned old.known call.command r.now) new.known (all_answered old.known call.command r.now old.possible.items) new.possible.items passes.0 passes.1 (all_answered_taken old.known call.command r.now old.possible.items taken),
     )
 
-    pub gone_next : (n d : ℕ) (call : Call) → n < length order → call ∈ calls → call.id ≡ get_or order n d → (o : Option (Bor Reply)) → IfSome o (λ r. (reply : Reply) → MayHave answers (get_or order n d) reply ↔ (reply ≡ r.now)) → IfNone o ((reply : Reply) → MayHave answers (get_or order n d) reply) → (old new : Walk) → MatchOption o (PassesSilent old call.command new) (λ r. PassesAnswered old call.command r.now new) → HasGone calls answers order old n → HasGone calls answers order new (n + 1)
-    gone_next n d call lt there named o some none old new passes gone =
-        let goes = over (get_or order n d) call there named o some none old new passes gone.taken (drop (n + 1) order) in
-        let Q : List ℕ → Type 0 = λ l. Goes calls answers old.known old.possible.items l in
-        let next = drop_more order n d lt in
-        record { same = (λ run. goes.0.0 (subst Q next (gone.same.0 run)), λ h. gone.same.1 (subst Q (sym next) (goes.0.1 h))); taken = goes.1 }
+    at_next : (n d : ℕ) → n < length order → (rest : List ℕ) → take (n + 1) order ++ rest ≡ take n order ++ (get_or order n d ∷ rest)
+    at_next n d lt rest = ap (λ (l : List ℕ). l ++ rest) (take_more order n d lt) ∙ append_assoc (take n order) (get_or order n d ∷ []) rest
+
+    pub gone_next : (n d : ℕ) (call : Call) → n < length order → call ∈ calls → call.id ≡ get_or order n d → (o : Option (Bor Reply)) → IfSome o (λ r. (reply : Reply) → MayHave answers (get_or order n d) reply ↔ (reply ≡ r.now)) → IfNone o ((reply : Reply) → MayHave answers (get_or order n d) reply) → (old new : Walk) → MatchOption o (PassesSilent old call.command new) (λ r. PassesAnswered old call.command r.now new) → HasGone calls answers order old n → HasBegun calls answers order new n
+    gone_next n d call lt there named o some none old new passes gone = record { same = same; taken = (over (get_or order n d) call there named o some none old new passes gone.taken []).1 }
+      where
+        same : (rest : List ℕ) → IsRun calls answers (take (n + 1) order ++ rest) ↔ Goes calls answers new.known new.possible.items rest
+        same rest =
+            let goes = over (get_or order n d) call there named o some none old new passes gone.taken rest in
+            let Q : List ℕ → Type 0 = λ l. IsRun calls answers l in
+            (λ run. goes.0.0 ((gone.same (get_or order n d ∷ rest)).0 (subst Q (at_next n d lt rest) run)), λ h. subst Q (sym (at_next n d lt rest)) ((gone.same (get_or order n d ∷ rest)).1 (goes.0.1 h)))
 
     pub gone_first : (walk : Walk) → walk.known ≡ [] → walk.possible.items ≡ record { held = Absent; named = [] } ∷ [] → HasGone calls answers order walk 0
     gone_first walk known first = record {
-      same = (
-        λ run. carried [] walk.known (begin ∷ []) walk.possible.items order known first (begin, inl refl, run),
-        λ h. only (carried walk.known [] walk.possible.items (begin ∷ []) order (sym known) (sym first) h),
+      same = λ rest. (
+        λ run. carried [] walk.known (begin ∷ []) walk.possible.items rest known first (begin, inl refl, run),
+        λ h. only rest (carried walk.known [] walk.possible.items (begin ∷ []) rest (sym known) (sym first) h),
       );
       taken = taken_by [] walk.known (begin ∷ []) walk.possible.items known first none_told;
+      run = tt;
     }
       where
         begin : Possible
         begin = record { held = Absent; named = [] }
 
-        only : Goes calls answers [] (begin ∷ []) order → IsRun calls answers order
-        only h = by h.0 h.1 h.2
+        only : (rest : List ℕ) → Goes calls answers [] (begin ∷ []) rest → IsRun calls answers rest
+        only rest h = by h.0 h.1 h.2
           where
-            by : (p : Possible) → p ∈ (begin ∷ []) → OfSome (Future order) (p.named ++ []) p.held → IsRun calls answers order
-            by p (inl e) g = let Q : Possible → Type 0 = λ q. OfSome (Future order) (q.named ++ []) q.held in subst Q e g
+            by : (p : Possible) → p ∈ (begin ∷ []) → OfSome (Future rest) (p.named ++ []) p.held → IsRun calls answers rest
+            by p (inl e) g = let Q : Possible → Type 0 = λ q. OfSome (Future rest) (q.named ++ []) q.held in subst Q e g
             by p (inr no_more) g = absurd no_more
 
         none_told : AreTaken [] (begin ∷ [])
@@ -163,11 +181,16 @@ module _ (calls : List Call) (answers : List Answer) where
     no_run id none rest S (Told s b) h = none h.0 h.3 h.4
     no_run id none rest S (Untold b E) h = none h.3.0 h.3.3 h.3.4
 
-    pub gone_astray : (n d : ℕ) → n < length order → ((c : Call) → c ∈ calls → c.id ≢ get_or order n d) → (walk : Walk) → HasGone calls answers order walk n → ¬ (IsRun calls answers order)
-    gone_astray n d lt none walk gone run =
-        let Q : List ℕ → Type 0 = λ l. Goes calls answers walk.known walk.possible.items l in
-        let h = subst Q (drop_more order n d lt) (gone.same.0 run) in
-        no_run (get_or order n d) none (drop (n + 1) order) (h.0.named ++ walk.known) h.0.held h.2
+    -- no call has the next id
+    pub gone_astray : (n d : ℕ) → n < length order → ((c : Call) → c ∈ calls → c.id ≢ get_or order n d) → (walk : Walk) → HasGone calls answers order walk n → StopsAt calls answers order n
+    gone_astray n d lt none walk gone = record {
+      within = lt;
+      before = gone.run;
+      stops = λ run.
+          let Q : List ℕ → Type 0 = λ l. IsRun calls answers l in
+          let h = (gone.same (get_or order n d ∷ [])).0 (subst Q (take_more order n d lt) run) in
+          no_run (get_or order n d) none [] (h.0.named ++ walk.known) h.0.held h.2;
+    }
 
     at_end : (S : List Version) (held : Guess) → OfSome (Future []) S held
     at_end S Absent = tt
@@ -182,21 +205,37 @@ module _ (calls : List Call) (answers : List Answer) where
     has_one K [] h e = h.1
     has_one K (p ∷ list) h e = let bad : p ∷ list ≡ [] = e in absurd cc
 
-    pub gone_to_end : (n : ℕ) → length order ≤ n → (walk : Walk) → HasGone calls answers order walk n → (empty : Bool) (len : ℕ) → len ≡ length walk.possible.items → empty ≡ (len == 0) → IsTrue (not empty) ↔ IsRun calls answers order
-    gone_to_end n end walk gone empty len counted is = by walk.possible.items refl
-      where
-        by : (list : List Possible) → walk.possible.items ≡ list → IsTrue (not empty) ↔ IsRun calls answers order
-        by [] e =
-            let none : length walk.possible.items ≡ 0 = ap (λ (l : List Possible). length l) e in
-            let zero : len ≡ 0 = counted ∙ none in
-            let full : empty ≡ true = is ∙ eq-eqb len 0 zero in (
-              λ yes. absurd (true≢false (sym full ∙ not-true empty yes)),
-              λ run. absurd (has_one walk.known walk.possible.items (let Q : List ℕ → Type 0 = λ l. Goes calls answers walk.known walk.possible.items l in subst Q (drop_all n order end) (gone.same.0 run)) e),
-            )
-        by (p ∷ list) e =
-            let some : walk.possible.items ≢ [] = λ none. (let bad : p ∷ list ≡ [] = sym e ∙ none in absurd cc) in
-            let many : length walk.possible.items ≡ length (p ∷ list) = ap (λ (l : List Possible). length l) e in
-            let apart : len ≢ 0 = λ zero. (let count : length (p ∷ list) ≡ 0 = sym many ∙ sym counted ∙ zero in omega arith) in (
-              λ yes. gone.same.1 (let Q : List ℕ → Type 0 = λ l. Goes calls answers walk.known walk.possible.items l in subst Q (sym (drop_all n order end)) (not_empty walk.known walk.possible.items some)),
-              λ run. not_from_false empty (is ∙ ne_eqb len 0 apart),
-            )
+    pub is_empty : (list : List Possible) (empty : Bool) (len : ℕ) → len ≡ length list → empty ≡ (len == 0) → empty ≡ true → list ≡ []
+    is_empty [] empty len counted is full = refl
+    is_empty (p ∷ list) empty len counted is full =
+        let apart : len ≢ 0 = λ zero. (let count : length (p ∷ list) ≡ 0 = sym counted ∙ zero in omega arith) in
+        absurd (false≢true (sym (is ∙ ne_eqb len 0 apart) ∙ full))
+
+    pub is_not_empty : (list : List Possible) (empty : Bool) (len : ℕ) → len ≡ length list → empty ≡ (len == 0) → empty ≡ false → list ≢ []
+    is_not_empty [] empty len counted is some e = absurd (true≢false (sym (is ∙ eq-eqb len 0 counted) ∙ some))
+    is_not_empty (p ∷ list) empty len counted is some e = let bad : p ∷ list ≡ [] = e in absurd cc
+
+    -- the calls passed are no run
+    pub gone_stops : (n : ℕ) → n < length order → (old new : Walk) → HasGone calls answers order old n → HasBegun calls answers order new n → new.possible.items ≡ [] → StopsAt calls answers order n
+    gone_stops n lt old new gone begun none = record {
+      within = lt;
+      before = gone.run;
+      stops = λ run.
+          let Q : List ℕ → Type 0 = λ l. IsRun calls answers l in
+          has_one new.known new.possible.items ((begun.same []).0 (subst Q (sym (append-nil (take (n + 1) order))) run)) none;
+    }
+
+    -- the calls passed are a run
+    pub gone_on : (n : ℕ) → (new : Walk) → HasBegun calls answers order new n → new.possible.items ≢ [] → HasGone calls answers order new (n + 1)
+    gone_on n new begun some = record {
+      same = begun.same;
+      taken = begun.taken;
+      run = let Q : List ℕ → Type 0 = λ l. IsRun calls answers l in subst Q (append-nil (take (n + 1) order)) ((begun.same []).1 (not_empty new.known new.possible.items some));
+    }
+
+    pub gone_to_end : (n : ℕ) → length order ≤ n → (walk : Walk) → HasGone calls answers order walk n → IsRun calls answers order
+    gone_to_end n end walk gone = let Q : List ℕ → Type 0 = λ l. IsRun calls answers l in subst Q (take_all n order end) gone.run
+
+    -- an order that stops is no run
+    pub stops_no_run : (n : ℕ) → StopsAt calls answers order n → ¬ (IsRun calls answers order)
+    stops_no_run n stop run = let Q : List ℕ → Type 0 = λ l. IsRun calls answers l in stop.stops (runs_front calls answers (take (n + 1) order) (drop (n + 1) order) [] register.Absent (subst Q (sym (take-append-drop (n + 1) order)) run))

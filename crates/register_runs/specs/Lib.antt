@@ -3,3 +3,4 @@ pub mod Guesses
 pub mod Meanings
 pub mod Places
 pub mod Walks
+pub mod Fronts

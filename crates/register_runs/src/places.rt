@@ -3,6 +3,7 @@ ghost use Rattle.indexmap.specs.IndexMap.{get};
 ghost use Rattle.ens_base.specs.Lists.{◌∈◌, AreDistinct};
 ghost use Rattle.ens_base.specs.declared.reply.Reply.{Reply as AReply};
 ghost use Rattle.register_model.specs.Histories.{IsDone, MayHave};
+ghost use Rattle.register_model.specs.declared.answer.Answer.{Answer as AnAnswer};
 ghost use Rattle.register_model.specs.declared.call.Call.{Call as ACall};
 ghost use Rattle.register_runs.specs.Places.{ArePlaces};
 
@@ -66,6 +67,18 @@ pub fn call_of<'a>(calls: &'a [Call], places: &Places, id: u64) -> Option<&'a Ca
     match places.find(id) {
         None => None,
         Some(place) => calls.get(place),
+    }
+}
+
+/// Returns the answer to the call with this id.
+pub fn answer_of<'a>(answers: &'a [Answer], places: &Places, id: u64) -> Option<&'a Answer>
+    requires { ArePlaces (get nat_eq places.now.at) (map (λ a. a.id) answers.now) }
+    ensures found { IfSome result (λ a. (a.now ∈ answers.now) × (a.now.id ≡ id)) }
+    ensures none { IfNone result ((a : AnAnswer) → a ∈ answers.now → a.id ≢ id) }
+{
+    match places.find(id) {
+        None => None,
+        Some(place) => answers.get(place),
     }
 }
 
