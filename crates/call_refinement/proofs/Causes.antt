@@ -25,7 +25,7 @@ use Rattle.entry_laws.proofs.Replies.{run_entries}
 use Rattle.safety_laws.proofs.Noted.{ProposedHolds, ReadHolds, Listed, run_listed}
 use Rattle.schedule_text.specs.declared.event.ScheduleEvent.{ScheduleEvent}
 use Rattle.world_spec.specs.Runs.{Run}
-use Rattle.call_refinement.proofs.Counting.{end_distinct}
+use Rattle.step_refinement.proofs.DistinctItems.{end_distinct}
 use Rattle.call_refinement.specs.Causes.{IsWritten, IsRead, IsUntouched, HasCause, HaveCauses}
 use Rattle.call_refinement.specs.Lines.{calls_from, answers_in, BookAgrees}
 

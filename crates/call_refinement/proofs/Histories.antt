@@ -10,7 +10,7 @@ use Rattle.register_model.specs.Orders.{order}
 use Rattle.safety_laws.proofs.Legal.{run_legal}
 use Rattle.schedule_text.specs.declared.event.ScheduleEvent.{ScheduleEvent}
 use Rattle.world_spec.specs.Runs.{Run}
-use Rattle.call_refinement.proofs.Legal.{legal_same}
+use Rattle.call_refinement.proofs.LegalHistories.{legal_same}
 use Rattle.call_refinement.specs.Lines.{calls_from, answers_in, AreLegal, BookAgrees}
 
 -- an item of a list of images is an image

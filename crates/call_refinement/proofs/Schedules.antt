@@ -30,11 +30,11 @@ use Rattle.world_spec.specs.Nodes.{Node, Taken, taken, started, hashed_by_start,
 use Rattle.world_spec.specs.Runs.{Run, opening_run, place_of, with_taken, stepped, stepped_at, changed, changed_at, start_strings, hashing, with_start, ticked, received_if, delivered, delivered_if, going_on, calmed}
 use Rattle.world_spec.specs.Stores.{failing, leaves_of, spoiled, segment_spoiled, inner_spoiled, taken_back}
 use Rattle.call_refinement.specs.Lines.{lines_of, AreLegal, call_at, calls_from, BookAgrees, Within, Opens, StepAgrees, IsQuiet}
-use Rattle.call_refinement.proofs.Altering.{SparesRecords, failing_spares, spoiled_spares, segment_spares, inner_spares}
+use Rattle.call_refinement.proofs.ChangedStores.{SparesRecords, failing_spares, spoiled_spares, segment_spares, inner_spares}
 use Rattle.call_refinement.proofs.Histories.{histories_are_legal_of}
-use Rattle.call_refinement.proofs.Intact.{IsIntact, IsHarmless, stopped_harmless, over_harmless, while_down_harmless, is_peer, frame_comes, taken_intact, changed_intact, started_intact, alike_intact, opening_intact}
-use Rattle.call_refinement.proofs.Lines.{begin_opens, ask_opens, opening_agrees, line_begins, taken_within, line_ends, alike_agrees, quiet_agrees}
-use Rattle.call_refinement.proofs.Places.{frame_at}
+use Rattle.call_refinement.proofs.WorldGrammar.{IsIntact, IsHarmless, stopped_harmless, over_harmless, while_down_harmless, is_peer, frame_comes, taken_intact, changed_intact, started_intact, alike_intact, opening_intact}
+use Rattle.call_refinement.proofs.BookSteps.{begin_opens, ask_opens, opening_agrees, line_begins, taken_within, line_ends, alike_agrees, quiet_agrees}
+use Rattle.call_refinement.proofs.ChangedNodes.{frame_at}
 
 -- ## What is asked of the steps of peers
 

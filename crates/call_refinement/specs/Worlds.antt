@@ -20,7 +20,7 @@ use Rattle.version_laws.specs.Versions.{VersionsAreSafe}
 use Rattle.wire_frames.specs.declared.frame.Frame.{Frame}
 use Rattle.world_spec.specs.Nodes.{Node, Up, Down}
 use Rattle.world_spec.specs.Runs.{Run}
-use Rattle.call_refinement.specs.Peers.{TreeHolds, DownHolds, AcksSay, AsksFit, EpochsFit, PhaseFits, IsAtRest, FrameFits}
+use Rattle.step_refinement.specs.Peers.{TreeHolds, DownHolds, AcksSay, AsksFit, EpochsFit, PhaseFits, IsAtRest, FrameFits}
 use Rattle.call_refinement.specs.Roles.{roles_of, said_in}
 
 -- ## Peers

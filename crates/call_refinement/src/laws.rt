@@ -10,7 +10,7 @@ ghost use Rattle.schedule_text.specs.declared.event.ScheduleEvent.{ScheduleEvent
 ghost use Rattle.sync_laws.specs.Facts.{AreFirm};
 ghost use Rattle.world_spec.specs.Lines.{run_of_schedule};
 ghost use Rattle.call_refinement.specs.Causes.{HaveCauses};
-ghost use Rattle.call_refinement.specs.Keys.{KeysAreCalled, KeysAreFew, IdsAreFew, CallsAreFew};
+ghost use Rattle.step_refinement.specs.Keys.{KeysAreCalled, KeysAreFew, IdsAreFew, CallsAreFew};
 ghost use Rattle.call_refinement.specs.Lines.{AreLegal, lines_of};
 ghost use Rattle.call_refinement.specs.Worlds.{HasRun};
 

@@ -16,20 +16,21 @@ use Rattle.peer_fact.specs.declared.fact.Fact.{Fact}
 use Rattle.phase_rows.specs.Orders.{is_below, is_same, may_accept}
 use Rattle.phase_rows.specs.Peers.{alone}
 use Rattle.phase_rows.specs.Rows.{silent, sends, saves, saves_and_sends, leaves_leading, at_ballot}
-use Rattle.version_laws.proofs.Maps.{put_here}
+use Rattle.version_laws.proofs.Maps.{put_here, mark_here}
 use Rattle.wire_frames.specs.declared.message.Message.TheVariants as messages
 use Rattle.wire_frames.specs.declared.phase.PhaseOut.{PhaseOut}
 use Rattle.wire_frames.specs.declared.phase.Then.{Then}
 use Rattle.wire_frames.specs.declared.phase.Then.TheVariants as thens
 use Rattle.election_refinement.proofs.Elections.{not_new}
 use Rattle.election_refinement.proofs.Keeps.{keeps_both, raise_keeps, accept_keeps, adopt_keeps, first_keeps, second_keeps}
-use Rattle.election_refinement.proofs.Numbers.{same_epochs, same_number, other_number, not_below_number}
+use Rattle.election_refinement.proofs.Numbers.{same_epochs, other_number, not_below_number}
 use Rattle.election_refinement.proofs.Quiet.{refuses}
 use Rattle.election_refinement.proofs.Reaching.{Course, reaches_safe, raise_reaches, adopt_reaches}
 use Rattle.election_refinement.proofs.Rows.{Fits, Goes, runs_on, unmoved, enters, enters_alone}
-use Rattle.election_refinement.proofs.Saving.{mark_here, may_raise, own_accepted, raised_fits, accepted_fits}
+use Rattle.election_refinement.proofs.Saving.{may_raise, own_accepted, raised_fits, accepted_fits}
 use Rattle.election_refinement.proofs.Tests.{by_test}
 use Rattle.election_refinement.specs.Refinement.{fact_place, IsFirst, IsSecond, IsAcceptance, PhaseHolds, may_wait}
+use Rattle.abstract_protocol.proofs.Ranks.{epoch_same}
 
 -- a peer that waits for a sync, and steps down if it led, follows
 waiting_holds : (l : Ledger) (p : ℕ) (fact : Fact) (phase : Phase) → PhaseHolds l p fact (stopped_leading (waiting_phase phase))
@@ -102,7 +103,7 @@ module _ {c : Course} {l : Ledger} {x : State} {stored : Option Fact} (h : Fits 
     -- at its own ballot it resumes the sync that runs, or begins one
     at_own : is_below x.fact.ballot new.epoch ≡ false → Does (leaves_leading (silent (if runs_sync x.sync then thens.Resume else thens.SyncOn new)))
     at_own not_below =
-        let promised = same_number new.epoch x.fact.ballot told.known.epoch h.peer.saved.known.ballot (at_most_twice (not_below_number x.fact.ballot new.epoch h.peer.saved.known.ballot told.known.epoch not_below) above) in
+        let promised = epoch_same new.epoch x.fact.ballot told.known.epoch h.peer.saved.known.ballot (at_most_twice (not_below_number x.fact.ballot new.epoch h.peer.saved.known.ballot told.known.epoch not_below) above) in
         by_test (λ (turn : Then). Does (leaves_leading (silent turn))) (runs_sync x.sync) thens.Resume (thens.SyncOn new)
         (λ runs. unmoved (enters h (stopped_leading (waiting_phase x.phase)) (waiting_holds l p x.fact x.phase) (runs_on l p x.fact (may_wait x.phase) (may_wait (stopped_leading (waiting_phase x.phase))) x.sync (waiting x.phase) h.peer.sync)) tt tt)
         (λ none. unmoved (enters_alone h (stopped_leading (waiting_phase x.phase)) (waiting_holds l p x.fact x.phase)) tt (record { first = told; promised = promised; newer = newer_fact; waits = waiting x.phase }))

@@ -26,7 +26,7 @@ use Rattle.peer_fact.specs.declared.fact.Fact.{Fact}
 use Rattle.phase_rows.specs.Orders.{is_joint}
 use Rattle.phase_rows.specs.Peers.{alone, others_of}
 use Rattle.phase_rows.specs.Rows.{silent, saves_and_sends}
-use Rattle.version_laws.proofs.Maps.{put_here}
+use Rattle.version_laws.proofs.Maps.{put_here, mark_here}
 use Rattle.view_change.specs.Changes.{may_change, row_24, same_view, second_fact}
 use Rattle.view_change.specs.Finishing.{may_end}
 use Rattle.ens_base.specs.Views.{first_view}
@@ -34,11 +34,12 @@ use Rattle.wire_frames.specs.declared.message.Message.TheVariants as messages
 use Rattle.wire_frames.specs.declared.phase.PhaseOut.{PhaseOut}
 use Rattle.wire_frames.specs.declared.phase.Then.{Then}
 use Rattle.wire_frames.specs.declared.phase.Then.TheVariants as thens
-use Rattle.election_refinement.proofs.Keeps.{Keeps, keeps_both, commit_keeps, adopt_keeps, started_keeps}
+use Rattle.election_refinement.proofs.Keeps.{keeps_both, commit_keeps, adopt_keeps, started_keeps}
+use Rattle.election_refinement.specs.Keeps.{Keeps}
 use Rattle.election_refinement.proofs.Numbers.{proposer_of-number}
 use Rattle.election_refinement.proofs.Reaching.{Course, Reaches, reaches_sound, commit_reaches, adopt_reaches}
 use Rattle.election_refinement.proofs.Rows.{Fits, Goes, none_runs, unmoved, quiet, follows, rests_in, names}
-use Rattle.election_refinement.proofs.Saving.{mark_here, own_accepted}
+use Rattle.election_refinement.proofs.Saving.{own_accepted}
 use Rattle.election_refinement.proofs.Sets.{alone_then}
 use Rattle.election_refinement.proofs.Tests.{by_test}
 use Rattle.election_refinement.specs.Refinement.{told_change, IsFitting, IsSecond, IsWanted, ChangeHolds, IsLeading, PhaseHolds, may_wait, SyncHolds}

@@ -27,15 +27,16 @@ use Rattle.peer_fact.specs.declared.fact.Fact.{Fact}
 use Rattle.phase_rows.specs.Orders.{is_joint, is_same, is_newer, may_accept}
 use Rattle.phase_rows.specs.Peers.{alone, nobody, joined, members, others_of, with_members}
 use Rattle.phase_rows.specs.Rows.{sends, saves_and_sends}
-use Rattle.version_laws.proofs.Maps.{put_here}
+use Rattle.version_laws.proofs.Maps.{put_here, mark_here}
 use Rattle.wire_frames.specs.declared.message.Message.TheVariants as messages
 use Rattle.wire_frames.specs.declared.phase.PhaseOut.{PhaseOut}
 use Rattle.wire_frames.specs.declared.phase.Then.TheVariants as thens
-use Rattle.election_refinement.proofs.Keeps.{Keeps, keeps_both, elect_keeps, accept_keeps, known_keeps, first_keeps, changed_of}
+use Rattle.election_refinement.proofs.Keeps.{keeps_both, elect_keeps, accept_keeps, known_keeps, first_keeps, changed_of}
+use Rattle.election_refinement.specs.Keeps.{Keeps}
 use Rattle.election_refinement.proofs.Numbers.{proposer_of-number, same_epochs, newer_place, not_newer_place, place_epoch, place_same, place_trans}
 use Rattle.election_refinement.proofs.Reaching.{Course, Reaches, reaches_sound, elect_reaches}
 use Rattle.election_refinement.proofs.Rows.{Fits, Goes, none_runs, unmoved, enters, quiet, follows, rests_in, names}
-use Rattle.election_refinement.proofs.Saving.{mark_here, accepted_fits}
+use Rattle.election_refinement.proofs.Saving.{accepted_fits}
 use Rattle.election_refinement.proofs.Sets.{nobody_then, alone_then, joined_then}
 use Rattle.election_refinement.proofs.Tests.{by_test}
 use Rattle.election_refinement.specs.Refinement.{fact_place, told_change, change_at, IsFitting, second_of, IsKnown, IsFirst, HasPromised, IsPreparing, IsStarting, PhaseHolds, may_wait, SyncHolds, IsPrepare, IsPromise, IsOrderly}

@@ -15,23 +15,15 @@ use Rattle.ens_base.specs.Views.{last_view}
 use Rattle.joint_views.specs.Quorums.{is_majority, is_quorum}
 use Rattle.version_laws.proofs.Maps.{put_here}
 use Rattle.version_laws.proofs.Sources.{synced_by}
-use Rattle.version_laws.proofs.Stays.{versions_step}
-use Rattle.version_laws.proofs.Trees.{run_versions}
-use Rattle.version_laws.specs.Versions.{Genuine, IsSource, VersionsStay}
+use Rattle.version_laws.proofs.Stays.{versions_step, genuine_stays}
+use Rattle.version_laws.proofs.Trees.{run_versions, genuine_higher}
+use Rattle.version_laws.specs.Versions.{Genuine, IsSource}
 
 -- ## Floors are genuine
 
 -- each floor holds proposed versions of its key, of an epoch that is not greater
 abbrev FloorsAreGenuine : Objects → Type 0
 FloorsAreGenuine o = (q d : ℕ) (k : List ℕ) → IsGenuine o d k (o.floor q d k)
-
-genuine_higher : (o : Objects) (d e : ℕ) (k : List ℕ) (v : ℕ) → d ≤ e → IsGenuine o d k v → IsGenuine o e k v
-genuine_higher o d e k v above (inl none) = inl none
-genuine_higher o d e k v above (inr is) = inr (is.0, is.1, le_trans is.2 above)
-
-genuine_stays : (o n : Objects) → VersionsStay o n → (d : ℕ) (k : List ℕ) (v : ℕ) → IsGenuine o d k v → IsGenuine n d k v
-genuine_stays o n stay d k v (inl none) = inl none
-genuine_stays o n stay d k v (inr is) = inr (stay.proposed v is.0, stay.key v is.0 ∙ is.1, is.2)
 
 raised_floor : (o : Objects) (p d : ℕ) → Genuine o → FloorsAreGenuine o → (q e : ℕ) (k : List ℕ) → IsGenuine o e k (floor_after o p q e k)
 raised_floor o p d genuine old q e k = by_place ((p == q) && nat_lt (o.ledger.ballot p) e) refl

@@ -54,7 +54,7 @@ use Rattle.wire_frames.specs.declared.message.NackCause.TheVariants as causes
 use Rattle.wire_frames.specs.declared.phase.PhaseOut.{PhaseOut}
 use Rattle.wire_frames.specs.declared.phase.Then.{Then}
 use Rattle.wire_frames.specs.declared.phase.Then.TheVariants as thens
-use Rattle.election_refinement.proofs.Calls.{IsOfCalls, tick_stays}
+use Rattle.election_refinement.proofs.Calls.{tick_stays}
 use Rattle.election_refinement.proofs.Elections.{starts_either}
 use Rattle.election_refinement.proofs.Numbers.{same_epochs}
 use Rattle.election_refinement.proofs.Rows.{settled}
@@ -478,10 +478,6 @@ module _ {voting : List (List ℕ)} {p : ℕ} {x : State} where
   listed_left true h = record { fact = h.fact; phase = stopped_phase voting p x.trusted x.phase h.phase; sync = h.sync }
   listed_left false h = h
 
-  -- the peer trusts its tree
-  pub listed_trusts : IsListedPeer voting p x → IsListedPeer voting p (record x { trusted = true })
-  listed_trusts h = record { fact = h.fact; phase = trusting_phase voting p x.trusted x.phase h.phase; sync = h.sync }
-
   -- a sync on a listed fact ends
   pub listed_synced : (new : Fact) → IsListedFact voting new → IsListedPeer voting p x → IsListedPeer voting p (record x { fact = new; trusted = true; sync = None })
   listed_synced new listed h = record { fact = listed; phase = trusting_phase voting p x.trusted x.phase h.phase; sync = tt }
@@ -503,13 +499,6 @@ module _ {voting : List (List ℕ)} {p : ℕ} {x : State} where
   listed_leading h l listed = record { fact = h.fact; phase = listed; sync = h.sync }
 
 -- ## A leader's calls and ticks
-
--- a leader's message about calls is listed
-pub calls_say_listed : (voting : List (List ℕ)) (message : Message) → IsOfCalls message → IsListedMessage voting message
-calls_say_listed voting (messages.Check ballot round) is = tt
-calls_say_listed voting (messages.Get ballot round key) is = tt
-calls_say_listed voting (messages.Put ballot object) is = tt
-calls_say_listed voting other is = absurd is
 
 -- a message that is sent is listed
 abbrev pub SendListed : List (List ℕ) → Outgoing → Type 0

@@ -70,7 +70,8 @@ use Rattle.wire_frames.specs.declared.phase.Then.{Then}
 use Rattle.wire_frames.specs.declared.phase.Then.TheVariants as thens
 use Rattle.election_refinement.proofs.Calls.{IsOfCalls, AsksPeer, BeginsNothing, StillLeads, joined_stays, got_stays, stands_stays, put_heard_stays, lead_stays, tick_stays}
 use Rattle.election_refinement.proofs.Changes.{rule_24, is_second, older_holds, wished_holds}
-use Rattle.election_refinement.proofs.Keeps.{Keeps, keeps_both, join_keeps, sends_keep}
+use Rattle.election_refinement.proofs.Keeps.{keeps_both, join_keeps, sends_keep}
+use Rattle.election_refinement.specs.Keeps.{Keeps}
 use Rattle.election_refinement.proofs.Reaching.{Course, Reaches}
 use Rattle.election_refinement.proofs.Requests.{left_fits, turned_fits, IsHarmless, harmless_goes, row_21_harmless, row_22_harmless, row_23_harmless, after_put_harmless}
 use Rattle.election_refinement.proofs.Rows.{saved_in, stored_in, made_way, settled, ThenHolds, Fits, Goes, enters, enters_alone}
@@ -90,7 +91,7 @@ EventHolds l (events.Call call) = Unit {0}
 EventHolds l (events.Change view) = Unit {0}
 
 -- the answers to calls add no message
-answers_send_nothing : (b : Bool) (x : State) (out : Out) → (left_answers b x out).sends ≡ out.sends
+pub answers_send_nothing : (b : Bool) (x : State) (out : Out) → (left_answers b x out).sends ≡ out.sends
 answers_send_nothing true x out = refl
 answers_send_nothing false x out = refl
 

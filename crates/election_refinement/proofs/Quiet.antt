@@ -32,17 +32,18 @@ use Rattle.wire_frames.specs.declared.message.NackCause.{NackCause}
 use Rattle.wire_frames.specs.declared.message.NackCause.TheVariants as causes
 use Rattle.wire_frames.specs.declared.phase.PhaseOut.{PhaseOut}
 use Rattle.wire_frames.specs.declared.phase.Then.{Then}
-use Rattle.election_refinement.proofs.Numbers.{same_epochs, same_number}
+use Rattle.election_refinement.proofs.Numbers.{same_epochs}
 use Rattle.election_refinement.proofs.Reaching.{Course, reaches_safe}
 use Rattle.election_refinement.proofs.Rows.{Fits, Goes, unmoved, enters_alone, quiet, follows, rests_in, names}
 use Rattle.election_refinement.proofs.Sets.{joined_then}
 use Rattle.election_refinement.proofs.Tests.{by_test}
 use Rattle.election_refinement.specs.Refinement.{IsStarted, IsStarting, IsFinishing, ChangeHolds, IsLeading, PhaseHolds, may_wait, SyncHolds, IsAcceptance}
+use Rattle.abstract_protocol.proofs.Ranks.{epoch_same}
 
 -- a peer that started an epoch and accepted it holds no fact of a later one
 accepted_own : {c : Course} {l : Ledger} {x : State} {stored : Option Fact} → Fits c l x stored → (new : Fact) (accepts : List Bool) → IsStarted l c.peer x.fact new accepts → holds accepts c.peer ≡ true → x.fact.epoch ≡ new.epoch
 accepted_own {c} {l} {x} {stored} h new accepts started among =
-    same_number x.fact.epoch new.epoch h.peer.saved.known.epoch started.first.known.epoch
+    epoch_same x.fact.epoch new.epoch h.peer.saved.known.epoch started.first.known.epoch
     (equal (subst (λ (place : Place). epoch_number new.epoch ≤ place.epoch) h.peer.saved.place ((reaches_safe c l h.reaches).ballots.accepted c.peer (epoch_number new.epoch) (started.accepted c.peer among)))
     h.peer.saved.known.below (ap epoch_number started.at_ballot))
   where

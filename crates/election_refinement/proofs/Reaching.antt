@@ -14,7 +14,8 @@ use Rattle.election_laws.proofs.Sound.{Sound, run_sound}
 use Rattle.ens_base.specs.View.{IsPeer}
 use Rattle.version_laws.proofs.Maps.{put_other, put_then}
 use Rattle.election_refinement.proofs.Joining.{joins_after}
-use Rattle.election_refinement.proofs.Keeps.{Keeps, closed_keeps, raise_keeps, elect_keeps, accept_keeps, join_keeps, commit_keeps, adopt_keeps}
+use Rattle.election_refinement.proofs.Keeps.{closed_keeps, raise_keeps, elect_keeps, accept_keeps, join_keeps, commit_keeps, adopt_keeps}
+use Rattle.election_refinement.specs.Keeps.{Keeps}
 use Rattle.election_refinement.specs.Refinement.{IsFitting, may_take, IsFactClosed, second_of, IsOrderly}
 use Rattle.election_refinement.specs.Worlds.{ledger_after}
 

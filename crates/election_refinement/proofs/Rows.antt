@@ -14,7 +14,8 @@ use Rattle.running_sync.specs.Running.{Running}
 use Rattle.wire_frames.specs.declared.phase.PhaseOut.{PhaseOut}
 use Rattle.wire_frames.specs.declared.phase.Then.{Then}
 use Rattle.wire_frames.specs.declared.phase.Then.TheVariants as thens
-use Rattle.election_refinement.proofs.Keeps.{Keeps, keeps_none}
+use Rattle.election_refinement.proofs.Keeps.{keeps_none}
+use Rattle.election_refinement.specs.Keeps.{Keeps}
 use Rattle.election_refinement.proofs.Reaching.{Course, Reaches}
 use Rattle.election_refinement.proofs.Sets.{RowSays}
 use Rattle.election_refinement.specs.Refinement.{PeerHolds, PhaseHolds, may_wait, MaySync, SyncHolds}

@@ -1,8 +1,7 @@
 -- The state of a peer after it saved a fact: at a greater ballot, or as the first fact of an epoch
 -- that it accepts.
-use Rattle.std.proofs.Common.{◌≡◌, ℕ, ◌<◌, ◌≤◌, Bool, true, Option, Some, None, arith, refl, ap, le_trans, ◌∙◌, sym, subst}
-use Rattle.std.proofs.lemmas.Bool.Decides.{nat_tests}
-use Rattle.abstract_protocol.specs.Ledger.{Ledger, Place, IsAtMost, IsNew, mark, raise, accept, join}
+use Rattle.std.proofs.Common.{◌≡◌, ℕ, ◌<◌, ◌≤◌, true, Option, Some, None, arith, refl, ap, le_trans, ◌∙◌, sym, subst}
+use Rattle.abstract_protocol.specs.Ledger.{Ledger, Place, IsAtMost, IsNew, raise, accept, join}
 use Rattle.abstract_protocol.specs.Numbers.{epoch_number, IsEpoch}
 use Rattle.ens_base.specs.declared.epoch.Epoch.{Epoch}
 use Rattle.peer_core.specs.declared.state.Phase.{Phase}
@@ -11,14 +10,12 @@ use Rattle.peer_fact.specs.declared.fact.Fact.{Fact}
 use Rattle.phase_rows.specs.Rows.{at_ballot}
 use Rattle.running_sync.specs.Running.{Running}
 use Rattle.version_laws.proofs.Maps.{put_here}
-use Rattle.election_refinement.proofs.Keeps.{Keeps, accept_keeps, join_keeps, first_keeps}
+use Rattle.election_refinement.proofs.Keeps.{accept_keeps, join_keeps, first_keeps}
+use Rattle.election_refinement.specs.Keeps.{Keeps}
 use Rattle.election_refinement.proofs.Numbers.{place_epoch, place_trans}
 use Rattle.election_refinement.proofs.Reaching.{Course, Reaches, reaches_safe, raise_reaches, accept_reaches, join_reaches}
 use Rattle.election_refinement.proofs.Rows.{Fits}
 use Rattle.election_refinement.specs.Refinement.{fact_place, second_of, IsKnown, IsFirst, HasPromised, IsSaved, PhaseHolds, may_wait, SyncHolds}
-
-pub mark_here : (r : ℕ → ℕ → Bool) (d p : ℕ) → mark r d p d p ≡ true
-mark_here r d p = grind (arith, nat_tests)
 
 -- ## A greater ballot
 

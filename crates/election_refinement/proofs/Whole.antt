@@ -8,7 +8,7 @@ use Rattle.peer_fact.specs.declared.fact.Fact.{Fact}
 use Rattle.wire_frames.specs.declared.message.Message.{Message}
 use Rattle.wire_frames.specs.declared.phase.PhaseOut.{PhaseOut}
 use Rattle.election_refinement.proofs.Changes.{rule_24}
-use Rattle.election_refinement.proofs.Keeps.{Keeps}
+use Rattle.election_refinement.specs.Keeps.{Keeps}
 use Rattle.election_refinement.proofs.Reaching.{AreRowSteps, Course}
 use Rattle.election_refinement.proofs.Rows.{stored_in, settled, ThenHolds, Fits, Goes}
 use Rattle.election_refinement.proofs.Rules.{phase_goes, received_goes as message_goes}

@@ -43,7 +43,8 @@ use Rattle.world_spec.specs.Lines.{call_of, set_of, everyone, with_loss, effect,
 use Rattle.world_spec.specs.Nodes.{Node, Up, Down, Taken, taken, taken_by, taken_of, run_over, started, stopped, over_stores, while_down}
 use Rattle.world_spec.specs.Stores.{failing, leaves_of, spoiled, segment_spoiled, inner_spoiled, taken_back}
 use Rattle.world_spec.specs.Runs.{Run, place_of, frame_from, posted_all, with_taken, stepped, stepped_at, changed, changed_at, with_start, ticked, received_if, delivered, delivered_if, going_on, calmed}
-use Rattle.election_refinement.proofs.Keeps.{Keeps, keeps_none, node_keeps, frames_keep}
+use Rattle.election_refinement.proofs.Keeps.{keeps_none, node_keeps, frames_keep}
+use Rattle.election_refinement.specs.Keeps.{Keeps}
 use Rattle.election_refinement.proofs.Loops.{EventHolds, Here, Rests, Good, LeavesFact, step_good, start_good}
 use Rattle.election_refinement.proofs.Reaching.{Course, Reaches}
 use Rattle.election_refinement.specs.Refinement.{PeerHolds, IsKept, NodeHolds, SendHolds, FrameHolds}

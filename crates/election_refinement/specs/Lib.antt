@@ -1,3 +1,4 @@
 pub mod Refinement
 pub mod Worlds
 pub mod Listed
+pub mod Keeps

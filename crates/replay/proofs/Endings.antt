@@ -2,7 +2,7 @@
 use Rattle.std.proofs.Common.{◌≡◌, ◌<◌, ◌^◌, ℕ, Bool, true, false, not, length, List, [], ◌∷◌, ◌++◌, Option, None, Some, Result, Ok, Err, refl, sym, subst, ◌∙◌, inl, inr, arith, string_bytes}
 use Rattle.std.specs.Prelude.{IfOk, codes}
 use Rattle.std.proofs.lemmas.Bool.{false≢true}
-use Rattle.call_refinement.proofs.Whole.{schedules_are_legal, schedules_have_causes}
+use Rattle.call_refinement.proofs.ScheduleLaws.{schedules_are_legal, schedules_have_causes}
 use Rattle.call_refinement.specs.Lines.{lines_of}
 use Rattle.ens_base.specs.Lists.{◌∈◌}
 use Rattle.ens_base.specs.declared.status.Status.{Status}

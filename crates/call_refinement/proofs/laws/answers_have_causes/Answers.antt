@@ -1,4 +1,4 @@
-use Rattle.call_refinement.proofs.Whole.{schedules_have_causes}
+use Rattle.call_refinement.proofs.ScheduleLaws.{schedules_have_causes}
 use Rattle.call_refinement.proofs.laws.answers_have_causes.Goals as goal
 
 pub returns : goal.returns

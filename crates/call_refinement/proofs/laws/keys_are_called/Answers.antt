@@ -1,4 +1,4 @@
-use Rattle.call_refinement.proofs.Keys.{run_keys_called, run_keys_few, run_ids_few, run_calls_few}
+use Rattle.step_refinement.proofs.CalledKeys.{run_keys_called, run_keys_few, run_ids_few, run_calls_few}
 use Rattle.call_refinement.proofs.laws.keys_are_called.Goals as goal
 
 pub returns-clause-called : goal.returns-clause-called

@@ -1,4 +1,4 @@
-use Rattle.call_refinement.proofs.Whole.{schedules_run}
+use Rattle.call_refinement.proofs.ScheduleLaws.{schedules_run}
 use Rattle.call_refinement.proofs.laws.schedules_refine_the_protocol.Goals as goal
 
 pub returns : goal.returns

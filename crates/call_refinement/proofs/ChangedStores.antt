@@ -1,0 +1,268 @@
+-- The node of a peer as the peer stops or starts, and as lines of the schedule change its stores.
+use Rattle.std.proofs.Common.{◌≡◌, ◌<◌, ◌≤◌, ℕ, Bool, true, false, if◌then◌else◌, inl, inr, List, [], ◌∷◌, ◌++◌, length, Option, Some, Result, Ok, append-nil, arith, refl, sym, ap, ◌∙◌, subst}
+use Rattle.std.proofs.lemmas.Option.{none-some}
+use Rattle.ens_base.proofs.Lists.{bytes_same}
+use Rattle.ens_base.specs.Lists.{◌∈◌, same_bytes}
+use Rattle.ens_base.specs.declared.entry.Entry.{Entry}
+use Rattle.ens_outside.specs.declared.memory.failing_call.Leaves.{Leaves}
+use Rattle.abstract_protocol.specs.Objects.{epoch_of, IsGenuine}
+use Rattle.abstract_protocol.specs.Protocol.{State, Lose, Revert, happens, MayCome}
+use Rattle.election_refinement.proofs.Listed.{listed_started}
+use Rattle.election_refinement.specs.Refinement.{PeerHolds}
+use Rattle.entry_laws.proofs.Later.{stay_step}
+use Rattle.entry_laws.specs.Stays.{EntriesStay}
+use Rattle.held_stores.specs.Answers.{answered}
+use Rattle.held_stores.specs.Held.{Held, HeldStores}
+use Rattle.held_stores.specs.Laws.{held_with}
+use Rattle.held_stores.specs.Runs.{Ended, run, either}
+use Rattle.leader_refinement.specs.Seen.{rank, entry_rank}
+use Rattle.peer_core.specs.Starts.{first_state, opened, start_of}
+use Rattle.peer_core.specs.declared.state.State.{State as PeerState}
+use Rattle.peer_fact.specs.declared.fact.Fact.{Fact}
+use Rattle.register_model.specs.declared.note.Note.{Note}
+use Rattle.request_refinement.specs.Naming.{EntrySays}
+use Rattle.schedule_text.specs.declared.keyword.StoreName.{StoreName}
+use Rattle.schedule_text.specs.declared.keyword.StoreName.TheVariants as names
+use Rattle.step_plans.specs.Calls.{OpenTree}
+use Rattle.step_plans.specs.Plans.{Ending, Finished, Stopped, nothing}
+use Rattle.step_plans.specs.declared.error.PeerError.{PeerError}
+use Rattle.sync_laws.specs.Facts.{Lines}
+use Rattle.sync_refinement.proofs.Staying.{stays, tree_says_stay}
+use Rattle.sync_refinement.specs.Seen.{ranks}
+use Rattle.sync_refinement.specs.Syncs.{MayReturn}
+use Rattle.tree_maps.specs.Entries.{lookup}
+use Rattle.tree_refinement.proofs.Keeping.{grows}
+use Rattle.tree_refinement.proofs.Tops.{opens, reverted_in, reverted_some}
+use Rattle.tree_refinement.specs.Tops.{HasOpened, tops_of}
+use Rattle.version_laws.proofs.Maps.{put_here}
+use Rattle.world_spec.specs.Nodes.{Node, Up, Down, taken_by, taken_of, run_over, started, hashed_by_start, over_stores}
+use Rattle.world_spec.specs.Stores.{failing, spoiled, segment_spoiled, inner_spoiled, taken_back}
+use Rattle.world_stores.specs.Nodes.{top_of, reverted}
+use Rattle.call_refinement.proofs.HashedBefore.{behind, ended_behind, run_behind}
+use Rattle.step_refinement.proofs.ShownMaps.{tops_behind, tops_stay}
+use Rattle.step_refinement.specs.Peers.{TopReturns, TopsReturn, TreeHolds, DownHolds}
+use Rattle.call_refinement.specs.Roles.{role_of}
+use Rattle.call_refinement.specs.Worlds.{UpFits, NodeFits}
+
+-- ## Stores that change
+
+-- a change of stores leaves the fact, the top records and the root of the tree
+pub record SparesRecords (f : HeldStores → HeldStores) : Type 0 where
+  pub kept : (stores : HeldStores) → (f stores).facts.kept ≡ stores.facts.kept
+  pub tops : (stores : HeldStores) → tops_of (f stores) ≡ tops_of stores
+  pub root : (stores : HeldStores) → (f stores).tree.top ≡ stores.tree.top
+
+-- so does a failure that begins to wait
+pub failing_spares : (store : StoreName) (leaves : Leaves) → SparesRecords (failing store leaves)
+failing_spares names.Fact leaves = record { kept = λ stores. refl; tops = λ stores. refl; root = λ stores. refl }
+failing_spares names.Tree leaves = record { kept = λ stores. refl; tops = λ stores. refl; root = λ stores. refl }
+failing_spares names.Backend leaves = record { kept = λ stores. refl; tops = λ stores. refl; root = λ stores. refl }
+
+-- so does a change of an object, a segment or an inner node
+pub spoiled_spares : (key : List ℕ) (bytes : Option (List ℕ)) → SparesRecords (spoiled key bytes)
+spoiled_spares key bytes = record { kept = λ stores. refl; tops = λ stores. refl; root = λ stores. refl }
+
+-- a change of a segment keeps the fact and the records
+pub segment_spares : (key : List ℕ) (bytes : Option (List ℕ)) → SparesRecords (segment_spoiled key bytes)
+segment_spares key bytes = record { kept = λ stores. refl; tops = λ stores. refl; root = λ stores. refl }
+
+-- and so does a change of an inner node
+pub inner_spares : (level index : ℕ) (bytes : Option (List ℕ)) → SparesRecords (inner_spoiled level index bytes)
+inner_spares level index bytes = record { kept = λ stores. refl; tops = λ stores. refl; root = λ stores. refl }
+
+module _ (lines : Lines) (strings : List (List ℕ)) (q : ℕ) where
+  module _ (f : HeldStores → HeldStores) (spares : SparesRecords f) (hashed : List (List ℕ)) (s : State) where
+    -- nothing that holds of a tree is about its stored nodes
+    abbrev altered_tree : (stores : HeldStores) → TreeHolds s strings q (held_with stores hashed) → TreeHolds s strings q (held_with (f stores) hashed)
+    altered_tree stores tree = record {
+      map = tree.map;
+      shows = record { digest = tree.shows.digest; top = spares.root stores ∙ tree.shows.top; stands = tree.shows.stands; texts = tree.shows.texts };
+      says = tree.says;
+      recorded = ap top_of (spares.tops stores) ∙ tree.recorded ∙ sym (spares.root stores);
+      tops = subst (λ (tops : List (List ℕ)). TopsReturn s strings hashed q tops) (sym (spares.tops stores)) tree.tops;
+    }
+
+    -- nor is anything that holds of a node
+    pub altered_fits : (node : Node) → NodeFits lines strings hashed s q node → NodeFits lines strings hashed s q (over_stores f node)
+    altered_fits (Up x stores) fits = record {
+      holds = subst (PeerHolds s.objects.ledger q x) (sym (spares.kept stores)) fits.holds;
+      listed = fits.listed;
+      trust = fits.trust;
+      tree = altered_tree stores fits.tree;
+      sync = fits.sync;
+      fits = fits.fits;
+      rests = fits.rests;
+    }
+    altered_fits (Down stores) down = record {
+      fact = down.fact;
+      kept = spares.kept stores ∙ down.kept;
+      saved = down.saved;
+      listed = down.listed;
+      blind = down.blind;
+      map = down.map;
+      digest = down.digest;
+      top = ap top_of (spares.tops stores) ∙ down.top;
+      named = down.named;
+      says = down.says;
+      tops = subst (λ (tops : List (List ℕ)). TopsReturn s strings hashed q tops) (sym (spares.tops stores)) down.tops;
+    }
+
+-- the role of the peer is as it was
+pub altered_role : (f : HeldStores → HeldStores) (node : Node) → role_of (over_stores f node) ≡ role_of node
+altered_role f (Up x stores) = refl
+altered_role f (Down stores) = refl
+
+-- ## A peer that stops
+
+-- the top record of a peer that stops names the map that its tree shows
+pub stopped_fits : (lines : Lines) (strings hashed : List (List ℕ)) (s : State) (q : ℕ) (x : PeerState) (stores : HeldStores) → UpFits lines strings hashed s q x stores → DownHolds lines.voting (happens s (Lose q)) strings hashed q stores
+stopped_fits lines strings hashed s q x stores fits = record {
+  fact = x.fact;
+  kept = fits.holds.kept;
+  saved = fits.holds.saved;
+  listed = fits.listed.fact;
+  blind = put_here s.objects.trusted q false;
+  map = fits.tree.map;
+  digest = fits.tree.shows.digest;
+  top = fits.tree.recorded ∙ fits.tree.shows.top;
+  named = record { stands = fits.tree.shows.stands; texts = fits.tree.shows.texts };
+  says = tree_says_stay s (happens s (Lose q)) strings (stay_step s (Lose q) (tt, tt)) q fits.tree.map refl fits.tree.says;
+  tops = tops_stay s (happens s (Lose q)) strings hashed q (tops_of stores) (stay_step s (Lose q) (tt, tt)) fits.tree.tops;
+}
+
+-- ## A peer that starts
+
+-- the strings that a step hashed, however it ended
+pub taken_strings : (e : Ending PeerState) (h : Held) (notes : List Note) → (taken_by e h notes).hashed ≡ h.hashed
+taken_strings (Finished x out) h notes = refl
+taken_strings (Stopped error) h notes = refl
+
+-- the node after a step, whatever was hashed before
+taken_behind : (xs : List (List ℕ)) (e : Ending PeerState) (h : Held) (notes : List Note) → (taken_by e (behind xs h) notes).node ≡ (taken_by e h notes).node
+taken_behind xs (Finished x out) h notes = refl
+taken_behind xs (Stopped error) h notes = refl
+
+module _ (view : List ℕ) (stores : HeldStores) (hashed : List (List ℕ)) (fact : Fact) (kept : stores.facts.kept ≡ Some fact) (answers : (answered OpenTree (held_with stores hashed)).result ≡ Ok tt) where
+  -- the stores once the tree was opened
+  abbrev opened_held : Held
+  opened_held = (answered OpenTree (held_with stores hashed)).held
+
+  -- the peer continues from the kept fact, and does not trust its tree
+  starts_so : ended_behind hashed (run_over (start_of view) stores) ≡ record { ending = Finished (first_state fact false) nothing; held = opened_held; notes = [] }
+  starts_so =
+      sym (run_behind (start_of view) stores hashed) ∙ ap (λ (o : Option Fact). run (opened view o) (held_with stores hashed) []) kept
+      ∙ ap (λ (r : Result (Unit {0}) PeerError). either {R = Ended PeerState} r (λ u. record { ending = Finished (first_state fact false) nothing; held = opened_held; notes = [] }) (λ error. record { ending = Stopped error; held = opened_held; notes = [] })) answers
+
+  abbrev ended : Ended PeerState
+  ended = run_over (start_of view) stores
+
+  started_node : started view (Down stores) ≡ Up (first_state fact false) opened_held.stores
+  started_node = sym (taken_behind hashed ended.ending ended.held ended.notes) ∙ ap (λ (e : Ended PeerState). (taken_of e).node) starts_so
+
+  started_strings : hashed ++ hashed_by_start view (Down stores) ≡ opened_held.hashed
+  started_strings = ap (λ (xs : List (List ℕ)). hashed ++ xs) (taken_strings ended.ending ended.held ended.notes) ∙ ap (λ (e : Ended PeerState). e.held.hashed) starts_so
+
+module _ (lines : Lines) (strings hashed : List (List ℕ)) (s : State) (q : ℕ) where
+  -- a tree that was opened shows the map that the top record names
+  opened_fits : (stores : HeldStores) (down : DownHolds lines.voting s strings hashed q stores) → let h : Held = (answered OpenTree (held_with stores hashed)).held in UpFits lines strings h.hashed s q (first_state down.fact false) h.stores
+  opened_fits stores down = record {
+    holds = record { saved = down.saved; kept = down.kept; phase = tt; sync = tt };
+    listed = listed_started lines.voting q down.fact false down.listed;
+    trust = down.blind;
+    tree = record {
+      map = down.map;
+      shows = record { digest = has.shows.digest; top = has.shows.top; stands = has.shows.stands; texts = has.shows.texts };
+      says = down.says;
+      recorded = has.recorded;
+      tops = subst (λ (tops : List (List ℕ)). TopsReturn s strings h.hashed q tops) (sym has.tops) (tops_behind s strings hashed h.hashed q (tops_of stores) (grows OpenTree (held_with stores hashed)) down.tops);
+    };
+    sync = tt;
+    fits = tt;
+    rests = tt;
+  }
+    where
+      h : Held
+      h = (answered OpenTree (held_with stores hashed)).held
+
+      has : HasOpened down.map (held_with stores hashed) h
+      has = (opens (held_with stores hashed) down.map down.digest down.top down.named).1
+
+  -- a peer that starts fits, once the strings of its start were hashed; a running peer goes on
+  pub started_fits : (view : List ℕ) (node : Node) → NodeFits lines strings hashed s q node → NodeFits lines strings (hashed ++ hashed_by_start view node) s q (started view node)
+  started_fits view (Up x stores) fits = subst (λ (xs : List (List ℕ)). UpFits lines strings xs s q x stores) (sym (append-nil hashed)) fits
+  started_fits view (Down stores) down =
+      let answers : (answered OpenTree (held_with stores hashed)).result ≡ Ok tt = (opens (held_with stores hashed) down.map down.digest down.top down.named).0 in
+      subst (λ (xs : List (List ℕ)). NodeFits lines strings xs s q (started view (Down stores))) (sym (started_strings view stores hashed down.fact down.kept answers))
+      (subst (λ (n : Node). NodeFits lines strings (answered OpenTree (held_with stores hashed)).held.hashed s q n) (sym (started_node view stores hashed down.fact down.kept answers)) (opened_fits stores down))
+
+  -- and follows nobody
+  pub started_role : (view : List ℕ) (node : Node) → NodeFits lines strings hashed s q node → role_of (started view node) ≡ role_of node
+  started_role view (Up x stores) fits = refl
+  started_role view (Down stores) down = ap role_of (started_node view stores hashed down.fact down.kept (opens (held_with stores hashed) down.map down.digest down.top down.named).0)
+
+-- ## A tree that is put back
+
+-- each entry of the map is a version of its key, of an epoch up to this one
+genuine_in : (s : State) (strings : List (List ℕ)) (d : ℕ) (k : List ℕ) (m : List Entry) → ((e : Entry) → e ∈ m → EntrySays s strings e) → ((e : Entry) → e ∈ m → epoch_of (rank e.version) ≤ d) → IsGenuine s.objects d k (ranks m k)
+genuine_in s strings d k [] says reached = inl refl
+genuine_in s strings d k (e ∷ es) says reached = by_key (same_bytes e.key k) refl (genuine_in s strings d k es (λ x at. says x (inr at)) (λ x at. reached x (inr at)))
+  where
+    by_key : (b : Bool) → same_bytes e.key k ≡ b → IsGenuine s.objects d k (ranks es k) → IsGenuine s.objects d k (entry_rank (if b then Some e else lookup k es))
+    by_key true is later = inr ((says e (inl refl)).version.proposed, sym (says e (inl refl)).key ∙ bytes_same e.key k is, reached e (inl refl))
+    by_key false is later = later
+
+-- there is a top record
+some_top : (tops : List (List ℕ)) (digest : List ℕ) → top_of tops ≡ Some digest → 0 < length tops
+some_top [] digest is = absurd (none-some digest is)
+some_top (top ∷ tops) digest is = omega arith
+
+-- the tree of a peer that is down is put back to this map: it may come, and then the peer is down over the
+-- stores that have it
+pub record PutsBack (lines : Lines) (strings hashed : List (List ℕ)) (s : State) (q : ℕ) (stores : HeldStores) : Type 0 where
+  pub map : List Entry
+  pub may : MayCome s (Revert q (ranks map))
+  pub down : DownHolds lines.voting (happens s (Revert q (ranks map))) strings hashed q stores
+
+-- a tree may be put back to what one of its top records names
+pub reverted_fits : (lines : Lines) (strings hashed : List (List ℕ)) (s : State) (q n : ℕ) (stores : HeldStores) → DownHolds lines.voting s strings hashed q stores → PutsBack lines strings hashed s q (taken_back n stores)
+reverted_fits lines strings hashed s q n stores down = record {
+  map = m;
+  may = may;
+  down = record {
+    fact = down.fact;
+    kept = down.kept;
+    saved = down.saved;
+    listed = down.listed;
+    blind = down.blind;
+    map = m;
+    digest = new.0;
+    top = new.1;
+    named = return.named;
+    says = record {
+      entries = ((stays lines s t stay).returns strings q m return.returns).entries;
+      visible = λ k. ap (λ (f : List ℕ → ℕ). f k) (put_here s.objects.visible q (ranks m));
+    };
+    tops = λ digest at. tops_stay s t strings hashed q (tops_of stores) stay down.tops digest (reverted_in n (tops_of stores) digest at);
+  };
+}
+  where
+    new : (digest : List ℕ) × (top_of (reverted n (tops_of stores)) ≡ Some digest) × (digest ∈ tops_of stores)
+    new = reverted_some (tops_of stores) (some_top (tops_of stores) down.digest down.top) n
+
+    return : TopReturns s strings hashed q new.0
+    return = down.tops new.0 new.2
+
+    m : List Entry
+    m = return.map
+
+    genuine : MayReturn s strings q m → (k : List ℕ) → IsGenuine s.objects (s.objects.ledger.ballot q) k (ranks m k)
+    genuine returns k = genuine_in s strings (s.objects.ledger.ballot q) k m returns.entries returns.reached
+
+    may : MayCome s (Revert q (ranks m))
+    may = (record { blind = down.blind; genuine = genuine return.returns }, tt)
+
+    t : State
+    t = happens s (Revert q (ranks m))
+
+    stay : EntriesStay s t
+    stay = stay_step s (Revert q (ranks m)) may

@@ -1,0 +1,107 @@
+-- What holds of the node of a peer stays so while other peers take steps, and by the steps at which an
+-- event begins and calls are answered; and all messages hold what they held.
+use Rattle.std.proofs.Common.{◌≡◌, ℕ, true, List, Option, Some, sym, ap, ◌∙◌, subst}
+use Rattle.std.specs.Prelude.{All}
+use Rattle.std.proofs.lemmas.Option.{same_Some}
+use Rattle.abstract_protocol.specs.Ledger.{Ledger}
+use Rattle.abstract_protocol.specs.Objects.{Objects}
+use Rattle.abstract_protocol.specs.Protocol.{State}
+use Rattle.entry_laws.specs.Stays.{EntriesStay}
+use Rattle.election_refinement.proofs.Keeps.{node_keeps, frames_keep}
+use Rattle.election_refinement.specs.Refinement.{IsSaved, IsKept, NodeHolds, FrameHolds}
+use Rattle.held_stores.specs.Laws.{held_with}
+use Rattle.peer_fact.specs.declared.fact.Fact.{Fact}
+use Rattle.request_refinement.specs.Naming.{hash_of}
+use Rattle.sync_laws.specs.Facts.{Lines}
+use Rattle.sync_refinement.proofs.Staying.{stays, tree_says_stay}
+use Rattle.tree_refinement.proofs.Tops.{named_behind}
+use Rattle.tree_refinement.specs.Tops.{tops_of}
+use Rattle.tree_refinement.specs.Trees.{AreAmong}
+use Rattle.wire_frames.specs.declared.frame.Frame.{Frame}
+use Rattle.world_spec.specs.Nodes.{Node, Up, Down}
+use Rattle.step_refinement.specs.Scenes.{Elsewhere}
+use Rattle.step_refinement.proofs.ShownMaps.{tree_behind, tree_stays, tops_behind, tops_stay}
+use Rattle.call_refinement.specs.Worlds.{NodeFits, MessagesFit}
+use Rattle.step_refinement.proofs.LaterStates.{sync_stays, phase_stays, frames_fit}
+
+-- ## Peers
+
+-- from s to t nothing is taken from peer q
+pub record StaysFor (q : ℕ) (s t : State) : Type 0 where
+  pub node : (node : Node) → NodeHolds s.objects.ledger q node → NodeHolds t.objects.ledger q node
+  pub views : (d : ℕ) → s.objects.ledger.elected d ≡ true → t.objects.ledger.views d ≡ s.objects.ledger.views d
+  pub visible : t.objects.visible q ≡ s.objects.visible q
+  pub trusted : t.objects.trusted q ≡ s.objects.trusted q
+  pub entries : EntriesStay s t
+
+-- a step of another peer takes nothing from peer q
+pub elsewhere_stays : (p q : ℕ) (s t : State) → (p ≡ q → ⊥) → Elsewhere p s t → StaysFor q s t
+elsewhere_stays p q s t other e = record {
+  node = λ node holds. node_keeps s.objects.ledger t.objects.ledger p e.ledger q node other holds;
+  views = e.ledger.views;
+  visible = e.visible q other;
+  trusted = e.trusted q other;
+  entries = e.stays;
+}
+
+-- a step of the book alone
+pub same_stays : (q : ℕ) (s t : State) → t.objects ≡ s.objects → EntriesStay s t → StaysFor q s t
+same_stays q s t same stays = record {
+  node = λ node holds. subst (λ (o : Objects). NodeHolds o.ledger q node) (sym same) holds;
+  views = λ d elected. ap (λ (o : Objects). o.ledger.views d) same;
+  visible = ap (λ (o : Objects). o.visible q) same;
+  trusted = ap (λ (o : Objects). o.trusted q) same;
+  entries = stays;
+}
+
+module _ (lines : Lines) (strings hashed more : List (List ℕ)) (q : ℕ) (s t : State) (stays_for : StaysFor q s t) (among : AreAmong hashed more) where
+  -- what holds of the node of the peer stays so
+  pub node_fits : (node : Node) → NodeFits lines strings hashed s q node → NodeFits lines strings more t q node
+  node_fits (Up x stores) f = record {
+    holds = stays_for.node (Up x stores) f.holds;
+    listed = f.listed;
+    trust = stays_for.trusted ∙ f.trust;
+    tree = tree_behind t strings q stores hashed more among (tree_stays s t strings q (held_with stores hashed) stays_for.entries stays_for.visible f.tree);
+    sync = sync_stays lines s t strings q x.fact x.trusted f.tree.map x.sync stays_for.entries f.holds.saved.ballot f.sync;
+    fits = phase_stays hash_of s t q x.fact x.phase stays_for.entries stays_for.views f.holds.phase f.fits;
+    rests = f.rests;
+  }
+  node_fits (Down stores) f = record {
+    fact = f.fact;
+    kept = f.kept;
+    saved = saved_stays f.fact f.kept (stays_for.node (Down stores) (record { fact = f.fact; kept = f.kept; saved = f.saved }));
+    listed = f.listed;
+    blind = stays_for.trusted ∙ f.blind;
+    map = f.map;
+    digest = f.digest;
+    top = f.top;
+    named = named_behind hashed more f.digest f.map among f.named;
+    says = tree_says_stay s t strings stays_for.entries q f.map stays_for.visible f.says;
+    tops = tops_behind t strings hashed more q (tops_of stores) among (tops_stay s t strings hashed q (tops_of stores) stays_for.entries f.tops);
+  }
+    where
+      same_fact : (o : Option Fact) (a b : Fact) → o ≡ Some a → o ≡ Some b → b ≡ a
+      same_fact o a b is_a is_b = same_Some b a (sym is_b ∙ is_a)
+
+      saved_stays : (fact : Fact) → stores.facts.kept ≡ Some fact → IsKept t.objects.ledger q stores.facts.kept → IsSaved t.objects.ledger q fact
+      saved_stays fact kept now = subst (IsSaved t.objects.ledger q) (same_fact stores.facts.kept fact now.fact kept now.kept) now.saved
+
+-- ## Messages
+
+-- messages hold what they held
+pub messages_same : (lines : Lines) (strings : List (List ℕ)) (s t : State) (sent : List Frame) → t.objects.ledger ≡ s.objects.ledger → EntriesStay s t → MessagesFit lines strings s sent → MessagesFit lines strings t sent
+messages_same lines strings s t sent same stay m = record {
+  hold = subst (λ (l : Ledger). All (FrameHolds l) sent) (sym same) m.hold;
+  listed = m.listed;
+  fit = frames_fit s t strings stay lines sent m.fit;
+  may = m.may;
+}
+
+-- the same where another peer takes a step
+pub messages_elsewhere : (lines : Lines) (strings : List (List ℕ)) (p : ℕ) (s t : State) (sent : List Frame) → Elsewhere p s t → MessagesFit lines strings s sent → MessagesFit lines strings t sent
+messages_elsewhere lines strings p s t sent e m = record {
+  hold = frames_keep s.objects.ledger t.objects.ledger p e.ledger sent m.hold;
+  listed = m.listed;
+  fit = frames_fit s t strings e.stays lines sent m.fit;
+  may = m.may;
+}

@@ -1,0 +1,66 @@
+-- What is said in messages stays so in later states; and what holds of a peer stays so
+-- while other peers take steps, and by the steps at which an event begins and calls are answered.
+use Rattle.std.proofs.Common.{◌≡◌, ℕ, Bool, true, List, Option, None, Some, subst}
+use Rattle.std.specs.Prelude.{All}
+use Rattle.std.proofs.lemmas.List.Elements.{All-weaker}
+use Rattle.ens_base.specs.declared.entry.Entry.{Entry}
+use Rattle.abstract_protocol.specs.Numbers.{epoch_number}
+use Rattle.abstract_protocol.specs.Protocol.{State}
+use Rattle.entry_laws.specs.Stays.{EntriesStay}
+use Rattle.election_refinement.specs.Refinement.{PhaseHolds}
+use Rattle.leader_refinement.proofs.Steps.{fits_stay}
+use Rattle.leader_refinement.specs.Follows.{Hash}
+use Rattle.leader_refinement.specs.Seen.{rank}
+use Rattle.leader_words.specs.declared.out.Outgoing.{Outgoing}
+use Rattle.peer_core.specs.declared.state.Phase.{Phase}
+use Rattle.peer_core.specs.declared.state.Phase.TheVariants as phases
+use Rattle.peer_fact.specs.declared.fact.Fact.{Fact}
+use Rattle.request_refinement.specs.Naming.{EntryMaySay}
+use Rattle.running_sync.specs.Running.{Running}
+use Rattle.sync_laws.specs.Facts.{Lines}
+use Rattle.sync_refinement.proofs.Staying.{stays, version_stays, entry_stays}
+use Rattle.sync_refinement.specs.Syncs.{SyncMaySay}
+use Rattle.wire_frames.specs.declared.frame.Frame.{Frame}
+use Rattle.wire_frames.specs.declared.message.Message.{Message}
+use Rattle.wire_frames.specs.declared.message.Message.TheVariants as messages
+use Rattle.step_refinement.specs.Peers.{AcksSay, PhaseFits, MessageFits, SendFits, FrameFits}
+
+-- ## Messages
+
+module _ (s t : State) (strings : List (List ℕ)) (stay : EntriesStay s t) where
+  -- what is said of the entry that a reply may have stays so
+  may_stay : (entry : Option Entry) → EntryMaySay s strings entry → EntryMaySay t strings entry
+  may_stay None says = tt
+  may_stay (Some e) says = entry_stays s t strings stay e says
+
+  -- a message holds what it held
+  pub message_stays : (lines : Lines) (q : ℕ) (message : Message) → MessageFits lines s strings q message → MessageFits lines t strings q message
+  message_stays lines q (messages.GetReply ballot round key entry object) fits = (may_stay entry fits.0, fits.1)
+  message_stays lines q (messages.TreeGive ballot at after trusted body) fits = (stays lines s t stay).gives strings q ballot (record { position = at; after = after }) trusted body fits
+  message_stays lines q message fits = fits
+
+  -- so do messages that are to be sent
+  pub sends_stay : (lines : Lines) (q : ℕ) (sends : List Outgoing) → All (SendFits lines s strings q) sends → All (SendFits lines t strings q) sends
+  sends_stay lines q sends fit = All-weaker (SendFits lines s strings q) (SendFits lines t strings q) (λ o fits. message_stays lines q o.message fits) sends fit
+
+  pub frames_fit : (lines : Lines) (frames : List Frame) → All (FrameFits lines s strings) frames → All (FrameFits lines t strings) frames
+  frames_fit lines frames fit = All-weaker (FrameFits lines s strings) (FrameFits lines t strings) (λ f fits. message_stays lines f.from f.message fits) frames fit
+
+-- ## Peers
+
+-- a running sync says what it said
+pub sync_stays : (lines : Lines) (s t : State) (strings : List (List ℕ)) (p : ℕ) (fact : Fact) (trusted : Bool) (m : List Entry) (sync : Option Running) → EntriesStay s t → s.objects.ledger.ballot p ≡ epoch_number fact.ballot → SyncMaySay lines s strings p fact trusted m sync → SyncMaySay lines t strings p fact trusted m sync
+sync_stays lines s t strings p fact trusted m None stay stands says = tt
+sync_stays lines s t strings p fact trusted m (Some r) stay stands says = (stays lines s t stay).syncs strings p fact trusted m r stands says
+
+-- what fits of a leader stays so
+pub phase_stays : (hash : Hash) (s t : State) (q : ℕ) (fact : Fact) (phase : Phase) → EntriesStay s t → ((d : ℕ) → s.objects.ledger.elected d ≡ true → t.objects.ledger.views d ≡ s.objects.ledger.views d) → PhaseHolds s.objects.ledger q fact phase
+    → PhaseFits hash s phase → PhaseFits hash t phase
+phase_stays hash s t q fact (phases.Leading l) stays views holds fits = fits_stay hash s t l.leader stays (views (epoch_number l.leader.fact.epoch) holds.started.first.known.elected) fits
+phase_stays hash s t q fact phase stays views holds fits = fits
+
+-- ## The whole state
+
+-- acknowledged versions say what they said
+pub acks_stay : (s t : State) (strings : List (List ℕ)) → t.objects.acked ≡ s.objects.acked → EntriesStay s t → AcksSay s strings → AcksSay t strings
+acks_stay s t strings same stay acks v q is acked = version_stays s t strings stay v (acks v q is (subst (λ (f : ℕ → ℕ → Bool). f (rank v) q ≡ true) same acked))

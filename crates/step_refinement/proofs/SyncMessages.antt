@@ -1,0 +1,239 @@
+-- The messages of syncs in the step of a peer: a node of the tree is asked for, and one comes.
+use Rattle.std.proofs.Common.{◌≡◌, ◌⊎◌, inl, inr, ℕ, Bool, true, false, List, [], ◌++◌, Option, None, Some, Result, Ok, Err, refl, ap, sym, subst, ◌∙◌}
+use Rattle.ens_base.specs.declared.entry.Entry.{Entry}
+use Rattle.ens_base.specs.declared.epoch.Epoch.{Epoch}
+use Rattle.abstract_protocol.specs.Numbers.{epoch_number}
+use Rattle.abstract_protocol.specs.Protocol.{State, state_after}
+use Rattle.election_refinement.proofs.Calls.{BeginsNothing}
+use Rattle.election_refinement.proofs.Listed.{GoesListed, listed_left, listed_untrusted}
+use Rattle.election_refinement.proofs.Numbers.{same_epochs}
+use Rattle.election_refinement.proofs.Requests.{IsHarmless, harmless_goes, row_23_harmless}
+use Rattle.election_refinement.proofs.Rows.{saved_in, made_way}
+use Rattle.election_refinement.proofs.Tests.{by_test}
+use Rattle.election_refinement.proofs.Whole.{here, row_goes, RowGoes}
+use Rattle.election_refinement.specs.Listed.{IsListedFact, IsListedPeer, IsListedSync, IsListedThen, SaysListed}
+use Rattle.election_refinement.specs.Refinement as ledgers
+use Rattle.election_refinement.specs.Refinement.{IsSyncing, MaySync, may_wait}
+use Rattle.exchange.specs.declared.question.Question.{Question}
+use Rattle.following.specs.Requests.{row_23, gives, gives_read}
+use Rattle.held_stores.specs.Answers.{answered}
+use Rattle.held_stores.specs.Held.{Held}
+use Rattle.peer_core.specs.Drives.{row_done, got_ask}
+use Rattle.peer_core.specs.Moves.{followed, left, turned}
+use Rattle.peer_core.specs.Syncs.{body_of, got_give, needs_node, own_node, reached, shown_node, taken_give}
+use Rattle.peer_core.specs.declared.state.State.{State as PeerState}
+use Rattle.peer_fact.specs.declared.fact.Fact.{Fact}
+use Rattle.phase_rows.specs.Orders.{is_below, is_same}
+use Rattle.register_model.specs.declared.note.Note.{Note}
+use Rattle.running_sync.proofs.Keeping.{fact_stays}
+use Rattle.running_sync.proofs.Messages.{take_go, take_ask}
+use Rattle.running_sync.proofs.Others.{taken_are}
+use Rattle.running_sync.specs.Rows.{row_take}
+use Rattle.running_sync.specs.Running.{Running}
+use Rattle.running_sync.specs.declared.asking.Give.{Give}
+use Rattle.step_plans.specs.Calls.{ReadNode}
+use Rattle.step_plans.specs.Plans.{Out, Rest, asked}
+use Rattle.step_plans.specs.declared.error.PeerError.{PeerError}
+use Rattle.step_plans.specs.declared.tasks.Task.{Task}
+use Rattle.step_plans.specs.declared.walked.Walked.{Walked}
+use Rattle.step_plans.specs.declared.walked.Walked.TheVariants.{Reached as Came, Broken}
+use Rattle.sync_refinement.specs.Laws.{HasWalked}
+use Rattle.sync_refinement.specs.Syncs.{GiveFits, SyncMaySay}
+use Rattle.tree_maps.specs.Paths.{node_of}
+use Rattle.tree_maps.specs.Sixteen.{sixteen}
+use Rattle.tree_node.specs.Positions.{IsPosition}
+use Rattle.tree_node.specs.declared.body.TreeBody.{TreeBody}
+use Rattle.tree_node.specs.declared.body.TreeBody.TheVariants as bodies
+use Rattle.tree_node.specs.declared.position.Position.{Position}
+use Rattle.tree_refinement.proofs.Keeping as keeping
+use Rattle.tree_refinement.specs.Laws.{IsReached}
+use Rattle.tree_refinement.specs.Trees.{AreAmong}
+use Rattle.wire_frames.specs.declared.message.Message.{Message}
+use Rattle.wire_frames.specs.declared.phase.PhaseOut.{PhaseOut}
+use Rattle.wire_frames.specs.declared.phase.Then.{Then}
+use Rattle.wire_frames.specs.declared.phase.Then.TheVariants as thens
+use Rattle.world_stores.specs.declared.fact.HeldFact.{HeldFact}
+use Rattle.step_refinement.proofs.CallByCall.{Ends, Answers, Onward, ask_ends}
+use Rattle.step_refinement.specs.Scenes.{Scene, now, AtRest}
+use Rattle.step_refinement.proofs.PhaseMessages.{SaysNothing}
+use Rattle.step_refinement.proofs.PhaseRows.{RowAll, row_good}
+use Rattle.step_refinement.proofs.PhaseRules.{mute_says}
+use Rattle.step_refinement.proofs.ElectionSteps.{entries_there}
+use Rattle.step_refinement.proofs.KeptTrust.{spares_same}
+use Rattle.step_refinement.proofs.LaterStates.{message_stays}
+use Rattle.step_refinement.proofs.SyncSteps.{firm_here, gone_good, laws_here, read_here}
+use Rattle.step_refinement.proofs.LeaderTasks.{PhasesNext}
+use Rattle.step_refinement.specs.Peers.{MessageFits}
+
+-- ## Rows that begin nothing
+
+no_lead : (turn : Then) (fact : Fact) → BeginsNothing turn → turn ≡ thens.Lead fact → ⊥
+no_lead turn fact begins is = subst BeginsNothing is begins
+
+-- the peer follows
+listed_follows : {voting : List (List ℕ)} {p : ℕ} {x : PeerState} → IsListedPeer voting p x → IsListedPeer voting p (followed x)
+listed_follows old = record { fact = old.fact; phase = tt; sync = tt }
+
+-- the facts of the peer after such a row
+turned_listed : (voting : List (List ℕ)) (p : ℕ) (turn : Then) (x : PeerState) → BeginsNothing turn → IsListedPeer voting p x → IsListedPeer voting p (made_way turn (turned p turn x))
+turned_listed voting p (thens.SyncOn fact) x begins old = absurd begins
+turned_listed voting p (thens.Lead fact) x begins old = absurd begins
+turned_listed voting p thens.Follow x begins old = listed_follows old
+turned_listed voting p thens.Untrust x begins old = listed_untrusted old
+turned_listed voting p other x begins old = old
+
+next_listed : (voting : List (List ℕ)) (turn : Then) → BeginsNothing turn → IsListedThen voting turn
+next_listed voting (thens.SyncOn fact) begins = absurd begins
+next_listed voting other begins = tt
+
+row_listed : (voting : List (List ℕ)) (p : ℕ) (x : PeerState) (row : PhaseOut) → IsHarmless row → SaysListed voting row.message → IsListedPeer voting p x → GoesListed voting p (x, row)
+row_listed voting p x row harmless says old = record {
+  peer = turned_listed voting p row.then (saved_in row.save (left row.leave x)) harmless.next (subst (λ (save : Option Fact). IsListedPeer voting p (saved_in save (left row.leave x))) (sym harmless.save) (listed_left row.leave old));
+  says = says;
+  next = next_listed voting row.then harmless.next;
+}
+
+module _ (c : Scene) where
+  open c use {lines, view, strings, peer as p}
+
+  module _ {key : List ℕ} {x : PeerState} {h : Held} {out : Out} {notes : List Note} (at : AtRest c key x h out notes) (next mark : Rest PeerState (List Task)) (go : Onward c (PhasesNext c) next mark) where
+    abbrev s : State
+    s = now c at.0.reached
+
+    fits_later : (t : State) (message : Option Message) → ((m : Message) → MessageFits lines s strings p m → MessageFits lines t strings p m) → RowAll (MessageFits lines s strings p) message → RowAll (MessageFits lines t strings p) message
+    fits_later t None later fits = tt
+    fits_later t (Some message) later fits = later message fits
+
+    -- a row that begins nothing, and whose message says nothing of calls
+    harmless_ends : (row : PhaseOut) → IsHarmless row → SaysListed lines.voting row.message → SaysNothing row.message → RowAll (MessageFits lines s strings p) row.message → Ends c (row_done p row x out next) (row_done p row x out mark) h notes
+    harmless_ends row harmless listed mute fits = row_good c key (x, row) x h out notes at (record {
+      goes = goes;
+      turns = record { turn = inl refl; leads = λ fact is. absurd (no_lead row.then fact harmless.next is) };
+      listed = row_listed lines.voting p x row harmless listed at.0.listed;
+      spares = spares_same x;
+      says = mute_says at.0.reached.ghosts (state_after view (goes.es ++ at.0.reached.steps)) p row.message mute;
+      fits = fits_later (state_after view (goes.es ++ at.0.reached.steps)) row.message (λ m. message_stays s (state_after view (goes.es ++ at.0.reached.steps)) strings (entries_there view goes.es at.0.reached.steps goes.run) lines p m) fits;
+    }) next mark go
+      where
+        goes : RowGoes view at.0.reached.steps p x h.stores.facts.kept (x, row)
+        goes = row_goes view at.0.reached.steps p c.is_peer at.0.reached.run at.0.reached.orderly at.0.peer (x, row) (harmless_goes (here view at.0.reached.steps p c.is_peer at.0.reached.run at.0.reached.orderly at.0.peer) row harmless)
+
+  -- ## Rule 23: a node is asked for
+
+  -- what the answer holds, if what is given fits
+  abbrev MayFit : State → ℕ → Epoch → Question → Bool → Option TreeBody → Type 0
+  MayFit s q ballot question trusted None = Unit {0}
+  MayFit s q ballot question trusted (Some body) = GiveFits lines s strings q ballot question trusted body
+
+  module _ (s : State) (trusted : Bool) (from : ℕ) (ballot : Epoch) (at : Position) (after : Option (List ℕ)) where
+    gives_fit : (body : TreeBody) → GiveFits lines s strings p ballot (record { position = at; after = after }) trusted body → RowAll (MessageFits lines s strings p) (gives trusted from ballot at after body).message
+    gives_fit (bodies.Inner mask digests) fits = fits
+    gives_fit (bodies.Page entries more) fits = fits
+    gives_fit (bodies.Damaged place) fits = tt
+
+    read_fits : (body : Option TreeBody) → MayFit s p ballot (record { position = at; after = after }) trusted body → RowAll (MessageFits lines s strings p) (gives_read trusted from ballot at after body).message
+    read_fits None fits = tt
+    read_fits (Some body) fits = gives_fit body fits
+
+    row_fits : (fact : Fact) (body : Option TreeBody) → MayFit s p ballot (record { position = at; after = after }) trusted body → RowAll (MessageFits lines s strings p) (row_23 fact trusted from ballot at after body).message
+    row_fits fact body fits = let P : PhaseOut → Type 0 = λ row. RowAll (MessageFits lines s strings p) row.message in
+        by_test P (is_below ballot fact.ballot) _ _ (λ below. tt) (λ above. by_test P (is_same ballot fact.ballot) _ _ (λ same. read_fits body fits) (λ other. tt))
+
+    gives_mute : (body : TreeBody) → SaysNothing (gives trusted from ballot at after body).message × SaysListed lines.voting (gives trusted from ballot at after body).message
+    gives_mute (bodies.Inner mask digests) = (refl, tt)
+    gives_mute (bodies.Page entries more) = (refl, tt)
+    gives_mute (bodies.Damaged place) = (refl, tt)
+
+    read_mute : (body : Option TreeBody) → SaysNothing (gives_read trusted from ballot at after body).message × SaysListed lines.voting (gives_read trusted from ballot at after body).message
+    read_mute None = (tt, tt)
+    read_mute (Some body) = gives_mute body
+
+    row_mute : (fact : Fact) (body : Option TreeBody) → SaysNothing (row_23 fact trusted from ballot at after body).message × SaysListed lines.voting (row_23 fact trusted from ballot at after body).message
+    row_mute fact body = let P : PhaseOut → Type 0 = λ row. SaysNothing row.message × SaysListed lines.voting row.message in
+        by_test P (is_below ballot fact.ballot) _ _ (λ below. (refl, tt)) (λ above. by_test P (is_same ballot fact.ballot) _ _ (λ same. read_mute body) (λ other. (tt, tt)))
+
+  -- a node of the tree is asked for
+  pub ask_good : {key : List ℕ} {x : PeerState} {h : Held} {out : Out} {notes : List Note} (rest : AtRest c key x h out notes) (next mark : Rest PeerState (List Task)) → Onward c (PhasesNext c) next mark → (from : ℕ) (ballot : Epoch) (at : Position) (after : Option (List ℕ)) → IsPosition at
+      → Ends c (got_ask p from ballot (record { position = at; after = after }) x out next) (got_ask p from ballot (record { position = at; after = after }) x out mark) h notes
+  unfolding asked
+  ask_good {key} {x} {h} {out} {notes} rest next mark go from ballot at after position = by_served (is_same ballot x.fact.ballot) refl
+    where
+      question : Question
+      question = record { position = at; after = after }
+
+      answers : (body : Option TreeBody) (t : Held) → (there : AtRest c key x t out notes) → MayFit (now c there.0.reached) p ballot question x.trusted body
+          → Ends c (row_done p (row_23 x.fact x.trusted from ballot at after body) x out next) (row_done p (row_23 x.fact x.trusted from ballot at after body) x out mark) t notes
+      answers body t there fits = let mute = row_mute (now c there.0.reached) x.trusted from ballot at after x.fact body in
+          harmless_ends there next mark go (row_23 x.fact x.trusted from ballot at after body) (row_23_harmless x.fact x.trusted from ballot at after body) mute.1 mute.0 (row_fits (now c there.0.reached) x.trusted from ballot at after x.fact body fits)
+
+      read_ends : is_same ballot x.fact.ballot ≡ true → Ends c (shown_node true question x out (λ body y o. row_done p (row_23 y.fact y.trusted from ballot at after body) y o next)) (shown_node true question x out (λ body y o. row_done p (row_23 y.fact y.trusted from ballot at after body) y o mark)) h notes
+      read_ends same = ask_ends keeping.grows c (ReadNode at) _ _ h notes (λ among. by_walk among (answered (ReadNode at) h).result refl (keeping.reads strings h rest.0.tree.map at c.free among rest.0.tree.shows position))
+        where
+          kept : (answered (ReadNode at) h).held.stores.facts.kept ≡ h.stores.facts.kept
+          kept = ap (λ (f : HeldFact). f.kept) (keeping.spares (ReadNode at) h).1
+
+          walked_so : (walked : Walked (Option (List ℕ))) → IsReached (node_of sixteen at rest.0.tree.map) (Ok walked) → HasWalked (node_of sixteen at rest.0.tree.map) walked
+          walked_so (Came found) is = is
+          walked_so (Broken place) is = tt
+
+          by_walk : AreAmong (answered (ReadNode at) h).held.hashed strings → (result : Result (Walked (Option (List ℕ))) PeerError) → (answered (ReadNode at) h).result ≡ result → IsReached (node_of sixteen at rest.0.tree.map) result
+              → Answers c (ReadNode at) (λ walked. row_done p (row_23 x.fact x.trusted from ballot at after (Some (body_of question walked))) x out next) (λ walked. row_done p (row_23 x.fact x.trusted from ballot at after (Some (body_of question walked))) x out mark) h notes
+          by_walk among (Ok walked) is found = record {
+            answer = walked;
+            is = is;
+            goes = answers (Some (body_of question walked)) (answered (ReadNode at) h).held (read_here c rest.0 (ReadNode at) tt kept, rest.1)
+                ((laws_here c rest.0.reached).gives strings p ballot question x.trusted rest.0.tree.map walked (firm_here c rest.0.reached) rest.0.trust (rest.0.peer.saved.ballot ∙ ap epoch_number (sym (same_epochs ballot x.fact.ballot same))) rest.0.tree.shows.stands.is_map
+                (λ node within. among node (keeping.grows (ReadNode at) h node (rest.0.tree.shows.texts node within))) rest.0.tree.says (walked_so walked found));
+          }
+          by_walk among (Err e) is none = absurd none
+
+      by_served : (b : Bool) → is_same ballot x.fact.ballot ≡ b → Ends c (shown_node b question x out (λ body y o. row_done p (row_23 y.fact y.trusted from ballot at after body) y o next)) (shown_node b question x out (λ body y o. row_done p (row_23 y.fact y.trusted from ballot at after body) y o mark)) h notes
+      by_served true same = read_ends same
+      by_served false other = answers None h rest tt
+
+  -- ## A node comes
+
+  -- the own node at the position, or none
+  abbrev IsOwnNode : Position → List Entry → Option (List ℕ) → Type 0
+  IsOwnNode at m own = (own ≡ None) ⊎ (own ≡ node_of sixteen at m)
+
+  -- a source sends a node of its tree
+  pub give_good : {key : List ℕ} {x : PeerState} {h : Held} {out : Out} {notes : List Note} (rest : AtRest c key x h out notes) (next mark : Rest PeerState (List Task)) → Onward c (PhasesNext c) next mark → (from : ℕ) (give : Give) → IsPosition give.question.position
+      → GiveFits lines (now c rest.0.reached) strings from give.ballot give.question give.trusted give.body → Ends c (got_give p from give x out next) (got_give p from give x out mark) h notes
+  unfolding asked
+  give_good {key} {x} {h} {out} {notes} rest next mark go from give position fits = by_need (needs_node from give x.sync)
+    where
+      at : Position
+      at = give.question.position
+
+      takes : (own : Option (List ℕ)) (t : Held) → IsOwnNode at rest.0.tree.map own → (there : AtRest c key x t out notes) → GiveFits lines (now c there.0.reached) strings from give.ballot give.question give.trusted give.body → there.0.tree.map ≡ rest.0.tree.map → (sync : Option Running) → x.sync ≡ sync
+          → Ends c (taken_give p from give own sync x out next) (taken_give p from give own sync x out mark) t notes
+      takes own t is there shows same None none = go [] key x t out notes (tt, there)
+      takes own t is there shows same (Some r) runs = gone_good c there next mark go (row_take from give own r) r
+          (record { may = subst (MaySync (now c there.0.reached).objects.ledger x.fact (may_wait x.phase)) (sym (fact_stays from give own r)) syncing.may; asks = taken_are p from give own r syncing.asks })
+          (subst (IsListedFact lines.voting) (sym (fact_stays from give own r)) (subst (IsListedSync lines.voting) runs there.0.listed.sync))
+          ((laws_here c there.0.reached).takes strings p x.fact x.trusted there.0.tree.map r from give own c.free position syncing.asks shows (subst (λ m. (own ≡ None) ⊎ (own ≡ node_of sixteen at m)) (sym same) is)
+          (subst (SyncMaySay lines (now c there.0.reached) strings p x.fact x.trusted there.0.tree.map) runs there.0.sync))
+          (take_go p from give own r syncing.asks) (take_ask p from give own r syncing.asks)
+        where
+          syncing : IsSyncing (now c there.0.reached).objects.ledger p x.fact (may_wait x.phase) r
+          syncing = subst (ledgers.SyncHolds (now c there.0.reached).objects.ledger p x.fact (may_wait x.phase)) runs there.0.peer.sync
+
+      read_ends : Ends c (own_node true at x out (λ own y o. taken_give p from give own y.sync y o next)) (own_node true at x out (λ own y o. taken_give p from give own y.sync y o mark)) h notes
+      read_ends = ask_ends keeping.grows c (ReadNode at) _ _ h notes (λ among. by_walk (answered (ReadNode at) h).result refl (keeping.reads strings h rest.0.tree.map at c.free among rest.0.tree.shows position))
+        where
+          kept : (answered (ReadNode at) h).held.stores.facts.kept ≡ h.stores.facts.kept
+          kept = ap (λ (f : HeldFact). f.kept) (keeping.spares (ReadNode at) h).1
+
+          own_is : (walked : Walked (Option (List ℕ))) → IsReached (node_of sixteen at rest.0.tree.map) (Ok walked) → IsOwnNode at rest.0.tree.map (reached walked)
+          own_is (Came found) is = inr is
+          own_is (Broken place) is = inl refl
+
+          by_walk : (result : Result (Walked (Option (List ℕ))) PeerError) → (answered (ReadNode at) h).result ≡ result → IsReached (node_of sixteen at rest.0.tree.map) result
+              → Answers c (ReadNode at) (λ walked. taken_give p from give (reached walked) x.sync x out next) (λ walked. taken_give p from give (reached walked) x.sync x out mark) h notes
+          by_walk (Ok walked) is found = record { answer = walked; is = is; goes = takes (reached walked) (answered (ReadNode at) h).held (own_is walked found) (read_here c rest.0 (ReadNode at) tt kept, rest.1) fits refl x.sync refl }
+          by_walk (Err e) is none = absurd none
+
+      by_need : (b : Bool) → Ends c (own_node b at x out (λ own y o. taken_give p from give own y.sync y o next)) (own_node b at x out (λ own y o. taken_give p from give own y.sync y o mark)) h notes
+      by_need true = read_ends
+      by_need false = takes None h (inl refl) rest fits refl x.sync refl

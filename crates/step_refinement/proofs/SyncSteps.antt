@@ -1,0 +1,569 @@
+-- A sync in the step of a peer: it begins, asks again, takes what a source sends, and ends. At its end the
+-- peer installs the merged map and accepts the epoch that it promised.
+use Rattle.std.specs.Prelude.{All, nat_le, not, ◌&&◌, ◌==◌}
+use Rattle.std.proofs.Common.{◌≡◌, ◌⊎◌, inl, inr, ◌<◌, ◌≤◌, ◌^◌, ℕ, Bool, true, false, List, [], ◌∷◌, ◌++◌, get_or, length, map, Option, None, Some, Result, Ok, Err, arith, refl, ap, sym, subst, ◌∙◌}
+use Rattle.std.proofs.lemmas.List.Elements.{All-nil, All-cons}
+use Rattle.ens_base.specs.Views.{last_view}
+use Rattle.ens_base.specs.declared.entry.Entry.{Entry}
+use Rattle.ens_base.specs.declared.epoch.Epoch.{Epoch}
+use Rattle.abstract_protocol.specs.Ledger.{Ledger, Place, put}
+use Rattle.abstract_protocol.specs.Numbers.{epoch_number}
+use Rattle.abstract_protocol.specs.Objects.{Map, MayEndSync}
+use Rattle.abstract_protocol.specs.Protocol.{State, Step, Install, EndSync, MayCome, happens}
+use Rattle.election.specs.declared.election.Election.TheVariants.{Preparing, Starting}
+use Rattle.election_laws.proofs.Epochs.{not_empty, run_elections}
+use Rattle.election_laws.proofs.Sound.{run_sound}
+use Rattle.election_refinement.proofs.Keeps.{keeps_none, join_keeps, sends_keep}
+use Rattle.election_refinement.proofs.Listed.{listed_synced, listed_counts_itself, listed_sync}
+use Rattle.election_refinement.proofs.Reaching.{Course, join_reaches}
+use Rattle.election_refinement.proofs.Saving.{first_saved}
+use Rattle.election_refinement.proofs.Syncing.{questions_hold, acceptance_holds, phase_joins, counts_itself}
+use Rattle.election_refinement.proofs.Tests.{by_test}
+use Rattle.election_refinement.specs.Listed.{IsListedFact, IsListedMessage, IsListedPeer, IsListedSync}
+use Rattle.election_refinement.specs.Refinement as ledgers
+use Rattle.election_refinement.specs.Refinement.{PhaseHolds, IsFirst, IsSaved, IsOrderly, IsSyncing, MaySync, change_at, may_wait}
+use Rattle.entry_laws.proofs.Later.{stay_step}
+use Rattle.entry_laws.specs.Stays.{EntriesStay}
+use Rattle.held_stores.specs.Answers.{Answered, answered, with_facts}
+use Rattle.held_stores.specs.Held.{Held}
+use Rattle.leader_laws.proofs.Roles.{run_roles}
+use Rattle.leader_laws.specs.Roles.{RolesHold}
+use Rattle.leader_refinement.specs.Seen.{rank, owed_after}
+use Rattle.leader_words.specs.declared.out.Outgoing.{Outgoing}
+use Rattle.peer_core.specs.Moves.{electing, without_sync}
+use Rattle.peer_core.specs.Syncs.{saved, and_sends, with_sync, installed, accepted, accepted_in, synced, ended_with, gone_on, begun_sync, resumed_sync}
+use Rattle.peer_core.specs.declared.state.Phase.{Phase}
+use Rattle.peer_core.specs.declared.state.Phase.TheVariants as phases
+use Rattle.peer_core.specs.declared.state.State.{State as PeerState}
+use Rattle.peer_fact.specs.declared.fact.Change.TheVariants as changes
+use Rattle.peer_fact.specs.declared.fact.Fact.{Fact}
+use Rattle.phase_rows.specs.Peers.{joined}
+use Rattle.register_model.specs.declared.call.Call.{Call as BookCall}
+use Rattle.register_model.specs.declared.note.Note.{Note}
+use Rattle.running_sync.proofs.Messages.{start_go, resume_go, start_ask, resume_ask}
+use Rattle.running_sync.proofs.Others.{asks_are, resumed_are}
+use Rattle.running_sync.specs.Rows.{row_start, row_resume}
+use Rattle.running_sync.specs.Running.{Running}
+use Rattle.running_sync.specs.Sends.{MayGo, AsksAt, IsQuestion}
+use Rattle.step_plans.specs.Calls.{Call, ScanTree, Install as InstallTree, Save}
+use Rattle.step_plans.specs.Plans.{Out, Rest, asked}
+use Rattle.step_plans.specs.declared.error.PeerError.{PeerError}
+use Rattle.step_plans.specs.declared.error.PeerError.TheVariants.{StoreFault}
+use Rattle.step_plans.specs.declared.tasks.Task.{Task}
+use Rattle.step_plans.specs.declared.tasks.Task.TheVariants as tasks
+use Rattle.sync_laws.proofs.Gives.{may_end}
+use Rattle.sync_laws.specs.Facts as facts
+use Rattle.sync_laws.specs.Peers as Theory
+use Rattle.sync_refinement.proofs.Assembled.{laws as run_syncs}
+use Rattle.sync_refinement.proofs.Firsts.{seen_first}
+use Rattle.sync_refinement.proofs.Staying.{version_stays, entries_stay}
+use Rattle.sync_refinement.specs.Laws.{AreFewKeys, FirmAreKept, SyncEnds, SyncLaws}
+use Rattle.sync_refinement.specs.Seen.{ranks, seen_fact, seen_tree}
+use Rattle.sync_refinement.specs.Syncs.{SyncSays, SyncMaySay, TreeSays, MayReturn}
+use Rattle.sync_rule.specs.Syncs.{outcome_of, needs_build}
+use Rattle.sync_rule.specs.declared.sync.Outcome.{Outcome}
+use Rattle.sync_rule.specs.declared.sync.Outcome.TheVariants.{Pending, Trusted}
+use Rattle.tree_node.specs.declared.body.Scan.{Scan}
+use Rattle.tree_node.specs.declared.position.Position.{Position}
+use Rattle.tree_refinement.proofs.Damage.{scan_positions}
+use Rattle.tree_refinement.proofs.Keeping as keeping
+use Rattle.tree_refinement.proofs.Recording.{last_top}
+use Rattle.tree_refinement.proofs.Tops.{installs as installs_tops}
+use Rattle.tree_refinement.specs.Laws.{IsScanned, KeepsRoot}
+use Rattle.tree_refinement.specs.Tops.{HasBuilt, IsTorn, IsWritten, NamesNext, tops_of}
+use Rattle.tree_refinement.specs.Trees.{AreAmong}
+use Rattle.version_laws.proofs.Maps.{put_here, put_other}
+use Rattle.version_laws.proofs.Trees.{run_versions}
+use Rattle.version_laws.proofs.Views.{last_view_in}
+use Rattle.wire_frames.specs.declared.message.Message.TheVariants as messages
+use Rattle.wire_frames.specs.declared.message.Message.{Message}
+use Rattle.world_stores.specs.Nodes.{top_of}
+use Rattle.world_stores.specs.declared.fact.HeldFact.{HeldFact}
+use Rattle.step_refinement.proofs.CallByCall.{Ends, Answers, IsRefused, Onward, ask_ends, ask_may_end, rest_task}
+use Rattle.step_refinement.specs.Scenes.{Scene, Reached, state_before, now, Elsewhere, Here, AtRest, Rests}
+use Rattle.step_refinement.proofs.CalledKeys.{run_keys_few, length_keys, key_from}
+use Rattle.step_refinement.proofs.Stretches.{elsewhere_then}
+use Rattle.step_refinement.proofs.StoreAnswers.{HasEither, SaveEnds, Saves, Refuses, save_ends}
+use Rattle.step_refinement.proofs.Refusals.{Halts, rests_down, rests_over}
+use Rattle.step_refinement.proofs.SentMessages.{SaysSo, SendSaysSo, says_nothing, tells_more}
+use Rattle.step_refinement.proofs.LaterStates.{phase_stays, sends_stay}
+use Rattle.step_refinement.proofs.LeaderTasks.{PhasesNext}
+use Rattle.step_refinement.proofs.ShownMaps.{tree_kept, tree_saved, tree_written, tree_stays, tops_behind, tops_next, tops_stay}
+use Rattle.step_refinement.specs.Peers.{MessageFits, SendFits, TreeHolds, TopsReturn}
+use Rattle.step_refinement.specs.Roles.{role_in, said_in_sends}
+
+-- ## Questions
+
+-- what holds of each question holds of a message that asks
+by_question : (P : Message → Type 0) (ballot : Epoch) (message : Message) → ((epoch : Epoch) (at : Position) (after : Option (List ℕ)) → P (messages.TreeAsk epoch at after)) → AsksAt ballot message → P message
+by_question P ballot (messages.TreeAsk epoch at after) holds asks = holds epoch at after
+by_question P ballot message holds asks = absurd asks
+
+-- and of each message of a sync that asks
+pub asked_each : (P : Message → Type 0) (r : Running) (more : List Outgoing) → ((epoch : Epoch) (at : Position) (after : Option (List ℕ)) → P (messages.TreeAsk epoch at after)) → All (IsQuestion r) more → All (λ (o : Outgoing). P o.message) more
+asked_each P r more holds ask n o at = by_question P r.fact.epoch (get_or more n o).message holds (ask n o at).1
+
+-- ## First facts
+
+-- a first fact tells no change
+first_change : (l : Ledger) (f : Fact) → IsFirst l f → f.change ≡ changes.None
+first_change l f first = first.known.change ∙ ap (λ (n : ℕ). change_at l (record { epoch = epoch_number f.epoch; seq = n })) first.seq
+
+first_seen : (l : Ledger) (f : Fact) → IsFirst l f → facts.IsFirst l (seen_fact f)
+first_seen l f first = seen_first l f first.known.below first.known.elected first.seq first.later first.own_ballot first.known.views (first_change l f first)
+
+-- ## Steps of the end of a sync
+
+-- a step that the others do not see, from which the peer's tree or its trust may change
+elsewhere_install : (p d : ℕ) (m : Map) (s : State) → MayCome s (Install p d m) → Elsewhere p s (happens s (Install p d m))
+elsewhere_install p d m s may = record {
+  ledger = keeps_none s.objects.ledger p;
+  map = λ q other. put_other s.objects.map p m q other;
+  visible = λ q other. put_other s.objects.visible p m q other;
+  trusted = λ q other. refl;
+  reverted = λ q. refl;
+  stays = stay_step s (Install p d m) may;
+  calls = refl;
+  called = refl;
+  answers = refl;
+  answered = refl;
+  now = refl;
+}
+
+elsewhere_end : (p d : ℕ) (s : State) → s.objects.ledger.ballot p ≡ d → MayCome s (EndSync p d) → Elsewhere p s (happens s (EndSync p d))
+elsewhere_end p d s stands may = record {
+  ledger = join_keeps s.objects.ledger p d stands;
+  map = λ q other. refl;
+  visible = λ q other. refl;
+  trusted = λ q other. put_other s.objects.trusted p true q other;
+  reverted = λ q. refl;
+  stays = stay_step s (EndSync p d) may;
+  calls = refl;
+  called = refl;
+  answers = refl;
+  answered = refl;
+  now = refl;
+}
+
+module _ (c : Scene) where
+  open c use {lines, view, strings, peer as p}
+
+  -- the run goes on with a step that leaves the others, and what was acknowledged
+  abbrev goes_on : (r : Reached c) (e : Step) (may : MayCome (now c r) e) → Elsewhere p (now c r) (happens (now c r) e) → IsOrderly (happens (now c r) e).objects.ledger → (happens (now c r) e).objects.acked ≡ (now c r).objects.acked → Reached c
+  goes_on r e may moved orderly same = record {
+    steps = e ∷ r.steps;
+    run = (r.run, may);
+    ghosts = r.ghosts;
+    hash = r.hash;
+    elsewhere = elsewhere_then p (state_before c) (now c r) (happens (now c r) e) r.elsewhere moved;
+    orderly = orderly;
+    acks = λ v q fits acked. version_stays (now c r) (happens (now c r) e) strings (stay_step (now c r) e may) v (r.acks v q fits (subst (λ (f : ℕ → ℕ → Bool). f (rank v) q ≡ true) same acked));
+  }
+
+  -- the laws of syncs in the state that the step has reached
+  pub laws_here : (r : Reached c) → SyncLaws lines (now c r)
+  laws_here r = run_syncs lines view r.steps r.run
+
+  -- no firm peer was reverted
+  pub firm_here : (r : Reached c) → FirmAreKept lines (now c r)
+  firm_here r q firm = r.elsewhere.reverted q ∙ c.firm q firm
+
+  few_here : (r : Reached c) → AreFewKeys (now c r)
+  few_here r m proposed keys distinct = below (run_keys_few view r.steps r.run (map (λ (e : Entry). e.key) m) distinct (key_from (λ k. (v : ℕ) × ((now c r).objects.proposed v ≡ true) × ((now c r).objects.key v ≡ k)) m (λ e at. (rank e.version, proposed e at, sym (keys e at)))))
+      (length_keys m) (ap (λ (calls : List BookCall). length calls) r.elsewhere.calls) c.few
+    where
+      below : length (map (λ (e : Entry). e.key) m) ≤ length (now c r).book.calls → length (map (λ (e : Entry). e.key) m) ≡ length m → length (now c r).book.calls ≡ length (state_before c).book.calls → length (state_before c).book.calls < 2 ^ 32 → length m < 2 ^ 32
+      below le same calls few = omega (arith, le, same, calls, few)
+
+  -- ## What a sync sends
+
+  -- the peer asks these questions
+  abbrev pub asks_here : {key : List ℕ} {x : PeerState} {h : Held} {out : Out} {notes : List Note} → (here : Here c key x h out notes) → (r : Running) (more : List Outgoing) → All (MayGo p) more → All (IsQuestion r) more → Here c key x h (and_sends out more) notes
+  asks_here {key} {x} {h} {out} {notes} here r more go ask = tells_more c key x h out notes more here (questions_hold (now c here.reached).objects.ledger p r more go ask)
+      (asked_each (IsListedMessage lines.voting) r more (λ epoch place after. tt) ask)
+      (asked_each (MessageFits lines (now c here.reached) strings p) r more (λ epoch place after. tt) ask)
+      (asked_each (SaysSo here.reached.ghosts (now c here.reached) p) r more (λ epoch place after. says_nothing here.reached.ghosts (now c here.reached) p (messages.TreeAsk epoch place after) refl) ask)
+
+  -- ## A sync runs on
+
+  module _ {key : List ℕ} {x : PeerState} {h : Held} {out : Out} {notes : List Note} (here : Here c key x h out notes) where
+    -- this sync runs
+    abbrev pub runs_here : (r : Running) → IsSyncing (now c here.reached).objects.ledger p x.fact (may_wait x.phase) r → IsListedFact lines.voting r.fact → SyncSays lines (now c here.reached) strings p x.fact x.trusted here.tree.map r → Here c key (with_sync r x) h out notes
+    runs_here r syncing listed says = record {
+      reached = here.reached;
+      roles = here.roles;
+      peer = record { saved = here.peer.saved; kept = here.peer.kept; phase = here.peer.phase; sync = syncing };
+      listed = listed_sync (Some r) listed here.listed;
+      trust = here.trust;
+      tree = here.tree;
+      sync = says;
+      fits = here.fits;
+      task = here.task;
+      noted = here.noted;
+      sends = here.sends;
+      listed_sends = here.listed_sends;
+      fits_sends = here.fits_sends;
+    }
+
+    -- no sync runs
+    abbrev pub alone_here : Here c key (without_sync x) h out notes
+    alone_here = record {
+      reached = here.reached;
+      roles = here.roles;
+      peer = record { saved = here.peer.saved; kept = here.peer.kept; phase = here.peer.phase; sync = tt };
+      listed = listed_sync None tt here.listed;
+      trust = here.trust;
+      tree = here.tree;
+      sync = tt;
+      fits = here.fits;
+      task = here.task;
+      noted = here.noted;
+      sends = here.sends;
+      listed_sends = here.listed_sends;
+      fits_sends = here.fits_sends;
+    }
+
+  -- ## The merged map is installed
+
+  module _ {key : List ℕ} {x : PeerState} {h : Held} {out : Out} {notes : List Note} (at : AtRest c key x h out notes) (r : Running) (entries : List Entry) (alone : x.sync ≡ None) (may : MaySync (now c at.0.reached).objects.ledger x.fact (may_wait x.phase) r.fact)
+      (ends : SyncEnds (now c at.0.reached) strings p at.0.tree.map r entries) where
+    abbrev s : State
+    s = now c at.0.reached
+
+    abbrev d : ℕ
+    d = epoch_number r.fact.epoch
+
+    may_install : MayCome s (Install p d (ranks entries))
+    may_install = (ends.may, tt)
+
+    abbrev t : State
+    t = happens s (Install p d (ranks entries))
+
+    stay : EntriesStay s t
+    stay = stay_step s (Install p d (ranks entries)) may_install
+
+    abbrev reached : Reached c
+    reached = goes_on at.0.reached (Install p d (ranks entries)) may_install (elsewhere_install p d (ranks entries) s may_install) at.0.reached.orderly refl
+
+    roles_on : RolesHold at.0.reached.ghosts t (put c.roles p (role_in key x.phase (owed_after [] out.answers))) (said_in_sends p out.sends ++ c.said)
+    roles_on = (run_roles view at.0.reached.steps at.0.reached.run).silent at.0.reached.ghosts (put c.roles p (role_in key x.phase (owed_after [] out.answers))) (said_in_sends p out.sends ++ c.said) (Install p d (ranks entries)) may_install tt at.0.roles
+
+    -- what the tree shows then
+    says_merged : TreeSays t strings p entries
+    says_merged = record { entries = entries_stay s t strings stay entries ends.entries_say; visible = λ k. ap (λ (m : Map). m k) (put_here s.objects.visible p (ranks entries)) }
+
+    return_merged : MayReturn t strings p entries
+    return_merged = (run_syncs lines view reached.steps reached.run).may_return strings p entries ends.is_map says_merged
+
+    abbrev halted : Halts c x notes
+    halted = record { reached = reached; role = role_in key x.phase (owed_after [] out.answers); sends = out.sends; roles = roles_on; saved = at.0.peer.saved; listed = at.0.listed.fact; noted = at.0.noted }
+
+    -- the peer agrees with the run, over stores whose tree shows the merged map
+    abbrev installed_here : (u : Held) → u.stores.facts.kept ≡ h.stores.facts.kept → TreeHolds t strings p u → Here c key x u out notes
+    installed_here u kept tree = record {
+      reached = reached;
+      roles = roles_on;
+      peer = record { saved = at.0.peer.saved; kept = kept ∙ at.0.peer.kept; phase = at.0.peer.phase; sync = at.0.peer.sync };
+      listed = at.0.listed;
+      trust = at.0.trust;
+      tree = tree;
+      sync = subst (λ (sync : Option Running). SyncMaySay lines t strings p x.fact x.trusted tree.map sync) (sym alone) tt;
+      fits = phase_stays at.0.reached.ghosts.hash s t p x.fact x.phase stay (λ e elected. refl) at.0.peer.phase at.0.fits;
+      task = rest_task t key x.phase at.1;
+      noted = at.0.noted;
+      sends = at.0.sends;
+      listed_sends = at.0.listed_sends;
+      fits_sends = sends_stay s t strings stay lines p out.sends at.0.fits_sends;
+    }
+
+    -- the own tree is already that of the merged map
+    kept_tree : entries ≡ at.0.tree.map → TreeHolds t strings p h
+    kept_tree same = record {
+      map = at.0.tree.map;
+      shows = at.0.tree.shows;
+      says = subst (TreeSays t strings p) same says_merged;
+      recorded = at.0.tree.recorded;
+      tops = tops_stay s t strings h.hashed p (tops_of h.stores) stay at.0.tree.tops;
+    }
+
+    -- the tree is built, or its building is refused
+    spared : (answered (InstallTree entries) h).held.stores.facts.kept ≡ h.stores.facts.kept
+    spared = ap (λ (f : HeldFact). f.kept) (keeping.spares (InstallTree entries) h).1
+
+    torn_rests : (e : PeerError) → IsTorn entries h e (answered (InstallTree entries) h).held → Rests c (answered (InstallTree entries) h).held notes
+    torn_rests e torn = by_tops torn.1
+      where
+        by_tops : (tops_of (answered (InstallTree entries) h).held.stores ≡ tops_of h.stores) ⊎ NamesNext entries h (answered (InstallTree entries) h).held → Rests c (answered (InstallTree entries) h).held notes
+        by_tops (inl same) = rests_over c at.0 (answered (InstallTree entries) h).held spared same (keeping.grows (InstallTree entries) h)
+        by_tops (inr next) = rests_down c halted (answered (InstallTree entries) h).held entries next.digest (spared ∙ at.0.peer.kept) (ap (λ tops. top_of tops) next.tops ∙ last_top (tops_of h.stores) next.digest) next.named says_merged
+            (subst (λ (tops : List (List ℕ)). TopsReturn t strings (answered (InstallTree entries) h).held.hashed p tops) (sym next.tops)
+            (tops_next t strings (answered (InstallTree entries) h).held.hashed p (tops_of h.stores) next.digest entries next.named return_merged
+            (tops_behind t strings h.hashed (answered (InstallTree entries) h).held.hashed p (tops_of h.stores) (keeping.grows (InstallTree entries) h) (tops_stay s t strings h.hashed p (tops_of h.stores) stay at.0.tree.tops))))
+
+    built_tree : IsWritten entries h (answered (InstallTree entries) h).held → TreeHolds t strings p (answered (InstallTree entries) h).held
+    built_tree written = tree_written t strings p h (answered (InstallTree entries) h).held entries written (keeping.grows (InstallTree entries) h) says_merged return_merged (tops_stay s t strings h.hashed p (tops_of h.stores) stay at.0.tree.tops)
+
+    -- the sync may end then
+    pub record MayAccept (there : Reached c) : Type 0 where
+      pub syncs : MaySync (now c there).objects.ledger x.fact (may_wait x.phase) r.fact
+      pub finishes : MayEndSync (now c there).objects p (epoch_number r.fact.epoch)
+
+    may_accept : MayAccept reached
+    may_accept = record { syncs = may; finishes = may_end lines s (run_versions view at.0.reached.steps at.0.reached.run) p (seen_fact x.fact) (seen_tree at.0.tree.map) x.trusted Theory.Following d (ranks entries) ends.may }
+
+    -- the tree is built if that is needed
+    installed_ends : (builds : Bool) → needs_build r.sync.scan entries ≡ builds → (next mark : Rest PeerState (Unit {0})) → ((u : Held) → (there : Here c key x u out notes) → MayAccept there.reached → Ends c (next tt x out) (mark tt x out) u notes)
+        → Ends c (installed builds entries x out next) (installed builds entries x out mark) h notes
+    unfolding asked
+    installed_ends false is next mark go = go h (installed_here h refl (kept_tree (ends.kept is))) may_accept
+    installed_ends true is next mark go = ask_may_end keeping.grows c (InstallTree entries) (λ u. next u x out) (λ u. mark u x out) h notes (λ among. by_end (answered (InstallTree entries) h).result refl (installs_tops h entries ends.is_map))
+      where
+        by_end : (result : Result (Unit {0}) PeerError) → (answered (InstallTree entries) h).result ≡ result → HasBuilt entries h result (answered (InstallTree entries) h).held
+            → Answers c (InstallTree entries) (λ u. next u x out) (λ u. mark u x out) h notes ⊎ IsRefused c (InstallTree entries) h notes
+        by_end (Ok done) is written = inl (record { answer = tt; is = is; goes = go (answered (InstallTree entries) h).held (installed_here (answered (InstallTree entries) h).held spared (built_tree written)) may_accept })
+        by_end (Err e) is torn = inr (record { error = e; is = is; rests = torn_rests e torn })
+
+  -- ## The epoch is accepted
+
+  -- a peer whose tree shows what a sync merged accepts the epoch that it promised, and trusts its tree
+  module _ {key : List ℕ} {x : PeerState} {h : Held} {out : Out} {notes : List Note} (at : AtRest c key x h out notes) (new : Fact) (listed : IsListedFact lines.voting new) (may : MaySync (now c at.0.reached).objects.ledger x.fact (may_wait x.phase) new)
+      (may_end : MayEndSync (now c at.0.reached).objects p (epoch_number new.epoch)) where
+    abbrev merged : State
+    merged = now c at.0.reached
+
+    abbrev epoch : ℕ
+    epoch = epoch_number new.epoch
+
+    stands : merged.objects.ledger.ballot p ≡ epoch
+    stands = at.0.peer.saved.ballot ∙ ap epoch_number (sym may.promised)
+
+    may_join : MayCome merged (EndSync p epoch)
+    may_join = ((record { elected = may.first.known.elected; stands = stands; newer = subst (λ (place : Place). place.epoch < epoch) (sym at.0.peer.saved.place) may.newer }, may_end), tt)
+
+    abbrev later : State
+    later = happens merged (EndSync p epoch)
+
+    stay_on : EntriesStay merged later
+    stay_on = stay_step merged (EndSync p epoch) may_join
+
+    -- the ledger stays orderly
+    abbrev course : Course
+    course = record { view = view; steps = at.0.reached.steps; peer = p; is_peer = c.is_peer; joins = Unit {0} }
+
+    orderly : IsOrderly later.objects.ledger
+    orderly = (join_reaches course merged.objects.ledger (record { more = []; kinds = tt; run = at.0.reached.run; same = refl; orderly = at.0.reached.orderly }) tt epoch may.first.later may.first.known.elected stands (subst (λ (place : Place). place.epoch < epoch) (sym at.0.peer.saved.place) may.newer)).orderly
+
+    abbrev reached_on : Reached c
+    reached_on = goes_on at.0.reached (EndSync p epoch) may_join (elsewhere_end p epoch merged stands may_join) orderly refl
+
+    roles_joined : RolesHold at.0.reached.ghosts later (put c.roles p (role_in key x.phase (owed_after [] out.answers))) (said_in_sends p out.sends ++ c.said)
+    roles_joined = (run_roles view at.0.reached.steps at.0.reached.run).silent at.0.reached.ghosts (put c.roles p (role_in key x.phase (owed_after [] out.answers))) (said_in_sends p out.sends ++ c.said) (EndSync p epoch) may_join tt at.0.roles
+
+    -- the peer then, once the fact is saved
+    abbrev joined_state : PeerState
+    joined_state = record x { fact = new; trusted = true; sync = None }
+
+    abbrev held : Held
+    held = with_facts (record h.stores.facts { kept = Some new }) h
+
+    saved_new : IsSaved later.objects.ledger p new
+    saved_new = first_saved merged.objects.ledger later.objects.ledger p new (join_keeps merged.objects.ledger p epoch stands) may.first stands (put_here merged.objects.ledger.fact p (record { epoch = epoch; seq = 1 }))
+
+    listed_new : IsListedPeer lines.voting p joined_state
+    listed_new = listed_synced new listed at.0.listed
+
+    tree_new : TreeHolds later strings p held
+    tree_new = tree_stays merged later strings p held stay_on refl (tree_saved merged strings p (record h.stores.facts { kept = Some new }) h at.0.tree)
+
+    abbrev joined_here : AtRest c key joined_state held out notes
+    joined_here = (
+      record {
+        reached = reached_on;
+        roles = roles_joined;
+        peer = record { saved = saved_new; kept = refl; phase = phase_joins merged.objects.ledger p x.fact new x.phase stands may at.0.peer.phase; sync = tt };
+        listed = listed_new;
+        trust = put_here merged.objects.trusted p true;
+        tree = tree_new;
+        sync = tt;
+        fits = phase_stays at.0.reached.ghosts.hash merged later p x.fact x.phase stay_on (λ e elected. refl) at.0.peer.phase at.0.fits;
+        task = rest_task later key x.phase at.1;
+        noted = at.0.noted;
+        sends = sends_keep merged.objects.ledger later.objects.ledger p (join_keeps merged.objects.ledger p epoch stands) p out.sends at.0.sends;
+        listed_sends = at.0.listed_sends;
+        fits_sends = sends_stay merged later strings stay_on lines p out.sends at.0.fits_sends;
+      },
+      at.1,
+    )
+
+    -- the fact is saved, or the save is refused
+    accepts_ends : (next mark : Rest PeerState (Unit {0})) → Ends c (next tt (record x { fact = new }) out) (mark tt (record x { fact = new }) out) held notes → Ends c (saved (Some new) x out next) (saved (Some new) x out mark) h notes
+    unfolding asked
+    accepts_ends next mark goes = ask_may_end keeping.grows c (Save new) (λ u. next u (record x { fact = new }) out) (λ u. mark u (record x { fact = new }) out) h notes (λ among. by_end (save_ends new h))
+      where
+        tops_same : tops_of (answered (Save new) h).held.stores ≡ tops_of h.stores
+        tops_same = ap (λ tree. tree.store.tops) (keeping.spares (Save new) h).1
+
+        rests_either : HasEither new h (answered (Save new) h).held → Rests c (answered (Save new) h).held notes
+        rests_either (inl same) = rests_over c at.0 (answered (Save new) h).held same tops_same (keeping.grows (Save new) h)
+        rests_either (inr is) = rests_over c joined_here.0 (answered (Save new) h).held is tops_same (keeping.grows (Save new) h)
+
+        by_end : SaveEnds new h (answered (Save new) h) → Answers c (Save new) (λ u. next u (record x { fact = new }) out) (λ u. mark u (record x { fact = new }) out) h notes ⊎ IsRefused c (Save new) h notes
+        by_end (Saves is) = inl (record {
+          answer = tt;
+          is = ap (λ (a : Answered (Save new)). a.result) is;
+          goes = subst (λ (u : Held). Ends c (next tt (record x { fact = new }) out) (mark tt (record x { fact = new }) out) u notes) (sym (ap (λ (a : Answered (Save new)). a.held) is)) goes;
+        })
+        by_end (Refuses is left) = inr (record { error = StoreFault; is = is; rests = rests_either left })
+
+  -- ## What follows the acceptance
+
+  -- the peer has accepted its fact, at the ballot of that fact, and runs no sync
+  accepted_good : {key : List ℕ} {h : Held} {out : Out} {notes : List Note} (phase : Phase) (x : PeerState) → x.phase ≡ phase → x.trusted ≡ true → x.sync ≡ None → x.fact.ballot ≡ x.fact.epoch → (at : AtRest c key x h out notes) → (next mark : Rest PeerState (List Task)) → Onward c (PhasesNext c) next mark
+      → Ends c (accepted_in p x.fact phase x out next) (accepted_in p x.fact phase x out mark) h notes
+  accepted_good {key} {h} {out} {notes} (phases.Electing (Starting new accepts age)) x is trusts alone own_ballot at next mark go =
+      go (tasks.Phase 14 ∷ []) key (electing (Starting new (joined p accepts) age) x) h out notes (
+        tt,
+        (
+          record {
+            reached = at.0.reached;
+            roles = subst (λ (phase : Phase). RolesHold at.0.reached.ghosts (now c at.0.reached) (put c.roles p (role_in key phase (owed_after [] out.answers))) (said_in_sends p out.sends ++ c.said)) is at.0.roles;
+            peer = record {
+              saved = at.0.peer.saved;
+              kept = at.0.peer.kept;
+              phase = counts_itself (now c at.0.reached).objects.ledger p x.fact new accepts own_ballot own_accepted (subst (PhaseHolds (now c at.0.reached).objects.ledger p x.fact) is at.0.peer.phase);
+              sync = subst (ledgers.SyncHolds (now c at.0.reached).objects.ledger p x.fact true) (sym alone) tt;
+            };
+            listed = listed_counts_itself new accepts age trusts is at.0.listed;
+            trust = at.0.trust;
+            tree = at.0.tree;
+            sync = at.0.sync;
+            fits = tt;
+            task = tt;
+            noted = at.0.noted;
+            sends = at.0.sends;
+            listed_sends = at.0.listed_sends;
+            fits_sends = at.0.fits_sends;
+          },
+          tt,
+        ),
+      )
+    where
+      own_accepted : (now c at.0.reached).objects.ledger.accepted (epoch_number x.fact.epoch) p ≡ true
+      own_accepted = subst (λ (place : Place). (now c at.0.reached).objects.ledger.accepted place.epoch p ≡ true) at.0.peer.saved.place ((run_elections view at.0.reached.steps at.0.reached.run).ballots.last p)
+  accepted_good {key} {h} {out} {notes} (phases.Electing (Preparing base promises asked_of age)) x is trusts alone own_ballot at next mark go = go [] key x h out notes (tt, at)
+  accepted_good {key} {h} {out} {notes} (phases.Following f) x is trusts alone own_ballot at next mark go = go [] key x h (and_sends out (accepted p x.fact)) notes (
+    tt,
+    (
+      tells_more c key x h out notes (accepted p x.fact) at.0
+          (acceptance_holds (now c at.0.reached).objects.ledger p x.fact own_accepted)
+          (each (λ (o : Outgoing). IsListedMessage lines.voting o.message) tt)
+          (each (SendFits lines (now c at.0.reached) strings p) tt)
+          (each (SendSaysSo at.0.reached.ghosts (now c at.0.reached) p) (says_nothing at.0.reached.ghosts (now c at.0.reached) p (messages.Accepted x.fact.epoch 1) refl)),
+      at.1,
+    ),
+  )
+    where
+      own_accepted : (now c at.0.reached).objects.ledger.accepted (epoch_number x.fact.epoch) p ≡ true
+      own_accepted = subst (λ (place : Place). (now c at.0.reached).objects.ledger.accepted place.epoch p ≡ true) at.0.peer.saved.place ((run_elections view at.0.reached.steps at.0.reached.run).ballots.last p)
+
+      each : (P : Outgoing → Type 0) → P (record { to = x.fact.leader; message = messages.Accepted x.fact.epoch 1 }) → All P (accepted p x.fact)
+      each P holds = by_test (All P) (nat_le 1 x.fact.leader && nat_le x.fact.leader 31 && not (x.fact.leader == p)) _ _ (λ other. All-cons P (record { to = x.fact.leader; message = messages.Accepted x.fact.epoch 1 }) [] holds (All-nil P)) (λ none. All-nil P)
+  accepted_good {key} {h} {out} {notes} (phases.Probing b) x is trusts alone own_ballot at next mark go = go [] key x h out notes (tt, at)
+  accepted_good {key} {h} {out} {notes} (phases.Leading l) x is trusts alone own_ballot at next mark go = go [] key x h out notes (tt, at)
+
+  -- ## The end of a sync
+
+  module _ {key : List ℕ} {x : PeerState} {h : Held} {out : Out} {notes : List Note} (at : AtRest c key x h out notes) (next mark : Rest PeerState (List Task)) (go : Onward c (PhasesNext c) next mark) where
+    -- the peer without its sync is at rest
+    abbrev alone : AtRest c key (without_sync x) h out notes
+    alone = (alone_here at.0, at.1)
+
+    synced_good : (r : Running) (entries : List Entry) → IsSyncing (now c at.0.reached).objects.ledger p x.fact (may_wait x.phase) r → IsListedFact lines.voting r.fact → SyncEnds (now c at.0.reached) strings p at.0.tree.map r entries → Ends c (synced p r entries x out next) (synced p r entries x out mark) h notes
+    synced_good r entries syncing listed ends =
+        installed_ends alone r entries refl syncing.may ends (needs_build r.sync.scan entries) refl (saves next) (saves mark) (λ u there may.
+        accepts_ends (there, at.1) r.fact listed may.syncs may.finishes (accepts next) (accepts mark)
+        (accepted_good x.phase (record x { fact = r.fact; trusted = true; sync = None }) refl refl refl syncing.may.first.own_ballot (joined_here (there, at.1) r.fact listed may.syncs may.finishes) next mark go))
+      where
+        accepts : Rest PeerState (List Task) → Rest PeerState (Unit {0})
+        accepts rest done z out = accepted_in p r.fact z.phase (record z { trusted = true }) out rest
+
+        saves : Rest PeerState (List Task) → Rest PeerState (Unit {0})
+        saves rest done y out = saved (Some r.fact) y out (accepts rest)
+
+    -- the fact of a sync has a view
+    has_view : (r : Running) → IsSyncing (now c at.0.reached).objects.ledger p x.fact (may_wait x.phase) r → 0 < length r.fact.views
+    has_view r syncing = let l = (now c at.0.reached).objects.ledger in
+        subst (λ (views : List (List ℕ)). 0 < length views) (sym syncing.may.first.known.views) (not_empty l (run_sound view at.0.reached.steps at.0.reached.run) (epoch_number r.fact.epoch) syncing.may.first.known.elected)
+
+    ended_good : (r : Running) (outcome : Outcome) → outcome_of r.sync ≡ outcome → IsSyncing (now c at.0.reached).objects.ledger p x.fact (may_wait x.phase) r → IsListedFact lines.voting r.fact → SyncSays lines (now c at.0.reached) strings p x.fact x.trusted at.0.tree.map r
+        → Ends c (ended_with p r outcome x out next) (ended_with p r outcome x out mark) h notes
+    ended_good r Pending is syncing listed says = go [] key (with_sync r x) h out notes (tt, (runs_here at.0 r syncing listed says, at.1))
+    ended_good r (Trusted entries) is syncing listed says = synced_good r entries syncing listed
+        ((laws_here at.0.reached).ends strings p x.fact x.trusted at.0.tree.map r entries c.sound (listed.views (last_view r.fact.views) (last_view_in r.fact.views (has_view r syncing))) (few_here at.0.reached) at.0.peer.saved.ballot (ap (λ (place : Place). place.epoch) at.0.peer.saved.place) at.0.tree.says says is)
+
+  -- ## What a sync does
+
+  -- a sync sends its questions, and goes on, or ends
+  pub gone_good : {key : List ℕ} {x : PeerState} {h : Held} {out : Out} {notes : List Note} (at : AtRest c key x h out notes) (next mark : Rest PeerState (List Task)) → Onward c (PhasesNext c) next mark → (r : Running × List Outgoing) (of : Running) → IsSyncing (now c at.0.reached).objects.ledger p x.fact (may_wait x.phase) r.0
+      → IsListedFact lines.voting r.0.fact → SyncSays lines (now c at.0.reached) strings p x.fact x.trusted at.0.tree.map r.0 → All (MayGo p) r.1 → All (IsQuestion of) r.1 → Ends c (gone_on p r x out next) (gone_on p r x out mark) h notes
+  gone_good at next mark go r of syncing listed says may ask = ended_good (asks_here at.0 of r.1 may ask, at.1) next mark go r.0 (outcome_of r.0.sync) refl syncing listed says
+
+  -- the stores after a call that leaves the root of the tree and the fact
+  abbrev pub read_here : {key : List ℕ} {x : PeerState} {h : Held} {out : Out} {notes : List Note} → (here : Here c key x h out notes) → (call : Call) → KeepsRoot call → (answered call h).held.stores.facts.kept ≡ h.stores.facts.kept → Here c key x (answered call h).held out notes
+  read_here {key} {x} {h} {out} {notes} here call root kept = record {
+    reached = here.reached;
+    roles = here.roles;
+    peer = record { saved = here.peer.saved; kept = kept ∙ here.peer.kept; phase = here.peer.phase; sync = here.peer.sync };
+    listed = here.listed;
+    trust = here.trust;
+    tree = tree_kept (now c here.reached) strings p call h root here.tree;
+    sync = here.sync;
+    fits = here.fits;
+    task = here.task;
+    noted = here.noted;
+    sends = here.sends;
+    listed_sends = here.listed_sends;
+    fits_sends = here.fits_sends;
+  }
+
+  -- a sync begins, after a scan of the own tree
+  pub begun_good : {key : List ℕ} {x : PeerState} {h : Held} {out : Out} {notes : List Note} (at : AtRest c key x h out notes) (next mark : Rest PeerState (List Task)) → Onward c (PhasesNext c) next mark → (new : Fact) → IsListedFact lines.voting new → MaySync (now c at.0.reached).objects.ledger x.fact (may_wait x.phase) new
+      → Ends c (begun_sync p new x out next) (begun_sync p new x out mark) h notes
+  unfolding asked
+  begun_good {key} {x} {h} {out} {notes} at next mark go new listed may =
+      ask_ends keeping.grows c ScanTree (λ scan. gone_on p (row_start new p x.trusted scan) x out next) (λ scan. gone_on p (row_start new p x.trusted scan) x out mark) h notes (λ among. by_scan among (answered ScanTree h).result refl (keeping.scans strings h at.0.tree.map c.free among at.0.tree.shows))
+    where
+      same : (answered ScanTree h).held.stores.facts.kept ≡ h.stores.facts.kept
+      same = ap (λ (f : HeldFact). f.kept) (keeping.spares ScanTree h).1
+
+      starts : AreAmong (answered ScanTree h).held.hashed strings → (scan : Scan) → (answered ScanTree h).result ≡ Ok scan → IsScanned at.0.tree.map (Ok scan) → SyncSays lines (now c at.0.reached) strings p x.fact x.trusted at.0.tree.map (row_start new p x.trusted scan).0
+      starts among scan is entries = (laws_here at.0.reached).starts strings p x.fact new x.trusted at.0.tree.map scan (firm_here at.0.reached) at.0.trust at.0.peer.saved.ballot (first_seen (now c at.0.reached).objects.ledger new may.first) (ap epoch_number may.promised) may.newer
+          (λ node within. among node (keeping.grows ScanTree h node (at.0.tree.shows.texts node within))) at.0.tree.says (record { is_map = at.0.tree.shows.stands.is_map; entries = entries; positions = scan_positions h scan is })
+
+      by_scan : AreAmong (answered ScanTree h).held.hashed strings → (result : Result Scan PeerError) → (answered ScanTree h).result ≡ result → IsScanned at.0.tree.map result → Answers c ScanTree (λ scan. gone_on p (row_start new p x.trusted scan) x out next) (λ scan. gone_on p (row_start new p x.trusted scan) x out mark) h notes
+      by_scan among (Ok scan) is entries = record {
+        answer = scan;
+        is = is;
+        goes = gone_good (read_here at.0 ScanTree tt same, at.1) next mark go (row_start new p x.trusted scan) (row_start new p x.trusted scan).0 (record { may = may; asks = asks_are p (last_view new.views) }) listed (starts among scan is entries)
+            (start_go new p x.trusted scan) (start_ask new p x.trusted scan);
+      }
+      by_scan among (Err e) is none = absurd none
+
+  -- the sync that runs, if one does, asks again
+  pub resumed_good : {key : List ℕ} {x : PeerState} {h : Held} {out : Out} {notes : List Note} (at : AtRest c key x h out notes) (next mark : Rest PeerState (List Task)) → Onward c (PhasesNext c) next mark → Ends c (resumed_sync x.sync x out next) (resumed_sync x.sync x out mark) h notes
+  resumed_good {key} {x} {h} {out} {notes} at next mark go = by_sync x.sync refl
+    where
+      asks_again : (r : Running) → x.sync ≡ Some r → IsSyncing (now c at.0.reached).objects.ledger p x.fact (may_wait x.phase) r → IsListedFact lines.voting r.fact → SyncSays lines (now c at.0.reached) strings p x.fact x.trusted at.0.tree.map r
+          → Ends c (next [] (with_sync (row_resume r).0 x) (and_sends out (row_resume r).1)) (mark [] (with_sync (row_resume r).0 x) (and_sends out (row_resume r).1)) h notes
+      asks_again r is syncing listed says = go [] key (with_sync (row_resume r).0 x) h (and_sends out (row_resume r).1) notes (
+        tt,
+        (
+          runs_here (asks_here at.0 r (row_resume r).1 (resume_go p r syncing.asks) (resume_ask p r syncing.asks)) (row_resume r).0 (record { may = syncing.may; asks = resumed_are p r syncing.asks }) listed ((laws_here at.0.reached).resumes strings p x.fact x.trusted at.0.tree.map r says),
+          at.1,
+        ),
+      )
+
+      by_sync : (sync : Option Running) → x.sync ≡ sync → Ends c (resumed_sync sync x out next) (resumed_sync sync x out mark) h notes
+      by_sync None is = go [] key x h out notes (tt, at)
+      by_sync (Some r) is = asks_again r is (subst (ledgers.SyncHolds (now c at.0.reached).objects.ledger p x.fact (may_wait x.phase)) is at.0.peer.sync) (subst (IsListedSync lines.voting) is at.0.listed.sync)
+          (subst (SyncMaySay lines (now c at.0.reached) strings p x.fact x.trusted at.0.tree.map) is at.0.sync)

@@ -1,0 +1,744 @@
+-- What a rule asks of the peer's own tree and backend. The entry of a key is found, or damage on its
+-- path; an object of the backend comes with the digest of its bytes; and an object that is written is
+-- stored, unless its path is damaged. The steps of the abstract protocol that belong to this are those
+-- of the peer's own tree: a write, and an acknowledgement.
+use Rattle.std.proofs.Common.{◌≡◌, ◌⊎◌, inl, inr, ◌<◌, ◌≤◌, ◌^◌, ℕ, Bool, true, false, ◌&&◌, if◌then◌else◌, List, [], ◌∷◌, ◌++◌, length, map, Option, None, Some, Ok, Err, arith, refl, sym, ap, subst, ◌∙◌}
+use Rattle.std.proofs.lemmas.Bool.{and_parts, cases_order}
+use Rattle.std.proofs.lemmas.Bool.Decides.{nat_tests}
+use Rattle.std.proofs.lemmas.Option.{none-some, same_Some}
+use Rattle.md5.specs.Md5.{md5}
+use Rattle.ens_base.proofs.Lists.{bytes_same}
+use Rattle.ens_base.proofs.Orders.{version_same}
+use Rattle.ens_base.specs.Epochs.{same_version}
+use Rattle.ens_base.specs.Lists.{◌∈◌, same_bytes}
+use Rattle.ens_base.specs.declared.entry.Entry.{Entry}
+use Rattle.ens_base.specs.declared.epoch.Epoch.{Epoch}
+use Rattle.ens_base.specs.declared.epoch.Version.{Version}
+use Rattle.ens_object.specs.Objects.{IsObject, object_spelling}
+use Rattle.ens_object.specs.declared.object.Object.{Object}
+use Rattle.ens_outside.specs.Maps.{value_at}
+use Rattle.kept_objects.specs.Kept.{object_in, is_named, matching, entry_of}
+use Rattle.joint_views.proofs.Majorities.{meet_of_quorums, shares_itself}
+use Rattle.abstract_protocol.proofs.Ranks.{version_within}
+use Rattle.abstract_protocol.specs.Book.{version_of}
+use Rattle.abstract_protocol.specs.Ledger as ledger
+use Rattle.abstract_protocol.specs.Numbers.{epoch_number, IsVersion}
+use Rattle.abstract_protocol.specs.Objects.{epoch_of, set_entry, IsGenuine, MayAcknowledge}
+use Rattle.abstract_protocol.specs.Protocol.{State, Step, Write, Acknowledge, IsRun, state_after, happens, MayCome}
+use Rattle.election_laws.proofs.Epochs.{not_empty}
+use Rattle.election_laws.proofs.Sound.{Sound, run_sound}
+use Rattle.version_laws.proofs.Maps.{epoch_mono, put_other}
+use Rattle.version_laws.proofs.Trees.{run_versions}
+use Rattle.version_laws.specs.Versions.{VersionsAreSafe, IsSettled}
+use Rattle.entry_laws.proofs.Later.{stay_step, stay_then as stays_then}
+use Rattle.entry_laws.specs.Stays.{EntriesStay}
+use Rattle.election_refinement.specs.Refinement.{may_wait, SyncHolds}
+use Rattle.call_table.specs.Best.{better}
+use Rattle.held_stores.specs.Answers.{answered}
+use Rattle.held_stores.specs.Held.{Held, and_hashed}
+use Rattle.leader_laws.proofs.Roles.{run_roles}
+use Rattle.leader_laws.specs.Leaders.{IsObjectOf}
+use Rattle.leader_laws.specs.Messages.{PutSays, GetReplySays}
+use Rattle.leader_laws.specs.Roles.{RolesHold}
+use Rattle.leader_laws.specs.Tables as theory
+use Rattle.leader_refinement.proofs.Numbers.{rank_back, rank_some}
+use Rattle.leader_refinement.specs.Follows.{Hash as Digests}
+use Rattle.leader_refinement.specs.Laws.{BackendSays, FoundSays, LookSays, LookNames}
+use Rattle.leader_refinement.specs.Seen.{rank, content_of, entry_rank, shown, owed_after}
+use Rattle.peer_core.specs.Owns.{digested, read, kept, fetched, held, looked_at, looked, found_at, found, entered, written, confirmed}
+use Rattle.peer_core.specs.declared.state.State.{State as PeerState}
+use Rattle.register_model.specs.declared.note.Note.{Note}
+use Rattle.register_model.specs.declared.call.Call.{Call as BookCall}
+use Rattle.request_refinement.proofs.Looks.{looks_so}
+use Rattle.request_refinement.proofs.Lookups.{in_put, lookup_in, lookup_key}
+use Rattle.request_refinement.proofs.Names.{version_decoded}
+use Rattle.request_refinement.proofs.Numbers.{version_fits}
+use Rattle.request_refinement.proofs.Staying.{put_entry, write_shows}
+use Rattle.request_refinement.specs.Naming.{hash_of, version_string, object_of_version, VersionSays, EntrySays, EntryMaySay, MayBeDecoded}
+use Rattle.request_refinement.specs.Replies.{MapSays, LookSees, IsShown, found_in}
+use Rattle.running_sync.specs.Running.{Running}
+use Rattle.step_plans.specs.Calls.{Call, Find, Enter, Fetch, Put, Hash}
+use Rattle.step_plans.specs.Plans.{Plan, Ask, Out, Rest, asked}
+use Rattle.step_plans.specs.declared.error.PeerError.TheVariants.{StoreFault}
+use Rattle.step_plans.specs.declared.walked.Walked.TheVariants.{Reached as Came, Broken}
+use Rattle.sync_refinement.proofs.Ends.{distinct_keys}
+use Rattle.sync_refinement.proofs.Gives.{trusted_maps, may_return}
+use Rattle.sync_refinement.proofs.Staying.{version_stays}
+use Rattle.sync_refinement.specs.Syncs.{TreeSays, MayReturn, SyncMaySay}
+use Rattle.tree_maps.proofs.Names.{md5_run}
+use Rattle.tree_maps.proofs.Parts.{ascends-put}
+use Rattle.tree_maps.specs.Entries.{lookup, put, IsMap}
+use Rattle.tree_node.specs.declared.position.Position.{Position}
+use Rattle.tree_refinement.proofs.Keeping as keeping
+use Rattle.tree_refinement.proofs.Keeping.{grows, hashes, spares}
+use Rattle.tree_refinement.proofs.Tops as records
+use Rattle.tree_refinement.proofs.Recording.{last_top}
+use Rattle.tree_refinement.specs.Laws.{KeepsRoot}
+use Rattle.tree_refinement.specs.Tops.{tops_of, NamesNext, IsWritten}
+use Rattle.tree_refinement.specs.Trees.{AreAmong, Shows}
+use Rattle.tree_refinement.specs.Whole.{IsRecorded}
+use Rattle.wire_frames.specs.declared.phase.Seen.{Seen}
+use Rattle.wire_frames.specs.declared.phase.Seen.TheVariants as seens
+use Rattle.world_stores.specs.Nodes.{top_of}
+use Rattle.world_stores.specs.declared.fact.HeldFact.{HeldFact}
+use Rattle.step_refinement.proofs.CallByCall.{Ends, Answers, IsRefused, ask_ends, ask_may_end}
+use Rattle.step_refinement.specs.Scenes.{Scene, state_before, Reached, now, Here, Rests}
+use Rattle.step_refinement.proofs.CalledKeys.{length_keys, key_from}
+use Rattle.step_refinement.proofs.StoreAnswers.{Looks, Finds, Breaks, find_ends, put_ends, EnterEnds, Enters, Stops, Tears, enter_ends, broken_recorded}
+use Rattle.step_refinement.proofs.Refusals.{rests_down, rests_over}
+use Rattle.step_refinement.proofs.LaterStates.{sends_stay, sync_stays, phase_stays}
+use Rattle.step_refinement.proofs.ShownMaps.{tops_behind, tops_stay, tops_next, tree_written, tree_stays, names_from, written_from, written_kept}
+use Rattle.step_refinement.specs.Keys.{KeysAreFew}
+use Rattle.step_refinement.specs.Peers.{TopsReturn, TreeHolds, AcksSay, TaskFits}
+use Rattle.step_refinement.specs.Roles.{role_in, said_in_sends}
+
+-- ## Settled versions
+
+-- some peer acknowledged the version
+abbrev IsAcked : State → ℕ → Type 0
+IsAcked s v = (q : ℕ) × (s.objects.acked v q ≡ true)
+
+settled_acked : (s : State) → Sound s.objects.ledger → VersionsAreSafe s.objects → (v : ℕ) → s.objects.settled v ≡ true → IsAcked s v
+settled_acked s sound safe v settled = by_settled (safe.settled v settled)
+  where
+    by_settled : IsSettled s.objects v → IsAcked s v
+    by_settled is =
+        let views = s.objects.ledger.views (epoch_of v) in
+        let some : 0 < length views = not_empty s.objects.ledger sound (epoch_of v) (safe.epochs v is.proposed).elected in
+        let both = (meet_of_quorums (s.objects.settled_by v) (s.objects.settled_by v) views views (shares_itself views some) is.quorum is.quorum).meet in
+        (both.peer, is.acked both.peer both.in_left)
+
+-- a settled version says what holds, since a quorum had acknowledged it
+pub settled_say : (view : List ℕ) (steps : List Step) (strings : List (List ℕ)) (v : Version) → IsRun view steps → AcksSay (state_after view steps) strings → IsVersion v → (state_after view steps).objects.settled (rank v) ≡ true → VersionSays (state_after view steps) strings v
+settled_say view steps strings v run acks fits settled =
+    let acked = settled_acked (state_after view steps) (run_sound view steps run) (run_versions view steps run) (rank v) settled in
+    acks v acked.0 fits acked.1
+
+-- a version that a peer may acknowledge says what holds: its tree shows that version, or a greater
+-- one of the same epoch, and then the version is settled
+may_acknowledge_says : (view : List ℕ) (steps : List Step) (strings : List (List ℕ)) (p : ℕ) (m : List Entry) (v : Version) → IsRun view steps → AcksSay (state_after view steps) strings → MapSays (state_after view steps) strings p m → IsVersion v
+    → MayAcknowledge (state_after view steps).objects p (rank v) → VersionSays (state_after view steps) strings v
+may_acknowledge_says view steps strings p m v run acks shows fits may = by_entry (lookup k m) refl
+  where
+    s : State
+    s = state_after view steps
+
+    k : List ℕ
+    k = s.objects.key (rank v)
+
+    safe : VersionsAreSafe s.objects
+    safe = run_versions view steps run
+
+    none_there : 0 < rank v → rank v ≤ s.objects.map p k → s.objects.map p k ≡ 0 → ⊥
+    none_there some has none = omega arith
+
+    -- the version in the tree is of the peer's ballot, or of a lower epoch
+    low : (u : ℕ) → 0 < u → IsGenuine s.objects (s.objects.ledger.ballot p) k u → epoch_of u ≤ s.objects.ledger.ballot p
+    low u some (inl none) = absurd (no_version some none)
+      where
+        no_version : 0 < u → u ≡ 0 → ⊥
+        no_version some none = omega arith
+    low u some (inr is) = is.2
+
+    same_epoch : (u : ℕ) → rank v ≤ u → epoch_of u ≤ s.objects.ledger.ballot p → epoch_of (rank v) ≡ epoch_of u
+    same_epoch u above low = equal (epoch_mono (rank v) u above) low may.stands
+      where
+        equal : epoch_of (rank v) ≤ epoch_of u → epoch_of u ≤ s.objects.ledger.ballot p → s.objects.ledger.ballot p ≡ epoch_of (rank v) → epoch_of (rank v) ≡ epoch_of u
+        equal a b e = omega arith
+
+    by_order : (e : Entry) → EntrySays s strings e → e.key ≡ k → s.objects.map p k ≡ rank e.version → (rank v ≡ rank e.version) ⊎ ((rank v < rank e.version) ⊎ (rank e.version < rank v)) → VersionSays s strings v
+    by_order e says on_key shown (inl same) = subst (λ (w : Version). VersionSays s strings w) (sym (rank_back e.version (version_fits e.version says.version.object.version)) ∙ ap version_of (sym same) ∙ rank_back v fits) says.version
+    by_order e says on_key shown (inr (inl less)) = settled_say view steps strings v run acks fits
+        (safe.chain (rank e.version) (rank v) says.version.proposed may.proposed (sym on_key ∙ says.key) (same_epoch (rank e.version) (under less) (low (rank e.version) (rank_some e.version) (subst (λ (u : ℕ). IsGenuine s.objects (s.objects.ledger.ballot p) k u) shown (safe.genuine.written p k)))) less).settled
+      where
+        under : rank v < rank e.version → rank v ≤ rank e.version
+        under h = omega arith
+    by_order e says on_key shown (inr (inr more)) = absurd (too_great more may.has shown)
+      where
+        too_great : rank e.version < rank v → rank v ≤ s.objects.map p k → s.objects.map p k ≡ rank e.version → ⊥
+        too_great more has shown = omega arith
+
+    by_entry : (entry : Option Entry) → lookup k m ≡ entry → VersionSays s strings v
+    by_entry None none = absurd (none_there (rank_some v) may.has (shows.map k ∙ ap entry_rank none))
+    by_entry (Some e) is = by_order e (shows.entries e (lookup_in k m e is)) (lookup_key k m e is) (shows.map k ∙ ap entry_rank is) (cases_order (rank v) (rank e.version))
+
+-- the version of a number has that number
+rank_again : (u : ℕ) → 0 < u → rank (version_of u) ≡ u
+unfolding version_of theory.version_at epoch_number
+rank_again u some = omega (arith, some)
+
+-- ## What stays
+
+-- only peer p acknowledges in the step
+abbrev pub AcksAlone : ℕ → Step → Type 0
+AcksAlone p (Acknowledge q v) = q ≡ p
+AcksAlone p step = Unit {0}
+
+acks_more : (view : List ℕ) (steps : List Step) (strings : List (List ℕ)) (p : ℕ) (m : List Entry) → IsRun view steps → AcksSay (state_after view steps) strings → MapSays (state_after view steps) strings p m
+    → (v : ℕ) → MayCome (state_after view steps) (Acknowledge p v) → AcksSay (happens (state_after view steps) (Acknowledge p v)) strings
+acks_more view steps strings p m run acks shows v may w q fits acked = version_stays (state_after view steps) (happens (state_after view steps) (Acknowledge p v)) strings (stay_step (state_after view steps) (Acknowledge p v) may) w (by_mark (either (state_after view steps).objects.acked v p (rank w) q acked))
+  where
+    either : (old : ℕ → ℕ → Bool) (n p m q : ℕ) → ledger.mark old n p m q ≡ true → (n ≡ m) ⊎ (old m q ≡ true)
+    either old n p m q h = grind (arith, nat_tests)
+
+    by_mark : (v ≡ rank w) ⊎ ((state_after view steps).objects.acked (rank w) q ≡ true) → VersionSays (state_after view steps) strings w
+    by_mark (inl same) = may_acknowledge_says view steps strings p m w run acks shows fits (subst (λ (u : ℕ). MayAcknowledge (state_after view steps).objects p u) same may.0)
+    by_mark (inr old) = acks w q fits old
+
+-- each acknowledged version still says what holds after a step
+pub acks_step : (view : List ℕ) (steps : List Step) (strings : List (List ℕ)) (p : ℕ) (m : List Entry) → IsRun view steps → AcksSay (state_after view steps) strings → MapSays (state_after view steps) strings p m
+    → (e : Step) → MayCome (state_after view steps) e → AcksAlone p e → AcksSay (happens (state_after view steps) e) strings
+acks_step view steps strings p m run acks shows (Acknowledge q v) may alone = subst (λ (r : ℕ). AcksSay (happens (state_after view steps) (Acknowledge r v)) strings) (sym alone)
+    (acks_more view steps strings p m run acks shows v (subst (λ (r : ℕ). MayCome (state_after view steps) (Acknowledge r v)) alone may))
+acks_step view steps strings p m run acks shows e may alone = λ w q fits acked. version_stays (state_after view steps) (happens (state_after view steps) e) strings (stay_step (state_after view steps) e may) w (acks w q fits acked)
+
+-- ## The object of a reply
+
+-- the object matches the entry, which names it
+record Matches (e : Entry) (o named : Object) : Type 0 where
+  object : named ≡ o
+  key : o.key ≡ e.key
+  version : o.version ≡ e.version
+  digest : e.digest ≡ md5 (object_spelling o)
+
+-- an object that the entry does not name counts as none
+abbrev MayMatch : Entry → Object → Option Object → Type 0
+MayMatch e o None = Unit {0}
+MayMatch e o (Some named) = Matches e o named
+
+matches : (e : Entry) (o : Object) → MayMatch e o (matching e (Some (o, md5 (object_spelling o))))
+matches e o = by_name (is_named e o (md5 (object_spelling o))) refl
+  where
+    by_name : (b : Bool) → is_named e o (md5 (object_spelling o)) ≡ b → MayMatch e o (if b then Some o else None)
+    by_name true is =
+        let parts = and_parts (same_bytes o.key e.key && same_version o.version e.version) (same_bytes (md5 (object_spelling o)) e.digest) is in
+        let both = and_parts (same_bytes o.key e.key) (same_version o.version e.version) parts.0 in
+        record { object = refl; key = bytes_same o.key e.key both.0; version = version_same o.version e.version both.1; digest = sym (bytes_same (md5 (object_spelling o)) e.digest parts.1) }
+    by_name false other = tt
+
+-- a genuine entry is of the key
+reply_key : (g : theory.Ghosts) (s : State) (strings : List (List ℕ)) (q d r : ℕ) (k : List ℕ) (e : Entry) (object : Option theory.Object) → GetReplySays g s q d r k (rank e.version) object → EntrySays s strings e → e.key ≡ k
+reply_key g s strings q d r k e object reply says = by_genuine reply.genuine
+  where
+    by_genuine : (rank e.version ≡ 0) ⊎ ((s.objects.proposed (rank e.version) ≡ true) × (s.objects.key (rank e.version) ≡ k) × (epoch_of (rank e.version) ≤ d)) → e.key ≡ k
+    by_genuine (inl none) = absurd (no_rank (rank_some e.version))
+      where
+        no_rank : 0 < rank e.version → ⊥
+        no_rank some = omega arith
+    by_genuine (inr there) = says.key ∙ there.1
+
+-- a reply without its object
+without_object : (g : theory.Ghosts) (s : State) (q d r : ℕ) (k : List ℕ) (entry : ℕ) (object : Option theory.Object) → GetReplySays g s q d r k entry object → GetReplySays g s q d r k entry None
+without_object g s q d r k entry object reply = record {
+  turn = reply.turn;
+  started = reply.started;
+  genuine = reply.genuine;
+  reached = reply.reached;
+  given = reply.given;
+  stood = reply.stood;
+  settled = reply.settled;
+  holds = λ x e. absurd (none-some x e);
+}
+
+-- what is known of the object of a reply once it is confirmed
+pub record Confirmed (g : theory.Ghosts) (s : State) (q d r : ℕ) (k : List ℕ) (entry : Option Entry) (named : Option Object) : Type 0 where
+  pub reply : GetReplySays g s q d r k (entry_rank entry) (shown entry named)
+  pub found_says : FoundSays g k (better None entry named)
+
+module _ (g : theory.Ghosts) (s : State) (strings : List (List ℕ)) (q d r : ℕ) (k : List ℕ) (hash : g.hash ≡ hash_of) where
+  none_confirmed : (entry : Option Entry) (object : Option Object) → GetReplySays g s q d r k (entry_rank entry) (shown entry object) → Confirmed g s q d r k entry None
+  none_confirmed None object reply = record { reply = reply; found_says = tt }
+  none_confirmed (Some e) object reply = record { reply = without_object g s q d r k (rank e.version) (shown (Some e) object) reply; found_says = λ o is. absurd (none-some o is) }
+
+  named_confirmed : (e : Entry) (o : Object) (named : Option Object) → MayMatch e o named → GetReplySays g s q d r k (rank e.version) (Some (content_of o)) → EntrySays s strings e → Confirmed g s q d r k (Some e) named
+  named_confirmed e o None match reply says = none_confirmed (Some e) (Some o) reply
+  named_confirmed e o (Some named) match reply says = record {
+    reply = subst (λ (x : Object). GetReplySays g s q d r k (rank e.version) (Some (content_of x))) (sym match.object) reply;
+    found_says = λ x is. subst (λ (y : Object). (y.version ≡ e.version) × (e.digest ≡ g.hash e.version k y.stamp y.value)) (sym match.object ∙ same_Some named x is) own;
+  }
+    where
+      plain : e.digest ≡ hash_of e.version k o.stamp o.value
+      plain = subst (λ (j : List ℕ). e.digest ≡ hash_of e.version j o.stamp o.value) (match.key ∙ reply_key g s strings q d r k e (Some (content_of o)) reply says)
+          (subst (λ (v : Version). e.digest ≡ hash_of v o.key o.stamp o.value) match.version match.digest)
+
+      own : (o.version ≡ e.version) × (e.digest ≡ g.hash e.version k o.stamp o.value)
+      own = (match.version, subst (λ (f : Digests). e.digest ≡ f e.version k o.stamp o.value) (sym hash) plain)
+
+-- ## A scene
+
+module _ (c : Scene) where
+  open c use {lines, view, strings, peer as p}
+
+  -- what rule 28 finds in the backend: if its version is settled, it is that version's object,
+  -- unless two strings clash
+  backend_says : (r : Reached c) (k : List ℕ) (o : Option (Object × List ℕ)) → MayBeDecoded strings o → BackendSays r.ghosts (now c r) k (seens.Kept o)
+  backend_says r k None decoded = tt
+  backend_says r k (Some o) decoded = λ on_key settled key_is digest. is_object settled key_is digest
+    where
+      s : State
+      s = now c r
+
+      u : ℕ
+      u = rank o.0.version
+
+      again : rank (version_of u) ≡ u
+      again = rank_again u (rank_some o.0.version)
+
+      is_object : s.objects.settled u ≡ true → s.objects.key u ≡ k → o.1 ≡ r.ghosts.hash (version_of u) k (s.book.stamp u) (s.book.content u) → IsObjectOf s u (content_of o.0)
+      is_object settled key_is digest =
+          let says : VersionSays s strings (version_of u) = settled_say view r.steps strings (version_of u) r.run r.acks (version_within u) (subst (λ (n : ℕ). s.objects.settled n ≡ true) (sym again) settled) in
+          let plain : o.1 ≡ hash_of (version_of u) k (s.book.stamp u) (s.book.content u) = subst (λ (f : Digests). o.1 ≡ f (version_of u) k (s.book.stamp u) (s.book.content u)) r.hash digest in
+          let on_version : o.1 ≡ hash_of (version_of u) (s.objects.key u) (s.book.stamp u) (s.book.content u) = subst (λ (j : List ℕ). o.1 ≡ hash_of (version_of u) j (s.book.stamp u) (s.book.content u)) (sym key_is) plain in
+          let own : o.1 ≡ md5 (version_string s (version_of u)) = subst (λ (n : ℕ). o.1 ≡ hash_of (version_of u) (s.objects.key n) (s.book.stamp n) (s.book.content n)) (sym again) on_version in
+          let same : o.0 ≡ object_of_version s (version_of u) = version_decoded s strings (version_of u) decoded.bytes o.0 c.free says decoded.hashed decoded.decodes (sym decoded.digest ∙ own) in
+          record {
+            some = rank_some o.0.version;
+            stamp = ap (λ (x : Object). x.stamp) same ∙ ap (λ (n : ℕ). s.book.stamp n) again;
+            content = ap (λ (x : Object). x.value) same ∙ ap (λ (n : ℕ). s.book.content n) again;
+          }
+
+  -- ## Steps of the peer's own tree
+
+  -- the run goes on with a write of the peer
+  abbrev pub wrote : (r : Reached c) (v : ℕ) → MayCome (now c r) (Write p v) → Reached c
+  wrote r v may = record {
+    steps = Write p v ∷ r.steps;
+    run = (r.run, may);
+    ghosts = r.ghosts;
+    hash = r.hash;
+    elsewhere = record {
+      ledger = r.elsewhere.ledger;
+      map = λ q other. put_other (now c r).objects.map p (set_entry ((now c r).objects.map p) ((now c r).objects.key v) v) q other ∙ r.elsewhere.map q other;
+      visible = λ q other. put_other (now c r).objects.visible p (set_entry ((now c r).objects.visible p) ((now c r).objects.key v) v) q other ∙ r.elsewhere.visible q other;
+      trusted = r.elsewhere.trusted;
+      reverted = r.elsewhere.reverted;
+      stays = stays_then (state_before c) (now c r) (happens (now c r) (Write p v)) r.elsewhere.stays (stay_step (now c r) (Write p v) may);
+      calls = r.elsewhere.calls;
+      called = r.elsewhere.called;
+      answers = r.elsewhere.answers;
+      answered = r.elsewhere.answered;
+      now = r.elsewhere.now;
+    };
+    orderly = r.orderly;
+    acks = λ w q fits acked. version_stays (now c r) (happens (now c r) (Write p v)) strings (stay_step (now c r) (Write p v) may) w (r.acks w q fits acked);
+  }
+
+  -- the run goes on with an acknowledgement of the peer
+  abbrev pub acknowledged : (r : Reached c) (m : List Entry) (v : ℕ) → MapSays (now c r) strings p m → MayCome (now c r) (Acknowledge p v) → Reached c
+  acknowledged r m v says may = record {
+    steps = Acknowledge p v ∷ r.steps;
+    run = (r.run, may);
+    ghosts = r.ghosts;
+    hash = r.hash;
+    elsewhere = record {
+      ledger = r.elsewhere.ledger;
+      map = r.elsewhere.map;
+      visible = r.elsewhere.visible;
+      trusted = r.elsewhere.trusted;
+      reverted = r.elsewhere.reverted;
+      stays = stays_then (state_before c) (now c r) (happens (now c r) (Acknowledge p v)) r.elsewhere.stays (stay_step (now c r) (Acknowledge p v) may);
+      calls = r.elsewhere.calls;
+      called = r.elsewhere.called;
+      answers = r.elsewhere.answers;
+      answered = r.elsewhere.answered;
+      now = r.elsewhere.now;
+    };
+    orderly = r.orderly;
+    acks = acks_step view r.steps strings p m r.run r.acks says (Acknowledge p v) may refl;
+  }
+
+  -- the peer stands at the epoch that it accepted, and trusts its tree
+  pub record IsReady (x : PeerState) : Type 0 where
+    pub stands : epoch_number x.fact.epoch ≡ epoch_number x.fact.ballot
+    pub trusts : x.trusted ≡ true
+
+  module _ {key : List ℕ} {x : PeerState} {h : Held} {out : Out} {notes : List Note} (here : Here c key x h out notes) where
+    abbrev s : State
+    s = now c here.reached
+
+    -- such a peer shows the map that it wrote last
+    pub shown_map : x.trusted ≡ true → MapSays s strings p here.tree.map
+    shown_map trusts = trusted_maps view here.reached.steps here.reached.run strings p here.tree.map (here.trust ∙ trusts) here.tree.says
+
+    -- and runs no sync
+    pub no_sync : IsReady x → x.sync ≡ None
+    no_sync ready = none x.sync here.peer.sync
+      where
+        apart : epoch_number x.fact.epoch < epoch_number x.fact.ballot → epoch_number x.fact.epoch ≡ epoch_number x.fact.ballot → ⊥
+        apart less same = omega (arith, less, same)
+
+        none : (sync : Option Running) → SyncHolds s.objects.ledger p x.fact (may_wait x.phase) sync → sync ≡ None
+        none None holds = refl
+        none (Some r) holds = absurd (apart (subst (λ (e : Epoch). epoch_number x.fact.epoch < epoch_number e) holds.may.promised holds.may.newer) ready.stands)
+
+    -- the stores, after calls that leave the tree
+    pub record Over (t : Held) : Type 0 where
+      pub kept_fact : t.stores.facts.kept ≡ h.stores.facts.kept
+      pub shows : Shows t here.tree.map
+      pub recorded : IsRecorded t
+      pub tops : tops_of t.stores ≡ tops_of h.stores
+      pub hashed : AreAmong h.hashed t.hashed
+
+    -- the stores, after the object was written
+    pub record Stored (o : Object) (t : Held) : Type 0 where
+      pub kept_fact : t.stores.facts.kept ≡ h.stores.facts.kept
+      pub spelled : object_spelling o ∈ strings
+      pub hashed : AreAmong h.hashed t.hashed
+      pub written : IsWritten (put (entry_of o (md5 (object_spelling o))) here.tree.map) h t
+
+    -- one more call that leaves the tree
+    over_call : (call : Call) (t : Held) → KeepsRoot call → (answered call t).held.stores.facts.kept ≡ t.stores.facts.kept → Over t → Over (answered call t).held
+    over_call call t root same over = record {
+      kept_fact = same ∙ over.kept_fact;
+      shows = keeping.keeps call t here.tree.map root over.shows;
+      recorded = (records.keeps call t root).1 over.recorded;
+      tops = (records.keeps call t root).0 ∙ over.tops;
+      hashed = λ a at. grows call t a (over.hashed a at);
+    }
+
+    -- the peer agrees with the run over other stores too, with the same fact and a tree that agrees
+    abbrev pub here_over : (t : Held) → t.stores.facts.kept ≡ h.stores.facts.kept → (tree : TreeHolds s strings p t) → SyncMaySay lines s strings p x.fact x.trusted tree.map x.sync → Here c key x t out notes
+    here_over t kept_fact tree sync = record {
+      reached = here.reached;
+      roles = here.roles;
+      peer = record { saved = here.peer.saved; kept = kept_fact ∙ here.peer.kept; phase = here.peer.phase; sync = here.peer.sync };
+      listed = here.listed;
+      trust = here.trust;
+      tree = tree;
+      sync = sync;
+      fits = here.fits;
+      task = here.task;
+      noted = here.noted;
+      sends = here.sends;
+      listed_sends = here.listed_sends;
+      fits_sends = here.fits_sends;
+    }
+
+    -- so it does after calls that leave the tree
+    abbrev pub over_here : (t : Held) → Over t → Here c key x t out notes
+    over_here t over = here_over t over.kept_fact
+        (record {
+          map = here.tree.map;
+          shows = over.shows;
+          says = here.tree.says;
+          recorded = over.recorded;
+          tops = subst (λ (tops : List (List ℕ)). TopsReturn s strings t.hashed p tops) (sym over.tops) (tops_behind s strings h.hashed t.hashed p (tops_of h.stores) over.hashed here.tree.tops);
+        })
+        here.sync
+
+    -- before any call the stores are such stores
+    abbrev pub nothing_read : Over h
+    nothing_read = record { kept_fact = refl; shows = here.tree.shows; recorded = here.tree.recorded; tops = refl; hashed = λ a at. at }
+
+    -- ## A write of the tree
+
+    -- the object of a put that the peer may write
+    pub record MayStore (o : Object) (d : ℕ) : Type 0 where
+      pub ready : IsReady x
+      pub may : MayCome s (Write p (rank o.version))
+      pub says : PutSays s d o.key (rank o.version) (content_of o)
+      pub obeys : IsObject o
+
+    module _ (o : Object) (d : ℕ) (store : MayStore o d) where
+      abbrev entry : Entry
+      entry = entry_of o (md5 (object_spelling o))
+
+      abbrev map_then : List Entry
+      map_then = put entry here.tree.map
+
+      -- the run with the write
+      abbrev reached_then : Reached c
+      reached_then = wrote here.reached (rank o.version) store.may
+
+      abbrev t : State
+      t = now c reached_then
+
+      -- entries stay through the write
+      pub stay : EntriesStay s t
+      stay = stay_step s (Write p (rank o.version)) store.may
+
+      -- the map with the entry is that of the protocol
+      map_says : object_spelling o ∈ strings → MapSays t strings p map_then
+      map_says spelled = write_shows s strings strings p here.tree.map entry (λ a i. i) (shown_map store.ready.trusts) (put_entry s strings d o (md5 (object_spelling o)) store.says store.obeys spelled refl)
+
+      -- the tree that shows the map with the entry says what holds
+      pub tree_says : object_spelling o ∈ strings → TreeSays t strings p map_then
+      tree_says spelled = let says = map_says spelled in record { entries = says.entries; visible = says.visible }
+
+      -- the tree may be put back to this map
+      pub map_returns : object_spelling o ∈ strings → IsMap map_then → MayReturn t strings p map_then
+      map_returns spelled is_map = may_return view reached_then.steps reached_then.run strings p map_then is_map (tree_says spelled)
+
+      -- each map that a top record names may still return
+      pub tops_then : TopsReturn t strings h.hashed p (tops_of h.stores)
+      tops_then = tops_stay s t strings h.hashed p (tops_of h.stores) stay here.tree.tops
+
+      -- the roles of the peers still hold
+      pub roles_then : RolesHold here.reached.ghosts t (ledger.put c.roles p (role_in key x.phase (owed_after [] out.answers))) (said_in_sends p out.sends ++ c.said)
+      roles_then = (run_roles view here.reached.steps here.reached.run).silent here.reached.ghosts (ledger.put c.roles p (role_in key x.phase (owed_after [] out.answers))) (said_in_sends p out.sends ++ c.said) (Write p (rank o.version)) store.may tt here.roles
+
+      -- a call is refused after a top record was written that names the map with the entry
+      rests_written : (u : Held) → u.stores.facts.kept ≡ h.stores.facts.kept → object_spelling o ∈ strings → AreAmong h.hashed u.hashed → NamesNext map_then h u → Rests c u notes
+      rests_written u kept_fact spelled among next = rests_down c {x = x} {notes = notes}
+          (record {
+            reached = reached_then;
+            role = role_in key x.phase (owed_after [] out.answers);
+            sends = out.sends;
+            roles = roles_then;
+            saved = here.peer.saved;
+            listed = here.listed.fact;
+            noted = here.noted;
+          })
+          u map_then next.digest (kept_fact ∙ here.peer.kept) (ap top_of next.tops ∙ last_top (tops_of h.stores) next.digest) next.named (tree_says spelled)
+          (subst (λ (tops : List (List ℕ)). TopsReturn t strings u.hashed p tops) (sym next.tops)
+          (tops_next t strings u.hashed p (tops_of h.stores) next.digest map_then next.named (map_returns spelled next.named.stands.is_map) (tops_behind t strings h.hashed u.hashed p (tops_of h.stores) among tops_then)))
+
+      -- the object was written: its version is in the peer's tree
+      abbrev pub write_here : (u : Held) → Stored o u → TaskFits t key x.phase → Here c key x u out notes
+      write_here u stored task = record {
+        reached = reached_then;
+        roles = roles_then;
+        peer = record { saved = here.peer.saved; kept = stored.kept_fact ∙ here.peer.kept; phase = here.peer.phase; sync = here.peer.sync };
+        listed = here.listed;
+        trust = here.trust;
+        tree = tree_written t strings p h u map_then stored.written stored.hashed (tree_says stored.spelled) (map_returns stored.spelled stored.written.next.named.stands.is_map) tops_then;
+        sync = subst (λ (sync : Option Running). SyncMaySay lines t strings p x.fact x.trusted map_then sync) (sym (no_sync store.ready)) tt;
+        fits = phase_stays here.reached.ghosts.hash s t p x.fact x.phase stay (λ e elected. refl) here.peer.phase here.fits;
+        task = task;
+        noted = here.noted;
+        sends = here.sends;
+        listed_sends = here.listed_sends;
+        fits_sends = sends_stay s t strings stay lines p out.sends here.fits_sends;
+      }
+
+    -- ## An acknowledgement
+
+    -- the peer acknowledges a version
+    abbrev pub acknowledge_here : (v : ℕ) → x.trusted ≡ true → MayCome s (Acknowledge p v) → TaskFits (happens s (Acknowledge p v)) key x.phase → Here c key x h out notes
+    acknowledge_here v trusts may task = record {
+      reached = acknowledged here.reached here.tree.map v (shown_map trusts) may;
+      roles = (run_roles view here.reached.steps here.reached.run).silent here.reached.ghosts (ledger.put c.roles p (role_in key x.phase (owed_after [] out.answers))) (said_in_sends p out.sends ++ c.said) (Acknowledge p v) may tt here.roles;
+      peer = here.peer;
+      listed = here.listed;
+      trust = here.trust;
+      tree = tree_stays s (happens s (Acknowledge p v)) strings p h (stay_step s (Acknowledge p v) may) refl here.tree;
+      sync = sync_stays lines s (happens s (Acknowledge p v)) strings p x.fact x.trusted here.tree.map x.sync (stay_step s (Acknowledge p v) may) here.peer.saved.ballot here.sync;
+      fits = phase_stays here.reached.ghosts.hash s (happens s (Acknowledge p v)) p x.fact x.phase (stay_step s (Acknowledge p v) may) (λ d elected. refl) here.peer.phase here.fits;
+      task = task;
+      noted = here.noted;
+      sends = here.sends;
+      listed_sends = here.listed_sends;
+      fits_sends = sends_stay s (happens s (Acknowledge p v)) strings (stay_step s (Acknowledge p v) may) lines p out.sends here.fits_sends;
+    }
+
+    -- ## The parts of a step
+
+    -- what a peer that trusts its tree sees of a key
+    pub record Sees (k : List ℕ) (entry : Option Entry) (object : Option Object) : Type 0 where
+      pub sees : LookSees strings here.tree.map k (seens.Held entry object)
+      pub look : LookSays s p k (seens.Held entry object)
+      pub shows : IsShown here.reached.ghosts s strings p k entry object
+      pub names : LookNames here.reached.ghosts k (seens.Held entry object)
+
+    sees_so : x.trusted ≡ true → (k : List ℕ) (entry : Option Entry) (object : Option Object) → LookSees strings here.tree.map k (seens.Held entry object) → Sees k entry object
+    sees_so trusts k entry object sees =
+        let both = looks_so s here.reached.ghosts strings p here.tree.map k (seens.Held entry object) here.reached.hash c.free (shown_map trusts) sees in
+        record { sees = sees; look = both.0; shows = both.1; names = names entry both.1.found }
+      where
+        names : (entry : Option Entry) → FoundSays here.reached.ghosts k (found_in entry object) → FoundSays here.reached.ghosts k (better None entry object)
+        names None says = tt
+        names (Some e) says = says
+
+    -- the rest of a plan ends well after damage was found
+    abbrev pub EndsDamaged : Rest PeerState Seen → Rest PeerState Seen → Type 0
+    EndsDamaged next mark = (at : Position) (t : Held) → Over t → Ends c (next (seens.Damaged at) x out) (mark (seens.Damaged at) x out) t notes
+
+    -- ## The backend
+
+    digested_ends : (o : Option Object) (bytes : List ℕ) (t : Held) (next mark : Rest PeerState (Option (Object × List ℕ))) → object_in bytes ≡ o → Over t
+        → ((o : Option (Object × List ℕ)) (u : Held) → Over u → MayBeDecoded strings o → Ends c (next o x out) (mark o x out) u notes) → Ends c (digested o bytes x out next) (digested o bytes x out mark) t notes
+    unfolding asked
+    digested_ends None bytes t next mark is over go = go None t over tt
+    digested_ends (Some o) bytes t next mark is over go = ask_ends grows c (Hash bytes) (λ digest. next (Some (o, digest)) x out) (λ digest. mark (Some (o, digest)) x out) t notes (λ among. record {
+      answer = md5 bytes;
+      is = refl;
+      goes = go (Some (o, md5 bytes)) (and_hashed bytes t) (over_call (Hash bytes) t tt refl over) (record { bytes = bytes; hashed = among bytes (hashes bytes t).1; decodes = is; digest = refl });
+    })
+
+    read_ends : (bytes : Option (List ℕ)) (t : Held) (next mark : Rest PeerState (Option (Object × List ℕ))) → Over t
+        → ((o : Option (Object × List ℕ)) (u : Held) → Over u → MayBeDecoded strings o → Ends c (next o x out) (mark o x out) u notes) → Ends c (read bytes x out next) (read bytes x out mark) t notes
+    read_ends None t next mark over go = go None t over tt
+    read_ends (Some bytes) t next mark over go = digested_ends (object_in bytes) bytes t next mark refl over go
+
+    kept_ends : (k : List ℕ) (t : Held) (next mark : Rest PeerState (Option (Object × List ℕ))) → Over t
+        → ((o : Option (Object × List ℕ)) (u : Held) → Over u → MayBeDecoded strings o → Ends c (next o x out) (mark o x out) u notes) → Ends c (kept k x out next) (kept k x out mark) t notes
+    unfolding asked
+    kept_ends k t next mark over go = ask_ends grows c (Fetch k) (λ bytes. read bytes x out next) (λ bytes. read bytes x out mark) t notes (λ among. record {
+      answer = value_at k t.stores.backend.entries;
+      is = refl;
+      goes = read_ends (value_at k t.stores.backend.entries) t next mark over go;
+    })
+
+    -- rule 28: what the backend keeps under the key
+    pub fetched_ends : (k : List ℕ) (next mark : Rest PeerState Seen)
+        → ((o : Option (Object × List ℕ)) (t : Held) → Over t → BackendSays here.reached.ghosts s k (seens.Kept o) → Ends c (next (seens.Kept o) x out) (mark (seens.Kept o) x out) t notes)
+        → Ends c (fetched k x out next) (fetched k x out mark) h notes
+    fetched_ends k next mark go = kept_ends k h (λ o y q. next (seens.Kept o) y q) (λ o y q. mark (seens.Kept o) y q) nothing_read (λ o t over decoded. go o t over (backend_says here.reached k o decoded))
+
+    -- ## The tree
+
+    held_ends : (k : List ℕ) (entry : Option Entry) (t : Held) (next mark : Rest PeerState Seen) → x.trusted ≡ true → entry ≡ lookup k here.tree.map → Over t
+        → ((entry : Option Entry) (object : Option Object) (u : Held) → Over u → Sees k entry object → Ends c (next (seens.Held entry object) x out) (mark (seens.Held entry object) x out) u notes)
+        → Ends c (held k entry x out next) (held k entry x out mark) t notes
+    held_ends k None t next mark trusts is over go = go None None t over (sees_so trusts k None None (is, refl))
+    held_ends k (Some entry) t next mark trusts is over go = kept_ends k t (λ o y q. next (seens.Held (Some entry) (matching entry o)) y q) (λ o y q. mark (seens.Held (Some entry) (matching entry o)) y q) over
+        (λ o u still decoded. go (Some entry) (matching entry o) u still (sees_so trusts k (Some entry) (matching entry o) (is, (o, decoded, refl))))
+
+    -- rules 21 and 29: the entry of the key, and the object that it names
+    pub looked_ends : (k : List ℕ) (next mark : Rest PeerState Seen) → x.trusted ≡ true
+        → ((entry : Option Entry) (object : Option Object) (t : Held) → Over t → Sees k entry object → Ends c (next (seens.Held entry object) x out) (mark (seens.Held entry object) x out) t notes)
+        → EndsDamaged next mark → Ends c (looked k x out next) (looked k x out mark) h notes
+    unfolding asked
+    looked_ends k next mark trusts go damaged = ask_ends grows c (Find k) (λ end. looked_at k end x out next) (λ end. looked_at k end x out mark) h notes (λ among. by_look (find_ends strings h here.tree.map k c.free among here.tree.shows))
+      where
+        t : Held
+        t = (answered (Find k) h).held
+
+        read_over : Over t
+        read_over = over_call (Find k) h tt refl nothing_read
+
+        by_look : Looks (lookup k here.tree.map) (answered (Find k) h).result → Answers c (Find k) (λ end. looked_at k end x out next) (λ end. looked_at k end x out mark) h notes
+        by_look (Finds is) = record { answer = Came (lookup k here.tree.map); is = is; goes = held_ends k (lookup k here.tree.map) t next mark trusts refl read_over go }
+        by_look (Breaks at is) = record { answer = Broken at; is = is; goes = damaged at t read_over }
+
+    -- rule 22: the entry of the key
+    pub found_ends : (k : List ℕ) (next mark : Rest PeerState Seen)
+        → ((t : Held) → Over t → Ends c (next (seens.Held (lookup k here.tree.map) None) x out) (mark (seens.Held (lookup k here.tree.map) None) x out) t notes)
+        → EndsDamaged next mark → Ends c (found k x out next) (found k x out mark) h notes
+    unfolding asked
+    found_ends k next mark go damaged = ask_ends grows c (Find k) (λ end. next (found_at end) x out) (λ end. mark (found_at end) x out) h notes (λ among. by_look (find_ends strings h here.tree.map k c.free among here.tree.shows))
+      where
+        t : Held
+        t = (answered (Find k) h).held
+
+        read_over : Over t
+        read_over = over_call (Find k) h tt refl nothing_read
+
+        by_look : Looks (lookup k here.tree.map) (answered (Find k) h).result → Answers c (Find k) (λ end. next (found_at end) x out) (λ end. mark (found_at end) x out) h notes
+        by_look (Finds is) = record { answer = Came (lookup k here.tree.map); is = is; goes = go t read_over }
+        by_look (Breaks at is) = record { answer = Broken at; is = is; goes = damaged at t read_over }
+
+    -- ## The object of a reply
+
+    -- rule 29, GetReply: the object of the reply, if its entry names it
+    pub confirmed_ends : (q d r : ℕ) (k : List ℕ) (entry : Option Entry) (object : Option Object) (next mark : Rest PeerState (Option Object))
+        → GetReplySays here.reached.ghosts s q d r k (entry_rank entry) (shown entry object) → EntryMaySay s strings entry
+        → ((named : Option Object) (t : Held) → Over t → Confirmed here.reached.ghosts s q d r k entry named → Ends c (next named x out) (mark named x out) t notes)
+        → Ends c (confirmed entry object x out next) (confirmed entry object x out mark) h notes
+    unfolding asked
+    confirmed_ends q d r k None object next mark reply says go = go None h nothing_read (none_confirmed here.reached.ghosts s strings q d r k here.reached.hash None object reply)
+    confirmed_ends q d r k (Some e) None next mark reply says go = go None h nothing_read (none_confirmed here.reached.ghosts s strings q d r k here.reached.hash (Some e) None reply)
+    confirmed_ends q d r k (Some e) (Some o) next mark reply says go =
+        ask_ends grows c (Hash (object_spelling o)) (λ digest. next (matching e (Some (o, digest))) x out) (λ digest. mark (matching e (Some (o, digest))) x out) h notes (λ among. record {
+          answer = md5 (object_spelling o);
+          is = refl;
+          goes = go (matching e (Some (o, md5 (object_spelling o)))) (and_hashed (object_spelling o) h) (over_call (Hash (object_spelling o)) h tt refl nothing_read)
+              (named_confirmed here.reached.ghosts s strings q d r k here.reached.hash e o (matching e (Some (o, md5 (object_spelling o)))) (matches e o) reply says);
+        })
+
+    -- ## A write
+
+    module _ (few : (view : List ℕ) (steps : List Step) → IsRun view steps → KeysAreFew (state_after view steps)) where
+      -- with one more version the map has no more entries than calls came
+      few_entries : (o : Object) (d : ℕ) (digest : List ℕ) → PutSays s d o.key (rank o.version) (content_of o) → length (put (entry_of o digest) here.tree.map) < 2 ^ 32
+      few_entries o d digest says = below
+          (few view here.reached.steps here.reached.run (map (λ (e : Entry). e.key) m) (distinct_keys m (ascends-put (entry_of o digest) here.tree.map here.tree.shows.stands.is_map.ascends)) (key_from IsKeyOf m (λ e i. by_place e (in_put e (entry_of o digest) here.tree.map i))))
+          (length_keys m) (ap (λ (calls : List BookCall). length calls) here.reached.elsewhere.calls) c.few
+        where
+          m : List Entry
+          m = put (entry_of o digest) here.tree.map
+
+          IsKeyOf : List ℕ → Type 0
+          IsKeyOf k = (v : ℕ) × (s.objects.proposed v ≡ true) × (s.objects.key v ≡ k)
+
+          by_place : (e : Entry) → (e ≡ entry_of o digest) ⊎ (e ∈ here.tree.map) → IsKeyOf e.key
+          by_place e (inl same) = (rank o.version, says.proposed, says.key ∙ ap (λ (f : Entry). f.key) (sym same))
+          by_place e (inr old) = let there = here.tree.says.entries e old in (rank e.version, there.version.proposed, sym there.key)
+
+          below : length (map (λ (e : Entry). e.key) m) ≤ length s.book.calls → length (map (λ (e : Entry). e.key) m) ≡ length m → length s.book.calls ≡ length (state_before c).book.calls → length (state_before c).book.calls < 2 ^ 32 → length m < 2 ^ 32
+          below le same calls few = omega (arith, le, same, calls, few)
+
+      module _ (o : Object) (d : ℕ) (store : MayStore o d) (next mark : Rest PeerState Seen) where
+        abbrev bytes : List ℕ
+        bytes = object_spelling o
+
+        abbrev e : Entry
+        e = entry_of o (md5 bytes)
+
+        -- the object is in the tree; now its bytes go into the backend
+        bytes_end : (t : Held) → Stored o t → ((u : Held) → Stored o u → Ends c (next (seens.Stored (md5 bytes)) x out) (mark (seens.Stored (md5 bytes)) x out) u notes)
+            → Ends c (entered o bytes (md5 bytes) (Came tt) x out next) (entered o bytes (md5 bytes) (Came tt) x out mark) t notes
+        unfolding asked
+        bytes_end t stored go = ask_may_end grows c (Put o.key bytes) (λ u. next (seens.Stored (md5 bytes)) x out) (λ u. mark (seens.Stored (md5 bytes)) x out) t notes (λ among. by_end (put_ends o.key bytes t))
+          where
+            u : Held
+            u = (answered (Put o.key bytes) t).held
+
+            still : Stored o u
+            still = record {
+              kept_fact = ap (λ (f : HeldFact). f.kept) (spares (Put o.key bytes) t).1 ∙ stored.kept_fact;
+              spelled = stored.spelled;
+              hashed = λ a at. grows (Put o.key bytes) t a (stored.hashed a at);
+              written = written_kept (Put o.key bytes) h t (put e here.tree.map) tt stored.written;
+            }
+
+            by_end : ((answered (Put o.key bytes) t).result ≡ Ok tt) ⊎ ((answered (Put o.key bytes) t).result ≡ Err StoreFault)
+                → Answers c (Put o.key bytes) (λ u. next (seens.Stored (md5 bytes)) x out) (λ u. mark (seens.Stored (md5 bytes)) x out) t notes ⊎ IsRefused c (Put o.key bytes) t notes
+            by_end (inl is) = inl (record { answer = tt; is = is; goes = go u still })
+            by_end (inr is) = inr (record { error = StoreFault; is = is; rests = rests_written o d store u still.kept_fact still.spelled still.hashed still.written.next })
+
+        -- the entry goes into the tree
+        entry_ends : (t : Held) → bytes ∈ strings → Over t → ((u : Held) → Stored o u → Ends c (next (seens.Stored (md5 bytes)) x out) (mark (seens.Stored (md5 bytes)) x out) u notes) → EndsDamaged next mark
+            → Ends c (Ask (Enter e) (λ end. entered o bytes (md5 bytes) end x out next)) (Ask (Enter e) (λ end. entered o bytes (md5 bytes) end x out mark)) t notes
+        entry_ends t spelled over go damaged = ask_may_end grows c (Enter e) (λ end. entered o bytes (md5 bytes) end x out next) (λ end. entered o bytes (md5 bytes) end x out mark) t notes (λ among.
+            by_end (enter_ends strings t here.tree.map e c.free among over.shows (record { key = store.obeys.key; version = store.obeys.version; digest = md5_run bytes }) (few_entries o d (md5 bytes) store.says)))
+          where
+            u : Held
+            u = (answered (Enter e) t).held
+
+            still : u.stores.facts.kept ≡ h.stores.facts.kept
+            still = ap (λ (f : HeldFact). f.kept) (spares (Enter e) t).1 ∙ over.kept_fact
+
+            hashed : AreAmong h.hashed u.hashed
+            hashed a at = grows (Enter e) t a (over.hashed a at)
+
+            -- the write of the top record was refused
+            torn : (tops_of u.stores ≡ tops_of t.stores) ⊎ NamesNext (put e here.tree.map) t u → Rests c u notes
+            torn (inl same) = rests_over c here u still (same ∙ over.tops) hashed
+            torn (inr named) = rests_written o d store u still spelled hashed (names_from h t u (put e here.tree.map) over.tops named)
+
+            by_end : EnterEnds e here.tree.map t (answered (Enter e) t).result u → Answers c (Enter e) (λ end. entered o bytes (md5 bytes) end x out next) (λ end. entered o bytes (md5 bytes) end x out mark) t notes ⊎ IsRefused c (Enter e) t notes
+            by_end (Enters is written) = inl (record {
+              answer = Came tt;
+              is = is;
+              goes = bytes_end u (record { kept_fact = still; spelled = spelled; hashed = hashed; written = written_from h t u (put e here.tree.map) over.tops written }) go;
+            })
+            by_end (Stops at is shows tops) = inl (record {
+              answer = Broken at;
+              is = is;
+              goes = damaged at u (record { kept_fact = still; shows = shows; recorded = broken_recorded e t at is tops over.recorded; tops = tops ∙ over.tops; hashed = hashed });
+            })
+            by_end (Tears is either) = inr (record { error = StoreFault; is = is; rests = torn either })
+
+        -- rules 22 and 35: the object is written
+        pub written_ends : ((u : Held) → Stored o u → Ends c (next (seens.Stored (md5 bytes)) x out) (mark (seens.Stored (md5 bytes)) x out) u notes) → EndsDamaged next mark
+            → Ends c (written o x out next) (written o x out mark) h notes
+        unfolding asked
+        written_ends go damaged = ask_ends grows c (Hash bytes) (λ digest. asks digest next) (λ digest. asks digest mark) h notes (λ among. record {
+          answer = md5 bytes;
+          is = refl;
+          goes = entry_ends (and_hashed bytes h) (among bytes (hashes bytes h).1) (over_call (Hash bytes) h tt refl nothing_read) go damaged;
+        })
+          where
+            asks : List ℕ → Rest PeerState Seen → Plan PeerState
+            asks digest rest = Ask (Enter (entry_of o digest)) (λ end. entered o bytes digest end x out rest)

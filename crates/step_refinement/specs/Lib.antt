@@ -1,0 +1,5 @@
+pub mod Roles
+pub mod Peers
+pub mod Keys
+pub mod Scenes
+pub mod Steps
