@@ -16,8 +16,8 @@ use Rattle.ens_words.specs.Forms.{AskFor, IsJob, output_word, words_of}
 use Rattle.ens_words.specs.Reading.{cluster_form_of, cluster_of, generate_of, generator_of, job_of, peer_form_of, peer_of_words, replay_of, summary_of}
 use Rattle.ens_words.specs.declared.job.Job.{Job}
 use Rattle.ens_words.specs.declared.job.Job.TheVariants.{Replay, Peer, Cluster, Generate}
-use Rattle.ens_words.specs.declared.job.PeerWords.{PeerWords}
-use Rattle.ens_words.specs.declared.job.ClusterWords.{ClusterWords}
+use Rattle.ens_base.specs.declared.peer_words.PeerWords.{PeerWords}
+use Rattle.ens_base.specs.declared.peer_words.ClusterWords.{ClusterWords}
 
 -- ---- what is read as a job asks for it
 

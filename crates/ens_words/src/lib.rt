@@ -9,5 +9,6 @@ mod command;
 mod job;
 mod reading;
 
-pub use job::{ClusterWords, Job, PeerWords, WordsError};
+pub use ens_base::{ClusterWords, PeerWords};
+pub use job::{Job, WordsError};
 pub use reading::read_words;

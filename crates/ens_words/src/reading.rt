@@ -7,10 +7,10 @@ ghost use Rattle.ens_words.specs.Reading.{cluster_of, generate_of, generator_of,
 ghost use Rattle.ens_words.specs.Split.{Splits, has_option};
 
 use crate::command::{has_option, matches_of};
-use crate::job::{ClusterWords, Job, PeerWords, WordsError};
+use crate::job::{Job, WordsError};
 use clap::error::ErrorKind;
 use clap::{ArgMatches, Error};
-use ens_base::View;
+use ens_base::{ClusterWords, PeerWords, View};
 use schedule_words::{Cause, WordError, number, peer, view};
 use std::alloc::{AllocError, Global};
 

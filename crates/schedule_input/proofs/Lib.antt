@@ -1,2 +1,3 @@
 pub mod Parts
 pub mod Reached
+pub mod Cutting

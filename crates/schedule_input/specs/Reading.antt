@@ -1,11 +1,12 @@
 -- How the rest of a source is read, and why no schedule was read.
-use Rattle.std.specs.Prelude.{◌≡◌, ◌++◌, ℕ, List, Option, None, Some, Result, Err, IfSome}
+use Rattle.std.specs.Prelude.{◌≡◌, ◌≤◌, ◌++◌, ℕ, List, [], Option, None, Some, Result, Err, IfSome}
 use Rattle.schedule_words.specs.Words.{parts_of}
-use Rattle.schedule_text.specs.Progress.{Progress, Blank}
+use Rattle.schedule_text.specs.Progress.{Progress, Blank, lines_so_far}
 use Rattle.schedule_text.specs.Reading.{read_parts}
 use Rattle.schedule_text.specs.declared.error.ScheduleError.{ScheduleError}
 use Rattle.schedule_text.specs.declared.error.ScheduleError.TheVariants as schedule
 use Rattle.schedule_text.specs.declared.schedule.Schedule.{Schedule}
+use Rattle.ens_outside.specs.Lines.{IsLine}
 use Rattle.ens_outside.specs.declared.lines.NextError.{NextError}
 use Rattle.ens_outside.specs.declared.lines.NextError.TheVariants as next
 use Rattle.schedule_input.specs.declared.read.ReadError.{ReadError}
@@ -34,6 +35,35 @@ ReadsOn (Some old) p (Some new) q = read_parts p (parts_of 10 old) ≡ read_part
 pub record IsReached (p : Progress) : Type 0 where
   pub front : List ℕ
   pub reads : (rest : List ℕ) → read_parts Blank (parts_of 10 (front ++ rest)) ≡ read_parts p (parts_of 10 rest)
+
+-- these bytes, read from the beginning, are the lines so far
+abbrev pub AreLines : List ℕ → Progress → Type 0
+AreLines lines p = (rest : List ℕ) → read_parts Blank (parts_of 10 (lines ++ rest)) ≡ read_parts p (parts_of 10 rest)
+
+-- the lines so far were taken from the front of the first bytes, and the second ones follow them
+abbrev pub HasTaken : Option (List ℕ) → Option (List ℕ) → Progress → Type 0
+HasTaken None rest p = Unit {0}
+HasTaken (Some bytes) None p = ⊥
+HasTaken (Some bytes) (Some rest) p = (lines : List ℕ) × (bytes ≡ lines ++ rest) × AreLines lines p
+
+-- A source that held the first bytes failed when the second ones were left, before those that it gave
+-- decided anything: they are at most 200,000 lines, none of which is bad, and then at most 4,400 bytes
+-- without a line feed, or none after line 200,000.
+pub record IsCutOff (bytes left : List ℕ) : Type 0 where
+  pub lines : List ℕ
+  pub pending : List ℕ
+  pub p : Progress
+  pub are : bytes ≡ lines ++ (pending ++ left)
+  pub good : AreLines lines p
+  pub few : lines_so_far p ≤ 200000
+  pub undecided : IsLine pending
+  pub last : lines_so_far p ≡ 200000 → pending ≡ []
+
+-- the same if the bytes are known
+abbrev pub WasCutOff : Option (List ℕ) → Option (List ℕ) → Type 0
+WasCutOff None left = Unit {0}
+WasCutOff (Some bytes) None = ⊥
+WasCutOff (Some bytes) (Some left) = IsCutOff bytes left
 
 -- an error and the bytes to come: it names their first bad line and its cause, or they have too
 -- many lines

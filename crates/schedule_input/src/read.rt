@@ -1,11 +1,11 @@
-ghost use Rattle.std.specs.Prelude.{◌≡◌, ◌≢◌, ◌+◌, ◌≤◌, ℕ, List, Option, IfOk, IfErr, IfSome, IfNone, OnOk, IsErr, IsErrOf};
+ghost use Rattle.std.specs.Prelude.{◌≡◌, ◌≢◌, ◌+◌, ◌<◌, ◌≤◌, ℕ, List, Option, IfOk, IfErr, IfSome, IfNone, OnOk, IsErr, IsErrOf};
 ghost use Rattle.std.specs.Io.KnownBytes.{prepend_known, IsAtEnd};
 ghost use Rattle.ens_base.specs.Causes.{Rose};
 ghost use Rattle.ens_outside.specs.Lines.{BeginsLong};
 ghost use Rattle.schedule_text.specs.Progress.{Blank, lines_so_far};
 ghost use Rattle.schedule_text.specs.Reading.{ended, schedule_of};
 ghost use Rattle.schedule_text.specs.Spelling.{IsSchedule};
-ghost use Rattle.schedule_input.specs.Reading.{IsReached, ReadsAs, ReadsOn, Refuses, of_schedule};
+ghost use Rattle.schedule_input.specs.Reading.{HasTaken, IsReached, ReadsAs, ReadsOn, Refuses, WasCutOff, of_schedule};
 
 use ens_base::MAX_LINES;
 use ens_outside::{Lines, Next, NextError, Source};
@@ -68,6 +68,8 @@ fn take_line<S: Source>(
     ensures bad { IfErr result (Refuses (prepend_known lines.old.pending.items (S.left input.old)) reading.old) }
     ensures later { S.fault_count input.old ≤ S.fault_count input.new }
     ensures failed { IsErrOf result ReadError.Failed → Rose (S.fault_count input.old) (S.fault_count input.new) }
+    ensures taken { IfOk result (λ o. IfNone o ((source : Option (List ℕ)) → HasTaken source (prepend_known lines.old.pending.items (S.left input.old)) reading.old → HasTaken source (prepend_known lines.new.pending.items (S.left input.new)) reading.new)) }
+    ensures cut { IsErrOf result ReadError.Failed → (source : Option (List ℕ)) → HasTaken source (prepend_known lines.old.pending.items (S.left input.old)) reading.old → lines_so_far reading.old < 200000 → WasCutOff source (S.left input.new) }
 {
     match lines.next(alloc, input)? {
         Next::Line(line) => {
@@ -96,6 +98,8 @@ pub fn read_schedule<S: Source>(alloc: Global, input: &mut S) -> Result<Schedule
     ensures bad { IfErr result (Refuses (S.left input.old) Blank) }
     ensures later { S.fault_count input.old ≤ S.fault_count input.new }
     ensures failed { IsErrOf result ReadError.Failed → Rose (S.fault_count input.old) (S.fault_count input.new) }
+    // The source failed before the bytes that it gave decided anything.
+    ensures cut { IsErrOf result ReadError.Failed → WasCutOff (S.left input.old) (S.left input.new) }
 {
     let mut lines = Lines::new(alloc);
     let mut reading = Reading::new(alloc);

@@ -1,4 +1,4 @@
-use Rattle.std.proofs.Common.{◌≡◌, ℕ, replicate, arith}
+use Rattle.std.proofs.Common.{ℕ, replicate, arith}
 use Rattle.std.proofs.lemmas.List.{length-replicate}
 use Rattle.schedule_input.proofs.Parts.{refuses_long}
 use Rattle.schedule_input.proofs.read.long_line.Goals as goal

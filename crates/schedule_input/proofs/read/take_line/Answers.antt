@@ -2,6 +2,7 @@ use Rattle.std.proofs.Common.{◌≡◌, ℕ, List, refl, subst, Ok, Err}
 use Rattle.std.proofs.lemmas.Result.{err_from_is_err_and}
 use Rattle.schedule_text.specs.Reading.{next_line, TakesLine}
 use Rattle.schedule_input.proofs.Parts.{line_taken, line_counts, refuses_line, rest_read}
+use Rattle.schedule_input.proofs.Cutting.{taken_next}
 use Rattle.schedule_input.proofs.Reached.{reached_next}
 use Rattle.schedule_input.proofs.read.take_line.Goals as goal
 
@@ -28,3 +29,9 @@ returns-in_ok-line-in-Line-clause-reached g c =
     let next = rw c.in-Line.is at c.in_ok-line.ensures.next in
     let P : List ℕ → Type 0 = λ v. next_line c.args.reading.now v ≡ Ok c.line.new.self in
     λ reached. reached_next c.args.reading.now c.line.new.self c.in-Line.line.items next.0.no_feed (subst P c.deref.ensures.value c.in_ok-line-in-Line.ensures) reached
+
+pub returns-in_ok-line-in-Line-clause-taken : goal.returns-in_ok-line-in-Line-clause-taken
+returns-in_ok-line-in-Line-clause-taken g c =
+    let next = rw c.in-Line.is at c.in_ok-line.ensures.next in
+    let P : List ℕ → Type 0 = λ v. next_line c.args.reading.now v ≡ Ok c.line.new.self in
+    λ source h. taken_next source _ _ c.args.reading.now c.line.new.self c.in-Line.line.items next.0.no_feed (subst P c.deref.ensures.value c.in_ok-line-in-Line.ensures) next.1 h
