@@ -1,0 +1,45 @@
+-- The map of a log after a put, and after one that failed.
+use Rattle.std.proofs.Common.{◌≡◌, ℕ, ◌+◌, ◌<◌, ◌≤◌, ◌^◌, List, ◌++◌, length, take, drop, Option, None, Some, refl, sym, ap, ◌∙◌, subst, arith, length-append}
+use Rattle.std.proofs.lemmas.List.{length-take}
+use Rattle.std.specs.BTreeMap.{get}
+use Rattle.ens_base.specs.Lists.{bytes_cmp}
+use Rattle.ens_outside.specs.Maps.{Entries, with_value}
+use Rattle.disk_log.specs.Records.{record_bytes, entries_of}
+use Rattle.disk_log.specs.LogFiles.{Begins}
+use Rattle.disk_log.specs.Logs.{Holds, Indexes}
+use Rattle.disk_log.specs.declared.file.LogFile.{LogFile}
+use Rattle.disk_log.specs.declared.log.Log.{Log}
+use Rattle.disk_log.specs.declared.place.Place.{Place}
+use Rattle.disk_log.proofs.Fronts.{record_reads, record_size, record_holds}
+use Rattle.disk_log.proofs.RecordLaws.{ReadsAs, entries_more}
+use Rattle.disk_log.proofs.Indexing.{Places, IsPlaceOf, index_more, index_same}
+
+pub front_size : {D : Type 0} (seen : D → Option (List ℕ)) (f : LogFile D) (bytes : List ℕ) → Begins seen f bytes → length bytes ≡ f.end
+front_size seen f bytes on = ap length (sym on.front) ∙ (let e : length (take f.end on.file) ≡ f.end = omega (arith, length-take f.end on.file, on.long) in e)
+
+pub put_holds : {D : Type 0} (seen : D → Option (List ℕ)) (old new : Log D) (es : Entries) (name content : List ℕ) (p : Place) → Holds seen old es → length name ≤ 255 → length content < 2 ^ 64
+    → ((front : List ℕ) → Begins seen old.file front → Begins seen new.file (front ++ record_bytes name content)) → p.at ≡ old.file.end + 10 + length name → p.len ≡ length content
+    → Places name (Some p) old.places new.places → Holds seen new (with_value name content es)
+put_holds seen old new es name content p holds short small appends at len places = record {
+  bytes = holds.bytes ++ chunk;
+  on = appends holds.bytes holds.on;
+  indexed = index_more holds.bytes chunk name content p old.places new.places holds.indexed reads
+      (record { at = omega (arith, at, front_size seen old.file holds.bytes holds.on); len = len; size = record_size name content; holds = record_holds name content }) places;
+  map = entries_more holds.bytes chunk name content holds.indexed.whole reads ∙ ap (with_value name content) holds.map;
+}
+  where
+    chunk : List ℕ
+    chunk = record_bytes name content
+
+    reads : ReadsAs (record_bytes name content) name content
+    reads rest = record_reads name content rest short small
+
+-- a call that left the log and the places of the index as they were
+pub keeps_holds : {D : Type 0} (seen : D → Option (List ℕ)) (old new : Log D) (es : Entries) → Holds seen old es → ((front : List ℕ) → Begins seen old.file front → Begins seen new.file front)
+    → ((q : List ℕ) → get bytes_cmp new.places q ≡ get bytes_cmp old.places q) → Holds seen new es
+keeps_holds seen old new es holds stays same = record {
+  bytes = holds.bytes;
+  on = stays holds.bytes holds.on;
+  indexed = index_same old.places new.places holds.bytes same holds.indexed;
+  map = holds.map;
+}

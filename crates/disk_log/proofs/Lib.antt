@@ -1,0 +1,5 @@
+pub mod Fronts
+pub mod RecordLaws
+pub mod Indexing
+pub mod Scanning
+pub mod Appending

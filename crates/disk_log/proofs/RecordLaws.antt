@@ -1,0 +1,89 @@
+-- The records of a file, one after the other.
+use Rattle.std.proofs.Common.{◌≡◌, ℕ, zero, suc, ◌+◌, ◌<◌, ◌≤◌, ◌^◌, List, [], ◌∷◌, ◌++◌, length, take, drop, Option, None, Some, refl, sym, ap, ◌∙◌, arith, length-append, append_assoc, append-nil}
+use Rattle.std.proofs.lemmas.List.{take-append-drop}
+use Rattle.ens_outside.specs.Maps.{Entries, with_value}
+use Rattle.disk_log.specs.Records.{Front, front_of, and_then, first_records, records_of, with_records, entries_of, IsWhole, record_bytes}
+use Rattle.disk_log.proofs.Fronts.{Chunk, chunk_of, none_is_some, record_reads}
+
+pub front_shrinks : (bytes : List ℕ) (r : Front) → front_of bytes ≡ Some r → length r.rest < length bytes
+front_shrinks bytes r is =
+    let c = chunk_of bytes r is in
+    omega (arith, ap length c.split, length-append c.chunk r.rest, c.size)
+
+-- a greater number than there are bytes changes nothing
+pub same_records : (n m : ℕ) (bytes : List ℕ) → length bytes ≤ n → length bytes ≤ m → first_records n bytes ≡ first_records m bytes
+same_records zero zero bytes p q = refl
+same_records zero (suc m) [] p q = refl
+same_records zero (suc m) (b ∷ bs) p q = absurd (omega (arith, p))
+same_records (suc n) zero [] p q = refl
+same_records (suc n) zero (b ∷ bs) p q = absurd (omega (arith, q))
+same_records (suc n) (suc m) bytes p q = by (front_of bytes) refl (λ rest. same_records n m rest)
+  where
+    by : (o : Option Front) → front_of bytes ≡ o → ((rest : List ℕ) → length rest ≤ n → length rest ≤ m → first_records n rest ≡ first_records m rest)
+        → and_then o (first_records n) ≡ and_then o (first_records m)
+    by None is later = refl
+    by (Some r) is later =
+        let less = front_shrinks bytes r is in
+        ap (λ (l : Entries). (r.name, r.content) ∷ l) (later r.rest (omega (arith, less, p)) (omega (arith, less, q)))
+
+pub records_none : (bytes : List ℕ) → front_of bytes ≡ None → records_of bytes ≡ []
+records_none [] is = refl
+records_none (b ∷ bs) is = ap (λ (o : Option Front). and_then o (first_records (length bs))) is
+
+pub records_next : (bytes : List ℕ) (r : Front) → front_of bytes ≡ Some r → records_of bytes ≡ (r.name, r.content) ∷ records_of r.rest
+records_next [] r is = absurd (none_is_some r is)
+records_next (b ∷ bs) r is =
+    let less = front_shrinks (b ∷ bs) r is in
+    ap (λ (o : Option Front). and_then o (first_records (length bs))) is
+    ∙ ap (λ (l : Entries). (r.name, r.content) ∷ l) (same_records (length bs) (length r.rest) r.rest (omega (arith, less)) (omega arith))
+
+-- no bytes are whole records
+pub nothing_whole : IsWhole []
+nothing_whole rest = refl
+
+-- these bytes are read as this record, whatever follows them
+abbrev pub ReadsAs : List ℕ → (name content : List ℕ) → Type 0
+ReadsAs chunk name content = (rest : List ℕ) → front_of (chunk ++ rest) ≡ Some (record { name = name; content = content; rest = rest })
+
+pub records_one : (chunk name content rest : List ℕ) → ReadsAs chunk name content → records_of (chunk ++ rest) ≡ (name, content) ∷ records_of rest
+records_one chunk name content rest reads = records_next (chunk ++ rest) (record { name = name; content = content; rest = rest }) (reads rest)
+
+-- whole records, and one more
+pub records_more : (front chunk name content : List ℕ) → IsWhole front → ReadsAs chunk name content → records_of (front ++ chunk) ≡ records_of front ++ (name, content) ∷ []
+records_more front chunk name content whole reads =
+    whole chunk ∙ ap (λ (l : Entries). records_of front ++ l) (ap records_of (sym (append-nil chunk)) ∙ records_one chunk name content [] reads)
+
+pub whole_more : (front chunk name content : List ℕ) → IsWhole front → ReadsAs chunk name content → IsWhole (front ++ chunk)
+whole_more front chunk name content whole reads rest =
+    ap records_of (append_assoc front chunk rest)
+    ∙ whole (chunk ++ rest)
+    ∙ ap (λ (l : Entries). records_of front ++ l) (records_one chunk name content rest reads)
+    ∙ sym (append_assoc (records_of front) ((name, content) ∷ []) (records_of rest))
+    ∙ ap (λ (l : Entries). l ++ records_of rest) (sym (records_more front chunk name content whole reads))
+
+with_more : (es rs : Entries) (name content : List ℕ) → with_records es (rs ++ (name, content) ∷ []) ≡ with_value name content (with_records es rs)
+with_more es [] name content = refl
+with_more es (r ∷ rs) name content = with_more (with_value r.0 r.1 es) rs name content
+
+pub entries_more : (front chunk name content : List ℕ) → IsWhole front → ReadsAs chunk name content → entries_of (front ++ chunk) ≡ with_value name content (entries_of front)
+entries_more front chunk name content whole reads =
+    ap (with_records []) (records_more front chunk name content whole reads) ∙ with_more [] (records_of front) name content
+
+-- what follows whole records and is no record changes nothing
+pub entries_end : (front rest : List ℕ) → IsWhole front → front_of rest ≡ None → entries_of (front ++ rest) ≡ entries_of front
+entries_end front rest whole none =
+    ap (with_records []) (whole rest ∙ ap (λ (l : Entries). records_of front ++ l) (records_none rest none) ∙ append-nil (records_of front))
+
+-- more bytes after a record change only what follows it
+pub front_grows : (bytes more : List ℕ) (r : Front) → front_of bytes ≡ Some r → front_of (bytes ++ more) ≡ Some (record { name = r.name; content = r.content; rest = r.rest ++ more })
+front_grows bytes more r is =
+    let c = chunk_of bytes r is in
+    ap (λ (l : List ℕ). front_of (l ++ more)) c.split ∙ ap front_of (append_assoc c.chunk r.rest more) ∙ c.reads (r.rest ++ more)
+
+-- what is no record is none when it is cut
+pub front_cut : (bytes : List ℕ) (n : ℕ) → front_of bytes ≡ None → front_of (take n bytes) ≡ None
+front_cut bytes n none = by (front_of (take n bytes)) refl
+  where
+    by : (o : Option Front) → front_of (take n bytes) ≡ o → front_of (take n bytes) ≡ None
+    by None is = is
+    by (Some r) is = absurd (none_is_some _ (sym none ∙ ap front_of (sym (take-append-drop n bytes)) ∙ front_grows (take n bytes) (drop n bytes) r is))

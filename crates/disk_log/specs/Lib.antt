@@ -1,0 +1,4 @@
+pub mod Records
+pub mod LogFiles
+pub mod Logs
+pub mod Scans

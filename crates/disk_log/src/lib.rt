@@ -1,0 +1,19 @@
+//! A finite map from names to bytes, kept as a log on a disk: each put appends a record, and an
+//! index in memory has the place of the content of each name.
+//!
+//! A log opens on a disk that holds any bytes. It stands for the map of the records at the front of
+//! the file, up to the first that is not whole, and cuts off the rest. Over a disk that tells its
+//! bytes, each call does what the same call of a finite map does, or fails and leaves the map as it
+//! was. `specs/Records` defines the map that a file holds, and `specs/Logs` the map that a log
+//! stands for.
+#![tactic(auto)]
+
+mod file;
+mod header;
+mod log;
+mod place;
+mod scan;
+
+pub use file::LogFile;
+pub use log::{Log, NAME_LIMIT};
+pub use place::Place;
