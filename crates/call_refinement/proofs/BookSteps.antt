@@ -7,7 +7,7 @@ use Rattle.abstract_protocol.specs.Book.{Book, opening_book}
 use Rattle.abstract_protocol.specs.Protocol.{State, Begin, Ask, happens}
 use Rattle.held_stores.specs.Held.{HeldStores}
 use Rattle.leader_words.specs.declared.out.AnswerOut.{AnswerOut}
-use Rattle.peer_core.specs.declared.event.Event.{Event}
+use Rattle.peer_state.specs.declared.event.Event.{Event}
 use Rattle.register_model.specs.declared.answer.Answer.{Answer}
 use Rattle.register_model.specs.declared.call.Call.{Call}
 use Rattle.register_model.specs.declared.note.Note.{Note}

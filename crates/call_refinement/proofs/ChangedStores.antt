@@ -16,8 +16,8 @@ use Rattle.held_stores.specs.Held.{Held, HeldStores}
 use Rattle.held_stores.specs.Laws.{held_with}
 use Rattle.held_stores.specs.Runs.{Ended, run, either}
 use Rattle.leader_refinement.specs.Seen.{rank, entry_rank}
-use Rattle.peer_core.specs.Starts.{first_state, opened, start_of}
-use Rattle.peer_core.specs.declared.state.State.{State as PeerState}
+use Rattle.peer_plan.specs.Starts.{first_state, opened, start_of}
+use Rattle.peer_state.specs.declared.state.State.{State as PeerState}
 use Rattle.peer_fact.specs.declared.fact.Fact.{Fact}
 use Rattle.register_model.specs.declared.note.Note.{Note}
 use Rattle.request_refinement.specs.Naming.{EntrySays}

@@ -11,8 +11,8 @@ use Rattle.leader_laws.specs.Roles.{Role, Sent, RolesHold, with_owed, owed_by}
 use Rattle.leader_laws.specs.Tables.{Ghosts, Owed}
 use Rattle.leader_refinement.specs.Seen.{owed_after}
 use Rattle.leader_words.specs.declared.out.AnswerOut.{AnswerOut}
-use Rattle.peer_core.specs.declared.state.Phase.{Phase}
-use Rattle.peer_core.specs.declared.state.Phase.TheVariants as phases
+use Rattle.peer_state.specs.declared.state.Phase.{Phase}
+use Rattle.peer_state.specs.declared.state.Phase.TheVariants as phases
 use Rattle.register_model.specs.declared.note.Note.{Note}
 use Rattle.sync_laws.specs.Facts.{Lines}
 use Rattle.version_laws.proofs.Maps.{put_here, put_other, put_then}

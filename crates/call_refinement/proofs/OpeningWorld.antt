@@ -18,8 +18,8 @@ use Rattle.leader_laws.proofs.Roles.{roles_open}
 use Rattle.leader_laws.specs.Roles.{Follows}
 use Rattle.leader_laws.specs.Tables.{Ghosts}
 use Rattle.network.specs.Mail.{MayBeSent}
-use Rattle.peer_core.specs.Starts.{first_state, saves_opening, start_of}
-use Rattle.peer_core.specs.declared.state.State.{State as PeerState}
+use Rattle.peer_plan.specs.Starts.{first_state, saves_opening, start_of}
+use Rattle.peer_state.specs.declared.state.State.{State as PeerState}
 use Rattle.peer_fact.specs.Facts.{opening_fact}
 use Rattle.request_refinement.specs.Naming.{hash_of}
 use Rattle.step_plans.specs.Calls.{FreshTree}

@@ -10,9 +10,9 @@ use Rattle.abstract_protocol.specs.Protocol.{State, Step, Begin, Ask, opening, h
 use Rattle.entry_laws.proofs.Replies.{run_entries}
 use Rattle.held_stores.specs.Held.{HeldStores}
 use Rattle.network.specs.Mail.{MayBeSent, settled, goes, is_among, oldest, most_messages}
-use Rattle.peer_core.specs.Drives.{MayCome}
-use Rattle.peer_core.specs.declared.event.Event.{Event}
-use Rattle.peer_core.specs.declared.event.Event.TheVariants as does
+use Rattle.peer_plan.specs.Drives.{MayCome}
+use Rattle.peer_state.specs.declared.event.Event.{Event}
+use Rattle.peer_state.specs.declared.event.Event.TheVariants as does
 use Rattle.register_model.specs.declared.call.Call.{Call}
 use Rattle.register_model.specs.declared.history.History.{History}
 use Rattle.history_scribe.specs.Histories.{AreHistories}

@@ -8,14 +8,14 @@ use Rattle.held_stores.specs.Held.{Held, HeldStores}
 use Rattle.held_stores.specs.Laws.{held_with}
 use Rattle.held_stores.specs.Runs.{Ended, run, either}
 use Rattle.network.specs.Mail.{MayBeSent}
-use Rattle.peer_core.proofs.Aging.{steps_young}
-use Rattle.peer_core.specs.Ages.{IsYoung}
-use Rattle.peer_core.specs.Drives.{step_of, MayCome}
-use Rattle.peer_core.specs.Kept.{IsStepCall, Reaches}
-use Rattle.peer_core.specs.Starts.{start_of, opened}
-use Rattle.peer_core.specs.declared.event.Event.{Event}
-use Rattle.peer_core.specs.declared.event.Event.TheVariants as does
-use Rattle.peer_core.specs.declared.state.State.{State}
+use Rattle.peer_plan.proofs.Aging.{steps_young}
+use Rattle.peer_state.specs.Ages.{IsYoung}
+use Rattle.peer_plan.specs.Drives.{step_of, MayCome}
+use Rattle.peer_plan.specs.Kept.{IsStepCall, Reaches}
+use Rattle.peer_plan.specs.Starts.{start_of, opened}
+use Rattle.peer_state.specs.declared.event.Event.{Event}
+use Rattle.peer_state.specs.declared.event.Event.TheVariants as does
+use Rattle.peer_state.specs.declared.state.State.{State}
 use Rattle.peer_fact.specs.declared.fact.Fact.{Fact}
 use Rattle.register_model.specs.declared.note.Note.{Note}
 use Rattle.schedule_words.specs.Spelling.{IsAmong}

@@ -10,7 +10,7 @@ use Rattle.held_stores.specs.Laws.{held_with}
 use Rattle.leader_laws.specs.Roles.{Role, RolesHold}
 use Rattle.leader_laws.specs.Tables.{Ghosts}
 use Rattle.network.specs.Mail.{MayBeSent}
-use Rattle.peer_core.specs.declared.state.State.{State as PeerState}
+use Rattle.peer_state.specs.declared.state.State.{State as PeerState}
 use Rattle.register_model.specs.declared.note.Note.{Note}
 use Rattle.request_refinement.specs.Naming.{hash_of}
 use Rattle.sync_laws.specs.Facts.{Lines}

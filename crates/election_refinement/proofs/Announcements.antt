@@ -7,11 +7,11 @@ use Rattle.abstract_protocol.specs.Ledger.{Ledger, Place, IsFact, IsNew, MayAdop
 use Rattle.abstract_protocol.specs.Numbers.{epoch_number}
 use Rattle.following.specs.Announcements.{takes, accepts, commits, row_18}
 use Rattle.following.specs.Refusals.{unless_refused}
-use Rattle.peer_core.specs.Moves.{follower, stopped_leading, waiting_phase, waiting_for}
-use Rattle.peer_core.specs.Rows.{announced, runs_sync}
-use Rattle.peer_core.specs.declared.state.Phase.{Phase}
-use Rattle.peer_core.specs.declared.state.Phase.TheVariants as phases
-use Rattle.peer_core.specs.declared.state.State.{State}
+use Rattle.peer_state.specs.Moves.{follower, stopped_leading, waiting_phase, waiting_for}
+use Rattle.peer_state.specs.Rows.{announced, runs_sync}
+use Rattle.peer_state.specs.declared.state.Phase.{Phase}
+use Rattle.peer_state.specs.declared.state.Phase.TheVariants as phases
+use Rattle.peer_state.specs.declared.state.State.{State}
 use Rattle.peer_fact.specs.declared.fact.Fact.{Fact}
 use Rattle.phase_rows.specs.Orders.{is_below, is_same, may_accept}
 use Rattle.phase_rows.specs.Peers.{alone}

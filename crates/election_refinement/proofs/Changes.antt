@@ -10,15 +10,15 @@ use Rattle.election_laws.proofs.Epochs.{not_empty}
 use Rattle.election_laws.specs.Preparing.{proposer_of}
 use Rattle.ens_base.specs.PeerSet.{holds}
 use Rattle.ens_base.specs.declared.epoch.Epoch.{Epoch}
-use Rattle.peer_core.specs.Leading.{older, wished}
-use Rattle.peer_core.specs.Moves.{leading}
-use Rattle.peer_core.specs.Rows.{begun_change, changes as has_changes, ended, has_begun, leads, wanting, while_25, while_26}
-use Rattle.peer_core.specs.declared.state.ChangeState.{ChangeState}
-use Rattle.peer_core.specs.declared.state.ChangeState.TheVariants.{Settled, Wanted, Finishing as Finishes}
-use Rattle.peer_core.specs.declared.state.Leadership.{Leadership}
-use Rattle.peer_core.specs.declared.state.Phase.{Phase}
-use Rattle.peer_core.specs.declared.state.Phase.TheVariants as phases
-use Rattle.peer_core.specs.declared.state.State.{State}
+use Rattle.peer_state.specs.Leading.{older, wished}
+use Rattle.peer_state.specs.Moves.{leading}
+use Rattle.peer_state.specs.Rows.{begun_change, changes as has_changes, ended, has_begun, leads, wanting, while_25, while_26}
+use Rattle.peer_state.specs.declared.state.ChangeState.{ChangeState}
+use Rattle.peer_state.specs.declared.state.ChangeState.TheVariants.{Settled, Wanted, Finishing as Finishes}
+use Rattle.peer_state.specs.declared.state.Leadership.{Leadership}
+use Rattle.peer_state.specs.declared.state.Phase.{Phase}
+use Rattle.peer_state.specs.declared.state.Phase.TheVariants as phases
+use Rattle.peer_state.specs.declared.state.State.{State}
 use Rattle.peer_fact.specs.Facts.{views_after}
 use Rattle.peer_fact.specs.declared.fact.Change.{Change as FactChange}
 use Rattle.peer_fact.specs.declared.fact.Change.TheVariants as changes

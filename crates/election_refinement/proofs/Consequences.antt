@@ -14,10 +14,10 @@ use Rattle.joint_views.proofs.Majorities.{quorum_less}
 use Rattle.joint_views.specs.Quorums.{SharesView}
 use Rattle.election_laws.proofs.Rising.{run_stays}
 use Rattle.ens_base.specs.declared.epoch.Epoch.{Epoch}
-use Rattle.peer_core.specs.declared.state.Leadership.{Leadership}
-use Rattle.peer_core.specs.declared.state.State.{State}
+use Rattle.peer_state.specs.declared.state.Leadership.{Leadership}
+use Rattle.peer_state.specs.declared.state.State.{State}
 use Rattle.peer_fact.specs.declared.fact.Fact.{Fact}
-use Rattle.peer_core.specs.declared.state.Phase.TheVariants as phases
+use Rattle.peer_state.specs.declared.state.Phase.TheVariants as phases
 use Rattle.world_spec.specs.Nodes.{Node, Up, Down}
 use Rattle.world_spec.specs.Runs.{Run}
 use Rattle.held_stores.specs.Held.{HeldStores}

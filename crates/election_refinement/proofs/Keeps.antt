@@ -13,11 +13,11 @@ use Rattle.election_laws.proofs.Rising.{put_rises}
 use Rattle.election_laws.specs.Preparing.{proposer_of}
 use Rattle.election.specs.declared.election.Election.TheVariants.{Preparing, Starting}
 use Rattle.ens_base.specs.declared.epoch.Epoch.{Epoch}
-use Rattle.peer_core.specs.declared.state.ChangeState.{ChangeState}
-use Rattle.peer_core.specs.declared.state.ChangeState.TheVariants.{Settled, Wanted, Finishing as Finishes}
-use Rattle.peer_core.specs.declared.state.Leadership.{Leadership}
-use Rattle.peer_core.specs.declared.state.Phase.{Phase}
-use Rattle.peer_core.specs.declared.state.Phase.TheVariants as phases
+use Rattle.peer_state.specs.declared.state.ChangeState.{ChangeState}
+use Rattle.peer_state.specs.declared.state.ChangeState.TheVariants.{Settled, Wanted, Finishing as Finishes}
+use Rattle.peer_state.specs.declared.state.Leadership.{Leadership}
+use Rattle.peer_state.specs.declared.state.Phase.{Phase}
+use Rattle.peer_state.specs.declared.state.Phase.TheVariants as phases
 use Rattle.peer_fact.specs.declared.fact.Change.TheVariants as changes
 use Rattle.peer_fact.specs.declared.fact.Fact.{Fact}
 use Rattle.probe.specs.declared.probing.Probing.{Probing}

@@ -26,16 +26,16 @@ use Rattle.leader_words.specs.Sends.{is_other}
 use Rattle.leader_words.specs.declared.out.Outgoing.{Outgoing}
 use Rattle.leading.specs.Ticks.{finishing_message, tick_message, ticks_up_to}
 use Rattle.leading.specs.declared.leader.Leader.{Leader}
-use Rattle.peer_core.specs.Leading.{end_of, older, row_5_calls, ticks, wished}
-use Rattle.peer_core.specs.Moves.{electing, following, leading, left, probing, stood, stopped_leading, untrusted, waiting_for, waiting_phase, with_leader, without_candidacy}
-use Rattle.peer_core.specs.Rows.{aged, announced, asked_change, begun_change, calm, change_heard, changes as has_changes, ended, has_begun, leader_heard, leads, phase_row, prepared, received, runs_sync, wanting, while_8, while_9, while_10, while_12, while_13, while_14, while_15, while_17, while_25, while_26}
-use Rattle.peer_core.specs.Starts.{first_state}
-use Rattle.peer_core.specs.declared.state.ChangeState.{ChangeState}
-use Rattle.peer_core.specs.declared.state.ChangeState.TheVariants.{Settled, Wanted, Finishing as Finishes}
-use Rattle.peer_core.specs.declared.state.Leadership.{Leadership}
-use Rattle.peer_core.specs.declared.state.Phase.{Phase}
-use Rattle.peer_core.specs.declared.state.Phase.TheVariants as phases
-use Rattle.peer_core.specs.declared.state.State.{State}
+use Rattle.peer_state.specs.Leading.{end_of, older, row_5_calls, ticks, wished}
+use Rattle.peer_state.specs.Moves.{electing, following, leading, left, probing, stood, stopped_leading, untrusted, waiting_for, waiting_phase, with_leader, without_candidacy}
+use Rattle.peer_state.specs.Rows.{aged, announced, asked_change, begun_change, calm, change_heard, changes as has_changes, ended, has_begun, leader_heard, leads, phase_row, prepared, received, runs_sync, wanting, while_8, while_9, while_10, while_12, while_13, while_14, while_15, while_17, while_25, while_26}
+use Rattle.peer_plan.specs.Starts.{first_state}
+use Rattle.peer_state.specs.declared.state.ChangeState.{ChangeState}
+use Rattle.peer_state.specs.declared.state.ChangeState.TheVariants.{Settled, Wanted, Finishing as Finishes}
+use Rattle.peer_state.specs.declared.state.Leadership.{Leadership}
+use Rattle.peer_state.specs.declared.state.Phase.{Phase}
+use Rattle.peer_state.specs.declared.state.Phase.TheVariants as phases
+use Rattle.peer_state.specs.declared.state.State.{State}
 use Rattle.peer_fact.specs.Facts.{changed_views, opening_fact, views_after, without_old}
 use Rattle.peer_fact.specs.declared.fact.Change.{Change}
 use Rattle.peer_fact.specs.declared.fact.Change.TheVariants as changes

@@ -25,20 +25,20 @@ use Rattle.leading.specs.Rules.{lead_row}
 use Rattle.leading.specs.Starts.{row_27}
 use Rattle.leading.specs.Ticks.{row_5_calls as calls_of_tick}
 use Rattle.leading.specs.declared.leader.Leader.{Leader}
-use Rattle.peer_core.specs.Drives.{row_done, owned, followed_up, and_row, lead_done, lead, reminded, task_done, driven, most_turns, led_in, ticked, shown, after_put, put_done, delivered, unavailable, called, and_change, first, concluded, step_of}
-use Rattle.peer_core.specs.Syncs.{saved, and_sends, with_sync, installed, accepted, accepted_in, synced, ended_with, gone_on, begun_sync, resumed_sync, followed_on, reached, own_node, body_of, shown_node, needs_node, taken_give}
-use Rattle.peer_core.specs.Leading.{begins, end_of, older, row_5_calls, ticks, wished}
-use Rattle.peer_core.specs.Moves.{electing, left, left_answers, and_answers, without_sync, leading, with_leader, turned, ends_leading, turned_answers}
-use Rattle.peer_core.specs.Owns.{digested, read, kept, fetched, held, looked_at, looked, found_at, found, entered, written, confirmed}
-use Rattle.peer_core.specs.Rows.{aged, asked_change, changes, leads, phase_row, received}
-use Rattle.peer_core.specs.Starts.{first_state, opened, start_of}
-use Rattle.peer_core.specs.declared.event.CallIn.{CallIn}
-use Rattle.peer_core.specs.declared.event.Event.{Event}
-use Rattle.peer_core.specs.declared.event.Event.TheVariants as events
-use Rattle.peer_core.specs.declared.state.Leadership.{Leadership}
-use Rattle.peer_core.specs.declared.state.Phase.{Phase}
-use Rattle.peer_core.specs.declared.state.Phase.TheVariants as phases
-use Rattle.peer_core.specs.declared.state.State.{State}
+use Rattle.peer_plan.specs.Drives.{row_done, owned, followed_up, and_row, lead_done, lead, reminded, task_done, driven, most_turns, led_in, ticked, shown, after_put, put_done, delivered, unavailable, called, and_change, first, concluded, step_of}
+use Rattle.peer_plan.specs.Syncs.{saved, and_sends, with_sync, installed, accepted, accepted_in, synced, ended_with, gone_on, begun_sync, resumed_sync, followed_on, reached, own_node, body_of, shown_node, needs_node, taken_give}
+use Rattle.peer_state.specs.Leading.{begins, end_of, older, row_5_calls, ticks, wished}
+use Rattle.peer_state.specs.Moves.{electing, left, left_answers, and_answers, without_sync, leading, with_leader, turned, ends_leading, turned_answers}
+use Rattle.peer_plan.specs.Owns.{digested, read, kept, fetched, held, looked_at, looked, found_at, found, entered, written, confirmed}
+use Rattle.peer_state.specs.Rows.{aged, asked_change, changes, leads, phase_row, received}
+use Rattle.peer_plan.specs.Starts.{first_state, opened, start_of}
+use Rattle.peer_state.specs.declared.event.CallIn.{CallIn}
+use Rattle.peer_state.specs.declared.event.Event.{Event}
+use Rattle.peer_state.specs.declared.event.Event.TheVariants as events
+use Rattle.peer_state.specs.declared.state.Leadership.{Leadership}
+use Rattle.peer_state.specs.declared.state.Phase.{Phase}
+use Rattle.peer_state.specs.declared.state.Phase.TheVariants as phases
+use Rattle.peer_state.specs.declared.state.State.{State}
 use Rattle.peer_fact.specs.declared.fact.Fact.{Fact}
 use Rattle.phase_rows.specs.Orders.{is_same}
 use Rattle.phase_rows.specs.Peers.{joined}

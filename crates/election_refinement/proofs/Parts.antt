@@ -18,15 +18,15 @@ use Rattle.following.specs.Refusals.{unless_refused}
 use Rattle.following.specs.Requests.{row_20}
 use Rattle.following.specs.declared.follower.Follower.{Follower}
 use Rattle.leading.specs.declared.leader.Leader.{Leader}
-use Rattle.peer_core.specs.Moves.{electing, following, leading, probing, stood, waiting_for, waiting_phase}
-use Rattle.peer_core.specs.Rows.{aged, announced, asked_change, calm, begun_change, ended, phase_row, prepared, received, runs_sync, wanting}
-use Rattle.peer_core.specs.Rows.{leads as does_lead, changes as has_changes, has_begun, while_8, while_9, while_10, while_12, while_13, while_14, while_15, while_17, while_25, while_26}
-use Rattle.peer_core.specs.declared.state.ChangeState.{ChangeState}
-use Rattle.peer_core.specs.declared.state.ChangeState.TheVariants.{Settled, Wanted, Finishing as Finishes}
-use Rattle.peer_core.specs.declared.state.Leadership.{Leadership}
-use Rattle.peer_core.specs.declared.state.Phase.{Phase}
-use Rattle.peer_core.specs.declared.state.Phase.TheVariants as phases
-use Rattle.peer_core.specs.declared.state.State.{State}
+use Rattle.peer_state.specs.Moves.{electing, following, leading, probing, stood, waiting_for, waiting_phase}
+use Rattle.peer_state.specs.Rows.{aged, announced, asked_change, calm, begun_change, ended, phase_row, prepared, received, runs_sync, wanting}
+use Rattle.peer_state.specs.Rows.{leads as does_lead, changes as has_changes, has_begun, while_8, while_9, while_10, while_12, while_13, while_14, while_15, while_17, while_25, while_26}
+use Rattle.peer_state.specs.declared.state.ChangeState.{ChangeState}
+use Rattle.peer_state.specs.declared.state.ChangeState.TheVariants.{Settled, Wanted, Finishing as Finishes}
+use Rattle.peer_state.specs.declared.state.Leadership.{Leadership}
+use Rattle.peer_state.specs.declared.state.Phase.{Phase}
+use Rattle.peer_state.specs.declared.state.Phase.TheVariants as phases
+use Rattle.peer_state.specs.declared.state.State.{State}
 use Rattle.peer_fact.specs.Facts.{views_after}
 use Rattle.peer_fact.specs.declared.fact.Change.TheVariants as changes
 use Rattle.peer_fact.specs.declared.fact.Fact.{Fact}

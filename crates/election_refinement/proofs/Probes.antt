@@ -3,11 +3,11 @@ use Rattle.std.proofs.Common.{◌≡◌, ℕ, true, Option, arith, le_trans}
 use Rattle.joint_views.specs.Quorums.{is_quorum}
 use Rattle.abstract_protocol.specs.Ledger.{Ledger}
 use Rattle.ens_base.specs.PeerSet.{holds}
-use Rattle.peer_core.specs.Moves.{probing}
-use Rattle.peer_core.specs.Rows.{begun, while_8, while_9}
-use Rattle.peer_core.specs.declared.state.Phase.{Phase}
-use Rattle.peer_core.specs.declared.state.Phase.TheVariants as phases
-use Rattle.peer_core.specs.declared.state.State.{State}
+use Rattle.peer_state.specs.Moves.{probing}
+use Rattle.peer_state.specs.Rows.{begun, while_8, while_9}
+use Rattle.peer_state.specs.declared.state.Phase.{Phase}
+use Rattle.peer_state.specs.declared.state.Phase.TheVariants as phases
+use Rattle.peer_state.specs.declared.state.State.{State}
 use Rattle.peer_fact.specs.declared.fact.Fact.{Fact}
 use Rattle.phase_rows.specs.Orders.{is_newer}
 use Rattle.phase_rows.specs.Rows.{silent}

@@ -14,14 +14,14 @@ use Rattle.ens_base.specs.declared.epoch.Epoch.{Epoch}
 use Rattle.following.specs.Announcements.{row_19}
 use Rattle.leading.specs.Leaders.{new_leader}
 use Rattle.leading.specs.declared.leader.Leader.{Leader}
-use Rattle.peer_core.specs.Moves.{electing, follower}
-use Rattle.peer_core.specs.Rows.{change_heard, leader_heard, while_14, while_15, while_17}
-use Rattle.peer_core.specs.declared.state.ChangeState.{ChangeState}
-use Rattle.peer_core.specs.declared.state.ChangeState.TheVariants.{Settled, Wanted, Finishing as Finishes}
-use Rattle.peer_core.specs.declared.state.Leadership.{Leadership}
-use Rattle.peer_core.specs.declared.state.Phase.{Phase}
-use Rattle.peer_core.specs.declared.state.Phase.TheVariants as phases
-use Rattle.peer_core.specs.declared.state.State.{State}
+use Rattle.peer_state.specs.Moves.{electing, follower}
+use Rattle.peer_state.specs.Rows.{change_heard, leader_heard, while_14, while_15, while_17}
+use Rattle.peer_state.specs.declared.state.ChangeState.{ChangeState}
+use Rattle.peer_state.specs.declared.state.ChangeState.TheVariants.{Settled, Wanted, Finishing as Finishes}
+use Rattle.peer_state.specs.declared.state.Leadership.{Leadership}
+use Rattle.peer_state.specs.declared.state.Phase.{Phase}
+use Rattle.peer_state.specs.declared.state.Phase.TheVariants as phases
+use Rattle.peer_state.specs.declared.state.State.{State}
 use Rattle.peer_fact.specs.declared.fact.Fact.{Fact}
 use Rattle.phase_rows.specs.Orders.{is_below, is_same}
 use Rattle.phase_rows.specs.Peers.{joined}

@@ -10,11 +10,11 @@ use Rattle.ens_base.specs.declared.epoch.Version.{Version}
 use Rattle.ens_object.specs.declared.object.Object.{Object}
 use Rattle.following.specs.Refusals.{refusal, unless_refused}
 use Rattle.following.specs.Requests.{row_20, gets, row_21, is_version_below, puts_over, puts_at, puts, row_22, is_damaged, gives, gives_read, row_23}
-use Rattle.peer_core.specs.Drives.{after_put}
-use Rattle.peer_core.specs.Moves.{follower, stopped_leading, without_candidacy, left, turned}
-use Rattle.peer_core.specs.declared.state.Phase.{Phase}
-use Rattle.peer_core.specs.declared.state.Phase.TheVariants as phases
-use Rattle.peer_core.specs.declared.state.State.{State}
+use Rattle.peer_plan.specs.Drives.{after_put}
+use Rattle.peer_state.specs.Moves.{follower, stopped_leading, without_candidacy, left, turned}
+use Rattle.peer_state.specs.declared.state.Phase.{Phase}
+use Rattle.peer_state.specs.declared.state.Phase.TheVariants as phases
+use Rattle.peer_state.specs.declared.state.State.{State}
 use Rattle.peer_fact.specs.declared.fact.Fact.{Fact}
 use Rattle.phase_rows.specs.Orders.{is_below, is_same}
 use Rattle.phase_rows.specs.Rows.{silent}

@@ -2,8 +2,8 @@
 use Rattle.std.proofs.Common.{ℕ, ◌==◌, Option}
 use Rattle.abstract_protocol.specs.Ledger.{Ledger}
 use Rattle.following.specs.Requests.{row_20}
-use Rattle.peer_core.specs.Rows.{phase_row, received}
-use Rattle.peer_core.specs.declared.state.State.{State}
+use Rattle.peer_state.specs.Rows.{phase_row, received}
+use Rattle.peer_state.specs.declared.state.State.{State}
 use Rattle.peer_fact.specs.declared.fact.Fact.{Fact}
 use Rattle.wire_frames.specs.declared.message.Message.{Message}
 use Rattle.wire_frames.specs.declared.message.Message.TheVariants as messages

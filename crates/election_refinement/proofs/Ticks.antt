@@ -10,15 +10,15 @@ use Rattle.following.specs.declared.follower.Follower.{Follower}
 use Rattle.leader_words.specs.Sends.{is_other}
 use Rattle.leader_words.specs.declared.out.Outgoing.{Outgoing}
 use Rattle.leading.specs.Ticks.{finishing_message, tick_message, ticks_up_to}
-use Rattle.peer_core.specs.Moves.{electing, following}
-use Rattle.peer_core.specs.Leading.{end_of}
-use Rattle.peer_core.specs.Rows.{aged, runs_sync}
-use Rattle.peer_core.specs.declared.state.ChangeState.{ChangeState}
-use Rattle.peer_core.specs.declared.state.ChangeState.TheVariants.{Settled, Wanted, Finishing as Finishes}
-use Rattle.peer_core.specs.declared.state.Leadership.{Leadership}
-use Rattle.peer_core.specs.declared.state.Phase.{Phase}
-use Rattle.peer_core.specs.declared.state.Phase.TheVariants as phases
-use Rattle.peer_core.specs.declared.state.State.{State}
+use Rattle.peer_state.specs.Moves.{electing, following}
+use Rattle.peer_state.specs.Leading.{end_of}
+use Rattle.peer_state.specs.Rows.{aged, runs_sync}
+use Rattle.peer_state.specs.declared.state.ChangeState.{ChangeState}
+use Rattle.peer_state.specs.declared.state.ChangeState.TheVariants.{Settled, Wanted, Finishing as Finishes}
+use Rattle.peer_state.specs.declared.state.Leadership.{Leadership}
+use Rattle.peer_state.specs.declared.state.Phase.{Phase}
+use Rattle.peer_state.specs.declared.state.Phase.TheVariants as phases
+use Rattle.peer_state.specs.declared.state.State.{State}
 use Rattle.peer_fact.specs.declared.fact.Fact.{Fact}
 use Rattle.phase_rows.specs.Peers.{others_outside}
 use Rattle.phase_rows.specs.Rows.{silent, sends}

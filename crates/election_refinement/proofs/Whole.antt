@@ -2,8 +2,8 @@
 use Rattle.std.proofs.Common.{◌≡◌, ℕ, List, [], ◌++◌, Option, refl, sym, subst}
 use Rattle.abstract_protocol.specs.Protocol.{Step, IsRun}
 use Rattle.ens_base.specs.View.{IsPeer}
-use Rattle.peer_core.specs.Rows.{aged, asked_change, phase_row, received}
-use Rattle.peer_core.specs.declared.state.State.{State}
+use Rattle.peer_state.specs.Rows.{aged, asked_change, phase_row, received}
+use Rattle.peer_state.specs.declared.state.State.{State}
 use Rattle.peer_fact.specs.declared.fact.Fact.{Fact}
 use Rattle.wire_frames.specs.declared.message.Message.{Message}
 use Rattle.wire_frames.specs.declared.phase.PhaseOut.{PhaseOut}

@@ -15,13 +15,13 @@ use Rattle.held_stores.specs.Held.{Held, HeldStores, unless_failing}
 use Rattle.held_stores.specs.Laws.{held_with}
 use Rattle.held_stores.specs.Runs.{Ended, run, either}
 use Rattle.network.specs.Mail.{Mail, MayBeSent, posted, settled, goes, oldest, is_among, most_messages}
-use Rattle.peer_core.proofs.Aging.{steps_young}
-use Rattle.peer_core.specs.Ages.{IsYoung}
-use Rattle.peer_core.specs.Drives.{step_of, MayCome}
-use Rattle.peer_core.specs.Starts.{start_of}
-use Rattle.peer_core.specs.declared.event.Event.{Event}
-use Rattle.peer_core.specs.declared.event.Event.TheVariants as events
-use Rattle.peer_core.specs.declared.state.State.{State}
+use Rattle.peer_plan.proofs.Aging.{steps_young}
+use Rattle.peer_state.specs.Ages.{IsYoung}
+use Rattle.peer_plan.specs.Drives.{step_of, MayCome}
+use Rattle.peer_plan.specs.Starts.{start_of}
+use Rattle.peer_state.specs.declared.event.Event.{Event}
+use Rattle.peer_state.specs.declared.event.Event.TheVariants as events
+use Rattle.peer_state.specs.declared.state.State.{State}
 use Rattle.register_model.specs.declared.note.Note.{Note}
 use Rattle.schedule_text.specs.Spelling.{MayStand}
 use Rattle.schedule_text.specs.declared.event.ScheduleEvent.{ScheduleEvent}

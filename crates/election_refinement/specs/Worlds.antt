@@ -6,9 +6,9 @@ use Rattle.abstract_protocol.specs.Protocol.{Step, IsRun, state_after}
 use Rattle.election_laws.specs.Elections.{IsLastOpen}
 use Rattle.ens_base.specs.Epochs.{IsEpochBelow}
 use Rattle.joint_views.specs.Quorums.{SharesView}
-use Rattle.peer_core.specs.declared.state.Leadership.{Leadership}
-use Rattle.peer_core.specs.declared.state.Phase.TheVariants as phases
-use Rattle.peer_core.specs.declared.state.State.{State}
+use Rattle.peer_state.specs.declared.state.Leadership.{Leadership}
+use Rattle.peer_state.specs.declared.state.Phase.TheVariants as phases
+use Rattle.peer_state.specs.declared.state.State.{State}
 use Rattle.peer_fact.specs.declared.fact.Fact.{Fact}
 use Rattle.schedule_text.specs.declared.event.ScheduleEvent.{ScheduleEvent}
 use Rattle.schedule_text.specs.declared.event.ScheduleEvent.TheVariants.{Stop, Fail}

@@ -21,7 +21,7 @@ use Rattle.tree_node.specs.declared.position.Position.{Position}
 use Rattle.tree_repair.specs.Rebuilds.{rebuild_plan}
 use Rattle.tree_verify.specs.Levels.{scan_plan}
 use Rattle.peer_core.specs.Stores.{TreeAlone}
-use Rattle.peer_core.specs.TreeCalls.{Walks, Halts, Changes, end_of, peer_error}
+use Rattle.peer_plan.specs.TreeCalls.{Walks, Halts, Changes, end_of, peer_error}
 use Rattle.world_stores.specs.Faults.{spent}
 use Rattle.world_stores.specs.Nodes.{Nodes}
 use Rattle.world_stores.specs.Objects.{Objects}

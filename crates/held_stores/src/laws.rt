@@ -1,5 +1,5 @@
 ghost use Rattle.held_stores.specs.Laws.{AreApart, AreBeyond, AreDetermined, AreKeptOnce};
-ghost use Rattle.peer_core.specs.declared.state.State.{State};
+ghost use Rattle.peer_state.specs.declared.state.State.{State};
 
 use ens_hashing::Hasher16;
 

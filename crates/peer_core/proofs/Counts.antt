@@ -15,10 +15,10 @@ use Rattle.step_plans.specs.Plans.{Plan, Done, Say, Ask, Out, Ending, Stopped, R
 use Rattle.step_plans.specs.declared.error.PeerError.{PeerError}
 use Rattle.step_plans.specs.declared.error.PeerError.TheVariants as errors
 use Rattle.synctree.specs.declared.tree.Tree.{Tree}
-use Rattle.peer_core.specs.Kept.{IsStepCall, IsCallError}
-use Rattle.peer_core.specs.Starts.{IsStartError, Starts, start_of, saves_opening, opened}
+use Rattle.peer_plan.specs.Kept.{IsStepCall, IsCallError}
+use Rattle.peer_plan.specs.Starts.{IsStartError, Starts, start_of, saves_opening, opened}
 use Rattle.peer_core.specs.Stores.{stores_do, stores_refuse, FactsAlone, TreeLater, IsTreeError, AreLater, SomeRose, IsCause}
-use Rattle.peer_core.specs.declared.state.State.{State}
+use Rattle.peer_state.specs.declared.state.State.{State}
 use Rattle.peer_core.specs.declared.stores.Stores.{Stores}
 
 -- a start continues from what was kept

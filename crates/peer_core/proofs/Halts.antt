@@ -13,16 +13,16 @@ use Rattle.step_plans.specs.Steps.{Steps}
 use Rattle.step_plans.specs.declared.error.PeerError.{PeerError}
 use Rattle.step_plans.specs.declared.error.PeerError.TheVariants as errors
 use Rattle.step_plans.specs.declared.outbox.Outbox.{Outbox}
-use Rattle.peer_core.specs.Ages.{IsYoung, is_young}
-use Rattle.peer_core.specs.Drives.{step_of, MayCome}
-use Rattle.peer_core.specs.Kept.{IsCallError, IsStepError}
+use Rattle.peer_state.specs.Ages.{IsYoung, is_young}
+use Rattle.peer_plan.specs.Drives.{step_of, MayCome}
+use Rattle.peer_plan.specs.Kept.{IsCallError, IsStepError}
 use Rattle.peer_core.specs.Stores.{stores_do, stores_refuse, IsCause}
-use Rattle.peer_core.specs.declared.event.Event.{Event}
-use Rattle.peer_core.specs.declared.state.State.{State}
+use Rattle.peer_state.specs.declared.event.Event.{Event}
+use Rattle.peer_state.specs.declared.state.State.{State}
 use Rattle.peer_core.specs.declared.stores.Stores.{Stores}
-use Rattle.peer_core.proofs.Aging.{steps_young}
+use Rattle.peer_plan.proofs.Aging.{steps_young}
 use Rattle.peer_core.proofs.Counts.{stopped_cause, stopped_only}
-use Rattle.peer_core.proofs.Young.{young}
+use Rattle.peer_state.proofs.Young.{young}
 
 as_step_error : (e : PeerError) → IsCallError e → IsStepError e
 as_step_error errors.StoreFault is = tt

@@ -1,26 +1,4 @@
-pub mod Parts
-pub mod Grammar
-pub mod Phases
-pub mod Kept
-pub mod Replies
-pub mod Going
-pub mod Asking
-pub mod Gives
-pub mod Syncs
-pub mod Passing
 pub mod Counts
 pub mod Halts
-pub mod Fuel
-pub mod Young
-pub mod Quiet
-pub mod Ends
-pub mod Aging
-pub mod Names
-pub mod Closing
-pub mod Framed
-pub mod Steady
-pub mod FreeRows
-pub mod Delivering
 pub mod Damage
-pub mod Whole
 mod TreeCounts

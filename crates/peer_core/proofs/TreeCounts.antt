@@ -27,9 +27,9 @@ use Rattle.fact_store.specs.declared.error.KeepError.{KeepError}
 use Rattle.peer_fact.specs.declared.error.FactError.{FactError}
 use Rattle.peer_fact.specs.declared.fact.Fact.{Fact}
 use Rattle.peer_core.specs.Stores.{stores_do, stores_refuse, TreeAlone, TreeLater, IsTreeError}
-use Rattle.peer_core.specs.TreeCalls.{Walks, Halts, heard, peer_error}
+use Rattle.peer_plan.specs.TreeCalls.{Walks, Halts, heard, peer_error}
 use Rattle.peer_core.specs.declared.stores.Stores.{Stores}
-use Rattle.peer_core.proofs.Whole.{never_broken, scan_whole, rebuild_whole}
+use Rattle.peer_plan.proofs.Whole.{never_broken, scan_whole, rebuild_whole}
 
 same_count : {A : Type 0} (count : A → ℕ) (a b : A) → b ≡ a → count a ≤ count b
 same_count count a b e = omega (arith, ap count e)

@@ -1,15 +1,2 @@
-pub mod Moves
-pub mod Ages
-pub mod Rows
-pub mod Leading
-pub mod Owns
-pub mod Syncs
-pub mod Drives
 pub mod Outcomes
-pub mod TreeCalls
 pub mod Stores
-pub mod Starts
-pub mod Kept
-pub mod Own
-pub mod Turns
-pub mod NoAllocation

@@ -6,7 +6,7 @@ use Rattle.step_plans.specs.Plans.{Part, Spot, Did}
 use Rattle.step_plans.specs.declared.error.PeerError.{PeerError}
 use Rattle.step_plans.specs.declared.outbox.Outbox.{Outbox}
 use Rattle.peer_core.specs.declared.machine.Machine.{Machine}
-use Rattle.peer_core.specs.declared.state.State.{State}
+use Rattle.peer_state.specs.declared.state.State.{State}
 
 -- the point that a step has reached
 abbrev pub spot : {S H : Type 0} → Machine S → H → Outbox → Spot State (S × H)

@@ -17,7 +17,7 @@ use Rattle.step_plans.specs.Calls.{Call, Load, Save, Fetch, Put, Hash, AnswerOf}
 use Rattle.step_plans.specs.declared.error.PeerError.{PeerError}
 use Rattle.step_plans.specs.declared.error.PeerError.TheVariants as errors
 use Rattle.synctree.specs.Outsides.{outside_does, outside_refuses}
-use Rattle.peer_core.specs.TreeCalls.{TreeDoes, TreeRefuses}
+use Rattle.peer_plan.specs.TreeCalls.{TreeDoes, TreeRefuses}
 use Rattle.peer_core.specs.declared.stores.Stores.{Stores}
 
 -- a store failed: its count of faults rose

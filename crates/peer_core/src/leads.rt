@@ -1,38 +1,28 @@
-ghost use Rattle.std.specs.Prelude.{◌≡◌, IfOk, IfErr, [], Some, None};
+ghost use Rattle.std.specs.Prelude.{IfOk, IfErr, [], Some, None};
 ghost use Rattle.step_plans.specs.Outboxes.{Grows};
 ghost use Rattle.leading.specs.Puts.{row_35_reply};
 ghost use Rattle.leading.specs.Rounds.{row_29_reply, row_33_reply};
 ghost use Rattle.leading.specs.Rules.{lead_row};
 ghost use Rattle.leading.specs.Starts.{row_27};
-ghost use Rattle.peer_core.specs.Ages.{IsYoung};
-ghost use Rattle.peer_core.specs.Drives.{owned, own_key, followed_up, lead_done, lead, reminded, led_in, get_replied, called};
+ghost use Rattle.peer_state.specs.Ages.{IsYoung};
+ghost use Rattle.peer_plan.specs.Drives.{owned, own_key, followed_up, lead_done, lead, reminded, led_in, get_replied, called};
 ghost use Rattle.peer_core.specs.Outcomes.{Acts};
-ghost use Rattle.peer_core.specs.Rows.{changes};
+ghost use Rattle.peer_state.specs.Rows.{changes};
 
-use crate::event::CallIn;
 use crate::machine::Machine;
-use crate::state::Phase;
 use ens_base::{Entry, Epoch, Key, PeerId, Reply, Version, copy_entry};
 use ens_object::Object;
 use leader_words::{LeadError, LeadOut, Own};
 use peer_fact::{Change, Fact};
+use peer_plan::own_key;
+use peer_state::{CallIn, Phase};
 use std::alloc::Global;
 use step_plans::{Outbox, PeerError, Store, Task, Tasks};
 use wire_frames::{Message, Seen, Then};
 
-/// The key that a rule asks about.
-fn key_of(own: &Own) -> &Key
-    ensures { result.now ≡ own_key own.now }
-{
-    match own {
-        Own::Look(key) => key,
-        Own::Put(object) => &object.key,
-    }
-}
-
 impl<S> Machine<S> {
     /// Asks the peer's own tree and backend for a rule of a leader.
-    #[tactic(auto, using(crate::proofs::Parts::cut))]
+    #[tactic(auto, using(peer_plan::proofs::Parts::cut))]
     fn owned<H>(
         &mut self,
         hasher: &mut H,
@@ -58,7 +48,7 @@ impl<S> Machine<S> {
     }
 
     /// Applies what follows the messages and notes of a rule of a leader.
-    #[tactic(auto, using(crate::proofs::Parts::cut))]
+    #[tactic(auto, using(peer_plan::proofs::Parts::cut))]
     fn follow_up<H>(
         &mut self,
         hasher: &mut H,
@@ -82,13 +72,13 @@ impl<S> Machine<S> {
             }
             Some(own) => {
                 let seen = self.owned(hasher, alloc, out, rule, &own)?;
-                Ok(Tasks::again(alloc, rule, key_of(&own), seen)?)
+                Ok(Tasks::again(alloc, rule, own_key(&own), seen)?)
             }
         }
     }
 
     /// Applies the whole row of a rule of a leader, and returns the tasks that follow.
-    #[tactic(auto, using(crate::proofs::Parts::cut, step_plans::proofs::Parts::noted_runs))]
+    #[tactic(auto, using(peer_plan::proofs::Parts::cut, step_plans::proofs::Parts::noted_runs))]
     fn lead_done<H>(
         &mut self,
         hasher: &mut H,
@@ -121,7 +111,7 @@ impl<S> Machine<S> {
     }
 
     /// Runs a rule on a key, if the peer leads.
-    #[tactic(auto, using(crate::proofs::Parts::cut))]
+    #[tactic(auto, using(peer_plan::proofs::Parts::cut))]
     pub(crate) fn key_done<H>(
         &mut self,
         hasher: &mut H,
@@ -147,7 +137,7 @@ impl<S> Machine<S> {
     }
 
     /// Rule 29: counts a reply whose object the entry names.
-    #[tactic(auto, using(crate::proofs::Parts::cut))]
+    #[tactic(auto, using(peer_plan::proofs::Parts::cut))]
     fn count_get_reply<H>(
         &mut self,
         hasher: &mut H,
@@ -178,7 +168,7 @@ impl<S> Machine<S> {
     }
 
     /// Rule 29: counts a GetReply at a leader.
-    #[tactic(auto, using(crate::proofs::Parts::cut))]
+    #[tactic(auto, using(peer_plan::proofs::Parts::cut))]
     pub(crate) fn get_reply<H>(
         &mut self,
         hasher: &mut H,
@@ -206,7 +196,7 @@ impl<S> Machine<S> {
     }
 
     /// Rule 35: counts a PutReply, if the peer leads.
-    #[tactic(auto, using(crate::proofs::Parts::cut))]
+    #[tactic(auto, using(peer_plan::proofs::Parts::cut))]
     pub(crate) fn put_reply<H>(
         &mut self,
         hasher: &mut H,
@@ -235,7 +225,7 @@ impl<S> Machine<S> {
     }
 
     /// Rule 33: counts a CheckReply, if the peer leads.
-    #[tactic(auto, using(crate::proofs::Parts::cut))]
+    #[tactic(auto, using(peer_plan::proofs::Parts::cut))]
     pub(crate) fn check_reply<H>(
         &mut self,
         hasher: &mut H,
@@ -261,7 +251,7 @@ impl<S> Machine<S> {
     }
 
     /// Rule 27: a leader takes a call.
-    #[tactic(auto, using(crate::proofs::Parts::cut))]
+    #[tactic(auto, using(peer_plan::proofs::Parts::cut))]
     fn take_call<H>(
         &mut self,
         hasher: &mut H,
@@ -293,7 +283,7 @@ impl<S> Machine<S> {
     }
 
     /// Rule 27: a call. A peer that does not lead answers `unavailable`.
-    #[tactic(auto, using(crate::proofs::Parts::cut))]
+    #[tactic(auto, using(peer_plan::proofs::Parts::cut))]
     pub(crate) fn call<H>(
         &mut self,
         hasher: &mut H,
@@ -317,7 +307,7 @@ impl<S> Machine<S> {
     }
 
     /// Rule 5: a tick of a leader. Its calls come first, and the rest once their keys have gone on.
-    #[tactic(auto, using(crate::proofs::Parts::cut))]
+    #[tactic(auto, using(peer_plan::proofs::Parts::cut))]
     pub(crate) fn tick_leading<H>(
         &mut self,
         hasher: &mut H,
@@ -347,7 +337,7 @@ impl<S> Machine<S> {
 
     /// Rule 5 (d) and (e), in a leader: sends each other member one message, and begins a change that is
     /// wanted.
-    #[tactic(auto, using(crate::proofs::Parts::cut))]
+    #[tactic(auto, using(peer_plan::proofs::Parts::cut))]
     pub(crate) fn remind<H>(
         &mut self,
         hasher: &H,

@@ -3,15 +3,15 @@ ghost use Rattle.ens_base.specs.View.{IsPeer};
 ghost use Rattle.step_plans.specs.Outboxes.{FitsIn, Grows};
 ghost use Rattle.step_plans.specs.Calls.{Save};
 ghost use Rattle.step_plans.specs.Plans.{asked};
-ghost use Rattle.peer_core.specs.Drives.{performed, row_done, task_done, driven};
-ghost use Rattle.peer_core.specs.Moves.{turned, turned_answers, ends_leading};
-ghost use Rattle.peer_core.specs.Syncs.{saved, followed_on};
-ghost use Rattle.peer_core.specs.NoAllocation.{ends_step, EndsQuietly, IsFreeRow, IsFreeTask};
+ghost use Rattle.peer_plan.specs.Drives.{performed, row_done, task_done, driven};
+ghost use Rattle.peer_state.specs.Moves.{turned, turned_answers, ends_leading};
+ghost use Rattle.peer_plan.specs.Syncs.{saved, followed_on};
+ghost use Rattle.peer_state.specs.NoAllocation.{ends_step, EndsQuietly, IsFreeRow, IsFreeTask};
 ghost use Rattle.peer_core.specs.Outcomes.{Acts};
 
-use crate::state::State;
 use ens_base::PeerId;
 use peer_fact::{Change, Fact};
+use peer_state::State;
 use std::alloc::Global;
 use std::thread::Threads;
 use step_plans::{Outbox, PeerError, Store, Task, Tasks};
@@ -25,7 +25,7 @@ pub struct Machine<S> {
 }
 
 impl<S> Machine<S> {
-    #[tactic(auto, using(crate::proofs::Parts::asked_did))]
+    #[tactic(auto, using(peer_plan::proofs::Parts::asked_did))]
     fn save_fact<H>(&mut self, hasher: &mut H, out: &Outbox, fact: &Fact) -> Result<(), PeerError>
     where
         S: Store<H>,
@@ -37,7 +37,7 @@ impl<S> Machine<S> {
     }
 
     /// Saves the fact, if there is one.
-    #[tactic(auto, using(crate::proofs::Parts::cut))]
+    #[tactic(auto, using(peer_plan::proofs::Parts::cut))]
     pub(crate) fn save<H>(
         &mut self,
         hasher: &mut H,
@@ -62,7 +62,7 @@ impl<S> Machine<S> {
 
     /// Applies a row, except for what follows it: a leader steps down if asked, the fact is saved,
     /// and the message is sent.
-    #[tactic(auto, using(crate::proofs::Parts::cut, crate::proofs::Quiet::still_quiet))]
+    #[tactic(auto, using(peer_plan::proofs::Parts::cut, peer_state::proofs::Quiet::still_quiet))]
     fn perform<H>(
         &mut self,
         hasher: &mut H,
@@ -92,7 +92,7 @@ impl<S> Machine<S> {
 
     /// Applies what follows the message of a row, with the sync that it begins or resumes. Returns the
     /// rule that runs next.
-    #[tactic(auto, using(crate::proofs::Parts::cut))]
+    #[tactic(auto, using(peer_plan::proofs::Parts::cut))]
     fn turn<H, R: Threads + Sync>(
         &mut self,
         hasher: &mut H,
@@ -116,7 +116,7 @@ impl<S> Machine<S> {
     }
 
     /// Applies a row, with the sync that it begins or resumes. Returns the rule that runs next.
-    #[tactic(auto, using(crate::proofs::Parts::cut))]
+    #[tactic(auto, using(peer_plan::proofs::Parts::cut))]
     pub(crate) fn row_done<H, R: Threads + Sync>(
         &mut self,
         hasher: &mut H,
@@ -141,7 +141,7 @@ impl<S> Machine<S> {
     }
 
     /// Runs the rule of one task, and returns the rules that its row names.
-    #[tactic(auto, using(crate::proofs::Parts::cut))]
+    #[tactic(auto, using(peer_plan::proofs::Parts::cut))]
     pub(crate) fn task_done<H, R: Threads + Sync>(
         &mut self,
         hasher: &mut H,
@@ -185,7 +185,7 @@ impl<S> Machine<S> {
 
     /// Runs `tasks`, at most `turns` of them. The rules that a row names run before the tasks that
     /// were left. Returns the tasks that are left.
-    #[tactic(auto, using(crate::proofs::Parts::cut))]
+    #[tactic(auto, using(peer_plan::proofs::Parts::cut))]
     pub(crate) fn drive<H, R: Threads + Sync>(
         &mut self,
         hasher: &mut H,

@@ -4,16 +4,16 @@ ghost use Rattle.ens_object.specs.Objects.{object_spelling};
 ghost use Rattle.step_plans.specs.Calls.{Find, Enter, Fetch, Put, Hash};
 ghost use Rattle.step_plans.specs.Plans.{asked};
 ghost use Rattle.peer_core.specs.Outcomes.{Acts};
-ghost use Rattle.peer_core.specs.Owns.{digested, read, kept, fetched, held, looked_at, looked, found_at, found, entered, written_as, written, confirmed_as, confirmed};
+ghost use Rattle.peer_plan.specs.Owns.{digested, read, kept, fetched, held, looked_at, looked, found, entered, written_as, written, confirmed_as, confirmed};
 
 use crate::machine::Machine;
 use ens_base::{Bytes, Digest, Entry, Key};
 use ens_object::{Object, ObjectError};
 use kept_objects::{entry_of, matching, object_in};
-use peer_fact::{Change, Fact};
+use peer_plan::seen_at;
 use std::alloc::Global;
 use step_plans::{Outbox, PeerError, Store, Walked};
-use wire_frames::{Message, Seen};
+use wire_frames::Seen;
 
 /// Encodes the object. Fails only when out of memory.
 fn bytes_of(alloc: Global, object: &Object) -> Result<Vec<u8>, PeerError>
@@ -37,20 +37,8 @@ fn object_of(alloc: Global, bytes: &[u8]) -> Result<Option<Object>, PeerError>
     }
 }
 
-fn seen_at(walked: Walked<Option<Entry>>) -> Seen
-    ensures { result ≡ found_at walked }
-{
-    match walked {
-        Walked::Reached(entry) => Seen::Held {
-            entry,
-            object: None,
-        },
-        Walked::Broken(at) => Seen::Damaged(at),
-    }
-}
-
 impl<S> Machine<S> {
-    #[tactic(auto, using(crate::proofs::Parts::asked_did))]
+    #[tactic(auto, using(peer_plan::proofs::Parts::asked_did))]
     fn find<H>(
         &mut self,
         hasher: &mut H,
@@ -65,7 +53,7 @@ impl<S> Machine<S> {
         self.stores.find(hasher, alloc, key)
     }
 
-    #[tactic(auto, using(crate::proofs::Parts::asked_did))]
+    #[tactic(auto, using(peer_plan::proofs::Parts::asked_did))]
     fn enter<H>(
         &mut self,
         hasher: &mut H,
@@ -80,7 +68,7 @@ impl<S> Machine<S> {
         self.stores.enter(hasher, alloc, entry)
     }
 
-    #[tactic(auto, using(crate::proofs::Parts::asked_did))]
+    #[tactic(auto, using(peer_plan::proofs::Parts::asked_did))]
     fn fetch<H>(
         &mut self,
         hasher: &mut H,
@@ -95,7 +83,7 @@ impl<S> Machine<S> {
         self.stores.fetch(hasher, alloc, key)
     }
 
-    #[tactic(auto, using(crate::proofs::Parts::asked_did))]
+    #[tactic(auto, using(peer_plan::proofs::Parts::asked_did))]
     fn put<H>(
         &mut self,
         hasher: &mut H,
@@ -111,7 +99,7 @@ impl<S> Machine<S> {
         self.stores.put(hasher, alloc, key, bytes)
     }
 
-    #[tactic(auto, using(crate::proofs::Parts::asked_did))]
+    #[tactic(auto, using(peer_plan::proofs::Parts::asked_did))]
     fn hash<H>(
         &mut self,
         hasher: &mut H,
@@ -127,7 +115,7 @@ impl<S> Machine<S> {
     }
 
     /// Hashes the bytes, if they are an object.
-    #[tactic(auto, using(crate::proofs::Parts::cut))]
+    #[tactic(auto, using(peer_plan::proofs::Parts::cut))]
     fn digest<H>(
         &mut self,
         hasher: &mut H,
@@ -150,7 +138,7 @@ impl<S> Machine<S> {
     }
 
     /// Decodes and hashes what the backend returned.
-    #[tactic(auto, using(crate::proofs::Parts::cut))]
+    #[tactic(auto, using(peer_plan::proofs::Parts::cut))]
     fn read<H>(
         &mut self,
         hasher: &mut H,
@@ -173,7 +161,7 @@ impl<S> Machine<S> {
     }
 
     /// Returns the object that the backend keeps under the key, with the digest of its bytes.
-    #[tactic(auto, using(crate::proofs::Parts::cut))]
+    #[tactic(auto, using(peer_plan::proofs::Parts::cut))]
     fn kept<H>(
         &mut self,
         hasher: &mut H,
@@ -191,7 +179,7 @@ impl<S> Machine<S> {
     }
 
     /// Rule 28: looks up the object of the key in the backend.
-    #[tactic(auto, using(crate::proofs::Parts::cut))]
+    #[tactic(auto, using(peer_plan::proofs::Parts::cut))]
     pub(crate) fn fetched<H>(
         &mut self,
         hasher: &mut H,
@@ -208,7 +196,7 @@ impl<S> Machine<S> {
     }
 
     /// Looks up the object of an entry.
-    #[tactic(auto, using(crate::proofs::Parts::cut))]
+    #[tactic(auto, using(peer_plan::proofs::Parts::cut))]
     fn held<H>(
         &mut self,
         hasher: &mut H,
@@ -237,7 +225,7 @@ impl<S> Machine<S> {
         }
     }
 
-    #[tactic(auto, using(crate::proofs::Parts::cut))]
+    #[tactic(auto, using(peer_plan::proofs::Parts::cut))]
     fn looked_at<H>(
         &mut self,
         hasher: &mut H,
@@ -260,7 +248,7 @@ impl<S> Machine<S> {
     }
 
     /// Rules 21 and 29: looks up the entry and the object of the key.
-    #[tactic(auto, using(crate::proofs::Parts::cut))]
+    #[tactic(auto, using(peer_plan::proofs::Parts::cut))]
     pub(crate) fn looked<H>(
         &mut self,
         hasher: &mut H,
@@ -278,7 +266,7 @@ impl<S> Machine<S> {
     }
 
     /// Rule 22: looks up the entry of the key.
-    #[tactic(auto, using(crate::proofs::Parts::cut))]
+    #[tactic(auto, using(peer_plan::proofs::Parts::cut))]
     pub(crate) fn found<H>(
         &mut self,
         hasher: &mut H,
@@ -295,7 +283,7 @@ impl<S> Machine<S> {
     }
 
     /// Puts the bytes of an object whose entry was entered.
-    #[tactic(auto, using(crate::proofs::Parts::cut))]
+    #[tactic(auto, using(peer_plan::proofs::Parts::cut))]
     fn entered<H>(
         &mut self,
         hasher: &mut H,
@@ -320,7 +308,7 @@ impl<S> Machine<S> {
     }
 
     /// Writes the object, whose encoding these bytes are, its entry first.
-    #[tactic(auto, using(crate::proofs::Parts::cut))]
+    #[tactic(auto, using(peer_plan::proofs::Parts::cut))]
     fn written_as<H>(
         &mut self,
         hasher: &mut H,
@@ -358,7 +346,7 @@ impl<S> Machine<S> {
     }
 
     /// Rules 22 and 35: writes the object.
-    #[tactic(auto, using(crate::proofs::Parts::cut))]
+    #[tactic(auto, using(peer_plan::proofs::Parts::cut))]
     pub(crate) fn written<H>(
         &mut self,
         hasher: &mut H,
@@ -378,7 +366,7 @@ impl<S> Machine<S> {
     }
 
     /// Returns a copy of the object, whose encoding these bytes are, if the entry names it.
-    #[tactic(auto, using(crate::proofs::Parts::cut))]
+    #[tactic(auto, using(peer_plan::proofs::Parts::cut))]
     fn confirmed_as<H>(
         &mut self,
         hasher: &mut H,
@@ -416,7 +404,7 @@ impl<S> Machine<S> {
     }
 
     /// Copies the object of a reply, if the entry of the reply names it.
-    #[tactic(auto, using(crate::proofs::Parts::cut))]
+    #[tactic(auto, using(peer_plan::proofs::Parts::cut))]
     fn confirm<H>(
         &mut self,
         hasher: &mut H,
@@ -437,7 +425,7 @@ impl<S> Machine<S> {
     }
 
     /// Rule 29: returns a copy of the object of a reply, if the entry of the reply names it.
-    #[tactic(auto, using(crate::proofs::Parts::cut))]
+    #[tactic(auto, using(peer_plan::proofs::Parts::cut))]
     pub(crate) fn confirmed<H>(
         &mut self,
         hasher: &mut H,

@@ -1,19 +1,18 @@
 ghost use Rattle.std.specs.Prelude.{◌≡◌, ◌↔◌, true, false};
 ghost use Rattle.ens_base.specs.View.{IsPeer};
-ghost use Rattle.peer_core.specs.Ages.{is_young};
-ghost use Rattle.peer_core.specs.Kept.{IsOwn};
-ghost use Rattle.peer_core.specs.Own.{own_props};
-ghost use Rattle.peer_core.specs.NoAllocation.{IsSteady};
+ghost use Rattle.peer_state.specs.Ages.{is_young};
+ghost use Rattle.peer_plan.specs.Kept.{IsOwn};
+ghost use Rattle.peer_plan.specs.Own.{own_props};
+ghost use Rattle.peer_state.specs.NoAllocation.{IsSteady};
 
-use crate::event::Event;
 use crate::machine::Machine;
 use crate::starting::start;
-use crate::state::State;
 use crate::stores::Stores;
 use ens_base::{PeerId, View};
 use ens_hashing::Hasher16;
 use ens_outside::{Backend, NodeStore};
 use fact_store::FactKeeper;
+use peer_state::{Event, State};
 use std::alloc::Global;
 use std::thread::Threads;
 use step_plans::{Outbox, PeerError};
@@ -54,11 +53,11 @@ impl<B: Backend, N: NodeStore, F: FactKeeper> Peer<B, N, F> {
     ghost use Rattle.step_plans.specs.Outboxes.{out_of, room, spare};
     ghost use Rattle.step_plans.specs.Plans.{Finished, Stopped, Runs, nothing};
     ghost use Rattle.step_plans.specs.Steps.{Steps};
-    ghost use Rattle.peer_core.specs.Drives.{MayCome, step_of};
-    ghost use Rattle.peer_core.specs.Kept.{AllMayGo, IsStepError};
-    ghost use Rattle.peer_core.specs.Moves.{waits};
-    ghost use Rattle.peer_core.specs.NoAllocation.{IsAllocationFree};
-    ghost use Rattle.peer_core.specs.Starts.{IsStartError, start_of};
+    ghost use Rattle.peer_plan.specs.Drives.{MayCome, step_of};
+    ghost use Rattle.peer_plan.specs.Kept.{AllMayGo, IsStepError};
+    ghost use Rattle.peer_state.specs.Moves.{waits};
+    ghost use Rattle.peer_state.specs.NoAllocation.{IsAllocationFree};
+    ghost use Rattle.peer_plan.specs.Starts.{IsStartError, start_of};
     ghost use Rattle.peer_core.specs.Stores.{IsCause, stores_do, stores_refuse};
 
     /// Rule 1: starts the peer `me`, 1 to 31, on its stores. If they keep no fact, the peer saves
@@ -72,8 +71,7 @@ impl<B: Backend, N: NodeStore, F: FactKeeper> Peer<B, N, F> {
     /// a store rose in this call, `Clash` or `BookFull` only if the hasher refused a string and
     /// counted that, and `Memory` when out of memory. The stores are returned: the backend as it
     /// was, and the tree and the fact as the failed call left them.
-    pub fn start<H: Hasher16, R: Threads + Sync>(
-        _rt: &R,
+    pub fn start<H: Hasher16>(
         alloc: Global,
         me: PeerId,
         opening: View,

@@ -1,26 +1,15 @@
 ghost use Rattle.std.specs.Prelude.{◌≡◌, ℕ, true, IfOk};
-ghost use Rattle.peer_core.specs.Ages.{is_young};
-ghost use Rattle.peer_core.specs.Kept.{IsOwn};
-ghost use Rattle.peer_core.specs.NoAllocation.{IsSteady};
-ghost use Rattle.peer_core.specs.Starts.{Starts, start_of, first_state as first, saves_opening, opened as opens};
+ghost use Rattle.peer_state.specs.Ages.{is_young};
+ghost use Rattle.peer_plan.specs.Kept.{IsOwn};
+ghost use Rattle.peer_state.specs.NoAllocation.{IsSteady};
+ghost use Rattle.peer_plan.specs.Starts.{Starts, start_of, saves_opening, opened as opens};
 
-use crate::state::{State, following};
 use ens_base::View;
 use peer_fact::{Change, Fact};
+use peer_plan::first_state;
+use peer_state::State;
 use std::alloc::Global;
 use step_plans::{PeerError, Store};
-
-/// The state in which a peer starts: it follows.
-fn first_state(fact: Fact, trusted: bool) -> State
-    ensures { result ≡ first fact trusted }
-{
-    State {
-        fact,
-        trusted,
-        phase: following(),
-        sync: None,
-    }
-}
 
 /// Saves the opening fact, and starts with it.
 fn save_opening<H, S: Store<H>>(

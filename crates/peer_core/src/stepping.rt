@@ -1,151 +1,38 @@
-ghost use Rattle.std.specs.Prelude.{◌≡◌, ◌≤◌, ◌+◌, [], true, false, length, OnOk, IfOk, IfErr, IsErrOf};
+ghost use Rattle.std.specs.Prelude.{◌≡◌, ◌≤◌, ◌+◌, [], true, false, length, OnOk, IfOk, IsErrOf};
 ghost use Rattle.ens_base.specs.View.{IsPeer};
 ghost use Rattle.wire_frames.specs.Messages.{Obeys};
-ghost use Rattle.following.specs.Requests.{row_21, row_22};
 ghost use Rattle.step_plans.specs.Outboxes.{Grows, room, spare};
 ghost use Rattle.step_plans.specs.Steps.{Steps};
-ghost use Rattle.peer_core.specs.Ages.{IsYoung, is_young};
-ghost use Rattle.peer_core.specs.Drives.{ticked, shown, got, after_put, put_done, put_in, delivered, first, responded, concluded, whole, step_of, MayCome, most_turns};
-ghost use Rattle.peer_core.specs.Moves.{waits};
-ghost use Rattle.peer_core.specs.NoAllocation.{IsAllocationFree, IsAllocationFreeMessage, IsSteady};
+ghost use Rattle.peer_state.specs.Ages.{IsYoung, is_young};
+ghost use Rattle.peer_plan.specs.Drives.{ticked, shown, got, after_put, put_done, put_in, delivered, first, responded, concluded, whole, step_of, MayCome, most_turns};
+ghost use Rattle.peer_state.specs.Moves.{waits};
+ghost use Rattle.peer_state.specs.NoAllocation.{IsAllocationFree, IsAllocationFreeMessage, IsSteady};
 ghost use Rattle.peer_core.specs.Outcomes.{Acts};
-ghost use Rattle.peer_core.specs.Owns.{looked, found};
+ghost use Rattle.peer_plan.specs.Owns.{looked, found};
 
-use crate::event::Event;
 use crate::machine::Machine;
-use crate::state::{ChangeState, Phase, State};
-use crate::syncing::{give_of, question_of};
-use ens_base::{Epoch, Key, PeerId, View};
+use ens_base::{Epoch, Key, PeerId};
 use ens_object::Object;
-use following::{is_served, rule_21, rule_22, tell_damage};
+use following::is_served;
 use peer_fact::{Change, Fact};
+use peer_plan::{after_put, give_of, question_of};
+use peer_state::{Event, Phase};
 use std::alloc::Global;
 use std::thread::Threads;
 use step_plans::{Outbox, PeerError, Store, Task, Tasks};
-use view_change::rule_24;
-use wire_frames::{Message, NackCause, PhaseOut, Seen, Then};
+use wire_frames::{Message, PhaseOut, Seen, Then};
 
 /// A number of tasks that no step reaches.
-#[tactic(auto, unfolding(crate::specs::Drives::most_turns))]
+#[tactic(auto, unfolding(peer_plan::specs::Drives::most_turns))]
 fn most_turns() -> u64
     ensures { result ≡ most_turns }
 {
     u64::MAX
 }
 
-impl ChangeState {
-    ghost use Rattle.peer_core.specs.Rows.{has_begun};
-
-    fn has_begun(&self) -> bool
-        ensures { result ≡ has_begun self.now }
-    {
-        match self {
-            ChangeState::Settled => false,
-            ChangeState::Wanted(_) | ChangeState::Finishing(_) => true,
-        }
-    }
-}
-
-impl Phase {
-    ghost use Rattle.peer_core.specs.Rows.{leads, changes};
-
-    /// Whether the peer leads.
-    pub(crate) fn leads(&self) -> bool
-        ensures { result ≡ leads self.now }
-    {
-        match self {
-            Phase::Leading(_) => true,
-            _ => false,
-        }
-    }
-
-    /// Whether the peer leads, and a change has begun.
-    pub(crate) fn changes(&self) -> bool
-        ensures { result ≡ changes self.now }
-    {
-        match self {
-            Phase::Leading(leadership) => leadership.change.has_begun(),
-            _ => false,
-        }
-    }
-}
-
-/// Rule 21, from what the stores returned. Fails only when out of memory.
-fn get_row(
-    state: &State,
-    from: PeerId,
-    ballot: Epoch,
-    round: u64,
-    key: Key,
-    seen: Seen,
-) -> Result<PhaseOut, PeerError>
-    requires { IsPeer from }
-    ensures ok { IfOk result (λ row. row ≡ row_21 state.now.fact state.now.trusted from ballot round key seen) }
-    ensures memory { IfErr result (λ e. e ≡ PeerError.Memory) }
-{
-    match rule_21(state.fact, state.trusted, from, ballot, round, key, seen) {
-        Ok(row) => Ok(row),
-        Err(_) => Err(PeerError::Memory),
-    }
-}
-
-/// Rule 22, from what the stores returned. Fails only when out of memory.
-fn put_row(
-    state: &State,
-    alloc: Global,
-    from: PeerId,
-    ballot: Epoch,
-    object: &Object,
-    seen: Seen,
-) -> Result<PhaseOut, PeerError>
-    requires { IsPeer from }
-    ensures ok { IfOk result (λ row. row ≡ row_22 state.now.fact state.now.trusted from ballot object.now seen) }
-    ensures memory { IfErr result (λ e. e ≡ PeerError.Memory) }
-{
-    match rule_22(alloc, state.fact, state.trusted, from, ballot, object, seen) {
-        Ok(row) => Ok(row),
-        Err(_) => Err(PeerError::Memory),
-    }
-}
-
-/// The answer to a put after the object was written, or damage was found on its path.
-fn after(from: PeerId, ballot: Epoch, row: PhaseOut, seen: Seen) -> PhaseOut
-    requires { IsPeer from }
-    ensures { result ≡ after_put from ballot row seen }
-{
-    match seen {
-        Seen::Damaged(at) => tell_damage(from, Message::Nack(ballot, NackCause::Damaged(at))),
-        _ => row,
-    }
-}
-
-impl State {
-    ghost use Rattle.peer_core.specs.Rows.{wanting, asked_change};
-
-    /// Makes this change wanted, if the peer leads.
-    fn want(&mut self, change: Change)
-        ensures { self.new ≡ wanting change self.old.phase self.old }
-    {
-        if let Phase::Leading(leadership) = &mut self.phase {
-            leadership.change = ChangeState::Wanted(change);
-        }
-    }
-
-    /// Rule 24: a request to change to this view. Returns whether the request is taken.
-    fn ask_change(&mut self, view: View) -> (PhaseOut, bool)
-        ensures { (self.new, result) ≡ asked_change view self.old }
-    {
-        let (row, taken) = rule_24(self.fact, self.phase.leads(), self.phase.changes(), view);
-        if taken {
-            self.want(Change::Add(view));
-        }
-        (row, taken)
-    }
-}
-
 impl<S> Machine<S> {
     /// Rules 2 to 5: a tick.
-    #[tactic(auto, using(crate::proofs::Parts::cut))]
+    #[tactic(auto, using(peer_plan::proofs::Parts::cut))]
     fn tick<H, R: Threads + Sync>(
         &mut self,
         hasher: &mut H,
@@ -170,7 +57,7 @@ impl<S> Machine<S> {
     }
 
     /// Reads the path of the key by rule 21, if the request is served.
-    #[tactic(auto, using(crate::proofs::Parts::cut))]
+    #[tactic(auto, using(peer_plan::proofs::Parts::cut))]
     fn show<H>(
         &mut self,
         hasher: &mut H,
@@ -191,7 +78,7 @@ impl<S> Machine<S> {
     }
 
     /// Reads the path of the key by rule 22, if the request is served.
-    #[tactic(auto, using(crate::proofs::Parts::cut))]
+    #[tactic(auto, using(peer_plan::proofs::Parts::cut))]
     fn show_entry<H>(
         &mut self,
         hasher: &mut H,
@@ -212,7 +99,7 @@ impl<S> Machine<S> {
     }
 
     /// Rule 21: a leader asks what the peer has under a key.
-    #[tactic(auto, using(crate::proofs::Parts::cut))]
+    #[tactic(auto, using(peer_plan::proofs::Parts::cut))]
     fn get<H, R: Threads + Sync>(
         &mut self,
         hasher: &mut H,
@@ -235,13 +122,13 @@ impl<S> Machine<S> {
         let served = is_served(&self.state.fact, self.state.trusted, ballot);
         let seen = self.show(hasher, alloc, out, served, key)?;
         let key = key.copy(alloc)?;
-        let row = get_row(&self.state, from, ballot, round, key, seen)?;
+        let row = self.state.rule_21(from, ballot, round, key, seen)?;
         let tasks = self.row_done(hasher, rt, alloc, out, me, row)?;
         Ok(tasks)
     }
 
     /// Writes the object of a put, and answers.
-    #[tactic(auto, using(crate::proofs::Parts::cut))]
+    #[tactic(auto, using(peer_plan::proofs::Parts::cut))]
     fn write_put<H, R: Threads + Sync>(
         &mut self,
         hasher: &mut H,
@@ -262,13 +149,20 @@ impl<S> Machine<S> {
         ensures grows { Grows out.old out.new }
     {
         match self.written(hasher, alloc, out, object) {
-            Ok(seen) => self.row_done(hasher, rt, alloc, out, me, after(from, ballot, row, seen)),
+            Ok(seen) => self.row_done(
+                hasher,
+                rt,
+                alloc,
+                out,
+                me,
+                after_put(from, ballot, row, seen),
+            ),
             Err(error) => Err(error),
         }
     }
 
     /// Answers a put, after the object was written if the answer asks for that.
-    #[tactic(auto, using(crate::proofs::Parts::cut))]
+    #[tactic(auto, using(peer_plan::proofs::Parts::cut))]
     fn put_done<H, R: Threads + Sync>(
         &mut self,
         hasher: &mut H,
@@ -295,7 +189,7 @@ impl<S> Machine<S> {
     }
 
     /// Rule 22: a leader asks the peer to write an object.
-    #[tactic(auto, using(crate::proofs::Parts::cut))]
+    #[tactic(auto, using(peer_plan::proofs::Parts::cut))]
     fn put_in<H, R: Threads + Sync>(
         &mut self,
         hasher: &mut H,
@@ -316,13 +210,13 @@ impl<S> Machine<S> {
     {
         let served = is_served(&self.state.fact, self.state.trusted, ballot);
         let seen = self.show_entry(hasher, alloc, out, served, &object.key)?;
-        let row = put_row(&self.state, alloc, from, ballot, object, seen)?;
+        let row = self.state.rule_22(alloc, from, ballot, object, seen)?;
         let tasks = self.put_done(hasher, rt, alloc, out, me, from, ballot, object, row)?;
         Ok(tasks)
     }
 
     /// Applies the row for a message.
-    #[tactic(auto, using(crate::proofs::Parts::cut))]
+    #[tactic(auto, using(peer_plan::proofs::Parts::cut))]
     fn deliver<H, R: Threads + Sync>(
         &mut self,
         hasher: &mut H,
@@ -381,7 +275,7 @@ impl<S> Machine<S> {
     }
 
     /// Applies the row for an event.
-    #[tactic(auto, using(crate::proofs::Parts::cut))]
+    #[tactic(auto, using(peer_plan::proofs::Parts::cut))]
     fn first<H, R: Threads + Sync>(
         &mut self,
         hasher: &mut H,
@@ -416,7 +310,7 @@ impl<S> Machine<S> {
     }
 
     /// Applies the row for an event, and runs the rules that follow from it.
-    #[tactic(auto, using(crate::proofs::Parts::cut))]
+    #[tactic(auto, using(peer_plan::proofs::Parts::cut))]
     fn respond<H, R: Threads + Sync>(
         &mut self,
         hasher: &mut H,
@@ -441,7 +335,7 @@ impl<S> Machine<S> {
     }
 
     /// Rule 6: at the end of each step, a leader may end its epoch.
-    #[tactic(auto, using(crate::proofs::Parts::cut))]
+    #[tactic(auto, using(peer_plan::proofs::Parts::cut))]
     fn conclude<H, R: Threads + Sync>(
         &mut self,
         hasher: &mut H,
@@ -463,7 +357,7 @@ impl<S> Machine<S> {
     }
 
     /// Takes a whole step.
-    #[tactic(auto, using(crate::proofs::Parts::cut))]
+    #[tactic(auto, using(peer_plan::proofs::Parts::cut))]
     fn whole<H, R: Threads + Sync>(
         &mut self,
         hasher: &mut H,

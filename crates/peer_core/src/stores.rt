@@ -1,6 +1,6 @@
 ghost use Rattle.std.specs.Prelude.{◌≡◌};
 ghost use Rattle.peer_core.specs.Stores.{hash_error as hash_error_of};
-ghost use Rattle.peer_core.specs.TreeCalls.{heard, peer_error};
+ghost use Rattle.peer_plan.specs.TreeCalls.{heard, peer_error};
 
 use ens_base::{Bytes, Digest, Entry, Key};
 use ens_hashing::{HashError, Hasher16};

@@ -5,69 +5,30 @@ ghost use Rattle.step_plans.specs.Outboxes.{Grows, out_of};
 ghost use Rattle.step_plans.specs.Plans.{asked};
 ghost use Rattle.tree_node.specs.Entries.{AreAbove};
 ghost use Rattle.tree_node.specs.Positions.{IsPosition};
-ghost use Rattle.peer_core.specs.NoAllocation.{ends_step};
+ghost use Rattle.peer_state.specs.NoAllocation.{ends_step};
 ghost use Rattle.peer_core.specs.Outcomes.{Acts};
-ghost use Rattle.peer_core.specs.Syncs.{and_sends, installed, accepted, accepted_in, synced, ended_with, gone_on, begun_sync, resumed_sync, followed_on, reached, own_node, body_of, shown_node, needs_node, taken_give, got_give};
-ghost use Rattle.following.specs.Requests.{row_23};
-ghost use Rattle.peer_core.specs.Drives.{got_ask};
-ghost use Rattle.running_sync.specs.Rows.{row_start, row_resume, row_take};
-ghost use Rattle.sync_rule.specs.Syncs.{outcome_of, MayBeBuilt};
+ghost use Rattle.peer_plan.specs.Syncs.{and_sends, installed, accepted, accepted_in, synced, ended_with, gone_on, begun_sync, resumed_sync, followed_on, own_node, shown_node, needs_node, taken_give, got_give};
+ghost use Rattle.peer_plan.specs.Drives.{got_ask};
+ghost use Rattle.sync_rule.specs.Syncs.{MayBeBuilt};
 
 use crate::machine::Machine;
-use crate::state::{Phase, State};
 use election::Election;
-use ens_base::{Bytes, Entry, Epoch, Key, PeerId, Seq, copy_key};
-use exchange::{AskError, Question, given};
-use following::rule_23;
+use ens_base::{Bytes, Entry, Epoch, PeerId, Seq};
+use exchange::Question;
 use leader_words::Outgoing;
 use peer_fact::{Change, Fact};
+use peer_plan::{body_given, needs_node, reached_node};
+use peer_state::{Phase, ask_again, start_sync, sync_outcome, take_answer};
 use running_sync::{Give, RunningSync};
 use std::alloc::Global;
 use std::thread::Threads;
 use step_plans::{Outbox, PeerError, Store, Tasks, Walked};
-use sync_rule::{Outcome, SyncError, needs_build};
+use sync_rule::{Outcome, needs_build};
 use tree_node::{Position, Scan, TreeBody};
-use wire_frames::{Message, PhaseOut, Then};
-
-/// Copies the body. Fails only when out of memory.
-fn copy_body(alloc: Global, body: &TreeBody) -> Result<TreeBody, PeerError>
-    ensures ok { IfOk result (λ b. b ≡ body.now) }
-    ensures memory { IfErr result (λ e. e ≡ PeerError.Memory) }
-{
-    Ok(body.copy(alloc)?)
-}
-
-/// The node, if the walk reached its position.
-fn reached_node(walked: Walked<Option<Bytes>>) -> Option<Bytes>
-    ensures { result ≡ reached walked }
-{
-    match walked {
-        Walked::Reached(node) => node,
-        Walked::Broken(_) => None,
-    }
-}
-
-/// What a peer sends of a node that it was asked for. Fails only when out of memory.
-fn body_given(
-    alloc: Global,
-    question: &Question,
-    walked: Walked<Option<Bytes>>,
-) -> Result<TreeBody, PeerError>
-    requires { IsPosition question.now.position }
-    ensures ok { IfOk result (λ b. b ≡ body_of question.now walked) }
-    ensures memory { IfErr result (λ e. e ≡ PeerError.Memory) }
-{
-    match walked {
-        Walked::Broken(at) => Ok(TreeBody::Damaged(at)),
-        Walked::Reached(node) => match given(alloc, &node, question) {
-            Ok(body) => Ok(body),
-            Err(_) => Err(PeerError::Memory),
-        },
-    }
-}
+use wire_frames::{Message, Then};
 
 impl<S> Machine<S> {
-    #[tactic(auto, using(crate::proofs::Parts::asked_did))]
+    #[tactic(auto, using(peer_plan::proofs::Parts::asked_did))]
     fn scan<H, R: Threads + Sync>(
         &mut self,
         hasher: &mut H,
@@ -82,7 +43,7 @@ impl<S> Machine<S> {
         self.stores.scan_tree(hasher, rt, alloc)
     }
 
-    #[tactic(auto, using(crate::proofs::Parts::asked_did))]
+    #[tactic(auto, using(peer_plan::proofs::Parts::asked_did))]
     fn read_node<H>(
         &mut self,
         hasher: &mut H,
@@ -98,7 +59,7 @@ impl<S> Machine<S> {
         self.stores.read_node(hasher, alloc, at)
     }
 
-    #[tactic(auto, using(crate::proofs::Parts::asked_did))]
+    #[tactic(auto, using(peer_plan::proofs::Parts::asked_did))]
     fn build<H, R: Threads + Sync>(
         &mut self,
         hasher: &mut H,
@@ -116,7 +77,7 @@ impl<S> Machine<S> {
     }
 
     /// Builds the tree of these entries and installs it, if that is needed.
-    #[tactic(auto, using(crate::proofs::Parts::cut))]
+    #[tactic(auto, using(peer_plan::proofs::Parts::cut))]
     fn install<H, R: Threads + Sync>(
         &mut self,
         hasher: &mut H,
@@ -138,7 +99,7 @@ impl<S> Machine<S> {
     }
 
     /// The node at the position, if it is needed.
-    #[tactic(auto, using(crate::proofs::Parts::cut))]
+    #[tactic(auto, using(peer_plan::proofs::Parts::cut))]
     fn own_node<H>(
         &mut self,
         hasher: &mut H,
@@ -161,7 +122,7 @@ impl<S> Machine<S> {
     }
 
     /// What the peer sends for a question, if it is answered.
-    #[tactic(auto, using(crate::proofs::Parts::cut))]
+    #[tactic(auto, using(peer_plan::proofs::Parts::cut))]
     fn shown_node<H>(
         &mut self,
         hasher: &mut H,
@@ -185,76 +146,6 @@ impl<S> Machine<S> {
     }
 }
 
-/// What the sync has come to. Fails only when out of memory.
-fn outcome(alloc: Global, running: &RunningSync) -> Result<Outcome, PeerError>
-    ensures ok { IfOk result (λ o. o ≡ outcome_of running.now.sync) }
-    ensures above { IfOk result MayBeBuilt }
-    ensures memory { IfErr result (λ e. e ≡ PeerError.Memory) }
-{
-    match running.outcome(alloc) {
-        Ok(outcome) => Ok(outcome),
-        Err(SyncError::Memory) => Err(PeerError::Memory),
-    }
-}
-
-/// Begins a sync, and returns it with its messages. Fails only when out of memory.
-fn start(
-    alloc: Global,
-    new: Fact,
-    me: PeerId,
-    trusted: bool,
-    scan: Scan,
-) -> Result<(RunningSync, Seq<Outgoing>), PeerError>
-    ensures ok { IfOk result (λ r. r ≡ row_start new me trusted scan) }
-    ensures memory { IfErr result (λ e. e ≡ PeerError.Memory) }
-{
-    match RunningSync::start(alloc, new, me, trusted, scan) {
-        Ok(started) => Ok(started),
-        Err(SyncError::Memory) => Err(PeerError::Memory),
-    }
-}
-
-/// Resumes a sync, and returns its messages. Fails only when out of memory.
-fn resume(alloc: Global, running: &mut RunningSync) -> Result<Seq<Outgoing>, PeerError>
-    ensures ok { IfOk result (λ sends. (running.new, sends) ≡ row_resume running.old) }
-    ensures memory { IfErr result (λ e. e ≡ PeerError.Memory) }
-{
-    match running.resume(alloc) {
-        Ok(sends) => Ok(sends),
-        Err(SyncError::Memory) => Err(PeerError::Memory),
-    }
-}
-
-/// Lets a sync take an answer, and returns its messages. Fails only when out of memory.
-fn take(
-    alloc: Global,
-    running: &mut RunningSync,
-    from: PeerId,
-    give: &Give,
-    own: &Option<Bytes>,
-) -> Result<Seq<Outgoing>, PeerError>
-    requires { IsPosition give.now.question.position }
-    ensures ok { IfOk result (λ sends. (running.new, sends) ≡ row_take from give.now own.now running.old) }
-    ensures memory { IfErr result (λ e. e ≡ PeerError.Memory) }
-{
-    match running.take(alloc, from, give, own) {
-        Ok(sends) => Ok(sends),
-        Err(SyncError::Memory) => Err(PeerError::Memory),
-    }
-}
-
-impl State {
-    /// Whether the own node at the position must be read to take this answer.
-    fn needs_node(&self, from: PeerId, give: &Give) -> bool
-        ensures { result ≡ needs_node from give.now self.now.sync }
-    {
-        match &self.sync {
-            None => false,
-            Some(running) => running.needs_own(from, give),
-        }
-    }
-}
-
 impl<S> Machine<S> {
     /// Sends the acceptance of a follower to the peer that leads the epoch of the fact, if that is
     /// another peer. Fails only when out of memory.
@@ -273,7 +164,7 @@ impl<S> Machine<S> {
 
     /// The fact of a sync was accepted: a starting peer counts itself, and a follower sends its
     /// acceptance.
-    #[tactic(auto, using(crate::proofs::Parts::cut))]
+    #[tactic(auto, using(peer_plan::proofs::Parts::cut))]
     fn accept<H>(
         &mut self,
         hasher: &H,
@@ -302,7 +193,7 @@ impl<S> Machine<S> {
     }
 
     /// Ends a sync with these merged entries.
-    #[tactic(auto, using(crate::proofs::Parts::cut))]
+    #[tactic(auto, using(peer_plan::proofs::Parts::cut))]
     fn end_sync<H, R: Threads + Sync>(
         &mut self,
         hasher: &mut H,
@@ -331,7 +222,7 @@ impl<S> Machine<S> {
     }
 
     /// Lets a sync run on, or ends it.
-    #[tactic(auto, using(crate::proofs::Parts::cut))]
+    #[tactic(auto, using(peer_plan::proofs::Parts::cut))]
     fn end_with<H, R: Threads + Sync>(
         &mut self,
         hasher: &mut H,
@@ -361,7 +252,7 @@ impl<S> Machine<S> {
     }
 
     /// Sends the messages of a sync, which then runs on, or ends if its sources suffice.
-    #[tactic(auto, using(crate::proofs::Parts::cut))]
+    #[tactic(auto, using(peer_plan::proofs::Parts::cut))]
     fn go_on<H, R: Threads + Sync>(
         &mut self,
         hasher: &mut H,
@@ -379,12 +270,12 @@ impl<S> Machine<S> {
         ensures grows { Grows out.old out.new }
     {
         out.send_all(sends.into_vec())?;
-        let outcome = outcome(alloc, &running)?;
+        let outcome = sync_outcome(alloc, &running)?;
         self.end_with(hasher, rt, alloc, out, me, running, outcome)
     }
 
     /// Begins a sync on a fact.
-    #[tactic(auto, using(crate::proofs::Parts::cut))]
+    #[tactic(auto, using(peer_plan::proofs::Parts::cut))]
     fn begin_sync<H, R: Threads + Sync>(
         &mut self,
         hasher: &mut H,
@@ -401,12 +292,12 @@ impl<S> Machine<S> {
         ensures grows { Grows out.old out.new }
     {
         let scan = self.scan(hasher, rt, alloc, out)?;
-        let (running, sends) = start(alloc, new, me, self.state.trusted, scan)?;
+        let (running, sends) = start_sync(alloc, new, me, self.state.trusted, scan)?;
         self.go_on(hasher, rt, alloc, out, me, running, sends)
     }
 
     /// Resumes the sync that runs, if one does.
-    #[tactic(auto, using(crate::proofs::Parts::cut))]
+    #[tactic(auto, using(peer_plan::proofs::Parts::cut))]
     fn resume_sync<H>(
         &mut self,
         hasher: &H,
@@ -421,7 +312,7 @@ impl<S> Machine<S> {
         match &mut self.state.sync {
             None => Ok(Tasks::none(alloc)),
             Some(running) => {
-                let sends = resume(alloc, running)?;
+                let sends = ask_again(alloc, running)?;
                 out.send_all(sends.into_vec())?;
                 Ok(Tasks::none(alloc))
             }
@@ -429,7 +320,7 @@ impl<S> Machine<S> {
     }
 
     /// Runs what follows the message of a row: a sync begins or resumes, or the named rule runs next.
-    #[tactic(auto, using(crate::proofs::Parts::cut))]
+    #[tactic(auto, using(peer_plan::proofs::Parts::cut))]
     pub(crate) fn follow_on<H, R: Threads + Sync>(
         &mut self,
         hasher: &mut H,
@@ -458,7 +349,7 @@ impl<S> Machine<S> {
     }
 
     /// Rule 23: a peer that syncs asks for a node of the tree.
-    #[tactic(auto, using(crate::proofs::Parts::cut))]
+    #[tactic(auto, using(peer_plan::proofs::Parts::cut))]
     pub(crate) fn tree_ask<H, R: Threads + Sync>(
         &mut self,
         hasher: &mut H,
@@ -480,13 +371,13 @@ impl<S> Machine<S> {
     {
         let answered = ballot == self.state.fact.ballot;
         let body = self.shown_node(hasher, alloc, out, answered, &question)?;
-        let row = ask_row(&self.state, from, ballot, question, body)?;
+        let row = self.state.rule_23(from, ballot, question, body)?;
         let tasks = self.row_done(hasher, rt, alloc, out, me, row)?;
         Ok(tasks)
     }
 
     /// Lets the sync that runs, if one does, take an answer.
-    #[tactic(auto, using(crate::proofs::Parts::cut, crate::proofs::Syncs::gone_on_without))]
+    #[tactic(auto, using(peer_plan::proofs::Parts::cut, peer_plan::proofs::Syncs::gone_on_without))]
     fn take_give<H, R: Threads + Sync>(
         &mut self,
         hasher: &mut H,
@@ -509,14 +400,14 @@ impl<S> Machine<S> {
             None => Ok(Tasks::none(alloc)),
             Some(running) => {
                 let mut running = running;
-                let sends = take(alloc, &mut running, from, give, own)?;
+                let sends = take_answer(alloc, &mut running, from, give, own)?;
                 self.go_on(hasher, rt, alloc, out, me, running, sends)
             }
         }
     }
 
     /// Takes what a source of the sync sent.
-    #[tactic(auto, using(crate::proofs::Parts::cut))]
+    #[tactic(auto, using(peer_plan::proofs::Parts::cut))]
     pub(crate) fn tree_give<H, R: Threads + Sync>(
         &mut self,
         hasher: &mut H,
@@ -534,71 +425,9 @@ impl<S> Machine<S> {
         ensures acts { Acts S.does S.refuses (got_give me from give.now) self.old hasher.old out.old result self.new hasher.new out.new }
         ensures grows { Grows out.old out.new }
     {
-        let needed = self.state.needs_node(from, give);
+        let needed = needs_node(&self.state, from, give);
         let own = self.own_node(hasher, alloc, out, needed, give.question.position)?;
         let tasks = self.take_give(hasher, rt, alloc, out, me, from, give, &own)?;
         Ok(tasks)
-    }
-}
-
-/// The question for a node of the tree. Fails only when out of memory.
-pub(crate) fn question_of(
-    alloc: Global,
-    at: Position,
-    after: &Option<Key>,
-) -> Result<Question, PeerError>
-    ensures ok { IfOk result (λ q. q ≡ record { position = at; after = after.now }) }
-    ensures memory { IfErr result (λ e. e ≡ PeerError.Memory) }
-{
-    Ok(Question {
-        position: at,
-        after: copy_key(alloc, after)?,
-    })
-}
-
-/// The answer of a source, from its message. Fails only when out of memory.
-pub(crate) fn give_of(
-    alloc: Global,
-    ballot: Epoch,
-    at: Position,
-    after: &Option<Key>,
-    trusted: bool,
-    body: &TreeBody,
-) -> Result<Give, PeerError>
-    ensures ok { IfOk result (λ g. g ≡ record { ballot = ballot; question = record { position = at; after = after.now }; trusted = trusted; body = body.now }) }
-    ensures memory { IfErr result (λ e. e ≡ PeerError.Memory) }
-{
-    Ok(Give {
-        ballot,
-        question: question_of(alloc, at, after)?,
-        trusted,
-        body: copy_body(alloc, body)?,
-    })
-}
-
-/// Rule 23, from what was read. Fails only when out of memory.
-fn ask_row(
-    state: &State,
-    from: PeerId,
-    ballot: Epoch,
-    question: Question,
-    body: Option<TreeBody>,
-) -> Result<PhaseOut, PeerError>
-    requires { IsPeer from }
-    ensures ok { IfOk result (λ row. row ≡ row_23 state.now.fact state.now.trusted from ballot question.position question.after body) }
-    ensures memory { IfErr result (λ e. e ≡ PeerError.Memory) }
-{
-    let Question { position, after } = question;
-    match rule_23(
-        state.fact,
-        state.trusted,
-        from,
-        ballot,
-        position,
-        after,
-        body,
-    ) {
-        Ok(row) => Ok(row),
-        Err(_) => Err(PeerError::Memory),
     }
 }

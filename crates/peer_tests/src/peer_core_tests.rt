@@ -1,6 +1,6 @@
 ghost use Rattle.std.specs.Prelude.{◌≡◌, ◌≢◌, IfOk};
 ghost use Rattle.ens_base.specs.View.{IsPeer};
-ghost use Rattle.peer_core.specs.Drives.{MayCome};
+ghost use Rattle.peer_plan.specs.Drives.{MayCome};
 ghost use Rattle.wire_frames.specs.Messages.{Obeys};
 
 use ens_base::{Epoch, PeerId, View, ViewError};
@@ -42,17 +42,11 @@ fn stores(alloc: Global, failing: Failing) -> Held {
 }
 
 /// The peer of this number, started on these stores.
-fn started<R: Threads + Sync>(
-    rt: &R,
-    alloc: Global,
-    number: u32,
-    view: View,
-    stores: Held,
-) -> Result<Tried, PeerError>
+fn started(alloc: Global, number: u32, view: View, stores: Held) -> Result<Tried, PeerError>
     requires { IsPeer number }
     ensures { IfOk result (λ p. p.me ≡ number) }
 {
-    match Peer::start(rt, alloc, PeerId(number), view, stores, &mut PlainHasher) {
+    match Peer::start(alloc, PeerId(number), view, stores, &mut PlainHasher) {
         Ok(peer) => Ok(peer),
         Err(refused) => {
             let StartError { error, held: _ } = refused;
@@ -62,17 +56,11 @@ fn started<R: Threads + Sync>(
 }
 
 /// The peer of this number, on empty stores.
-fn peer<R: Threads + Sync>(rt: &R, alloc: Global, number: u32) -> Result<Tried, Fail>
+fn peer(alloc: Global, number: u32) -> Result<Tried, Fail>
     requires { IsPeer number }
     ensures { IfOk result (λ p. p.me ≡ number) }
 {
-    Ok(started(
-        rt,
-        alloc,
-        number,
-        view()?,
-        stores(alloc, Failing::never(alloc)),
-    )?)
+    Ok(started(alloc, number, view()?, stores(alloc, Failing::never(alloc)))?)
 }
 
 /// The name of a message of an election.
@@ -195,7 +183,7 @@ fn ticked<R: Threads + Sync>(
 fn starting<R: Threads + Sync>(rt: &R, alloc: Global, view: View) -> Result<Tried, Fail>
     ensures { IfOk result (λ p. p.me ≡ 1) }
 {
-    let mut one = peer(rt, alloc, 1)?;
+    let mut one = peer(alloc, 1)?;
     ticked(rt, alloc, &mut one, 6, &[])?;
     told(
         rt,
@@ -238,7 +226,7 @@ fn a_peer_started_again_keeps_its_fact(rt: HostRuntime) -> Result<(), Fail> {
     let alloc = rt.alloc();
     let view = view()?;
     let one = starting(&rt, alloc, view)?;
-    let again = started(&rt, alloc, 1, view, one.into_stores())?;
+    let again = started(alloc, 1, view, one.into_stores())?;
     assert!(rt; keeps(again, elected(view)));
     Ok(())
 }

@@ -2,8 +2,8 @@
 -- requests for a view, and calls.
 use Rattle.std.proofs.Common.{inl, ℕ, List, []}
 use Rattle.held_stores.specs.Held.{Held}
-use Rattle.peer_core.specs.Drives.{delivered}
-use Rattle.peer_core.specs.declared.state.State.{State as PeerState}
+use Rattle.peer_plan.specs.Drives.{delivered}
+use Rattle.peer_state.specs.declared.state.State.{State as PeerState}
 use Rattle.step_plans.specs.Plans.{Out, nothing, Rest}
 use Rattle.step_plans.specs.declared.tasks.Task.{Task}
 use Rattle.wire_frames.specs.declared.message.Message.{Message}

@@ -9,10 +9,10 @@ use Rattle.held_stores.specs.Held.{Held}
 use Rattle.held_stores.specs.Runs.{Ended, run, either}
 use Rattle.leader_refinement.specs.Follows.{TaskHolds}
 use Rattle.leading.specs.declared.pending.Pending.{Pending}
-use Rattle.peer_core.specs.declared.state.Phase.{Phase}
-use Rattle.peer_core.specs.declared.state.Phase.TheVariants as phases
-use Rattle.peer_core.specs.declared.state.State.{State as PeerState}
-use Rattle.peer_core.specs.Turns.{StepsAlone}
+use Rattle.peer_state.specs.declared.state.Phase.{Phase}
+use Rattle.peer_state.specs.declared.state.Phase.TheVariants as phases
+use Rattle.peer_state.specs.declared.state.State.{State as PeerState}
+use Rattle.peer_plan.specs.Turns.{StepsAlone}
 use Rattle.register_model.specs.declared.note.Note.{Note}
 use Rattle.step_plans.specs.Calls.{Call, AnswerOf}
 use Rattle.step_plans.specs.Plans.{Plan, Done, Say, Ask, Stopped, Out, Rest}
@@ -32,7 +32,7 @@ module _ (c : Scene) where
 
   -- The plan ends in agreement, if all that its run hashes is among the strings. `mark` is the same plan
   -- but for what follows when the limit on tasks is reached, so that this never happens: see
-  -- `nothing_is_left` of peer_core.
+  -- `nothing_is_left` of peer_plan.
   abbrev pub Ends : Plan PeerState → Plan PeerState → Held → List Note → Type 0
   Ends plan mark h notes = StepsAlone mark → AreAmong (run plan h notes).held.hashed strings → EndsBy c (run plan h notes).ending (run plan h notes).held (run plan h notes).notes
 

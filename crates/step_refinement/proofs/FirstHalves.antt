@@ -31,13 +31,13 @@ use Rattle.leading.specs.Ticks.{left_answer}
 use Rattle.leading.specs.declared.leader.Leader.{Leader}
 use Rattle.leading.specs.declared.pending.Pending.{Pending}
 use Rattle.leading.specs.declared.pending.Pending.TheVariants as pendings
-use Rattle.peer_core.specs.Drives.{lead_done, lead}
-use Rattle.peer_core.specs.Moves.{and_answers, leading, with_leader}
-use Rattle.peer_core.specs.Owns.{looked}
-use Rattle.peer_core.specs.Syncs.{and_sends}
-use Rattle.peer_core.specs.declared.state.Leadership.{Leadership}
-use Rattle.peer_core.specs.declared.state.Phase.{Phase}
-use Rattle.peer_core.specs.declared.state.State.{State as PeerState}
+use Rattle.peer_plan.specs.Drives.{lead_done, lead}
+use Rattle.peer_state.specs.Moves.{and_answers, leading, with_leader}
+use Rattle.peer_plan.specs.Owns.{looked}
+use Rattle.peer_plan.specs.Syncs.{and_sends}
+use Rattle.peer_state.specs.declared.state.Leadership.{Leadership}
+use Rattle.peer_state.specs.declared.state.Phase.{Phase}
+use Rattle.peer_state.specs.declared.state.State.{State as PeerState}
 use Rattle.register_model.specs.declared.note.Note.{Note}
 use Rattle.register_model.specs.declared.note.Note.TheVariants.{Proposed}
 use Rattle.step_plans.specs.Plans.{Plan, Out, Rest}

@@ -13,11 +13,11 @@ use Rattle.election_refinement.proofs.Rows.{made_way, saved_in, settled}
 use Rattle.election_refinement.proofs.Tests.{by_test}
 use Rattle.election_refinement.specs.Refinement.{SyncHolds}
 use Rattle.following.specs.Announcements.{row_16}
-use Rattle.peer_core.specs.Moves.{left, sought, stood, turned, waiting_for}
-use Rattle.peer_core.specs.Rows.{aged, asked_change, changes, leads, phase_row, received, runs_sync, wanting, while_8, while_9, while_10, while_12, while_13, while_14, while_15, while_17, while_25, while_26}
-use Rattle.peer_core.specs.declared.state.Phase.{Phase}
-use Rattle.peer_core.specs.declared.state.Phase.TheVariants as phases
-use Rattle.peer_core.specs.declared.state.State.{State}
+use Rattle.peer_state.specs.Moves.{left, sought, stood, turned, waiting_for}
+use Rattle.peer_state.specs.Rows.{aged, asked_change, changes, leads, phase_row, received, runs_sync, wanting, while_8, while_9, while_10, while_12, while_13, while_14, while_15, while_17, while_25, while_26}
+use Rattle.peer_state.specs.declared.state.Phase.{Phase}
+use Rattle.peer_state.specs.declared.state.Phase.TheVariants as phases
+use Rattle.peer_state.specs.declared.state.State.{State}
 use Rattle.peer_fact.specs.declared.fact.Change.{Change}
 use Rattle.peer_fact.specs.declared.fact.Change.TheVariants as facts
 use Rattle.peer_fact.specs.declared.fact.Fact.{Fact}

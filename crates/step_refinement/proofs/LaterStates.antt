@@ -12,8 +12,8 @@ use Rattle.leader_refinement.proofs.Steps.{fits_stay}
 use Rattle.leader_refinement.specs.Follows.{Hash}
 use Rattle.leader_refinement.specs.Seen.{rank}
 use Rattle.leader_words.specs.declared.out.Outgoing.{Outgoing}
-use Rattle.peer_core.specs.declared.state.Phase.{Phase}
-use Rattle.peer_core.specs.declared.state.Phase.TheVariants as phases
+use Rattle.peer_state.specs.declared.state.Phase.{Phase}
+use Rattle.peer_state.specs.declared.state.Phase.TheVariants as phases
 use Rattle.peer_fact.specs.declared.fact.Fact.{Fact}
 use Rattle.request_refinement.specs.Naming.{EntryMaySay}
 use Rattle.running_sync.specs.Running.{Running}

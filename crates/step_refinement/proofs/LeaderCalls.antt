@@ -37,15 +37,15 @@ use Rattle.leading.specs.Rounds.{row_29_reply, stood_at, row_33_reply}
 use Rattle.leading.specs.Starts.{row_27}
 use Rattle.leading.specs.declared.leader.Leader.{Leader}
 use Rattle.leading.specs.declared.pending.Pending.TheVariants as pendings
-use Rattle.peer_core.specs.Drives.{lead_done, lead, delivered, unavailable, called}
-use Rattle.peer_core.specs.Moves.{and_answers, leading, with_leader}
-use Rattle.peer_core.specs.Rows.{has_begun}
-use Rattle.peer_core.specs.Syncs.{and_sends}
-use Rattle.peer_core.specs.declared.event.CallIn.{CallIn}
-use Rattle.peer_core.specs.declared.state.Leadership.{Leadership}
-use Rattle.peer_core.specs.declared.state.Phase.{Phase}
-use Rattle.peer_core.specs.declared.state.Phase.TheVariants as phases
-use Rattle.peer_core.specs.declared.state.State.{State as PeerState}
+use Rattle.peer_plan.specs.Drives.{lead_done, lead, delivered, unavailable, called}
+use Rattle.peer_state.specs.Moves.{and_answers, leading, with_leader}
+use Rattle.peer_state.specs.Rows.{has_begun}
+use Rattle.peer_plan.specs.Syncs.{and_sends}
+use Rattle.peer_state.specs.declared.event.CallIn.{CallIn}
+use Rattle.peer_state.specs.declared.state.Leadership.{Leadership}
+use Rattle.peer_state.specs.declared.state.Phase.{Phase}
+use Rattle.peer_state.specs.declared.state.Phase.TheVariants as phases
+use Rattle.peer_state.specs.declared.state.State.{State as PeerState}
 use Rattle.register_model.specs.declared.call.Call.{Call}
 use Rattle.register_model.specs.declared.note.Note.{Note}
 use Rattle.request_refinement.proofs.Staying.{maps_stay}

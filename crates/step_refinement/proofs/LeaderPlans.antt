@@ -15,11 +15,11 @@ use Rattle.leader_words.specs.declared.out.Outgoing.{Outgoing}
 use Rattle.leader_words.specs.declared.out.Own.{Own}
 use Rattle.leading.specs.Ticks.{left_answer}
 use Rattle.leading.specs.declared.leader.Leader.{Leader}
-use Rattle.peer_core.specs.Drives.{followed_up, and_row, lead_done}
-use Rattle.peer_core.specs.Moves.{follower, left, left_answers, untrusted, and_answers, leading, with_leader, turned, turned_answers}
-use Rattle.peer_core.specs.Syncs.{and_sends}
-use Rattle.peer_core.specs.declared.state.Leadership.{Leadership}
-use Rattle.peer_core.specs.declared.state.State.{State as PeerState}
+use Rattle.peer_plan.specs.Drives.{followed_up, and_row, lead_done}
+use Rattle.peer_state.specs.Moves.{follower, left, left_answers, untrusted, and_answers, leading, with_leader, turned, turned_answers}
+use Rattle.peer_plan.specs.Syncs.{and_sends}
+use Rattle.peer_state.specs.declared.state.Leadership.{Leadership}
+use Rattle.peer_state.specs.declared.state.State.{State as PeerState}
 use Rattle.register_model.specs.declared.note.Note.{Note}
 use Rattle.step_plans.specs.Plans.{Plan, Out, Rest, noted}
 use Rattle.step_plans.specs.Tasks.{keyed}

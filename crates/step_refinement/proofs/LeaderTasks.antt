@@ -23,11 +23,11 @@ use Rattle.leading.specs.Steps.{Fits, IsReady, KeepsOthers, Runs}
 use Rattle.leading.specs.declared.leader.Leader.{Leader}
 use Rattle.leading.specs.declared.pending.Pending.{Pending}
 use Rattle.leading.specs.declared.pending.Pending.TheVariants as pendings
-use Rattle.peer_core.specs.Moves.{leading, with_leader}
-use Rattle.peer_core.specs.declared.state.Leadership.{Leadership}
-use Rattle.peer_core.specs.declared.state.Phase.{Phase}
-use Rattle.peer_core.specs.declared.state.Phase.TheVariants as phases
-use Rattle.peer_core.specs.declared.state.State.{State as PeerState}
+use Rattle.peer_state.specs.Moves.{leading, with_leader}
+use Rattle.peer_state.specs.declared.state.Leadership.{Leadership}
+use Rattle.peer_state.specs.declared.state.Phase.{Phase}
+use Rattle.peer_state.specs.declared.state.Phase.TheVariants as phases
+use Rattle.peer_state.specs.declared.state.State.{State as PeerState}
 use Rattle.register_model.specs.declared.note.Note.{Note}
 use Rattle.step_plans.specs.Plans.{Out}
 use Rattle.step_plans.specs.declared.tasks.Task.{Task}

@@ -29,13 +29,13 @@ use Rattle.leading.specs.Ticks.{Finishing, is_late, aged, timed_out, and_key_if,
 use Rattle.leading.specs.declared.leader.Leader.{Leader}
 use Rattle.leading.specs.declared.pending.Pending.{Pending}
 use Rattle.leading.specs.declared.pending.Pending.TheVariants as pendings
-use Rattle.peer_core.specs.Drives.{lead_done, led_in}
-use Rattle.peer_core.specs.Leading.{older, end_of}
-use Rattle.peer_core.specs.Moves.{and_answers, leading, with_leader, turned, turned_answers}
-use Rattle.peer_core.specs.Syncs.{and_sends}
-use Rattle.peer_core.specs.declared.state.Leadership.{Leadership}
-use Rattle.peer_core.specs.declared.state.Phase.TheVariants as phases
-use Rattle.peer_core.specs.declared.state.State.{State as PeerState}
+use Rattle.peer_plan.specs.Drives.{lead_done, led_in}
+use Rattle.peer_state.specs.Leading.{older, end_of}
+use Rattle.peer_state.specs.Moves.{and_answers, leading, with_leader, turned, turned_answers}
+use Rattle.peer_plan.specs.Syncs.{and_sends}
+use Rattle.peer_state.specs.declared.state.Leadership.{Leadership}
+use Rattle.peer_state.specs.declared.state.Phase.TheVariants as phases
+use Rattle.peer_state.specs.declared.state.State.{State as PeerState}
 use Rattle.register_model.specs.declared.note.Note.{Note}
 use Rattle.step_plans.specs.Plans.{Out, Rest}
 use Rattle.step_plans.specs.Tasks.{keyed}

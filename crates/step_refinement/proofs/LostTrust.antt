@@ -18,8 +18,8 @@ use Rattle.leader_laws.specs.Roles.{RolesHold}
 use Rattle.leader_laws.specs.Tables.{Owed}
 use Rattle.leader_refinement.specs.Seen.{owed_after}
 use Rattle.leader_words.specs.declared.out.Outgoing.{Outgoing}
-use Rattle.peer_core.specs.Moves.{left_answers, stopped_leading, timeouts, untrusted, without_candidacy}
-use Rattle.peer_core.specs.declared.state.State.{State as PeerState}
+use Rattle.peer_state.specs.Moves.{left_answers, stopped_leading, timeouts, untrusted, without_candidacy}
+use Rattle.peer_state.specs.declared.state.State.{State as PeerState}
 use Rattle.register_model.specs.declared.note.Note.{Note}
 use Rattle.running_sync.specs.Running.{Running}
 use Rattle.step_plans.specs.Plans.{Out}

@@ -33,7 +33,7 @@ use Rattle.held_stores.specs.Held.{Held}
 use Rattle.leader_laws.specs.Tables as theory
 use Rattle.leader_refinement.specs.Seen.{rank}
 use Rattle.request_refinement.specs.Naming.{object_of_version}
-use Rattle.peer_core.specs.declared.state.State.{State as PeerState}
+use Rattle.peer_state.specs.declared.state.State.{State as PeerState}
 use Rattle.peer_fact.specs.declared.fact.Fact.{Fact}
 use Rattle.register_model.specs.declared.note.Note.{Note}
 use Rattle.step_plans.specs.Plans.{Out}

@@ -15,13 +15,13 @@ use Rattle.following.specs.Announcements.{row_16, row_18, row_19, commits}
 use Rattle.following.specs.Refusals.{unless_refused}
 use Rattle.following.specs.declared.follower.Follower.{Follower}
 use Rattle.joint_views.specs.Quorums.{is_quorum, is_member}
-use Rattle.peer_core.specs.Rows.{aged, asked_change, begun_change, changes, leads, ended, phase_row, prepared, received, runs_sync, while_8, while_9, while_10, while_12, while_13, while_14, while_15, while_17, while_25, while_26}
-use Rattle.peer_core.specs.declared.state.ChangeState.{ChangeState}
-use Rattle.peer_core.specs.declared.state.ChangeState.TheVariants.{Settled, Wanted, Finishing as Finishes}
-use Rattle.peer_core.specs.declared.state.Leadership.{Leadership}
-use Rattle.peer_core.specs.declared.state.Phase.{Phase}
-use Rattle.peer_core.specs.declared.state.Phase.TheVariants as phases
-use Rattle.peer_core.specs.declared.state.State.{State}
+use Rattle.peer_state.specs.Rows.{aged, asked_change, begun_change, changes, leads, ended, phase_row, prepared, received, runs_sync, while_8, while_9, while_10, while_12, while_13, while_14, while_15, while_17, while_25, while_26}
+use Rattle.peer_state.specs.declared.state.ChangeState.{ChangeState}
+use Rattle.peer_state.specs.declared.state.ChangeState.TheVariants.{Settled, Wanted, Finishing as Finishes}
+use Rattle.peer_state.specs.declared.state.Leadership.{Leadership}
+use Rattle.peer_state.specs.declared.state.Phase.{Phase}
+use Rattle.peer_state.specs.declared.state.Phase.TheVariants as phases
+use Rattle.peer_state.specs.declared.state.State.{State}
 use Rattle.peer_fact.specs.Facts.{views_after}
 use Rattle.peer_fact.specs.declared.fact.Fact.{Fact}
 use Rattle.phase_rows.specs.Orders.{is_below, is_same, is_newer, may_accept}

@@ -23,11 +23,11 @@ use Rattle.leading.specs.Leaders.{new_leader}
 use Rattle.leading.specs.declared.leader.Leader.{Leader}
 use Rattle.leading.specs.declared.pending.Pending.{Pending}
 use Rattle.leading.specs.declared.pending.Pending.TheVariants as pendings
-use Rattle.peer_core.specs.Moves.{accepts_in, left, left_answers, stopped_leading, timeouts, turned, turned_answers, without_candidacy}
-use Rattle.peer_core.specs.declared.state.ChangeState.TheVariants.{Settled}
-use Rattle.peer_core.specs.declared.state.Phase.{Phase}
-use Rattle.peer_core.specs.declared.state.Phase.TheVariants as phases
-use Rattle.peer_core.specs.declared.state.State.{State as PeerState}
+use Rattle.peer_state.specs.Moves.{accepts_in, left, left_answers, stopped_leading, timeouts, turned, turned_answers, without_candidacy}
+use Rattle.peer_state.specs.declared.state.ChangeState.TheVariants.{Settled}
+use Rattle.peer_state.specs.declared.state.Phase.{Phase}
+use Rattle.peer_state.specs.declared.state.Phase.TheVariants as phases
+use Rattle.peer_state.specs.declared.state.State.{State as PeerState}
 use Rattle.peer_fact.specs.declared.fact.Fact.{Fact}
 use Rattle.step_plans.specs.Plans.{Out}
 use Rattle.wire_frames.specs.declared.phase.Then.{Then}

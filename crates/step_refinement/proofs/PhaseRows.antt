@@ -24,11 +24,11 @@ use Rattle.leader_laws.specs.Roles.{RolesHold}
 use Rattle.leader_laws.specs.Tables.{Ghosts, Owed}
 use Rattle.leader_refinement.specs.Seen.{owed_after}
 use Rattle.leader_words.specs.declared.out.Outgoing.{Outgoing}
-use Rattle.peer_core.specs.Drives.{row_done}
-use Rattle.peer_core.specs.Moves.{ends_leading, left, left_answers, turned, turned_answers, without_sync}
-use Rattle.peer_core.specs.Syncs.{saved, and_sends, begun_sync, ended_with, followed_on}
-use Rattle.peer_core.specs.declared.state.Phase.{Phase}
-use Rattle.peer_core.specs.declared.state.State.{State as PeerState}
+use Rattle.peer_plan.specs.Drives.{row_done}
+use Rattle.peer_state.specs.Moves.{ends_leading, left, left_answers, turned, turned_answers, without_sync}
+use Rattle.peer_plan.specs.Syncs.{saved, and_sends, begun_sync, ended_with, followed_on}
+use Rattle.peer_state.specs.declared.state.Phase.{Phase}
+use Rattle.peer_state.specs.declared.state.State.{State as PeerState}
 use Rattle.peer_fact.specs.declared.fact.Fact.{Fact}
 use Rattle.register_model.specs.declared.note.Note.{Note}
 use Rattle.running_sync.specs.Rows.{row_start}

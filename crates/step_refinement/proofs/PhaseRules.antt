@@ -20,18 +20,18 @@ use Rattle.leader_laws.specs.Tables.{Ghosts}
 use Rattle.leader_refinement.specs.Seen.{owed_after}
 use Rattle.leader_words.specs.declared.out.Outgoing.{Outgoing}
 use Rattle.leading.specs.Ticks.{finishing_message}
-use Rattle.peer_core.specs.Drives.{and_change, delivered, first, led_in, reminded, row_done, task_done, ticked}
-use Rattle.peer_core.specs.Leading.{begins, end_of, ticks, wished}
-use Rattle.peer_core.specs.Moves.{leading}
-use Rattle.peer_core.specs.Rows.{aged, asked_change, leads, phase_row, received}
-use Rattle.peer_core.specs.Syncs.{and_sends}
-use Rattle.peer_core.specs.declared.event.Event.TheVariants as events
-use Rattle.peer_core.specs.declared.state.ChangeState.{ChangeState}
-use Rattle.peer_core.specs.declared.state.ChangeState.TheVariants.{Settled, Wanted, Finishing as Finishes}
-use Rattle.peer_core.specs.declared.state.Leadership.{Leadership}
-use Rattle.peer_core.specs.declared.state.Phase.{Phase}
-use Rattle.peer_core.specs.declared.state.Phase.TheVariants as phases
-use Rattle.peer_core.specs.declared.state.State.{State as PeerState}
+use Rattle.peer_plan.specs.Drives.{and_change, delivered, first, led_in, reminded, row_done, task_done, ticked}
+use Rattle.peer_state.specs.Leading.{begins, end_of, ticks, wished}
+use Rattle.peer_state.specs.Moves.{leading}
+use Rattle.peer_state.specs.Rows.{aged, asked_change, leads, phase_row, received}
+use Rattle.peer_plan.specs.Syncs.{and_sends}
+use Rattle.peer_state.specs.declared.event.Event.TheVariants as events
+use Rattle.peer_state.specs.declared.state.ChangeState.{ChangeState}
+use Rattle.peer_state.specs.declared.state.ChangeState.TheVariants.{Settled, Wanted, Finishing as Finishes}
+use Rattle.peer_state.specs.declared.state.Leadership.{Leadership}
+use Rattle.peer_state.specs.declared.state.Phase.{Phase}
+use Rattle.peer_state.specs.declared.state.Phase.TheVariants as phases
+use Rattle.peer_state.specs.declared.state.State.{State as PeerState}
 use Rattle.peer_fact.specs.declared.fact.Fact.{Fact}
 use Rattle.register_model.specs.declared.note.Note.{Note}
 use Rattle.step_plans.specs.Plans.{Out, Rest}

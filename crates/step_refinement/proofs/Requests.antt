@@ -26,13 +26,13 @@ use Rattle.leader_refinement.proofs.Numbers.{same_epochs}
 use Rattle.leader_refinement.specs.Seen.{rank, content_of, entry_rank, shown as shown_object}
 use Rattle.leader_words.specs.declared.out.AnswerOut.{AnswerOut}
 use Rattle.leader_words.specs.declared.out.Outgoing.{Outgoing}
-use Rattle.peer_core.specs.Drives.{row_done, shown, after_put, put_done, delivered}
-use Rattle.peer_core.specs.Moves.{left, left_answers, timeouts, stopped_leading, without_candidacy, untrusted}
-use Rattle.peer_core.specs.Owns.{looked, found}
-use Rattle.peer_core.specs.Syncs.{and_sends}
-use Rattle.peer_core.specs.declared.state.Phase.{Phase}
-use Rattle.peer_core.specs.declared.state.Phase.TheVariants as phases
-use Rattle.peer_core.specs.declared.state.State.{State as PeerState}
+use Rattle.peer_plan.specs.Drives.{row_done, shown, after_put, put_done, delivered}
+use Rattle.peer_state.specs.Moves.{left, left_answers, timeouts, stopped_leading, without_candidacy, untrusted}
+use Rattle.peer_plan.specs.Owns.{looked, found}
+use Rattle.peer_plan.specs.Syncs.{and_sends}
+use Rattle.peer_state.specs.declared.state.Phase.{Phase}
+use Rattle.peer_state.specs.declared.state.Phase.TheVariants as phases
+use Rattle.peer_state.specs.declared.state.State.{State as PeerState}
 use Rattle.peer_fact.specs.declared.fact.Fact.{Fact}
 use Rattle.phase_rows.specs.Orders.{is_below, is_same}
 use Rattle.phase_rows.specs.Peers.{alone}

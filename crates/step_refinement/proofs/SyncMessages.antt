@@ -18,10 +18,10 @@ use Rattle.exchange.specs.declared.question.Question.{Question}
 use Rattle.following.specs.Requests.{row_23, gives, gives_read}
 use Rattle.held_stores.specs.Answers.{answered}
 use Rattle.held_stores.specs.Held.{Held}
-use Rattle.peer_core.specs.Drives.{row_done, got_ask}
-use Rattle.peer_core.specs.Moves.{followed, left, turned}
-use Rattle.peer_core.specs.Syncs.{body_of, got_give, needs_node, own_node, reached, shown_node, taken_give}
-use Rattle.peer_core.specs.declared.state.State.{State as PeerState}
+use Rattle.peer_plan.specs.Drives.{row_done, got_ask}
+use Rattle.peer_state.specs.Moves.{followed, left, turned}
+use Rattle.peer_plan.specs.Syncs.{body_of, got_give, needs_node, own_node, reached, shown_node, taken_give}
+use Rattle.peer_state.specs.declared.state.State.{State as PeerState}
 use Rattle.peer_fact.specs.declared.fact.Fact.{Fact}
 use Rattle.phase_rows.specs.Orders.{is_below, is_same}
 use Rattle.register_model.specs.declared.note.Note.{Note}

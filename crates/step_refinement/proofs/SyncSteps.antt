@@ -30,11 +30,11 @@ use Rattle.leader_laws.proofs.Roles.{run_roles}
 use Rattle.leader_laws.specs.Roles.{RolesHold}
 use Rattle.leader_refinement.specs.Seen.{rank, owed_after}
 use Rattle.leader_words.specs.declared.out.Outgoing.{Outgoing}
-use Rattle.peer_core.specs.Moves.{electing, without_sync}
-use Rattle.peer_core.specs.Syncs.{saved, and_sends, with_sync, installed, accepted, accepted_in, synced, ended_with, gone_on, begun_sync, resumed_sync}
-use Rattle.peer_core.specs.declared.state.Phase.{Phase}
-use Rattle.peer_core.specs.declared.state.Phase.TheVariants as phases
-use Rattle.peer_core.specs.declared.state.State.{State as PeerState}
+use Rattle.peer_state.specs.Moves.{electing, without_sync}
+use Rattle.peer_plan.specs.Syncs.{saved, and_sends, with_sync, installed, accepted, accepted_in, synced, ended_with, gone_on, begun_sync, resumed_sync}
+use Rattle.peer_state.specs.declared.state.Phase.{Phase}
+use Rattle.peer_state.specs.declared.state.Phase.TheVariants as phases
+use Rattle.peer_state.specs.declared.state.State.{State as PeerState}
 use Rattle.peer_fact.specs.declared.fact.Change.TheVariants as changes
 use Rattle.peer_fact.specs.declared.fact.Fact.{Fact}
 use Rattle.phase_rows.specs.Peers.{joined}

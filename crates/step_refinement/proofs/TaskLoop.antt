@@ -2,12 +2,12 @@
 use Rattle.std.proofs.Common.{◌≡◌, inl, inr, ℕ, zero, suc, List, [], ◌∷◌, ◌++◌, refl, sym, subst}
 use Rattle.held_stores.specs.Held.{Held}
 use Rattle.leading.specs.Rules.{lead_row}
-use Rattle.peer_core.specs.Drives.{lead, task_done, driven}
-use Rattle.peer_core.specs.Moves.{leading}
-use Rattle.peer_core.specs.Turns.{StepsAlone}
-use Rattle.peer_core.specs.declared.state.Phase.{Phase}
-use Rattle.peer_core.specs.declared.state.Phase.TheVariants as phases
-use Rattle.peer_core.specs.declared.state.State.{State as PeerState}
+use Rattle.peer_plan.specs.Drives.{lead, task_done, driven}
+use Rattle.peer_state.specs.Moves.{leading}
+use Rattle.peer_plan.specs.Turns.{StepsAlone}
+use Rattle.peer_state.specs.declared.state.Phase.{Phase}
+use Rattle.peer_state.specs.declared.state.Phase.TheVariants as phases
+use Rattle.peer_state.specs.declared.state.State.{State as PeerState}
 use Rattle.register_model.specs.declared.note.Note.{Note}
 use Rattle.step_plans.specs.Plans.{Out, Rest}
 use Rattle.step_plans.specs.declared.tasks.Task.{Task}

@@ -45,8 +45,8 @@ use Rattle.leader_refinement.proofs.Numbers.{rank_back, rank_some}
 use Rattle.leader_refinement.specs.Follows.{Hash as Digests}
 use Rattle.leader_refinement.specs.Laws.{BackendSays, FoundSays, LookSays, LookNames}
 use Rattle.leader_refinement.specs.Seen.{rank, content_of, entry_rank, shown, owed_after}
-use Rattle.peer_core.specs.Owns.{digested, read, kept, fetched, held, looked_at, looked, found_at, found, entered, written, confirmed}
-use Rattle.peer_core.specs.declared.state.State.{State as PeerState}
+use Rattle.peer_plan.specs.Owns.{digested, read, kept, fetched, held, looked_at, looked, found_at, found, entered, written, confirmed}
+use Rattle.peer_state.specs.declared.state.State.{State as PeerState}
 use Rattle.register_model.specs.declared.note.Note.{Note}
 use Rattle.register_model.specs.declared.call.Call.{Call as BookCall}
 use Rattle.request_refinement.proofs.Looks.{looks_so}

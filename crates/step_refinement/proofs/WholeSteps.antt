@@ -9,18 +9,18 @@ use Rattle.held_stores.specs.Runs.{run}
 use Rattle.leader_refinement.proofs.Leaving.{run_leaves}
 use Rattle.leader_refinement.specs.Follows.{IsAtWork, Leaves}
 use Rattle.leader_refinement.specs.Seen.{ids_of, owed_after}
-use Rattle.peer_core.proofs.Fuel.{responded_left, concluded_left}
-use Rattle.peer_core.specs.Drives.{first, driven, most_turns, concluded, delivered, ticked, step_of}
-use Rattle.peer_core.specs.Moves.{leading}
-use Rattle.peer_core.specs.Rows.{leads}
-use Rattle.peer_core.specs.Turns.{HasFewCalls}
-use Rattle.peer_core.specs.declared.event.CallIn.{CallIn}
-use Rattle.peer_core.specs.declared.event.Event.{Event}
-use Rattle.peer_core.specs.declared.event.Event.TheVariants as events
-use Rattle.peer_core.specs.declared.state.Leadership.{Leadership}
-use Rattle.peer_core.specs.declared.state.Phase.{Phase}
-use Rattle.peer_core.specs.declared.state.Phase.TheVariants as phases
-use Rattle.peer_core.specs.declared.state.State.{State as PeerState}
+use Rattle.peer_plan.proofs.Fuel.{responded_left, concluded_left}
+use Rattle.peer_plan.specs.Drives.{first, driven, most_turns, concluded, delivered, ticked, step_of}
+use Rattle.peer_state.specs.Moves.{leading}
+use Rattle.peer_state.specs.Rows.{leads}
+use Rattle.peer_plan.specs.Turns.{HasFewCalls}
+use Rattle.peer_state.specs.declared.event.CallIn.{CallIn}
+use Rattle.peer_state.specs.declared.event.Event.{Event}
+use Rattle.peer_state.specs.declared.event.Event.TheVariants as events
+use Rattle.peer_state.specs.declared.state.Leadership.{Leadership}
+use Rattle.peer_state.specs.declared.state.Phase.{Phase}
+use Rattle.peer_state.specs.declared.state.Phase.TheVariants as phases
+use Rattle.peer_state.specs.declared.state.State.{State as PeerState}
 use Rattle.register_model.specs.declared.note.Note.{Note}
 use Rattle.step_plans.specs.Calls.{OpenTree}
 use Rattle.step_plans.specs.Plans.{Plan, Done, Ask as Asks, Out, nothing, Rest}

@@ -17,8 +17,8 @@ use Rattle.leader_refinement.specs.Laws.{EntryFits}
 use Rattle.leader_refinement.specs.Seen.{rank}
 use Rattle.leader_words.specs.declared.out.Outgoing.{Outgoing}
 use Rattle.leading.specs.declared.pending.Pending.TheVariants as tasks
-use Rattle.peer_core.specs.declared.state.Phase.{Phase}
-use Rattle.peer_core.specs.declared.state.Phase.TheVariants as phases
+use Rattle.peer_state.specs.declared.state.Phase.{Phase}
+use Rattle.peer_state.specs.declared.state.Phase.TheVariants as phases
 use Rattle.peer_fact.specs.declared.fact.Fact.{Fact}
 use Rattle.sync_laws.specs.Facts.{Lines}
 use Rattle.wire_frames.specs.declared.frame.Frame.{Frame}

@@ -7,8 +7,8 @@ use Rattle.leader_words.specs.declared.out.Outgoing.{Outgoing}
 use Rattle.leader_laws.specs.Tables.{Owed}
 use Rattle.leader_laws.specs.Roles.{Role, Follows, Starts, Leads, Said, Reads, Entry, Checks, Stands, Puts, Acks, Sent}
 use Rattle.leader_refinement.specs.Seen.{rank, content_of, entry_rank, shown, table_of}
-use Rattle.peer_core.specs.declared.state.Phase.{Phase}
-use Rattle.peer_core.specs.declared.state.Phase.TheVariants as phases
+use Rattle.peer_state.specs.declared.state.Phase.{Phase}
+use Rattle.peer_state.specs.declared.state.Phase.TheVariants as phases
 use Rattle.wire_frames.specs.declared.message.Message.{Message}
 use Rattle.wire_frames.specs.declared.message.Message.TheVariants as messages
 

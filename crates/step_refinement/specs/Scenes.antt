@@ -16,9 +16,9 @@ use Rattle.leader_laws.specs.Roles.{Role, Follows, Said, Sent, RolesHold}
 use Rattle.leader_laws.specs.Tables.{Ghosts}
 use Rattle.leader_refinement.specs.Seen.{owed_after}
 use Rattle.leader_words.specs.declared.out.Outgoing.{Outgoing}
-use Rattle.peer_core.specs.declared.event.Event.{Event}
-use Rattle.peer_core.specs.declared.event.Event.TheVariants as events
-use Rattle.peer_core.specs.declared.state.State.{State as PeerState}
+use Rattle.peer_state.specs.declared.event.Event.{Event}
+use Rattle.peer_state.specs.declared.event.Event.TheVariants as events
+use Rattle.peer_state.specs.declared.state.State.{State as PeerState}
 use Rattle.register_model.specs.declared.note.Note.{Note}
 use Rattle.step_plans.specs.Plans.{Ending, Finished, Stopped, Out}
 use Rattle.wire_frames.specs.Messages.{Obeys}

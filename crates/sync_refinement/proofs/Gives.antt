@@ -9,7 +9,7 @@ use Rattle.exchange.specs.Gives.{given}
 use Rattle.exchange.specs.declared.question.Question.{Question}
 use Rattle.leader_refinement.proofs.Numbers.{rank_some}
 use Rattle.leader_refinement.specs.Seen.{rank}
-use Rattle.peer_core.specs.Syncs.{body_of}
+use Rattle.peer_plan.specs.Syncs.{body_of}
 use Rattle.step_plans.specs.declared.walked.Walked.{Walked}
 use Rattle.step_plans.specs.declared.walked.Walked.TheVariants.{Reached, Broken}
 use Rattle.sync_laws.specs.Facts.{Lines}

@@ -9,7 +9,7 @@ use Rattle.ens_base.specs.declared.entry.Entry.{Entry}
 use Rattle.ens_base.specs.declared.epoch.Epoch.{Epoch}
 use Rattle.exchange.specs.declared.question.Question.{Question}
 use Rattle.leader_refinement.specs.Seen.{rank}
-use Rattle.peer_core.specs.Syncs.{body_of}
+use Rattle.peer_plan.specs.Syncs.{body_of}
 use Rattle.peer_fact.specs.declared.fact.Fact.{Fact}
 use Rattle.request_refinement.specs.Replies.{MapSays}
 use Rattle.running_sync.specs.Rows.{row_start, row_resume, row_take}

@@ -2,7 +2,7 @@
 use Rattle.std.proofs.Common.{◌≡◌, ◌<◌, ◌≤◌, ◌+◌, ◌-◌, ℕ, Some, None, List, [], ◌++◌, refl, ap, subst, ◌∙◌, sym, arith}
 use Rattle.std.specs.Prelude.{Bool, slice_get}
 use Rattle.network.specs.Mail.{settled, is_among, oldest, most_messages}
-use Rattle.peer_core.specs.declared.event.Event.TheVariants as events
+use Rattle.peer_state.specs.declared.event.Event.TheVariants as events
 use Rattle.wire_frames.specs.declared.frame.Frame.{Frame}
 use Rattle.wire_frames.specs.declared.message.Message.{Message}
 use Rattle.held_stores.proofs.Taken.{hashed_none, hashed_all}

@@ -4,7 +4,7 @@ use Rattle.std.proofs.lemmas.List.{map-set, length-map, length-set}
 use Rattle.std.proofs.lemmas.Option.{slice_get-map, same_Some, none-some}
 use Rattle.std.specs.Prelude.{option_map}
 use Rattle.network.specs.Mail.{most_messages}
-use Rattle.peer_core.specs.declared.event.Event.{Event}
+use Rattle.peer_state.specs.declared.event.Event.{Event}
 use Rattle.register_model.specs.declared.note.Note.{Note}
 use Rattle.step_plans.specs.Plans.{Out}
 use Rattle.world_spec.proofs.Growth.{length_posted_all, changed_hashed}

@@ -7,15 +7,15 @@ use Rattle.step_plans.specs.Steps.{HasFinished, HasStopped}
 use Rattle.step_plans.specs.declared.error.PeerError.{PeerError}
 use Rattle.step_plans.specs.declared.error.PeerError.TheVariants as errors
 use Rattle.step_plans.specs.declared.outbox.Outbox.{Outbox}
-use Rattle.peer_core.specs.Drives.{MayCome, step_of}
-use Rattle.peer_core.specs.Kept.{AllMayGo, MaySend}
-use Rattle.peer_core.specs.Starts.{start_of}
-use Rattle.peer_core.specs.declared.state.State.{State}
+use Rattle.peer_plan.specs.Drives.{MayCome, step_of}
+use Rattle.peer_plan.specs.Kept.{AllMayGo, MaySend}
+use Rattle.peer_plan.specs.Starts.{start_of}
+use Rattle.peer_state.specs.declared.state.State.{State}
 use Rattle.step_plans.specs.Calls.{Call, AnswerOf}
 use Rattle.step_plans.specs.Plans.{Plan, Out, Finished, Stopped, Runs, nothing}
 use Rattle.std.proofs.lemmas.Option.{none-some, same_Some}
 use Rattle.std.proofs.lemmas.List.Elements.{All-nil}
-use Rattle.peer_core.specs.declared.event.Event.{Event}
+use Rattle.peer_state.specs.declared.event.Event.{Event}
 use Rattle.world_spec.proofs.Determined.{step_taken, step_stopped, start_taken, start_stopped}
 use Rattle.held_stores.proofs.Taken.{hashed_none}
 use Rattle.held_stores.specs.Held.{Account, account, HeldStores}

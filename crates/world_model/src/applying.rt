@@ -2,7 +2,7 @@ ghost use Rattle.std.specs.Prelude.{◌≡◌, length};
 ghost use Rattle.ens_base.specs.Lists.{is_in};
 ghost use Rattle.ens_base.specs.View.{IsPeer};
 ghost use Rattle.held_stores.specs.Held.{account};
-ghost use Rattle.peer_core.specs.declared.event.Event.TheVariants.{Call};
+ghost use Rattle.peer_state.specs.declared.event.Event.TheVariants.{Call};
 ghost use Rattle.schedule_text.specs.Spelling.{MayStand};
 ghost use Rattle.world_spec.specs.Lines.{applied, call_of, effect, everyone, set_of, stores_effect};
 ghost use Rattle.world_spec.specs.Runs.{stepped};
@@ -117,7 +117,7 @@ impl World {
                 self.stop(alloc, *peer);
                 Ok(())
             }
-            ScheduleEvent::Start { peer } => self.start(rt, alloc, hasher, *peer),
+            ScheduleEvent::Start { peer } => self.start(alloc, hasher, *peer),
             _ => self.effect_on_stores(alloc, event),
         }
     }

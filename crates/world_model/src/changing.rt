@@ -11,7 +11,6 @@ use ens_base::{Bytes, Key, PeerId};
 use ens_hashing::Hasher16;
 use schedule_text::{StoreName, Survivor};
 use std::alloc::Global;
-use std::thread::Threads;
 
 impl World {
     /// Stops `peer`.
@@ -23,9 +22,8 @@ impl World {
     }
 
     /// Starts `peer` if it is down.
-    pub(crate) fn start<H: Hasher16, R: Threads + Sync>(
+    pub(crate) fn start<H: Hasher16>(
         &mut self,
-        rt: &R,
         alloc: Global,
         hasher: &mut H,
         peer: PeerId,
@@ -35,7 +33,7 @@ impl World {
         ensures begins { Begins self.old self.new }
     {
         let opening = self.opening;
-        self.peers[(peer.0 - 1) as usize].start(rt, alloc, opening, hasher)
+        self.peers[(peer.0 - 1) as usize].start(alloc, opening, hasher)
     }
 
     /// Replaces the bytes of an object in the backend of `peer`, or removes the object.

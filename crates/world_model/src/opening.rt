@@ -17,11 +17,9 @@ use history_scribe::Scribe;
 use network::Network;
 use schedule_text::Schedule;
 use std::alloc::Global;
-use std::thread::Threads;
 
 /// Starts the peer `me` on empty stores.
-fn started_peer<H: Hasher16, R: Threads + Sync>(
-    rt: &R,
+fn started_peer<H: Hasher16>(
     alloc: Global,
     me: PeerId,
     view: View,
@@ -33,13 +31,12 @@ fn started_peer<H: Hasher16, R: Threads + Sync>(
     ensures error { IfErr result (IsCutOff (opening_strings view) (account H.kept H.clashes H.fulls hasher.old) (account H.kept H.clashes H.fulls hasher.new)) }
 {
     let mut peer = WorldPeer::empty(alloc, me);
-    peer.start(rt, alloc, view, hasher)?;
+    peer.start(alloc, view, hasher)?;
     Ok(peer)
 }
 
 /// Starts the peers 1 to `count` on empty stores.
-fn started_peers<H: Hasher16, R: Threads + Sync>(
-    rt: &R,
+fn started_peers<H: Hasher16>(
     alloc: Global,
     count: u32,
     view: View,
@@ -54,7 +51,7 @@ fn started_peers<H: Hasher16, R: Threads + Sync>(
 {
     let mut peers = Vec::new(alloc);
     for below in 0..count {
-        let peer = started_peer(rt, alloc, PeerId(below + 1), view, hasher)?;
+        let peer = started_peer(alloc, PeerId(below + 1), view, hasher)?;
         peers.push(peer)?;
     }
     Ok(peers)
@@ -69,8 +66,7 @@ impl World {
     ///
     /// `Memory` when out of memory, `Clash` or `BookFull` if the hasher rejected one of these strings
     /// and counted that in this call, after it took those before, and no other error.
-    pub fn open<H: Hasher16, R: Threads + Sync>(
-        rt: &R,
+    pub fn open<H: Hasher16>(
         alloc: Global,
         schedule: &Schedule,
         hasher: &mut H,
@@ -82,7 +78,7 @@ impl World {
     {
         Ok(World {
             opening: schedule.view,
-            peers: started_peers(rt, alloc, schedule.peers, schedule.view, hasher)?,
+            peers: started_peers(alloc, schedule.peers, schedule.view, hasher)?,
             network: Network::new(alloc)?,
             printed: Vec::new(alloc),
             scribe: Scribe::new(alloc),

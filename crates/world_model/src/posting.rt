@@ -2,7 +2,7 @@ ghost use Rattle.std.specs.Prelude.{◌≡◌, ◌⊎◌, ◌<◌, ◌≤◌, �
 ghost use Rattle.ens_base.specs.View.{IsPeer};
 ghost use Rattle.held_stores.specs.Held.{StartsWith};
 ghost use Rattle.network.specs.Mail.{most_messages};
-ghost use Rattle.peer_core.specs.Kept.{MaySend};
+ghost use Rattle.peer_plan.specs.Kept.{MaySend};
 ghost use Rattle.world_spec.specs.Runs.{frame_from, posted_all};
 
 use crate::error::WorldError;

@@ -35,7 +35,7 @@ impl World {
         ensures reaches { RunReaches (account H.kept H.clashes H.fulls hasher.old) (run_of_schedule schedule.now.peers schedule.now.view schedule.now.events) result (account H.kept H.clashes H.fulls hasher.new) }
         ensures apart { KeepsNothing (H.kept hasher.old) → OnOk result (HasNoClash (run_of_schedule schedule.now.peers schedule.now.view schedule.now.events).hashed) }
     {
-        let mut world = World::open(rt, alloc, schedule, hasher)?;
+        let mut world = World::open(alloc, schedule, hasher)?;
         let events = schedule.events.as_slice();
         for place in 0..events.len() {
             world.apply(rt, alloc, &events[place], hasher)?;

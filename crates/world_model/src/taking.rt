@@ -2,8 +2,8 @@ ghost use Rattle.std.specs.Prelude.{◌≡◌, IfOk, IfErr, OnOk};
 ghost use Rattle.ens_base.specs.View.{IsPeer};
 ghost use Rattle.held_stores.specs.Held.{account, empty_stores as no_stores};
 ghost use Rattle.step_plans.specs.Outboxes.{out_of};
-ghost use Rattle.peer_core.specs.Drives.{MayCome};
-ghost use Rattle.peer_core.specs.Kept.{AllMayGo};
+ghost use Rattle.peer_plan.specs.Drives.{MayCome};
+ghost use Rattle.peer_plan.specs.Kept.{AllMayGo};
 ghost use Rattle.world_spec.specs.Nodes.{hashed_by_start, stopped, taken, Down};
 ghost use Rattle.world_spec.specs.Steps.{ComesTo, StartsAs};
 ghost use Rattle.world_model.specs.Peers.{node_of};
@@ -55,9 +55,8 @@ impl WorldPeer {
 
     /// Starts the peer if it is down. If the start is refused, the peer stays down.
     #[inline(never)]
-    pub(crate) fn start<H: Hasher16, R: Threads + Sync>(
+    pub(crate) fn start<H: Hasher16>(
         &mut self,
-        rt: &R,
         alloc: Global,
         opening: View,
         hasher: &mut H,
@@ -70,7 +69,7 @@ impl WorldPeer {
             return Ok(());
         };
         let stores = std::mem::replace(held, empty_stores(alloc));
-        match Peer::start(rt, alloc, self.me, opening, stores, hasher) {
+        match Peer::start(alloc, self.me, opening, stores, hasher) {
             Ok(peer) => {
                 self.node = MemNode::Up(peer);
                 Ok(())

@@ -4,8 +4,8 @@ use Rattle.std.specs.Prelude.{slice_get}
 use Rattle.std.proofs.lemmas.List.{length_push}
 use Rattle.network.specs.Mail.{Mail, no_mail, posted, settled, goes, is_among, oldest, most_messages, IsClear, IsMail}
 use Rattle.network.proofs.MailLaws.{oldest_is_sent, oldest_is_beyond, clear_at_first, clear_past_oldest, clear_posted, clear_settled, clear_lost, is_mail_at_first, is_mail_posted, is_mail_settled, is_mail_lost}
-use Rattle.peer_core.specs.declared.event.Event.{Event}
-use Rattle.peer_core.specs.declared.event.Event.TheVariants as events
+use Rattle.peer_state.specs.declared.event.Event.{Event}
+use Rattle.peer_state.specs.declared.event.Event.TheVariants as events
 use Rattle.schedule_text.specs.declared.event.ScheduleEvent.{ScheduleEvent}
 use Rattle.schedule_text.specs.declared.event.ScheduleEvent.TheVariants.{Call, Tick, Deliver, Pass, Lose, Calm, CalmAmong, Change, Stop, Start, Spoil, Damage, Inner, Revert, Fail}
 use Rattle.wire_frames.specs.declared.frame.Frame.{Frame}

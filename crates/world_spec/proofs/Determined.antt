@@ -6,10 +6,10 @@ use Rattle.held_stores.proofs.Taken.{hashed_none}
 use Rattle.held_stores.specs.Held.{Held, HeldStores, Account, account, HasHashed}
 use Rattle.held_stores.specs.Laws.{HeldDo, HeldRefuse, IsUnplanned, IsCutOff, IsRun, held_with, strings_by}
 use Rattle.held_stores.specs.Runs.{Ended}
-use Rattle.peer_core.specs.Drives.{step_of}
-use Rattle.peer_core.specs.Starts.{start_of}
-use Rattle.peer_core.specs.declared.event.Event.{Event}
-use Rattle.peer_core.specs.declared.state.State.{State}
+use Rattle.peer_plan.specs.Drives.{step_of}
+use Rattle.peer_plan.specs.Starts.{start_of}
+use Rattle.peer_state.specs.declared.event.Event.{Event}
+use Rattle.peer_state.specs.declared.state.State.{State}
 use Rattle.step_plans.specs.Plans.{Plan, Out, nothing, Ending, Finished, Stopped, Runs}
 use Rattle.step_plans.specs.declared.error.PeerError.{PeerError}
 use Rattle.step_plans.specs.declared.error.PeerError.TheVariants.{StoreFault}

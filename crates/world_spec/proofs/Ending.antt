@@ -7,11 +7,11 @@ use Rattle.held_stores.specs.Held.{Held, HeldStores, unless_failing}
 use Rattle.held_stores.specs.Runs.{Ended, run, either}
 use Rattle.held_stores.specs.Walks.{End, Came, Broke, Failed, Walk, walk, nodes_failed}
 use Rattle.peer_fact.specs.Facts.{opening_fact}
-use Rattle.peer_core.proofs.Damage.{IsInside, get_inside, insert_inside, node_inside}
-use Rattle.peer_core.proofs.Whole.{IsWhole, scan_whole, rebuild_whole}
-use Rattle.peer_core.specs.Kept.{IsStepCall, IsSound, IsInTree, Reaches}
-use Rattle.peer_core.specs.Starts.{first_state}
-use Rattle.peer_core.specs.declared.state.State.{State}
+use Rattle.peer_plan.proofs.Inside.{IsInside, get_inside, insert_inside, node_inside}
+use Rattle.peer_plan.proofs.Whole.{IsWhole, scan_whole, rebuild_whole}
+use Rattle.peer_plan.specs.Kept.{IsStepCall, IsSound, IsInTree, Reaches}
+use Rattle.peer_plan.specs.Starts.{first_state}
+use Rattle.peer_state.specs.declared.state.State.{State}
 use Rattle.step_plans.specs.Calls.{Call, Load, Save, FreshTree, OpenTree, Find, Enter, ScanTree, ReadNode, Install, Fetch, Put, Hash, AnswerOf}
 use Rattle.step_plans.specs.Plans.{Plan, Done, Say, Ask, Out, Ending, Finished, Stopped, Follows}
 use Rattle.step_plans.specs.declared.error.PeerError.{PeerError}

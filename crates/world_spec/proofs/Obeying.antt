@@ -10,13 +10,13 @@ use Rattle.held_stores.specs.Runs.{Ended}
 use Rattle.leader_words.specs.declared.out.Outgoing.{Outgoing}
 use Rattle.network.specs.Mail.{Mail, MayBeSent, posted, settled, goes, is_among, oldest, most_messages}
 use Rattle.peer_fact.specs.declared.fact.Fact.{Fact}
-use Rattle.peer_core.proofs.Passing.{steps_keep}
-use Rattle.peer_core.specs.Drives.{step_of, MayCome}
-use Rattle.peer_core.specs.Kept.{IsOwn, MaySend, AllMayGo, Reaches}
-use Rattle.peer_core.specs.Starts.{start_of, opened}
-use Rattle.peer_core.specs.declared.event.Event.{Event}
-use Rattle.peer_core.specs.declared.event.Event.TheVariants as events
-use Rattle.peer_core.specs.declared.state.State.{State}
+use Rattle.peer_plan.proofs.Passing.{steps_keep}
+use Rattle.peer_plan.specs.Drives.{step_of, MayCome}
+use Rattle.peer_plan.specs.Kept.{IsOwn, MaySend, AllMayGo, Reaches}
+use Rattle.peer_plan.specs.Starts.{start_of, opened}
+use Rattle.peer_state.specs.declared.event.Event.{Event}
+use Rattle.peer_state.specs.declared.event.Event.TheVariants as events
+use Rattle.peer_state.specs.declared.state.State.{State}
 use Rattle.step_plans.specs.Plans.{Plan, Ending, Finished, Stopped}
 use Rattle.register_model.specs.declared.note.Note.{Note}
 use Rattle.schedule_text.specs.Spelling.{MayStand, AllMayStand}

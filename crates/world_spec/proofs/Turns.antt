@@ -2,7 +2,7 @@
 use Rattle.std.proofs.Common.{◌≡◌, ◌<◌, ◌+◌, ◌-◌, ℕ, suc, None, Some, List, refl, ap, ◌∙◌, arith}
 use Rattle.std.specs.Prelude.{Bool}
 use Rattle.network.specs.Mail.{is_among, oldest}
-use Rattle.peer_core.specs.declared.event.Event.TheVariants as events
+use Rattle.peer_state.specs.declared.event.Event.TheVariants as events
 use Rattle.world_spec.specs.Runs.{Run, stepped, ticked, delivered, going_on, calmed}
 
 pub no_tick : (peer : ℕ) (w : Run) → ticked peer 0 w ≡ w

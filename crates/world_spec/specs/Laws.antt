@@ -2,7 +2,7 @@
 use Rattle.std.specs.Prelude.{◌≡◌, None}
 use Rattle.held_stores.specs.Held.{HeldStores}
 use Rattle.held_stores.specs.Runs.{Ended}
-use Rattle.peer_core.specs.declared.state.State.{State}
+use Rattle.peer_state.specs.declared.state.State.{State}
 use Rattle.step_plans.specs.Plans.{Out, Finished}
 
 -- no write of these stores is to fail

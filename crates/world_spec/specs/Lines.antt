@@ -3,8 +3,8 @@ use Rattle.std.specs.Prelude.{ℕ, ◌-◌, Bool, true, List, [], ◌∷◌, ◌
 use Rattle.ens_base.specs.Lists.{is_in}
 use Rattle.ens_base.specs.declared.command.Command.{Command}
 use Rattle.network.specs.Mail.{lost, goes, oldest, most_messages}
-use Rattle.peer_core.specs.declared.event.CallIn.{CallIn}
-use Rattle.peer_core.specs.declared.event.Event.TheVariants as events
+use Rattle.peer_state.specs.declared.event.CallIn.{CallIn}
+use Rattle.peer_state.specs.declared.event.Event.TheVariants as events
 use Rattle.phase_rows.specs.Peers.{those}
 use Rattle.schedule_text.specs.declared.event.ScheduleEvent.{ScheduleEvent}
 use Rattle.schedule_text.specs.declared.event.ScheduleEvent.TheVariants.{Call, Tick, Deliver, Pass, Lose, Calm, CalmAmong, Change, Stop, Start, Spoil, Damage, Inner, Revert, Fail}

@@ -3,10 +3,10 @@ use Rattle.std.specs.Prelude.{ℕ, List, []}
 use Rattle.held_stores.specs.Held.{Held, HeldStores, empty_stores}
 use Rattle.held_stores.specs.Laws.{held_with}
 use Rattle.held_stores.specs.Runs.{Ended, run}
-use Rattle.peer_core.specs.Drives.{step_of}
-use Rattle.peer_core.specs.Starts.{start_of}
-use Rattle.peer_core.specs.declared.event.Event.{Event}
-use Rattle.peer_core.specs.declared.state.State.{State}
+use Rattle.peer_plan.specs.Drives.{step_of}
+use Rattle.peer_plan.specs.Starts.{start_of}
+use Rattle.peer_state.specs.declared.event.Event.{Event}
+use Rattle.peer_state.specs.declared.state.State.{State}
 use Rattle.step_plans.specs.Plans.{Plan, Out, nothing, Ending, Finished, Stopped}
 use Rattle.register_model.specs.declared.note.Note.{Note}
 

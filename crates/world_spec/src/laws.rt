@@ -2,10 +2,10 @@ ghost use Rattle.std.specs.Prelude.{◌≡◌, ◌≤◌, ◌++◌, [], ◌∷�
 ghost use Rattle.ens_base.specs.View.{IsPeer};
 ghost use Rattle.held_stores.specs.Held.{HeldStores};
 ghost use Rattle.network.specs.Mail.{MayBeSent};
-ghost use Rattle.peer_core.specs.Ages.{IsYoung};
-ghost use Rattle.peer_core.specs.Drives.{step_of, MayCome};
-ghost use Rattle.peer_core.specs.declared.event.Event.{Event};
-ghost use Rattle.peer_core.specs.declared.state.State.{State};
+ghost use Rattle.peer_state.specs.Ages.{IsYoung};
+ghost use Rattle.peer_plan.specs.Drives.{step_of, MayCome};
+ghost use Rattle.peer_state.specs.declared.event.Event.{Event};
+ghost use Rattle.peer_state.specs.declared.state.State.{State};
 ghost use Rattle.schedule_text.specs.Spelling.{AllMayStand};
 ghost use Rattle.schedule_text.specs.declared.event.ScheduleEvent.{ScheduleEvent};
 ghost use Rattle.schedule_text.specs.declared.event.ScheduleEvent.TheVariants.{Calm, CalmAmong};

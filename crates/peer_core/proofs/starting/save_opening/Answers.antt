@@ -1,6 +1,6 @@
 use Rattle.std.proofs.Common.{refl, inr, ap}
 use Rattle.step_plans.specs.Plans.{Finished, nothing}
-use Rattle.peer_core.specs.declared.state.State.{State}
+use Rattle.peer_state.specs.declared.state.State.{State}
 use Rattle.peer_core.proofs.starting.save_opening.Goals as goal
 
 pub returns-in-Ok-clause-starts : goal.returns-in-Ok-clause-starts

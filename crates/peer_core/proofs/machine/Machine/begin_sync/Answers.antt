@@ -4,7 +4,7 @@ use Rattle.step_plans.specs.Outboxes.{out_of}
 use Rattle.step_plans.specs.Plans.{Runs}
 use Rattle.step_plans.proofs.Parts.{did_after}
 use Rattle.peer_core.specs.Outcomes.{spot}
-use Rattle.peer_core.specs.Syncs.{begun_sync, gone_on}
+use Rattle.peer_plan.specs.Syncs.{begun_sync, gone_on}
 use Rattle.peer_core.proofs.machine.Machine.begin_sync.Goals as goal
 
 pub returns-clause-acts : goal.returns-clause-acts

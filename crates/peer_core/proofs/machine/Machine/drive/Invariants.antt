@@ -1,10 +1,10 @@
 use Rattle.std.proofs.Common.{◌≡◌, ◌-◌, List, []}
 use Rattle.register_model.specs.declared.note.Note.{Note}
-use Rattle.peer_core.specs.Drives.{driven}
+use Rattle.peer_plan.specs.Drives.{driven}
 use Rattle.step_plans.specs.Outboxes.{Grows, out_of}
 use Rattle.step_plans.specs.Plans.{Rest, Ending, Runs}
 use Rattle.step_plans.specs.declared.tasks.Task.{Task}
-use Rattle.peer_core.specs.declared.state.State.{State}
+use Rattle.peer_state.specs.declared.state.State.{State}
 use Rattle.peer_core.proofs.machine.Machine.drive.Given as goal
 
 -- running the tasks that are left from this point completes the whole loop, whatever follows

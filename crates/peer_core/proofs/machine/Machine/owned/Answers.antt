@@ -1,5 +1,5 @@
 use Rattle.std.proofs.Common.{sym, subst}
-use Rattle.peer_core.specs.Drives.{owned}
+use Rattle.peer_plan.specs.Drives.{owned}
 use Rattle.peer_core.specs.Outcomes.{Acts}
 use Rattle.peer_core.proofs.machine.Machine.owned.Goals as goal
 

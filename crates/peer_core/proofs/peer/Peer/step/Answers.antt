@@ -4,8 +4,8 @@ use Rattle.std.proofs.lemmas.Bool.{true≢false}
 use Rattle.peer_core.specs.Stores.{stores_do, stores_refuse}
 use Rattle.peer_core.proofs.Damage.{stores_sound}
 use Rattle.peer_core.proofs.Halts.{causes, only, not_halted}
-use Rattle.peer_core.proofs.Ends.{on_ok}
-use Rattle.peer_core.proofs.Passing.{all_may_go, still_own}
+use Rattle.peer_plan.proofs.Ends.{on_ok}
+use Rattle.peer_plan.proofs.Passing.{all_may_go, still_own}
 use Rattle.peer_core.proofs.peer.Peer.step.Goals as goal
 
 pub returns-clause-causes : goal.returns-clause-causes

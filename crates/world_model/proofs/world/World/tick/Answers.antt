@@ -1,4 +1,4 @@
-use Rattle.peer_core.specs.declared.event.Event.TheVariants as events
+use Rattle.peer_state.specs.declared.event.Event.TheVariants as events
 use Rattle.world_spec.specs.Runs.{stepped, ticked}
 use Rattle.world_model.specs.Worlds.{run_of}
 use Rattle.world_model.proofs.Loops.{ticking_first, ticking_next, ticking_longer, ticking_last}

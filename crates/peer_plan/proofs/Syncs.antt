@@ -1,0 +1,19 @@
+-- A sync that goes on does not ask which sync ran before.
+use Rattle.std.proofs.Common.{◌≡◌, ℕ, List, refl}
+use Rattle.leader_words.specs.declared.out.Outgoing.{Outgoing}
+use Rattle.running_sync.specs.Running.{Running}
+use Rattle.step_plans.specs.Plans.{Out, Rest}
+use Rattle.step_plans.specs.declared.tasks.Task.{Task}
+use Rattle.sync_rule.specs.declared.sync.Outcome.{Outcome}
+use Rattle.sync_rule.specs.declared.sync.Outcome.TheVariants.{Pending, Trusted}
+use Rattle.sync_rule.specs.Syncs.{outcome_of}
+use Rattle.peer_state.specs.Moves.{without_sync}
+use Rattle.peer_plan.specs.Syncs.{and_sends, ended_with, gone_on}
+use Rattle.peer_state.specs.declared.state.State.{State}
+
+ended_without : (me : ℕ) (r : Running) (outcome : Outcome) (x : State) (out : Out) (next : Rest State (List Task)) → ended_with me r outcome (without_sync x) out next ≡ ended_with me r outcome x out next
+ended_without me r Pending x out next = refl
+ended_without me r (Trusted entries) x out next = refl
+
+pub gone_on_without : (me : ℕ) (r : Running × List Outgoing) (x : State) (out : Out) (next : Rest State (List Task)) → gone_on me r (without_sync x) out next ≡ gone_on me r x out next
+gone_on_without me r x out next = ended_without me r.0 (outcome_of r.0.sync) x (and_sends out r.1) next

@@ -1,0 +1,148 @@
+-- A sync in a peer: it begins, resumes, takes the answers of its sources, and ends.
+use Rattle.std.specs.Prelude.{ℕ, Bool, true, false, ◌&&◌, not, nat_le, ◌==◌, if◌then◌else◌, List, [], ◌∷◌, ◌++◌, Option, Some, None}
+use Rattle.election.specs.declared.election.Election.{Election}
+use Rattle.election.specs.declared.election.Election.TheVariants.{Preparing, Starting}
+use Rattle.ens_base.specs.declared.entry.Entry.{Entry}
+use Rattle.exchange.specs.Gives.{given}
+use Rattle.exchange.specs.declared.question.Question.{Question}
+use Rattle.leader_words.specs.declared.out.Outgoing.{Outgoing}
+use Rattle.peer_fact.specs.declared.fact.Fact.{Fact}
+use Rattle.phase_rows.specs.Peers.{joined}
+use Rattle.running_sync.specs.Rows.{row_start, row_resume, row_take, needs_own_node}
+use Rattle.running_sync.specs.Running.{Running}
+use Rattle.running_sync.specs.declared.asking.Give.{Give}
+use Rattle.step_plans.specs.Calls.{ScanTree, ReadNode, Install, Save}
+use Rattle.step_plans.specs.Plans.{Out, Part, asked}
+use Rattle.step_plans.specs.declared.tasks.Task.{Task}
+use Rattle.step_plans.specs.declared.tasks.Task.TheVariants as tasks
+use Rattle.step_plans.specs.declared.walked.Walked.{Walked}
+use Rattle.step_plans.specs.declared.walked.Walked.TheVariants.{Reached, Broken}
+use Rattle.sync_rule.specs.Syncs.{needs_build, outcome_of}
+use Rattle.sync_rule.specs.declared.sync.Outcome.{Outcome}
+use Rattle.sync_rule.specs.declared.sync.Outcome.TheVariants.{Pending, Trusted}
+use Rattle.tree_node.specs.declared.body.TreeBody.{TreeBody}
+use Rattle.tree_node.specs.declared.body.TreeBody.TheVariants.{Damaged}
+use Rattle.tree_node.specs.declared.position.Position.{Position}
+use Rattle.wire_frames.specs.declared.message.Message.TheVariants.{Accepted}
+use Rattle.wire_frames.specs.declared.phase.Then.{Then}
+use Rattle.wire_frames.specs.declared.phase.Then.TheVariants as thens
+use Rattle.step_plans.specs.Tasks.{named}
+use Rattle.peer_state.specs.Moves.{electing, without_sync}
+use Rattle.peer_state.specs.declared.state.Phase.{Phase}
+use Rattle.peer_state.specs.declared.state.Phase.TheVariants as phases
+use Rattle.peer_state.specs.declared.state.State.{State}
+
+-- the fact, if there is one, is saved, and becomes the saved fact
+abbrev pub saved : Option Fact → Part State (Unit {0})
+saved None x out next = next tt x out
+saved (Some fact) x out next = asked (Save fact) x out (λ u y o. next tt (record y { fact = fact }) o)
+
+-- these messages are added to the output
+abbrev pub and_sends : Out → List Outgoing → Out
+and_sends out more = record out { sends = out.sends ++ more }
+
+-- this sync runs
+abbrev pub with_sync : Running → State → State
+with_sync r x = record x { sync = Some r }
+
+-- ## The end of a sync
+
+-- the tree is built from these entries and installed, if that is needed
+abbrev pub installed : Bool → List Entry → Part State (Unit {0})
+installed true entries x out next = asked (Install entries) x out next
+installed false entries x out next = next tt x out
+
+-- the peer that leads the epoch of this fact hears that `me` accepted it, if it is another peer
+abbrev pub accepted : ℕ → Fact → List Outgoing
+accepted me fact =
+    if nat_le 1 fact.leader && nat_le fact.leader 31 && not (fact.leader == me) then record { to = fact.leader; message = Accepted fact.epoch 1 } ∷ []
+    else []
+
+-- a peer that is starting an epoch counts itself among those that accepted it, and rule 14 runs
+abbrev pub accepted_own : ℕ → Election → Part State (List Task)
+accepted_own me (Starting new accepts age) x out next = next (tasks.Phase 14 ∷ []) (electing (Starting new (joined me accepts) age) x) out
+accepted_own me (Preparing base promises asked age) x out next = next [] x out
+
+-- the fact of a sync was accepted: a starting peer counts itself, and a follower sends its acceptance
+abbrev pub accepted_in : ℕ → Fact → Phase → Part State (List Task)
+accepted_in me fact (phases.Electing e) x out next = accepted_own me e x out next
+accepted_in me fact (phases.Following f) x out next = next [] x (and_sends out (accepted me fact))
+accepted_in me fact (phases.Probing p) x out next = next [] x out
+accepted_in me fact (phases.Leading l) x out next = next [] x out
+
+-- A sync ends with these merged entries: the tree is built from them if needed, the fact of the sync is
+-- saved and accepted, and the tree is trusted.
+abbrev pub synced : ℕ → Running → List Entry → Part State (List Task)
+synced me r entries x out next =
+    installed (needs_build r.sync.scan entries) entries (without_sync x) out
+    (λ u y o. saved (Some r.fact) y o (λ v z p. accepted_in me r.fact z.phase (record z { trusted = true }) p next))
+
+-- a sync runs on, or ends if its sources suffice
+abbrev pub ended_with : ℕ → Running → Outcome → Part State (List Task)
+ended_with me r Pending x out next = next [] (with_sync r x) out
+ended_with me r (Trusted entries) x out next = synced me r entries x out next
+
+-- ## What a sync does
+
+-- a sync sends these messages; it runs on, or ends if its sources suffice
+abbrev pub gone_on : ℕ → Running × List Outgoing → Part State (List Task)
+gone_on me r x out next = ended_with me r.0 (outcome_of r.0.sync) x (and_sends out r.1) next
+
+-- a sync on this fact begins, after a scan of the own tree
+abbrev pub begun_sync : ℕ → Fact → Part State (List Task)
+begun_sync me fact x out next = asked ScanTree x out (λ scan y o. gone_on me (row_start fact me y.trusted scan) y o next)
+
+-- the sync that runs, if one does, asks again
+abbrev pub resumed_sync : Option Running → Part State (List Task)
+resumed_sync None x out next = next [] x out
+resumed_sync (Some r) x out next = next [] (with_sync (row_resume r).0 x) (and_sends out (row_resume r).1)
+
+-- what follows the message of a row: a sync begins or resumes, or the named rule runs next
+abbrev pub followed_on : ℕ → Then → Part State (List Task)
+followed_on me (thens.SyncOn fact) x out next = begun_sync me fact x out next
+followed_on me thens.Resume x out next = resumed_sync x.sync x out next
+followed_on me (thens.Rule n) x out next = next (named (thens.Rule n)) x out
+followed_on me thens.Stay x out next = next [] x out
+followed_on me thens.Follow x out next = next [] x out
+followed_on me (thens.Lead fact) x out next = next [] x out
+followed_on me thens.Untrust x out next = next [] x out
+followed_on me thens.Put x out next = next [] x out
+
+-- ## Reading nodes
+
+-- the node, if the walk reached its position
+abbrev pub reached : Walked (Option (List ℕ)) → Option (List ℕ)
+reached (Reached node) = node
+reached (Broken at) = None
+
+-- the node at a position, if it is needed; none if its path does not verify
+abbrev pub own_node : Bool → Position → Part State (Option (List ℕ))
+own_node true at x out next = asked (ReadNode at) x out (λ walked y o. next (reached walked) y o)
+own_node false at x out next = next None x out
+
+-- what a peer sends of a node that it was asked for: damage on its path, or the node
+abbrev pub body_of : Question → Walked (Option (List ℕ)) → TreeBody
+body_of q (Broken at) = Damaged at
+body_of q (Reached node) = given node q
+
+-- what a peer sends for a question, if it is answered
+abbrev pub shown_node : Bool → Question → Part State (Option TreeBody)
+shown_node true q x out next = asked (ReadNode q.position) x out (λ walked y o. next (Some (body_of q walked)) y o)
+shown_node false q x out next = next None x out
+
+-- ## The answer of a source
+
+-- whether the own node at the position must be read to take this answer
+abbrev pub needs_node : ℕ → Give → Option Running → Bool
+needs_node from give None = false
+needs_node from give (Some r) = needs_own_node from give r
+
+-- the sync that runs, if one does, takes an answer, and may end
+abbrev pub taken_give : ℕ → ℕ → Give → Option (List ℕ) → Option Running → Part State (List Task)
+taken_give me from give own None x out next = next [] x out
+taken_give me from give own (Some r) x out next = gone_on me (row_take from give own r) x out next
+
+-- a source sends a part of its tree
+abbrev pub got_give : ℕ → ℕ → Give → Part State (List Task)
+got_give me from give x out next =
+    own_node (needs_node from give x.sync) give.question.position x out (λ own y o. taken_give me from give own y.sync y o next)

@@ -1,0 +1,71 @@
+ghost use Rattle.std.specs.Prelude.{◌≡◌, IfOk, IfErr};
+ghost use Rattle.peer_plan.specs.Drives.{own_key};
+ghost use Rattle.peer_plan.specs.Syncs.{needs_node};
+
+use ens_base::{Epoch, Key, PeerId, copy_key};
+use exchange::Question;
+use leader_words::Own;
+use peer_state::State;
+use running_sync::Give;
+use std::alloc::Global;
+use step_plans::PeerError;
+use tree_node::{Position, TreeBody};
+
+/// The key that a rule asks about.
+pub fn own_key(own: &Own) -> &Key
+    ensures { result.now ≡ own_key own.now }
+{
+    match own {
+        Own::Look(key) => key,
+        Own::Put(object) => &object.key,
+    }
+}
+
+/// Whether the own node at the position must be read to take this answer.
+pub fn needs_node(state: &State, from: PeerId, give: &Give) -> bool
+    ensures { result ≡ needs_node from give.now state.now.sync }
+{
+    match &state.sync {
+        None => false,
+        Some(running) => running.needs_own(from, give),
+    }
+}
+
+/// The question for a node of the tree. Fails only when out of memory.
+pub fn question_of(alloc: Global, at: Position, after: &Option<Key>) -> Result<Question, PeerError>
+    ensures ok { IfOk result (λ q. q ≡ record { position = at; after = after.now }) }
+    ensures memory { IfErr result (λ e. e ≡ PeerError.Memory) }
+{
+    Ok(Question {
+        position: at,
+        after: copy_key(alloc, after)?,
+    })
+}
+
+/// The answer of a source, from its message. Fails only when out of memory.
+pub fn give_of(
+    alloc: Global,
+    ballot: Epoch,
+    at: Position,
+    after: &Option<Key>,
+    trusted: bool,
+    body: &TreeBody,
+) -> Result<Give, PeerError>
+    ensures ok { IfOk result (λ g. g ≡ record { ballot = ballot; question = record { position = at; after = after.now }; trusted = trusted; body = body.now }) }
+    ensures memory { IfErr result (λ e. e ≡ PeerError.Memory) }
+{
+    Ok(Give {
+        ballot,
+        question: question_of(alloc, at, after)?,
+        trusted,
+        body: copy_body(alloc, body)?,
+    })
+}
+
+/// Copies the body. Fails only when out of memory.
+fn copy_body(alloc: Global, body: &TreeBody) -> Result<TreeBody, PeerError>
+    ensures ok { IfOk result (λ b. b ≡ body.now) }
+    ensures memory { IfErr result (λ e. e ≡ PeerError.Memory) }
+{
+    Ok(body.copy(alloc)?)
+}

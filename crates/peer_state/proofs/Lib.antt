@@ -1,0 +1,5 @@
+pub mod Phases
+pub mod YoungRows
+pub mod Names
+pub mod Young
+pub mod Quiet
