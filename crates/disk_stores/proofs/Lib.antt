@@ -1,0 +1,4 @@
+pub mod NodeLaws
+pub mod Done
+pub mod Objects
+pub mod NodeCalls

@@ -1,0 +1,2 @@
+pub mod NodeMaps
+pub mod DiskCalls
