@@ -1,0 +1,4 @@
+pub mod Lookups
+pub mod Legal
+pub mod Walks
+pub mod Found
