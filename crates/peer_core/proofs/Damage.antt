@@ -1,5 +1,5 @@
 -- The answers of a peer's stores tell of damage only at positions of the tree.
-use Rattle.std.proofs.Common.{ℕ, Option, Result}
+use Rattle.std.proofs.Common.{ℕ, List, Option, Result}
 use Rattle.ens_hashing.specs.Hashing.{Book}
 use Rattle.ens_outside.specs.Stores.{BackendCall, BackendAnswer, NodeCall, NodeAnswer}
 use Rattle.fact_store.specs.Keeping.{KeeperCall, KeeperAnswer}
