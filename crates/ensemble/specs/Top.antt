@@ -1,13 +1,15 @@
 -- The jobs, and what the program prints.
-use Rattle.std.specs.Prelude.{◌≡◌, ℕ, true, false, List, [], ◌∷◌, ◌++◌, codes, Option}
+use Rattle.std.specs.Prelude.{◌≡◌, ℕ, true, false, List, [], ◌∷◌, ◌++◌, codes, Option, Result, Ok, Err, IsSomeAnd}
 use Rattle.ens_base.specs.declared.status.Status.{Status}
 use Rattle.ens_words.specs.Forms.{AskFor}
 use Rattle.ens_words.specs.declared.job.Job.{Job}
 use Rattle.ens_words.specs.declared.job.Job.TheVariants.{Replay, Peer, Cluster, Generate}
-use Rattle.replay.specs.Jobs.{Prints}
-use Rattle.replay.specs.Summary.{EndsInSummary}
+use Rattle.replay.specs.Jobs.{IsRunnable, Prints}
+use Rattle.replay.specs.Summary.{EndsInSummary, StaysWithin}
 use Rattle.schedule_generator.specs.Generated.{generate}
 use Rattle.schedule_text.specs.Spelling.{schedule_text}
+use Rattle.ensemble.specs.declared.arguments.ArgumentsError.{ArgumentsError}
+use Rattle.ensemble.specs.declared.arguments.ArgumentsError.TheVariants.{NotText, Memory}
 
 -- the jobs that the program runs: a peer of its own, and peers over a network, are not built yet
 abbrev pub IsBuilt : Job → Type 0
@@ -57,3 +59,29 @@ abbrev pub Ends : List (List ℕ) → Option (List ℕ) → Status → List ℕ 
 Ends words source Status.Usage text = AskForNone words × IsUsageText text
 Ends words source Status.Memory text = IsMemoryText text
 Ends words source status text = (job : Job) × AskFor words job × Does job source status text
+
+-- Nothing ends the job early: it is built; a replay has a source whose bytes are known, and which
+-- nothing in them ends early; and the run that is summed up stays within the limit on messages.
+abbrev pub IsUnhindered : Job → Option (List ℕ) → Type 0
+IsUnhindered Replay source = IsSomeAnd source IsRunnable
+IsUnhindered (Peer words) source = ⊥
+IsUnhindered (Cluster words) source = ⊥
+IsUnhindered (Generate number calls false) source = Unit {0}
+IsUnhindered (Generate number calls true) source = StaysWithin (generate number calls)
+
+-- how the program ends if its arguments could not be read: with the usage line if one of them is no
+-- text, and with `memory` when out of memory
+abbrev pub EndsUnread : ArgumentsError → Status → List ℕ → Type 0
+EndsUnread NotText Status.Usage text = IsUsageText text
+EndsUnread Memory Status.Memory text = IsMemoryText text
+EndsUnread e status text = ⊥
+
+-- the same for words that may not have been read
+abbrev pub EndsGiven : Result (List (List ℕ)) ArgumentsError → Option (List ℕ) → Status → List ℕ → Type 0
+EndsGiven (Ok words) source status text = Ends words source status text
+EndsGiven (Err e) source status text = EndsUnread e status text
+
+-- the words were read, and ask for the job
+abbrev pub GivenFor : Result (List (List ℕ)) ArgumentsError → Job → Type 0
+GivenFor (Ok words) job = AskFor words job
+GivenFor (Err e) job = ⊥

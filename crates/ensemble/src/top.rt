@@ -1,12 +1,16 @@
-ghost use Rattle.std.specs.Prelude.{◌≡◌, ◌≢◌, ◌∷◌, [], ℕ, List, codes, map};
+ghost use Rattle.std.specs.Prelude.{◌≡◌, ◌≢◌, ◌∷◌, [], ℕ, List, codes, map, Ok};
 ghost use Rattle.std.specs.Io.KnownBytes.{Appends, IsAtEnd};
 ghost use Rattle.ens_base.specs.Causes.{Rose};
 ghost use Rattle.ens_base.specs.declared.status.Status.{Status};
 ghost use Rattle.ens_outside.specs.Written.{AppendsFront};
-ghost use Rattle.ens_words.specs.Forms.{IsJob};
+ghost use Rattle.ens_words.specs.Forms.{AskFor, IsJob};
+ghost use Rattle.ens_words.specs.declared.job.Job.{Job};
 ghost use Rattle.ens_words.specs.declared.job.Job.TheVariants.{Replay};
-ghost use Rattle.ensemble.specs.Top.{Does, Ends};
+ghost use Rattle.ensemble.specs.Arguments.{words_given};
+ghost use Rattle.ensemble.specs.Top.{Does, Ends, EndsGiven, GivenFor, IsUnhindered};
+ghost use Rattle.replay.specs.Jobs.{HasRead, RanOut};
 
+use crate::arguments::{ArgumentsError, words_of};
 use crate::generating::{print_generated, print_summary};
 use ens_base::Status;
 use ens_outside::{Sink, Source, finish};
@@ -25,7 +29,7 @@ fn run_job<S: Source, O: Sink, R: Threads + Sync>(
 ) -> Status
     requires { IsJob job }
     ensures printed { result ≢ Status.WriteFault → (text : List ℕ) × Does job (S.left input.old) result text × Appends (O.written output.old) (O.written output.new) text }
-    ensures front { result ≡ Status.WriteFault → (status : Status) × (text : List ℕ) × Does job (S.left input.old) status text × AppendsFront (O.written output.old) (O.written output.new) text }
+    ensures front { result ≡ Status.WriteFault → (status : Status) × (text : List ℕ) × Does job (S.left input.old) status text × (job ≡ Replay → HasRead (S.left input.new) (S.fault_count input.old) (S.fault_count input.new) status) × AppendsFront (O.written output.old) (O.written output.new) text }
     ensures end { job ≡ Replay → result ≡ Status.Done → IsAtEnd (S.left input.new) }
     ensures untouched { job ≢ Replay → input.new ≡ input.old }
     ensures read { result ≡ Status.ReadFault → Rose (S.fault_count input.old) (S.fault_count input.new) }
@@ -64,17 +68,48 @@ pub fn ensemble_main<S: Source, O: Sink, R: Threads + Sync>(
     // What is written, for each status: for a replay that ran to its end, what the world printed,
     // and a history for each key.
     ensures printed { result ≢ Status.WriteFault → (text : List ℕ) × Ends (map (λ w. w.now) words.now) (S.left input.old) result text × Appends (O.written output.old) (O.written output.new) text }
-    // A prefix of that text, if the output failed.
-    ensures front { result ≡ Status.WriteFault → (status : Status) × (text : List ℕ) × Ends (map (λ w. w.now) words.now) (S.left input.old) status text × AppendsFront (O.written output.old) (O.written output.new) text }
+    // If the output failed, a prefix of the text with which the job would otherwise have ended.
+    ensures front { result ≡ Status.WriteFault → (status : Status) × (text : List ℕ) × Ends (map (λ w. w.now) words.now) (S.left input.old) status text × (map (λ w. w.now) words.now ≡ codes "replay" ∷ [] → HasRead (S.left input.new) (S.fault_count input.old) (S.fault_count input.new) status) × AppendsFront (O.written output.old) (O.written output.new) text }
     ensures end { map (λ w. w.now) words.now ≡ codes "replay" ∷ [] → result ≡ Status.Done → IsAtEnd (S.left input.new) }
     // Only a replay reads the input.
     ensures untouched { map (λ w. w.now) words.now ≢ codes "replay" ∷ [] → input.new ≡ input.old }
     ensures read { result ≡ Status.ReadFault → Rose (S.fault_count input.old) (S.fault_count input.new) }
     ensures write { result ≡ Status.WriteFault → Rose (O.fault_count output.old) (O.fault_count output.new) }
+    // If no other end has a cause, the job runs to its end, unless out of memory.
+    ensures completes { (job : Job) → AskFor (map (λ w. w.now) words.now) job → IsUnhindered job (S.left input.old) → ¬ Rose (S.fault_count input.old) (S.fault_count input.new) → ¬ Rose (O.fault_count output.old) (O.fault_count output.new) → RanOut result }
 {
     match read_words(alloc, words) {
         Ok(job) => run_job(rt, alloc, job, input, output),
         Err(WordsError::Usage) => finish(output, "usage\n", Status::Usage),
         Err(WordsError::Memory) => finish(output, "memory\n", Status::Memory),
+    }
+}
+
+/// Runs the program with all its arguments, its name first, or with why they could not be read: it
+/// ends with a usage error if one of them is not valid text. Returns the status.
+pub fn run_program<S: Source, O: Sink, R: Threads + Sync>(
+    rt: &R,
+    alloc: Global,
+    all: &Result<Vec<String>, ArgumentsError>,
+    input: &mut S,
+    output: &mut O,
+) -> Status
+    ensures printed { result ≢ Status.WriteFault → (text : List ℕ) × EndsGiven (words_given all.now) (S.left input.old) result text × Appends (O.written output.old) (O.written output.new) text }
+    ensures front { result ≡ Status.WriteFault → (status : Status) × (text : List ℕ) × EndsGiven (words_given all.now) (S.left input.old) status text × (words_given all.now ≡ Ok (codes "replay" ∷ []) → HasRead (S.left input.new) (S.fault_count input.old) (S.fault_count input.new) status) × AppendsFront (O.written output.old) (O.written output.new) text }
+    ensures end { words_given all.now ≡ Ok (codes "replay" ∷ []) → result ≡ Status.Done → IsAtEnd (S.left input.new) }
+    // Only a replay reads the input.
+    ensures untouched { words_given all.now ≢ Ok (codes "replay" ∷ []) → input.new ≡ input.old }
+    ensures read { result ≡ Status.ReadFault → Rose (S.fault_count input.old) (S.fault_count input.new) }
+    ensures write { result ≡ Status.WriteFault → Rose (O.fault_count output.old) (O.fault_count output.new) }
+    // If no other end has a cause, the job runs to its end, unless out of memory.
+    ensures completes { (job : Job) → GivenFor (words_given all.now) job → IsUnhindered job (S.left input.old) → ¬ Rose (S.fault_count input.old) (S.fault_count input.new) → ¬ Rose (O.fault_count output.old) (O.fault_count output.new) → RanOut result }
+{
+    match all {
+        Ok(all) => match words_of(alloc, all) {
+            Ok(words) => ensemble_main(rt, alloc, &words, input, output),
+            Err(_) => finish(output, "memory\n", Status::Memory),
+        },
+        Err(ArgumentsError::NotText) => finish(output, "usage\n", Status::Usage),
+        Err(ArgumentsError::Memory) => finish(output, "memory\n", Status::Memory),
     }
 }

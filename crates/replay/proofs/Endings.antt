@@ -50,7 +50,7 @@ module _ (first now : Account) (s : Schedule) (sound : first_unsound s ≡ None)
   run_done text of ran has apart None read = tt
   run_done text of ran has apart (Some bytes) read =
       let all : HasAdmitted (hashed_by s) first now = record { has = has; apart = apart; fit = λ limit is. (kept_once (hashed_by s) limit now.kept (subst (λ (k : Option Book). HasTaken (hashed_by s) k now.kept) is has.taken)).1 } in
-      (s, read, of, sound, ran, all, λ kept. sound_legal s of sound (apart kept))
+      (s, read, of, sound, ran, all, sound_legal s of sound)
 
   pub clash_ends : (kept new text : List ℕ) → HasClashed (hashed_by s) first kept new now → text ≡ clash_line kept new → EndsSo first now s Status.Clash text
   clash_ends kept new text has is None read = (kept, new, has.1, has.3, is, tt)

@@ -3,3 +3,4 @@ pub mod Endings
 pub mod Unread
 pub mod Summaries
 pub mod Texts
+pub mod Completing

@@ -1,5 +1,6 @@
 -- What a job prints, and why it ends as it does.
 use Rattle.std.specs.Prelude.{◌≡◌, ◌⊎◌, ◌<◌, ◌≤◌, ℕ, List, [], ◌∷◌, ◌++◌, codes, Option, None, Some, Ok, IfSome}
+use Rattle.std.specs.Io.KnownBytes.{IsAtEnd}
 use Rattle.call_refinement.specs.Causes.{HaveCauses}
 use Rattle.call_refinement.specs.Lines.{AreLegal}
 use Rattle.held_stores.specs.Held.{Account, HasHashed, HasNoClash, once}
@@ -52,14 +53,14 @@ HasLegalHistories s = (histories : List History) → AreHistories (schedule_run 
 abbrev pub HasCausedAnswers : Schedule → Type 0
 HasCausedAnswers s = HaveCauses s.events (schedule_run s).printed (schedule_run s).notes
 
--- both, if the hasher kept nothing before: then no two different strings of the run have the same MD5
-abbrev pub IsLegalRun : Account → Schedule → Type 0
-IsLegalRun first s = KeepsNothing first.kept → HasLegalHistories s × HasCausedAnswers s
+-- both, if no two different strings of the run have the same MD5
+abbrev pub IsLegalRun : Schedule → Type 0
+IsLegalRun s = HasNoClash (hashed_by s) → HasLegalHistories s × HasCausedAnswers s
 
 -- the bytes are a sound schedule, the text is that of its run, the hasher took the strings of the run,
 -- the histories are legal, and the answers have causes
 abbrev pub IsReplay : Account → Account → List ℕ → List ℕ → Type 0
-IsReplay first now bytes text = (s : Schedule) × (schedule_of bytes ≡ Ok s) × IsSchedule s × (first_unsound s ≡ None) × IsRunText s text × HasAdmitted (hashed_by s) first now × IsLegalRun first s
+IsReplay first now bytes text = (s : Schedule) × (schedule_of bytes ≡ Ok s) × IsSchedule s × (first_unsound s ≡ None) × IsRunText s text × HasAdmitted (hashed_by s) first now × IsLegalRun s
 
 -- the bytes are a sound schedule, and the hasher rejected the next string of its run, which clashes
 -- with one that it keeps
@@ -103,6 +104,12 @@ PrintsWith first now source Status.ReadFault text = text ≡ codes "read fault" 
 PrintsWith first now source Status.Memory text = text ≡ codes "memory" ++ 10 ∷ []
 PrintsWith first now source status text = ⊥
 
+-- what a job did to its source when it ends with this status: at the end of a replay nothing is left,
+-- and a read fault was counted
+pub record HasRead (left : Option (List ℕ)) (before now : ℕ) (status : Status) : Type 0 where
+  pub end : status ≡ Status.Done → IsAtEnd left
+  pub fault : status ≡ Status.ReadFault → Rose before now
+
 -- the account of the book of `replay` before it meets a string
 abbrev pub nothing_hashed : Account
 nothing_hashed = record { kept = Some (empty_book 1073741824); clashes = 0; fulls = 0 }
@@ -110,6 +117,21 @@ nothing_hashed = record { kept = Some (empty_book 1073741824); clashes = 0; full
 -- the text that a replay prints over such a book
 abbrev pub Prints : Option (List ℕ) → Status → List ℕ → Type 0
 Prints source status text = (now : Account) × PrintsWith nothing_hashed now source status text
+
+-- Nothing in these bytes ends a replay of them early: they are a sound schedule, no two different
+-- strings of its run have the same MD5, the strings fit into the book of `replay`, and the run stays
+-- within the limit on messages.
+pub record IsRunnable (bytes : List ℕ) : Type 0 where
+  pub s : Schedule
+  pub read : schedule_of bytes ≡ Ok s
+  pub sound : first_unsound s ≡ None
+  pub apart : HasNoClash (hashed_by s)
+  pub fit : total (once (hashed_by s)) ≤ 1073741824
+  pub within : IsWithinMessages (schedule_run s)
+
+-- the job ended as it must if no other end has a cause: it ran to its end, or memory ran out
+abbrev pub RanOut : Status → Type 0
+RanOut status = (status ≡ Status.Done) ⊎ (status ≡ Status.Memory)
 
 -- a job that read this schedule ends with this status and text, whatever its source
 abbrev pub EndsSo : Account → Account → Schedule → Status → List ℕ → Type 0

@@ -1,5 +1,6 @@
 -- The summary of the run of a schedule in a world.
-use Rattle.std.specs.Prelude.{◌≡◌, ℕ, ◌+◌, ◌-◌, Bool, true, false, List, [], ◌∷◌, ◌++◌, length, count_by, codes}
+use Rattle.std.specs.Prelude.{◌≡◌, ℕ, ◌==◌, ◌||◌, Bool, true, false, not, if◌then◌else◌, List, [], ◌∷◌, ◌++◌, length, count_by, codes, Option, None, Some}
+use Rattle.std.specs.List.{list_any}
 use Rattle.std.specs.Fmt.{decimal}
 use Rattle.md5.specs.Md5.{md5}
 use Rattle.ens_base.specs.Words.{bytes_word}
@@ -47,10 +48,29 @@ call_count s = count_by is_call s.events
 abbrev pub reply_count : (Reply → Bool) → List Printed → ℕ
 reply_count test printed = count_by (answers_with test) printed
 
--- how many calls are left if each answer that completes or refuses a call is that of another one:
--- those that timed out, and those that were not answered
+-- the id of the call that a line of a run completes or refuses, if it does
+abbrev pub settled_by : Printed → Option ℕ
+settled_by (lines.Answer a) = if is_done a.reply || is_refused a.reply then Some a.id else None
+settled_by (lines.Change event peer taken) = None
+
+-- whether it is this id
+abbrev pub is_id : ℕ → Option ℕ → Bool
+is_id id None = false
+is_id id (Some n) = n == id
+
+-- whether the line of a run completes or refuses the call of this id
+abbrev pub settles : ℕ → Printed → Bool
+settles id printed = is_id id (settled_by printed)
+
+-- whether the line of a schedule is a call that no line of the run completes or refuses
+unfoldable pub is_unknown : List Printed → ScheduleEvent → Bool
+is_unknown printed (line.Call peer id key command) = not (list_any (settles id) printed)
+is_unknown printed _ = false
+
+-- how many calls were neither completed nor refused: those that timed out, and those that were not
+-- answered
 abbrev pub unknown_count : Schedule → List Printed → ℕ
-unknown_count s printed = call_count s - (reply_count is_done printed + reply_count is_refused printed)
+unknown_count s printed = count_by (is_unknown printed) s.events
 
 -- NAME N
 abbrev pub count_line : List ℕ → ℕ → List ℕ
@@ -74,10 +94,14 @@ digest_line text = codes "digest " ++ bytes_word (md5 text) ++ 10 ∷ []
 unfoldable pub summary_text : Schedule → List Printed → List ℕ → List ℕ
 summary_text s printed text = schedule_counts s ++ reply_counts s printed ++ digest_line text
 
--- the run of the schedule stays within the limit on messages, and the text is its summary
+-- the run of the schedule stays within the limit on messages
+abbrev pub StaysWithin : Schedule → Type 0
+StaysWithin s = IsWithinMessages (schedule_run s)
+
+-- the same, and the text is the summary of the run
 abbrev pub IsSummary : Schedule → List ℕ → Type 0
 IsSummary s summary =
-    IsWithinMessages (schedule_run s) × ((text : List ℕ) × IsTextOfRun (schedule_run s) text × (summary ≡ summary_text s (schedule_run s).printed text))
+    StaysWithin s × ((text : List ℕ) × IsTextOfRun (schedule_run s) text × (summary ≡ summary_text s (schedule_run s).printed text))
 
 -- how a summary ends, and its text: with the six lines, or at the limit on messages
 abbrev pub EndsInSummary : Schedule → Status → List ℕ → Type 0

@@ -1,11 +1,11 @@
-ghost use Rattle.std.specs.Prelude.{◌≡◌, ◌≢◌, List, ℕ, IfOk, string_bytes};
+ghost use Rattle.std.specs.Prelude.{◌≡◌, ◌≢◌, List, ℕ, IfOk, IsSomeAnd, string_bytes};
 ghost use Rattle.std.specs.Io.KnownBytes.{Appends, IsAtEnd};
 ghost use Rattle.ens_base.specs.Causes.{Rose};
 ghost use Rattle.ens_base.specs.declared.status.Status.{Status};
 ghost use Rattle.ens_outside.specs.Written.{AppendsFront};
 ghost use Rattle.held_stores.specs.Held.{Account, account};
 ghost use Rattle.schedule_text.specs.Spelling.{IsSchedule};
-ghost use Rattle.replay.specs.Jobs.{EndsSo, Prints, PrintsWith};
+ghost use Rattle.replay.specs.Jobs.{EndsSo, HasRead, IsRunnable, Prints, PrintsWith, RanOut};
 
 use crate::worlds::run_world;
 use ens_base::Status;
@@ -63,8 +63,8 @@ fn replay_ending<S: Source, H: Hasher16, R: Threads + Sync>(
 /// `premise VIEW reverted MEMBERS` if at least half of the members of a view are reverted, `clash KEPT
 /// NEW` if the hasher finds two different strings of the run with the same MD5, `limit book
 /// 1073741824` if a string of the run does not fit into its book, `limit messages 500000` if the run
-/// would send more messages, and `memory` when out of memory. If the output fails, a prefix of the
-/// text was written.
+/// would send more messages, and `memory` when out of memory. If the output fails, a prefix was
+/// written of the text with which the job would otherwise have ended.
 pub fn replay_with<S: Source, O: Sink, H: Hasher16, R: Threads + Sync>(
     rt: &R,
     alloc: Global,
@@ -73,7 +73,7 @@ pub fn replay_with<S: Source, O: Sink, H: Hasher16, R: Threads + Sync>(
     hasher: &mut H,
 ) -> Status
     ensures printed { result ≢ Status.WriteFault → (text : List ℕ) × PrintsWith (account H.kept H.clashes H.fulls hasher.old) (account H.kept H.clashes H.fulls hasher.new) (S.left input.old) result text × Appends (O.written output.old) (O.written output.new) text }
-    ensures front { result ≡ Status.WriteFault → (status : Status) × (text : List ℕ) × PrintsWith (account H.kept H.clashes H.fulls hasher.old) (account H.kept H.clashes H.fulls hasher.new) (S.left input.old) status text × AppendsFront (O.written output.old) (O.written output.new) text }
+    ensures front { result ≡ Status.WriteFault → (status : Status) × (text : List ℕ) × PrintsWith (account H.kept H.clashes H.fulls hasher.old) (account H.kept H.clashes H.fulls hasher.new) (S.left input.old) status text × HasRead (S.left input.new) (S.fault_count input.old) (S.fault_count input.new) status × AppendsFront (O.written output.old) (O.written output.new) text }
     ensures end { result ≡ Status.Done → IsAtEnd (S.left input.new) }
     ensures read { result ≡ Status.ReadFault → Rose (S.fault_count input.old) (S.fault_count input.new) }
     ensures write { result ≡ Status.WriteFault → Rose (O.fault_count output.old) (O.fault_count output.new) }
@@ -93,10 +93,12 @@ pub fn replay<S: Source, O: Sink, R: Threads + Sync>(
     output: &mut O,
 ) -> Status
     ensures printed { result ≢ Status.WriteFault → (text : List ℕ) × Prints (S.left input.old) result text × Appends (O.written output.old) (O.written output.new) text }
-    ensures front { result ≡ Status.WriteFault → (status : Status) × (text : List ℕ) × Prints (S.left input.old) status text × AppendsFront (O.written output.old) (O.written output.new) text }
+    ensures front { result ≡ Status.WriteFault → (status : Status) × (text : List ℕ) × Prints (S.left input.old) status text × HasRead (S.left input.new) (S.fault_count input.old) (S.fault_count input.new) status × AppendsFront (O.written output.old) (O.written output.new) text }
     ensures end { result ≡ Status.Done → IsAtEnd (S.left input.new) }
     ensures read { result ≡ Status.ReadFault → Rose (S.fault_count input.old) (S.fault_count input.new) }
     ensures write { result ≡ Status.WriteFault → Rose (O.fault_count output.old) (O.fault_count output.new) }
+    // If no other end has a cause, the replay runs to its end, unless out of memory.
+    ensures completes { IsSomeAnd (S.left input.old) IsRunnable → ¬ Rose (S.fault_count input.old) (S.fault_count input.new) → ¬ Rose (O.fault_count output.old) (O.fault_count output.new) → RanOut result }
 {
     let mut book = HashBook::new(alloc, BOOK_LIMIT);
     replay_with(rt, alloc, input, output, &mut book)

@@ -1,11 +1,16 @@
 ghost use Rattle.std.specs.Prelude.{◌≡◌, ◌++◌, ◌∷◌, ℕ, List, IfOk, OnOk, count_by, string_bytes};
-ghost use Rattle.replay.specs.Summary.{answers_with, call_count, count_line, digest_line, is_call as has_call, is_done as has_done, is_refused as has_refused, reply_count, reply_counts, schedule_counts, summary_text};
+ghost use Rattle.std.specs.BTreeSet.{contains};
+ghost use Rattle.std.specs.List.{list_any};
+ghost use Rattle.std.specs.Ordering.{nat_cmp};
+ghost use Rattle.register_model.specs.declared.printed.Printed.{Printed};
+ghost use Rattle.replay.specs.Summary.{answers_with, call_count, count_line, digest_line, is_call as has_call, is_done as has_done, is_refused as has_refused, is_unknown as has_unknown, reply_count, reply_counts, schedule_counts, settled_by as settled_call, settles, summary_text};
 
 use ens_base::{Reply, push_bytes};
 use ens_hashing::digest_of;
 use register_model::Printed;
 use schedule_text::{Schedule, ScheduleEvent};
 use std::alloc::{AllocError, Global};
+use std::collections::BTreeSet;
 
 fn is_done(line: &Printed) -> bool
     ensures { result ≡ answers_with has_done line.now }
@@ -62,6 +67,58 @@ fn count_refused(printed: &[Printed]) -> u64
     printed.iter().filter(|line| is_refused(line)).count() as u64
 }
 
+/// Returns the id of the call that the line completes or refuses, if it does.
+fn settled_by(line: &Printed) -> Option<u64>
+    ensures { result ≡ settled_call line.now }
+{
+    match line {
+        Printed::Answer(answer) if is_done(line) || is_refused(line) => Some(answer.id),
+        Printed::Answer(_) | Printed::Change { .. } => None,
+    }
+}
+
+/// Returns the ids of the calls that were completed or refused.
+fn settled_ids(alloc: Global, printed: &[Printed]) -> Result<BTreeSet<u64>, AllocError>
+    ensures { IfOk result (λ ids. (id : ℕ) → contains nat_cmp ids id ≡ list_any (settles id) printed.now) }
+{
+    let mut ids = BTreeSet::new(alloc);
+    for line in printed {
+        if let Some(id) = settled_by(line) {
+            ids.insert(id)?;
+        }
+    }
+    Ok(ids)
+}
+
+/// Returns whether the event is a call whose id is not among those of the calls that were completed
+/// or refused.
+#[tactic(auto, unfolding(crate::specs::Summary::is_unknown))]
+fn is_unknown(event: &ScheduleEvent, settled: &BTreeSet<u64>) -> bool
+    ensures { (printed : List Printed) → ((id : ℕ) → contains nat_cmp settled.now id ≡ list_any (settles id) printed) → result ≡ has_unknown printed event.now }
+{
+    match event {
+        ScheduleEvent::Call { id, .. } => !settled.contains(id),
+        _ => false,
+    }
+}
+
+fn count_unknown(
+    alloc: Global,
+    events: &[ScheduleEvent],
+    printed: &[Printed],
+) -> Result<u64, AllocError>
+    ensures { IfOk result (λ n. n ≡ count_by (has_unknown printed.now) events.now) }
+{
+    let settled = settled_ids(alloc, printed)?;
+    let mut unknown = 0;
+    for event in events {
+        if is_unknown(event, &settled) {
+            unknown += 1;
+        }
+    }
+    Ok(unknown)
+}
+
 fn push_count(text: &mut String, name: &str, count: u64) -> Result<(), AllocError>
     ensures { OnOk result (string_bytes text.new ≡ string_bytes text.old ++ count_line name.now count) }
 {
@@ -79,19 +136,17 @@ fn push_schedule_counts(text: &mut String, schedule: &Schedule) -> Result<(), Al
 
 #[tactic(auto, unfolding(crate::specs::Summary::reply_counts))]
 fn push_reply_counts(
+    alloc: Global,
     text: &mut String,
     schedule: &Schedule,
     printed: &[Printed],
 ) -> Result<(), AllocError>
     ensures { OnOk result (string_bytes text.new ≡ string_bytes text.old ++ reply_counts schedule.now printed.now) }
 {
-    let done = count_done(printed);
-    let refused = count_refused(printed);
-    push_count(text, "done", done)?;
-    push_count(text, "noeffect", refused)?;
-    let calls = count_calls(schedule.events.as_slice());
-    let rest = calls.saturating_sub(done).saturating_sub(refused);
-    push_count(text, "unknown", rest)
+    push_count(text, "done", count_done(printed))?;
+    push_count(text, "noeffect", count_refused(printed))?;
+    let unknown = count_unknown(alloc, schedule.events.as_slice(), printed)?;
+    push_count(text, "unknown", unknown)
 }
 
 #[tactic(auto, unfolding(crate::specs::Summary::digest_line))]
@@ -116,7 +171,7 @@ pub fn write_summary(
 {
     let mut summary = String::new(alloc);
     push_schedule_counts(&mut summary, schedule)?;
-    push_reply_counts(&mut summary, schedule, printed)?;
+    push_reply_counts(alloc, &mut summary, schedule, printed)?;
     push_digest(alloc, &mut summary, text)?;
     Ok(summary)
 }
