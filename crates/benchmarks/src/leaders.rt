@@ -7,7 +7,7 @@ use leader_words::{LeadError, LeadOut, Own};
 use leading::Leader;
 use peer_fact::{Change, Fact};
 use std::alloc::Global;
-use wire_frames::{Seen, Then};
+use phase_rows::{Seen, Then};
 
 const EPOCH: Epoch = Epoch {
     count: 1,

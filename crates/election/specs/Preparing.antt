@@ -7,8 +7,8 @@ use Rattle.peer_fact.specs.declared.fact.Fact.{Fact}
 use Rattle.peer_fact.specs.declared.fact.Change.TheVariants as changes
 use Rattle.peer_fact.specs.Facts.{views_after}
 use Rattle.wire_frames.specs.declared.message.Message.TheVariants.{Prepare, NewEpoch}
-use Rattle.wire_frames.specs.declared.phase.PhaseOut.{PhaseOut}
-use Rattle.wire_frames.specs.declared.phase.Then.TheVariants.{Stay, Follow, SyncOn, Rule}
+use Rattle.phase_rows.specs.declared.phase.PhaseOut.{PhaseOut}
+use Rattle.phase_rows.specs.declared.phase.Then.TheVariants.{Stay, Follow, SyncOn, Rule}
 use Rattle.phase_rows.specs.Peers.{nobody, alone, joined, members, others_of, others_outside, with_members}
 use Rattle.phase_rows.specs.Orders.{is_same, is_newer, may_accept}
 use Rattle.phase_rows.specs.Rows.{silent, sends, saves_and_sends, at_ballot, anew_at_6}

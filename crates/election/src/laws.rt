@@ -1,7 +1,7 @@
 ghost use Rattle.std.specs.Prelude.{◌≡◌, ◌≤◌, ℕ, Bool};
 ghost use Rattle.ens_base.specs.declared.epoch.Epoch.{Epoch};
 ghost use Rattle.peer_fact.specs.declared.fact.Fact.{Fact};
-ghost use Rattle.wire_frames.specs.declared.phase.Then.TheVariants.{Lead};
+ghost use Rattle.phase_rows.specs.declared.phase.Then.TheVariants.{Lead};
 ghost use Rattle.election.specs.declared.election.Election.{Election};
 ghost use Rattle.election.specs.Ballots.{row_11};
 ghost use Rattle.election.specs.Preparing.{row_10, row_12, row_13};

@@ -5,8 +5,8 @@ ghost use Rattle.election.specs.Starting.{StartsBelow8, resumes, insists, row_4,
 use crate::election::Election;
 use ens_base::{Epoch, PeerId, PeerSet};
 use peer_fact::Fact;
-use phase_rows::{are_quorum, is_same, others_outside, send, silent};
-use wire_frames::{Message, PhaseOut, Then};
+use phase_rows::{PhaseOut, Then, are_quorum, is_same, others_outside, send, silent};
+use wire_frames::Message;
 
 /// Resumes a running sync.
 fn resume(sync_runs: bool) -> Then

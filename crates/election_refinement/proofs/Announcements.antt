@@ -18,9 +18,9 @@ use Rattle.phase_rows.specs.Peers.{alone}
 use Rattle.phase_rows.specs.Rows.{silent, sends, saves, saves_and_sends, leaves_leading, at_ballot}
 use Rattle.version_laws.proofs.Maps.{put_here, mark_here}
 use Rattle.wire_frames.specs.declared.message.Message.TheVariants as messages
-use Rattle.wire_frames.specs.declared.phase.PhaseOut.{PhaseOut}
-use Rattle.wire_frames.specs.declared.phase.Then.{Then}
-use Rattle.wire_frames.specs.declared.phase.Then.TheVariants as thens
+use Rattle.phase_rows.specs.declared.phase.PhaseOut.{PhaseOut}
+use Rattle.phase_rows.specs.declared.phase.Then.{Then}
+use Rattle.phase_rows.specs.declared.phase.Then.TheVariants as thens
 use Rattle.election_refinement.proofs.Elections.{not_new}
 use Rattle.election_refinement.proofs.Keeps.{keeps_both, raise_keeps, accept_keeps, adopt_keeps, first_keeps, second_keeps}
 use Rattle.election_refinement.proofs.Numbers.{same_epochs, other_number, not_below_number}

@@ -49,10 +49,10 @@ use Rattle.register_model.specs.Registers.{outcome}
 use Rattle.register_model.specs.declared.register.Register.TheVariants as registers
 use Rattle.wire_frames.specs.declared.message.Message.{Message}
 use Rattle.wire_frames.specs.declared.message.Message.TheVariants as messages
-use Rattle.wire_frames.specs.declared.phase.Seen.{Seen}
-use Rattle.wire_frames.specs.declared.phase.Seen.TheVariants as seens
-use Rattle.wire_frames.specs.declared.phase.Then.{Then}
-use Rattle.wire_frames.specs.declared.phase.Then.TheVariants as thens
+use Rattle.phase_rows.specs.declared.phase.Seen.{Seen}
+use Rattle.phase_rows.specs.declared.phase.Seen.TheVariants as seens
+use Rattle.phase_rows.specs.declared.phase.Then.{Then}
+use Rattle.phase_rows.specs.declared.phase.Then.TheVariants as thens
 use Rattle.election_refinement.proofs.Tests.{by_test}
 
 -- a message that a leader sends for a call

@@ -31,9 +31,9 @@ use Rattle.view_change.specs.Changes.{may_change, row_24, same_view, second_fact
 use Rattle.view_change.specs.Finishing.{may_end}
 use Rattle.ens_base.specs.Views.{first_view}
 use Rattle.wire_frames.specs.declared.message.Message.TheVariants as messages
-use Rattle.wire_frames.specs.declared.phase.PhaseOut.{PhaseOut}
-use Rattle.wire_frames.specs.declared.phase.Then.{Then}
-use Rattle.wire_frames.specs.declared.phase.Then.TheVariants as thens
+use Rattle.phase_rows.specs.declared.phase.PhaseOut.{PhaseOut}
+use Rattle.phase_rows.specs.declared.phase.Then.{Then}
+use Rattle.phase_rows.specs.declared.phase.Then.TheVariants as thens
 use Rattle.election_refinement.proofs.Keeps.{keeps_both, commit_keeps, adopt_keeps, started_keeps}
 use Rattle.election_refinement.specs.Keeps.{Keeps}
 use Rattle.election_refinement.proofs.Numbers.{proposer_of-number}

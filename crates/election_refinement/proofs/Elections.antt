@@ -29,8 +29,8 @@ use Rattle.phase_rows.specs.Peers.{alone, nobody, joined, members, others_of, wi
 use Rattle.phase_rows.specs.Rows.{sends, saves_and_sends}
 use Rattle.version_laws.proofs.Maps.{put_here, mark_here}
 use Rattle.wire_frames.specs.declared.message.Message.TheVariants as messages
-use Rattle.wire_frames.specs.declared.phase.PhaseOut.{PhaseOut}
-use Rattle.wire_frames.specs.declared.phase.Then.TheVariants as thens
+use Rattle.phase_rows.specs.declared.phase.PhaseOut.{PhaseOut}
+use Rattle.phase_rows.specs.declared.phase.Then.TheVariants as thens
 use Rattle.election_refinement.proofs.Keeps.{keeps_both, elect_keeps, accept_keeps, known_keeps, first_keeps, changed_of}
 use Rattle.election_refinement.specs.Keeps.{Keeps}
 use Rattle.election_refinement.proofs.Numbers.{proposer_of-number, same_epochs, newer_place, not_newer_place, place_epoch, place_same, place_trans}

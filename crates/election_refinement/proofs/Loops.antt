@@ -63,11 +63,11 @@ use Rattle.sync_rule.specs.declared.sync.Outcome.TheVariants.{Pending, Trusted}
 use Rattle.tree_node.specs.declared.position.Position.{Position}
 use Rattle.wire_frames.specs.declared.message.Message.{Message}
 use Rattle.wire_frames.specs.declared.message.Message.TheVariants as messages
-use Rattle.wire_frames.specs.declared.phase.PhaseOut.{PhaseOut}
-use Rattle.wire_frames.specs.declared.phase.Seen.{Seen}
-use Rattle.wire_frames.specs.declared.phase.Seen.TheVariants as seens
-use Rattle.wire_frames.specs.declared.phase.Then.{Then}
-use Rattle.wire_frames.specs.declared.phase.Then.TheVariants as thens
+use Rattle.phase_rows.specs.declared.phase.PhaseOut.{PhaseOut}
+use Rattle.phase_rows.specs.declared.phase.Seen.{Seen}
+use Rattle.phase_rows.specs.declared.phase.Seen.TheVariants as seens
+use Rattle.phase_rows.specs.declared.phase.Then.{Then}
+use Rattle.phase_rows.specs.declared.phase.Then.TheVariants as thens
 use Rattle.election_refinement.proofs.Calls.{IsOfCalls, AsksPeer, BeginsNothing, StillLeads, joined_stays, got_stays, stands_stays, put_heard_stays, lead_stays, tick_stays}
 use Rattle.election_refinement.proofs.Changes.{rule_24, is_second, older_holds, wished_holds}
 use Rattle.election_refinement.proofs.Keeps.{keeps_both, join_keeps, sends_keep}

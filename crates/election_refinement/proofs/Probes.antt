@@ -13,8 +13,8 @@ use Rattle.phase_rows.specs.Orders.{is_newer}
 use Rattle.phase_rows.specs.Rows.{silent}
 use Rattle.probe.specs.Probing.{first_probing, heard_from, bettered}
 use Rattle.probe.specs.declared.probing.Probing.{Probing}
-use Rattle.wire_frames.specs.declared.phase.PhaseOut.{PhaseOut}
-use Rattle.wire_frames.specs.declared.phase.Then.{Then}
+use Rattle.phase_rows.specs.declared.phase.PhaseOut.{PhaseOut}
+use Rattle.phase_rows.specs.declared.phase.Then.{Then}
 use Rattle.election_refinement.proofs.Numbers.{newer_place, place_same, place_trans}
 use Rattle.election_refinement.proofs.Reaching.{Course}
 use Rattle.election_refinement.proofs.Rows.{Fits, Goes, unmoved, enters, enters_alone, quiet, rests_in, names}

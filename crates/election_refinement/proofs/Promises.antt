@@ -21,7 +21,7 @@ use Rattle.phase_rows.specs.Rows.{at_ballot}
 use Rattle.probe.specs.Probing.{first_probing}
 use Rattle.probe.specs.declared.probing.Probing.{Probing}
 use Rattle.version_laws.proofs.Maps.{put_here}
-use Rattle.wire_frames.specs.declared.phase.PhaseOut.{PhaseOut}
+use Rattle.phase_rows.specs.declared.phase.PhaseOut.{PhaseOut}
 use Rattle.election_refinement.proofs.Keeps.{known_keeps, raise_keeps}
 use Rattle.election_refinement.specs.Keeps.{Keeps}
 use Rattle.election_refinement.proofs.Numbers.{proposer_of-number, below_number, count_number, place_same}

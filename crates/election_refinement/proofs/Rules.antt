@@ -7,7 +7,7 @@ use Rattle.peer_state.specs.declared.state.State.{State}
 use Rattle.peer_fact.specs.declared.fact.Fact.{Fact}
 use Rattle.wire_frames.specs.declared.message.Message.{Message}
 use Rattle.wire_frames.specs.declared.message.Message.TheVariants as messages
-use Rattle.wire_frames.specs.declared.phase.PhaseOut.{PhaseOut}
+use Rattle.phase_rows.specs.declared.phase.PhaseOut.{PhaseOut}
 use Rattle.election_refinement.proofs.Announcements.{rule_16, rule_18}
 use Rattle.election_refinement.proofs.Changes.{rule_25, rule_26}
 use Rattle.election_refinement.proofs.Elections.{rule_12, rule_13}

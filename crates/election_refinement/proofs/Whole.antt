@@ -6,7 +6,7 @@ use Rattle.peer_state.specs.Rows.{aged, asked_change, phase_row, received}
 use Rattle.peer_state.specs.declared.state.State.{State}
 use Rattle.peer_fact.specs.declared.fact.Fact.{Fact}
 use Rattle.wire_frames.specs.declared.message.Message.{Message}
-use Rattle.wire_frames.specs.declared.phase.PhaseOut.{PhaseOut}
+use Rattle.phase_rows.specs.declared.phase.PhaseOut.{PhaseOut}
 use Rattle.election_refinement.proofs.Changes.{rule_24}
 use Rattle.election_refinement.specs.Keeps.{Keeps}
 use Rattle.election_refinement.proofs.Reaching.{AreRowSteps, Course}

@@ -19,8 +19,8 @@ use Rattle.probe.specs.declared.probing.Probing.{Probing}
 use Rattle.running_sync.specs.Running.{Running}
 use Rattle.wire_frames.specs.declared.message.Message.{Message}
 use Rattle.wire_frames.specs.declared.message.Message.TheVariants as messages
-use Rattle.wire_frames.specs.declared.phase.Then.{Then}
-use Rattle.wire_frames.specs.declared.phase.Then.TheVariants as thens
+use Rattle.phase_rows.specs.declared.phase.Then.{Then}
+use Rattle.phase_rows.specs.declared.phase.Then.TheVariants as thens
 
 -- each of these views may vote
 abbrev pub AreVoting : List (List ℕ) → List (List ℕ) → Type 0

@@ -4,9 +4,9 @@ use Rattle.ens_base.specs.declared.epoch.Epoch.{Epoch}
 use Rattle.ens_base.specs.declared.epoch.Version.{Version}
 use Rattle.ens_object.specs.declared.object.Object.{Object}
 use Rattle.peer_fact.specs.declared.fact.Fact.{Fact}
-use Rattle.wire_frames.specs.declared.phase.PhaseOut.{PhaseOut}
-use Rattle.wire_frames.specs.declared.phase.Seen.{Seen}
-use Rattle.wire_frames.specs.declared.phase.Seen.TheVariants.{Nothing, Damaged, Held, Kept, Stored}
+use Rattle.phase_rows.specs.declared.phase.PhaseOut.{PhaseOut}
+use Rattle.phase_rows.specs.declared.phase.Seen.{Seen}
+use Rattle.phase_rows.specs.declared.phase.Seen.TheVariants.{Nothing, Damaged, Held, Kept, Stored}
 use Rattle.following.specs.Effects.{LeavesOnDistrust}
 use Rattle.following.specs.Refusals.{refusal, unless_refused}
 use Rattle.following.specs.Requests.{puts_over, puts}

@@ -1,7 +1,7 @@
 -- How the answer of a rule affects the trust in the tree.
 use Rattle.std.specs.Prelude.{◌≡◌, ◌↔◌, true}
-use Rattle.wire_frames.specs.declared.phase.PhaseOut.{PhaseOut}
-use Rattle.wire_frames.specs.declared.phase.Then.TheVariants.{Untrust}
+use Rattle.phase_rows.specs.declared.phase.PhaseOut.{PhaseOut}
+use Rattle.phase_rows.specs.declared.phase.Then.TheVariants.{Untrust}
 
 -- a leader steps down exactly if the tree becomes untrusted
 abbrev pub LeavesOnDistrust : PhaseOut → Type 0

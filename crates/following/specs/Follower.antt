@@ -1,8 +1,8 @@
 -- A peer that follows, and its ticks.
 use Rattle.std.specs.Prelude.{ℕ, ◌+◌, ◌==◌, if◌then◌else◌}
 use Rattle.peer_fact.specs.declared.fact.Fact.{Fact}
-use Rattle.wire_frames.specs.declared.phase.PhaseOut.{PhaseOut}
-use Rattle.wire_frames.specs.declared.phase.Then.TheVariants.{Stay, Rule}
+use Rattle.phase_rows.specs.declared.phase.PhaseOut.{PhaseOut}
+use Rattle.phase_rows.specs.declared.phase.Then.TheVariants.{Stay, Rule}
 use Rattle.joint_views.specs.Quorums.{is_member}
 use Rattle.phase_rows.specs.Rows.{silent}
 use Rattle.following.specs.declared.follower.Follower.{Follower}

@@ -4,8 +4,8 @@ use Rattle.ens_base.specs.declared.epoch.Epoch.{Epoch}
 use Rattle.peer_fact.specs.declared.fact.Fact.{Fact}
 use Rattle.wire_frames.specs.declared.message.Message.{Message}
 use Rattle.wire_frames.specs.declared.message.NackCause.TheVariants as causes
-use Rattle.wire_frames.specs.declared.phase.PhaseOut.{PhaseOut}
-use Rattle.wire_frames.specs.declared.phase.Then.TheVariants.{Stay, Untrust}
+use Rattle.phase_rows.specs.declared.phase.PhaseOut.{PhaseOut}
+use Rattle.phase_rows.specs.declared.phase.Then.TheVariants.{Stay, Untrust}
 use Rattle.phase_rows.specs.Orders.{is_below, is_same}
 use Rattle.phase_rows.specs.Peers.{alone}
 use Rattle.phase_rows.specs.Rows.{silent, sends, leaves_leading, refuses, refuses_below}

@@ -2,8 +2,7 @@ ghost use Rattle.std.specs.Prelude.{◌≡◌, ◌<◌};
 
 use ens_base::PeerId;
 use peer_fact::Fact;
-use phase_rows::{is_member, silent};
-use wire_frames::{PhaseOut, Then};
+use phase_rows::{PhaseOut, Then, is_member, silent};
 
 /// The state of a peer that follows: the number of ticks since it last heard from a leader, 0 to 6.
 #[derive(Clone, Copy, Debug, PartialEq, Eq)]

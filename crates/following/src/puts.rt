@@ -7,9 +7,9 @@ use crate::refusals::{refusal, tell_damage};
 use ens_base::{Entry, Epoch, PeerId, Version};
 use ens_object::Object;
 use peer_fact::Fact;
-use phase_rows::{alone, is_below, send, silent};
+use phase_rows::{PhaseOut, Seen, Then, alone, is_below, send, silent};
 use std::alloc::Global;
-use wire_frames::{Message, NackCause, PhaseOut, Seen, Then};
+use wire_frames::{Message, NackCause};
 
 /// Returns whether the first version is below the second: by epoch, then by sequence number.
 fn is_version_below(a: Version, b: Version) -> bool

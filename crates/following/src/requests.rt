@@ -6,9 +6,9 @@ use crate::error::PhaseError;
 use crate::refusals::{refusal, tell_damage};
 use ens_base::{Epoch, Key, PeerId};
 use peer_fact::Fact;
-use phase_rows::{alone, is_below, refuse_below, send, silent};
+use phase_rows::{PhaseOut, Seen, Then, alone, is_below, refuse_below, send, silent};
 use tree_node::{Position, TreeBody};
-use wire_frames::{Message, NackCause, PhaseOut, Seen, Then};
+use wire_frames::{Message, NackCause};
 
 /// Rule 20: a leader asks whether the peer is still at its ballot. `from` is 1 to 31.
 pub fn rule_20(fact: Fact, from: PeerId, ballot: Epoch, round: u64) -> PhaseOut

@@ -6,56 +6,17 @@ use Rattle.std.proofs.lemmas.Bool.{eq-eqb, or_cases, or_parts}
 use Rattle.ens_base.specs.Lists.{◌∈◌, AreDistinct, is_in, same_bytes}
 use Rattle.ens_base.specs.declared.reply.Reply.{Reply}
 use Rattle.ens_base.proofs.Lists.{bytes_same, bytes_itself, in_tested, tested_in}
-use Rattle.register_model.specs.Histories.{IsDone, IsRefused, StandsBefore, IsLegal}
+use Rattle.register_model.specs.Histories.{IsDone, IsRefused, is_done, is_refused, StandsBefore, IsLegal}
 use Rattle.register_model.specs.declared.answer.Answer.{Answer}
 use Rattle.register_model.specs.declared.call.Call.{Call}
+use Rattle.register_model.proofs.Replies.{done_is, refused_is}
 use Rattle.register_runs.proofs.Runs.{stops_no_run}
-use Rattle.history_faults.specs.Clauses.{is_done, is_refused, was_done, was_refused, was_done_before, is_call_on, ids_on, first_stray, is_amiss, first_amiss_in, first_amiss, is_late, first_late, KeepsThree, IsFault}
+use Rattle.history_faults.specs.Clauses.{was_done, was_refused, was_done_before, is_call_on, ids_on, first_stray, is_amiss, first_amiss_in, first_amiss, is_late, first_late, KeepsThree, IsFault}
 use Rattle.history_faults.proofs.Lookups.{not_false, not_true, both, apart, less_test, tested_less, tested_same, item_any, any_item}
 
 if_none : (b : Bool) (x : ℕ) (o : Option ℕ) → (if b then Some x else o) ≡ None → (b ≡ false) × (o ≡ None)
 if_none true x o h = absurd cc
 if_none false x o h = (refl, h)
-
-done_test : (r : Reply) → IsDone r → is_done r ≡ true
-done_test (Reply.Value s b) d = refl
-done_test Reply.NotFound d = refl
-done_test (Reply.Ok s) d = refl
-done_test Reply.Failed d = refl
-done_test Reply.Unavailable d = absurd d
-done_test Reply.Busy d = absurd d
-done_test Reply.Lost d = absurd d
-done_test Reply.Timeout d = absurd d
-
-tested_done : (r : Reply) → is_done r ≡ true → IsDone r
-tested_done (Reply.Value s b) t = tt
-tested_done Reply.NotFound t = tt
-tested_done (Reply.Ok s) t = tt
-tested_done Reply.Failed t = tt
-tested_done Reply.Unavailable t = cc
-tested_done Reply.Busy t = cc
-tested_done Reply.Lost t = cc
-tested_done Reply.Timeout t = cc
-
-refused_test : (r : Reply) → IsRefused r → is_refused r ≡ true
-refused_test Reply.Unavailable d = refl
-refused_test Reply.Busy d = refl
-refused_test Reply.Lost d = refl
-refused_test (Reply.Value s b) d = absurd d
-refused_test Reply.NotFound d = absurd d
-refused_test (Reply.Ok s) d = absurd d
-refused_test Reply.Failed d = absurd d
-refused_test Reply.Timeout d = absurd d
-
-tested_refused : (r : Reply) → is_refused r ≡ true → IsRefused r
-tested_refused Reply.Unavailable t = tt
-tested_refused Reply.Busy t = tt
-tested_refused Reply.Lost t = tt
-tested_refused (Reply.Value s b) t = cc
-tested_refused Reply.NotFound t = cc
-tested_refused (Reply.Ok s) t = cc
-tested_refused Reply.Failed t = cc
-tested_refused Reply.Timeout t = cc
 
 and_both : (a b : Bool) → a ≡ true → b ≡ true → (a && b) ≡ true
 and_both true true h k = refl
@@ -95,21 +56,21 @@ module _ (calls : List Call) (answers : List Answer) (key : List ℕ) where
   done_of id h =
       let a = any_item (λ a. a.id == id && is_done a.reply) answers h in
       let parts = both (a.0.id == id) (is_done a.0.reply) a.2 in
-      (a.0, a.1, tested_same a.0.id id parts.0, tested_done a.0.reply parts.1)
+      (a.0, a.1, tested_same a.0.id id parts.0, (done_is a.0.reply).0 parts.1)
 
   of_done : (id : ℕ) (a : Answer) → a ∈ answers → a.id ≡ id → IsDone a.reply → was_done answers id ≡ true
   of_done id a there named done =
-      item_any (λ (b : Answer). b.id == id && is_done b.reply) answers a there (and_both (a.id == id) (is_done a.reply) (eq-eqb a.id id named) (done_test a.reply done))
+      item_any (λ (b : Answer). b.id == id && is_done b.reply) answers a there (and_both (a.id == id) (is_done a.reply) (eq-eqb a.id id named) ((done_is a.reply).1 done))
 
   refused_of : (id : ℕ) → was_refused answers id ≡ true → (a : Answer) × (a ∈ answers) × (a.id ≡ id) × IsRefused a.reply
   refused_of id h =
       let a = any_item (λ a. a.id == id && is_refused a.reply) answers h in
       let parts = both (a.0.id == id) (is_refused a.0.reply) a.2 in
-      (a.0, a.1, tested_same a.0.id id parts.0, tested_refused a.0.reply parts.1)
+      (a.0, a.1, tested_same a.0.id id parts.0, (refused_is a.0.reply).0 parts.1)
 
   of_refused : (id : ℕ) (a : Answer) → a ∈ answers → a.id ≡ id → IsRefused a.reply → was_refused answers id ≡ true
   of_refused id a there named refused =
-      item_any (λ (b : Answer). b.id == id && is_refused b.reply) answers a there (and_both (a.id == id) (is_refused a.reply) (eq-eqb a.id id named) (refused_test a.reply refused))
+      item_any (λ (b : Answer). b.id == id && is_refused b.reply) answers a there (and_both (a.id == id) (is_refused a.reply) (eq-eqb a.id id named) ((refused_is a.reply).1 refused))
 
   -- ## Clause 1
 
@@ -217,7 +178,7 @@ module _ (calls : List Call) (answers : List Answer) (key : List ℕ) where
   late_test rest c a there given done before among =
       let earlier : was_done_before answers c.event a.id ≡ true =
       item_any (λ (b : Answer). b.id == a.id && (is_done b.reply && nat_lt b.event c.event)) answers a given
-      (and_both (a.id == a.id) (is_done a.reply && nat_lt a.event c.event) (eq-eqb a.id a.id refl) (and_both (is_done a.reply) (nat_lt a.event c.event) (done_test a.reply done) (less_test a.event c.event before))) in
+      (and_both (a.id == a.id) (is_done a.reply && nat_lt a.event c.event) (eq-eqb a.id a.id refl) (and_both (is_done a.reply) (nat_lt a.event c.event) ((done_is a.reply).1 done) (less_test a.event c.event before))) in
       item_any (λ (d : Call). d.id == c.id && list_any (was_done_before answers d.event) rest) calls c there
       (and_both (c.id == c.id) (list_any (was_done_before answers c.event) rest) (eq-eqb c.id c.id refl) (item_any (was_done_before answers c.event) rest a.id among earlier))
 
@@ -232,7 +193,7 @@ module _ (calls : List Call) (answers : List Answer) (key : List ℕ) where
       let a = any_item (λ a. a.id == j.0 && (is_done a.reply && nat_lt a.event c.0.event)) answers j.2 in
       let named = both (a.0.id == j.0) (is_done a.0.reply && nat_lt a.0.event c.0.event) a.2 in
       let given = both (is_done a.0.reply) (nat_lt a.0.event c.0.event) named.1 in
-      (c.0, a.0, c.1, a.1, tested_same c.0.id id parts.0, tested_done a.0.reply given.0, tested_less a.0.event c.0.event given.1, subst (λ (i : ℕ). i ∈ rest) (sym (tested_same a.0.id j.0 named.0)) j.1)
+      (c.0, a.0, c.1, a.1, tested_same c.0.id id parts.0, (done_is a.0.reply).0 given.0, tested_less a.0.event c.0.event given.1, subst (λ (i : ℕ). i ∈ rest) (sym (tested_same a.0.id j.0 named.0)) j.1)
 
   at_place : (rest : List ℕ) (p id : ℕ) → slice_get rest p ≡ Some id → id ∈ rest
   at_place [] p id h = absurd cc

@@ -8,26 +8,10 @@
 use Rattle.std.specs.Prelude.{◌≡◌, ◌⊎◌, ℕ, Bool, true, false, ◌&&◌, ◌||◌, not, ◌==◌, nat_lt, if◌then◌else◌, List, [], ◌∷◌, Option, None, Some, slice_get}
 use Rattle.std.specs.List.{list_any}
 use Rattle.ens_base.specs.Lists.{same_bytes, is_in}
-use Rattle.ens_base.specs.declared.reply.Reply.{Reply}
-use Rattle.register_model.specs.Histories.{IsRun}
+use Rattle.register_model.specs.Histories.{IsRun, is_done, is_refused}
 use Rattle.register_model.specs.declared.answer.Answer.{Answer}
 use Rattle.register_model.specs.declared.call.Call.{Call}
 use Rattle.register_runs.specs.Fronts.{StopsAt}
-
--- whether a reply completes its call
-abbrev pub is_done : Reply → Bool
-is_done (Reply.Value stamp bytes) = true
-is_done Reply.NotFound = true
-is_done (Reply.Ok stamp) = true
-is_done Reply.Failed = true
-is_done reply = false
-
--- whether a reply refuses its call
-abbrev pub is_refused : Reply → Bool
-is_refused Reply.Unavailable = true
-is_refused Reply.Busy = true
-is_refused Reply.Lost = true
-is_refused reply = false
 
 -- whether the call with this id was completed, and whether it was refused
 abbrev pub was_done : List Answer → ℕ → Bool

@@ -1,45 +1,14 @@
 ghost use Rattle.std.specs.Prelude.{◌≡◌, ◌&&◌, nat_lt, ℕ, map, nat_eq};
 ghost use Rattle.indexmap.specs.IndexMap.{get};
 ghost use Rattle.ens_base.specs.Lists.{AreDistinct};
+ghost use Rattle.register_model.specs.Histories.{is_done};
 ghost use Rattle.register_runs.specs.Places.{ArePlaces};
-ghost use Rattle.history_faults.specs.Clauses.{is_call_on, is_done, is_refused, was_done, was_done_before, was_refused};
+ghost use Rattle.history_faults.specs.Clauses.{is_call_on, was_done, was_done_before, was_refused};
 ghost use Rattle.history_faults.specs.Lookups.{is_before};
 
-use ens_base::{Key, Reply};
-use register_model::{Answer, Call};
+use ens_base::Key;
+use register_model::{Answer, Call, is_done, is_refused};
 use register_runs::{Places, answer_of, call_of};
-
-/// Returns whether a reply completes its call.
-fn is_done(reply: &Reply) -> bool
-    ensures { result ≡ is_done reply.now }
-{
-    match reply {
-        Reply::Value(_, _) => true,
-        Reply::NotFound => true,
-        Reply::Ok(_) => true,
-        Reply::Failed => true,
-        Reply::Unavailable => false,
-        Reply::Busy => false,
-        Reply::Lost => false,
-        Reply::Timeout => false,
-    }
-}
-
-/// Returns whether a reply refuses its call.
-fn is_refused(reply: &Reply) -> bool
-    ensures { result ≡ is_refused reply.now }
-{
-    match reply {
-        Reply::Value(_, _) => false,
-        Reply::NotFound => false,
-        Reply::Ok(_) => false,
-        Reply::Failed => false,
-        Reply::Unavailable => true,
-        Reply::Busy => true,
-        Reply::Lost => true,
-        Reply::Timeout => false,
-    }
-}
 
 /// Returns whether the call with this id was completed.
 pub(crate) fn was_done(answers: &[Answer], places: &Places, id: u64) -> bool

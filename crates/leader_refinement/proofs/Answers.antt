@@ -6,7 +6,7 @@ use Rattle.std.proofs.lemmas.List.Elements.{All-nil}
 use Rattle.ens_base.specs.declared.command.Command.{Command}
 use Rattle.ens_base.specs.declared.reply.Reply.{Reply}
 use Rattle.register_model.specs.declared.register.Register.{Register}
-use Rattle.wire_frames.specs.declared.phase.Then.TheVariants.{Stay}
+use Rattle.phase_rows.specs.declared.phase.Then.TheVariants.{Stay}
 use Rattle.ens_base.specs.declared.epoch.Version.{Version}
 use Rattle.ens_object.specs.declared.object.Object.{Object}
 use Rattle.key_commands.specs.Commands.{verdict_of}

@@ -24,7 +24,7 @@ use Rattle.leading.specs.declared.pending.Pending.TheVariants as tasks
 use Rattle.leader_words.specs.Outs.{rests, leads_on}
 use Rattle.leading.specs.Leaders.{with_task}
 use Rattle.leading.specs.Steps.{Fits, IsCalm}
-use Rattle.wire_frames.specs.declared.phase.Then.TheVariants.{Rule}
+use Rattle.phase_rows.specs.declared.phase.Then.TheVariants.{Rule}
 use Rattle.leader_words.specs.declared.out.AnswerOut.{AnswerOut}
 use Rattle.leader_words.specs.declared.out.LeadOut.{LeadOut}
 use Rattle.leader_words.specs.declared.out.Outgoing.{Outgoing}

@@ -16,7 +16,7 @@ use Rattle.quorum_round.specs.declared.round.RoundState.TheVariants.{Open, Met, 
 use Rattle.register_model.specs.Registers.{outcome}
 use Rattle.register_model.specs.declared.note.Note.TheVariants.{Read}
 use Rattle.wire_frames.specs.declared.message.Message.TheVariants.{Check}
-use Rattle.wire_frames.specs.declared.phase.Then.TheVariants.{Stay}
+use Rattle.phase_rows.specs.declared.phase.Then.TheVariants.{Stay}
 use Rattle.abstract_protocol.specs.Ledger.{put}
 use Rattle.abstract_protocol.specs.Book.{register_at}
 use Rattle.abstract_protocol.specs.Numbers.{epoch_number}

@@ -62,8 +62,8 @@ use Rattle.leader_refinement.proofs.Votes.{answered_fewer, begun_fewer, IsClosed
 use Rattle.leader_refinement.specs.Seen.{rank, content_of, known_of, voters, put_of, waiting_behind, row_parts, row_seen, table_of}
 use Rattle.leader_refinement.specs.Follows.{IsOn, PutFits, StageFits, RowFits, ProposeHolds, TaskHolds, IsAtWork, LeaderFits, IsLeaderStep, AreLeaderSteps, Follows, GoesOn, SentSays}
 use Rattle.leader_refinement.specs.Laws.{PutGoesIn, PutsGoIn, StoredSays, PutsAreStored, PutsCount}
-use Rattle.wire_frames.specs.declared.phase.Seen.{Seen}
-use Rattle.wire_frames.specs.declared.phase.Seen.TheVariants as seens
+use Rattle.phase_rows.specs.declared.phase.Seen.{Seen}
+use Rattle.phase_rows.specs.declared.phase.Seen.TheVariants as seens
 
 -- ## Rows
 

@@ -18,7 +18,7 @@ use Rattle.call_table.specs.declared.waiting.Waiting.{Waiting}
 use Rattle.leader_words.specs.Outs.{comes, leaves}
 use Rattle.leader_words.specs.declared.out.AnswerOut.{AnswerOut}
 use Rattle.leader_words.specs.declared.out.LeadOut.{LeadOut}
-use Rattle.wire_frames.specs.declared.phase.Then.TheVariants.{Rule}
+use Rattle.phase_rows.specs.declared.phase.Then.TheVariants.{Rule}
 use Rattle.leading.specs.Steps.{IsCalm}
 use Rattle.leading.specs.Ticks.{Finishing, is_late, timed_out, aged, row_5_calls, left_answer}
 use Rattle.leading.specs.declared.leader.Leader.{Leader}

@@ -14,8 +14,8 @@ use Rattle.abstract_protocol.specs.Protocol.{State, Step, Acknowledge, Ask, Prop
 use Rattle.quorum_round.specs.declared.round.Round.{Round}
 use Rattle.wire_frames.specs.declared.message.Message.{Message}
 use Rattle.wire_frames.specs.declared.message.Message.TheVariants as messages
-use Rattle.wire_frames.specs.declared.phase.Then.{Then}
-use Rattle.wire_frames.specs.declared.phase.Then.TheVariants.{Rule, Untrust}
+use Rattle.phase_rows.specs.declared.phase.Then.{Then}
+use Rattle.phase_rows.specs.declared.phase.Then.TheVariants.{Rule, Untrust}
 use Rattle.call_table.specs.Calls.{running}
 use Rattle.call_table.specs.Rows.{row_at}
 use Rattle.call_table.specs.declared.row.Found.{Found}

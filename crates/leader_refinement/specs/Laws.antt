@@ -6,8 +6,8 @@ use Rattle.ens_base.specs.declared.epoch.Epoch.{Epoch}
 use Rattle.ens_base.specs.declared.reply.Reply.{Reply}
 use Rattle.ens_base.specs.declared.epoch.Version.{Version}
 use Rattle.ens_object.specs.declared.object.Object.{Object}
-use Rattle.wire_frames.specs.declared.phase.Seen.{Seen}
-use Rattle.wire_frames.specs.declared.phase.Seen.TheVariants as seens
+use Rattle.phase_rows.specs.declared.phase.Seen.{Seen}
+use Rattle.phase_rows.specs.declared.phase.Seen.TheVariants as seens
 use Rattle.abstract_protocol.specs.Book.{version_of}
 use Rattle.abstract_protocol.specs.Protocol.{State, Step, Write, MayCome, happens, after}
 use Rattle.abstract_protocol.specs.Numbers.{epoch_number, IsEpoch, IsVersion}

@@ -5,7 +5,7 @@ use leading::Leader;
 use peer_fact::{Change, Fact};
 use std::alloc::Global;
 use std::test::Fail;
-use wire_frames::{Seen, Then};
+use phase_rows::{Seen, Then};
 
 const EPOCH: Epoch = Epoch {
     count: 2,

@@ -10,7 +10,8 @@ use ens_object::Object;
 use joint_views::members;
 use register_model::Note;
 use std::alloc::Global;
-use wire_frames::{Message, Then};
+use phase_rows::Then;
+use wire_frames::Message;
 
 /// A message and its receiver.
 #[derive(Debug, Drop)]

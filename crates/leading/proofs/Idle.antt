@@ -9,8 +9,8 @@ use Rattle.ens_base.specs.declared.epoch.Epoch.{Epoch}
 use Rattle.ens_base.specs.declared.epoch.Version.{Version}
 use Rattle.ens_object.specs.declared.object.Object.{Object}
 use Rattle.register_model.specs.declared.note.Note.{Note}
-use Rattle.wire_frames.specs.declared.phase.Seen.{Seen}
-use Rattle.wire_frames.specs.declared.phase.Then.TheVariants.{Rule}
+use Rattle.phase_rows.specs.declared.phase.Seen.{Seen}
+use Rattle.phase_rows.specs.declared.phase.Then.TheVariants.{Rule}
 use Rattle.call_table.specs.Calls.{has_calls, running, without_running, older, due, not_due}
 use Rattle.call_table.specs.Rows.{row_at, check_at}
 use Rattle.call_table.specs.Late.{late_put_after}

@@ -8,8 +8,8 @@ use Rattle.ens_base.specs.declared.epoch.Version.{Version}
 use Rattle.ens_base.specs.declared.reply.Reply.{Reply}
 use Rattle.register_model.specs.declared.note.Note.{Note}
 use Rattle.register_model.specs.declared.note.Note.TheVariants.{Proposed, Settled, Read}
-use Rattle.wire_frames.specs.declared.phase.Then.{Then}
-use Rattle.wire_frames.specs.declared.phase.Then.TheVariants.{Stay, Untrust}
+use Rattle.phase_rows.specs.declared.phase.Then.{Then}
+use Rattle.phase_rows.specs.declared.phase.Then.TheVariants.{Stay, Untrust}
 use Rattle.call_table.specs.Calls.{running, without_running}
 use Rattle.call_table.specs.Rows.{row_at}
 use Rattle.call_table.specs.Tables.{ended, rested}

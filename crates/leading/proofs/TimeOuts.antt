@@ -4,8 +4,8 @@ use Rattle.std.proofs.lemmas.List.{length-map}
 use Rattle.ens_base.specs.Lists.{same_bytes}
 use Rattle.ens_base.proofs.Lists.{bytes_same, bytes_itself}
 use Rattle.ens_base.specs.declared.reply.Reply.TheVariants as replies
-use Rattle.wire_frames.specs.declared.phase.Then.{Then}
-use Rattle.wire_frames.specs.declared.phase.Then.TheVariants.{Stay, Rule}
+use Rattle.phase_rows.specs.declared.phase.Then.{Then}
+use Rattle.phase_rows.specs.declared.phase.Then.TheVariants.{Stay, Rule}
 use Rattle.call_table.specs.Calls.{running, waiting_on, older, is_due, not_due, due, due_after, key_if_running}
 use Rattle.call_table.specs.Rows.{Rows, row_at}
 use Rattle.call_table.specs.Tables.{rested, rested_if, rested_all, without_due, late_put}

@@ -12,9 +12,9 @@ use Rattle.quorum_round.specs.declared.round.RoundState.{RoundState}
 use Rattle.quorum_round.specs.declared.round.RoundState.TheVariants.{Open}
 use Rattle.register_model.specs.declared.note.Note.TheVariants.{Proposed, Settled}
 use Rattle.wire_frames.specs.declared.message.Message.TheVariants.{Put}
-use Rattle.wire_frames.specs.declared.phase.Seen.{Seen}
-use Rattle.wire_frames.specs.declared.phase.Seen.TheVariants as seens
-use Rattle.wire_frames.specs.declared.phase.Then.TheVariants.{Untrust}
+use Rattle.phase_rows.specs.declared.phase.Seen.{Seen}
+use Rattle.phase_rows.specs.declared.phase.Seen.TheVariants as seens
+use Rattle.phase_rows.specs.declared.phase.Then.TheVariants.{Untrust}
 use Rattle.call_table.specs.Calls.{running}
 use Rattle.call_table.specs.Rows.{row_at}
 use Rattle.call_table.specs.declared.row.Stage.{Stage}

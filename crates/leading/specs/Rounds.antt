@@ -16,9 +16,9 @@ use Rattle.register_model.specs.Registers.{outcome}
 use Rattle.register_model.specs.declared.register.Register.{Register}
 use Rattle.register_model.specs.declared.register.Register.TheVariants as registers
 use Rattle.wire_frames.specs.declared.message.Message.TheVariants.{Get, Check}
-use Rattle.wire_frames.specs.declared.phase.Seen.{Seen}
-use Rattle.wire_frames.specs.declared.phase.Seen.TheVariants as seens
-use Rattle.wire_frames.specs.declared.phase.Then.TheVariants.{Untrust}
+use Rattle.phase_rows.specs.declared.phase.Seen.{Seen}
+use Rattle.phase_rows.specs.declared.phase.Seen.TheVariants as seens
+use Rattle.phase_rows.specs.declared.phase.Then.TheVariants.{Untrust}
 use Rattle.call_table.specs.Best.{better}
 use Rattle.call_table.specs.Calls.{running}
 use Rattle.call_table.specs.Rows.{row_at, check_at, with_check}

@@ -1,6 +1,6 @@
 -- The rules on a key, by their numbers.
 use Rattle.std.specs.Prelude.{ℕ, ◌==◌, if◌then◌else◌, List}
-use Rattle.wire_frames.specs.declared.phase.Seen.{Seen}
+use Rattle.phase_rows.specs.declared.phase.Seen.{Seen}
 use Rattle.leader_words.specs.declared.out.LeadOut.{LeadOut}
 use Rattle.leading.specs.Leaders.{idle}
 use Rattle.leading.specs.Starts.{row_28, row_36}

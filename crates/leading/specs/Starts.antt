@@ -9,8 +9,8 @@ use Rattle.key_commands.specs.Commands.{register_of, verdict_of, stamp_verdict}
 use Rattle.key_commands.specs.declared.verdict.Verdict.{Verdict}
 use Rattle.register_model.specs.Registers.{outcome}
 use Rattle.register_model.specs.declared.register.Register.TheVariants as registers
-use Rattle.wire_frames.specs.declared.phase.Seen.{Seen}
-use Rattle.wire_frames.specs.declared.phase.Seen.TheVariants as seens
+use Rattle.phase_rows.specs.declared.phase.Seen.{Seen}
+use Rattle.phase_rows.specs.declared.phase.Seen.TheVariants as seens
 use Rattle.call_table.specs.Calls.{waiting_on, running}
 use Rattle.call_table.specs.Rows.{row_at}
 use Rattle.call_table.specs.declared.row.Known.{Known}

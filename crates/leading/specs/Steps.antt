@@ -14,10 +14,10 @@ use Rattle.quorum_round.specs.declared.round.Round.{Round}
 use Rattle.register_model.specs.declared.note.Note.{Note}
 use Rattle.register_model.specs.declared.note.Note.TheVariants.{Proposed, Settled, Read}
 use Rattle.wire_frames.specs.Messages.{Obeys}
-use Rattle.wire_frames.specs.declared.phase.Seen.{Seen}
-use Rattle.wire_frames.specs.declared.phase.Seen.TheVariants.{Stored}
-use Rattle.wire_frames.specs.declared.phase.Then.{Then}
-use Rattle.wire_frames.specs.declared.phase.Then.TheVariants.{Stay, Untrust, Rule}
+use Rattle.phase_rows.specs.declared.phase.Seen.{Seen}
+use Rattle.phase_rows.specs.declared.phase.Seen.TheVariants.{Stored}
+use Rattle.phase_rows.specs.declared.phase.Then.{Then}
+use Rattle.phase_rows.specs.declared.phase.Then.TheVariants.{Stay, Untrust, Rule}
 use Rattle.call_table.specs.Calls.{running, without_running, older, is_due, not_due}
 use Rattle.call_table.specs.Rows.{row_at}
 use Rattle.call_table.specs.declared.row.Stage.{Stage}

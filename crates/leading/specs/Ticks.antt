@@ -6,8 +6,8 @@ use Rattle.peer_fact.specs.declared.fact.Fact.{Fact}
 use Rattle.phase_rows.specs.Orders.{is_joint}
 use Rattle.wire_frames.specs.declared.message.Message.{Message}
 use Rattle.wire_frames.specs.declared.message.Message.TheVariants.{NewEpoch, Commit, Beat}
-use Rattle.wire_frames.specs.declared.phase.Then.{Then}
-use Rattle.wire_frames.specs.declared.phase.Then.TheVariants.{Stay, Rule}
+use Rattle.phase_rows.specs.declared.phase.Then.{Then}
+use Rattle.phase_rows.specs.declared.phase.Then.TheVariants.{Stay, Rule}
 use Rattle.call_table.specs.Calls.{older, due}
 use Rattle.call_table.specs.Tables.{late_put, without_due}
 use Rattle.call_table.specs.declared.table.CallTable.{CallTable}

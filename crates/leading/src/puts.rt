@@ -1,7 +1,7 @@
 ghost use Rattle.std.specs.Prelude.{◌≡◌, ◌+◌, ◌&&◌, IfOk, Some};
 ghost use Rattle.ens_base.specs.Epochs.{same_version};
 ghost use Rattle.phase_rows.specs.Orders.{is_same};
-ghost use Rattle.wire_frames.specs.declared.phase.Seen.TheVariants as seens;
+ghost use Rattle.phase_rows.specs.declared.phase.Seen.TheVariants as seens;
 ghost use Rattle.leading.specs.Puts.{proposed, written_for, row_31, rewritten, row_32, write_settled, settled_for, acknowledged, put_stored, put_seen, put_for, row_35, acknowledged_by, row_35_reply};
 
 use crate::leader::{Leader, is_last, settled_known};
@@ -14,7 +14,8 @@ use peer_fact::{Change, Fact};
 use quorum_round::{Round, RoundState};
 use register_model::Note;
 use std::alloc::Global;
-use wire_frames::{Message, Seen, Then};
+use phase_rows::{Seen, Then};
+use wire_frames::Message;
 
 impl Leader {
     fn propose(

@@ -4,7 +4,7 @@ ghost use Rattle.call_table.specs.Rows.{check_at};
 ghost use Rattle.call_table.specs.declared.row.Stage.TheVariants.{Reading};
 ghost use Rattle.quorum_round.specs.Rounds.{begun};
 ghost use Rattle.leading.specs.Leaders.{stands};
-ghost use Rattle.wire_frames.specs.declared.phase.Seen.TheVariants as seens;
+ghost use Rattle.phase_rows.specs.declared.phase.Seen.TheVariants as seens;
 ghost use Rattle.phase_rows.specs.Orders.{is_same};
 ghost use Rattle.key_commands.specs.Commands.{verdict_of};
 ghost use Rattle.register_model.specs.Registers.{outcome};
@@ -20,7 +20,8 @@ use leader_words::{LeadError, LeadOut, Own};
 use peer_fact::{Change, Fact};
 use quorum_round::{Round, RoundState};
 use std::alloc::Global;
-use wire_frames::{Message, Seen, Then};
+use phase_rows::{Seen, Then};
+use wire_frames::Message;
 
 /// Applies the command to the settled object. `None` means that the key is absent.
 fn verdict_at(

@@ -6,7 +6,8 @@ use ens_base::Key;
 use leader_words::{LeadError, LeadOut};
 use peer_fact::{Change, Fact};
 use std::alloc::Global;
-use wire_frames::{Message, Seen};
+use phase_rows::Seen;
+use wire_frames::Message;
 
 impl Leader {
     /// Runs the rule of this number, 28 to 36, on a key. `seen` is what the peer's own tree and backend

@@ -12,7 +12,8 @@ use key_commands::{Verdict, apply, on_absent, on_stamp};
 use leader_words::{LeadError, LeadOut, Own};
 use peer_fact::{Change, Fact};
 use std::alloc::Global;
-use wire_frames::{Message, Seen};
+use phase_rows::Seen;
+use wire_frames::Message;
 
 /// Returns the object that the backend keeps, if the entry names it.
 fn named_object<'a>(entry: &Entry, kept: &'a Option<(Object, Digest)>) -> Option<&'a Object>

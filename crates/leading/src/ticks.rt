@@ -8,7 +8,8 @@ use joint_views::members;
 use leader_words::{LeadError, LeadOut, is_other_of};
 use peer_fact::{Change, Fact};
 use std::alloc::Global;
-use wire_frames::{Message, Then};
+use phase_rows::Then;
+use wire_frames::Message;
 
 /// Whether the change that ends the epoch has reached age 8.
 fn is_late(finishing: &Option<(PeerSet, u8)>) -> bool

@@ -18,7 +18,8 @@ use peer_plan::own_key;
 use peer_state::{CallIn, Phase};
 use std::alloc::Global;
 use step_plans::{Outbox, PeerError, Store, Task, Tasks};
-use wire_frames::{Message, Seen, Then};
+use phase_rows::{Seen, Then};
+use wire_frames::Message;
 
 impl<S> Machine<S> {
     /// Asks the peer's own tree and backend for a rule of a leader.

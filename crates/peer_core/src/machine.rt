@@ -15,7 +15,8 @@ use peer_state::State;
 use std::alloc::Global;
 use std::thread::Threads;
 use step_plans::{Outbox, PeerError, Store, Task, Tasks};
-use wire_frames::{Message, PhaseOut, Seen, Then};
+use phase_rows::{PhaseOut, Seen, Then};
+use wire_frames::Message;
 
 /// The state of a peer and its stores.
 #[derive(Drop)]

@@ -13,7 +13,7 @@ use kept_objects::{entry_of, matching, object_in};
 use peer_plan::seen_at;
 use std::alloc::Global;
 use step_plans::{Outbox, PeerError, Store, Walked};
-use wire_frames::Seen;
+use phase_rows::Seen;
 
 /// Encodes the object. Fails only when out of memory.
 fn bytes_of(alloc: Global, object: &Object) -> Result<Vec<u8>, PeerError>

@@ -20,7 +20,8 @@ use peer_state::{Event, Phase};
 use std::alloc::Global;
 use std::thread::Threads;
 use step_plans::{Outbox, PeerError, Store, Task, Tasks};
-use wire_frames::{Message, PhaseOut, Seen, Then};
+use phase_rows::{PhaseOut, Seen, Then};
+use wire_frames::Message;
 
 /// A number of tasks that no step reaches.
 #[tactic(auto, unfolding(peer_plan::specs::Drives::most_turns))]

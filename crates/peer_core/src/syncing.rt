@@ -25,7 +25,8 @@ use std::thread::Threads;
 use step_plans::{Outbox, PeerError, Store, Tasks, Walked};
 use sync_rule::{Outcome, needs_build};
 use tree_node::{Position, Scan, TreeBody};
-use wire_frames::{Message, Then};
+use phase_rows::Then;
+use wire_frames::Message;
 
 impl<S> Machine<S> {
     #[tactic(auto, using(peer_plan::proofs::Parts::asked_did))]

@@ -9,9 +9,9 @@ use Rattle.peer_fact.specs.declared.fact.Change.TheVariants.{Add}
 use Rattle.view_change.specs.Changes.{row_24}
 use Rattle.wire_frames.specs.declared.message.Message.{Message}
 use Rattle.wire_frames.specs.declared.message.Message.TheVariants as messages
-use Rattle.wire_frames.specs.declared.phase.PhaseOut.{PhaseOut}
-use Rattle.wire_frames.specs.declared.phase.Then.{Then}
-use Rattle.wire_frames.specs.declared.phase.Then.TheVariants as thens
+use Rattle.phase_rows.specs.declared.phase.PhaseOut.{PhaseOut}
+use Rattle.phase_rows.specs.declared.phase.Then.{Then}
+use Rattle.phase_rows.specs.declared.phase.Then.TheVariants as thens
 use Rattle.peer_plan.specs.Kept.{IsOwn, SyncsAs}
 use Rattle.peer_state.specs.Moves.{left, turned, stood, waiting_for}
 use Rattle.peer_state.specs.Rows.{runs_sync, aged, aged_election, leads, changes, wanting, asked_change, phase_row, received}

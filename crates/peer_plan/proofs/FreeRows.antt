@@ -25,8 +25,8 @@ use Rattle.step_plans.specs.declared.tasks.Task.TheVariants.{Phase as OnPhase}
 use Rattle.step_plans.proofs.Alone.{posted_alone}
 use Rattle.wire_frames.specs.declared.message.Message.{Message}
 use Rattle.wire_frames.specs.declared.message.Message.TheVariants as messages
-use Rattle.wire_frames.specs.declared.phase.PhaseOut.{PhaseOut}
-use Rattle.wire_frames.specs.declared.phase.Then.TheVariants as thens
+use Rattle.phase_rows.specs.declared.phase.PhaseOut.{PhaseOut}
+use Rattle.phase_rows.specs.declared.phase.Then.TheVariants as thens
 use Rattle.peer_plan.specs.Drives.{row_done, delivered, responded, driven, concluded, most_turns, step_of, MayCome}
 use Rattle.peer_plan.specs.Syncs.{and_sends}
 use Rattle.peer_plan.specs.Kept.{IsStepCall}

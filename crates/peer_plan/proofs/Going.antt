@@ -20,9 +20,9 @@ use Rattle.view_change.specs.Changes.{may_change, row_24, row_25}
 use Rattle.view_change.specs.declared.finishing.Finishing.{Finishing}
 use Rattle.wire_frames.specs.declared.message.Message.{Message}
 use Rattle.wire_frames.specs.declared.message.Message.TheVariants as messages
-use Rattle.wire_frames.specs.declared.phase.PhaseOut.{PhaseOut}
-use Rattle.wire_frames.specs.declared.phase.Then.{Then}
-use Rattle.wire_frames.specs.declared.phase.Then.TheVariants as thens
+use Rattle.phase_rows.specs.declared.phase.PhaseOut.{PhaseOut}
+use Rattle.phase_rows.specs.declared.phase.Then.{Then}
+use Rattle.phase_rows.specs.declared.phase.Then.TheVariants as thens
 use Rattle.peer_plan.specs.Kept.{LeadsAs}
 use Rattle.peer_state.specs.Moves.{stopped_leading, without_candidacy, left, turned, stood, waiting_phase, waiting_for}
 use Rattle.peer_state.specs.Rows.{runs_sync, aged, aged_election, prepared, accepted_by, leads, changes, wanting, asked_change, finishing, begun_change, ended, phase_row, received}

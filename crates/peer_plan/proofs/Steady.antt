@@ -24,9 +24,9 @@ use Rattle.step_plans.specs.declared.tasks.Task.{Task}
 use Rattle.step_plans.specs.declared.tasks.Task.TheVariants as tasks
 use Rattle.view_change.specs.Finishing.{may_end}
 use Rattle.view_change.specs.declared.finishing.Finishing.{Finishing}
-use Rattle.wire_frames.specs.declared.phase.PhaseOut.{PhaseOut}
-use Rattle.wire_frames.specs.declared.phase.Then.{Then}
-use Rattle.wire_frames.specs.declared.phase.Then.TheVariants as thens
+use Rattle.phase_rows.specs.declared.phase.PhaseOut.{PhaseOut}
+use Rattle.phase_rows.specs.declared.phase.Then.{Then}
+use Rattle.phase_rows.specs.declared.phase.Then.TheVariants as thens
 use Rattle.peer_state.specs.Ages.{IsYoung}
 use Rattle.peer_plan.specs.Drives.{row_done, driven, concluded, most_turns, step_of, MayCome}
 use Rattle.peer_plan.specs.Syncs.{saved, and_sends, with_sync, accepted, accepted_own, accepted_in, ended_with, gone_on, resumed_sync, followed_on}

@@ -8,8 +8,8 @@ use Rattle.step_plans.specs.Calls.{Find, Enter, Fetch, Put, Hash}
 use Rattle.step_plans.specs.Plans.{Part, asked}
 use Rattle.step_plans.specs.declared.walked.Walked.{Walked}
 use Rattle.step_plans.specs.declared.walked.Walked.TheVariants.{Reached, Broken}
-use Rattle.wire_frames.specs.declared.phase.Seen.{Seen}
-use Rattle.wire_frames.specs.declared.phase.Seen.TheVariants as seens
+use Rattle.phase_rows.specs.declared.phase.Seen.{Seen}
+use Rattle.phase_rows.specs.declared.phase.Seen.TheVariants as seens
 use Rattle.peer_state.specs.declared.state.State.{State}
 
 -- the object in these bytes, if they are one, with their digest

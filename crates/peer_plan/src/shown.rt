@@ -11,7 +11,8 @@ use following::tell_damage;
 use std::alloc::Global;
 use step_plans::{PeerError, Walked};
 use tree_node::TreeBody;
-use wire_frames::{Message, NackCause, PhaseOut, Seen};
+use phase_rows::{PhaseOut, Seen};
+use wire_frames::{Message, NackCause};
 
 /// What rule 22 is shown of the entry of a key.
 pub fn seen_at(walked: Walked<Option<Entry>>) -> Seen

@@ -12,9 +12,9 @@ use Rattle.phase_rows.specs.Orders.{may_accept}
 use Rattle.probe.specs.Probing.{row_9}
 use Rattle.probe.specs.declared.probing.Probing.{Probing}
 use Rattle.view_change.specs.Finishing.{may_end}
-use Rattle.wire_frames.specs.declared.phase.PhaseOut.{PhaseOut}
-use Rattle.wire_frames.specs.declared.phase.Then.{Then}
-use Rattle.wire_frames.specs.declared.phase.Then.TheVariants as thens
+use Rattle.phase_rows.specs.declared.phase.PhaseOut.{PhaseOut}
+use Rattle.phase_rows.specs.declared.phase.Then.{Then}
+use Rattle.phase_rows.specs.declared.phase.Then.TheVariants as thens
 use Rattle.peer_state.specs.Rows.{begun_change, ended}
 use Rattle.peer_state.specs.declared.state.ChangeState.{ChangeState}
 use Rattle.peer_state.specs.declared.state.ChangeState.TheVariants.{Settled, Wanted, Finishing as Finishes}

@@ -20,9 +20,9 @@ use Rattle.view_change.specs.Changes.{row_24}
 use Rattle.view_change.specs.declared.finishing.Finishing.{Finishing}
 use Rattle.wire_frames.specs.declared.message.Message.{Message}
 use Rattle.wire_frames.specs.declared.message.Message.TheVariants as messages
-use Rattle.wire_frames.specs.declared.phase.PhaseOut.{PhaseOut}
-use Rattle.wire_frames.specs.declared.phase.Then.{Then}
-use Rattle.wire_frames.specs.declared.phase.Then.TheVariants as thens
+use Rattle.phase_rows.specs.declared.phase.PhaseOut.{PhaseOut}
+use Rattle.phase_rows.specs.declared.phase.Then.{Then}
+use Rattle.phase_rows.specs.declared.phase.Then.TheVariants as thens
 use Rattle.peer_state.specs.Ages.{IsYoung, IsYoungChange, IsYoungElection}
 use Rattle.peer_state.specs.Moves.{stopped_leading, without_candidacy, left, turned, waiting_phase, waiting_for}
 use Rattle.peer_state.specs.Rows.{runs_sync, prepared, change_heard, leads, changes, wanting, asked_change, begun_change, phase_row, received}

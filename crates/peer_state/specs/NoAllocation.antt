@@ -4,15 +4,15 @@ use Rattle.std.specs.Prelude.{◌≡◌, ◌≢◌, ℕ, Bool, true, false}
 use Rattle.call_table.specs.Calls.{has_calls}
 use Rattle.peer_fact.specs.declared.fact.Fact.{Fact}
 use Rattle.step_plans.specs.Outboxes.{FitsIn}
-use Rattle.wire_frames.specs.declared.phase.Then.{Then}
-use Rattle.wire_frames.specs.declared.phase.Then.TheVariants as thens
+use Rattle.phase_rows.specs.declared.phase.Then.{Then}
+use Rattle.phase_rows.specs.declared.phase.Then.TheVariants as thens
 use Rattle.step_plans.specs.declared.outbox.Outbox.{Outbox}
 use Rattle.step_plans.specs.declared.tasks.Task.{Task}
 use Rattle.step_plans.specs.declared.tasks.Task.TheVariants as tasks
 use Rattle.view_change.specs.Finishing.{may_end}
 use Rattle.wire_frames.specs.declared.message.Message.{Message}
 use Rattle.wire_frames.specs.declared.message.Message.TheVariants as messages
-use Rattle.wire_frames.specs.declared.phase.PhaseOut.{PhaseOut}
+use Rattle.phase_rows.specs.declared.phase.PhaseOut.{PhaseOut}
 use Rattle.peer_state.specs.Moves.{waits, ends_leading}
 use Rattle.peer_state.specs.Rows.{phase_row}
 use Rattle.peer_state.specs.declared.event.Event.{Event}

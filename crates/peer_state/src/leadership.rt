@@ -8,10 +8,10 @@ use crate::state::{ChangeState, Leadership};
 use ens_base::{Epoch, PeerId, PeerSet};
 use leader_words::{LeadError, LeadOut, Outgoing};
 use peer_fact::{Change, Fact};
-use phase_rows::silent;
+use phase_rows::{PhaseOut, Then, silent};
 use std::alloc::Global;
 use view_change::{Finishing, rule_25};
-use wire_frames::{Message, PhaseOut, Then};
+use wire_frames::Message;
 
 impl ChangeState {
     /// Rule 17: counts an acceptance of the second fact, if the epoch is ending.

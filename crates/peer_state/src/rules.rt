@@ -9,13 +9,13 @@ use ens_object::Object;
 use exchange::Question;
 use following::{rule_16, rule_18, rule_19, rule_20, rule_21, rule_22, rule_23};
 use peer_fact::{Change, Fact};
-use phase_rows::silent;
+use phase_rows::{PhaseOut, Seen, Then, silent};
 use probe::{rule_7, rule_8_probe};
 use std::alloc::Global;
 use step_plans::PeerError;
 use tree_node::TreeBody;
 use view_change::rule_24;
-use wire_frames::{Message, NackCause, PhaseOut, Seen, Then};
+use wire_frames::{Message, NackCause};
 
 impl State {
     ghost use Rattle.peer_state.specs.Rows.{aged, begun, while_8, while_9, prepared, while_10, while_12, while_13, while_14, while_15, while_17};

@@ -16,7 +16,7 @@ use std::alloc::Global;
 use std::mem::replace;
 use step_plans::{AnswerOut, Outbox, PeerError};
 use view_change::Finishing;
-use wire_frames::Then;
+use phase_rows::Then;
 
 /// How far a leader is with a change of the view.
 #[derive(Debug, Drop)]

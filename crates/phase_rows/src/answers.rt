@@ -5,7 +5,8 @@ ghost use Rattle.phase_rows.specs.Rows.{silent as is_silent, sends, saves, saves
 use crate::peers::alone;
 use ens_base::{Epoch, PeerId, PeerSet};
 use peer_fact::Fact;
-use wire_frames::{Message, NackCause, PhaseOut, Then};
+use crate::phase::{PhaseOut, Then};
+use wire_frames::{Message, NackCause};
 
 /// Saves nothing and sends nothing.
 pub fn silent(then: Then) -> PhaseOut

@@ -2,7 +2,7 @@ ghost use Rattle.std.specs.Prelude.{◌≡◌, ℕ, true};
 ghost use Rattle.ens_base.specs.PeerSet.{holds};
 ghost use Rattle.joint_views.specs.Quorums.{is_quorum};
 ghost use Rattle.peer_fact.specs.declared.fact.Fact.{Fact};
-ghost use Rattle.wire_frames.specs.declared.phase.Then.TheVariants.{Rule};
+ghost use Rattle.phase_rows.specs.declared.phase.Then.TheVariants.{Rule};
 ghost use Rattle.probe.specs.declared.probing.Probing.{Probing};
 ghost use Rattle.probe.specs.Laws.{HasGrown, HasReckonedWith};
 ghost use Rattle.probe.specs.Probing.{row_8, row_9};

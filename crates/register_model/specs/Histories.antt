@@ -1,5 +1,5 @@
 -- A history of one key, and when it is legal (after Herlihy and Wing 1990).
-use Rattle.std.specs.Prelude.{◌≡◌, ℕ, ◌<◌, List, [], ◌∷◌, Some, slice_get}
+use Rattle.std.specs.Prelude.{◌≡◌, ℕ, ◌<◌, Bool, true, false, List, [], ◌∷◌, Some, slice_get}
 use Rattle.ens_base.specs.Lists.{◌∈◌, AreDistinct}
 use Rattle.ens_base.specs.declared.epoch.Version.{Version}
 use Rattle.ens_base.specs.declared.reply.Reply.{Reply}
@@ -24,6 +24,21 @@ IsRefused Reply.Unavailable = Unit {0}
 IsRefused Reply.Busy = Unit {0}
 IsRefused Reply.Lost = Unit {0}
 IsRefused reply = ⊥
+
+-- whether the call was completed, as a test
+abbrev pub is_done : Reply → Bool
+is_done (Reply.Value stamp bytes) = true
+is_done Reply.NotFound = true
+is_done (Reply.Ok stamp) = true
+is_done Reply.Failed = true
+is_done reply = false
+
+-- whether the call was refused, as a test
+abbrev pub is_refused : Reply → Bool
+is_refused Reply.Unavailable = true
+is_refused Reply.Busy = true
+is_refused Reply.Lost = true
+is_refused reply = false
 
 -- a completed call has its printed reply; any other call may have any
 abbrev pub MayHave : List Answer → ℕ → Reply → Type 0

@@ -13,6 +13,7 @@ mod history;
 mod note;
 mod printed;
 mod register;
+mod replies;
 
 pub use answer::Answer;
 pub use call::Call;
@@ -20,3 +21,4 @@ pub use history::History;
 pub use note::Note;
 pub use printed::Printed;
 pub use register::Register;
+pub use replies::{is_done, is_refused, the_tests_are_those_of_a_history};

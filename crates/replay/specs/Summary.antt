@@ -6,6 +6,7 @@ use Rattle.md5.specs.Md5.{md5}
 use Rattle.ens_base.specs.Words.{bytes_word}
 use Rattle.ens_base.specs.declared.reply.Reply.{Reply}
 use Rattle.ens_base.specs.declared.status.Status.{Status}
+use Rattle.register_model.specs.Histories.{is_done, is_refused}
 use Rattle.register_model.specs.declared.printed.Printed.{Printed}
 use Rattle.register_model.specs.declared.printed.Printed.TheVariants as lines
 use Rattle.schedule_text.specs.declared.event.ScheduleEvent.{ScheduleEvent}
@@ -14,21 +15,6 @@ use Rattle.schedule_text.specs.declared.schedule.Schedule.{Schedule}
 use Rattle.replay.specs.Text.{IsTextOfRun}
 use Rattle.replay.specs.Worlds.{schedule_run}
 use Rattle.world_spec.specs.Messages.{IsPastMessages, IsWithinMessages}
-
--- whether the call was completed, as a test of IsDone of register_model
-abbrev pub is_done : Reply → Bool
-is_done (Reply.Value stamp bytes) = true
-is_done Reply.NotFound = true
-is_done (Reply.Ok stamp) = true
-is_done Reply.Failed = true
-is_done reply = false
-
--- whether the call was refused, and had no effect, as a test of IsRefused
-abbrev pub is_refused : Reply → Bool
-is_refused Reply.Unavailable = true
-is_refused Reply.Busy = true
-is_refused Reply.Lost = true
-is_refused reply = false
 
 -- whether the line of a run is an answer whose reply passes the test
 abbrev pub answers_with : (Reply → Bool) → Printed → Bool

@@ -14,5 +14,5 @@ mod text;
 mod worlds;
 
 pub use job::{replay, replay_with};
-pub use laws::{a_run_has_one_text, a_text_is_replayed, summaries_count_by_histories};
+pub use laws::{a_run_has_one_text, a_text_is_replayed};
 pub use worlds::summarize;

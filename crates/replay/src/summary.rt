@@ -2,36 +2,31 @@ ghost use Rattle.std.specs.Prelude.{◌≡◌, ◌++◌, ◌∷◌, ℕ, List, I
 ghost use Rattle.std.specs.BTreeSet.{contains};
 ghost use Rattle.std.specs.List.{list_any};
 ghost use Rattle.std.specs.Ordering.{nat_cmp};
+ghost use Rattle.register_model.specs.Histories.{is_done as has_done, is_refused as has_refused};
 ghost use Rattle.register_model.specs.declared.printed.Printed.{Printed};
-ghost use Rattle.replay.specs.Summary.{answers_with, call_count, count_line, digest_line, is_call as has_call, is_done as has_done, is_refused as has_refused, is_unknown as has_unknown, reply_count, reply_counts, schedule_counts, settled_by as settled_call, settles, summary_text};
+ghost use Rattle.replay.specs.Summary.{answers_with, call_count, count_line, digest_line, is_call as has_call, is_unknown as has_unknown, reply_count, reply_counts, schedule_counts, settled_by as settled_call, settles, summary_text};
 
-use ens_base::{Reply, push_bytes};
+use ens_base::push_bytes;
 use ens_hashing::digest_of;
-use register_model::Printed;
+use register_model::{Printed, is_done, is_refused};
 use schedule_text::{Schedule, ScheduleEvent};
 use std::alloc::{AllocError, Global};
 use std::collections::BTreeSet;
 
-fn is_done(line: &Printed) -> bool
+fn is_answer_done(line: &Printed) -> bool
     ensures { result ≡ answers_with has_done line.now }
 {
     match line {
-        Printed::Answer(answer) => matches!(
-            &answer.reply,
-            Reply::Value(_, _) | Reply::NotFound | Reply::Ok(_) | Reply::Failed
-        ),
+        Printed::Answer(answer) => is_done(&answer.reply),
         Printed::Change { .. } => false,
     }
 }
 
-fn is_refused(line: &Printed) -> bool
+fn is_answer_refused(line: &Printed) -> bool
     ensures { result ≡ answers_with has_refused line.now }
 {
     match line {
-        Printed::Answer(answer) => matches!(
-            &answer.reply,
-            Reply::Unavailable | Reply::Busy | Reply::Lost
-        ),
+        Printed::Answer(answer) => is_refused(&answer.reply),
         Printed::Change { .. } => false,
     }
 }
@@ -58,13 +53,13 @@ fn count_calls(events: &[ScheduleEvent]) -> u64
 fn count_done(printed: &[Printed]) -> u64
     ensures { result ≡ reply_count has_done printed.now }
 {
-    printed.iter().filter(|line| is_done(line)).count() as u64
+    printed.iter().filter(|line| is_answer_done(line)).count() as u64
 }
 
 fn count_refused(printed: &[Printed]) -> u64
     ensures { result ≡ reply_count has_refused printed.now }
 {
-    printed.iter().filter(|line| is_refused(line)).count() as u64
+    printed.iter().filter(|line| is_answer_refused(line)).count() as u64
 }
 
 /// Returns the id of the call that the line completes or refuses, if it does.
@@ -72,7 +67,7 @@ fn settled_by(line: &Printed) -> Option<u64>
     ensures { result ≡ settled_call line.now }
 {
     match line {
-        Printed::Answer(answer) if is_done(line) || is_refused(line) => Some(answer.id),
+        Printed::Answer(answer) if is_done(&answer.reply) || is_refused(&answer.reply) => Some(answer.id),
         Printed::Answer(_) | Printed::Change { .. } => None,
     }
 }

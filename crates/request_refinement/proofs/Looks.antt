@@ -6,7 +6,7 @@ use Rattle.ens_base.specs.declared.epoch.Version.{Version}
 use Rattle.ens_object.specs.declared.object.Object.{Object}
 use Rattle.kept_objects.specs.Kept.{matching}
 use Rattle.tree_maps.specs.Entries.{lookup}
-use Rattle.wire_frames.specs.declared.phase.Seen.TheVariants as seens
+use Rattle.phase_rows.specs.declared.phase.Seen.TheVariants as seens
 use Rattle.abstract_protocol.specs.Book.{version_of}
 use Rattle.abstract_protocol.specs.Objects.{epoch_of}
 use Rattle.abstract_protocol.specs.Protocol.{State}

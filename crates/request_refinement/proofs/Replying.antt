@@ -14,10 +14,10 @@ use Rattle.phase_rows.specs.Rows.{silent, sends, refuses, refuses_below}
 use Rattle.tree_maps.specs.Entries.{lookup}
 use Rattle.wire_frames.specs.declared.message.Message.TheVariants as messages
 use Rattle.wire_frames.specs.declared.message.NackCause.TheVariants as causes
-use Rattle.wire_frames.specs.declared.phase.PhaseOut.{PhaseOut}
-use Rattle.wire_frames.specs.declared.phase.Seen.{Seen}
-use Rattle.wire_frames.specs.declared.phase.Seen.TheVariants as seens
-use Rattle.wire_frames.specs.declared.phase.Then.TheVariants.{Stay, Put}
+use Rattle.phase_rows.specs.declared.phase.PhaseOut.{PhaseOut}
+use Rattle.phase_rows.specs.declared.phase.Seen.{Seen}
+use Rattle.phase_rows.specs.declared.phase.Seen.TheVariants as seens
+use Rattle.phase_rows.specs.declared.phase.Then.TheVariants.{Stay, Put}
 use Rattle.following.specs.Refusals.{refusal, unless_refused}
 use Rattle.following.specs.Requests.{row_20, gets, row_21, is_version_below, acknowledges, puts_over, puts_at, puts, row_22}
 use Rattle.abstract_protocol.specs.Numbers.{epoch_number, IsEpoch}

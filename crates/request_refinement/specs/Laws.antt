@@ -10,7 +10,7 @@ use Rattle.kept_objects.specs.Kept.{object_in, matching, entry_of}
 use Rattle.peer_fact.specs.declared.fact.Fact.{Fact}
 use Rattle.tree_maps.specs.Entries.{put}
 use Rattle.wire_frames.specs.declared.message.Message.{Message}
-use Rattle.wire_frames.specs.declared.phase.Seen.{Seen}
+use Rattle.phase_rows.specs.declared.phase.Seen.{Seen}
 use Rattle.following.specs.Requests.{row_20, row_21, row_22}
 use Rattle.abstract_protocol.specs.Numbers.{epoch_number, IsEpoch}
 use Rattle.abstract_protocol.specs.Protocol.{State, Step, Write, happens, after, MayAll}

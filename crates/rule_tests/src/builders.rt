@@ -3,7 +3,8 @@
 use ens_base::{Epoch, PeerId, PeerSet, Version, View, ViewError};
 use peer_fact::Fact;
 use tree_node::TreeBody;
-use wire_frames::{Message, NackCause, PhaseOut, Then};
+use phase_rows::{PhaseOut, Then};
+use wire_frames::{Message, NackCause};
 
 /// The set of these peers. Numbers outside 1 to 31 are left out.
 pub fn set(numbers: &[u32]) -> PeerSet {

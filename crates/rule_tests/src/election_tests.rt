@@ -4,7 +4,8 @@ use ens_base::{Epoch, PeerId, PeerSet, Views};
 use peer_fact::{Change, Fact};
 use std::test::Fail;
 use tree_node::Position;
-use wire_frames::{NackCause, Then};
+use phase_rows::Then;
+use wire_frames::NackCause;
 
 /// The fact of number 1 in epoch 2.2, on the views 1 2 3, at ballot 7.2.
 fn saved() -> Result<Fact, Fail> {

@@ -1,8 +1,8 @@
 use crate::builders::{Answer, Said, silent, view};
 use ens_base::{Epoch, PeerId, ViewError, Views};
 use peer_fact::{Change, Fact};
-use phase_rows::alone;
-use wire_frames::{NackCause, Then};
+use phase_rows::{Then, alone};
+use wire_frames::NackCause;
 
 mod announcements;
 mod puts;

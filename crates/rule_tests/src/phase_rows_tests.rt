@@ -1,12 +1,8 @@
 use crate::builders::{epoch, set};
 use ens_base::{PeerId, PeerSet, View, Views};
 use peer_fact::Fact;
-use phase_rows::{
-    alone, is_below, is_member, is_newer, joined, may_accept, members, others_of, others_outside,
-    silent, with_members,
-};
+use phase_rows::{Then, alone, is_below, is_member, is_newer, joined, may_accept, members, others_of, others_outside, silent, with_members};
 use std::test::Fail;
-use wire_frames::Then;
 
 fn view_of(members: &[PeerId]) -> Result<View, Fail> {
     Ok(View::new(members).ok().ok_or("no view")?)

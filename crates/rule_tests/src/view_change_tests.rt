@@ -3,10 +3,9 @@ ghost use Rattle.ens_base.specs.View.{IsPeer};
 use crate::builders::{Answer, Said, silent, summary};
 use ens_base::{Epoch, PeerId, PeerSet, View, ViewError, Views};
 use peer_fact::{Change, Fact};
-use phase_rows::{alone, joined};
+use phase_rows::{Then, alone, joined};
 use std::test::Fail;
 use view_change::{Finishing, rule_24, rule_25};
-use wire_frames::Then;
 
 /// The epoch 4.2.
 const EPOCH: Epoch = Epoch {

@@ -27,7 +27,7 @@ use Rattle.register_model.specs.Registers.{Outcome, Keeps, Writes, outcome}
 use Rattle.register_model.specs.declared.note.Note.{Note}
 use Rattle.register_model.specs.declared.note.Note.TheVariants.{Settled, Read}
 use Rattle.wire_frames.specs.declared.message.Message.TheVariants as messages
-use Rattle.wire_frames.specs.declared.phase.Seen.TheVariants as seens
+use Rattle.phase_rows.specs.declared.phase.Seen.TheVariants as seens
 use Rattle.call_table.specs.Calls.{running, without_running}
 use Rattle.call_table.specs.Rows.{Rows, row_at, check_round, base_of, with_known, with_stage}
 use Rattle.call_table.specs.Tables.{ended, rested}

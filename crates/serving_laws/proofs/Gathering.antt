@@ -31,7 +31,7 @@ use Rattle.quorum_round.specs.Rounds.{begun, answered as heard_from, state_of}
 use Rattle.quorum_round.specs.declared.round.Round.{Round}
 use Rattle.quorum_round.specs.declared.round.RoundState.{RoundState}
 use Rattle.quorum_round.specs.declared.round.RoundState.TheVariants.{Open, Met, AllAnswered}
-use Rattle.wire_frames.specs.declared.phase.Seen.TheVariants as seens
+use Rattle.phase_rows.specs.declared.phase.Seen.TheVariants as seens
 use Rattle.call_table.proofs.Greatest.{best_is_greatest}
 use Rattle.call_table.specs.Best.{entry_cmp, better, IsGreatest, IsBest}
 use Rattle.call_table.specs.Calls.{running}

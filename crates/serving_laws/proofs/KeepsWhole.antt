@@ -31,8 +31,8 @@ use Rattle.register_model.specs.declared.note.Note.TheVariants.{Settled, Read}
 use Rattle.register_model.specs.declared.register.Register.{Register}
 use Rattle.register_model.specs.declared.register.Register.TheVariants as registers
 use Rattle.wire_frames.specs.declared.message.Message.TheVariants as messages
-use Rattle.wire_frames.specs.declared.phase.Seen.{Seen}
-use Rattle.wire_frames.specs.declared.phase.Seen.TheVariants as seens
+use Rattle.phase_rows.specs.declared.phase.Seen.{Seen}
+use Rattle.phase_rows.specs.declared.phase.Seen.TheVariants as seens
 use Rattle.call_table.specs.Best.{better}
 use Rattle.call_table.specs.Calls.{running}
 use Rattle.call_table.specs.Rows.{Rows, row_at, check_at, check_round, with_known, with_stage, with_check}

@@ -9,7 +9,7 @@ use Rattle.quorum_round.specs.Rounds.{answered as heard_from, state_of}
 use Rattle.quorum_round.specs.declared.round.Round.{Round}
 use Rattle.quorum_round.specs.declared.round.RoundState.{RoundState}
 use Rattle.quorum_round.specs.declared.round.RoundState.TheVariants.{Open, Met, AllAnswered}
-use Rattle.wire_frames.specs.declared.phase.Then.TheVariants.{Rule}
+use Rattle.phase_rows.specs.declared.phase.Then.TheVariants.{Rule}
 use Rattle.call_table.specs.Calls.{running, waiting_on, older, is_due, due, due_after, key_if_running}
 use Rattle.call_table.specs.Rows.{row_at, check_at}
 use Rattle.call_table.specs.Tables.{ended, rested, rested_if, rested_all, without_due, late_put}

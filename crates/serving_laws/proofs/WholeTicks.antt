@@ -8,7 +8,7 @@ use Rattle.ens_base.specs.declared.command.Command.{Command}
 use Rattle.ens_base.specs.declared.reply.Reply.{Reply}
 use Rattle.ens_base.specs.declared.reply.Reply.TheVariants as replies
 use Rattle.peer_fact.specs.declared.fact.Fact.{Fact}
-use Rattle.wire_frames.specs.declared.phase.Then.TheVariants.{Rule}
+use Rattle.phase_rows.specs.declared.phase.Then.TheVariants.{Rule}
 use Rattle.call_table.specs.Calls.{running, waiting_on, due, older}
 use Rattle.call_table.specs.Rows.{Rows, row_at, check_at, check_round}
 use Rattle.call_table.specs.Tables.{rested, rested_if, rested_all, without_due, late_put}

@@ -15,7 +15,7 @@ use Rattle.register_model.specs.Registers.{Outcome, Keeps, Writes}
 use Rattle.register_model.specs.declared.note.Note.{Note}
 use Rattle.register_model.specs.declared.note.Note.TheVariants.{Settled}
 use Rattle.wire_frames.specs.declared.message.Message.{Message}
-use Rattle.wire_frames.specs.declared.phase.Then.TheVariants.{Rule}
+use Rattle.phase_rows.specs.declared.phase.Then.TheVariants.{Rule}
 use Rattle.call_table.specs.Best.{entry_cmp, best_of}
 use Rattle.call_table.specs.Calls.{running, without_running, waiting_on, is_due}
 use Rattle.call_table.specs.Rows.{row_at}

@@ -3,7 +3,7 @@ ghost use Rattle.ens_base.specs.PeerSet.{holds};
 ghost use Rattle.peer_fact.specs.declared.fact.Fact.{Fact};
 ghost use Rattle.phase_rows.specs.Orders.{is_joint};
 ghost use Rattle.wire_frames.specs.declared.message.Message.TheVariants.{NewEpoch, Commit, Beat};
-ghost use Rattle.wire_frames.specs.declared.phase.Then.TheVariants.{Rule};
+ghost use Rattle.phase_rows.specs.declared.phase.Then.TheVariants.{Rule};
 ghost use Rattle.serving_laws.specs.Answers.{IsOther, IsTold, IsNotTold};
 ghost use Rattle.leading.specs.Ticks.{Finishing, row_5_rest};
 ghost use Rattle.leading.specs.declared.leader.Leader.{Leader};

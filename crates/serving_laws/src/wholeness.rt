@@ -5,7 +5,7 @@ ghost use Rattle.ens_base.specs.declared.epoch.Epoch.{Epoch};
 ghost use Rattle.ens_base.specs.declared.epoch.Version.{Version};
 ghost use Rattle.ens_object.specs.declared.object.Object.{Object};
 ghost use Rattle.peer_fact.specs.declared.fact.Fact.{Fact};
-ghost use Rattle.wire_frames.specs.declared.phase.Seen.{Seen};
+ghost use Rattle.phase_rows.specs.declared.phase.Seen.{Seen};
 ghost use Rattle.leading.specs.Leaders.{new_leader};
 ghost use Rattle.leading.specs.Puts.{row_35_reply};
 ghost use Rattle.leading.specs.Rounds.{row_29_reply, row_33_reply};

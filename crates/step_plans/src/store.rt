@@ -14,8 +14,8 @@ use std::alloc::Global;
 use std::thread::Threads;
 use tree_node::{Position, Scan};
 
-/// The stores of a peer, which use a hasher lent to them. Two relations say what a call may do. The
-/// methods are the calls that the rules make so far.
+/// The stores of a peer, which use a hasher lent to them. There is a method for each call that a rule
+/// makes. Two relations say what a call may do.
 pub trait Store<H> {
     /// Whether a call may give this answer, and leave the stores and the hasher in this state.
     ghost does: { Self × H → (call : Call) → AnswerOf call → Self × H → Type 0 };

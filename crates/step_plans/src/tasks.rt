@@ -6,7 +6,7 @@ use crate::error::PeerError;
 use ens_base::Key;
 use std::alloc::{AllocError, Global};
 use std::marker::Model;
-use wire_frames::{Seen, Then};
+use phase_rows::{Seen, Then};
 
 /// A rule that a step still has to run.
 #[derive(Debug, Drop)]

@@ -43,8 +43,8 @@ use Rattle.register_model.specs.declared.note.Note.TheVariants.{Proposed}
 use Rattle.step_plans.specs.Plans.{Plan, Out, Rest}
 use Rattle.step_plans.specs.declared.tasks.Task.{Task}
 use Rattle.step_plans.specs.declared.tasks.Task.TheVariants as tasks
-use Rattle.wire_frames.specs.declared.phase.Seen.{Seen}
-use Rattle.wire_frames.specs.declared.phase.Seen.TheVariants as seens
+use Rattle.phase_rows.specs.declared.phase.Seen.{Seen}
+use Rattle.phase_rows.specs.declared.phase.Seen.TheVariants as seens
 use Rattle.step_refinement.proofs.CallByCall.{Ends, Onward}
 use Rattle.step_refinement.specs.Scenes.{Scene, now, Here}
 use Rattle.step_refinement.proofs.LeadersAtWork.{at_work, own_peer, own_ballot, own_trust}

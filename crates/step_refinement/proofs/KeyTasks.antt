@@ -53,9 +53,9 @@ use Rattle.step_plans.specs.declared.walked.Walked.{Walked}
 use Rattle.step_plans.specs.declared.walked.Walked.TheVariants.{Reached as Came, Broken}
 use Rattle.request_refinement.proofs.Staying.{put_object as said_object}
 use Rattle.tree_node.specs.declared.position.Position.{Position}
-use Rattle.wire_frames.specs.declared.phase.Seen.{Seen}
-use Rattle.wire_frames.specs.declared.phase.Seen.TheVariants as seens
-use Rattle.wire_frames.specs.declared.phase.Then.TheVariants as thens
+use Rattle.phase_rows.specs.declared.phase.Seen.{Seen}
+use Rattle.phase_rows.specs.declared.phase.Seen.TheVariants as seens
+use Rattle.phase_rows.specs.declared.phase.Then.TheVariants as thens
 use Rattle.step_refinement.proofs.CallByCall.{Ends, Onward}
 use Rattle.step_refinement.specs.Scenes.{Scene, state_before, now, Here}
 use Rattle.step_refinement.proofs.ObjectGrammar.{objects_obey, epochs_here}

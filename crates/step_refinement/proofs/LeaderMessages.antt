@@ -30,7 +30,7 @@ use Rattle.tree_maps.specs.Entries.{lookup}
 use Rattle.tree_refinement.specs.Trees.{AreFree}
 use Rattle.wire_frames.specs.declared.message.Message.{Message}
 use Rattle.wire_frames.specs.declared.message.Message.TheVariants as messages
-use Rattle.wire_frames.specs.declared.phase.Seen.TheVariants as seens
+use Rattle.phase_rows.specs.declared.phase.Seen.TheVariants as seens
 use Rattle.step_refinement.proofs.SentMessages.{SaysSo, SendSaysSo, says_one, sends_say}
 use Rattle.step_refinement.specs.Peers.{AcksSay, MessageFits}
 use Rattle.step_refinement.specs.Roles.{said_in_sends}

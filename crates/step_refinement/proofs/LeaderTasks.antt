@@ -32,9 +32,9 @@ use Rattle.register_model.specs.declared.note.Note.{Note}
 use Rattle.step_plans.specs.Plans.{Out}
 use Rattle.step_plans.specs.declared.tasks.Task.{Task}
 use Rattle.step_plans.specs.declared.tasks.Task.TheVariants as tasks
-use Rattle.wire_frames.specs.declared.phase.Seen.{Seen}
-use Rattle.wire_frames.specs.declared.phase.Seen.TheVariants as seens
-use Rattle.wire_frames.specs.declared.phase.Then.TheVariants.{Rule}
+use Rattle.phase_rows.specs.declared.phase.Seen.{Seen}
+use Rattle.phase_rows.specs.declared.phase.Seen.TheVariants as seens
+use Rattle.phase_rows.specs.declared.phase.Then.TheVariants.{Rule}
 use Rattle.step_refinement.specs.Scenes.{Scene, now, Here, AtRest}
 use Rattle.step_refinement.proofs.LeadersAtWork.{at_work, own_ballot}
 use Rattle.step_refinement.proofs.LeaderOutcomes.{IsNamed, IsTame, IsDamage, IsLooking, tame_28, tame_30, tame_33, tame_34, tame_36}

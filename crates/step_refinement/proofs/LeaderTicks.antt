@@ -41,8 +41,8 @@ use Rattle.step_plans.specs.Plans.{Out, Rest}
 use Rattle.step_plans.specs.Tasks.{keyed}
 use Rattle.step_plans.specs.declared.tasks.Task.{Task}
 use Rattle.step_plans.specs.declared.tasks.Task.TheVariants as tasks
-use Rattle.wire_frames.specs.declared.phase.Then.{Then}
-use Rattle.wire_frames.specs.declared.phase.Then.TheVariants.{Stay, Rule}
+use Rattle.phase_rows.specs.declared.phase.Then.{Then}
+use Rattle.phase_rows.specs.declared.phase.Then.TheVariants.{Stay, Rule}
 use Rattle.step_refinement.proofs.CallByCall.{Ends, Onward}
 use Rattle.step_refinement.specs.Scenes.{Scene, now, Here, AtRest}
 use Rattle.step_refinement.proofs.LeadersAtWork.{at_work, moved_here}

@@ -26,7 +26,7 @@ use Rattle.step_plans.specs.Plans.{Out}
 use Rattle.sync_refinement.proofs.Staying.{version_stays}
 use Rattle.sync_refinement.specs.Syncs.{SyncMaySay}
 use Rattle.version_laws.proofs.Maps.{put_here, put_other}
-use Rattle.wire_frames.specs.declared.phase.Then.TheVariants as thens
+use Rattle.phase_rows.specs.declared.phase.Then.TheVariants as thens
 use Rattle.step_refinement.proofs.CallByCall.{rest_task}
 use Rattle.step_refinement.specs.Scenes.{Scene, Reached, state_before, now, Elsewhere, AtRest}
 use Rattle.step_refinement.proofs.Stretches.{elsewhere_then, owed_both, role_here, role_replaced}

@@ -33,7 +33,7 @@ use Rattle.wire_frames.specs.declared.message.Message.{Message}
 use Rattle.wire_frames.specs.declared.message.Message.TheVariants as messages
 use Rattle.wire_frames.specs.declared.message.NackCause.{NackCause}
 use Rattle.wire_frames.specs.declared.message.NackCause.TheVariants as causes
-use Rattle.wire_frames.specs.declared.phase.PhaseOut.{PhaseOut}
+use Rattle.phase_rows.specs.declared.phase.PhaseOut.{PhaseOut}
 use Rattle.step_refinement.specs.Peers.{MessageFits}
 use Rattle.step_refinement.specs.Roles.{said_of}
 

@@ -30,8 +30,8 @@ use Rattle.peer_state.specs.declared.state.Phase.TheVariants as phases
 use Rattle.peer_state.specs.declared.state.State.{State as PeerState}
 use Rattle.peer_fact.specs.declared.fact.Fact.{Fact}
 use Rattle.step_plans.specs.Plans.{Out}
-use Rattle.wire_frames.specs.declared.phase.Then.{Then}
-use Rattle.wire_frames.specs.declared.phase.Then.TheVariants as thens
+use Rattle.phase_rows.specs.declared.phase.Then.{Then}
+use Rattle.phase_rows.specs.declared.phase.Then.TheVariants as thens
 use Rattle.step_refinement.proofs.Stretches.{owed_both}
 use Rattle.step_refinement.specs.Peers.{PhaseFits, IsAtRest}
 use Rattle.step_refinement.specs.Roles.{role_in}

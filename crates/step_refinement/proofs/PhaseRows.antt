@@ -49,9 +49,9 @@ use Rattle.tree_refinement.proofs.Tops as records
 use Rattle.tree_refinement.specs.Tops.{tops_of}
 use Rattle.tree_refinement.specs.Trees.{AreAmong}
 use Rattle.wire_frames.specs.declared.message.Message.{Message}
-use Rattle.wire_frames.specs.declared.phase.PhaseOut.{PhaseOut}
-use Rattle.wire_frames.specs.declared.phase.Then.{Then}
-use Rattle.wire_frames.specs.declared.phase.Then.TheVariants as thens
+use Rattle.phase_rows.specs.declared.phase.PhaseOut.{PhaseOut}
+use Rattle.phase_rows.specs.declared.phase.Then.{Then}
+use Rattle.phase_rows.specs.declared.phase.Then.TheVariants as thens
 use Rattle.step_refinement.proofs.CallByCall.{Ends, Onward, Answers, IsRefused, ask_may_end, rest_task}
 use Rattle.step_refinement.specs.Scenes.{Scene, Reached, now, AtRest, Rests}
 use Rattle.step_refinement.proofs.LostTrust.{Nearly, loses}

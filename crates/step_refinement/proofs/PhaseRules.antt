@@ -41,9 +41,9 @@ use Rattle.step_plans.specs.declared.tasks.Task.TheVariants as tasks
 use Rattle.sync_laws.specs.Facts.{Lines}
 use Rattle.wire_frames.specs.declared.message.Message.{Message}
 use Rattle.wire_frames.specs.declared.message.Message.TheVariants as messages
-use Rattle.wire_frames.specs.declared.phase.PhaseOut.{PhaseOut}
-use Rattle.wire_frames.specs.declared.phase.Then.{Then}
-use Rattle.wire_frames.specs.declared.phase.Then.TheVariants as thens
+use Rattle.phase_rows.specs.declared.phase.PhaseOut.{PhaseOut}
+use Rattle.phase_rows.specs.declared.phase.Then.{Then}
+use Rattle.phase_rows.specs.declared.phase.Then.TheVariants as thens
 use Rattle.step_refinement.proofs.CallByCall.{Ends, Onward, rest_task}
 use Rattle.step_refinement.specs.Scenes.{Scene, now, AtRest}
 use Rattle.step_refinement.proofs.PhaseMessages.{SaysNothing, TellsNothing, IsMute, IsNoCheck, says_nothing_of, mute_fits, phase_row_mute, received_mute, aged_mute, asked_change_mute}

@@ -49,9 +49,9 @@ use Rattle.tree_refinement.proofs.Keeping as keeping
 use Rattle.tree_refinement.specs.Laws.{IsReached}
 use Rattle.tree_refinement.specs.Trees.{AreAmong}
 use Rattle.wire_frames.specs.declared.message.Message.{Message}
-use Rattle.wire_frames.specs.declared.phase.PhaseOut.{PhaseOut}
-use Rattle.wire_frames.specs.declared.phase.Then.{Then}
-use Rattle.wire_frames.specs.declared.phase.Then.TheVariants as thens
+use Rattle.phase_rows.specs.declared.phase.PhaseOut.{PhaseOut}
+use Rattle.phase_rows.specs.declared.phase.Then.{Then}
+use Rattle.phase_rows.specs.declared.phase.Then.TheVariants as thens
 use Rattle.world_stores.specs.declared.fact.HeldFact.{HeldFact}
 use Rattle.step_refinement.proofs.CallByCall.{Ends, Answers, Onward, ask_ends}
 use Rattle.step_refinement.specs.Scenes.{Scene, now, AtRest}

@@ -77,8 +77,8 @@ use Rattle.tree_refinement.specs.Laws.{KeepsRoot}
 use Rattle.tree_refinement.specs.Tops.{tops_of, NamesNext, IsWritten}
 use Rattle.tree_refinement.specs.Trees.{AreAmong, Shows}
 use Rattle.tree_refinement.specs.Whole.{IsRecorded}
-use Rattle.wire_frames.specs.declared.phase.Seen.{Seen}
-use Rattle.wire_frames.specs.declared.phase.Seen.TheVariants as seens
+use Rattle.phase_rows.specs.declared.phase.Seen.{Seen}
+use Rattle.phase_rows.specs.declared.phase.Seen.TheVariants as seens
 use Rattle.world_stores.specs.Nodes.{top_of}
 use Rattle.world_stores.specs.declared.fact.HeldFact.{HeldFact}
 use Rattle.step_refinement.proofs.CallByCall.{Ends, Answers, IsRefused, ask_ends, ask_may_end}

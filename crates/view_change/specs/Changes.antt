@@ -4,8 +4,8 @@ use Rattle.ens_base.specs.Views.{first_view}
 use Rattle.peer_fact.specs.declared.fact.Change.{Change}
 use Rattle.peer_fact.specs.declared.fact.Fact.{Fact}
 use Rattle.wire_frames.specs.declared.message.Message.TheVariants.{Commit}
-use Rattle.wire_frames.specs.declared.phase.PhaseOut.{PhaseOut}
-use Rattle.wire_frames.specs.declared.phase.Then.TheVariants.{Stay, Rule}
+use Rattle.phase_rows.specs.declared.phase.PhaseOut.{PhaseOut}
+use Rattle.phase_rows.specs.declared.phase.Then.TheVariants.{Stay, Rule}
 use Rattle.phase_rows.specs.Orders.{is_joint}
 use Rattle.phase_rows.specs.Peers.{alone, others_of}
 use Rattle.phase_rows.specs.Rows.{silent, saves_and_sends}

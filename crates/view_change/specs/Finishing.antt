@@ -6,8 +6,8 @@ use Rattle.ens_base.specs.declared.epoch.Epoch.{Epoch}
 use Rattle.joint_views.specs.Quorums.{is_quorum, is_member}
 use Rattle.peer_fact.specs.Facts.{views_after}
 use Rattle.peer_fact.specs.declared.fact.Fact.{Fact}
-use Rattle.wire_frames.specs.declared.phase.PhaseOut.{PhaseOut}
-use Rattle.wire_frames.specs.declared.phase.Then.TheVariants.{Stay, Follow, Rule}
+use Rattle.phase_rows.specs.declared.phase.PhaseOut.{PhaseOut}
+use Rattle.phase_rows.specs.declared.phase.Then.TheVariants.{Stay, Follow, Rule}
 use Rattle.phase_rows.specs.Orders.{is_same}
 use Rattle.phase_rows.specs.Peers.{joined}
 use Rattle.phase_rows.specs.Rows.{silent}

@@ -3,8 +3,7 @@ ghost use Rattle.ens_base.specs.View.{IsPeer};
 
 use ens_base::{Epoch, PeerId, PeerSet};
 use peer_fact::Fact;
-use phase_rows::{are_quorum, is_member, joined, silent};
-use wire_frames::{PhaseOut, Then};
+use phase_rows::{PhaseOut, Then, are_quorum, is_member, joined, silent};
 
 /// The state of a leader that waits for its epoch to end: the peers that accepted the second fact
 /// of the epoch, and the number of ticks that it has waited, 0 to 8.

@@ -7,7 +7,7 @@ ghost use Rattle.peer_fact.specs.Facts.{views_after};
 ghost use Rattle.peer_fact.specs.declared.fact.Change.{Change};
 ghost use Rattle.peer_fact.specs.declared.fact.Change.TheVariants.{Add, Drop as DropOld};
 ghost use Rattle.peer_fact.specs.declared.fact.Fact.{Fact};
-ghost use Rattle.wire_frames.specs.declared.phase.Then.TheVariants.{Rule};
+ghost use Rattle.phase_rows.specs.declared.phase.Then.TheVariants.{Rule};
 ghost use Rattle.view_change.specs.Changes.{row_24, second_fact, row_25};
 ghost use Rattle.view_change.specs.Finishing.{row_17, row_26};
 ghost use Rattle.view_change.specs.declared.finishing.Finishing.{Finishing};

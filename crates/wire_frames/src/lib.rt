@@ -2,8 +2,7 @@
 //!
 //! [`decode_frame`] returns the frame that the bytes spell, or the first fault in the order of the
 //! format, with its place. [`encode_frame`] writes that spelling, and no frame's spelling begins
-//! another's. The grammar is in `specs/`: parts, calls, messages by their kinds, frames. [`PhaseOut`],
-//! [`Then`] and [`Seen`], which the rules of a peer use, are types of this crate too.
+//! another's. The grammar is in `specs/`: parts, calls, messages by their kinds, frames.
 #![tactic(auto)]
 
 mod decoding;
@@ -13,7 +12,6 @@ mod faults;
 mod frame;
 mod laws;
 mod message;
-mod phase;
 mod put_calls;
 mod put_kinds;
 mod put_parts;
@@ -29,4 +27,3 @@ pub use faults::frames_fault_first;
 pub use frame::Frame;
 pub use laws::frames_stand_apart;
 pub use message::{Message, NackCause};
-pub use phase::{PhaseOut, Seen, Then};

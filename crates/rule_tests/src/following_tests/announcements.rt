@@ -4,7 +4,8 @@ use ens_base::{Epoch, PeerId};
 use following::{rule_16, rule_18, rule_19};
 use peer_fact::Fact;
 use std::test::Fail;
-use wire_frames::{NackCause, Then};
+use phase_rows::Then;
+use wire_frames::NackCause;
 
 fn announce(fact: &Fact, me: u32, trusted: bool, sync_runs: bool, new: &Fact) -> Answer {
     summary(rule_16(*fact, PeerId(me), trusted, sync_runs, PeerId(4), *new))

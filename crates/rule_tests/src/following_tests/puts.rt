@@ -6,7 +6,8 @@ use following::rule_22;
 use std::alloc::Global;
 use std::test::Fail;
 use tree_node::Position;
-use wire_frames::{NackCause, Seen, Then};
+use phase_rows::{Seen, Then};
+use wire_frames::NackCause;
 
 fn version(count: u64, proposer: u32, seq: u64) -> Version {
     Version {

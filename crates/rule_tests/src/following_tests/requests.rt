@@ -6,7 +6,8 @@ use peer_fact::Fact;
 use std::alloc::Global;
 use std::test::Fail;
 use tree_node::{Position, TreeBody};
-use wire_frames::{NackCause, Seen, Then};
+use phase_rows::{Seen, Then};
+use wire_frames::NackCause;
 
 /// A segment of the tree.
 const PLACE: Position = Position { level: 3, index: 9 };

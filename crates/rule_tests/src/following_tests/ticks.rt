@@ -6,7 +6,7 @@ use ens_base::PeerId;
 use following::Follower;
 use peer_fact::Fact;
 use std::test::Fail;
-use wire_frames::Then;
+use phase_rows::Then;
 
 /// Ticks a follower, and returns the answer and its quiet ticks afterwards.
 fn tick(fact: &Fact, me: u32, quiet: u8) -> (Answer, u8)

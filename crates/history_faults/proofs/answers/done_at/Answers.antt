@@ -1,7 +1,7 @@
 use Rattle.std.proofs.Common.{sym, ◌∙◌}
 use Rattle.std.specs.Prelude.{◌&&◌, nat_lt}
 use Rattle.register_model.specs.declared.answer.Answer.{Answer}
-use Rattle.history_faults.specs.Clauses.{is_done}
+use Rattle.register_model.specs.Histories.{is_done}
 use Rattle.history_faults.proofs.Lookups.{any_none, any_one}
 use Rattle.history_faults.proofs.answers.done_at.Goals as goal
 

@@ -1,6 +1,6 @@
 use Rattle.std.proofs.Common.{sym, ◌∙◌}
 use Rattle.register_model.specs.declared.answer.Answer.{Answer}
-use Rattle.history_faults.specs.Clauses.{is_refused}
+use Rattle.register_model.specs.Histories.{is_refused}
 use Rattle.history_faults.proofs.Lookups.{any_none, any_one}
 use Rattle.history_faults.proofs.answers.was_refused.Goals as goal
 

@@ -1,6 +1,6 @@
 use Rattle.std.proofs.Common.{subst}
 use Rattle.step_plans.proofs.Parts.{did_after}
-use Rattle.wire_frames.specs.declared.phase.Then.TheVariants as thens
+use Rattle.phase_rows.specs.declared.phase.Then.TheVariants as thens
 use Rattle.peer_plan.specs.Drives.{row_done, after_put, put_done}
 use Rattle.peer_core.specs.Outcomes.{Acts, spot}
 use Rattle.peer_core.proofs.machine.Machine.write_put.Goals as goal

@@ -1,5 +1,5 @@
-use Rattle.replay.proofs.Summaries.{done_is, refused_is}
-use Rattle.replay.proofs.laws.summaries_count_by_histories.Goals as goal
+use Rattle.register_model.proofs.Replies.{done_is, refused_is}
+use Rattle.register_model.proofs.replies.the_tests_are_those_of_a_history.Goals as goal
 
 pub returns-clause-done : goal.returns-clause-done
 returns-clause-done c = done_is

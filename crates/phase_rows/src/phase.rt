@@ -1,8 +1,8 @@
-use crate::message::Message;
 use ens_base::{Digest, Entry, PeerSet};
 use ens_object::Object;
 use peer_fact::Fact;
 use tree_node::Position;
+use wire_frames::Message;
 
 /// What a peer does after a rule has run.
 #[derive(Clone, Copy, Debug, PartialEq, Eq)]

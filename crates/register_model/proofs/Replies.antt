@@ -1,9 +1,8 @@
--- The tests of a summary are those of a legal history.
+-- The tests of a reply are those of a legal history.
 use Rattle.std.proofs.Common.{◌≡◌, ◌↔◌, true, refl}
 use Rattle.std.proofs.lemmas.Bool.{false≢true}
 use Rattle.ens_base.specs.declared.reply.Reply.{Reply}
-use Rattle.register_model.specs.Histories.{IsDone, IsRefused}
-use Rattle.replay.specs.Summary.{is_done, is_refused}
+use Rattle.register_model.specs.Histories.{IsDone, IsRefused, is_done, is_refused}
 
 pub done_is : (reply : Reply) → (is_done reply ≡ true) ↔ IsDone reply
 done_is (Reply.Value stamp bytes) = (λ h. tt, λ h. refl)
