@@ -29,7 +29,7 @@ use Rattle.wire_frames.specs.declared.frame.Frame.{Frame}
 use Rattle.world_spec.proofs.Growth.{IsFurther}
 use Rattle.world_spec.specs.Lines.{call_of}
 use Rattle.world_spec.specs.Nodes.{Node, Up, Down, taken, started, hashed_by_start, stopped, over_stores, while_down}
-use Rattle.world_spec.specs.Runs.{Run, place_of, with_taken}
+use Rattle.world_spec.specs.Runs.{Run, hashing, place_of, with_taken}
 use Rattle.world_spec.specs.Stores.{taken_back}
 use Rattle.call_refinement.proofs.ChangedStores.{SparesRecords, altered_fits, altered_role, started_fits, started_role, reverted_fits}
 use Rattle.step_refinement.specs.Scenes.{MessageComes}
@@ -38,6 +38,8 @@ use Rattle.call_refinement.proofs.WorldGrammar.{is_peer, taken_intact}
 use Rattle.step_refinement.proofs.CalledKeys.{run_calls_few}
 use Rattle.call_refinement.proofs.ChangedNodes.{frame_at, said_at}
 use Rattle.call_refinement.proofs.Schedules.{IsInRun, AreAlike, TakesStep, GoesAlong, Changes, Starts, IsCarried, next_call}
+use Rattle.step_refinement.proofs.Stretches.{elsewhere_none}
+use Rattle.call_refinement.proofs.LaterWorlds.{elsewhere_stays, node_fits}
 use Rattle.call_refinement.proofs.StepsInWorlds.{own_fits, NodesGo, renewed, stops, puts_back, scene, StepGoes, stepped_goes, called_goes}
 use Rattle.step_refinement.specs.Peers.{AsksFit, FrameFits}
 use Rattle.call_refinement.specs.Roles.{role_of, roles_of, said_in}
@@ -208,6 +210,30 @@ module _ (lines : Lines) (view : List ℕ) (strings : List (List ℕ)) where
         changes p peer (Down (taken_back n stores)) w steps
         (puts_back lines view strings p peer steps w.nodes w.mail.sent w.hashed w.notes holds.parts holds.roles stores (taken_back n stores) soft at (reverted_fits lines strings w.hashed (state_after view steps) p n stores (fits_at p peer (Down stores) w steps holds at)))
 
+    -- strings are hashed
+    hashes_along : (xs : List (List ℕ)) → OfRun (λ w s. Stands (hashing xs w) s)
+    hashes_along xs w steps holds = record { steps = steps; is = refl; holds = record { parts = parts; roles = holds.roles } }
+      where
+        s : State
+        s = state_after view steps
+
+        apart : (q : ℕ) → suc q ≡ q → ⊥
+        apart q e = omega (arith, e)
+
+        parts : PartsHold lines view strings steps w.nodes w.mail.sent (w.hashed ++ xs) w.notes
+        parts = record {
+          run = holds.parts.run;
+          orderly = holds.parts.orderly;
+          acks = holds.parts.acks;
+          asked = holds.parts.asked;
+          epochs = holds.parts.epochs;
+          firm = holds.parts.firm;
+          nodes_fit = λ place node at. node_fits lines strings w.hashed (w.hashed ++ xs) (suc place) s s (elsewhere_stays (suc (suc place)) (suc place) s s (apart (suc place)) (elsewhere_none (suc (suc place)) s))
+              (λ x i. in_left w.hashed xs x i) node (holds.parts.nodes_fit place node at);
+          messages = holds.parts.messages;
+          noted = holds.parts.noted;
+        }
+
     begins_along : OfRun (λ w s. Stands w (happens s Begin))
     begins_along w steps holds = record { steps = Begin ∷ steps; is = refl; holds = silent_holds steps Begin w holds (tt, tt) tt refl holds.parts.asked refl }
 
@@ -225,6 +251,7 @@ module _ (lines : Lines) (view : List ℕ) (strings : List (List ℕ)) where
       takes_change = λ p asked node w s votes takes a. in_run (λ w s. TakesStep whole p (events.Change asked) node w s → GoesAlong Stands p (taken p (events.Change asked) node) w s) (takes_change_along p asked node votes) w s a takes;
       stops = λ p node w s among at a. in_run (λ w s. slice_get w.nodes (place_of p) ≡ Some node → Changes Stands p (stopped node) w s) (stops_along p node among) w s a at;
       starts = λ p node w s among at a. in_run (λ w s. slice_get w.nodes (place_of p) ≡ Some node → Starts Stands p node w s) (starts_along p node among) w s a at;
+      hashes = λ xs w s a. in_run (λ w s. Stands (hashing xs w) s) (hashes_along xs) w s a;
       alters = λ p f node w s spares among at a. in_run (λ w s. slice_get w.nodes (place_of p) ≡ Some node → Changes Stands p (over_stores f node) w s) (alters_along p f node spares among) w s a at;
       reverts = λ p n node w s soft among at a. in_run (λ w s. slice_get w.nodes (place_of p) ≡ Some node → Changes Stands p (while_down (taken_back n) node) w s) (reverts_along p n node soft among) w s a at;
     }

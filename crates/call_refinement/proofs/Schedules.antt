@@ -117,8 +117,8 @@ pub are_of_lines : (view : List ℕ) (events : List ScheduleEvent) → AreOfLine
 are_of_lines view events = some_of_lines view events events (λ event at. at)
 
 -- A relation of worlds and states is carried through the lines of a schedule: through the begin of an
--- event, each step of a peer, each stop and start, each change of stores that spares the top records, and
--- each revert of a tree.
+-- event, each step of a peer, each stop and start, each change of stores that spares the top records, each
+-- string that a line hashes, and each revert of a tree.
 pub record IsCarried (peers : ℕ) (lines : Lines) (whole : Run) (P : Run → State → Type 0) : Type 0 where
   pub run : (w : Run) (s : State) → P w s → IsInRun s
   pub alike : (w v : Run) (s : State) → AreAlike w v → P w s → P v s
@@ -130,6 +130,7 @@ pub record IsCarried (peers : ℕ) (lines : Lines) (whole : Run) (P : Run → St
   pub takes_change : (p : ℕ) (asked : List ℕ) (node : Node) (w : Run) (s : State) → asked ∈ lines.voting → TakesStep whole p (does.Change asked) node w s → P w s → GoesAlong P p (taken p (does.Change asked) node) w s
   pub stops : (p : ℕ) (node : Node) (w : Run) (s : State) → IsAmong peers p → slice_get w.nodes (place_of p) ≡ Some node → P w s → Changes P p (stopped node) w s
   pub starts : (p : ℕ) (node : Node) (w : Run) (s : State) → IsAmong peers p → slice_get w.nodes (place_of p) ≡ Some node → P w s → Starts P p node w s
+  pub hashes : (strings : List (List ℕ)) (w : Run) (s : State) → P w s → P (hashing strings w) s
   pub alters : (p : ℕ) (f : HeldStores → HeldStores) (node : Node) (w : Run) (s : State) → SparesRecords f → IsAmong peers p → slice_get w.nodes (place_of p) ≡ Some node → P w s → Changes P p (over_stores f node) w s
   pub reverts : (p changes : ℕ) (node : Node) (w : Run) (s : State) → lines.firm p ≡ false → IsAmong peers p → slice_get w.nodes (place_of p) ≡ Some node → P w s → Changes P p (while_down (taken_back changes) node) w s
 
@@ -330,6 +331,15 @@ module _ (peers : ℕ) (lines : Lines) (whole : Run) (P : Run → State → Type
       by_node None at far = absurd (none at (node_at w.nodes (place_of p) (placed may.0.first may.0.last a.size)))
       by_node (Some node) at far = by_step node at (carried.takes_call p id key command node w a.state may (may_call done w a.state id key command (carried.run w a.state a.holds) a.agrees fresh) (record { at = at; further = far; few = few_begun_here; peer = peer; comes = tt; intact = a.intact }) a.holds)
 
+  -- strings are hashed
+  hashed_reached : (events : List ScheduleEvent) (xs : List (List ℕ)) (w : Run) → Reached P events w → Reached P events (hashing xs w)
+  hashed_reached events xs w a = record {
+    state = a.state;
+    holds = carried.hashes xs w a.state a.holds;
+    within = alike_agrees 1 events w (hashing xs w) a.state.book refl refl refl a.within;
+    intact = alike_intact w (hashing xs w) refl refl a.intact;
+  }
+
   -- a line that changes stores, but for the top records
   altered_reached : (events : List ScheduleEvent) (few : length events < 2 ^ 32) (p : ℕ) (f : HeldStores → HeldStores) → SparesRecords f → IsAmong peers p → (w : Run) → Reached P events w → Reached P events (changed p (over_stores f) w)
   altered_reached events few p f spares among w = changed_reached events few p (over_stores f) among (over_harmless f p) (λ node v s. carried.alters p f node v s spares among) w
@@ -348,7 +358,9 @@ module _ (peers : ℕ) (lines : Lines) (whole : Run) (P : Run → State → Type
   effect_reached done (line.Stop p) few w a says may fresh far = changed_reached (done ++ line.Stop p ∷ []) few p stopped may (stopped_harmless p) (λ node v s. carried.stops p node v s may) w (begun done (line.Stop p) few w a (λ n. refl))
   effect_reached done (line.Start p) few w a says may fresh far = start_reached (done ++ line.Start p ∷ []) few p may w (begun done (line.Start p) few w a (λ n. refl))
   effect_reached done (line.Spoil p key bytes) few w a says may fresh far = altered_reached (done ++ line.Spoil p key bytes ∷ []) few p (spoiled key bytes) (spoiled_spares key bytes) may.0 w (begun done (line.Spoil p key bytes) few w a (λ n. refl))
-  effect_reached done (line.Damage p key bytes) few w a says may fresh far = altered_reached (done ++ line.Damage p key bytes ∷ []) few p (segment_spoiled key bytes) (segment_spares key bytes) may.0 w (begun done (line.Damage p key bytes) few w a (λ n. refl))
+  effect_reached done (line.Damage p key bytes) few w a says may fresh far =
+      hashed_reached (done ++ line.Damage p key bytes ∷ []) (key ∷ []) (changed p (over_stores (segment_spoiled key bytes)) w)
+      (altered_reached (done ++ line.Damage p key bytes ∷ []) few p (segment_spoiled key bytes) (segment_spares key bytes) may.0 w (begun done (line.Damage p key bytes) few w a (λ n. refl)))
   effect_reached done (line.Inner p level index bytes) few w a says may fresh far =
       altered_reached (done ++ line.Inner p level index bytes ∷ []) few p (inner_spoiled level index bytes) (inner_spares level index bytes) may.0 w (begun done (line.Inner p level index bytes) few w a (λ n. refl))
   effect_reached done (line.Revert p changes) few w a says may fresh far =

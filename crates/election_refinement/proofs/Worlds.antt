@@ -39,7 +39,7 @@ use Rattle.world_spec.proofs.Ending.{Finishes, run_finishes}
 use Rattle.world_spec.proofs.Obeying.{IsFine, IsOwnNode, stepped_fine, changed_fine, started_own, stopped_own, over_stores_own, while_down_own}
 use Rattle.world_spec.specs.Laws.{NoneWaits}
 use Rattle.world_stores.specs.Objects.{Objects}
-use Rattle.world_spec.specs.Lines.{call_of, set_of, everyone, with_loss, effect, counted, applied}
+use Rattle.world_spec.specs.Lines.{call_of, set_of, everyone, with_loss, with_damage, effect, counted, applied}
 use Rattle.world_spec.specs.Nodes.{Node, Up, Down, Taken, taken, taken_by, taken_of, run_over, started, stopped, over_stores, while_down}
 use Rattle.world_spec.specs.Stores.{failing, leaves_of, spoiled, segment_spoiled, inner_spoiled, taken_back}
 use Rattle.world_spec.specs.Runs.{Run, place_of, frame_from, posted_all, with_taken, stepped, stepped_at, changed, changed_at, with_start, ticked, received_if, delivered, delivered_if, going_on, calmed}
@@ -425,7 +425,8 @@ module _ (view : List ℕ) (steps : List Step) (spared : ℕ → Type 0) where
         (changed_refines peer (is_peer peer may.first may.last) (started w.view) w a (started_agrees peer (is_peer peer may.first may.last) w a.on w.view) (λ is_spared. started_spared w.view) (started_own peer w.view))
     effect_refines (Spoil peer key bytes) w may spares a = over_refines peer (is_peer peer may.0.first may.0.last) (spoiled key bytes) (λ st. refl) (λ is_spared st none. record { facts = none.facts; tree = none.tree; backend = none.backend }) w a
     effect_refines (Damage peer key bytes) w may spares a =
-        over_refines peer (is_peer peer may.0.first may.0.last) (segment_spoiled key bytes) (λ st. refl) (λ is_spared st none. record { facts = none.facts; tree = none.tree; backend = none.backend }) w a
+        resent (changed peer (over_stores (segment_spoiled key bytes)) w) (with_damage peer key bytes w) refl refl
+        (over_refines peer (is_peer peer may.0.first may.0.last) (segment_spoiled key bytes) (λ st. refl) (λ is_spared st none. record { facts = none.facts; tree = none.tree; backend = none.backend }) w a)
     effect_refines (Inner peer level index bytes) w may spares a =
         over_refines peer (is_peer peer may.0.first may.0.last) (inner_spoiled level index bytes) (λ st. refl) (λ is_spared st none. record { facts = none.facts; tree = none.tree; backend = none.backend }) w a
     effect_refines (Revert peer changes) w may spares a =

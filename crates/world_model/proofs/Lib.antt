@@ -8,3 +8,4 @@ pub mod Loops
 pub mod Starting
 pub mod Events
 pub mod StoreLines
+pub mod Hashed

@@ -1,14 +1,16 @@
 -- What a call that was to lead to a run says of a longer run.
-use Rattle.std.proofs.Common.{◌≡◌, ◌∙◌, ◌<◌, ◌-◌, ◌⊎◌, ℕ, suc, List, [], ◌++◌, Result, Ok, Err, inl, inr, refl, sym, ap, subst, arith}
+use Rattle.std.proofs.Common.{◌≡◌, ◌∙◌, ◌<◌, ◌-◌, ◌⊎◌, ℕ, suc, List, [], ◌∷◌, ◌++◌, Option, Result, Ok, Err, inl, inr, refl, sym, ap, subst, arith}
 use Rattle.std.specs.Prelude.{IfErr, OnOk}
 use Rattle.std.specs.Result.{IsErrAnd}
 use Rattle.std.proofs.lemmas.List.{append-nil}
 use Rattle.held_stores.proofs.Taken.{hashed_none, rejected_further, rejected_after, rose_since}
 use Rattle.held_stores.specs.Held.{Account, HasHashed, StartsWith}
-use Rattle.world_spec.proofs.Growth.{IsFurther, changed_mail, fewer_first}
+use Rattle.world_spec.proofs.Growth.{IsFurther, changed_hashed, changed_mail, fewer_first}
+use Rattle.world_spec.specs.Lines.{with_damage}
 use Rattle.world_spec.specs.Messages.{IsPastMessages, IsWithinMessages}
-use Rattle.world_spec.specs.Nodes.{Node, started}
+use Rattle.world_spec.specs.Nodes.{Node, over_stores, started}
 use Rattle.world_spec.specs.Runs.{Run, in_front, unhashed, repeated, changed, with_start}
+use Rattle.world_spec.specs.Stores.{segment_spoiled}
 use Rattle.world_model.specs.Refusals.{IsCutOff}
 use Rattle.world_model.specs.Worlds.{run_of, MayRefuse, MayStop, Adds, Reaches, RunReaches}
 use Rattle.world_model.specs.declared.error.WorldError.{WorldError}
@@ -117,6 +119,21 @@ pub reaches_started : {T : Type 0} (first now : Account) (peer : ℕ) (w : Run) 
     → OnOk r Did → (Did → reached ≡ unhashed (with_start peer w)) → (Did → HasHashed strings first now) → IfErr r (IsCutOff strings first now) → Reaches first (with_start peer w) r reached now
 reaches_started first now peer w strings (Ok x) reached Did are within ok led has cut = (led ok, rw (changed_mail peer (started w.view) w) within, rw are (has ok))
 reaches_started first now peer w strings (Err e) reached Did are within ok led has cut = cut_off_refuses first (with_start peer w) now e (subst (λ h. IsCutOff h first now e) (sym are) cut)
+
+-- a call that hashed a key, and then damages its segment unless memory runs out
+pub reaches_damaged : {T : Type 0} (first now : Account) (peer : ℕ) (key : List ℕ) (bytes : Option (List ℕ)) (w : Run) (r : Result T WorldError) (reached : Run) (Did : Type 0) → w.hashed ≡ [] → IsWithinMessages w → HasHashed (key ∷ []) first now
+    → OnOk r Did → (Did → reached ≡ changed peer (over_stores (segment_spoiled key bytes)) w) → IfErr r (λ e. e ≡ Memory) → Reaches first (with_damage peer key bytes w) r reached now
+reaches_damaged first now peer key bytes w (Ok x) reached Did none within has ok led memory =
+    let v = changed peer (over_stores (segment_spoiled key bytes)) w in
+    let unmarked : v.hashed ≡ [] = changed_hashed peer (over_stores (segment_spoiled key bytes)) w ∙ none in
+    (led ok ∙ none_hashed v unmarked, rw (changed_mail peer (over_stores (segment_spoiled key bytes)) w) within, rw unmarked has)
+reaches_damaged first now peer key bytes w (Err e) reached Did none within has ok led memory = rw memory tt
+
+-- a call whose key the hasher rejected, or that ran out of memory before
+pub refuses_damage : (first now : Account) (peer : ℕ) (key : List ℕ) (bytes : Option (List ℕ)) (w : Run) (e : WorldError) → w.hashed ≡ [] → IsCutOff (key ∷ []) first now e → MayRefuse first (with_damage peer key bytes w) now e
+refuses_damage first now peer key bytes w e none cut =
+    let strings : (with_damage peer key bytes w).hashed ≡ key ∷ [] = ap (λ (h : List (List ℕ)). h ++ key ∷ []) (changed_hashed peer (over_stores (segment_spoiled key bytes)) w ∙ none) in
+    cut_off_refuses first (with_damage peer key bytes w) now e (subst (λ h. IsCutOff h first now e) (sym strings) cut)
 
 -- a call that sends messages is refused at the limit, or out of memory
 pub refused_sending : {T : Type 0} (due : Run) (e : WorldError) (b : Run) (r : Result T WorldError) (G : WorldError → Type 0) → IsErrAnd r G → ((d : WorldError) → G d → d ≡ e)

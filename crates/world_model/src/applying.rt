@@ -118,11 +118,15 @@ impl World {
                 Ok(())
             }
             ScheduleEvent::Start { peer } => self.start(alloc, hasher, *peer),
+            ScheduleEvent::Damage { peer, key, bytes } => {
+                self.damage(alloc, hasher, *peer, key, bytes)
+            }
             _ => self.effect_on_stores(alloc, event),
         }
     }
 
-    /// Applies the effect of a line on the stores of a peer. Any other line changes nothing here.
+    /// Applies the effect of a line on the stores of a peer that hashes nothing. Any other line changes
+    /// nothing here.
     fn effect_on_stores(&mut self, alloc: Global, event: &ScheduleEvent) -> Result<(), WorldError>
         requires { MayStand (length self.old.peers.items) event.now }
         ensures reaches { Adds (stores_effect event.now (run_of self.old)) result (run_of self.new) }
@@ -130,7 +134,6 @@ impl World {
     {
         match event {
             ScheduleEvent::Spoil { peer, key, bytes } => self.spoil(alloc, *peer, key, bytes),
-            ScheduleEvent::Damage { peer, key, bytes } => self.damage(alloc, *peer, key, bytes),
             ScheduleEvent::Inner {
                 peer,
                 level,

@@ -1,11 +1,13 @@
 ghost use Rattle.std.specs.Prelude.{◌≡◌, ◌≤◌, ◌<◌, ◌^◌, length};
 ghost use Rattle.held_stores.specs.Held.{account};
+ghost use Rattle.world_spec.specs.Lines.{with_damage};
 ghost use Rattle.world_spec.specs.Nodes.{over_stores, stopped, while_down};
 ghost use Rattle.world_spec.specs.Runs.{changed, with_start};
-ghost use Rattle.world_spec.specs.Stores.{failing, inner_spoiled, leaves_of, segment_spoiled, spoiled, taken_back};
+ghost use Rattle.world_spec.specs.Stores.{failing, inner_spoiled, leaves_of, spoiled, taken_back};
 ghost use Rattle.world_model.specs.Worlds.{run_of, Adds, Begins, Reaches};
 
 use crate::error::WorldError;
+use crate::hashing::hash;
 use crate::world::World;
 use ens_base::{Bytes, Key, PeerId};
 use ens_hashing::Hasher16;
@@ -51,18 +53,21 @@ impl World {
         self.peers[(peer.0 - 1) as usize].spoil(alloc, key, bytes)
     }
 
-    /// Replaces the bytes of the segment of a key in the tree of `peer`, or removes that node.
-    pub(crate) fn damage(
+    /// Hashes the key, and replaces the bytes of its segment in the tree of `peer`, or removes that
+    /// node.
+    pub(crate) fn damage<H: Hasher16>(
         &mut self,
         alloc: Global,
+        hasher: &mut H,
         peer: PeerId,
         key: &Key,
         bytes: &Option<Bytes>,
     ) -> Result<(), WorldError>
         requires { (1 ≤ peer) × (peer ≤ length self.old.peers.items) }
-        ensures reaches { Adds (changed peer (over_stores (segment_spoiled key.now bytes.now)) (run_of self.old)) result (run_of self.new) }
+        ensures reaches { Reaches (account H.kept H.clashes H.fulls hasher.old) (with_damage peer key.now bytes.now (run_of self.old)) result (run_of self.new) (account H.kept H.clashes H.fulls hasher.new) }
         ensures begins { Begins self.old self.new }
     {
+        hash(alloc, hasher, key.bytes())?;
         self.peers[(peer.0 - 1) as usize].damage(alloc, key, bytes)
     }
 

@@ -14,6 +14,7 @@ mod applying;
 mod changing;
 mod delivering;
 mod error;
+mod hashing;
 mod node;
 mod opening;
 mod peer;

@@ -8,7 +8,7 @@ use Rattle.peer_state.specs.declared.event.Event.TheVariants as events
 use Rattle.schedule_text.specs.declared.event.ScheduleEvent.{ScheduleEvent}
 use Rattle.schedule_text.specs.declared.event.ScheduleEvent.TheVariants.{Call, Tick, Deliver, Pass, Lose, Calm, CalmAmong, Change, Stop, Start, Spoil, Damage, Inner, Revert, Fail}
 use Rattle.wire_frames.specs.declared.frame.Frame.{Frame}
-use Rattle.world_spec.specs.Lines.{call_of, everyone, set_of, effect, counted, applied, run_from}
+use Rattle.world_spec.specs.Lines.{call_of, everyone, set_of, with_damage, effect, counted, applied, run_from}
 use Rattle.world_spec.specs.Nodes.{Node, Taken, taken, started, stopped, over_stores, while_down}
 use Rattle.world_spec.specs.Runs.{Run, in_front, unhashed, place_of, with_taken, stepped_at, stepped, changed_at, changed, start_strings, hashing, with_start, ticked, received_if, delivered, delivered_if, going_on, calmed}
 use Rattle.world_spec.specs.Stores.{failing, leaves_of, spoiled, segment_spoiled, inner_spoiled, taken_back}
@@ -61,6 +61,11 @@ start_front xs peer w =
     let v = changed peer (started w.view) w in
     ap (hashing strings) (changed_front xs peer (started w.view) w) ∙ ap (λ h. record v { hashed = h }) (append_assoc xs v.hashed strings)
 
+damage_front : (xs : List (List ℕ)) (peer : ℕ) (key : List ℕ) (bytes : Option (List ℕ)) (w : Run) → with_damage peer key bytes (in_front xs w) ≡ in_front xs (with_damage peer key bytes w)
+damage_front xs peer key bytes w =
+    let v = changed peer (over_stores (segment_spoiled key bytes)) w in
+    ap (hashing (key ∷ [])) (changed_front xs peer (over_stores (segment_spoiled key bytes)) w) ∙ ap (λ h. record v { hashed = h }) (append_assoc xs v.hashed (key ∷ []))
+
 effect_front : (event : ScheduleEvent) (xs : List (List ℕ)) (w : Run) → effect event (in_front xs w) ≡ in_front xs (effect event w)
 effect_front (Call peer id key command) xs w = stepped_front xs peer (events.Call (call_of id key command)) w
 effect_front (Tick peer ticks) xs w = ticked_front peer ticks xs w
@@ -73,7 +78,7 @@ effect_front (Change peer view) xs w = stepped_front xs peer (events.Change view
 effect_front (Stop peer) xs w = changed_front xs peer stopped w
 effect_front (Start peer) xs w = start_front xs peer w
 effect_front (Spoil peer key bytes) xs w = changed_front xs peer (over_stores (spoiled key bytes)) w
-effect_front (Damage peer key bytes) xs w = changed_front xs peer (over_stores (segment_spoiled key bytes)) w
+effect_front (Damage peer key bytes) xs w = damage_front xs peer key bytes w
 effect_front (Inner peer level index bytes) xs w = changed_front xs peer (over_stores (inner_spoiled level index bytes)) w
 effect_front (Revert peer changes) xs w = changed_front xs peer (while_down (taken_back changes)) w
 effect_front (Fail peer store survivor) xs w = changed_front xs peer (over_stores (failing store (leaves_of survivor))) w

@@ -10,7 +10,7 @@ use Rattle.schedule_text.specs.declared.event.ScheduleEvent.TheVariants.{Call, T
 use Rattle.wire_frames.specs.declared.frame.Frame.{Frame}
 use Rattle.held_stores.proofs.Taken.{starts_here, starts_later}
 use Rattle.held_stores.specs.Held.{StartsWith}
-use Rattle.world_spec.specs.Lines.{call_of, everyone, set_of, effect, applied, run_from}
+use Rattle.world_spec.specs.Lines.{call_of, everyone, set_of, with_damage, effect, applied, run_from}
 use Rattle.world_spec.specs.Messages.{sent_in}
 use Rattle.world_spec.specs.Nodes.{Node, Taken, taken, started, stopped, over_stores, while_down}
 use Rattle.world_spec.specs.Runs.{Run, in_front, repeated, place_of, frame_from, posted_all, with_taken, stepped_at, stepped, changed_at, changed, start_strings, with_start, ticked, received_if, delivered, delivered_if, going_on, calmed}
@@ -155,6 +155,12 @@ applied_same (Inner peer level index bytes) w = changed_same peer (over_stores (
 applied_same (Revert peer changes) w = changed_same peer (while_down (taken_back changes)) w
 applied_same (Fail peer store survivor) w = changed_same peer (over_stores (failing store (leaves_of survivor))) w
 
+damage_grows : (peer : ℕ) (key : List ℕ) (bytes : Option (List ℕ)) (w : Run) → IsFurther w (with_damage peer key bytes w)
+damage_grows peer key bytes w =
+    let v = changed peer (over_stores (segment_spoiled key bytes)) w in
+    let change = changed_grows peer (over_stores (segment_spoiled key bytes)) w in
+    record { sent = change.sent; hashed = starts_later w.hashed v.hashed (with_damage peer key bytes w).hashed change.hashed (key ∷ [], refl) }
+
 passed_grows : (n : Option ℕ) (w : Run) → IsFurther w (delivered_if n w)
 passed_grows None w = further_same w
 passed_grows (Some n) w = delivered_grows n w
@@ -172,7 +178,7 @@ effect_grows (Change peer view) w = stepped_grows peer (events.Change view) w
 effect_grows (Stop peer) w = changed_grows peer stopped w
 effect_grows (Start peer) w = start_grows peer w
 effect_grows (Spoil peer key bytes) w = changed_grows peer (over_stores (spoiled key bytes)) w
-effect_grows (Damage peer key bytes) w = changed_grows peer (over_stores (segment_spoiled key bytes)) w
+effect_grows (Damage peer key bytes) w = damage_grows peer key bytes w
 effect_grows (Inner peer level index bytes) w = changed_grows peer (over_stores (inner_spoiled level index bytes)) w
 effect_grows (Revert peer changes) w = changed_grows peer (while_down (taken_back changes)) w
 effect_grows (Fail peer store survivor) w = changed_grows peer (over_stores (failing store (leaves_of survivor))) w

@@ -182,7 +182,9 @@ effect_fine peers (Start peer) w few stand old =
     let now = changed_fine peer (started w.view) w (stand.first, omega (arith, few, stand.last)) (started_own peer w.view) old in
     record { mail = now.mail; nodes = now.nodes }
 effect_fine peers (Spoil peer key bytes) w few stand old = changed_fine peer (over_stores (spoiled key bytes)) w (stand.0.first, omega (arith, few, stand.0.last)) (over_stores_own (spoiled key bytes) peer) old
-effect_fine peers (Damage peer key bytes) w few stand old = changed_fine peer (over_stores (segment_spoiled key bytes)) w (stand.0.first, omega (arith, few, stand.0.last)) (over_stores_own (segment_spoiled key bytes) peer) old
+effect_fine peers (Damage peer key bytes) w few stand old =
+    let now = changed_fine peer (over_stores (segment_spoiled key bytes)) w (stand.0.first, omega (arith, few, stand.0.last)) (over_stores_own (segment_spoiled key bytes) peer) old in
+    record { mail = now.mail; nodes = now.nodes }
 effect_fine peers (Inner peer level index bytes) w few stand old = changed_fine peer (over_stores (inner_spoiled level index bytes)) w (stand.0.first, omega (arith, few, stand.0.last)) (over_stores_own (inner_spoiled level index bytes) peer) old
 effect_fine peers (Revert peer changes) w few stand old = changed_fine peer (while_down (taken_back changes)) w (stand.0.first, omega (arith, few, stand.0.last)) (while_down_own (taken_back changes) peer) old
 effect_fine peers (Fail peer store survivor) w few stand old = changed_fine peer (over_stores (failing store (leaves_of survivor))) w (stand.first, omega (arith, few, stand.last)) (over_stores_own (failing store (leaves_of survivor)) peer) old

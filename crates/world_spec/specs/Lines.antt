@@ -1,5 +1,5 @@
 -- The effect of each line of a schedule, and the run of a schedule.
-use Rattle.std.specs.Prelude.{ℕ, ◌-◌, Bool, true, List, [], ◌∷◌, ◌++◌}
+use Rattle.std.specs.Prelude.{ℕ, ◌-◌, Bool, true, Option, List, [], ◌∷◌, ◌++◌}
 use Rattle.ens_base.specs.Lists.{is_in}
 use Rattle.ens_base.specs.declared.command.Command.{Command}
 use Rattle.network.specs.Mail.{lost, goes, oldest, most_messages}
@@ -9,7 +9,7 @@ use Rattle.phase_rows.specs.Peers.{those}
 use Rattle.schedule_text.specs.declared.event.ScheduleEvent.{ScheduleEvent}
 use Rattle.schedule_text.specs.declared.event.ScheduleEvent.TheVariants.{Call, Tick, Deliver, Pass, Lose, Calm, CalmAmong, Change, Stop, Start, Spoil, Damage, Inner, Revert, Fail}
 use Rattle.world_spec.specs.Nodes.{stopped, over_stores, while_down}
-use Rattle.world_spec.specs.Runs.{Run, next_event, opening_run, stepped, changed, with_start, ticked, delivered, delivered_if, calmed}
+use Rattle.world_spec.specs.Runs.{Run, hashing, next_event, opening_run, stepped, changed, with_start, ticked, delivered, delivered_if, calmed}
 use Rattle.world_spec.specs.Stores.{failing, leaves_of, spoiled, segment_spoiled, inner_spoiled, taken_back}
 
 -- the set of these peers
@@ -32,14 +32,19 @@ client = 32
 abbrev pub call_of : ℕ → List ℕ → Command → CallIn
 call_of id key command = record { from = client; id = id; key = key; command = command }
 
--- the effect of a line on the stores of a peer; a line that leaves all stores alone has none
+-- the effect of a line on the stores of a peer, if it hashes no string; a line that leaves all stores
+-- alone has none
 abbrev pub stores_effect : ScheduleEvent → Run → Run
 stores_effect (Spoil peer key bytes) w = changed peer (over_stores (spoiled key bytes)) w
-stores_effect (Damage peer key bytes) w = changed peer (over_stores (segment_spoiled key bytes)) w
 stores_effect (Inner peer level index bytes) w = changed peer (over_stores (inner_spoiled level index bytes)) w
 stores_effect (Revert peer changes) w = changed peer (while_down (taken_back changes)) w
 stores_effect (Fail peer store survivor) w = changed peer (over_stores (failing store (leaves_of survivor))) w
 stores_effect other w = w
+
+-- the segment of a key is damaged in the tree of a peer; the key is hashed to find it, also where
+-- nothing is then damaged
+abbrev pub with_damage : ℕ → List ℕ → Option (List ℕ) → Run → Run
+with_damage peer key bytes w = hashing (key ∷ []) (changed peer (over_stores (segment_spoiled key bytes)) w)
 
 -- The effect of a line on the peers and the messages. A calm delivers at most as many messages as
 -- are ever sent.
@@ -54,6 +59,7 @@ effect (CalmAmong members) w = calmed (set_of members) most_messages w
 effect (Change peer view) w = stepped peer (events.Change view) w
 effect (Stop peer) w = changed peer stopped w
 effect (Start peer) w = with_start peer w
+effect (Damage peer key bytes) w = with_damage peer key bytes w
 effect other w = stores_effect other w
 
 -- the key that a call line names

@@ -27,5 +27,5 @@ returns-in-Stop-clause-begins g c = begins_changed c.args.self.now _ _ _ c.stop.
 
 pub returns-in_default-clause-reaches : goal.returns-in_default-clause-reaches
 returns-in_default-clause-reaches g c = reaches_same _ (stores_effect c.args.event.now (run_of c.args.self.now)) (effect c.args.event.now (run_of c.args.self.now)) c.effect_on_stores.result _ _
-    (sym (stores_line c.args.event.now (run_of c.args.self.now) c.in_default.not-Call c.in_default.not-Tick c.in_default.not-Deliver c.in_default.not-Pass c.in_default.not-Lose c.in_default.not-Calm c.in_default.not-CalmAmong c.in_default.not-Change c.in_default.not-Stop c.in_default.not-Start))
+    (sym (stores_line c.args.event.now (run_of c.args.self.now) c.in_default.not-Call c.in_default.not-Tick c.in_default.not-Deliver c.in_default.not-Pass c.in_default.not-Lose c.in_default.not-Calm c.in_default.not-CalmAmong c.in_default.not-Change c.in_default.not-Stop c.in_default.not-Start c.in_default.not-Damage))
     (quiet_reaches _ (stores_effect c.args.event.now (run_of c.args.self.now)) c.effect_on_stores.result _ (stores_hashed c.args.event.now (run_of c.args.self.now)) c.effect_on_stores.ensures.reaches)
