@@ -38,6 +38,14 @@ const fn unsound(lines: &'static str, text: &'static str) -> Case {
     }
 }
 
+const fn clash(lines: &'static str, text: &'static str) -> Case {
+    Case {
+        lines,
+        text,
+        status: Status::Clash,
+    }
+}
+
 /// The status of a replay of the schedule, and what it wrote.
 fn replayed<R: Threads + Sync>(
     rt: &R,
@@ -70,6 +78,11 @@ fn schedules_print_their_text(rt: HostRuntime) -> Result<(), Fail> {
             "answer 1 2 ok 1.1.1\nanswer 2 3 ok 1.1.2\nanswer 3 4 value 1.1.1 -\nhistory 6b 1 3\nhistory 6b00 2\n",
         ),
         done("", ""),
+        // The key of a damaged segment is hashed. These two keys have one MD5 (Stevens, 2012).
+        clash(
+            "damage 1 4dc968ff0ee35c209572d4777b721587d36fa7b21bdc56b74a3dc0783e7b9518afbfa200a8284bf36e8e4b55b35f427593d849676da0d1555d8360fb5f07fea2 -\ndamage 1 4dc968ff0ee35c209572d4777b721587d36fa7b21bdc56b74a3dc0783e7b9518afbfa202a8284bf36e8e4b55b35f427593d849676da0d1d55d8360fb5f07fea2 -\n",
+            "clash 4dc968ff0ee35c209572d4777b721587d36fa7b21bdc56b74a3dc0783e7b9518afbfa200a8284bf36e8e4b55b35f427593d849676da0d1555d8360fb5f07fea2 4dc968ff0ee35c209572d4777b721587d36fa7b21bdc56b74a3dc0783e7b9518afbfa202a8284bf36e8e4b55b35f427593d849676da0d1d55d8360fb5f07fea2\n",
+        ),
         bad("tick 1 0\n", "schedule 4 6\n"),
         bad("jump 1\n", "schedule 4 4\n"),
         bad("tick 1 1", "schedule 4 2\n"),

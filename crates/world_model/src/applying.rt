@@ -163,7 +163,8 @@ impl World {
         ensures begins { Begins self.old self.new }
     {
         if let ScheduleEvent::Call { key, .. } = event {
-            self.called.push(key.copy(alloc)?)?;
+            let key = key.copy(alloc)?;
+            self.called.push(key)?;
         }
         self.events = self.events.saturating_add(1);
         Ok(())

@@ -3,6 +3,7 @@ ghost use Rattle.held_stores.specs.Held.{HasHashed, account};
 ghost use Rattle.world_model.specs.Refusals.{IsCutOff};
 
 use crate::error::WorldError;
+use ens_base::Bytes;
 use ens_hashing::{HashError, Hasher16};
 use std::alloc::Global;
 
@@ -17,7 +18,10 @@ pub(crate) fn hash<H: Hasher16>(
 {
     match hasher.digest(alloc, bytes) {
         Ok(_digest) => Ok(()),
-        Err(HashError::Clash { first, second }) => Err(WorldError::Clash { first, second }),
+        Err(HashError::Clash { first, second }) => Err(WorldError::Clash {
+            first: Bytes::new(first),
+            second: Bytes::new(second),
+        }),
         Err(HashError::BookFull(kept)) => Err(WorldError::BookFull(kept)),
         Err(HashError::Memory) => Err(WorldError::Memory),
     }
