@@ -9,7 +9,7 @@ use Rattle.ens_base.proofs.Lists.{bytes_same, bytes_itself, in_tested, tested_in
 use Rattle.register_model.specs.Histories.{IsDone, IsRefused, is_done, is_refused, StandsBefore, IsLegal}
 use Rattle.register_model.specs.declared.answer.Answer.{Answer}
 use Rattle.register_model.specs.declared.call.Call.{Call}
-use Rattle.register_model.proofs.Replies.{done_is, refused_is}
+use Rattle.register_model.proofs.ReplyTests.{done_is, refused_is}
 use Rattle.register_runs.proofs.Runs.{stops_no_run}
 use Rattle.history_faults.specs.Clauses.{was_done, was_refused, was_done_before, is_call_on, ids_on, first_stray, is_amiss, first_amiss_in, first_amiss, is_late, first_late, KeepsThree, IsFault}
 use Rattle.history_faults.proofs.Lookups.{not_false, not_true, both, apart, less_test, tested_less, tested_same, item_any, any_item}

@@ -1,4 +1,4 @@
-use Rattle.register_model.proofs.Replies.{done_is, refused_is}
+use Rattle.register_model.proofs.ReplyTests.{done_is, refused_is}
 use Rattle.register_model.proofs.replies.the_tests_are_those_of_a_history.Goals as goal
 
 pub returns-clause-done : goal.returns-clause-done
