@@ -95,6 +95,8 @@ pub fn run_program<S: Source, O: Sink, R: Threads + Sync>(
     output: &mut O,
 ) -> Status
     ensures printed { result ≢ Status.WriteFault → (text : List ℕ) × EndsGiven (words_given all.now) (S.left input.old) result text × Appends (O.written output.old) (O.written output.new) text }
+    // If the output failed, a prefix of the text with which the program would otherwise have ended.
+    ensures front { result ≡ Status.WriteFault → (status : Status) × (text : List ℕ) × EndsGiven (words_given all.now) (S.left input.old) status text × (words_given all.now ≡ Ok (codes "replay" ∷ []) → HasRead (S.left input.new) (S.fault_count input.old) (S.fault_count input.new) status) × AppendsFront (O.written output.old) (O.written output.new) text }
     ensures end { words_given all.now ≡ Ok (codes "replay" ∷ []) → result ≡ Status.Done → IsAtEnd (S.left input.new) }
     // Only a replay reads the input.
     ensures untouched { words_given all.now ≢ Ok (codes "replay" ∷ []) → input.new ≡ input.old }

@@ -6,3 +6,4 @@ pub mod Gifts
 pub mod Keeping
 pub mod Widths
 pub mod Stacks
+pub mod Causes

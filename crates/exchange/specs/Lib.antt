@@ -2,3 +2,4 @@ pub mod Asked
 pub mod Gives
 pub mod Asks
 pub mod Covers
+pub mod Causes

@@ -1,10 +1,11 @@
-ghost use Rattle.std.specs.Prelude.{◌≡◌, IfOk};
+ghost use Rattle.std.specs.Prelude.{◌≡◌, IfOk, IfErr};
 ghost use Rattle.tree_node.specs.Nodes.{inner_of, segment_of};
 ghost use Rattle.tree_node.specs.Positions.{IsPosition};
 ghost use Rattle.tree_maps.specs.Sixteen.{sixteen};
 ghost use Rattle.synctree.specs.Nodes.{node_plan};
 ghost use Rattle.synctree.specs.Outsides.{outside_does, outside_refuses};
 ghost use Rattle.synctree.specs.Plans.{Did};
+ghost use Rattle.exchange.specs.Causes.{IsCause};
 ghost use Rattle.exchange.specs.Gives.{is_beyond as beyond_key, page_of, inner_body, segment_body, given as body_given, Makes, Answers};
 
 use crate::error::AskError;
@@ -137,6 +138,7 @@ pub fn give<N: NodeStore, H: Hasher16>(
     ensures did { Answers (λ r. Did (outside_does N.may_answer N.top_record N.fault_count H.kept H.clashes H.fulls) (outside_refuses N.may_refuse N.top_record N.fault_count H.kept H.clashes H.fulls)
         (node_plan sixteen tree.old.top question.now.position) (tree.old.store, hasher.old) r (tree.new.store, hasher.new)) question.now result }
     ensures top { tree.new.top ≡ tree.old.top }
+    ensures refused { IfErr result (λ e. IsCause N.fault_count H.clashes H.fulls (tree.old.store, hasher.old) (tree.new.store, hasher.new) e) }
 {
     match tree.node(alloc, hasher, question.position) {
         Ok(node) => given(alloc, &node, question),

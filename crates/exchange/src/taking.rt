@@ -5,6 +5,7 @@ ghost use Rattle.tree_node.specs.Nodes.{inner_of};
 ghost use Rattle.synctree.specs.Outsides.{outside_does, outside_refuses};
 ghost use Rattle.synctree.specs.Plans.{Did};
 ghost use Rattle.exchange.specs.Asks.{names_in, or_none, after_inner, after_page, stepped, reply as reply_to, taken, needs_own as needs_own_node, own_plan, Steps, Takes};
+ghost use Rattle.exchange.specs.Causes.{IsCause};
 ghost use Rattle.exchange.specs.Gives.{Makes};
 ghost use Rattle.exchange.specs.declared.error.AskError.TheVariants.{Memory};
 
@@ -236,6 +237,7 @@ impl Ask {
         ensures took { Takes (λ r. Did (outside_does N.may_answer N.top_record N.fault_count H.kept H.clashes H.fulls) (outside_refuses N.may_refuse N.top_record N.fault_count H.kept H.clashes H.fulls)
             (own_plan own.old.top question.now body.now self.old) (own.old.store, hasher.old) r (own.new.store, hasher.new)) scan.now question.now body.now self.old result self.new }
         ensures top { own.new.top ≡ own.old.top }
+        ensures refused { IfErr result (λ e. IsCause N.fault_count H.clashes H.fulls (own.old.store, hasher.old) (own.new.store, hasher.new) e) }
     {
         match read_own(alloc, self, own, hasher, question, body) {
             Ok(node) => self.take_read(alloc, &node, scan, question, body),

@@ -66,9 +66,13 @@ ticks_up_to finishing fact l zero = []
 ticks_up_to finishing fact l (suc n) =
     ticks_up_to finishing fact l n ++ (if is_other l.me l.fact.views (n + 1) then record { to = n + 1; message = tick_message finishing fact l (n + 1) } ∷ [] else [])
 
--- rule 25 ends a joint epoch that is not being ended
+-- whether an epoch of two views is to be ended, as it is unless that has begun
+abbrev pub is_to_end : Finishing → Fact → Bool
+is_to_end finishing first = is_none finishing && is_joint first.views
+
+-- rule 25 ends it
 abbrev pub after_tick : Finishing → Leader → Then
-after_tick finishing l = if is_joint l.fact.views && is_none finishing then Rule 25 else Stay
+after_tick finishing l = if is_to_end finishing l.fact then Rule 25 else Stay
 
 -- rule 5, the messages: each other member gets one, and a joint epoch is ended
 abbrev pub row_5_rest : Finishing → Fact → Leader → LeadOut

@@ -67,6 +67,7 @@ impl Leader {
 
     /// Rule 31: proposes a write. Its stamp is its own version. If the numbers of the epoch are spent,
     /// the leader steps down. Fails only when out of memory.
+    #[inline(never)]
     pub fn rule_31(&mut self, alloc: Global, key: &Key) -> Result<LeadOut, LeadError>
         ensures { IfOk result (λ o. (self.new, o) ≡ row_31 key.now self.old) }
     {
@@ -106,6 +107,7 @@ impl Leader {
 
     /// Rule 32: proposes an object of an earlier epoch again. It keeps its stamp, and serves no call.
     /// If the numbers of the epoch are spent, the leader steps down. Fails only when out of memory.
+    #[inline(never)]
     pub fn rule_32(&mut self, alloc: Global, key: &Key) -> Result<LeadOut, LeadError>
         ensures { IfOk result (λ o. (self.new, o) ≡ row_32 key.now self.old) }
     {
@@ -257,6 +259,7 @@ impl Leader {
 
     /// Rule 35: puts an object. It goes to the peer's own tree and backend first, and to the other
     /// members once `seen` says that these have stored it. Fails only when out of memory.
+    #[inline(never)]
     pub fn rule_35(&mut self, alloc: Global, key: &Key, seen: &Seen) -> Result<LeadOut, LeadError>
         ensures { IfOk result (λ o. (self.new, o) ≡ row_35 key.now seen.now self.old) }
     {
@@ -304,6 +307,7 @@ impl Leader {
 
     /// Rule 35, PutReply: counts an acknowledgement from `from`. Any reply is ignored unless it names
     /// the leader's epoch and the version that the key has put. Fails only when out of memory.
+    #[inline(never)]
     pub fn rule_35_reply(
         &mut self,
         alloc: Global,

@@ -95,6 +95,7 @@ impl Leader {
     /// Rule 29: reads the key in a new round. The peer's own tree and backend reply first, and then
     /// the other members are asked. If the rounds are spent, the leader steps down. Fails only when
     /// out of memory.
+    #[inline(never)]
     pub fn rule_29(&mut self, alloc: Global, key: &Key, seen: &Seen) -> Result<LeadOut, LeadError>
         ensures { IfOk result (λ o. (self.new, o) ≡ row_29 key.now seen.now self.old) }
     {
@@ -147,6 +148,7 @@ impl Leader {
 
     /// Rule 29, GetReply: counts a reply from `from`. It is ignored unless it names the leader's epoch
     /// and the round in which the key is read. Fails only when out of memory.
+    #[inline(never)]
     pub fn rule_29_reply(
         &mut self,
         alloc: Global,
@@ -273,6 +275,7 @@ impl Leader {
     }
 
     /// Rule 30: evaluates the replies of a round of reading. Fails only when out of memory.
+    #[inline(never)]
     pub fn rule_30(&mut self, alloc: Global, key: &Key) -> Result<LeadOut, LeadError>
         ensures { IfOk result (λ o. (self.new, o) ≡ row_30 key.now self.old) }
     {
@@ -354,6 +357,7 @@ impl Leader {
     /// Rule 33: asks the members whether they are still at the epoch, before a reply is given without
     /// a round of reading. If the rounds are spent, the leader steps down. Fails only when out of
     /// memory.
+    #[inline(never)]
     pub fn rule_33(&mut self, alloc: Global, key: &Key) -> Result<LeadOut, LeadError>
         ensures { IfOk result (λ o. (self.new, o) ≡ row_33 key.now self.old) }
     {
@@ -451,6 +455,7 @@ impl Leader {
 
     /// Rule 33, CheckReply: counts a reply from `from`. It is ignored unless it names the leader's
     /// epoch and a round in which a running call checks. Fails only when out of memory.
+    #[inline(never)]
     pub fn rule_33_reply(
         &mut self,
         alloc: Global,
@@ -486,6 +491,7 @@ impl Leader {
 
     /// Rule 34: applies the command of the running call to the settled object. Fails only when out of
     /// memory.
+    #[inline(never)]
     pub fn rule_34(&mut self, alloc: Global, key: &Key) -> Result<LeadOut, LeadError>
         ensures { IfOk result (λ o. (self.new, o) ≡ row_34 key.now self.old) }
     {

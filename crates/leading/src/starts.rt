@@ -35,6 +35,7 @@ impl Leader {
     /// Rule 27: takes a call. A leader that finishes a change answers `unavailable`, and a key with 16
     /// unanswered calls is answered `busy`. Otherwise the call joins the calls of its key, and starts
     /// if it is the only one. Fails only when out of memory.
+    #[inline(never)]
     pub fn rule_27(
         &mut self,
         alloc: Global,
@@ -208,6 +209,7 @@ impl Leader {
 
     /// Rule 28: starts the running call of the key. `seen` is what the peer's own backend returned.
     /// Fails only when out of memory.
+    #[inline(never)]
     pub fn rule_28(&mut self, alloc: Global, key: &Key, seen: &Seen) -> Result<LeadOut, LeadError>
         ensures { IfOk result (λ o. (self.new, o) ≡ row_28 key.now seen.now self.old) }
     {
@@ -218,6 +220,7 @@ impl Leader {
     }
 
     /// Rule 36: starts the next call of the key, after an answer. Fails only when out of memory.
+    #[inline(never)]
     pub fn rule_36(&mut self, alloc: Global, key: &Key) -> Result<LeadOut, LeadError>
         ensures { IfOk result (λ o. (self.new, o) ≡ row_36 key.now self.old) }
     {

@@ -1,5 +1,5 @@
 ghost use Rattle.std.specs.Prelude.{◌≡◌, ◌++◌, IfOk, OnOk};
-ghost use Rattle.leading.specs.Ticks.{is_late, and_key_if, timed_out, after_ages, row_5_calls, finishing_message, tick_message, ticks_up_to, row_5_rest, row_5, after_tick};
+ghost use Rattle.leading.specs.Ticks.{is_late, and_key_if, timed_out, after_ages, row_5_calls, finishing_message, tick_message, ticks_up_to, row_5_rest, row_5, after_tick, is_to_end};
 
 use crate::leader::Leader;
 use call_table::DueCall;
@@ -120,19 +120,21 @@ impl Leader {
         Ok(())
     }
 
-    /// Returns what follows the messages of a tick: a joint epoch that is not being ended is ended.
+    /// Whether an epoch of two views is to be ended, as it is unless that has begun.
+    pub fn is_to_end(&self, finishing: &Option<(PeerSet, u8)>) -> bool
+        ensures { result ≡ is_to_end finishing.now self.now.fact }
+    {
+        finishing.is_none() && self.fact.views.second().is_some()
+    }
+
+    /// Returns what follows the messages of a tick: rule 25, if the epoch is to be ended.
     fn after_tick(&self, finishing: &Option<(PeerSet, u8)>) -> Then
         ensures { result ≡ after_tick finishing.now self.now }
     {
-        match self.fact.views.second() {
-            None => Then::Stay,
-            Some(_old) => {
-                if finishing.is_none() {
-                    Then::Rule(25)
-                } else {
-                    Then::Stay
-                }
-            }
+        if self.is_to_end(finishing) {
+            Then::Rule(25)
+        } else {
+            Then::Stay
         }
     }
 

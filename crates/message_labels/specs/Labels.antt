@@ -8,7 +8,7 @@ use Rattle.wire_frames.specs.declared.message.Message.{Message}
 use Rattle.wire_frames.specs.declared.message.Message.TheVariants as messages
 use Rattle.wire_frames.specs.declared.message.NackCause.{NackCause}
 use Rattle.wire_frames.specs.declared.message.NackCause.TheVariants as causes
-use Rattle.message_labels.specs.Replies.{reply_words}
+use Rattle.history_scribe.specs.Text.{reply_words}
 
 -- LEVEL/INDEX
 abbrev pub position_word : Position → List ℕ

@@ -1,4 +1,4 @@
-ghost use Rattle.std.specs.Prelude.{◌≡◌, ◌↔◌, ◌≤◌, ◌<◌, true, [], ◌∷◌, ◌++◌, All, length, IfOk, IfSome, IsErrOf, OnOk, OnErr, vec_len};
+ghost use Rattle.std.specs.Prelude.{◌≡◌, ◌↔◌, ◌≤◌, ◌<◌, true, false, slice_index_or, [], ◌∷◌, ◌++◌, All, length, IfOk, IfSome, IsErrOf, OnOk, OnErr, vec_len};
 ghost use Rattle.std.specs.Vec.{vec_capacity};
 ghost use Rattle.ens_base.specs.View.{IsPeer};
 ghost use Rattle.network.specs.Lines.{Changes};
@@ -65,6 +65,16 @@ impl Network {
         ensures may { All MayBeSent self.now.sent }
     {
         self.sent.as_slice()
+    }
+
+    /// Whether the message `number` waits. A message that was not sent does not.
+    pub fn waits(&self, number: usize) -> bool
+        ensures { result ≡ slice_index_or self.now.waits number false }
+    {
+        match self.waiting.get(number) {
+            Some(waits) => *waits,
+            None => false,
+        }
     }
 
     /// Returns the place of the line for this sender and receiver.

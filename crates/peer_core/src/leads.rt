@@ -113,6 +113,7 @@ impl<S> Machine<S> {
 
     /// Runs a rule on a key, if the peer leads.
     #[tactic(auto, using(peer_plan::proofs::Parts::cut))]
+    #[inline(never)]
     pub(crate) fn key_done<H>(
         &mut self,
         hasher: &mut H,
@@ -170,6 +171,7 @@ impl<S> Machine<S> {
 
     /// Rule 29: counts a GetReply at a leader.
     #[tactic(auto, using(peer_plan::proofs::Parts::cut))]
+    #[inline(never)]
     pub(crate) fn get_reply<H>(
         &mut self,
         hasher: &mut H,
@@ -198,6 +200,7 @@ impl<S> Machine<S> {
 
     /// Rule 35: counts a PutReply, if the peer leads.
     #[tactic(auto, using(peer_plan::proofs::Parts::cut))]
+    #[inline(never)]
     pub(crate) fn put_reply<H>(
         &mut self,
         hasher: &mut H,
@@ -227,6 +230,7 @@ impl<S> Machine<S> {
 
     /// Rule 33: counts a CheckReply, if the peer leads.
     #[tactic(auto, using(peer_plan::proofs::Parts::cut))]
+    #[inline(never)]
     pub(crate) fn check_reply<H>(
         &mut self,
         hasher: &mut H,
@@ -285,6 +289,7 @@ impl<S> Machine<S> {
 
     /// Rule 27: a call. A peer that does not lead answers `unavailable`.
     #[tactic(auto, using(peer_plan::proofs::Parts::cut))]
+    #[inline(never)]
     pub(crate) fn call<H>(
         &mut self,
         hasher: &mut H,
@@ -309,6 +314,7 @@ impl<S> Machine<S> {
 
     /// Rule 5: a tick of a leader. Its calls come first, and the rest once their keys have gone on.
     #[tactic(auto, using(peer_plan::proofs::Parts::cut))]
+    #[inline(never)]
     pub(crate) fn tick_leading<H>(
         &mut self,
         hasher: &mut H,
@@ -339,6 +345,7 @@ impl<S> Machine<S> {
     /// Rule 5 (d) and (e), in a leader: sends each other member one message, and begins a change that is
     /// wanted.
     #[tactic(auto, using(peer_plan::proofs::Parts::cut))]
+    #[inline(never)]
     pub(crate) fn remind<H>(
         &mut self,
         hasher: &H,

@@ -39,6 +39,7 @@ impl<S> Machine<S> {
 
     /// Saves the fact, if there is one.
     #[tactic(auto, using(peer_plan::proofs::Parts::cut))]
+    #[inline(never)]
     pub(crate) fn save<H>(
         &mut self,
         hasher: &mut H,

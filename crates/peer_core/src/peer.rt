@@ -144,6 +144,13 @@ impl<B: Backend, N: NodeStore, F: FactKeeper> Peer<B, N, F> {
 }
 
 impl<B, N, F> Peer<B, N, F> {
+    /// Returns the state of the peer.
+    pub fn state(&self) -> &State
+        ensures { result.now ≡ self.now.machine.state }
+    {
+        &self.machine.state
+    }
+
     /// Returns the stores. Needs no heap memory.
     pub fn into_stores(self) -> Stores<B, N, F>
         ensures { result ≡ self.machine.stores }

@@ -166,6 +166,7 @@ impl<S> Machine<S> {
     /// The fact of a sync was accepted: a starting peer counts itself, and a follower sends its
     /// acceptance.
     #[tactic(auto, using(peer_plan::proofs::Parts::cut))]
+    #[inline(never)]
     fn accept<H>(
         &mut self,
         hasher: &H,
@@ -195,6 +196,7 @@ impl<S> Machine<S> {
 
     /// Ends a sync with these merged entries.
     #[tactic(auto, using(peer_plan::proofs::Parts::cut))]
+    #[inline(never)]
     fn end_sync<H, R: Threads + Sync>(
         &mut self,
         hasher: &mut H,
@@ -277,6 +279,7 @@ impl<S> Machine<S> {
 
     /// Begins a sync on a fact.
     #[tactic(auto, using(peer_plan::proofs::Parts::cut))]
+    #[inline(never)]
     fn begin_sync<H, R: Threads + Sync>(
         &mut self,
         hasher: &mut H,
@@ -299,6 +302,7 @@ impl<S> Machine<S> {
 
     /// Resumes the sync that runs, if one does.
     #[tactic(auto, using(peer_plan::proofs::Parts::cut))]
+    #[inline(never)]
     fn resume_sync<H>(
         &mut self,
         hasher: &H,
@@ -322,6 +326,7 @@ impl<S> Machine<S> {
 
     /// Runs what follows the message of a row: a sync begins or resumes, or the named rule runs next.
     #[tactic(auto, using(peer_plan::proofs::Parts::cut))]
+    #[inline(never)]
     pub(crate) fn follow_on<H, R: Threads + Sync>(
         &mut self,
         hasher: &mut H,
@@ -351,6 +356,7 @@ impl<S> Machine<S> {
 
     /// Rule 23: a peer that syncs asks for a node of the tree.
     #[tactic(auto, using(peer_plan::proofs::Parts::cut))]
+    #[inline(never)]
     pub(crate) fn tree_ask<H, R: Threads + Sync>(
         &mut self,
         hasher: &mut H,
@@ -409,6 +415,7 @@ impl<S> Machine<S> {
 
     /// Takes what a source of the sync sent.
     #[tactic(auto, using(peer_plan::proofs::Parts::cut))]
+    #[inline(never)]
     pub(crate) fn tree_give<H, R: Threads + Sync>(
         &mut self,
         hasher: &mut H,

@@ -2,10 +2,9 @@
 use Rattle.std.specs.Prelude.{ℕ, ◌+◌, Bool, false, true, if◌then◌else◌, List, Option, Some, None}
 use Rattle.peer_fact.specs.declared.fact.Change.TheVariants.{Drop}
 use Rattle.peer_fact.specs.declared.fact.Fact.{Fact}
-use Rattle.phase_rows.specs.Orders.{is_joint}
 use Rattle.leader_words.specs.declared.out.LeadOut.{LeadOut}
 use Rattle.leader_words.specs.declared.out.Outgoing.{Outgoing}
-use Rattle.leading.specs.Ticks.{row_5}
+use Rattle.leading.specs.Ticks.{is_to_end, row_5}
 use Rattle.phase_rows.specs.declared.phase.Then.{Then}
 use Rattle.phase_rows.specs.declared.phase.Then.TheVariants as thens
 use Rattle.peer_state.specs.Moves.{with_leader}
@@ -40,9 +39,9 @@ ticks fact l = (row_5 true fact (end_of l.change) l.leader).1.sends
 
 -- (e) in an epoch of two views, the old view is to be dropped, unless a change has begun
 abbrev pub wished : Fact → ChangeState → ChangeState
-wished fact Settled = if is_joint fact.views then Wanted Drop else Settled
-wished fact (Wanted change) = Wanted change
-wished fact (Finishing f) = Finishing f
+wished first Settled = if is_to_end None first then Wanted Drop else Settled
+wished first (Wanted change) = Wanted change
+wished first (Finishing f) = Finishing f
 
 -- rule 25, if a change is wanted
 abbrev pub begins : ChangeState → Then

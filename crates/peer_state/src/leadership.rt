@@ -6,6 +6,7 @@ ghost use Rattle.peer_state.specs.Rows.{change_heard, ended};
 
 use crate::state::{ChangeState, Leadership};
 use ens_base::{Epoch, PeerId, PeerSet};
+use leading::Leader;
 use leader_words::{LeadError, LeadOut, Outgoing};
 use peer_fact::{Change, Fact};
 use phase_rows::{PhaseOut, Then, silent};
@@ -58,11 +59,11 @@ impl ChangeState {
     }
 
     /// Plans to drop the old view, if the epoch has two views and no change has begun.
-    fn wish(&mut self, first: &Fact)
-        ensures { self.new ≡ wished first.now self.old }
+    fn wish(&mut self, leader: &Leader)
+        ensures { self.new ≡ wished leader.now.fact self.old }
     {
         if let ChangeState::Settled = self {
-            if let Some(_old) = first.views.second() {
+            if leader.is_to_end(&None) {
                 *self = ChangeState::Wanted(Change::Drop);
             }
         }
@@ -125,8 +126,7 @@ impl Leadership {
         ensures leadership { self.new ≡ record self.old { change = wished self.old.leader.fact self.old.change } }
         ensures then { result ≡ begins_by (wished self.old.leader.fact self.old.change) }
     {
-        let first = self.leader.fact();
-        self.change.wish(&first);
+        self.change.wish(&self.leader);
         self.change.begins()
     }
 

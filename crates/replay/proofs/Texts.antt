@@ -21,7 +21,8 @@ use Rattle.world_spec.specs.Runs.{Run}
 use Rattle.held_stores.specs.Held.{HasNoClash, once}
 use Rattle.held_stores.specs.Laws.{HasClashed, HasFilled}
 use Rattle.replay.specs.Jobs.{EndsInRun, IsRunText, Prints, PrintsWith, hashed_by, nothing_hashed}
-use Rattle.replay.specs.Text.{IsTextOfRun, history_line, printed_line}
+use Rattle.history_scribe.specs.Text.{history_line, printed_line}
+use Rattle.replay.specs.Text.{IsTextOfRun}
 use Rattle.replay.specs.Worlds.{schedule_run}
 use Rattle.replay.proofs.Members.{Contains_from_in, in_from_Contains}
 

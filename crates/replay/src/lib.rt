@@ -10,7 +10,6 @@
 mod job;
 mod laws;
 mod summary;
-mod text;
 mod worlds;
 
 pub use job::{replay, replay_with};

@@ -11,9 +11,9 @@ ghost use Rattle.replay.specs.Worlds.{schedule_run};
 ghost use Rattle.replay.specs.Summary.{EndsInSummary, IsSummary};
 
 use crate::summary::write_summary;
-use crate::text::write_run;
 use ens_base::{Bytes, Status, push_bytes};
 use ens_hashing::{Hasher16, PlainHasher};
+use history_scribe::write_text;
 use schedule_input::Ending;
 use schedule_text::Schedule;
 use std::alloc::{AllocError, Global};
@@ -38,7 +38,7 @@ fn run_text(alloc: Global, world: &World) -> Result<String, AllocError>
     ensures { IfOk result (λ text. IsTextOfRun (run_of world.now) (string_bytes text)) }
 {
     let histories = world.histories(alloc)?;
-    write_run(alloc, world.printed(), &histories)
+    write_text(alloc, world.printed(), &histories)
 }
 
 /// Runs a schedule in a world, and returns how its replay ends: with the text of the run, with a

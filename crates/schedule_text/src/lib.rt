@@ -28,4 +28,4 @@ pub use keyword::{StoreName, Survivor};
 pub use read_text::read_schedule;
 pub use reading::Reading;
 pub use schedule::Schedule;
-pub use writing::write_schedule;
+pub use writing::{push_event, write_schedule};

@@ -230,8 +230,8 @@ fn push_peer(out: &mut String, keyword: Keyword, peer: PeerId) -> Result<(), All
     push_numbers(out, keyword.word(), &[u64::from(peer.number())])
 }
 
-/// The line of an event, without its line feed.
-fn push_event(alloc: Global, out: &mut String, event: &ScheduleEvent) -> Result<(), AllocError>
+/// Appends the line of an event, without its line feed.
+pub fn push_event(alloc: Global, out: &mut String, event: &ScheduleEvent) -> Result<(), AllocError>
     ensures { OnOk result (string_bytes out.new ≡ string_bytes out.old ++ event_line event.now) }
 {
     match event {

@@ -106,16 +106,17 @@ module _ (finishing : Finishing) (fact : Fact) (l : Leader) where
           itself : (n : ℕ) → not (n == n) ≡ false
           itself n = grind (arith, nat_tests)
 
-  ends_by : (joint : Bool) → is_joint l.fact.views ≡ joint → (f : Finishing) → finishing ≡ f → (((if joint && is_none f then Rule 25 else Stay) ≡ Rule 25) → (is_joint l.fact.views ≡ true) × (finishing ≡ None))
+  ends_by : (joint : Bool) → is_joint l.fact.views ≡ joint → (f : Finishing) → finishing ≡ f → (((if is_none f && joint then Rule 25 else Stay) ≡ Rule 25) → (is_joint l.fact.views ≡ true) × (finishing ≡ None))
   ends_by true e None none h = (e, none)
   ends_by true e (Some f) some h = absurd cc
-  ends_by false e f same h = absurd cc
+  ends_by false e None same h = absurd cc
+  ends_by false e (Some f) same h = absurd cc
 
   pub ends : ((row_5_rest finishing fact l).then ≡ Rule 25) → (is_joint l.fact.views ≡ true) × (finishing ≡ None)
   ends h = ends_by (is_joint l.fact.views) refl finishing refl h
 
   pub ended : (is_joint l.fact.views ≡ true) × (finishing ≡ None) → (row_5_rest finishing fact l).then ≡ Rule 25
-  ended both = ap (λ (b : Bool). if b && is_none finishing then Rule 25 else Stay) both.0 ∙ ap (λ (f : Finishing). if is_none f then Rule 25 else Stay) both.1
+  ended both = ap (λ (f : Finishing). if is_none f && is_joint l.fact.views then Rule 25 else Stay) both.1 ∙ ap (λ (b : Bool). if b then Rule 25 else Stay) both.0
 
 -- the messages, by who has accepted what
 pub not_accepted : (finishing : Finishing) (fact : Fact) (l : Leader) (p : ℕ) → holds l.accepts p ≡ false → tick_message finishing fact l p ≡ NewEpoch l.fact

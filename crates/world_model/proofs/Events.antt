@@ -34,7 +34,7 @@ running_first peers view all first now mid is has = record {
   has = has;
 }
 
-drop_one : (all : List ScheduleEvent) (place : ℕ) (event : ScheduleEvent) → slice_get all place ≡ Some event → drop place all ≡ event ∷ drop (place + 1) all
+pub drop_one : (all : List ScheduleEvent) (place : ℕ) (event : ScheduleEvent) → slice_get all place ≡ Some event → drop place all ≡ event ∷ drop (place + 1) all
 drop_one all place event here = at all place event here ∙ ap (λ k. event ∷ drop k all) (sym (succ place)) where
   at : (all : List ScheduleEvent) (place : ℕ) (event : ScheduleEvent) → slice_get all place ≡ Some event → drop place all ≡ event ∷ drop (suc place) all
   at [] place event here = absurd (none-some event here)
@@ -64,7 +64,7 @@ module _ (peers : ℕ) (view : List ℕ) (all : List ScheduleEvent) (place : ℕ
 pub opening_longer : (peers : ℕ) (view : List ℕ) (all : List ScheduleEvent) → IsFurther (opening_run peers view) (run_of_schedule peers view all)
 opening_longer peers view all = run_grows all (opening_run peers view)
 
-drop_past : (all : List ScheduleEvent) (place : ℕ) → length all ≤ place → drop place all ≡ []
+pub drop_past : (all : List ScheduleEvent) (place : ℕ) → length all ≤ place → drop place all ≡ []
 drop_past [] zero le = refl
 drop_past [] (suc place) le = refl
 drop_past (e ∷ es) zero le = absurd (omega (arith, le))

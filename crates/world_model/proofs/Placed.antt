@@ -17,7 +17,7 @@ use Rattle.world_model.specs.Peers.{node_of, AreNumbered}
 use Rattle.world_model.specs.Worlds.{reported}
 use Rattle.world_model.specs.declared.peer.WorldPeer.{WorldPeer}
 
-node_at : (peers : List WorldPeer) (place : ℕ) (x : WorldPeer) → slice_get peers place ≡ Some x → slice_get (map node_of peers) place ≡ Some (node_of x)
+pub node_at : (peers : List WorldPeer) (place : ℕ) (x : WorldPeer) → slice_get peers place ≡ Some x → slice_get (map node_of peers) place ≡ Some (node_of x)
 node_at peers place x is = slice_get-map node_of peers place ∙ ap (option_map node_of) is
 
 -- the messages of a step that is reported are past the limit

@@ -2,3 +2,4 @@ pub mod MemNodes
 pub mod Peers
 pub mod Worlds
 pub mod Refusals
+pub mod Activities

@@ -4,7 +4,7 @@ ghost use Rattle.ens_base.specs.View.{IsPeer};
 ghost use Rattle.held_stores.specs.Held.{account};
 ghost use Rattle.peer_state.specs.declared.event.Event.TheVariants.{Call};
 ghost use Rattle.schedule_text.specs.Spelling.{MayStand};
-ghost use Rattle.world_spec.specs.Lines.{applied, call_of, effect, everyone, set_of, stores_effect};
+ghost use Rattle.world_spec.specs.Lines.{applied, call_of, counted, effect, everyone, set_of, stores_effect};
 ghost use Rattle.world_spec.specs.Runs.{stepped};
 ghost use Rattle.world_model.specs.Worlds.{run_of, Adds, Begins, Reaches};
 
@@ -28,7 +28,7 @@ fn is_one_of(members: &[PeerId], peer: PeerId) -> bool
 }
 
 /// Returns the set of all peers, 1 to 31.
-pub(crate) fn all_peers() -> PeerSet
+pub fn all_peers() -> PeerSet
     ensures { result ≡ everyone }
 {
     let mut set = PeerSet::empty();
@@ -39,7 +39,7 @@ pub(crate) fn all_peers() -> PeerSet
 }
 
 /// Returns the set of these peers.
-fn set_of_members(members: &[PeerId]) -> PeerSet
+pub fn set_of_members(members: &[PeerId]) -> PeerSet
     ensures { result ≡ set_of members.now }
 {
     let mut set = PeerSet::empty();
@@ -151,6 +151,19 @@ impl World {
             }
             _ => Ok(()),
         }
+    }
+
+    /// Counts a line whose effect was made by other calls, and the key that it names. Fails when out
+    /// of memory.
+    pub fn count(&mut self, alloc: Global, event: &ScheduleEvent) -> Result<(), WorldError>
+        ensures counted { Adds (counted event.now (run_of self.old)) result (run_of self.new) }
+        ensures begins { Begins self.old self.new }
+    {
+        if let ScheduleEvent::Call { key, .. } = event {
+            self.called.push(key.copy(alloc)?)?;
+        }
+        self.events = self.events.saturating_add(1);
+        Ok(())
     }
 
     /// Applies one line of a schedule. The world is then the run of all lines applied so far, and

@@ -34,8 +34,13 @@ impl World {
     }
 
     /// Delivers the message `number`, counted from 0, whether or not it still waits. Does nothing
-    /// if there is no such message.
-    pub(crate) fn deliver<H: Hasher16, R: Threads + Sync>(
+    /// if there is no such message. No line is counted. The hasher took the strings that the step
+    /// hashes, in order.
+    ///
+    /// # Errors
+    ///
+    /// As `apply`.
+    pub fn deliver<H: Hasher16, R: Threads + Sync>(
         &mut self,
         rt: &R,
         alloc: Global,

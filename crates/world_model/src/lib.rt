@@ -24,7 +24,10 @@ mod spoiling;
 mod stepping;
 mod store_faults;
 mod taking;
+mod watching;
 mod world;
 
+pub use applying::{all_peers, set_of_members};
 pub use error::WorldError;
+pub use watching::Activity;
 pub use world::World;

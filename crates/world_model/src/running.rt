@@ -45,8 +45,9 @@ impl World {
 }
 
 impl World {
-    ghost use Rattle.std.specs.Prelude.{◌≡◌, IfOk};
+    ghost use Rattle.std.specs.Prelude.{◌≡◌, All, IfOk};
     ghost use Rattle.history_scribe.specs.Histories.{AreHistories};
+    ghost use Rattle.network.specs.Mail.{MayBeSent};
     ghost use Rattle.world_model.specs.Worlds.{run_of};
 
     /// Returns the answers to calls and the replies to requests to change the view, in the order
@@ -67,7 +68,8 @@ impl World {
 
     /// Returns every message sent so far, in the order of sending.
     pub fn sent(&self) -> &[Frame]
-        ensures { result.now ≡ (run_of self.now).mail.sent }
+        ensures sent { result.now ≡ (run_of self.now).mail.sent }
+        ensures may { All MayBeSent result.now }
     {
         self.network.sent()
     }

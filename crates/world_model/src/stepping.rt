@@ -22,6 +22,7 @@ fn ignore(_event: Event) {}
 
 impl World {
     /// Sends the messages of a step, and adds its lines and notes to those of the world.
+    #[inline(never)]
     fn report(&mut self, alloc: Global, peer: PeerId, out: Outbox) -> Result<(), WorldError>
         requires peer { IsPeer peer }
         requires out { AllMayGo peer (out_of out) }

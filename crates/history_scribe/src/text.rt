@@ -1,12 +1,13 @@
 ghost use Rattle.std.specs.Prelude.{◌≡◌, ◌++◌, IfOk, OnOk, string_bytes};
 ghost use Rattle.std.specs.List.{flat_map};
-ghost use Rattle.replay.specs.Text.{answer_line, change_line as line_of_change, history_line, next_id, printed_line, reply_words, taken_word as word_of_taken};
+ghost use Rattle.history_scribe.specs.Text.{answer_line, change_line as line_of_change, history_line, next_id, printed_line, reply_words, taken_word as word_of_taken};
 
 use ens_base::{PeerId, Reply, push_bytes, push_value};
 use register_model::{Answer, History, Printed};
 use std::alloc::{AllocError, Global};
 
-fn push_reply(alloc: Global, text: &mut String, reply: &Reply) -> Result<(), AllocError>
+/// Appends the words of a reply. Fails when out of memory.
+pub fn push_reply(alloc: Global, text: &mut String, reply: &Reply) -> Result<(), AllocError>
     ensures { OnOk result (string_bytes text.new ≡ string_bytes text.old ++ reply_words reply.now) }
 {
     match reply {
@@ -84,8 +85,9 @@ fn push_printed(alloc: Global, text: &mut String, line: &Printed) -> Result<(), 
     }
 }
 
-/// Returns the text of what a world printed, in order, followed by that of the histories.
-pub fn write_run(
+/// Returns the text of what a run printed, a line each in order, followed by a line for each history.
+/// Fails when out of memory.
+pub fn write_text(
     alloc: Global,
     printed: &[Printed],
     histories: &[History],
