@@ -1,0 +1,131 @@
+-- The reading of the schedule: so many lines, and calls of distinct ids.
+use Rattle.std.proofs.Common.{◌≡◌, ℕ, ◌+◌, ◌<◌, ◌≤◌, Bool, true, false, List, [], ◌∷◌, ◌++◌, length, map, Result, Ok, Err, refl, sym, ap, subst, ◌∙◌, arith}
+use Rattle.std.specs.Prelude.{◌==◌, nat_lt, if◌then◌else◌}
+use Rattle.std.proofs.lemmas.Bool.Decides.{nat_tests}
+use Rattle.std.proofs.lemmas.List.{length-append}
+use Rattle.ens_base.specs.Lists.{AreDistinct, same_bytes}
+use Rattle.schedule_words.specs.Words.{words_of}
+use Rattle.schedule_words.specs.declared.cause.Cause.{Cause}
+use Rattle.schedule_words.specs.declared.cause.Cause.TheVariants.{TooLong, Heading, Repeated, Unfinished}
+use Rattle.schedule_words.proofs.Results.{bind_ok, ok_same}
+use Rattle.schedule_text.proofs.Ids.{distinct_with}
+use Rattle.schedule_text.specs.Errors.{at_line}
+use Rattle.schedule_text.specs.Events.{event_of, line_limit}
+use Rattle.schedule_text.specs.Progress.{Progress, Blank, Titled, Counted, Running, lines_so_far, is_repeated}
+use Rattle.schedule_text.specs.Reading.{at_next, bounded, ended, finished, most_lines, next_line, opening_of, peers_of, with_line}
+use Rattle.schedule_text.specs.Spelling.{call_ids, ensemble_line}
+use Rattle.schedule_text.specs.declared.error.ScheduleError.{ScheduleError}
+use Rattle.schedule_text.specs.declared.error.ScheduleError.TheVariants.{Lines}
+use Rattle.schedule_text.specs.declared.event.ScheduleEvent.{ScheduleEvent}
+use Rattle.schedule_text.specs.declared.event.ScheduleEvent.TheVariants as line
+use Rattle.schedule_text.specs.declared.schedule.Schedule.{Schedule}
+use Rattle.history_record.specs.Calls.{calls_from}
+use Rattle.history_record.specs.Kept.{IsFit}
+use Rattle.history_record.specs.Reading.{HasDistinct, IsBegun}
+
+-- the ids of the calls are those of the events
+pub ids_of_calls : (n : ℕ) (events : List ScheduleEvent) → map (λ c. c.id) (calls_from n events) ≡ call_ids events
+ids_of_calls n [] = refl
+ids_of_calls n (line.Call peer id key command ∷ more) = ap (λ (ids : List ℕ). id ∷ ids) (ids_of_calls (n + 1) more)
+ids_of_calls n (_ ∷ more) = ids_of_calls (n + 1) more
+
+if_ok : {A : Type 0} (b : Bool) (e : Cause) (x y : A) → (if b then Ok x else Err e) ≡ Ok y → x ≡ y
+if_ok true e x y h = ok_same h
+if_ok false e x y h = cc h
+
+if_repeated : (b : Bool) (x y : Progress) → (if b then Err Repeated else Ok x) ≡ Ok y → (b ≡ false) × (x ≡ y)
+if_repeated true x y h = cc h
+if_repeated false x y h = (refl, ok_same h)
+
+-- one more line
+record Grows (p q : Progress) : Type 0 where
+  more : lines_so_far q ≡ lines_so_far p + 1
+  distinct : HasDistinct p → HasDistinct q
+
+with_line-grows : (p q : Progress) (text : List ℕ) → with_line p text ≡ Ok q → Grows p q
+with_line-grows Blank q text h =
+    let same : Titled ≡ q = if_ok (same_bytes text ensemble_line) Heading Titled q h in
+    subst (λ (r : Progress). Grows Blank r) same (record { more = refl; distinct = λ d. tt })
+with_line-grows Titled q text h =
+    let n = bind_ok (peers_of (words_of text)) _ q h in
+    subst (λ (r : Progress). Grows Titled r) (ok_same n.2) (record { more = refl; distinct = λ d. tt })
+with_line-grows (Counted peers) q text h =
+    let v = bind_ok (opening_of peers (words_of text)) _ q h in
+    subst (λ (r : Progress). Grows (Counted peers) r) (ok_same v.2) (record { more = refl; distinct = λ d. tt })
+with_line-grows (Running peers view events) q text h =
+    let e = bind_ok (event_of peers text) _ q h in
+    let once = if_repeated (is_repeated events e.0) _ q e.2 in
+    subst (λ (r : Progress). Grows (Running peers view events) r) once.1
+    (record { more = omega (arith, length-append events (e.0 ∷ [])); distinct = λ d. distinct_with events e.0 d once.0 })
+
+at_line_ok : {A : Type 0} (n : ℕ) (r : Result A Cause) (x : A) → at_line n r ≡ Ok x → r ≡ Ok x
+at_line_ok n (Ok y) x h = let same : y ≡ x = cc h in ap Ok same
+at_line_ok n (Err e) x h = cc h
+
+unless_lines : {A : Type 0} (b : Bool) (r : Result A ScheduleError) (x : A) → (if b then Err Lines else r) ≡ Ok x → (b ≡ false) × (r ≡ Ok x)
+unless_lines true r x h = cc h
+unless_lines false r x h = (refl, h)
+
+unless_long : {A : Type 0} (b : Bool) (r : Result A Cause) (x : A) → (if b then Err TooLong else r) ≡ Ok x → r ≡ Ok x
+unless_long true r x h = cc h
+unless_long false r x h = h
+
+not_last : (n : ℕ) → (n == most_lines) ≡ false → n ≤ 200000 → n + 1 ≤ 200000
+not_last n h k = grind (arith, nat_tests)
+
+grows_line : (p q : Progress) (text : List ℕ) → next_line p text ≡ Ok q → Grows p q
+grows_line p q text h =
+    let parts = unless_lines (lines_so_far p == most_lines) (at_next p (bounded text (with_line p text))) q h in
+    let within = at_line_ok (lines_so_far p + 1) (bounded text (with_line p text)) q parts.1 in
+    with_line-grows p q text (unless_long (nat_lt line_limit (length text)) (with_line p text) q within)
+
+-- a line adds one to the count
+pub next_counts : (p q : Progress) (text : List ℕ) → next_line p text ≡ Ok q → lines_so_far q ≡ lines_so_far p + 1
+next_counts p q text h = (grows_line p q text h).more
+
+pub next_begun : (p q : Progress) (text : List ℕ) → next_line p text ≡ Ok q → IsBegun p → IsBegun q
+next_begun p q text h begun =
+    let parts = unless_lines (lines_so_far p == most_lines) (at_next p (bounded text (with_line p text))) q h in
+    let grows = grows_line p q text h in
+    record {
+      few = subst (λ (n : ℕ). n ≤ 200000) (sym grows.more) (not_last (lines_so_far p) parts.0 begun.few);
+      distinct = grows.distinct begun.distinct;
+    }
+
+finished-fit : (p : Progress) (s : Schedule) → finished p ≡ Ok s → IsBegun p → IsFit s
+finished-fit Blank s h begun = cc h
+finished-fit Titled s h begun = cc h
+finished-fit (Counted peers) s h begun = cc h
+finished-fit (Running peers view events) s h begun =
+    subst IsFit (ok_same h)
+    (record {
+      lines = let few : 3 + length events ≤ 200000 = begun.few in omega arith;
+      calls = subst AreDistinct (sym (ids_of_calls 1 events)) begun.distinct;
+    })
+
+bounded_err : {A : Type 0} (text : List ℕ) (cause : Cause) (x : A) → bounded text (Err cause) ≡ Ok x → ⊥
+bounded_err {A = A} text cause x h = by (nat_lt line_limit (length text)) h
+  where
+    by : (b : Bool) → (if b then Err TooLong else Err cause) ≡ Ok x → ⊥
+    by true h = cc h
+    by false h = cc h
+
+-- the schedule ends
+pub ended-fit : (p : Progress) (rest : List ℕ) (s : Schedule) → ended p rest ≡ Ok s → IsBegun p → IsFit s
+ended-fit p [] s h begun = finished-fit p s (at_line_ok (lines_so_far p + 1) (finished p) s h) begun
+ended-fit p (b ∷ rest) s h begun =
+    let parts = unless_lines (lines_so_far p == most_lines) (at_next p (bounded (b ∷ rest) (Err Unfinished))) s h in
+    absurd (bounded_err (b ∷ rest) Unfinished s (at_line_ok (lines_so_far p + 1) (bounded (b ∷ rest) (Err Unfinished)) s parts.1))
+
+finished-lines : (p : Progress) (s : Schedule) → finished p ≡ Ok s → length s.events + 3 ≡ lines_so_far p
+finished-lines Blank s h = cc h
+finished-lines Titled s h = cc h
+finished-lines (Counted peers) s h = cc h
+finished-lines (Running peers view events) s h = subst (λ (t : Schedule). length t.events + 3 ≡ 3 + length events) (ok_same h) (omega arith)
+
+-- the lines of the schedule that ends here
+pub ended-lines : (p : Progress) (s : Schedule) → ended p [] ≡ Ok s → length s.events + 3 ≡ lines_so_far p
+ended-lines p s h = finished-lines p s (at_line_ok (lines_so_far p + 1) (finished p) s h)
+
+pub blank_begun : IsBegun Blank
+blank_begun = record { few = omega arith; distinct = tt }

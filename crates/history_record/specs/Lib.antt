@@ -1,0 +1,7 @@
+pub mod Calls
+pub mod Records
+pub mod Flaws
+pub mod Lines
+pub mod Telling
+pub mod Kept
+pub mod Reading
