@@ -5,7 +5,7 @@ use Rattle.std.proofs.lemmas.List.{take-append-drop, length-drop}
 use Rattle.std.proofs.lemmas.List.Elements.{All-head, All-tail}
 use Rattle.ens_outside.specs.Maps.{Entries, with_value}
 use Rattle.disk_log.specs.Records.{Front, front_of, and_then, first_records, records_of, with_records, entries_of, IsWhole, record_bytes, FitsRecord, file_of}
-use Rattle.disk_log.proofs.Fronts.{Chunk, chunk_of, none_is_some, record_reads}
+use Rattle.disk_log.proofs.Fronts.{chunk_of, none_is_some, record_reads}
 
 pub front_shrinks : (bytes : List ℕ) (r : Front) → front_of bytes ≡ Some r → length r.rest < length bytes
 front_shrinks bytes r is =

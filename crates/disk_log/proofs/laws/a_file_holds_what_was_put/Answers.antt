@@ -1,4 +1,4 @@
-use Rattle.std.proofs.Common.{◌≡◌, ℕ, ◌<◌, List, [], ◌++◌, length, take, sym, ap, ◌∙◌, append-nil}
+use Rattle.std.proofs.Common.{[], ◌++◌, take, sym, ap, ◌∙◌, append-nil}
 use Rattle.ens_outside.specs.Maps.{Entries}
 use Rattle.disk_log.specs.Records.{record_bytes, entries_of, file_of, with_records}
 use Rattle.disk_log.proofs.RecordLaws.{puts_read, records_none, spelling_cut}
