@@ -1,4 +1,4 @@
-use Rattle.std.proofs.Common.{◌-◌, sym, ◌∙◌}
+use Rattle.std.proofs.Common.{sym, ◌∙◌}
 use Rattle.disk_log.proofs.Scanning.{told_also, told_at, stay_at, ends_some}
 use Rattle.disk_log.proofs.scan.next_record.Goals as goal
 

@@ -1,4 +1,4 @@
-use Rattle.std.proofs.Common.{◌-◌, take, refl}
+use Rattle.std.proofs.Common.{take, refl}
 use Rattle.disk_log.proofs.Scanning.{told_also, told_at, stay_at, scan_all, scan_torn}
 use Rattle.disk_log.proofs.scan.scan_and_cut.Goals as goal
 
