@@ -1,18 +1,18 @@
 -- The map of a log after a put, and after one that failed.
-use Rattle.std.proofs.Common.{◌≡◌, ℕ, ◌+◌, ◌<◌, ◌≤◌, ◌^◌, List, ◌++◌, length, take, drop, Option, None, Some, refl, sym, ap, ◌∙◌, subst, arith, length-append}
+use Rattle.std.proofs.Common.{◌≡◌, ℕ, ◌+◌, ◌<◌, ◌≤◌, ◌^◌, List, ◌++◌, length, take, Option, Some, sym, ap, ◌∙◌, arith}
 use Rattle.std.proofs.lemmas.List.{length-take}
 use Rattle.std.specs.BTreeMap.{get}
 use Rattle.ens_base.specs.Lists.{bytes_cmp}
 use Rattle.ens_outside.specs.Maps.{Entries, with_value}
-use Rattle.disk_log.specs.Records.{record_bytes, entries_of}
+use Rattle.disk_log.specs.Records.{record_bytes}
 use Rattle.disk_log.specs.LogFiles.{Begins}
-use Rattle.disk_log.specs.Logs.{Holds, Indexes}
+use Rattle.disk_log.specs.Logs.{Holds}
 use Rattle.disk_log.specs.declared.file.LogFile.{LogFile}
 use Rattle.disk_log.specs.declared.log.Log.{Log}
 use Rattle.disk_log.specs.declared.place.Place.{Place}
 use Rattle.disk_log.proofs.Fronts.{record_reads, record_size, record_holds}
 use Rattle.disk_log.proofs.RecordLaws.{ReadsAs, entries_more}
-use Rattle.disk_log.proofs.Indexing.{Places, IsPlaceOf, index_more, index_same}
+use Rattle.disk_log.proofs.Indexing.{Places, index_more, index_same}
 
 pub front_size : {D : Type 0} (seen : D → Option (List ℕ)) (f : LogFile D) (bytes : List ℕ) → Begins seen f bytes → length bytes ≡ f.end
 front_size seen f bytes on = ap length (sym on.front) ∙ (let e : length (take f.end on.file) ≡ f.end = omega (arith, length-take f.end on.file, on.long) in e)

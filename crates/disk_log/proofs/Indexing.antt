@@ -1,15 +1,14 @@
 -- The index of whole records, and of one record more.
-use Rattle.std.proofs.Common.{◌≡◌, ◌≢◌, ℕ, ◌+◌, ◌<◌, ◌≤◌, ◌^◌, Bool, true, false, cond, List, [], ◌∷◌, ◌++◌, length, take, drop, Option, None, Some, refl, sym, ap, ◌∙◌, subst, arith, length-append}
+use Rattle.std.proofs.Common.{◌≡◌, ◌≢◌, ℕ, ◌+◌, Bool, true, false, cond, List, ◌++◌, length, take, drop, Option, None, Some, refl, sym, ap, ◌∙◌, subst, arith, length-append}
 use Rattle.std.proofs.Math.Seq.{drop-append-add}
 use Rattle.std.proofs.lemmas.List.{take-append-le, drop-append-le, length-drop}
 use Rattle.std.proofs.lemmas.Map.Text.{is_eq-slice_cmp}
 use Rattle.std.proofs.lemmas.Slice.Eq.{bytes_eq-Decides}
 use Rattle.std.specs.BTreeMap.{BTreeMap, get, is_at}
-use Rattle.std.specs.Ordering.{is_eq}
 use Rattle.ens_base.specs.Lists.{bytes_cmp}
 use Rattle.ens_outside.specs.Maps.{Entries, value_at, with_value}
 use Rattle.ens_outside.proofs.MapLaws.{found_after, others_after}
-use Rattle.disk_log.specs.Records.{entries_of, IsWhole}
+use Rattle.disk_log.specs.Records.{entries_of}
 use Rattle.disk_log.specs.Logs.{IsAt, Indexes}
 use Rattle.disk_log.specs.declared.place.Place.{Place}
 use Rattle.disk_log.proofs.RecordLaws.{ReadsAs, whole_more, entries_more}

@@ -1,9 +1,11 @@
 -- The records of a file, one after the other.
-use Rattle.std.proofs.Common.{◌≡◌, ℕ, zero, suc, ◌+◌, ◌<◌, ◌≤◌, ◌^◌, List, [], ◌∷◌, ◌++◌, length, take, drop, Option, None, Some, refl, sym, ap, ◌∙◌, arith, length-append, append_assoc, append-nil}
-use Rattle.std.proofs.lemmas.List.{take-append-drop}
+use Rattle.std.proofs.Common.{◌≡◌, ℕ, zero, suc, ◌<◌, ◌≤◌, ◌^◌, List, [], ◌∷◌, ◌++◌, length, take, drop, Option, None, Some, refl, sym, ap, ◌∙◌, arith, length-append, append_assoc, append-nil}
+use Rattle.std.specs.Prelude.{All}
+use Rattle.std.proofs.lemmas.List.{take-append-drop, length-drop}
+use Rattle.std.proofs.lemmas.List.Elements.{All-head, All-tail}
 use Rattle.ens_outside.specs.Maps.{Entries, with_value}
-use Rattle.disk_log.specs.Records.{Front, front_of, and_then, first_records, records_of, with_records, entries_of, IsWhole, record_bytes}
-use Rattle.disk_log.proofs.Fronts.{Chunk, chunk_of, none_is_some, record_reads}
+use Rattle.disk_log.specs.Records.{Front, front_of, and_then, first_records, records_of, with_records, entries_of, IsWhole, record_bytes, FitsRecord, file_of}
+use Rattle.disk_log.proofs.Fronts.{chunk_of, none_is_some, record_reads}
 
 pub front_shrinks : (bytes : List ℕ) (r : Front) → front_of bytes ≡ Some r → length r.rest < length bytes
 front_shrinks bytes r is =
@@ -87,3 +89,29 @@ front_cut bytes n none = by (front_of (take n bytes)) refl
     by : (o : Option Front) → front_of (take n bytes) ≡ o → front_of (take n bytes) ≡ None
     by None is = is
     by (Some r) is = absurd (none_is_some _ (sym none ∙ ap front_of (sym (take-append-drop n bytes)) ∙ front_grows (take n bytes) (drop n bytes) r is))
+
+abbrev rest_of : Option Front → List ℕ
+rest_of None = []
+rest_of (Some r) = r.rest
+
+-- nor is a front of a spelled record a record
+pub spelling_cut : (name content : List ℕ) (n : ℕ) → length name ≤ 255 → length content < 2 ^ 64 → n < length (record_bytes name content) → front_of (take n (record_bytes name content)) ≡ None
+spelling_cut name content n short small less = by (front_of (take n (record_bytes name content))) refl
+  where
+    by : (o : Option Front) → front_of (take n (record_bytes name content)) ≡ o → front_of (take n (record_bytes name content)) ≡ None
+    by None is = is
+    by (Some r) is =
+        let bytes = record_bytes name content in
+        let all : front_of bytes ≡ Some (record { name = name; content = content; rest = [] }) = ap front_of (sym (append-nil bytes)) ∙ record_reads name content [] short small in
+        let grown : front_of bytes ≡ Some (record { name = r.name; content = r.content; rest = r.rest ++ drop n bytes }) = ap front_of (sym (take-append-drop n bytes)) ∙ front_grows (take n bytes) (drop n bytes) r is in
+        let none : r.rest ++ drop n bytes ≡ [] = ap rest_of (sym grown ∙ all) in
+        absurd (omega (arith, ap length none, length-append r.rest (drop n bytes), length-drop n bytes, less))
+
+-- the records of puts are read again, whatever follows them
+pub puts_read : (puts : Entries) (rest : List ℕ) → All FitsRecord puts → records_of (file_of puts ++ rest) ≡ puts ++ records_of rest
+puts_read [] rest fit = refl
+puts_read (r ∷ rs) rest fit =
+    let fits : FitsRecord r = All-head FitsRecord r rs fit in
+    ap records_of (append_assoc (record_bytes r.0 r.1) (file_of rs) rest)
+    ∙ records_one (record_bytes r.0 r.1) r.0 r.1 (file_of rs ++ rest) (λ more. record_reads r.0 r.1 more fits.0 fits.1)
+    ∙ ap (λ (l : Entries). (r.0, r.1) ∷ l) (puts_read rs rest (All-tail FitsRecord r rs fit))

@@ -1,14 +1,13 @@
 -- A scan of a file, record by record.
 use Rattle.std.proofs.Common.{◌≡◌, ℕ, ◌+◌, ◌-◌, ◌<◌, ◌≤◌, ◌⊎◌, inl, inr, min, Bool, true, false, List, [], ◌∷◌, ◌++◌, length, take, drop, Option, None, Some, refl, sym, ap, ◌∙◌, subst, arith, length-append}
 use Rattle.std.proofs.Math.Seq.{take-append_seam, take-add}
-use Rattle.std.proofs.lemmas.List.{take-append-drop, take_all, take-take, length-take, length-drop, take_min, drop-drop, drop_all}
+use Rattle.std.proofs.lemmas.List.{take_all, length-take, length-drop, take_min, drop-drop, drop_all}
 use Rattle.std.specs.Prelude.{if◌then◌else◌}
 use Rattle.std.proofs.lemmas.Bool.{cases_lt}
-use Rattle.std.specs.BTreeMap.{BTreeMap, get, is_at}
+use Rattle.std.specs.BTreeMap.{get, is_at}
 use Rattle.std.specs.Map.{lookup}
 use Rattle.ens_base.specs.Lists.{bytes_cmp}
 use Rattle.slot_disk.specs.Crash.{Cut, Told, Stay}
-use Rattle.ens_outside.specs.Maps.{Entries, value_at}
 use Rattle.disk_log.specs.Records.{Front, front_of, with_header, header_in, is_marked, entries_of}
 use Rattle.disk_log.specs.Logs.{Indexes, IsAt}
 use Rattle.disk_log.specs.Scans.{IsNext, IsPlaced, IsAnnounced, IsScanned, ScansAll}
@@ -16,9 +15,9 @@ use Rattle.disk_log.specs.declared.header.Header.{Header}
 use Rattle.disk_log.specs.declared.place.Place.{Place}
 use Rattle.disk_log.specs.declared.scan.Found.{Found}
 use Rattle.disk_log.specs.declared.scan.Index.{Index}
-use Rattle.disk_log.proofs.Fronts.{Chunk, chunk_of, header_shown}
+use Rattle.disk_log.proofs.Fronts.{chunk_of, header_shown}
 use Rattle.disk_log.proofs.RecordLaws.{nothing_whole, entries_end, front_cut}
-use Rattle.disk_log.proofs.Indexing.{Places, index_more, IsPlaceOf}
+use Rattle.disk_log.proofs.Indexing.{Places, index_more}
 
 -- what is told of known bytes, and what follows from it
 pub told_also : {P Q : List ℕ → Type 0} (o : Option (List ℕ)) → ((file : List ℕ) → o ≡ Some file → P file → Q file) → Told o P → Told o Q

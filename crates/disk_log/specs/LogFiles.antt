@@ -1,6 +1,5 @@
 -- The file of a log on its disk.
-use Rattle.std.specs.Prelude.{◌≡◌, ◌≤◌, ◌+◌, ℕ, List, length, take, drop, false, Option, None, Some, min}
-use Rattle.slot_disk.specs.Crash.{SeenIn}
+use Rattle.std.specs.Prelude.{◌≡◌, ◌≤◌, ℕ, List, length, take, false, Option, Some}
 use Rattle.disk_log.specs.declared.file.LogFile.{LogFile}
 
 -- no write has failed since the last one that was done, so nothing lies past the end of the log

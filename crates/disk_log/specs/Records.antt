@@ -1,6 +1,6 @@
 -- The records of a log. A record is the byte 1, the length of its name in one byte, the length of its
 -- content in eight, the name, the content, and the byte 1.
-use Rattle.std.specs.Prelude.{◌≡◌, ℕ, ◌+◌, zero, suc, List, [], ◌∷◌, ◌++◌, length, take, drop, Option, None, Some, Bool, false, ◌==◌, ◌&&◌, nat_le, if◌then◌else◌}
+use Rattle.std.specs.Prelude.{◌≡◌, ◌≤◌, ◌<◌, ◌^◌, ℕ, ◌+◌, zero, suc, List, [], ◌∷◌, ◌++◌, length, take, drop, Option, None, Some, Bool, false, ◌==◌, ◌&&◌, nat_le, if◌then◌else◌}
 use Rattle.std.specs.Int.{w64, from_be_bytes, to_be_bytes}
 use Rattle.disk_log.specs.declared.header.Header.{Header}
 use Rattle.ens_outside.specs.Maps.{Entries, with_value}
@@ -69,3 +69,12 @@ entries_of file = with_records [] (records_of file)
 -- these bytes are whole records: what follows them is read as if it stood alone
 abbrev pub IsWhole : List ℕ → Type 0
 IsWhole bytes = (rest : List ℕ) → records_of (bytes ++ rest) ≡ records_of bytes ++ records_of rest
+
+-- the name is at most 255 bytes long, and the length of the content fits in eight bytes
+abbrev pub FitsRecord : List ℕ × List ℕ → Type 0
+FitsRecord r = (length r.0 ≤ 255) × (length r.1 < 2 ^ 64)
+
+-- the records of these puts, one after the other
+abbrev pub file_of : Entries → List ℕ
+file_of [] = []
+file_of (r ∷ rs) = record_bytes r.0 r.1 ++ file_of rs

@@ -1,5 +1,5 @@
 -- What a scan of a file finds.
-use Rattle.std.specs.Prelude.{◌≡◌, ◌≤◌, ◌<◌, ◌+◌, ℕ, List, length, take, drop, Option, None, Some, Result, Ok, Err}
+use Rattle.std.specs.Prelude.{◌≡◌, ◌≤◌, ◌<◌, ◌+◌, ℕ, List, length, take, drop, Option, None, Some}
 use Rattle.disk_log.specs.Records.{Front, front_of, header_in}
 use Rattle.disk_log.specs.Logs.{Indexes}
 use Rattle.disk_log.specs.declared.header.Header.{Header}

@@ -10,10 +10,12 @@
 
 mod file;
 mod header;
+mod laws;
 mod log;
 mod place;
 mod scan;
 
 pub use file::LogFile;
+pub use laws::a_file_holds_what_was_put;
 pub use log::{Log, NAME_LIMIT};
 pub use place::Place;

@@ -20,9 +20,11 @@ fn a_file_is_written_closed_opened_and_read(rt: HostRuntime) -> Result<(), Fail>
         && backend.put(alloc, &key, b"new").is_ok();
     let mut disk = backend.into_disk();
     let synced = disk.sync().is_ok() && disk.cut(29).is_ok();
+    let second = FileDisk::new(&rt, NAME).size();
+    drop(disk);
     let opened = DiskBackend::open(alloc, FileDisk::new(&rt, NAME));
     fs::remove_file(&rt, NAME)?;
-    assert!(rt; stored && synced);
+    assert!(rt; stored && synced && second.is_err());
     let Ok(mut again) = opened else {
         return Err("not opened again".into());
     };

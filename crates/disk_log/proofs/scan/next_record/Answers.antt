@@ -1,5 +1,4 @@
-use Rattle.std.proofs.Common.{◌≡◌, ◌≤◌, ◌<◌, ◌+◌, ◌-◌, List, ℕ, length, take, drop, Some, None, sym, ◌∙◌, true, false}
-use Rattle.disk_log.specs.Records.{is_marked}
+use Rattle.std.proofs.Common.{sym, ◌∙◌}
 use Rattle.disk_log.proofs.Scanning.{told_also, told_at, stay_at, ends_some}
 use Rattle.disk_log.proofs.scan.next_record.Goals as goal
 

@@ -1,4 +1,4 @@
-use Rattle.std.proofs.Common.{◌≡◌, ◌≤◌, ◌<◌, ◌+◌, ◌-◌, List, ℕ, length, take, drop, Some, None, refl, sym, ◌∙◌, arith}
+use Rattle.std.proofs.Common.{refl, ◌∙◌, arith}
 use Rattle.disk_log.proofs.Scanning.{told_also, told_at, stay_at, stays_on, scanned_more}
 use Rattle.disk_log.proofs.scan.scan.Goals as goal
 

@@ -1,4 +1,4 @@
-use Rattle.std.proofs.Common.{◌≡◌, ◌≤◌, ◌-◌, ℕ, length}
+use Rattle.std.proofs.Common.{◌≡◌, ◌≤◌, ◌-◌, length}
 use Rattle.slot_disk.specs.Crash.{Told, Stay}
 use Rattle.disk_log.specs.Scans.{IsScanned}
 use Rattle.disk_log.proofs.scan.scan.Given as goal

@@ -1,6 +1,4 @@
-use Rattle.std.proofs.Common.{◌≡◌, ◌≤◌, ◌<◌, ◌+◌, ◌-◌, List, ℕ, length, take, drop, Some, None, refl, sym, ◌∙◌}
-use Rattle.slot_disk.specs.Crash.{SeenIn}
-use Rattle.disk_log.specs.Records.{entries_of}
+use Rattle.std.proofs.Common.{take, refl}
 use Rattle.disk_log.proofs.Scanning.{told_also, told_at, stay_at, scan_all, scan_torn}
 use Rattle.disk_log.proofs.scan.scan_and_cut.Goals as goal
 

@@ -1,4 +1,4 @@
-use Rattle.std.proofs.Common.{◌≡◌, ◌≤◌, ◌<◌, ◌+◌, ◌^◌, List, ℕ, length, Option, Some, sym, ap, ◌∙◌, subst, ◌++◌, cond, arith}
+use Rattle.std.proofs.Common.{◌≡◌, List, ℕ, length, Option, ap, ◌∙◌, subst, ◌++◌, cond, arith}
 use Rattle.std.specs.BTreeMap.{get, is_at}
 use Rattle.ens_base.specs.Lists.{bytes_cmp}
 use Rattle.disk_log.specs.Records.{record_bytes}
