@@ -12,9 +12,9 @@ use std::os::unix::fs::FileExt;
 use std::rt::Files;
 
 /// A disk over a file of the current folder. The file is opened at the first call, and made, empty,
-/// if it is not there. It is locked until the disk is let go: a second disk over the same file, of this
-/// process or another, fails at each call and changes nothing. Once a sync has failed, every later call fails: a later sync could succeed
-/// without the bytes that were lost.
+/// if it is not there. It is locked until the disk is let go: a second disk over the same file, of
+/// this process or another, fails at each call and changes nothing. Once a sync has failed, every
+/// later call fails: a later sync could succeed without the bytes that were lost.
 #[derive(Drop)]
 pub struct FileDisk<R: Files<File = File>> {
     files: R,
@@ -24,8 +24,9 @@ pub struct FileDisk<R: Files<File = File>> {
     broken: bool,
 }
 
-/// Opens the file and locks it, without waiting for a lock of others. Makes what it holds durable, and its name in the folder, and lets the next reads
-/// come from the device, so that what they return is what a crash leaves.
+/// Opens the file and locks it, without waiting for a lock of others. Makes what it holds durable, and
+/// its name in the folder, and lets the next reads come from the device, so that what they return is
+/// what a crash leaves.
 fn opened<R: Files<File = File>>(files: &R, name: &str) -> io::Result<File> {
     let file = OpenOptions::new()
         .read(true)
