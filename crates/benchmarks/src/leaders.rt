@@ -6,8 +6,8 @@ use ens_base::{Command, Digest, Epoch, Key, PeerId, PeerSet, Value, Version, Vie
 use leader_words::{LeadError, LeadOut, Own};
 use leading::Leader;
 use peer_fact::{Change, Fact};
-use std::alloc::Global;
 use phase_rows::{Seen, Then};
+use std::alloc::Global;
 
 const EPOCH: Epoch = Epoch {
     count: 1,

@@ -5,7 +5,10 @@ ghost use Rattle.following.specs.Announcements.{accepts, awaits_sync, takes, row
 use crate::refusals::refusal;
 use ens_base::{Epoch, PeerId};
 use peer_fact::Fact;
-use phase_rows::{PhaseOut, Then, alone, at_ballot, is_below, leave_leading, may_accept, refuse_below, save, save_and_send, send, silent};
+use phase_rows::{
+    PhaseOut, Then, alone, at_ballot, is_below, leave_leading, may_accept, refuse_below, save,
+    save_and_send, send, silent,
+};
 use wire_frames::Message;
 
 /// Returns what a peer does that may not accept the fact yet.

@@ -4,7 +4,9 @@ ghost use Rattle.following.specs.Refusals.{refusal as refusal_of, is_served as s
 
 use ens_base::{Epoch, PeerId};
 use peer_fact::Fact;
-use phase_rows::{PhaseOut, Then, alone, is_below, leave_leading, refuse, refuse_below, send, silent};
+use phase_rows::{
+    PhaseOut, Then, alone, is_below, leave_leading, refuse, refuse_below, send, silent,
+};
 use wire_frames::{Message, NackCause};
 
 /// Returns the answer of a peer that does not do what the leader of this epoch asks, or `None` if

@@ -3,9 +3,9 @@ use ens_object::Object;
 use leader_words::{LeadOut, Own};
 use leading::Leader;
 use peer_fact::{Change, Fact};
+use phase_rows::{Seen, Then};
 use std::alloc::Global;
 use std::test::Fail;
-use phase_rows::{Seen, Then};
 
 const EPOCH: Epoch = Epoch {
     count: 2,

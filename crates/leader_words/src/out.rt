@@ -8,9 +8,9 @@ use crate::error::LeadError;
 use ens_base::{Key, PeerId, PeerSet, Reply, Seq, Views};
 use ens_object::Object;
 use joint_views::members;
+use phase_rows::Then;
 use register_model::Note;
 use std::alloc::Global;
-use phase_rows::Then;
 use wire_frames::Message;
 
 /// A message and its receiver.

@@ -11,10 +11,10 @@ use ens_base::{Digest, Epoch, Key, PeerId, Reply, Version};
 use ens_object::Object;
 use leader_words::{LeadError, LeadOut, Own};
 use peer_fact::{Change, Fact};
+use phase_rows::{Seen, Then};
 use quorum_round::{Round, RoundState};
 use register_model::Note;
 use std::alloc::Global;
-use phase_rows::{Seen, Then};
 use wire_frames::Message;
 
 impl Leader {

@@ -18,9 +18,9 @@ use ens_object::{Object, copy_object};
 use key_commands::{Verdict, apply, on_any};
 use leader_words::{LeadError, LeadOut, Own};
 use peer_fact::{Change, Fact};
+use phase_rows::{Seen, Then};
 use quorum_round::{Round, RoundState};
 use std::alloc::Global;
-use phase_rows::{Seen, Then};
 use wire_frames::Message;
 
 /// Applies the command to the settled object. `None` means that the key is absent.

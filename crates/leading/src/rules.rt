@@ -5,8 +5,8 @@ use crate::leader::Leader;
 use ens_base::Key;
 use leader_words::{LeadError, LeadOut};
 use peer_fact::{Change, Fact};
-use std::alloc::Global;
 use phase_rows::Seen;
+use std::alloc::Global;
 use wire_frames::Message;
 
 impl Leader {

@@ -11,8 +11,8 @@ use kept_objects::is_named;
 use key_commands::{Verdict, apply, on_absent, on_stamp};
 use leader_words::{LeadError, LeadOut, Own};
 use peer_fact::{Change, Fact};
-use std::alloc::Global;
 use phase_rows::Seen;
+use std::alloc::Global;
 use wire_frames::Message;
 
 /// Returns the object that the backend keeps, if the entry names it.

@@ -7,8 +7,8 @@ use ens_base::{Key, PeerId, PeerSet, Reply};
 use joint_views::members;
 use leader_words::{LeadError, LeadOut, is_other_of};
 use peer_fact::{Change, Fact};
-use std::alloc::Global;
 use phase_rows::Then;
+use std::alloc::Global;
 use wire_frames::Message;
 
 /// Whether the change that ends the epoch has reached age 8.

@@ -3,8 +3,8 @@ ghost use Rattle.std.specs.Fmt.{decimal};
 ghost use Rattle.ens_base.specs.Words.{bytes_word, epoch_word, version_word};
 ghost use Rattle.message_labels.specs.Labels.{cause_words, found_word, label, position_word, trust_words};
 
-use history_scribe::push_reply;
 use ens_base::{Entry, Epoch, Key, Version, push_bytes};
+use history_scribe::push_reply;
 use std::alloc::{AllocError, Global};
 use tree_node::Position;
 use wire_frames::{Message, NackCause};

@@ -16,9 +16,9 @@ use leader_words::{LeadError, LeadOut, Own};
 use peer_fact::{Change, Fact};
 use peer_plan::own_key;
 use peer_state::{CallIn, Phase};
+use phase_rows::{Seen, Then};
 use std::alloc::Global;
 use step_plans::{Outbox, PeerError, Store, Task, Tasks};
-use phase_rows::{Seen, Then};
 use wire_frames::Message;
 
 impl<S> Machine<S> {

@@ -12,10 +12,10 @@ ghost use Rattle.peer_core.specs.Outcomes.{Acts};
 use ens_base::PeerId;
 use peer_fact::{Change, Fact};
 use peer_state::State;
+use phase_rows::{PhaseOut, Seen, Then};
 use std::alloc::Global;
 use std::thread::Threads;
 use step_plans::{Outbox, PeerError, Store, Task, Tasks};
-use phase_rows::{PhaseOut, Seen, Then};
 use wire_frames::Message;
 
 /// The state of a peer and its stores.

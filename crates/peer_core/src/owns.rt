@@ -11,9 +11,9 @@ use ens_base::{Bytes, Digest, Entry, Key};
 use ens_object::{Object, ObjectError};
 use kept_objects::{entry_of, matching, object_in};
 use peer_plan::seen_at;
+use phase_rows::Seen;
 use std::alloc::Global;
 use step_plans::{Outbox, PeerError, Store, Walked};
-use phase_rows::Seen;
 
 /// Encodes the object. Fails only when out of memory.
 fn bytes_of(alloc: Global, object: &Object) -> Result<Vec<u8>, PeerError>

@@ -17,10 +17,10 @@ use following::is_served;
 use peer_fact::{Change, Fact};
 use peer_plan::{after_put, give_of, question_of};
 use peer_state::{Event, Phase};
+use phase_rows::{PhaseOut, Seen, Then};
 use std::alloc::Global;
 use std::thread::Threads;
 use step_plans::{Outbox, PeerError, Store, Task, Tasks};
-use phase_rows::{PhaseOut, Seen, Then};
 use wire_frames::Message;
 
 /// A number of tasks that no step reaches.

@@ -19,13 +19,13 @@ use leader_words::Outgoing;
 use peer_fact::{Change, Fact};
 use peer_plan::{body_given, needs_node, reached_node};
 use peer_state::{Phase, ask_again, start_sync, sync_outcome, take_answer};
+use phase_rows::Then;
 use running_sync::{Give, RunningSync};
 use std::alloc::Global;
 use std::thread::Threads;
 use step_plans::{Outbox, PeerError, Store, Tasks, Walked};
 use sync_rule::{Outcome, needs_build};
 use tree_node::{Position, Scan, TreeBody};
-use phase_rows::Then;
 use wire_frames::Message;
 
 impl<S> Machine<S> {

@@ -8,10 +8,10 @@ ghost use Rattle.peer_plan.specs.Syncs.{reached, body_of};
 use ens_base::{Bytes, Entry, Epoch, PeerId};
 use exchange::{AskError, Question, given};
 use following::tell_damage;
+use phase_rows::{PhaseOut, Seen};
 use std::alloc::Global;
 use step_plans::{PeerError, Walked};
 use tree_node::TreeBody;
-use phase_rows::{PhaseOut, Seen};
 use wire_frames::{Message, NackCause};
 
 /// What rule 22 is shown of the entry of a key.

@@ -6,8 +6,8 @@ ghost use Rattle.peer_state.specs.Rows.{change_heard, ended};
 
 use crate::state::{ChangeState, Leadership};
 use ens_base::{Epoch, PeerId, PeerSet};
-use leading::Leader;
 use leader_words::{LeadError, LeadOut, Outgoing};
+use leading::Leader;
 use peer_fact::{Change, Fact};
 use phase_rows::{PhaseOut, Then, silent};
 use std::alloc::Global;

@@ -10,13 +10,13 @@ use ens_base::{PeerId, PeerSet};
 use following::Follower;
 use leading::Leader;
 use peer_fact::{Change, Fact};
+use phase_rows::Then;
 use probe::Probing;
 use running_sync::RunningSync;
 use std::alloc::Global;
 use std::mem::replace;
 use step_plans::{AnswerOut, Outbox, PeerError};
 use view_change::Finishing;
-use phase_rows::Then;
 
 /// How far a leader is with a change of the view.
 #[derive(Debug, Drop)]

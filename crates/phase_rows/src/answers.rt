@@ -3,9 +3,9 @@ ghost use Rattle.ens_base.specs.View.{IsPeer};
 ghost use Rattle.phase_rows.specs.Rows.{silent as is_silent, sends, saves, saves_and_sends, leaves_leading, refuses, refuses_below, at_ballot as with_ballot, anew_at_6 as then_at};
 
 use crate::peers::alone;
+use crate::phase::{PhaseOut, Then};
 use ens_base::{Epoch, PeerId, PeerSet};
 use peer_fact::Fact;
-use crate::phase::{PhaseOut, Then};
 use wire_frames::{Message, NackCause};
 
 /// Saves nothing and sends nothing.

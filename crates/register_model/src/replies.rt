@@ -20,7 +20,8 @@ pub fn is_refused(reply: &Reply) -> bool
 {
     match reply {
         Reply::Unavailable | Reply::Busy | Reply::Lost => true,
-        Reply::Value(_, _) | Reply::NotFound | Reply::Ok(_) | Reply::Failed | Reply::Timeout => false,
+        Reply::Value(_, _) | Reply::NotFound | Reply::Ok(_) | Reply::Failed | Reply::Timeout =>
+            false,
     }
 }
 

@@ -59,7 +59,10 @@ fn count_done(printed: &[Printed]) -> u64
 fn count_refused(printed: &[Printed]) -> u64
     ensures { result ≡ reply_count has_refused printed.now }
 {
-    printed.iter().filter(|line| is_answer_refused(line)).count() as u64
+    printed
+        .iter()
+        .filter(|line| is_answer_refused(line))
+        .count() as u64
 }
 
 /// Returns the id of the call that the line completes or refuses, if it does.
@@ -67,7 +70,9 @@ fn settled_by(line: &Printed) -> Option<u64>
     ensures { result ≡ settled_call line.now }
 {
     match line {
-        Printed::Answer(answer) if is_done(&answer.reply) || is_refused(&answer.reply) => Some(answer.id),
+        Printed::Answer(answer) if is_done(&answer.reply) || is_refused(&answer.reply) => Some(
+            answer.id,
+        ),
         Printed::Answer(_) | Printed::Change { .. } => None,
     }
 }

@@ -2,8 +2,8 @@
 
 use ens_base::{Epoch, PeerId, PeerSet, Version, View, ViewError};
 use peer_fact::Fact;
-use tree_node::TreeBody;
 use phase_rows::{PhaseOut, Then};
+use tree_node::TreeBody;
 use wire_frames::{Message, NackCause};
 
 /// The set of these peers. Numbers outside 1 to 31 are left out.

@@ -2,9 +2,9 @@ use crate::builders::{Answer, Said, epoch, set, silent, summary, view};
 use election::{Election, rule_10, rule_11, rule_15};
 use ens_base::{Epoch, PeerId, PeerSet, Views};
 use peer_fact::{Change, Fact};
+use phase_rows::Then;
 use std::test::Fail;
 use tree_node::Position;
-use phase_rows::Then;
 use wire_frames::NackCause;
 
 /// The fact of number 1 in epoch 2.2, on the views 1 2 3, at ballot 7.2.

@@ -1,7 +1,10 @@
 use crate::builders::{epoch, set};
 use ens_base::{PeerId, PeerSet, View, Views};
 use peer_fact::Fact;
-use phase_rows::{Then, alone, is_below, is_member, is_newer, joined, may_accept, members, others_of, others_outside, silent, with_members};
+use phase_rows::{
+    Then, alone, is_below, is_member, is_newer, joined, may_accept, members, others_of,
+    others_outside, silent, with_members,
+};
 use std::test::Fail;
 
 fn view_of(members: &[PeerId]) -> Result<View, Fail> {

@@ -1,9 +1,9 @@
 use crate::builders::{Said, set, summary, view};
 use ens_base::{Epoch, PeerId, PeerSet, Views};
 use peer_fact::Fact;
+use phase_rows::Then;
 use probe::{Probing, rule_7, rule_8_probe};
 use std::test::Fail;
-use phase_rows::Then;
 
 /// The fact of number 1 in epoch 2.2, on the views 1 2 3, at ballot 7.1.
 fn saved() -> Result<Fact, Fail> {

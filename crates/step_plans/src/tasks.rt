@@ -4,9 +4,9 @@ ghost use Rattle.step_plans.specs.declared.tasks.Task.TheVariants.{Key as OnKey,
 
 use crate::error::PeerError;
 use ens_base::Key;
+use phase_rows::{Seen, Then};
 use std::alloc::{AllocError, Global};
 use std::marker::Model;
-use phase_rows::{Seen, Then};
 
 /// A rule that a step still has to run.
 #[derive(Debug, Drop)]

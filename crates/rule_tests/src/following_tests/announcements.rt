@@ -3,8 +3,8 @@ use crate::builders::{Answer, Said, epoch, silent, summary};
 use ens_base::{Epoch, PeerId};
 use following::{rule_16, rule_18, rule_19};
 use peer_fact::Fact;
-use std::test::Fail;
 use phase_rows::Then;
+use std::test::Fail;
 use wire_frames::NackCause;
 
 fn announce(fact: &Fact, me: u32, trusted: bool, sync_runs: bool, new: &Fact) -> Answer {

@@ -3,10 +3,10 @@ use crate::builders::{Answer, Said, epoch, silent, summary};
 use ens_base::{Digest, Entry, Epoch, Key, PeerId, Version};
 use ens_object::Object;
 use following::rule_22;
+use phase_rows::{Seen, Then};
 use std::alloc::Global;
 use std::test::Fail;
 use tree_node::Position;
-use phase_rows::{Seen, Then};
 use wire_frames::NackCause;
 
 fn version(count: u64, proposer: u32, seq: u64) -> Version {

@@ -3,10 +3,10 @@ use crate::builders::{Answer, Said, epoch, silent, summary};
 use ens_base::{Epoch, Key, PeerId, Seq};
 use following::{rule_20, rule_21, rule_23};
 use peer_fact::Fact;
+use phase_rows::{Seen, Then};
 use std::alloc::Global;
 use std::test::Fail;
 use tree_node::{Position, TreeBody};
-use phase_rows::{Seen, Then};
 use wire_frames::NackCause;
 
 /// A segment of the tree.

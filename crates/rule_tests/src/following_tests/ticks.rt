@@ -5,8 +5,8 @@ use crate::builders::{Answer, epoch, silent, summary};
 use ens_base::PeerId;
 use following::Follower;
 use peer_fact::Fact;
-use std::test::Fail;
 use phase_rows::Then;
+use std::test::Fail;
 
 /// Ticks a follower, and returns the answer and its quiet ticks afterwards.
 fn tick(fact: &Fact, me: u32, quiet: u8) -> (Answer, u8)

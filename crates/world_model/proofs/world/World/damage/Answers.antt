@@ -25,7 +25,7 @@ returns-clause-reaches g c =
     let here : slice_get c.args.self.now.peers.items (c.args.peer - 1) ≡ Some c.index_mut.result.now = rw c.peer.view_is at at in
     let same : c.bytes.result.now ≡ c.args.key.now = c.bytes.ensures.bytes in
     let hashed : HasHashed (c.args.key.now ∷ []) (account g.H.Hasher16.kept g.H.Hasher16.clashes g.H.Hasher16.fulls c.args.hasher.now) (account g.H.Hasher16.kept g.H.Hasher16.clashes g.H.Hasher16.fulls c.hash.new.hasher) =
-        subst (λ (key : List ℕ). HasHashed (key ∷ []) (account g.H.Hasher16.kept g.H.Hasher16.clashes g.H.Hasher16.fulls c.args.hasher.now) (account g.H.Hasher16.kept g.H.Hasher16.clashes g.H.Hasher16.fulls c.hash.new.hasher)) same c.in_ok-hash.ensures.ok in
+    subst (λ (key : List ℕ). HasHashed (key ∷ []) (account g.H.Hasher16.kept g.H.Hasher16.clashes g.H.Hasher16.fulls c.args.hasher.now) (account g.H.Hasher16.kept g.H.Hasher16.clashes g.H.Hasher16.fulls c.hash.new.hasher)) same c.in_ok-hash.ensures.ok in
     reaches_damaged _ _ c.args.peer c.args.key.now c.args.bytes.now (run_of c.args.self.now) c.damage.result (record (run_of c.args.self.now) { nodes = map node_of (slice_set c.args.self.now.peers.items (c.peer.inside.0 - 1) c.damage.new.self) }) _
     (refl {a = []}) c.args.self.now.within hashed c.damage.ensures.ok
     (λ did. rw c.peer.view_is (did_change c.args.self.now.peers.items (run_of c.args.self.now) c.args.peer c.index_mut.result.now c.damage.new.self refl here (over_stores (segment_spoiled c.args.key.now c.args.bytes.now)) did)) c.damage.ensures.memory
