@@ -11,7 +11,9 @@ use Rattle.replay.proofs.Completing.{runs_out}
 use Rattle.replay.specs.Jobs.{RanOut}
 use Rattle.replay.specs.Summary.{EndsInSummary}
 use Rattle.schedule_generator.specs.Generated.{generate}
-use Rattle.ensemble.specs.Top.{AskForNone, Does, Ends, IsBuilt, IsUnhindered, PrintsSummary}
+use Rattle.std.specs.Prelude.{codes}
+use Rattle.ensemble.specs.Top.{AskForNone, Does, Ends, EndsGiven, EndsUnread, IsBuilt, IsUnhindered, PrintsSummary}
+use Rattle.ensemble.specs.declared.arguments.ArgumentsError.{ArgumentsError}
 
 pub summary_prints : (number calls : ℕ) (status : Status) (text : List ℕ) → EndsInSummary (generate number calls) status text → PrintsSummary number calls status text
 summary_prints number calls Status.Memory text h = absurd h
@@ -79,3 +81,17 @@ pub job_completes : (words : List (List ℕ)) (source : Option (List ℕ)) (stat
 job_completes words source Status.Usage text job asks free ends calm = absurd (ends.0 job asks (built source job free))
 job_completes words source Status.Memory text job asks free ends calm = inr refl
 job_completes words source status text job asks free ends calm = unhindered source job status text free (subst (λ (j : Job). Does j source status text) (asked_one words ends.0 job ends.1 asks) ends.2) calm
+
+-- what a job that reads words ends with, for words that were read
+pub front_given : (given : Result (List (List ℕ)) ArgumentsError) (words : List (List ℕ)) (source : Option (List ℕ)) (Q : Status → Type 0) (R : List ℕ → Type 0)
+    → (status : Status) × (text : List ℕ) × Ends words source status text × (words ≡ codes "replay" ∷ [] → Q status) × R text
+    → given ≡ Ok words → (status : Status) × (text : List ℕ) × EndsGiven given source status text × (given ≡ Ok (codes "replay" ∷ []) → Q status) × R text
+front_given given words source Q R f is =
+    (f.0, f.1, subst (λ (g : Result (List (List ℕ)) ArgumentsError). EndsGiven g source f.0 f.1) (sym is) f.2, (λ e. f.3 (same (sym is ∙ e))), f.4)
+  where
+    same : {other : List (List ℕ)} → ◌≡◌ {A = Result (List (List ℕ)) ArgumentsError} (Ok words) (Ok other) → words ≡ other
+    same e = cc e
+
+-- what the program ends with, for words that were not read
+pub unread_ends : (given : Result (List (List ℕ)) ArgumentsError) (why : ArgumentsError) (source : Option (List ℕ)) (status : Status) (text : List ℕ) → given ≡ Err why → EndsUnread why status text → EndsGiven given source status text
+unread_ends given why source status text is ends = subst (λ (g : Result (List (List ℕ)) ArgumentsError). EndsGiven g source status text) (sym is) ends
