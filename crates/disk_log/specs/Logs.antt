@@ -6,7 +6,7 @@ use Rattle.ens_outside.specs.Maps.{Entries, value_at}
 use Rattle.ens_outside.specs.declared.errors.StoreError.{StoreError}
 use Rattle.ens_outside.specs.declared.errors.StoreError.TheVariants.{Failed, Memory}
 use Rattle.ens_base.specs.Causes.{Rose}
-use Rattle.slot_disk.specs.declared.refused.Refused.{Refused}
+use Rattle.ens_base.specs.declared.refused.Refused.{Refused}
 use Rattle.disk_log.specs.Records.{entries_of, IsWhole}
 use Rattle.disk_log.specs.LogFiles.{Begins}
 use Rattle.disk_log.specs.declared.place.Place.{Place}

@@ -11,9 +11,9 @@ use crate::file::LogFile;
 use crate::header::spell;
 use crate::place::Place;
 use crate::scan::scan_and_cut;
-use ens_base::Bytes;
+use ens_base::{Bytes, Refused};
 use ens_outside::StoreError;
-use slot_disk::{Disk, Refused};
+use slot_disk::Disk;
 use std::alloc::Global;
 use std::collections::BTreeMap;
 

@@ -1,7 +1,7 @@
 -- What the calls of stores on disks do, where the disks tell their bytes: what the same calls of a
 -- finite map do.
 use Rattle.std.specs.Prelude.{◌≡◌, ℕ, List, Option, Result, Ok, Err}
-use Rattle.slot_disk.specs.declared.refused.Refused.{Refused}
+use Rattle.ens_base.specs.declared.refused.Refused.{Refused}
 use Rattle.ens_outside.specs.Maps.{Entries}
 use Rattle.ens_outside.specs.MemStores.{Held, object_answer, objects_after, node_answer, nodes_after}
 use Rattle.ens_outside.specs.Stores.{BackendCall, BackendAnswer, NodeCall, NodeAnswer}

@@ -6,9 +6,9 @@ ghost use Rattle.disk_log.specs.Logs.{IsOpenError};
 ghost use Rattle.disk_log.specs.Records.{entries_of};
 
 use disk_log::Log;
-use ens_base::{Bytes, Key};
+use ens_base::{Bytes, Key, Refused};
 use ens_outside::{Backend, StoreError};
-use slot_disk::{Disk, Refused};
+use slot_disk::Disk;
 use std::alloc::Global;
 
 /// The objects of a peer on a disk, each under its key.

@@ -9,9 +9,9 @@ ghost use Rattle.disk_log.specs.Logs.{Holds, IsOpenError};
 ghost use Rattle.disk_stores.specs.NodeMaps.{digest_in, nodes_of};
 
 use disk_log::Log;
-use ens_base::{Bytes, Digest};
+use ens_base::{Bytes, Digest, Refused};
 use ens_outside::{NodeStore, StoreError};
-use slot_disk::{Disk, Refused};
+use slot_disk::Disk;
 use std::alloc::Global;
 
 /// The tree nodes of a peer on a disk, each under its digest, and the top record under the empty

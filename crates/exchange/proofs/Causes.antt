@@ -1,5 +1,5 @@
 -- A plan of a tree is stopped because a count rose, or out of memory.
-use Rattle.std.proofs.Common.{◌≡◌, ◌≤◌, ℕ, List, Option, Some, Result, Ok, Err, inl, inr, arith, ap, subst, sym}
+use Rattle.std.proofs.Common.{◌≡◌, ◌≤◌, ℕ, List, Option, inl, inr, arith, ap}
 use Rattle.ens_base.specs.Causes.{Rose}
 use Rattle.ens_hashing.specs.Hashing.{Book}
 use Rattle.ens_outside.specs.Stores.{NodeCall, NodeAnswer}

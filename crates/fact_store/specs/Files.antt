@@ -4,7 +4,7 @@ use Rattle.ens_base.specs.Causes.{counted, Rose}
 use Rattle.slot_disk.specs.Crash.{LeavesOnly, SeenIn}
 use Rattle.slot_disk.specs.Slots.{record_in, last_serial}
 use Rattle.slot_disk.specs.SlotFiles.{remembered, IsAtRest}
-use Rattle.slot_disk.specs.declared.refused.Refused.{Refused}
+use Rattle.ens_base.specs.declared.refused.Refused.{Refused}
 use Rattle.peer_fact.specs.declared.fact.Fact.{Fact}
 use Rattle.peer_fact.specs.declared.error.FactError.{FactError}
 use Rattle.fact_store.specs.Keeping.{KeeperCall, KeeperAnswer, Load, Save, IsOldOrNewIn, IsBad, fact_in}

@@ -10,8 +10,9 @@ ghost use Rattle.slot_disk.specs.declared.error.SlotError.TheVariants as slot_er
 
 use crate::error::KeepError;
 use crate::keeper::FactKeeper;
+use ens_base::Refused;
 use peer_fact::{Change, Fact, FactError};
-use slot_disk::{Disk, Refused, SlotError, SlotFile};
+use slot_disk::{Disk, SlotError, SlotFile};
 use std::alloc::Global;
 
 /// A fact on a disk, in a slot file. A save replaces it atomically, whenever a crash comes.

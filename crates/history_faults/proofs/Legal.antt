@@ -4,7 +4,6 @@ use Rattle.std.specs.Prelude.{◌==◌, ◌&&◌, ◌||◌, not, nat_lt, slice_g
 use Rattle.std.specs.List.{list_any}
 use Rattle.std.proofs.lemmas.Bool.{eq-eqb, or_cases, or_parts}
 use Rattle.ens_base.specs.Lists.{◌∈◌, AreDistinct, is_in, same_bytes}
-use Rattle.ens_base.specs.declared.reply.Reply.{Reply}
 use Rattle.ens_base.proofs.Lists.{bytes_same, bytes_itself, in_tested, tested_in}
 use Rattle.register_model.specs.Histories.{IsDone, IsRefused, is_done, is_refused, StandsBefore, IsLegal}
 use Rattle.register_model.specs.declared.answer.Answer.{Answer}

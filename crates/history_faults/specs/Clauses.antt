@@ -5,7 +5,7 @@
 --   2  every completed call on the key occurs, and no refused call does
 --   3  the calls in this order are a run of one register with the printed replies
 --   4  no call that began after a completed call was answered comes before it
-use Rattle.std.specs.Prelude.{◌≡◌, ◌⊎◌, ℕ, Bool, true, false, ◌&&◌, ◌||◌, not, ◌==◌, nat_lt, if◌then◌else◌, List, [], ◌∷◌, Option, None, Some, slice_get}
+use Rattle.std.specs.Prelude.{◌≡◌, ◌⊎◌, ℕ, Bool, ◌&&◌, ◌||◌, not, ◌==◌, nat_lt, if◌then◌else◌, List, [], ◌∷◌, Option, None, Some, slice_get}
 use Rattle.std.specs.List.{list_any}
 use Rattle.ens_base.specs.Lists.{same_bytes, is_in}
 use Rattle.register_model.specs.Histories.{IsRun, is_done, is_refused}

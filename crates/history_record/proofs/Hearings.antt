@@ -1,21 +1,21 @@
 -- One line more behind the line `answers`.
-use Rattle.std.proofs.Common.{◌≡◌, ◌≢◌, ℕ, suc, ◌+◌, ◌*◌, ◌<◌, ◌≤◌, Bool, true, false, cond, List, [], ◌∷◌, ◌++◌, length, map, Option, None, Some, inl, inr, ◌⊎◌, refl, sym, ap, subst, ◌∙◌, arith, append_assoc}
-use Rattle.std.specs.Prelude.{◌==◌, ◌||◌, if◌then◌else◌, nat_lt}
+use Rattle.std.proofs.Common.{◌≡◌, ℕ, ◌+◌, ◌*◌, ◌≤◌, Bool, true, false, cond, List, [], ◌∷◌, ◌++◌, length, map, Option, None, Some, inl, inr, ◌⊎◌, refl, sym, ap, subst, ◌∙◌, arith, append_assoc}
+use Rattle.std.specs.Prelude.{◌==◌, ◌||◌, if◌then◌else◌}
 use Rattle.std.specs.List.{list_any}
 use Rattle.std.specs.BTreeMap.{is_at}
 use Rattle.std.specs.Ordering.{nat_cmp}
 use Rattle.std.proofs.lemmas.Bool.{eq-eqb, ne_eqb}
-use Rattle.ens_base.specs.Lists.{◌∈◌, AreDistinct, same_bytes}
-use Rattle.ens_base.proofs.Lists.{in-map, in_append, bytes_same}
+use Rattle.ens_base.specs.Lists.{◌∈◌, AreDistinct}
+use Rattle.ens_base.proofs.Lists.{in-map, in_append}
 use Rattle.register_model.specs.declared.answer.Answer.{Answer}
 use Rattle.register_model.specs.declared.call.Call.{Call}
 use Rattle.register_model.specs.declared.history.History.{History}
 use Rattle.schedule_text.specs.declared.event.ScheduleEvent.{ScheduleEvent}
 use Rattle.schedule_text.specs.declared.event.ScheduleEvent.TheVariants as line
 use Rattle.schedule_text.specs.declared.schedule.Schedule.{Schedule}
-use Rattle.history_record.specs.Calls.{call_event, calls_from, change_peer, keys_of}
+use Rattle.history_record.specs.Calls.{call_event, calls_from, change_peer}
 use Rattle.history_record.specs.Kept.{IsFit, IsKept, IsSound}
-use Rattle.history_record.specs.Telling.{Heard, is_answered, is_changed, nothing_heard, open_call, open_change}
+use Rattle.history_record.specs.Telling.{Heard, is_answered, is_changed, nothing_heard}
 use Rattle.history_record.proofs.Gathered.{HasGathered, at_number}
 
 or_false : (b : Bool) → (b || false) ≡ b

@@ -1,5 +1,5 @@
 -- A line that is too long.
-use Rattle.std.proofs.Common.{◌≡◌, ℕ, ◌+◌, ◌<◌, ◌==◌, Bool, true, false, List, [], ◌∷◌, length, Result, Ok, Err, refl, ap, arith}
+use Rattle.std.proofs.Common.{◌≡◌, ℕ, ◌+◌, ◌<◌, ◌==◌, Bool, true, false, List, [], ◌∷◌, length, Result, Err, refl, ap, arith}
 use Rattle.std.specs.Prelude.{nat_lt, if◌then◌else◌}
 use Rattle.std.proofs.lemmas.Bool.Decides.{nat_tests}
 use Rattle.ens_base.specs.Lists.{same_bytes}
@@ -12,9 +12,8 @@ use Rattle.schedule_text.specs.declared.error.ScheduleError.TheVariants.{Bad, Li
 use Rattle.schedule_text.specs.declared.schedule.Schedule.{Schedule}
 use Rattle.schedule_words.specs.declared.cause.Cause.TheVariants.{TooLong, Unfinished}
 use Rattle.history_record.specs.Lines.{most_bytes}
-use Rattle.history_record.specs.Reading.{Before, Behind, Stage, answers_line, before, behind, end_stage, flawed, missing, next_stage, of_schedule, opened}
+use Rattle.history_record.specs.Reading.{Before, Behind, answers_line, before, behind, end_stage, flawed, missing, next_stage, of_schedule, opened}
 use Rattle.history_record.specs.Telling.{Heard, next_heard}
-use Rattle.history_record.specs.declared.error.AuditError.{AuditError}
 use Rattle.history_record.specs.declared.flaw.Flaw.TheVariants.{Cut}
 
 pub long_schedule : (p : Progress) (text : List ℕ) (e : ScheduleError) → line_limit < length text → next_line p text ≡ Err e → next_stage (Before p) text ≡ Err (of_schedule e)

@@ -1,16 +1,12 @@
 -- Reading a record, line by line.
-use Rattle.std.proofs.Common.{◌≡◌, ℕ, suc, ◌+◌, ◌<◌, ◌≤◌, Bool, true, false, List, [], ◌∷◌, ◌++◌, length, get_or, take, drop, map, Option, None, Some, Bor, Result, Ok, Err, refl, sym, ap, subst, ◌∙◌, arith, append_assoc, append-nil}
+use Rattle.std.proofs.Common.{◌≡◌, ℕ, ◌+◌, ◌<◌, ◌≤◌, List, [], ◌∷◌, ◌++◌, length, get_or, drop, map, Result, Ok, Err, refl, sym, ap, ◌∙◌, append_assoc, append-nil}
 use Rattle.std.proofs.lemmas.List.{drop_more, drop_all}
 use Rattle.ens_base.specs.Results.{◌>>=◌}
-use Rattle.ens_base.specs.declared.command.Command.{Command}
-use Rattle.register_model.specs.declared.call.Call.{Call}
 use Rattle.schedule_text.specs.Texts.{texts, Word}
-use Rattle.schedule_text.specs.declared.event.ScheduleEvent.{ScheduleEvent}
 use Rattle.schedule_text.specs.declared.event.ScheduleEvent.TheVariants as line
-use Rattle.history_record.specs.Calls.{call_at, calls_from}
 use Rattle.history_record.specs.Kept.{IsSound}
 use Rattle.history_record.specs.Lines.{ids_from, number}
-use Rattle.history_record.specs.Reading.{Stage, Stops, Steps, and_then, next_stage, read_parts}
+use Rattle.history_record.specs.Reading.{Stage, Stops, and_then, next_stage, read_parts}
 use Rattle.history_record.specs.Records.{IsRecord}
 use Rattle.history_record.specs.Telling.{Heard}
 use Rattle.history_record.specs.declared.error.AuditError.{AuditError}

@@ -1,10 +1,9 @@
 -- A word that is refused.
-use Rattle.std.proofs.Common.{◌≡◌, ℕ, ◌<◌, ◌≤◌, List, [], ◌∷◌, length, get_or, Result, Ok, Err, refl, arith}
+use Rattle.std.proofs.Common.{◌<◌, ◌≤◌, List, [], ◌∷◌, length, get_or, Result, Ok, Err, refl, arith}
 use Rattle.ens_base.specs.Results.{◌>>=◌}
-use Rattle.ens_base.specs.declared.epoch.Version.{Version}
 use Rattle.schedule_text.specs.Texts.{Word, texts}
 use Rattle.schedule_words.specs.Causes.{Refuses}
-use Rattle.schedule_words.specs.Words.{value_of, version_of}
+use Rattle.schedule_words.specs.Words.{version_of}
 use Rattle.schedule_words.specs.declared.cause.Cause.{Cause}
 use Rattle.schedule_words.specs.declared.cause.WordError.{WordError}
 use Rattle.schedule_words.specs.declared.cause.WordError.TheVariants.{Bad, Memory}

@@ -1,9 +1,9 @@
 -- The words of a line behind the line `answers`, taken apart.
-use Rattle.std.proofs.Common.{◌≡◌, ℕ, ◌-◌, ◌<◌, ◌≤◌, true, false, List, [], ◌∷◌, length, get_or, take, drop, Option, None, Some, Result, Ok, Err, refl, sym, subst, ap, ◌∙◌, arith, take_all}
+use Rattle.std.proofs.Common.{◌≡◌, ◌-◌, ◌<◌, ◌≤◌, true, false, List, [], ◌∷◌, length, get_or, take, drop, None, Some, Result, Err, refl, subst, arith, take_all}
 use Rattle.schedule_text.specs.Arguments.{has_empty}
 use Rattle.schedule_text.specs.Texts.{Word, texts}
 use Rattle.history_record.specs.Flaws.{Finds}
-use Rattle.history_record.specs.Lines.{answer_from, answer_named, answer_of, history_from, history_of, reply_name_of}
+use Rattle.history_record.specs.Lines.{answer_from, answer_of, history_from, history_of, reply_name_of}
 use Rattle.history_record.specs.declared.flaw.Flaw.TheVariants.{Form, Words}
 use Rattle.history_record.specs.declared.flaw.LineError.{LineError}
 use Rattle.history_record.specs.declared.lines.RecordLine.{RecordLine}

@@ -1,5 +1,5 @@
 -- What reading keeps beside what it was told, to find the open calls and changes by a lookup.
-use Rattle.std.specs.Prelude.{◌≡◌, ℕ, ◌+◌, ◌≤◌, List, ◌++◌, length, map, Option}
+use Rattle.std.specs.Prelude.{◌≡◌, ℕ, ◌+◌, ◌≤◌, ◌++◌, length, map, Option}
 use Rattle.ens_base.specs.Lists.{◌∈◌, AreDistinct}
 use Rattle.register_model.specs.declared.answer.Answer.{Answer}
 use Rattle.register_model.specs.declared.call.Call.{Call}

@@ -2,9 +2,8 @@
 use Rattle.std.specs.Prelude.{◌≡◌, ℕ, ◌+◌, ◌≤◌, if◌then◌else◌, List, [], ◌∷◌, length, codes, Option, None, Some, Result, Ok, Err}
 use Rattle.ens_base.specs.Lists.{same_bytes, AreDistinct}
 use Rattle.schedule_words.specs.Words.{parts_of}
-use Rattle.schedule_words.specs.declared.cause.Cause.{Cause}
 use Rattle.schedule_text.specs.Events.{line_limit}
-use Rattle.schedule_text.specs.Progress.{Progress, Blank, Titled, Counted, Running, lines_so_far}
+use Rattle.schedule_text.specs.Progress.{Progress, Blank, Running, lines_so_far}
 use Rattle.schedule_text.specs.Spelling.{call_ids}
 use Rattle.schedule_text.specs.Reading.{next_line, ended}
 use Rattle.schedule_text.specs.declared.error.ScheduleError.{ScheduleError}

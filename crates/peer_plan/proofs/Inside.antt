@@ -1,5 +1,5 @@
 -- The tree of a peer reports damage only at positions of the tree.
-use Rattle.std.proofs.Common.{◌≡◌, ◌<◌, ◌≤◌, ◌-◌, ◌/◌, ◌%◌, ◌^◌, ◌*◌, lit<, ℕ, zero, suc, Bool, true, false, if◌then◌else◌, List, [], Option, Some, None, Result, Err, subst, arith}
+use Rattle.std.proofs.Common.{◌≡◌, ◌<◌, ◌≤◌, ◌-◌, ◌/◌, ◌%◌, ◌^◌, ◌*◌, lit<, ℕ, zero, suc, Bool, true, false, if◌then◌else◌, List, [], Option, Some, None, Err, subst, arith}
 use Rattle.std.proofs.Math.Nat.{div-lt_iff_lt-mul, pow-suc}
 use Rattle.std.specs.Prelude.{get_or, set, replicate}
 use Rattle.ens_base.specs.Lists.{same_bytes}

@@ -6,7 +6,7 @@ use Rattle.slot_disk.specs.Slots.{current, shut_at}
 use Rattle.slot_disk.specs.Found.{kept_now}
 use Rattle.slot_disk.specs.declared.error.SlotError.{SlotError}
 use Rattle.slot_disk.specs.declared.error.SlotError.TheVariants as errors
-use Rattle.slot_disk.specs.declared.refused.Refused.{Refused}
+use Rattle.ens_base.specs.declared.refused.Refused.{Refused}
 use Rattle.slot_disk.specs.declared.slot.Slot.{Slot}
 use Rattle.slot_disk.specs.declared.slot.Slot.TheVariants.{A, B}
 use Rattle.slot_disk.specs.declared.slot_file.SlotFile.{SlotFile}

@@ -12,9 +12,9 @@ use crate::current::Current;
 use crate::disk::Disk;
 use crate::error::SlotError;
 use crate::reading::{Both, pick, read_both};
-use crate::refused::Refused;
 use crate::slot::Slot;
 use crate::writing::replace;
+use ens_base::Refused;
 use std::alloc::{AllocError, Global};
 
 /// The greatest length of a record in bytes.

@@ -2,7 +2,7 @@
 -- its message is sent. After it the peer agrees with the run that goes on by these steps, and by the loss of
 -- its trust if it found damage. Then a sync begins or resumes, or a rule that is named runs next.
 use Rattle.std.specs.Prelude.{All}
-use Rattle.std.proofs.Common.{◌≡◌, ◌⊎◌, inl, inr, ℕ, Bool, true, false, List, [], ◌++◌, Option, Some, None, refl, ap, sym, subst, ◌∙◌}
+use Rattle.std.proofs.Common.{◌≡◌, ◌⊎◌, inl, inr, ℕ, Bool, false, List, [], ◌++◌, Option, Some, None, refl, ap, sym, subst, ◌∙◌}
 use Rattle.std.proofs.lemmas.List.Elements.{All-nil, All-append}
 use Rattle.ens_base.specs.declared.entry.Entry.{Entry}
 use Rattle.abstract_protocol.specs.Ledger.{Ledger, put}

@@ -7,7 +7,7 @@ use Rattle.tree_maps.specs.Entries.{lookup, put}
 use Rattle.tree_maps.specs.Forms.{Form, root}
 use Rattle.tree_maps.specs.Maps.{AreApart, Stands}
 use Rattle.synctree.specs.Plans.{Call, AnswerOf, Ends}
-use Rattle.slot_disk.specs.declared.refused.Refused.{Refused}
+use Rattle.ens_base.specs.declared.refused.Refused.{Refused}
 use Rattle.synctree.specs.declared.error.TreeError.{TreeError}
 use Rattle.synctree.specs.declared.tree.Tree.{Tree}
 use Rattle.synctree.specs.Trees.{get_plan, insert_plan}

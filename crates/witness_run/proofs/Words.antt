@@ -1,6 +1,6 @@
 -- The constants of the runs: keys, versions, sets of peers; and induction over the versions
 -- proposed so far.
-use Rattle.std.proofs.Common.{◌≡◌, ℕ, ◌+◌, ◌*◌, ◌^◌, ◌≤◌, Bool, true, false, ◌||◌, ◌==◌, ◌⊎◌, sym, subst, ap, eqb-true, List, [], ◌∷◌, eqb, refl, inl, inr, Option, None, Some, arith}
+use Rattle.std.proofs.Common.{◌≡◌, ℕ, ◌+◌, ◌*◌, ◌^◌, Bool, true, false, ◌||◌, ◌==◌, ◌⊎◌, sym, subst, ap, eqb-true, List, [], ◌∷◌, eqb, refl, inl, inr, Option, None, Some}
 use Rattle.std.proofs.lemmas.Bool.{false≢true, true≢false, eqb-false}
 use Rattle.ens_base.specs.Lists.{same_bytes}
 use Rattle.abstract_protocol.specs.Ledger.{put}

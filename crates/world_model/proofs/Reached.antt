@@ -129,12 +129,6 @@ reaches_damaged first now peer key bytes w (Ok x) reached Did none within has ok
     (led ok ∙ none_hashed v unmarked, rw (changed_mail peer (over_stores (segment_spoiled key bytes)) w) within, rw unmarked has)
 reaches_damaged first now peer key bytes w (Err e) reached Did none within has ok led memory = rw memory tt
 
--- a call whose key the hasher rejected, or that ran out of memory before
-pub refuses_damage : (first now : Account) (peer : ℕ) (key : List ℕ) (bytes : Option (List ℕ)) (w : Run) (e : WorldError) → w.hashed ≡ [] → IsCutOff (key ∷ []) first now e → MayRefuse first (with_damage peer key bytes w) now e
-refuses_damage first now peer key bytes w e none cut =
-    let strings : (with_damage peer key bytes w).hashed ≡ key ∷ [] = ap (λ (h : List (List ℕ)). h ++ key ∷ []) (changed_hashed peer (over_stores (segment_spoiled key bytes)) w ∙ none) in
-    cut_off_refuses first (with_damage peer key bytes w) now e (subst (λ h. IsCutOff h first now e) (sym strings) cut)
-
 -- a call that sends messages is refused at the limit, or out of memory
 pub refused_sending : {T : Type 0} (due : Run) (e : WorldError) (b : Run) (r : Result T WorldError) (G : WorldError → Type 0) → IsErrAnd r G → ((d : WorldError) → G d → d ≡ e)
     → (e ≡ MessageLimit) ⊎ (e ≡ Memory) → (e ≡ MessageLimit → IsPastMessages due) → Adds due r b

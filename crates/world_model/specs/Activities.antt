@@ -1,5 +1,5 @@
 -- What a peer is doing.
-use Rattle.std.specs.Prelude.{ℕ, Option, None, Some, slice_get}
+use Rattle.std.specs.Prelude.{ℕ, slice_get}
 use Rattle.std.specs.Option.{option_map_or}
 use Rattle.election.specs.declared.election.Election.TheVariants as elections
 use Rattle.peer_state.specs.declared.state.Phase.{Phase}

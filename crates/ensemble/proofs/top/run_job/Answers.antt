@@ -1,4 +1,4 @@
-use Rattle.std.proofs.Common.{◌≡◌, rules, ◌∷◌, [], ◌++◌, codes, sym, subst, ◌∙◌}
+use Rattle.std.proofs.Common.{rules, ◌∷◌, [], ◌++◌, codes, sym, subst}
 use Rattle.ens_base.specs.declared.status.Status.TheVariants as Status
 use Rattle.ens_words.specs.declared.job.Job.{Job}
 use Rattle.replay.proofs.Completing.{usage_read}

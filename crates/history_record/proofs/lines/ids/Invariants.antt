@@ -1,4 +1,4 @@
-use Rattle.std.proofs.Common.{◌≡◌, ◌++◌, List, ℕ, drop, Result, Ok}
+use Rattle.std.proofs.Common.{◌≡◌, ◌++◌, drop, Ok}
 use Rattle.ens_base.specs.Results.{◌>>=◌}
 use Rattle.schedule_text.specs.Texts.{texts}
 use Rattle.history_record.specs.Lines.{ids_from}

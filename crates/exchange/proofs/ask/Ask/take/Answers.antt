@@ -1,4 +1,3 @@
-use Rattle.tree_maps.specs.Sixteen.{sixteen}
 use Rattle.exchange.specs.Asks.{own_plan}
 use Rattle.synctree.specs.declared.error.TreeError.TheVariants as trees
 use Rattle.exchange.proofs.Causes.{stops_cause}

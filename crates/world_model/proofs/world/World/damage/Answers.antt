@@ -7,7 +7,7 @@ use Rattle.world_model.specs.Peers.{node_of}
 use Rattle.world_model.specs.Worlds.{run_of}
 use Rattle.world_model.proofs.Begins.{begins_by}
 use Rattle.world_model.proofs.Placed.{did_change, still_numbered, still_few}
-use Rattle.world_model.proofs.Reached.{reaches_damaged, refuses_damage}
+use Rattle.world_model.proofs.Reached.{reaches_damaged}
 use Rattle.world_model.proofs.world.World.damage.Goals as goal
 
 pub invariant_of-self : goal.invariant_of-self
