@@ -1,0 +1,69 @@
+ghost use Rattle.std.specs.Prelude.{OnOk};
+ghost use Rattle.std.specs.Option.{IsSomeAnd};
+ghost use Rattle.ens_base.specs.Limits.{IsBytes, IsKey, IsVersion};
+ghost use Rattle.ens_fields.specs.Entries.{IsEntry};
+ghost use Rattle.ens_fields.specs.Numbers.{IsRun};
+ghost use Rattle.tree_maps.specs.Sixteen.{sixteen};
+ghost use Rattle.synctree.specs.Meanings.{Enters};
+ghost use Rattle.synctree.specs.Outsides.{outside_does};
+ghost use Rattle.tree_laws.specs.Tops.{Entered, IsRootWith, LeavesTop};
+
+use ens_base::{Digest, Entry, Key, Version};
+use ens_hashing::Hasher16;
+use ens_outside::NodeStore;
+use std::alloc::Global;
+use synctree::{Tree, TreeError};
+
+/// Each entry keeps the limits of its parts: a key of 1 to 64 bytes, numbers of a version that fit
+/// their widths, and a digest of 16 bytes.
+pub fn entries_fit(entry: &Entry)
+    ensures { IsEntry entry.now }
+{
+    key_fits(&entry.key);
+    version_fits(entry.version);
+    digest_fits(entry.digest);
+}
+
+fn key_fits(key: &Key)
+    ensures { IsKey key.now }
+{
+    let bytes = key.bytes();
+    bytes_fit(bytes);
+}
+
+fn bytes_fit(bytes: &[u8])
+    ensures { IsBytes bytes.now }
+{
+    let _size = bytes.len();
+}
+
+fn version_fits(version: Version)
+    ensures { IsVersion version }
+{
+    let _count = version.epoch.count;
+    let _proposer = version.epoch.proposer;
+    let _seq = version.seq;
+}
+
+fn digest_fits(digest: Digest)
+    ensures { IsRun 16 digest }
+{
+    let Digest(_bytes) = digest;
+}
+
+/// Inserts the entry into the map of the tree, as `Tree::insert` does. If a map stands under the old
+/// top record, the map with the entry, if it has fewer than 2^32 entries, stands under the new one,
+/// whatever the entry is, unless a string that was hashed has the digest of a different node of the
+/// old map. The top record of the store is as `LeavesTop` says.
+pub fn insert<N: NodeStore, H: Hasher16>(
+    tree: &mut Tree<N>,
+    alloc: Global,
+    hasher: &mut H,
+    entry: &Entry,
+) -> Result<(), TreeError>
+    ensures stands { OnOk result (IsSomeAnd tree.new.top (λ new. Entered (outside_does N.may_answer N.top_record N.fault_count H.kept H.clashes H.fulls) sixteen tree.old.top entry.now (tree.old.store, hasher.old) new (tree.new.store, hasher.new))) }
+    ensures top { Enters (LeavesTop (IsRootWith (outside_does N.may_answer N.top_record N.fault_count H.kept H.clashes H.fulls) sixteen tree.old.top entry.now (tree.old.store, hasher.old)) (N.top_record tree.old.store) (N.top_record tree.new.store)) tree.old.top result tree.new.top }
+{
+    entries_fit(entry);
+    tree.insert(alloc, hasher, entry)
+}
