@@ -1,0 +1,3 @@
+pub mod Counts
+pub mod Walking
+pub mod Bounds
