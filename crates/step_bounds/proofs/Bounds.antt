@@ -1,19 +1,23 @@
 -- A peer that started, step by step.
 use Rattle.std.proofs.Common.{◌≤◌, ◌<◌, ◌+◌, ◌^◌, arith, sym, subst, length, ℕ, Bool, List, [], ◌∷◌}
 use Rattle.peer_fact.specs.declared.fact.Fact.{Fact}
-use Rattle.peer_plan.specs.Drives.{first, task_done, driven, most_turns, responded, concluded, step_of}
+use Rattle.peer_plan.specs.Drives.{first, task_done, driven, most_turns, concluded, step_of}
 use Rattle.peer_plan.specs.Kept.{IsStepCall}
-use Rattle.peer_plan.specs.Turns.{StepsAlone, IsFineAtNone, HasFewCalls}
+use Rattle.peer_plan.specs.Turns.{StepsAlone, HasFewCalls}
 use Rattle.peer_plan.proofs.Fuel.{responded_left, concluded_left}
 use Rattle.peer_state.specs.declared.event.Event.{Event}
 use Rattle.peer_state.specs.declared.state.Phase.{Phase}
 use Rattle.peer_state.specs.declared.state.Phase.TheVariants as phases
 use Rattle.peer_state.specs.declared.state.State.{State}
+use Rattle.step_plans.specs.Calls.{OpenTree}
 use Rattle.step_plans.specs.Plans.{Plan, Done, Say, Ask, Out, Rest, Follows, nothing}
 use Rattle.step_plans.specs.declared.tasks.Task.{Task}
 use Rattle.step_plans.specs.declared.tasks.Task.TheVariants as tasks
+use Rattle.step_bounds.specs.Limits.{or_else, end_or, step_or}
 use Rattle.step_bounds.specs.Reached.{MayEnd, Reached, calls_of, calls_among, unanswered}
+use Rattle.step_bounds.specs.Resting.{IsResting}
 use Rattle.step_bounds.proofs.Counts.{count, least}
+use Rattle.step_bounds.proofs.Pairs.{responded_safe, concluded_safe}
 use Rattle.step_bounds.proofs.Walking.{responded_passes, concluded_passes}
 
 -- after a step, the calls are those from before and those of the event, or fewer
@@ -45,19 +49,59 @@ few_calls (phases.Following f) n less few = tt
 few_calls (phases.Probing p) n less few = tt
 few_calls (phases.Electing e) n less few = tt
 
-within : (a b c : ℕ) → a ≤ b → a ≤ c + b
-within a b c less = omega (arith, less)
+-- ## At rest
 
-module _ (me : ℕ) (fact : Fact) (trusted : Bool) (event : Event) (events : List Event) (x : State) where
-  pub responded_none : (next : Rest State (List Task)) → Reached me fact trusted events x → calls_among (event ∷ events) < 2 ^ 60 → IsFineAtNone next → StepsAlone (first me event x nothing (λ ts y o. driven me most_turns ts y o next))
-  responded_none next reached few go =
-      responded_left me event x nothing next
-      (few_calls x.phase (calls_among (event ∷ events)) (within (count x.phase) (calls_among events) (calls_of event) (reached_few me fact trusted events x reached)) few) go
+-- at the limit on tasks none is left
+abbrev stop : Rest State (List Task)
+stop [] y o = Done y o
+stop (t ∷ ts) y o = Ask OpenTree (λ u. Done y o)
 
-  pub concluded_none : Reached me fact trusted events x → calls_among (event ∷ events) < 2 ^ 60
-      → Follows IsStepCall (λ y o. (next : Rest State (List Task)) → IsFineAtNone next → StepsAlone (task_done me (tasks.Phase 26) y o (λ ts z q. driven me most_turns ts z q next))) (responded me event x nothing (λ u y o. Done y o))
-  concluded_none reached few =
+stop_some : (t : Task) (ts : List Task) (y : State) (o : Out) → StepsAlone (stop (t ∷ ts) y o) → ⊥
+stop_some t ts y o alone = alone.0
+
+at_most : (a b c : ℕ) → a + b ≤ c → a ≤ c
+at_most a b c sum = omega (arith, sum)
+
+module _ (me k : ℕ) (less : k < 2 ^ 60) (P : State → Out → Type 0) (next : Rest State (List Task)) where
+  -- what reaches the end from each state at rest with few calls
+  abbrev Ends : Rest State (List Task) → Type 0
+  Ends rest = (y : State) (o : Out) → count y.phase ≤ k → IsResting y.phase → Follows IsStepCall P (rest [] y o)
+
+  -- from the event on
+  after_event : (event : Event) (x : State) → count x.phase + calls_of event ≤ k → IsResting x.phase → Ends next → Follows IsStepCall P (first me event x nothing (λ ts y o. driven me most_turns ts y o next))
+  after_event event x room rests ends =
+      responded_safe k me P event x nothing next stop room rests (λ y o few still alone. ends y o few still) stop_some
+      (responded_left me event x nothing stop (few_calls x.phase k (at_most (count x.phase) (calls_of event) k room) less) (λ z q. tt))
+
+  -- from rule 26 on
+  after_26 : (y : State) (o : Out) → count y.phase ≤ k → IsResting y.phase → Ends next → Follows IsStepCall P (task_done me (tasks.Phase 26) y o (λ ts z q. driven me most_turns ts z q next))
+  after_26 y o few rests ends =
+      concluded_safe k me P y o next stop few rests (λ z q fine still alone. ends z q fine still) stop_some
+      (concluded_left me y o stop (few_calls y.phase k few less) (λ z q. tt))
+
+-- a step with few calls, from rest, ends at rest
+step_rests : (me k : ℕ) (event : Event) (x : State) → k < 2 ^ 60 → count x.phase + calls_of event ≤ k → IsResting x.phase → Follows IsStepCall (λ y o. IsResting y.phase) (step_of me event x)
+step_rests me k event x less room rests =
+    let P : State → Out → Type 0 = λ y o. IsResting y.phase in
+    after_event me k less P (λ ts y o. concluded me y o (λ v z q. Done z q)) event x room rests
+    (λ y o few still. after_26 me k less P (λ ts z q. Done z q) y o few still (λ z q fine end. end))
+
+fewer : (a b c : ℕ) → c + b < a → b < a
+fewer a b c less = omega (arith, less)
+
+pub reached_rests : (me : ℕ) (fact : Fact) (trusted : Bool) (events : List Event) (x : State) → Reached me fact trusted events x → calls_among events < 2 ^ 60 → IsResting x.phase
+reached_rests me fact trusted [] x is less = subst (λ (y : State). IsResting y.phase) (sym is) tt
+reached_rests me fact trusted (event ∷ events) x (y, before, end) less =
+    let k : ℕ = calls_of event + calls_among events in
+    ended (λ z. IsResting z.phase) (step_of me event y) x
+    (step_rests me k event y less (room_for (count y.phase) (calls_among events) (calls_of event) (reached_few me fact trusted events y before))
+    (reached_rests me fact trusted events y before (fewer (2 ^ 60) (calls_among events) (calls_of event) less))) end
+
+module _ (other : Rest State (List Task)) (me : ℕ) (fact : Fact) (trusted : Bool) (event : Event) (events : List Event) (x : State) where
+  pub none_left : Reached me fact trusted events x → calls_among (event ∷ events) < 2 ^ 60 → StepsAlone (step_or other me event x)
+  none_left reached less =
       let k : ℕ = calls_among (event ∷ events) in
-      let P : State → Out → Type 0 = λ y o. (next : Rest State (List Task)) → IsFineAtNone next → StepsAlone (task_done me (tasks.Phase 26) y o (λ ts z q. driven me most_turns ts z q next)) in
-      responded_passes k me P event x nothing (λ u y o. Done y o) (room_for (count x.phase) (calls_among events) (calls_of event) (reached_few me fact trusted events x reached))
-      (λ u y o less. λ next go. concluded_left me y o next (few_calls y.phase k less few) go)
+      let P : State → Out → Type 0 = λ y o. Unit {0} in
+      after_event me k less P (or_else other (end_or other me)) event x (room_for (count x.phase) (calls_among events) (calls_of event) (reached_few me fact trusted events x reached))
+      (reached_rests me fact trusted events x reached (fewer (2 ^ 60) (calls_among events) (calls_of event) less))
+      (λ y o few still. after_26 me k less P (or_else other (λ v w q. Done w q)) y o few still (λ z q fine end. tt))

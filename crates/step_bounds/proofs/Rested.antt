@@ -1,0 +1,244 @@
+-- Which rows leave a leader at rest, or ready for the rule that they name.
+use Rattle.std.proofs.Common.{◌≡◌, ◌==◌, ◌&&◌, refl, sym, subst, ℕ, Bool, true, false, List, Option, Some, None}
+use Rattle.call_table.specs.Rows.{row_at}
+use Rattle.call_table.specs.Tables.{empty_table}
+use Rattle.call_table.specs.declared.row.Stage.{Stage}
+use Rattle.call_table.specs.declared.row.Stage.TheVariants as stages
+use Rattle.call_table.specs.declared.waiting.Waiting.{Waiting}
+use Rattle.call_table.specs.Calls.{running}
+use Rattle.election.specs.Preparing.{row_10}
+use Rattle.election.specs.declared.election.Election.{Election}
+use Rattle.election.specs.declared.election.Election.TheVariants.{Preparing, Starting}
+use Rattle.ens_base.specs.Epochs.{same_version}
+use Rattle.ens_base.specs.declared.epoch.Epoch.{Epoch}
+use Rattle.ens_base.specs.declared.epoch.Version.{Version}
+use Rattle.ens_object.specs.declared.object.Object.{Object}
+use Rattle.following.specs.Announcements.{row_16}
+use Rattle.leader_words.specs.Outs.{rests as no_out, and_note}
+use Rattle.leader_words.specs.declared.out.LeadOut.{LeadOut}
+use Rattle.leader_words.specs.declared.out.Own.{Own}
+use Rattle.leader_words.specs.declared.out.Own.TheVariants as owns
+use Rattle.leading.specs.Leaders.{new_leader, with_task, knows, settled_as}
+use Rattle.leading.specs.Puts.{write_settled, settled_for, acknowledged, put_seen, put_for, row_35, acknowledged_by, row_35_reply}
+use Rattle.leading.specs.Rules.{lead_row}
+use Rattle.leading.specs.Steps.{AsksOn, Fits, IsReady, IsCalm, IsAtRest}
+use Rattle.leading.specs.declared.leader.Leader.{Leader}
+use Rattle.leading.specs.declared.pending.Pending.{Pending}
+use Rattle.leading.specs.declared.pending.Pending.TheVariants as pendings
+use Rattle.leading.proofs.Moves.{either}
+use Rattle.leading.proofs.Steps.{lead_step}
+use Rattle.peer_fact.specs.declared.fact.Change.{Change}
+use Rattle.peer_fact.specs.declared.fact.Change.TheVariants.{Add}
+use Rattle.peer_fact.specs.declared.fact.Fact.{Fact}
+use Rattle.peer_plan.specs.Drives.{own_key}
+use Rattle.peer_state.specs.Moves.{stopped_leading, without_candidacy, left, turned, stood, waiting_phase, waiting_for}
+use Rattle.peer_state.specs.Rows.{runs_sync, aged, aged_election, accepted_by, leads, changes, wanting, asked_change, finishing, begun_change, phase_row, received}
+use Rattle.peer_state.specs.declared.state.ChangeState.{ChangeState}
+use Rattle.peer_state.specs.declared.state.ChangeState.TheVariants.{Settled, Wanted, Finishing as Finishes}
+use Rattle.peer_state.specs.declared.state.Leadership.{Leadership}
+use Rattle.peer_state.specs.declared.state.Phase.{Phase}
+use Rattle.peer_state.specs.declared.state.Phase.TheVariants as phases
+use Rattle.peer_state.specs.declared.state.State.{State}
+use Rattle.peer_state.proofs.Phases.{by_probing, by_electing, by_leading}
+use Rattle.phase_rows.specs.Orders.{is_same}
+use Rattle.phase_rows.specs.declared.phase.PhaseOut.{PhaseOut}
+use Rattle.phase_rows.specs.declared.phase.Seen.{Seen}
+use Rattle.phase_rows.specs.declared.phase.Seen.TheVariants as seens
+use Rattle.phase_rows.specs.declared.phase.Then.{Then}
+use Rattle.phase_rows.specs.declared.phase.Then.TheVariants as thens
+use Rattle.quorum_round.specs.Rounds.{state_of, begun, answered as heard_from}
+use Rattle.quorum_round.specs.declared.round.Round.{Round}
+use Rattle.quorum_round.specs.declared.round.RoundState.{RoundState}
+use Rattle.quorum_round.specs.declared.round.RoundState.TheVariants.{Open, Met, AllAnswered}
+use Rattle.register_model.specs.declared.note.Note.TheVariants.{Settled as Settles}
+use Rattle.view_change.specs.Changes.{row_24, row_25}
+use Rattle.view_change.specs.declared.finishing.Finishing.{Finishing}
+use Rattle.wire_frames.specs.declared.message.Message.{Message}
+use Rattle.wire_frames.specs.declared.message.Message.TheVariants as messages
+use Rattle.step_bounds.specs.Resting.{IsResting}
+
+-- ## Phases
+
+new_calm : IsCalm empty_table
+unfolding row_at
+new_calm k none = refl
+
+new_rests : (fact : Fact) (me : ℕ) (accepts : List Bool) → IsAtRest (new_leader fact me accepts)
+new_rests fact me accepts = record { task = refl; calm = new_calm }
+
+stopped_rests : (phase : Phase) → IsResting (stopped_leading phase)
+stopped_rests (phases.Leading l) = tt
+stopped_rests (phases.Following f) = tt
+stopped_rests (phases.Probing p) = tt
+stopped_rests (phases.Electing e) = tt
+
+pub left_rests : (leave : Bool) (x : State) → IsResting x.phase → IsResting (left leave x).phase
+left_rests true x rests = stopped_rests x.phase
+left_rests false x rests = rests
+
+given_up_rests : (e : Election) → IsResting (without_candidacy (phases.Electing e))
+given_up_rests (Starting new accepts age) = tt
+given_up_rests (Preparing base promises sent age) = tt
+
+pub untrusted_rests : (phase : Phase) → IsResting (without_candidacy (stopped_leading phase))
+untrusted_rests (phases.Leading l) = tt
+untrusted_rests (phases.Following f) = tt
+untrusted_rests (phases.Probing p) = tt
+untrusted_rests (phases.Electing e) = given_up_rests e
+
+pub turned_rests : (me : ℕ) (t : Then) (x : State) → IsResting x.phase → IsResting (turned me t x).phase
+turned_rests me thens.Stay x rests = rests
+turned_rests me thens.Follow x rests = tt
+turned_rests me (thens.Lead fact) x rests = new_rests _ _ _
+turned_rests me thens.Untrust x rests = untrusted_rests x.phase
+turned_rests me thens.Put x rests = rests
+turned_rests me thens.Resume x rests = rests
+turned_rests me (thens.SyncOn fact) x rests = rests
+turned_rests me (thens.Rule n) x rests = rests
+
+waiting_phase_rests : (phase : Phase) → IsResting phase → IsResting (waiting_phase phase)
+waiting_phase_rests (phases.Leading l) rests = rests
+waiting_phase_rests (phases.Following f) rests = tt
+waiting_phase_rests (phases.Probing p) rests = tt
+waiting_phase_rests (phases.Electing e) rests = tt
+
+waiting_rests : (t : Then) (x : State) → IsResting x.phase → IsResting (waiting_for t x).phase
+waiting_rests (thens.SyncOn fact) x rests = waiting_phase_rests x.phase rests
+waiting_rests thens.Resume x rests = waiting_phase_rests x.phase rests
+waiting_rests thens.Stay x rests = rests
+waiting_rests thens.Follow x rests = rests
+waiting_rests (thens.Lead fact) x rests = rests
+waiting_rests thens.Untrust x rests = rests
+waiting_rests thens.Put x rests = rests
+waiting_rests (thens.Rule n) x rests = rests
+
+-- the row leaves the peer at rest
+abbrev Rests : State × PhaseOut → Type 0
+Rests r = IsResting r.0.phase
+
+stood_rests : (election : Option Election) (x : State) → IsResting x.phase → IsResting (stood election x).phase
+stood_rests None x rests = rests
+stood_rests (Some e) x rests = tt
+
+finishing_rests : (f : Option Finishing) (l : Leadership) → IsAtRest l.leader → IsAtRest (finishing f l).leader
+finishing_rests None l rests = rests
+finishing_rests (Some f) l rests = rests
+
+begun_change_rests : (change : ChangeState) (l : Leadership) (fact : Fact) (me : ℕ) → IsAtRest l.leader → IsAtRest (begun_change change l fact me).0.leader
+begun_change_rests (Wanted change) l fact me rests = finishing_rests (row_25 fact me l.leader.accepts change).1 l rests
+begun_change_rests Settled l fact me rests = rests
+begun_change_rests (Finishes f) l fact me rests = rests
+
+pub phase_row_rests : (n me : ℕ) (x : State) → IsResting x.phase → IsResting (phase_row n me x).0.phase
+phase_row_rests n me x rests =
+    either Rests (n == 7) _ _ tt
+    (either Rests (n == 9) _ _ (by_probing Rests x.phase (λ p is. tt) rests)
+    (either Rests (n == 10) _ _ (by_probing Rests x.phase (λ p is. stood_rests (row_10 x.fact me p.best p.count).1 x rests) (by_leading Rests x.phase (λ l is. stood_rests (row_10 x.fact me x.fact x.fact.ballot.count).1 x rests) rests))
+    (either Rests (n == 13) _ _ (by_electing Rests x.phase (λ e is. tt) rests)
+    (either Rests (n == 14) _ _ (by_electing Rests x.phase (λ e is. tt) rests)
+    (either Rests (n == 25) _ _ (by_leading Rests x.phase (λ l is. begun_change_rests l.change l x.fact me (subst IsResting is rests)) rests)
+    (either Rests (n == 26) _ _ (by_leading Rests x.phase (λ l is. rests) rests) rests))))))
+
+accepted_rests : (from : ℕ) (l : Leader) → IsAtRest l → IsAtRest (accepted_by from l)
+accepted_rests from l rests = record { task = rests.task; calm = rests.calm }
+
+pub received_rests : (me from : ℕ) (message : Message) (x : State) → IsResting x.phase → IsResting (received me from message x).0.phase
+received_rests me from messages.Probe x rests = rests
+received_rests me from (messages.ProbeReply fact) x rests = by_probing Rests x.phase (λ p is. tt) rests
+received_rests me from (messages.Prepare ballot) x rests = rests
+received_rests me from (messages.Promise ballot fact) x rests = by_electing Rests x.phase (λ e is. tt) rests
+received_rests me from (messages.Nack ballot cause) x rests = by_electing Rests x.phase (λ e is. rests) (by_leading Rests x.phase (λ l is. rests) rests)
+received_rests me from (messages.NewEpoch fact) x rests = waiting_rests (row_16 x.fact me x.trusted (runs_sync x.sync) from fact).then x rests
+received_rests me from (messages.Accepted ballot seq) x rests =
+    by_electing Rests x.phase (λ e is. tt)
+    (by_leading Rests x.phase (λ l is. let led : IsAtRest l.leader = subst IsResting is rests in either IsAtRest (is_same ballot x.fact.ballot && seq == 1) (accepted_by from l.leader) l.leader (accepted_rests from l.leader led) led) rests)
+received_rests me from (messages.Commit fact) x rests = rests
+received_rests me from (messages.Beat ballot) x rests = rests
+received_rests me from (messages.Check ballot round) x rests = rests
+received_rests me from other x rests = rests
+
+aged_election_rests : (e : Election) (me : ℕ) (x : State) → IsResting (aged_election e me x).0.phase
+aged_election_rests (Preparing base promises sent age) me x = tt
+aged_election_rests (Starting new accepts age) me x = tt
+
+pub aged_rests : (phase : Phase) (me : ℕ) (x : State) → IsResting x.phase → IsResting (aged phase me x).0.phase
+aged_rests (phases.Following f) me x rests = tt
+aged_rests (phases.Probing p) me x rests = tt
+aged_rests (phases.Electing e) me x rests = aged_election_rests e me x
+aged_rests (phases.Leading l) me x rests = rests
+
+wanting_rests : (change : Change) (phase : Phase) (x : State) → IsResting phase → IsResting x.phase → IsResting (wanting change phase x).phase
+wanting_rests change (phases.Leading l) x led rests = led
+wanting_rests change (phases.Following f) x led rests = rests
+wanting_rests change (phases.Probing p) x led rests = rests
+wanting_rests change (phases.Electing e) x led rests = rests
+
+pub asked_rests : (view : List ℕ) (x : State) → IsResting x.phase → IsResting (asked_change view x).0.phase
+asked_rests view x rests = either (λ (y : State). IsResting y.phase) (row_24 x.fact (leads x.phase) (changes x.phase) view).1 _ _ (wanting_rests (Add view) x.phase x rests rests) rests
+
+-- ## What a rule of a leader asks the stores is about its key
+
+abbrev pub OwnOn : List ℕ → Option Own → Type 0
+OwnOn key None = Unit {0}
+OwnOn key (Some own) = own_key own ≡ key
+
+write_asks : (call : Option Waiting) (o : Object) (key : List ℕ) (out : LeadOut) (l : Leader) → out.own ≡ None → (write_settled call o key out l).1.own ≡ None
+write_asks None o key out l none = none
+write_asks (Some w) o key out l none = none
+
+settled_asks : (rewrite : Bool) (o : Object) (key : List ℕ) (out : LeadOut) (l : Leader) → out.own ≡ None → (settled_for rewrite o key out l).1.own ≡ None
+settled_asks true o key out l none = none
+settled_asks false o key out l none = write_asks (running key l.table.calls) o key out l none
+
+acknowledged_asks : (state : RoundState) (o : Object) (digest : List ℕ) (acks : Round) (rewrite : Bool) (key : List ℕ) (out : LeadOut) (l : Leader) → out.own ≡ None → (acknowledged state o digest acks rewrite key out l).1.own ≡ None
+acknowledged_asks Open o digest acks rewrite key out l none = none
+acknowledged_asks Met o digest acks rewrite key out l none = settled_asks rewrite o key (and_note (Settles key o.version) out) (knows key (settled_as o.version o digest) l) none
+acknowledged_asks AllAnswered o digest acks rewrite key out l none = settled_asks rewrite o key (and_note (Settles key o.version) out) (knows key (settled_as o.version o digest) l) none
+
+asks_none : (key : List ℕ) (own : Option Own) → own ≡ None → OwnOn key own
+asks_none key own none = subst (OwnOn key) (sym none) tt
+
+put_own : (key : List ℕ) (seen : Seen) (o : Object) (parent : Option Version) (call : Option ℕ) (l : Leader) → o.key ≡ key → OwnOn key (put_seen seen o parent call key l).1.own
+put_own key seens.Nothing o parent call l same = same
+put_own key (seens.Damaged at) o parent call l same = tt
+put_own key (seens.Stored digest) o parent call l same = asks_none key _ (acknowledged_asks (state_of (begun l.fact.views l.me)) o digest (begun l.fact.views l.me) _ key _ l refl)
+put_own key (seens.Held entry object) o parent call l same = tt
+put_own key (seens.Kept object) o parent call l same = tt
+
+task_own : (key : List ℕ) (seen : Seen) (l m : Leader) (task : Pending) → Fits 35 key l task → OwnOn key (put_for task seen key m).1.own
+task_own key seen l m (pendings.Propose o parent call) (n, runs, same, version) = put_own key seen o parent call m same
+task_own key seen l m pendings.Nothing fits = tt
+task_own key seen l m (pendings.Write content parent) fits = tt
+task_own key seen l m (pendings.Rewrite o) fits = tt
+task_own key seen l m (pendings.Check reply) fits = tt
+task_own key seen l m (pendings.Apply current) fits = tt
+
+row_35_own : (key : List ℕ) (seen : Seen) (l : Leader) → IsReady 35 key l → OwnOn key (row_35 key seen l).1.own
+row_35_own key seen l ready = task_own key seen l (with_task pendings.Nothing l) l.task ready
+
+pub lead_own : (n : ℕ) (key : List ℕ) (seen : Seen) (l : Leader) → IsReady n key l → OwnOn key (lead_row n key seen l).1.own
+lead_own n key seen l ready = by (lead_row n key seen l).1.own refl (lead_step n key seen l).asks
+  where
+    put : n ≡ 35 → OwnOn key (lead_row n key seen l).1.own
+    put is = subst (λ (m : ℕ). IsReady m key l → OwnOn key (lead_row m key seen l).1.own) (sym is) (row_35_own key seen l) ready
+
+    by : (own : Option Own) → (lead_row n key seen l).1.own ≡ own → AsksOn n key own → OwnOn key own
+    by None is asks = tt
+    by (Some (owns.Look k)) is asks = asks.0
+    by (Some (owns.Put o)) is asks = subst (OwnOn key) is (put asks)
+
+-- a rule that puts nothing
+pub look_own : (n : ℕ) (key : List ℕ) (own : Option Own) → (n ≡ 35 → ⊥) → AsksOn n key own → OwnOn key own
+look_own n key None other asks = tt
+look_own n key (Some (owns.Look k)) other asks = asks.0
+look_own n key (Some (owns.Put o)) other asks = absurd (other asks)
+
+stage_own : (key : List ℕ) (stage : Stage) (from : ℕ) (ballot : Epoch) (version : Version) (l : Leader) → (acknowledged_by stage from ballot version key l).1.own ≡ None
+stage_own key (stages.Putting o digest acks rewrite) from ballot version l =
+    either (λ (r : Leader × LeadOut). r.1.own ≡ None) (is_same ballot l.fact.epoch && same_version version o.version) _ _ (acknowledged_asks (state_of (heard_from from acks)) o digest (heard_from from acks) rewrite key no_out l refl) refl
+stage_own key stages.Idle from ballot version l = refl
+stage_own key (stages.Reading round votes best) from ballot version l = refl
+stage_own key (stages.Checking round votes reply) from ballot version l = refl
+
+pub reply_own : (from : ℕ) (ballot : Epoch) (key : List ℕ) (version : Version) (l : Leader) → OwnOn key (row_35_reply from ballot key version l).1.own
+reply_own from ballot key version l = asks_none key _ (stage_own key (row_at key l.table.rows).stage from ballot version l)
