@@ -24,6 +24,7 @@ pub fn entries_fit(entry: &Entry)
     digest_fits(entry.digest);
 }
 
+/// A key has 1 to 64 bytes.
 fn key_fits(key: &Key)
     ensures { IsKey key.now }
 {
@@ -31,12 +32,14 @@ fn key_fits(key: &Key)
     bytes_fit(bytes);
 }
 
+/// Each number of a slice of bytes is a byte.
 fn bytes_fit(bytes: &[u8])
     ensures { IsBytes bytes.now }
 {
     let _size = bytes.len();
 }
 
+/// Each number of a version fits its width.
 fn version_fits(version: Version)
     ensures { IsVersion version }
 {
@@ -45,16 +48,17 @@ fn version_fits(version: Version)
     let _seq = version.seq;
 }
 
+/// A digest has 16 bytes.
 fn digest_fits(digest: Digest)
     ensures { IsRun 16 digest }
 {
     let Digest(_bytes) = digest;
 }
 
-/// Inserts the entry into the map of the tree, as `Tree::insert` does. If a map stands under the old
-/// top record, the map with the entry, if it has fewer than 2^32 entries, stands under the new one,
-/// whatever the entry is, unless a string that was hashed has the digest of a different node of the
-/// old map. The top record of the store is as `LeavesTop` says.
+/// Calls `Tree::insert`. If a map stands under the old top record, the map with the entry, if it has
+/// fewer than 2^32 entries, stands under the new one, whatever the entry is, unless a string that was
+/// hashed has the digest of a different node of the old map. `LeavesTop` says what the store's top
+/// record is after each result.
 pub fn insert<N: NodeStore, H: Hasher16>(
     tree: &mut Tree<N>,
     alloc: Global,
