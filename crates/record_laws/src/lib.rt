@@ -1,0 +1,2 @@
+//! Laws that join the record of a run to its replay.
+#![tactic(auto)]
