@@ -1,2 +1,5 @@
 pub mod Again
 pub mod Told
+pub mod Replied
+pub mod Printing
+pub mod Keys

@@ -54,6 +54,5 @@ module _ (g : Lines) (o t : Objects) (stay : VersionsStay o t) where
       at : (b d f : ℕ) → b ≡ f → d ≡ f → d ≤ b
       at b d f e h = omega arith
 
-
   pub give_stays : (q d : ℕ) (flag : Bool) (shown : Map) → GiveSays g o q d flag shown → GiveSays g t q d flag shown
   give_stays q d flag shown a = record { reached = le_trans a.reached (stay.ledger.ballot q); genuine = λ k. genuine_stays o t stay d k (shown k) (a.genuine k); given = λ sure k. le_trans (stay.floors q d k a.reached) (a.given sure k) }
