@@ -1,6 +1,7 @@
 -- A schedule, the line `answers`, lines that may follow each other, and the histories, are read as a record.
 use Rattle.std.proofs.Common.{◌≡◌, ℕ, ◌+◌, ◌<◌, ◌≤◌, ◌==◌, nat_lt, Bool, true, false, if◌then◌else◌, List, [], ◌∷◌, ◌++◌, length, codes, map, Option, Some, None, Result, Ok, Err, refl, sym, ap, subst, ◌∙◌, inl, inr, arith, lit≤, append_assoc, append-nil}
 use Rattle.std.proofs.lemmas.Bool.Decides.{nat_tests}
+use Rattle.call_refinement.specs.Lines.{answers_in}
 use Rattle.std.proofs.lemmas.List.Concat.{flat_map-append}
 use Rattle.std.specs.Fmt.{decimal}
 use Rattle.std.specs.List.{AllByRecursion, flat_map, join_with_byte, list_any}
@@ -32,12 +33,6 @@ use Rattle.schedule_text.specs.declared.error.ScheduleError.TheVariants.{Bad, Li
 use Rattle.schedule_text.specs.declared.event.ScheduleEvent.{ScheduleEvent}
 use Rattle.schedule_text.specs.declared.schedule.Schedule.{Schedule}
 use Rattle.record_laws.proofs.Again.{HistoryFits, LineFits, answer_heard, change_heard, history_heard, history_one, history_spelled, history_text, line_one, line_spelled, line_text}
-
--- the answers among what was printed
-abbrev pub answers_in : List Printed → List Answer
-answers_in [] = []
-answers_in (lines.Answer a ∷ more) = a ∷ answers_in more
-answers_in (lines.Change event peer taken ∷ more) = answers_in more
 
 -- ## Lines that may follow each other
 
