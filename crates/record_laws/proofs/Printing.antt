@@ -9,6 +9,7 @@ use Rattle.held_stores.specs.Laws.{held_with}
 use Rattle.leader_words.specs.declared.out.AnswerOut.{AnswerOut}
 use Rattle.network.specs.Mail.{settled, goes, is_among, oldest, most_messages}
 use Rattle.peer_plan.specs.Drives.{step_of}
+use Rattle.peer_plan.specs.Kept.{IsStepCall, Reaches}
 use Rattle.peer_state.specs.declared.event.Event.{Event}
 use Rattle.peer_state.specs.declared.event.Event.TheVariants as events
 use Rattle.peer_state.specs.declared.state.State.{State}
@@ -17,7 +18,7 @@ use Rattle.register_model.specs.declared.printed.Printed.{Printed}
 use Rattle.register_model.specs.declared.printed.Printed.TheVariants as lines
 use Rattle.schedule_text.specs.declared.event.ScheduleEvent.{ScheduleEvent}
 use Rattle.schedule_text.specs.declared.event.ScheduleEvent.TheVariants.{Call, Tick, Deliver, Pass, Lose, Calm, CalmAmong, Change, Stop, Start, Spoil, Damage, Inner, Revert, Fail}
-use Rattle.step_plans.specs.Plans.{Out, Ending, Finished, Stopped}
+use Rattle.step_plans.specs.Plans.{Plan, Done, Say, Ask, Out, Ending, Finished, Follows, Stopped}
 use Rattle.wire_frames.specs.declared.frame.Frame.{Frame}
 use Rattle.world_spec.proofs.Ending.{EndsIn, run_reaches}
 use Rattle.world_spec.specs.Lines.{call_of, everyone, set_of, with_damage, effect, applied, keys_in, run_from}
@@ -56,8 +57,13 @@ taken_replies : (me : ℕ) (event : Event) (node : Node) → ((taken me event no
 taken_replies me event (Down s) = inl refl
 taken_replies me event (Up x s) =
     let e = run_over (step_of me event x) s in
-    by e.ending e.held e.notes (run_reaches (λ y o. HasReplies event o.changes) (step_of me event x) (held_with s []) [] (step_replies me event x))
+    by e.ending e.held e.notes (run_reaches (λ y o. HasReplies event o.changes) (step_of me event x) (held_with s []) [] (reaches (step_of me event x) (step_replies me event x)))
   where
+    reaches : (plan : Plan State) → Follows IsStepCall (λ y o. HasReplies event o.changes) plan → Reaches (λ y o. HasReplies event o.changes) plan
+    reaches (Done y o) replies = replies
+    reaches (Say n plan) replies = reaches plan replies
+    reaches (Ask call next) replies = λ a sound. reaches (next a) (replies.1 a)
+
     by : (k : Ending State) (h : Held) (ns : List Note) → EndsIn (λ y o. HasReplies event o.changes) k → ((taken_by k h ns).out.changes ≡ []) ⊎ HasReplies event (taken_by k h ns).out.changes
     by (Finished y o) h ns replies = inr replies
     by (Stopped error) h ns replies = inl refl

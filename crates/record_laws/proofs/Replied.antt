@@ -1,15 +1,12 @@
 -- A step of a peer replies to the request for a change of view that it is on, and to nothing else.
-use Rattle.std.proofs.Common.{◌≡◌, ℕ, zero, suc, Bool, true, false, ◌==◌, if◌then◌else◌, List, [], ◌∷◌, ◌++◌, Option, Some, None, refl, ap, ◌∙◌}
+use Rattle.std.proofs.Common.{◌≡◌, ℕ, zero, suc, Bool, true, false, ◌==◌, List, [], ◌∷◌, ◌++◌, Option, Some, None, refl, ◌∙◌}
 use Rattle.election.specs.declared.election.Election.{Election}
 use Rattle.election.specs.declared.election.Election.TheVariants.{Preparing, Starting}
-use Rattle.ens_base.specs.declared.entry.Entry.{Entry}
 use Rattle.ens_base.specs.declared.epoch.Epoch.{Epoch}
-use Rattle.ens_object.specs.Objects.{object_spelling}
 use Rattle.ens_object.specs.declared.object.Object.{Object}
 use Rattle.exchange.specs.declared.question.Question.{Question}
 use Rattle.following.specs.Refusals.{is_served}
 use Rattle.following.specs.Requests.{row_21, row_22, row_23}
-use Rattle.kept_objects.specs.Kept.{entry_of, matching, object_in}
 use Rattle.leader_words.specs.declared.out.LeadOut.{LeadOut}
 use Rattle.leader_words.specs.declared.out.Outgoing.{Outgoing}
 use Rattle.leader_words.specs.declared.out.Own.{Own}
@@ -20,10 +17,11 @@ use Rattle.leading.specs.Rules.{lead_row}
 use Rattle.leading.specs.Starts.{row_27}
 use Rattle.leading.specs.declared.leader.Leader.{Leader}
 use Rattle.peer_fact.specs.declared.fact.Fact.{Fact}
-use Rattle.peer_plan.specs.Drives.{row_done, owned, own_key, followed_up, and_row, lead_done, lead, reminded, task_done, driven, led_in, ticked, shown, after_put, put_done, delivered, unavailable, first, and_change, most_turns, responded, concluded, step_of}
-use Rattle.peer_plan.specs.Kept.{Reaches}
-use Rattle.peer_plan.specs.Owns.{digested, read, kept, fetched, held, looked_at, looked, found_at, found, entered, written, confirmed}
-use Rattle.peer_plan.specs.Syncs.{saved, and_sends, with_sync, installed, accepted, accepted_own, accepted_in, synced, ended_with, gone_on, resumed_sync, followed_on, reached, own_node, body_of, shown_node, needs_node, taken_give}
+use Rattle.peer_plan.specs.Drives.{row_done, own_key, followed_up, and_row, lead_done, lead, reminded, task_done, driven, led_in, ticked, after_put, put_done, delivered, unavailable, and_change, most_turns, concluded, step_of}
+use Rattle.peer_plan.proofs.Aging.{asked_asks, confirmed_asks, found_asks, if_follows, installed_asks, looked_asks, noted_follows, own_node_asks, owned_asks, shown_asks, shown_node_asks, written_asks}
+use Rattle.peer_plan.specs.Kept.{IsStepCall}
+use Rattle.peer_plan.specs.Owns.{looked, found}
+use Rattle.peer_plan.specs.Syncs.{saved, and_sends, with_sync, accepted, accepted_own, accepted_in, ended_with, gone_on, resumed_sync, followed_on, needs_node, taken_give}
 use Rattle.peer_state.specs.Leading.{ticks, row_5_calls, wished, begins}
 use Rattle.peer_state.specs.Moves.{left, left_answers, turned, turned_answers, ends_leading, leading, with_leader, and_answers, electing, without_sync}
 use Rattle.peer_state.specs.Rows.{aged, phase_row, received, asked_change, leads, changes}
@@ -39,115 +37,35 @@ use Rattle.phase_rows.specs.declared.phase.Seen.{Seen}
 use Rattle.phase_rows.specs.declared.phase.Seen.TheVariants as seens
 use Rattle.phase_rows.specs.declared.phase.Then.{Then}
 use Rattle.phase_rows.specs.declared.phase.Then.TheVariants as thens
-use Rattle.register_model.specs.declared.note.Note.{Note}
 use Rattle.running_sync.specs.Rows.{row_start, row_resume, row_take}
 use Rattle.running_sync.specs.Running.{Running}
 use Rattle.running_sync.specs.declared.asking.Give.{Give}
-use Rattle.step_plans.specs.Calls.{Call, Save, Find, Enter, ScanTree, ReadNode, Install, Fetch, Put, Hash, AnswerOf}
-use Rattle.step_plans.specs.Plans.{Plan, Done, Out, nothing, Rest, Part, asked, noted}
+use Rattle.step_plans.specs.Calls.{Save, ScanTree}
+use Rattle.step_plans.specs.Plans.{Done, Out, Follows, nothing, Rest, Part}
 use Rattle.step_plans.specs.Sends.{posted_to}
 use Rattle.step_plans.specs.Tasks.{named, keyed}
 use Rattle.step_plans.specs.declared.tasks.Task.{Task}
 use Rattle.step_plans.specs.declared.tasks.Task.TheVariants as tasks
-use Rattle.step_plans.specs.declared.walked.Walked.{Walked}
-use Rattle.step_plans.specs.declared.walked.Walked.TheVariants.{Reached, Broken}
 use Rattle.sync_rule.specs.Syncs.{needs_build, outcome_of}
 use Rattle.sync_rule.specs.declared.sync.Outcome.{Outcome}
 use Rattle.sync_rule.specs.declared.sync.Outcome.TheVariants.{Pending, Trusted}
-use Rattle.tree_node.specs.declared.position.Position.{Position}
 use Rattle.wire_frames.specs.declared.message.Message.{Message}
 use Rattle.wire_frames.specs.declared.message.Message.TheVariants as messages
 
 module _ (me : ℕ) (P : State → Out → Type 0) (replies : List Bool) where
   -- what follows the part, from an output with these replies
   abbrev Goes : {A : Type 0} → Rest State A → Type 0
-  Goes {A} next = (v : A) (y : State) (o : Out) → o.changes ≡ replies → Reaches P (next v y o)
+  Goes {A} next = (v : A) (y : State) (o : Out) → o.changes ≡ replies → Follows IsStepCall P (next v y o)
 
   -- the part replies to no request
   abbrev Passes : {A : Type 0} → Part State A → Type 0
-  Passes {A} part = (x : State) (out : Out) (next : Rest State A) → out.changes ≡ replies → Goes next → Reaches P (part x out next)
-
-  either : (t : Bool) (p q : Plan State) → Reaches P p → Reaches P q → Reaches P (if t then p else q)
-  either true p q first second = first
-  either false p q first second = second
-
-  asked_passes : (call : Call) → Passes (asked call)
-  unfolding asked
-  asked_passes call x out next is go = λ a sound. go a x out is
-
-  read_passes : (bytes : Option (List ℕ)) → Passes (read bytes)
-  read_passes None x out next is go = go None x out is
-  read_passes (Some bytes) x out next is go = digested_passes (object_in bytes) x out next is go
-    where
-      digested_passes : (object : Option Object) → Passes (digested object bytes)
-      digested_passes None x out next is go = go None x out is
-      digested_passes (Some o) x out next is go = asked_passes (Hash bytes) x out (λ digest y p. next (Some (o, digest)) y p) is (λ digest y p same. go (Some (o, digest)) y p same)
-
-  kept_passes : (key : List ℕ) → Passes (kept key)
-  kept_passes key x out next is go = asked_passes (Fetch key) x out (λ bytes y p. read bytes y p next) is (λ bytes y p same. read_passes bytes y p next same go)
-
-  fetched_passes : (key : List ℕ) → Passes (fetched key)
-  fetched_passes key x out next is go = kept_passes key x out (λ o y p. next (seens.Kept o) y p) is (λ o y p same. go (seens.Kept o) y p same)
-
-  held_passes : (key : List ℕ) (entry : Option Entry) → Passes (held key entry)
-  held_passes key None x out next is go = go (seens.Held None None) x out is
-  held_passes key (Some entry) x out next is go = kept_passes key x out (λ o y p. next (seens.Held (Some entry) (matching entry o)) y p) is (λ o y p same. go (seens.Held (Some entry) (matching entry o)) y p same)
-
-  looked_at_passes : (key : List ℕ) (end : Walked (Option Entry)) → Passes (looked_at key end)
-  looked_at_passes key (Broken at) x out next is go = go (seens.Damaged at) x out is
-  looked_at_passes key (Reached entry) x out next is go = held_passes key entry x out next is go
-
-  looked_passes : (key : List ℕ) → Passes (looked key)
-  looked_passes key x out next is go = asked_passes (Find key) x out (λ end y p. looked_at key end y p next) is (λ end y p same. looked_at_passes key end y p next same go)
-
-  found_passes : (key : List ℕ) → Passes (found key)
-  found_passes key x out next is go = asked_passes (Find key) x out (λ end y p. next (found_at end) y p) is (λ end y p same. go (found_at end) y p same)
-
-  entered_passes : (o : Object) (bytes digest : List ℕ) (end : Walked (Unit {0})) → Passes (entered o bytes digest end)
-  entered_passes o bytes digest (Broken at) x out next is go = go (seens.Damaged at) x out is
-  entered_passes o bytes digest (Reached u) x out next is go = asked_passes (Put o.key bytes) x out (λ v y p. next (seens.Stored digest) y p) is (λ v y p same. go (seens.Stored digest) y p same)
-
-  written_passes : (o : Object) → Passes (written o)
-  written_passes o x out next is go =
-      let bytes = object_spelling o in
-      asked_passes (Hash bytes) x out (λ digest y p. asked (Enter (entry_of o digest)) y p (λ end z q. entered o bytes digest end z q next)) is
-      (λ digest y p same. asked_passes (Enter (entry_of o digest)) y p (λ end z q. entered o bytes digest end z q next) same (λ end z q alike. entered_passes o bytes digest end z q next alike go))
-
-  confirmed_passes : (entry : Option Entry) (object : Option Object) → Passes (confirmed entry object)
-  confirmed_passes None object x out next is go = go None x out is
-  confirmed_passes (Some entry) None x out next is go = go None x out is
-  confirmed_passes (Some entry) (Some o) x out next is go =
-      asked_passes (Hash (object_spelling o)) x out (λ digest y p. next (matching entry (Some (o, digest))) y p) is (λ digest y p same. go (matching entry (Some (o, digest))) y p same)
-
-  owned_passes : (n : ℕ) (own : Own) → Passes (owned n own)
-  owned_passes n (owns.Look key) x out next is go = either (n == 28) _ _ (fetched_passes key x out next is go) (looked_passes key x out next is go)
-  owned_passes n (owns.Put o) x out next is go = written_passes o x out next is go
-
-  noted_reaches : (notes : List Note) (p : Plan State) → Reaches P p → Reaches P (noted notes p)
-  noted_reaches [] p reaches = reaches
-  noted_reaches (n ∷ notes) p reaches = noted_reaches notes p reaches
-
-  shown_passes : (served : Bool) (part : Part State Seen) → Passes part → Passes (shown served part)
-  shown_passes true part passes x out next is go = passes x out next is go
-  shown_passes false part passes x out next is go = go seens.Nothing x out is
+  Passes {A} part = (x : State) (out : Out) (next : Rest State A) → out.changes ≡ replies → Goes next → Follows IsStepCall P (part x out next)
 
   saved_passes : (save : Option Fact) → Passes (saved save)
   saved_passes None x out next is go = go tt x out is
-  saved_passes (Some fact) x out next is go = asked_passes (Save fact) x out (λ u y o. next tt (record y { fact = fact }) o) is (λ u y o same. go tt (record y { fact = fact }) o same)
+  saved_passes (Some fact) x out next is go = asked_asks P (Save fact) tt x out (λ u y o. next tt (record y { fact = fact }) o) (λ u. go tt (record x { fact = fact }) out is)
 
   -- ## Syncs
-
-  installed_passes : (needed : Bool) (entries : List Entry) → Passes (installed needed entries)
-  installed_passes true entries x out next is go = asked_passes (Install entries) x out next is go
-  installed_passes false entries x out next is go = go tt x out is
-
-  own_node_passes : (needed : Bool) (at : Position) → Passes (own_node needed at)
-  own_node_passes true at x out next is go = asked_passes (ReadNode at) x out (λ walked y o. next (reached walked) y o) is (λ walked y o same. go (reached walked) y o same)
-  own_node_passes false at x out next is go = go None x out is
-
-  shown_node_passes : (answered : Bool) (q : Question) → Passes (shown_node answered q)
-  shown_node_passes true q x out next is go = asked_passes (ReadNode q.position) x out (λ walked y o. next (Some (body_of q walked)) y o) is (λ walked y o same. go (Some (body_of q walked)) y o same)
-  shown_node_passes false q x out next is go = go None x out is
 
   accepted_own_passes : (e : Election) → Passes (accepted_own me e)
   accepted_own_passes (Starting new accepts age) x out next is go = go (tasks.Phase 14 ∷ []) (electing (Starting new (joined me accepts) age) x) out is
@@ -162,9 +80,9 @@ module _ (me : ℕ) (P : State → Out → Type 0) (replies : List Bool) where
   ended_with_passes : (r : Running) (outcome : Outcome) → Passes (ended_with me r outcome)
   ended_with_passes r Pending x out next is go = go [] (with_sync r x) out is
   ended_with_passes r (Trusted entries) x out next is go =
-      installed_passes (needs_build r.sync.scan entries) entries (without_sync x) out
-      (λ u y o. saved (Some r.fact) y o (λ v z p. accepted_in me r.fact z.phase (record z { trusted = true }) p next)) is
-      (λ u y o same. saved_passes (Some r.fact) y o (λ v z p. accepted_in me r.fact z.phase (record z { trusted = true }) p next) same
+      installed_asks P (needs_build r.sync.scan entries) entries (without_sync x) out
+      (λ u y o. saved (Some r.fact) y o (λ v z p. accepted_in me r.fact z.phase (record z { trusted = true }) p next))
+      (λ u. saved_passes (Some r.fact) (without_sync x) out (λ v z p. accepted_in me r.fact z.phase (record z { trusted = true }) p next) is
       (λ v z p alike. accepted_in_passes r.fact z.phase (record z { trusted = true }) p next alike go))
 
   gone_on_passes : (r : Running × List Outgoing) → Passes (gone_on me r)
@@ -176,7 +94,7 @@ module _ (me : ℕ) (P : State → Out → Type 0) (replies : List Bool) where
 
   followed_on_passes : (t : Then) → Passes (followed_on me t)
   followed_on_passes (thens.SyncOn fact) x out next is go =
-      asked_passes ScanTree x out (λ scan y o. gone_on me (row_start fact me y.trusted scan) y o next) is (λ scan y o same. gone_on_passes (row_start fact me y.trusted scan) y o next same go)
+      asked_asks P ScanTree tt x out (λ scan y o. gone_on me (row_start fact me y.trusted scan) y o next) (λ scan. gone_on_passes (row_start fact me x.trusted scan) x out next is go)
   followed_on_passes thens.Resume x out next is go = resumed_passes x.sync x out next is go
   followed_on_passes (thens.Rule n) x out next is go = go (named (thens.Rule n)) x out is
   followed_on_passes thens.Stay x out next is go = go [] x out is
@@ -204,11 +122,11 @@ module _ (me : ℕ) (P : State → Out → Type 0) (replies : List Bool) where
   followed_up_passes : (n : ℕ) (own : Option Own) (turn : Then) (keys : List (List ℕ)) → Passes (followed_up me n own turn keys)
   followed_up_passes n None turn keys x out next is go = go (keyed turn keys) (turned me turn x) (turned_answers turn x out) (left_same (ends_leading turn) x out is)
   followed_up_passes n (Some own) turn keys x out next is go =
-      owned_passes n own x out (λ seen y o. next (tasks.Again n (own_key own) seen ∷ []) y o) is (λ seen y o same. go (tasks.Again n (own_key own) seen ∷ []) y o same)
+      owned_asks P n own x out (λ seen y o. next (tasks.Again n (own_key own) seen ∷ []) y o) (λ seen. go (tasks.Again n (own_key own) seen ∷ []) x out is)
 
   lead_done_passes : (n : ℕ) (row : LeadOut) → Passes (lead_done me n row)
   lead_done_passes n row x out next is go =
-      noted_reaches row.notes (followed_up me n row.own row.then row.keys (left row.leave x) (and_row row x out) next)
+      noted_follows P row.notes (followed_up me n row.own row.then row.keys (left row.leave x) (and_row row x out) next)
       (followed_up_passes n row.own row.then row.keys (left row.leave x) (and_row row x out) next (left_same row.leave x out is) go)
 
   lead_passes : (row : Leader → Leader × LeadOut) (n : ℕ) (phase : Phase) → Passes (lead row me n phase)
@@ -225,7 +143,7 @@ module _ (me : ℕ) (P : State → Out → Type 0) (replies : List Bool) where
   reminded_passes (phases.Electing e) x out next is go = go [] x out is
 
   task_done_passes : (t : Task) → Passes (task_done me t)
-  task_done_passes (tasks.Phase n) x out next is go = either (n == 5) _ _ (reminded_passes x.phase x out next is go) (row_done_passes (phase_row n me x).1 (phase_row n me x).0 out next is go)
+  task_done_passes (tasks.Phase n) x out next is go = if_follows P (n == 5) _ _ (reminded_passes x.phase x out next is go) (row_done_passes (phase_row n me x).1 (phase_row n me x).0 out next is go)
   task_done_passes (tasks.Key n key) x out next is go = lead_passes (lead_row n key seens.Nothing) n x.phase x out next is go
   task_done_passes (tasks.Again n key seen) x out next is go = lead_passes (lead_row n key seen) n x.phase x out next is go
 
@@ -238,7 +156,7 @@ module _ (me : ℕ) (P : State → Out → Type 0) (replies : List Bool) where
   -- ## Events
 
   ticked_passes : (phase : Phase) → Passes (ticked me phase)
-  ticked_passes phase x out next is go = either (leads phase) _ _ (led_in_passes phase x out next is go) (row_done_passes (aged phase me x).1 (aged phase me x).0 out next is go)
+  ticked_passes phase x out next is go = if_follows P (leads phase) _ _ (led_in_passes phase x out next is go) (row_done_passes (aged phase me x).1 (aged phase me x).0 out next is go)
     where
       led_in_passes : (phase : Phase) → Passes (led_in me phase)
       led_in_passes (phases.Leading l) x out next is go =
@@ -249,7 +167,7 @@ module _ (me : ℕ) (P : State → Out → Type 0) (replies : List Bool) where
 
   put_done_passes : (turn : Then) (from : ℕ) (ballot : Epoch) (o : Object) (row : PhaseOut) → Passes (put_done turn me from ballot o row)
   put_done_passes thens.Put from ballot o row x out next is go =
-      written_passes o x out (λ seen y p. row_done me (after_put from ballot row seen) y p next) is (λ seen y p same. row_done_passes (after_put from ballot row seen) y p next same go)
+      written_asks P o x out (λ seen y p. row_done me (after_put from ballot row seen) y p next) (λ seen. row_done_passes (after_put from ballot row seen) x out next is go)
   put_done_passes thens.Stay from ballot o row x out next is go = row_done_passes row x out next is go
   put_done_passes thens.Follow from ballot o row x out next is go = row_done_passes row x out next is go
   put_done_passes (thens.Lead fact) from ballot o row x out next is go = row_done_passes row x out next is go
@@ -260,27 +178,27 @@ module _ (me : ℕ) (P : State → Out → Type 0) (replies : List Bool) where
 
   delivered_passes : (from : ℕ) (message : Message) → Passes (delivered me from message)
   delivered_passes from (messages.Get ballot round key) x out next is go =
-      shown_passes (is_served x.fact x.trusted ballot) (looked key) (looked_passes key) x out (λ seen y o. row_done me (row_21 y.fact y.trusted from ballot round key seen) y o next) is
-      (λ seen y o same. row_done_passes (row_21 y.fact y.trusted from ballot round key seen) y o next same go)
+      shown_asks P (is_served x.fact x.trusted ballot) (looked key) (looked_asks P key) x out (λ seen y o. row_done me (row_21 y.fact y.trusted from ballot round key seen) y o next)
+      (λ seen. row_done_passes (row_21 x.fact x.trusted from ballot round key seen) x out next is go)
   delivered_passes from (messages.Put ballot o) x out next is go =
-      shown_passes (is_served x.fact x.trusted ballot) (found o.key) (found_passes o.key) x out
-      (λ seen y p. put_done (row_22 y.fact y.trusted from ballot o seen).then me from ballot o (row_22 y.fact y.trusted from ballot o seen) y p next) is
-      (λ seen y p same. put_done_passes (row_22 y.fact y.trusted from ballot o seen).then from ballot o (row_22 y.fact y.trusted from ballot o seen) y p next same go)
+      shown_asks P (is_served x.fact x.trusted ballot) (found o.key) (found_asks P o.key) x out
+      (λ seen y p. put_done (row_22 y.fact y.trusted from ballot o seen).then me from ballot o (row_22 y.fact y.trusted from ballot o seen) y p next)
+      (λ seen. put_done_passes (row_22 x.fact x.trusted from ballot o seen).then from ballot o (row_22 x.fact x.trusted from ballot o seen) x out next is go)
   delivered_passes from (messages.GetReply ballot round key entry object) x out next is go =
-      either (leads x.phase) _ _
-      (confirmed_passes entry object x out (λ named y o. lead (row_29_reply from ballot round key entry named) me 29 y.phase y o next) is
-      (λ named y o same. lead_passes (row_29_reply from ballot round key entry named) 29 y.phase y o next same go))
+      if_follows P (leads x.phase) _ _
+      (confirmed_asks P entry object x out (λ named y o. lead (row_29_reply from ballot round key entry named) me 29 y.phase y o next)
+      (λ named. lead_passes (row_29_reply from ballot round key entry named) 29 x.phase x out next is go))
       (go [] x out is)
   delivered_passes from (messages.PutReply ballot key version) x out next is go = lead_passes (row_35_reply from ballot key version) 35 x.phase x out next is go
   delivered_passes from (messages.CheckReply ballot round) x out next is go = lead_passes (row_33_reply from ballot round) 33 x.phase x out next is go
   delivered_passes from (messages.TreeAsk ballot at after) x out next is go =
       let q : Question = record { position = at; after = after } in
-      shown_node_passes (is_same ballot x.fact.ballot) q x out (λ body y o. row_done me (row_23 y.fact y.trusted from ballot q.position q.after body) y o next) is
-      (λ body y o same. row_done_passes (row_23 y.fact y.trusted from ballot at after body) y o next same go)
+      shown_node_asks P (is_same ballot x.fact.ballot) q x out (λ body y o. row_done me (row_23 y.fact y.trusted from ballot q.position q.after body) y o next)
+      (λ body. row_done_passes (row_23 x.fact x.trusted from ballot at after body) x out next is go)
   delivered_passes from (messages.TreeGive ballot at after trusted body) x out next is go =
       let give : Give = record { ballot = ballot; question = record { position = at; after = after }; trusted = trusted; body = body } in
-      own_node_passes (needs_node from give x.sync) at x out (λ own y o. taken_give me from give own y.sync y o next) is
-      (λ own y o same. taken_give_passes from give own y.sync y o next same go)
+      own_node_asks P (needs_node from give x.sync) at x out (λ own y o. taken_give me from give own y.sync y o next)
+      (λ own. taken_give_passes from give own x.sync x out next is go)
   delivered_passes from message x out next is go = row_done_passes (received me from message x).1 (received me from message x).0 out next is go
 
   -- what follows a row, until no task is left
@@ -313,12 +231,12 @@ module _ (me : ℕ) (event : Event) where
       has_same events.Tick a b same has = same ∙ has
       has_same (events.Call call) a b same has = same ∙ has
 
-pub step_replies : (me : ℕ) (event : Event) (x : State) → Reaches (λ y o. HasReplies event o.changes) (step_of me event x)
+pub step_replies : (me : ℕ) (event : Event) (x : State) → Follows IsStepCall (λ y o. HasReplies event o.changes) (step_of me event x)
 step_replies me (events.Deliver from message) x = delivered_passes me (Replied me (events.Deliver from message)) [] from message x nothing _ refl (ends me (events.Deliver from message) [] refl)
 step_replies me events.Tick x = ticked_passes me (Replied me events.Tick) [] x.phase x nothing _ refl (ends me events.Tick [] refl)
 step_replies me (events.Call call) x =
     let go = ends me (events.Call call) [] refl in
-    either me (Replied me (events.Call call)) [] (leads x.phase) _ _
+    if_follows (Replied me (events.Call call)) (leads x.phase) _ _
     (lead_passes me (Replied me (events.Call call)) [] (row_27 call.from call.id call.key call.command (changes x.phase)) 27 x.phase x nothing _ refl go) (go [] x (and_answers nothing (unavailable call ∷ [])) refl)
 step_replies me (events.Change view) x =
     row_done_passes me (Replied me (events.Change view)) ((asked_change view x).1.1 ∷ []) (asked_change view x).1.0 (asked_change view x).0 (and_change nothing (asked_change view x).1.1) _ refl
