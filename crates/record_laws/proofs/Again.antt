@@ -1,5 +1,5 @@
 -- The lines that a run prints, and those of its histories, are read as what they say.
-use Rattle.std.proofs.Common.{◌≡◌, ℕ, ◌+◌, ◌*◌, ◌-◌, ◌<◌, ◌≤◌, ◌^◌, ◌==◌, not, nat_lt, nat_le, Bool, true, false, List, [], ◌∷◌, ◌++◌, length, codes, map, Option, Some, Ok, refl, sym, ap, ◌∙◌, arith, lit<, lit≤, append_assoc}
+use Rattle.std.proofs.Common.{◌≡◌, ℕ, ◌+◌, ◌*◌, ◌-◌, ◌<◌, ◌≤◌, ◌^◌, nat_lt, nat_le, Bool, true, false, List, [], ◌∷◌, ◌++◌, length, codes, map, Ok, refl, sym, ap, ◌∙◌, arith, lit<, lit≤, append_assoc}
 use Rattle.std.proofs.lemmas.Bool.Decides.{nat_tests}
 use Rattle.std.proofs.lemmas.List.{length-append}
 use Rattle.std.specs.Fmt.{decimal}
@@ -12,17 +12,15 @@ use Rattle.register_model.specs.declared.answer.Answer.{Answer}
 use Rattle.register_model.specs.declared.history.History.{History}
 use Rattle.register_model.specs.declared.printed.Printed.{Printed}
 use Rattle.register_model.specs.declared.printed.Printed.TheVariants as lines
-use Rattle.history_scribe.specs.Text.{answer_line, change_line, history_line, next_id, printed_line, reply_words, taken_word}
+use Rattle.history_scribe.specs.Text.{history_line, next_id, printed_line, reply_words, taken_word}
 use Rattle.history_record.specs.Lines.{answer_named, ids_from, line_words, most_bytes, number, outcome_of, reply_name_of}
 use Rattle.history_record.specs.Telling.{Heard, has_history, next_heard, open_call, open_change, with_answer, with_change, with_history, with_line}
 use Rattle.schedule_words.proofs.Dotted.{has-version, length-version, length-version_word-le, number_of-decimal, version_of-word}
 use Rattle.schedule_words.proofs.Fields.{key_of-word, length-bytes_word, length-value_word-le, value_of-word}
 use Rattle.schedule_words.proofs.Joined.{AreWords, has, has-decimal, has-encode, has-letters, has-value, length-decimal, length-encode, length-value, parts_of-join}
-use Rattle.schedule_words.specs.Words.{words_of}
 use Rattle.schedule_text.proofs.Counted.{AreFull, has_empty-full}
 use Rattle.schedule_text.proofs.OneLine.{decimal_short, has-join, total}
 use Rattle.schedule_text.proofs.Spaced.{join_spaced}
-use Rattle.schedule_text.specs.Arguments.{has_empty}
 use Rattle.schedule_text.specs.Writing.{feed, spaced}
 
 -- ## What fits a line

@@ -1,10 +1,9 @@
 -- What a run prints: at each event the answers of that event, and then the outcome of the change that it asks
 -- for, if it asks for one.
-use Rattle.std.proofs.Common.{◌≡◌, ℕ, zero, suc, ◌+◌, ◌-◌, ◌<◌, ◌≤◌, ◌^◌, ◌==◌, ◌⊎◌, inl, inr, Bool, false, if◌then◌else◌, Option, None, Some, List, [], ◌∷◌, ◌++◌, length, map, refl, sym, ap, subst, ◌∙◌, arith, append-nil, append_assoc}
-use Rattle.std.proofs.lemmas.Bool.Decides.{nat_tests}
+use Rattle.std.proofs.Common.{◌≡◌, ℕ, zero, suc, ◌+◌, ◌-◌, ◌<◌, ◌≤◌, ◌^◌, ◌⊎◌, inl, inr, Bool, Option, None, Some, List, [], ◌∷◌, ◌++◌, length, map, refl, sym, ap, subst, ◌∙◌, arith, append-nil, append_assoc}
 use Rattle.std.specs.Prelude.{slice_get}
 use Rattle.history_record.specs.Calls.{change_peer}
-use Rattle.held_stores.specs.Held.{Held, HeldStores}
+use Rattle.held_stores.specs.Held.{Held}
 use Rattle.held_stores.specs.Laws.{held_with}
 use Rattle.leader_words.specs.declared.out.AnswerOut.{AnswerOut}
 use Rattle.network.specs.Mail.{settled, goes, is_among, oldest, most_messages}
@@ -21,9 +20,9 @@ use Rattle.schedule_text.specs.declared.event.ScheduleEvent.TheVariants.{Call, T
 use Rattle.step_plans.specs.Plans.{Plan, Done, Say, Ask, Out, Ending, Finished, Follows, Stopped}
 use Rattle.wire_frames.specs.declared.frame.Frame.{Frame}
 use Rattle.world_spec.proofs.Ending.{EndsIn, run_reaches}
-use Rattle.world_spec.specs.Lines.{call_of, everyone, set_of, with_damage, effect, applied, keys_in, run_from}
+use Rattle.world_spec.specs.Lines.{call_of, everyone, set_of, effect, applied, keys_in, run_from}
 use Rattle.world_spec.specs.Nodes.{Node, Up, Down, taken, taken_by, run_over, started, stopped, over_stores, while_down}
-use Rattle.world_spec.specs.Runs.{Run, next_event, answer_line, change_line, printed_by, place_of, stepped_at, stepped, changed_at, changed, with_start, ticked, received_if, delivered, delivered_if, going_on, calmed}
+use Rattle.world_spec.specs.Runs.{Run, next_event, answer_line, change_line, printed_by, place_of, stepped_at, stepped, changed_at, changed, ticked, received_if, delivered, delivered_if, going_on, calmed}
 use Rattle.world_spec.specs.Stores.{failing, leaves_of, spoiled, segment_spoiled, inner_spoiled, taken_back}
 use Rattle.record_laws.proofs.Replied.{HasReplies, step_replies}
 use Rattle.record_laws.proofs.Told.{Follow, itself, differs}

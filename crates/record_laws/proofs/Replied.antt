@@ -10,7 +10,6 @@ use Rattle.following.specs.Requests.{row_21, row_22, row_23}
 use Rattle.leader_words.specs.declared.out.LeadOut.{LeadOut}
 use Rattle.leader_words.specs.declared.out.Outgoing.{Outgoing}
 use Rattle.leader_words.specs.declared.out.Own.{Own}
-use Rattle.leader_words.specs.declared.out.Own.TheVariants as owns
 use Rattle.leading.specs.Puts.{row_35_reply}
 use Rattle.leading.specs.Rounds.{row_29_reply, row_33_reply}
 use Rattle.leading.specs.Rules.{lead_row}
@@ -33,7 +32,6 @@ use Rattle.peer_state.specs.declared.state.State.{State}
 use Rattle.phase_rows.specs.Orders.{is_same}
 use Rattle.phase_rows.specs.Peers.{joined}
 use Rattle.phase_rows.specs.declared.phase.PhaseOut.{PhaseOut}
-use Rattle.phase_rows.specs.declared.phase.Seen.{Seen}
 use Rattle.phase_rows.specs.declared.phase.Seen.TheVariants as seens
 use Rattle.phase_rows.specs.declared.phase.Then.{Then}
 use Rattle.phase_rows.specs.declared.phase.Then.TheVariants as thens

@@ -1,10 +1,10 @@
 -- A schedule, the line `answers`, lines that may follow each other, and the histories, are read as a record.
-use Rattle.std.proofs.Common.{◌≡◌, ℕ, ◌+◌, ◌<◌, ◌≤◌, ◌==◌, nat_lt, Bool, true, false, if◌then◌else◌, List, [], ◌∷◌, ◌++◌, length, codes, map, Option, Some, None, Result, Ok, Err, refl, sym, ap, subst, ◌∙◌, inl, inr, arith, lit≤, append_assoc, append-nil}
+use Rattle.std.proofs.Common.{◌≡◌, ℕ, ◌+◌, ◌≤◌, ◌==◌, nat_lt, Bool, true, false, if◌then◌else◌, List, [], ◌∷◌, ◌++◌, length, codes, map, Option, Some, Result, Ok, Err, refl, sym, ap, subst, ◌∙◌, inl, inr, arith, lit≤, append_assoc, append-nil}
 use Rattle.std.proofs.lemmas.Bool.Decides.{nat_tests}
 use Rattle.call_refinement.specs.Lines.{answers_in}
 use Rattle.std.proofs.lemmas.List.Concat.{flat_map-append}
 use Rattle.std.specs.Fmt.{decimal}
-use Rattle.std.specs.List.{AllByRecursion, flat_map, join_with_byte, list_any}
+use Rattle.std.specs.List.{AllByRecursion, flat_map, list_any}
 use Rattle.ens_base.proofs.Lists.{bytes_same, bytes_itself, in-map}
 use Rattle.ens_base.specs.Lists.{◌∈◌, AreDistinct, same_bytes}
 use Rattle.register_model.specs.declared.answer.Answer.{Answer}
@@ -16,7 +16,6 @@ use Rattle.history_record.specs.Calls.{call_event, change_peer, keys_of}
 use Rattle.history_record.specs.Reading.{Stage, Before, Behind, and_then, answers_line, before, next_stage, opened, read_parts, record_of}
 use Rattle.history_record.specs.Telling.{Heard, is_answered, is_changed, nothing_heard}
 use Rattle.history_record.specs.declared.error.AuditError.{AuditError}
-use Rattle.history_record.specs.declared.record.Record.{Record}
 use Rattle.schedule_words.proofs.Joined.{has, has-decimal, has-letters, length-decimal, parts_of-more}
 use Rattle.schedule_words.specs.Causes.{cause_number}
 use Rattle.schedule_words.specs.declared.cause.Cause.TheVariants.{Heading, Unknown}
