@@ -1,5 +1,5 @@
 -- The record of a replay is read without a fault, and its report has none.
-use Rattle.std.proofs.Common.{◌≡◌, ◌≢◌, ℕ, ◌+◌, ◌<◌, ◌≤◌, ◌^◌, ◌==◌, ◌⊎◌, Bool, true, false, inl, inr, if◌then◌else◌, Option, None, Some, List, [], ◌∷◌, ◌++◌, length, codes, map, Result, Ok, Err, refl, sym, ap, subst, ◌∙◌, arith, append_assoc}
+use Rattle.std.proofs.Common.{◌≡◌, ℕ, ◌+◌, ◌<◌, ◌≤◌, ◌^◌, ◌==◌, Bool, true, false, inl, inr, if◌then◌else◌, Option, None, Some, List, [], ◌∷◌, ◌++◌, length, codes, map, Ok, refl, sym, ap, subst, ◌∙◌, arith, append_assoc}
 use Rattle.std.proofs.lemmas.Bool.Decides.{nat_tests}
 use Rattle.std.specs.List.{AllByRecursion, flat_map}
 use Rattle.std.specs.Prelude.{Contains}
@@ -8,7 +8,6 @@ use Rattle.call_refinement.proofs.Causes.{causes_of}
 use Rattle.call_refinement.proofs.ScheduleLaws.{schedules_are_legal}
 use Rattle.call_refinement.specs.Causes.{HasCause, HaveCauses}
 use Rattle.call_refinement.specs.Lines.{AreLegal, answers_in, calls_from}
-use Rattle.ens_base.proofs.Lists.{in-map}
 use Rattle.ens_base.specs.Limits.{IsKey}
 use Rattle.ens_base.specs.Lists.{◌∈◌, AreDistinct}
 use Rattle.ens_base.specs.declared.status.Status.{Status}
@@ -22,10 +21,9 @@ use Rattle.history_record.specs.Calls as record_calls
 use Rattle.history_record.specs.Calls.{call_event, change_peer, keys_of}
 use Rattle.history_record.specs.Reading.{record_of}
 use Rattle.history_record.specs.declared.record.Record.{Record}
-use Rattle.history_scribe.specs.Histories.{AreHistories, AreSorted, history_of}
+use Rattle.history_scribe.specs.Histories.{AreHistories, history_of}
 use Rattle.history_scribe.specs.Text.{history_line, printed_line}
 use Rattle.register_model.specs.Histories.{IsLegal}
-use Rattle.register_model.specs.Orders.{order}
 use Rattle.register_model.specs.declared.answer.Answer.{Answer}
 use Rattle.register_model.specs.declared.call.Call.{Call}
 use Rattle.register_model.specs.declared.history.History.{History}
@@ -44,7 +42,6 @@ use Rattle.schedule_text.specs.Spelling.{AllMayStand, IsSchedule, call_ids, sche
 use Rattle.schedule_text.specs.declared.event.ScheduleEvent.{ScheduleEvent}
 use Rattle.schedule_text.specs.declared.event.ScheduleEvent.TheVariants as line
 use Rattle.schedule_text.specs.declared.schedule.Schedule.{Schedule}
-use Rattle.schedule_words.specs.Spelling.{IsAmong}
 use Rattle.step_refinement.proofs.DistinctItems.{images_few}
 use Rattle.world_spec.specs.Runs.{Run, opening_run}
 use Rattle.record_laws.proofs.Again.{HistoryFits, LineFits}
@@ -53,7 +50,7 @@ use Rattle.record_laws.proofs.Printing.{PrintsOn, called_in, run_prints}
 use Rattle.record_laws.proofs.Standing.{HasBook, few_events, firm_lines, has_book}
 use Rattle.record_laws.proofs.Timely.{replies_fit, run_timely}
 use Rattle.record_laws.proofs.Told.{AreTold, Follow, IsTimely, differs, itself, text_read}
-use Rattle.record_laws.specs.Recorded.{IsFaultless, IsRecordOf, IsWellRecorded, record_text}
+use Rattle.record_laws.specs.Recorded.{IsFaultless, IsWellRecorded}
 
 -- ## The calls of a schedule
 
@@ -179,14 +176,15 @@ module _ (s : Schedule) (is : IsSchedule s) (sound : first_unsound s ≡ None) (
       by : (c : Call) × (c ∈ calls_from 1 s.events) × (c.id ≡ a.id) × HasCause run.notes c a.reply → IsTimely s.events a × LineFits (lines.Answer a)
       by c =
           let asked : t.book.asked a.id ≡ c.0 = subst (λ (i : ℕ). t.book.asked i ≡ c.0) c.2 (listed.asked c.0 ((b.agrees.calls c.0).1 c.1)) in
-          let fits = call_fits s.peers 1 s.events c.0 is.events c.1 in
-          (record {
-            called = c.0.event;
-            call = subst (λ (i : ℕ). call_event 1 s.events i ≡ Some c.0.event) c.2 (call_found 1 s.events c.0 is.distinct c.1);
-            after = subst (λ (x : Call). x.event ≤ a.event) asked (run_timely s.view b.steps b.run a noted);
-            within = within;
-          },
-          (subst (λ (i : ℕ). i < 2 ^ 64) c.2 fits.0, omega (arith, within, few), replies_fit s.view b.steps b.run b.asks b.epochs a noted))
+          let fits = call_fits s.peers 1 s.events c.0 is.events c.1 in (
+            record {
+              called = c.0.event;
+              call = subst (λ (i : ℕ). call_event 1 s.events i ≡ Some c.0.event) c.2 (call_found 1 s.events c.0 is.distinct c.1);
+              after = subst (λ (x : Call). x.event ≤ a.event) asked (run_timely s.view b.steps b.run a noted);
+              within = within;
+            },
+            (subst (λ (i : ℕ). i < 2 ^ 64) c.2 fits.0, omega (arith, within, few), replies_fit s.view b.steps b.run b.asks b.epochs a noted),
+          )
 
   told : AreTold s.events run.printed
   told =
@@ -206,13 +204,17 @@ module _ (s : Schedule) (is : IsSchedule s) (sound : first_unsound s ≡ None) (
   histories = map (history_of run.notes) (keys_of s.events)
 
   are_histories : AreHistories run.notes run.called histories
-  are_histories = (keys_of s.events, record {
-    same = λ k. (
-      λ has. subst (λ (ks : List (List ℕ)). Contains ks k) (sym prints.called) (Contains_from_in (called_in s.events) k (keys_called s.events k (in_from_Contains (keys_of s.events) k has))),
-      λ has. Contains_from_in (keys_of s.events) k (called_keys s.events k (in_from_Contains (called_in s.events) k (subst (λ (ks : List (List ℕ)). Contains ks k) prints.called has))),
-    );
-    ascending = keys_rise s.events;
-  }, refl)
+  are_histories = (
+    keys_of s.events,
+    record {
+      same = λ k. (
+        λ has. subst (λ (ks : List (List ℕ)). Contains ks k) (sym prints.called) (Contains_from_in (called_in s.events) k (keys_called s.events k (in_from_Contains (keys_of s.events) k has))),
+        λ has. Contains_from_in (keys_of s.events) k (called_keys s.events k (in_from_Contains (called_in s.events) k (subst (λ (ks : List (List ℕ)). Contains ks k) prints.called has))),
+      );
+      ascending = keys_rise s.events;
+    },
+    refl,
+  )
 
   legal : AreLegal s.events run.printed histories
   legal = schedules_are_legal s.peers s.view s.events is.peers.1 is.view.1 few (firm_lines s sound) is.events is.distinct apart histories are_histories

@@ -185,13 +185,17 @@ module _ (s : Schedule) (keys : List (List ℕ)) where
       (n, changes, latest, ap (λ (given : List Answer). read_parts (Behind (heard n given changes latest)) (next ∷ rest)) (sym (append-nil answers)))
   printed_read n answers changes latest low high (lines.Answer a ∷ more) next rest follow fit timely once late fresh new =
       let later = printed_read (n + 1) (answers ++ a ∷ []) changes a.event a.event high more next rest follow.1 fit.1 (λ b m. timely b (inr m)) once.1 (omega arith) (λ e up. fresh e (omega (arith, follow.0, up)))
-          (λ b m. none_more (λ c. c.id == b.id) answers a (new b (inr m)) (differs a.id b.id (λ e. once.0 (subst (λ (i : ℕ). i ∈ ids_of (answers_in more)) (sym e) (in-map (λ (c : Answer). c.id) (answers_in more) b m))))) in
-      let first = answer_line_read n answers changes latest a fit.0 (timely a (inl refl)) (omega (arith, late, follow.0)) (new a (inl refl)) in
-      (later.0, later.1, later.2, taken (Behind (heard n answers changes latest)) (Behind (heard (n + 1) (answers ++ a ∷ []) changes a.event)) (line_text (lines.Answer a)) (map line_text more) next rest first ∙ later.3
-          ∙ ap (λ (given : List Answer). read_parts (Behind (heard later.0 given later.1 later.2)) (next ∷ rest)) (append_assoc answers (a ∷ []) (answers_in more)))
+      (λ b m. none_more (λ c. c.id == b.id) answers a (new b (inr m)) (differs a.id b.id (λ e. once.0 (subst (λ (i : ℕ). i ∈ ids_of (answers_in more)) (sym e) (in-map (λ (c : Answer). c.id) (answers_in more) b m))))) in
+      let first = answer_line_read n answers changes latest a fit.0 (timely a (inl refl)) (omega (arith, late, follow.0)) (new a (inl refl)) in (
+        later.0,
+        later.1,
+        later.2,
+        taken (Behind (heard n answers changes latest)) (Behind (heard (n + 1) (answers ++ a ∷ []) changes a.event)) (line_text (lines.Answer a)) (map line_text more) next rest first ∙ later.3
+            ∙ ap (λ (given : List Answer). read_parts (Behind (heard later.0 given later.1 later.2)) (next ∷ rest)) (append_assoc answers (a ∷ []) (answers_in more)),
+      )
   printed_read n answers changes latest low high (lines.Change event peer was ∷ more) next rest follow fit timely once late fresh new =
       let later = printed_read (n + 1) answers (changes ++ event ∷ []) event (event + 1) high more next rest follow.2 fit.1 timely once (omega arith)
-          (λ e up. none_more (λ d. d == e) changes event (fresh e (omega (arith, follow.0, up))) (differs event e (λ same. absurd (omega (arith, same, up))))) new in
+      (λ e up. none_more (λ d. d == e) changes event (fresh e (omega (arith, follow.0, up))) (differs event e (λ same. absurd (omega (arith, same, up))))) new in
       let first = change_line_read n answers changes latest event peer was fit.0 follow.1 (omega (arith, late, follow.0)) (fresh event follow.0) in
       (later.0, later.1, later.2, taken (Behind (heard n answers changes latest)) (Behind (heard (n + 1) answers (changes ++ event ∷ []) event)) (line_text (lines.Change event peer was)) (map line_text more) next rest first ∙ later.3)
 
