@@ -6,7 +6,7 @@ use Rattle.schedule_words.specs.Words.{number_of, peer_of, view_of}
 use Rattle.schedule_words.specs.declared.cause.Cause.{Cause}
 use Rattle.schedule_words.specs.declared.cause.Cause.TheVariants.{Unknown, Words}
 use Rattle.ens_words.specs.declared.job.Job.{Job}
-use Rattle.ens_words.specs.declared.job.Job.TheVariants.{Replay, Peer, Cluster, Generate}
+use Rattle.ens_words.specs.declared.job.Job.TheVariants.{Replay, Peer, Cluster, Audit, Generate}
 
 -- the words behind the first one of each form
 
@@ -38,6 +38,10 @@ abbrev pub cluster_of : List (List ℕ) → Result Job Cause
 cluster_of (count ∷ base ∷ members) = cluster_form_of count base members
 cluster_of _ = Err Words
 
+abbrev pub audit_of : List (List ℕ) → Result Job Cause
+audit_of [] = Ok Audit
+audit_of _ = Err Words
+
 -- whether the word asks for a summary, and not for the schedule
 abbrev pub summary_of : List ℕ → Result Bool Cause
 summary_of word =
@@ -63,5 +67,6 @@ job_of (verb ∷ rest) =
     if same_bytes verb (codes "replay") then replay_of rest
     else if same_bytes verb (codes "peer") then peer_of_words rest
     else if same_bytes verb (codes "cluster") then cluster_of rest
+    else if same_bytes verb (codes "audit") then audit_of rest
     else if same_bytes verb (codes "generate") then generate_of rest
     else Err Unknown

@@ -9,6 +9,8 @@ pub enum Job {
     Peer(PeerWords),
     /// `cluster PEERS PORT MEMBER ..`: run peers over UDP as a script says.
     Cluster(ClusterWords),
+    /// `audit`: read a record, and write a report on its histories.
+    Audit,
     /// `generate NUMBER CALLS schedule` or `generate NUMBER CALLS summary`: generate a schedule of 1
     /// to 20,000 calls from a number, and write it, or a summary of its run.
     Generate {

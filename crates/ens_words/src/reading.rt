@@ -3,7 +3,7 @@ ghost use Rattle.clap.specs.Words.{kind_of};
 ghost use Rattle.schedule_words.specs.Causes.{Gives};
 ghost use Rattle.schedule_words.specs.Words.{view_of};
 ghost use Rattle.ens_words.specs.Forms.{Reads};
-ghost use Rattle.ens_words.specs.Reading.{cluster_of, generate_of, generator_of, job_of, peer_form_of, peer_of_words, replay_of, summary_of};
+ghost use Rattle.ens_words.specs.Reading.{audit_of, cluster_of, generate_of, generator_of, job_of, peer_form_of, peer_of_words, replay_of, summary_of};
 ghost use Rattle.ens_words.specs.Split.{Splits, has_option};
 
 use crate::command::{has_option, matches_of};
@@ -31,6 +31,16 @@ fn replay_job(words: &[&str]) -> Result<Job, WordError>
 {
     if words.is_empty() {
         Ok(Job::Replay)
+    } else {
+        Err(WordError::Bad(Cause::Words))
+    }
+}
+
+fn audit_job(words: &[&str]) -> Result<Job, WordError>
+    ensures { Gives (audit_of (map (λ w. w.now) words.now)) result }
+{
+    if words.is_empty() {
+        Ok(Job::Audit)
     } else {
         Err(WordError::Bad(Cause::Words))
     }
@@ -144,6 +154,8 @@ fn job(alloc: Global, verb: &str, rest: &[&str]) -> Result<Job, WordError>
         peer_job(alloc, rest)
     } else if verb == "cluster" {
         cluster_job(alloc, rest)
+    } else if verb == "audit" {
+        audit_job(rest)
     } else if verb == "generate" {
         generate_job(rest)
     } else {

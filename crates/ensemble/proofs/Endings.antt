@@ -1,18 +1,18 @@
 -- What a job prints is what the program prints.
 use Rattle.std.proofs.Common.{◌≡◌, ℕ, true, false, List, [], ◌∷◌, length, Option, Result, Ok, Err, refl, inl, inr, sym, ap, subst, ◌∙◌, arith}
 use Rattle.ens_base.specs.declared.status.Status.{Status}
-use Rattle.ens_words.specs.Forms.{AskFor, Reads}
+use Rattle.ens_words.specs.Forms.{AskFor, Reads, words_of}
 use Rattle.ens_words.specs.declared.job.Job.{Job}
-use Rattle.ens_words.specs.declared.job.Job.TheVariants.{Replay, Peer, Cluster, Generate}
+use Rattle.ens_words.specs.declared.job.Job.TheVariants.{Replay, Peer, Cluster, Audit, Generate}
 use Rattle.ens_words.specs.declared.job.WordsError.TheVariants.{Usage}
 use Rattle.ens_words.proofs.Exactly.{job_back}
 use Rattle.ens_words.specs.Reading.{job_of}
+use Rattle.record_report.proofs.Printing.{runs_out as report_runs_out}
 use Rattle.replay.proofs.Completing.{runs_out}
 use Rattle.replay.specs.Jobs.{RanOut}
 use Rattle.replay.specs.Summary.{EndsInSummary}
 use Rattle.schedule_generator.specs.Generated.{generate}
-use Rattle.std.specs.Prelude.{codes}
-use Rattle.ensemble.specs.Top.{AskForNone, Does, Ends, EndsGiven, EndsUnread, IsBuilt, IsUnhindered, PrintsSummary}
+use Rattle.ensemble.specs.Top.{AskForNone, AskToRead, Does, Ends, EndsGiven, EndsUnread, GivenToRead, IsBuilt, IsUnhindered, PrintsSummary, ReadsInput}
 use Rattle.ensemble.specs.declared.arguments.ArgumentsError.{ArgumentsError}
 
 pub summary_prints : (number calls : ℕ) (status : Status) (text : List ℕ) → EndsInSummary (generate number calls) status text → PrintsSummary number calls status text
@@ -27,11 +27,14 @@ verb_length (verb ∷ rest) = length verb
 unbuilt : (words : List (List ℕ)) (job other : Job) → ¬ IsBuilt job → AskFor words job → AskFor words other → ¬ IsBuilt other
 unbuilt words (Peer w) Replay never asks also built = let bad : ◌≡◌ {A = ℕ} 4 6 = ap verb_length (sym asks.1 ∙ also.1) in absurd (omega (arith, bad))
 unbuilt words (Peer w) (Generate number calls summary) never asks also built = let bad : ◌≡◌ {A = ℕ} 4 8 = ap verb_length (sym asks.1 ∙ also.1) in absurd (omega (arith, bad))
+unbuilt words (Peer w) Audit never asks also built = let bad : ◌≡◌ {A = ℕ} 4 5 = ap verb_length (sym asks.1 ∙ also.1) in absurd (omega (arith, bad))
+unbuilt words (Cluster w) Audit never asks also built = let bad : ◌≡◌ {A = ℕ} 7 5 = ap verb_length (sym asks.1 ∙ also.1) in absurd (omega (arith, bad))
 unbuilt words (Cluster w) Replay never asks also built = let bad : ◌≡◌ {A = ℕ} 7 6 = ap verb_length (sym asks.1 ∙ also.1) in absurd (omega (arith, bad))
 unbuilt words (Cluster w) (Generate number calls summary) never asks also built = let bad : ◌≡◌ {A = ℕ} 7 8 = ap verb_length (sym asks.1 ∙ also.1) in absurd (omega (arith, bad))
 unbuilt words job (Peer w) never asks also built = built
 unbuilt words job (Cluster w) never asks also built = built
 unbuilt words Replay other never asks also built = absurd (never tt)
+unbuilt words Audit other never asks also built = absurd (never tt)
 unbuilt words (Generate number calls summary) other never asks also built = absurd (never tt)
 
 pub job_ends : (words : List (List ℕ)) (source : Option (List ℕ)) (job : Job) (status : Status) (text : List ℕ) → AskFor words job → Does job source status text
@@ -43,7 +46,9 @@ job_ends words source (Cluster w) status text asks h = absurd h
 job_ends words source Replay Status.Usage text asks h = absurd h.1
 job_ends words source (Generate number calls true) Status.Usage text asks h = absurd h
 job_ends words source (Generate number calls false) Status.Usage text asks h = absurd h
+job_ends words source Audit Status.Usage text asks h = absurd h
 job_ends words source Replay Status.Memory text asks h = h.1
+job_ends words source Audit Status.Memory text asks h = h
 job_ends words source (Generate number calls true) Status.Memory text asks h = h
 job_ends words source (Generate number calls false) Status.Memory text asks h = h
 job_ends words source job status text asks h = (job, asks, h)
@@ -62,6 +67,7 @@ unhindered : (source : Option (List ℕ)) (job : Job) (status : Status) (text : 
 unhindered source Replay status text free does calm = runs_out source status text free does calm
 unhindered source (Peer w) status text free does calm = absurd free
 unhindered source (Cluster w) status text free does calm = absurd free
+unhindered source Audit status text free does calm = report_runs_out source status text free does calm
 unhindered source (Generate number calls false) Status.Done text free does calm = inl refl
 unhindered source (Generate number calls false) Status.Memory text free does calm = inr refl
 unhindered source (Generate number calls false) status text free does calm = absurd does
@@ -72,6 +78,7 @@ unhindered source (Generate number calls true) status text free does calm = absu
 
 built : (source : Option (List ℕ)) (job : Job) → IsUnhindered job source → IsBuilt job
 built source Replay free = tt
+built source Audit free = tt
 built source (Peer w) free = free
 built source (Cluster w) free = free
 built source (Generate number calls summary) free = tt
@@ -82,15 +89,33 @@ job_completes words source Status.Usage text job asks free ends calm = absurd (e
 job_completes words source Status.Memory text job asks free ends calm = inr refl
 job_completes words source status text job asks free ends calm = unhindered source job status text free (subst (λ (j : Job). Does j source status text) (asked_one words ends.0 job ends.1 asks) ends.2) calm
 
+-- words that ask to read ask for a job that reads the input
+pub reads_asked : (words : List (List ℕ)) (job : Job) → AskFor words job → AskToRead words → ReadsInput job
+reads_asked words job asks (inl e) = inl (asked_one words job Replay asks (tt, e))
+reads_asked words job asks (inr e) = inr (asked_one words job Audit asks (tt, e))
+
+pub asked_reads : (words : List (List ℕ)) (job : Job) → AskFor words job → ReadsInput job → AskToRead words
+asked_reads words job asks (inl e) = inl (asks.1 ∙ ap words_of e)
+asked_reads words job asks (inr e) = inr (asks.1 ∙ ap words_of e)
+
+-- the same of words that were read
+pub given_to_read : (given : Result (List (List ℕ)) ArgumentsError) (words : List (List ℕ)) (Q : Type 0) → (AskToRead words → Q) → given ≡ Ok words → GivenToRead given → Q
+given_to_read given words Q f is asks = f (subst GivenToRead is asks)
+
+pub not_to_read : (given : Result (List (List ℕ)) ArgumentsError) (words : List (List ℕ)) (Q : Type 0) → (¬ AskToRead words → Q) → given ≡ Ok words → ¬ GivenToRead given → Q
+not_to_read given words Q f is none = f (λ asks. none (subst GivenToRead (sym is) asks))
+
 -- what a job that reads words ends with, for words that were read
 pub front_given : (given : Result (List (List ℕ)) ArgumentsError) (words : List (List ℕ)) (source : Option (List ℕ)) (Q : Status → Type 0) (R : List ℕ → Type 0)
-    → (status : Status) × (text : List ℕ) × Ends words source status text × (words ≡ codes "replay" ∷ [] → Q status) × R text
-    → given ≡ Ok words → (status : Status) × (text : List ℕ) × EndsGiven given source status text × (given ≡ Ok (codes "replay" ∷ []) → Q status) × R text
-front_given given words source Q R f is =
-    (f.0, f.1, subst (λ (g : Result (List (List ℕ)) ArgumentsError). EndsGiven g source f.0 f.1) (sym is) f.2, (λ e. f.3 (same (sym is ∙ e))), f.4)
-  where
-    same : {other : List (List ℕ)} → ◌≡◌ {A = Result (List (List ℕ)) ArgumentsError} (Ok words) (Ok other) → words ≡ other
-    same e = cc e
+    → (status : Status) × (text : List ℕ) × Ends words source status text × (AskToRead words → Q status) × R text
+    → given ≡ Ok words → (status : Status) × (text : List ℕ) × EndsGiven given source status text × (GivenToRead given → Q status) × R text
+front_given given words source Q R f is = (
+  f.0,
+  f.1,
+  subst (λ (g : Result (List (List ℕ)) ArgumentsError). EndsGiven g source f.0 f.1) (sym is) f.2,
+  (λ asks. f.3 (subst GivenToRead is asks)),
+  f.4,
+)
 
 -- what the program ends with, for words that were not read
 pub unread_ends : (given : Result (List (List ℕ)) ArgumentsError) (why : ArgumentsError) (source : Option (List ℕ)) (status : Status) (text : List ℕ) → given ≡ Err why → EndsUnread why status text → EndsGiven given source status text

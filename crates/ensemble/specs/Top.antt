@@ -1,9 +1,10 @@
 -- The jobs, and what the program prints.
-use Rattle.std.specs.Prelude.{◌≡◌, ℕ, true, false, List, [], ◌∷◌, ◌++◌, codes, Option, Result, Ok, Err, IsSomeAnd}
+use Rattle.std.specs.Prelude.{◌≡◌, ◌⊎◌, ℕ, true, false, List, [], ◌∷◌, ◌++◌, codes, Option, Result, Ok, Err, IsSomeAnd}
 use Rattle.ens_base.specs.declared.status.Status.{Status}
 use Rattle.ens_words.specs.Forms.{AskFor}
 use Rattle.ens_words.specs.declared.job.Job.{Job}
-use Rattle.ens_words.specs.declared.job.Job.TheVariants.{Replay, Peer, Cluster, Generate}
+use Rattle.ens_words.specs.declared.job.Job.TheVariants.{Replay, Peer, Cluster, Audit, Generate}
+use Rattle.record_report.specs.Printed.{IsAuditable, PrintsReport}
 use Rattle.replay.specs.Jobs.{IsRunnable, Prints}
 use Rattle.replay.specs.Summary.{EndsInSummary, StaysWithin}
 use Rattle.schedule_generator.specs.Generated.{generate}
@@ -17,7 +18,15 @@ IsBuilt (Peer words) = ⊥
 IsBuilt (Cluster words) = ⊥
 IsBuilt job = Unit {0}
 
--- the words ask for none of these jobs
+-- only a replay and an audit read the input
+abbrev pub ReadsInput : Job → Type 0
+ReadsInput job = (job ≡ Replay) ⊎ (job ≡ Audit)
+
+-- the words ask for one of them
+abbrev pub AskToRead : List (List ℕ) → Type 0
+AskToRead words = (words ≡ codes "replay" ∷ []) ⊎ (words ≡ codes "audit" ∷ [])
+
+-- the words ask for none of the jobs that the program runs
 abbrev pub AskForNone : List (List ℕ) → Type 0
 AskForNone words = (job : Job) → AskFor words job → ¬ IsBuilt job
 
@@ -45,11 +54,12 @@ abbrev pub DoesNothing : Status → List ℕ → Type 0
 DoesNothing Status.Usage text = IsUsageText text
 DoesNothing status text = ⊥
 
--- the text that a job prints, for each status; only a replay reads the source
+-- the text that a job prints, for each status; only a replay and an audit read the source
 abbrev pub Does : Job → Option (List ℕ) → Status → List ℕ → Type 0
 Does Replay source status text = Prints source status text
 Does (Peer words) source status text = DoesNothing status text
 Does (Cluster words) source status text = DoesNothing status text
+Does Audit source status text = PrintsReport source status text
 Does (Generate number calls false) source status text = PrintsSchedule number calls status text
 Does (Generate number calls true) source status text = PrintsSummary number calls status text
 
@@ -60,12 +70,13 @@ Ends words source Status.Usage text = AskForNone words × IsUsageText text
 Ends words source Status.Memory text = IsMemoryText text
 Ends words source status text = (job : Job) × AskFor words job × Does job source status text
 
--- Nothing ends the job early: it is built; a replay has a source whose bytes are known, and which
--- nothing in them ends early; and the run that is summed up stays within the limit on messages.
+-- Nothing ends the job early: it is built; a replay and an audit have a source whose bytes are known, and
+-- which nothing in them ends early; and the run that is summed up stays within the limit on messages.
 abbrev pub IsUnhindered : Job → Option (List ℕ) → Type 0
 IsUnhindered Replay source = IsSomeAnd source IsRunnable
 IsUnhindered (Peer words) source = ⊥
 IsUnhindered (Cluster words) source = ⊥
+IsUnhindered Audit source = IsSomeAnd source IsAuditable
 IsUnhindered (Generate number calls false) source = Unit {0}
 IsUnhindered (Generate number calls true) source = StaysWithin (generate number calls)
 
@@ -85,3 +96,8 @@ EndsGiven (Err e) source status text = EndsUnread e status text
 abbrev pub GivenFor : Result (List (List ℕ)) ArgumentsError → Job → Type 0
 GivenFor (Ok words) job = AskFor words job
 GivenFor (Err e) job = ⊥
+
+-- the words were read, and ask for a job that reads the input
+abbrev pub GivenToRead : Result (List (List ℕ)) ArgumentsError → Type 0
+GivenToRead (Ok words) = AskToRead words
+GivenToRead (Err e) = ⊥

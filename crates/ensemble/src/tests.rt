@@ -8,6 +8,12 @@ const SCHEDULE: &str =
 
 const TEXT: &str = "answer 1 2 ok 1.1.1\nanswer 2 3 value 1.1.1 76\nhistory 6b 1 2\n";
 
+/// The schedule with its text.
+const RECORD: &str = "ensemble 1\npeers 1\nview 1\ntick 1 6\ncall 1 1 over 6b 76\ncall 1 2 get 6b\n\
+answers\nanswer 1 2 ok 1.1.1\nanswer 2 3 value 1.1.1 76\nhistory 6b 1 2\n";
+
+const REPORT: &str = "{\"faults\":[],\"keys\":1,\"legal\":1}\n";
+
 #[test]
 fn each_status_has_its_case(rt: HostRuntime) -> Result<(), Fail> {
     let alloc = rt.alloc();
@@ -35,6 +41,17 @@ fn each_status_has_its_case(rt: HostRuntime) -> Result<(), Fail> {
             "read fault\n",
         ),
         (&["replay"], SCHEDULE, 0, 1, Status::WriteFault, ""),
+        (&["audit"], RECORD, 0, 0, Status::Done, REPORT),
+        (
+            &["audit"],
+            SCHEDULE,
+            0,
+            0,
+            Status::Schedule,
+            "schedule 7 16\n",
+        ),
+        (&["audit"], RECORD, 1, 0, Status::ReadFault, "read fault\n"),
+        (&["audit"], RECORD, 0, 1, Status::WriteFault, ""),
     ];
     for (words, schedule, read, write, status, text) in cases {
         let mut input = MemSource::new(schedule.as_bytes().to_vec(alloc)?, vec![in alloc; read]?);

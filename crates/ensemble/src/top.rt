@@ -1,13 +1,12 @@
-ghost use Rattle.std.specs.Prelude.{◌≡◌, ◌≢◌, ◌∷◌, [], ℕ, List, codes, map, Ok};
+ghost use Rattle.std.specs.Prelude.{◌≡◌, ◌≢◌, ℕ, List, map};
 ghost use Rattle.std.specs.Io.KnownBytes.{Appends, IsAtEnd};
 ghost use Rattle.ens_base.specs.Causes.{Rose};
 ghost use Rattle.ens_base.specs.declared.status.Status.{Status};
 ghost use Rattle.ens_outside.specs.Written.{AppendsFront};
 ghost use Rattle.ens_words.specs.Forms.{AskFor, IsJob};
 ghost use Rattle.ens_words.specs.declared.job.Job.{Job};
-ghost use Rattle.ens_words.specs.declared.job.Job.TheVariants.{Replay};
 ghost use Rattle.ensemble.specs.Arguments.{words_given};
-ghost use Rattle.ensemble.specs.Top.{Does, Ends, EndsGiven, GivenFor, IsUnhindered};
+ghost use Rattle.ensemble.specs.Top.{AskToRead, Does, Ends, EndsGiven, GivenFor, GivenToRead, IsUnhindered, ReadsInput};
 ghost use Rattle.replay.specs.Jobs.{HasRead, RanOut};
 
 use crate::arguments::{ArgumentsError, words_of};
@@ -15,6 +14,7 @@ use crate::generating::{print_generated, print_summary};
 use ens_base::Status;
 use ens_outside::{Sink, Source, finish};
 use ens_words::{Job, WordsError, read_words};
+use record_report::print_report;
 use replay::replay;
 use std::alloc::Global;
 use std::thread::Threads;
@@ -29,14 +29,15 @@ fn run_job<S: Source, O: Sink, R: Threads + Sync>(
 ) -> Status
     requires { IsJob job }
     ensures printed { result ≢ Status.WriteFault → (text : List ℕ) × Does job (S.left input.old) result text × Appends (O.written output.old) (O.written output.new) text }
-    ensures front { result ≡ Status.WriteFault → (status : Status) × (text : List ℕ) × Does job (S.left input.old) status text × (job ≡ Replay → HasRead (S.left input.new) (S.fault_count input.old) (S.fault_count input.new) status) × AppendsFront (O.written output.old) (O.written output.new) text }
-    ensures end { job ≡ Replay → result ≡ Status.Done → IsAtEnd (S.left input.new) }
-    ensures untouched { job ≢ Replay → input.new ≡ input.old }
+    ensures front { result ≡ Status.WriteFault → (status : Status) × (text : List ℕ) × Does job (S.left input.old) status text × (ReadsInput job → HasRead (S.left input.new) (S.fault_count input.old) (S.fault_count input.new) status) × AppendsFront (O.written output.old) (O.written output.new) text }
+    ensures end { ReadsInput job → result ≡ Status.Done → IsAtEnd (S.left input.new) }
+    ensures untouched { ¬ ReadsInput job → input.new ≡ input.old }
     ensures read { result ≡ Status.ReadFault → Rose (S.fault_count input.old) (S.fault_count input.new) }
     ensures write { result ≡ Status.WriteFault → Rose (O.fault_count output.old) (O.fault_count output.new) }
 {
     match job {
         Job::Replay => replay(rt, alloc, input, output),
+        Job::Audit => print_report(alloc, input, output),
         Job::Peer(_) | Job::Cluster(_) => finish(output, "usage\n", Status::Usage),
         Job::Generate {
             number,
@@ -55,9 +56,10 @@ fn run_job<S: Source, O: Sink, R: Threads + Sync>(
 /// Runs the job that the arguments ask for, on this input and output. Returns the status.
 ///
 /// The argument `replay` reads a schedule, and writes what its run prints and one history for each
-/// key. `generate NUMBER CALLS schedule` writes the schedule of 1 to 20,000 calls that is generated
-/// from a number, and `generate NUMBER CALLS summary` the six lines that sum up its run. Any other
-/// arguments are a usage error, and so far the forms of `peer` and `cluster` are one too.
+/// key. `audit` reads a record, which is a schedule with such a text, and writes the report on its
+/// histories. `generate NUMBER CALLS schedule` writes the schedule of 1 to 20,000 calls that is
+/// generated from a number, and `generate NUMBER CALLS summary` the six lines that sum up its run.
+/// Any other arguments are a usage error, and so far the forms of `peer` and `cluster` are one too.
 pub fn ensemble_main<S: Source, O: Sink, R: Threads + Sync>(
     rt: &R,
     alloc: Global,
@@ -66,13 +68,13 @@ pub fn ensemble_main<S: Source, O: Sink, R: Threads + Sync>(
     output: &mut O,
 ) -> Status
     // What is written, for each status: for a replay that ran to its end, what the world printed,
-    // and a history for each key.
+    // and a history for each key; for an audit, the report of the record that was read.
     ensures printed { result ≢ Status.WriteFault → (text : List ℕ) × Ends (map (λ w. w.now) words.now) (S.left input.old) result text × Appends (O.written output.old) (O.written output.new) text }
     // If the output failed, a prefix of the text with which the job would otherwise have ended.
-    ensures front { result ≡ Status.WriteFault → (status : Status) × (text : List ℕ) × Ends (map (λ w. w.now) words.now) (S.left input.old) status text × (map (λ w. w.now) words.now ≡ codes "replay" ∷ [] → HasRead (S.left input.new) (S.fault_count input.old) (S.fault_count input.new) status) × AppendsFront (O.written output.old) (O.written output.new) text }
-    ensures end { map (λ w. w.now) words.now ≡ codes "replay" ∷ [] → result ≡ Status.Done → IsAtEnd (S.left input.new) }
-    // Only a replay reads the input.
-    ensures untouched { map (λ w. w.now) words.now ≢ codes "replay" ∷ [] → input.new ≡ input.old }
+    ensures front { result ≡ Status.WriteFault → (status : Status) × (text : List ℕ) × Ends (map (λ w. w.now) words.now) (S.left input.old) status text × (AskToRead (map (λ w. w.now) words.now) → HasRead (S.left input.new) (S.fault_count input.old) (S.fault_count input.new) status) × AppendsFront (O.written output.old) (O.written output.new) text }
+    ensures end { AskToRead (map (λ w. w.now) words.now) → result ≡ Status.Done → IsAtEnd (S.left input.new) }
+    // Only a replay and an audit read the input.
+    ensures untouched { ¬ AskToRead (map (λ w. w.now) words.now) → input.new ≡ input.old }
     ensures read { result ≡ Status.ReadFault → Rose (S.fault_count input.old) (S.fault_count input.new) }
     ensures write { result ≡ Status.WriteFault → Rose (O.fault_count output.old) (O.fault_count output.new) }
     // If no other end has a cause, the job runs to its end, unless out of memory.
@@ -96,10 +98,10 @@ pub fn run_program<S: Source, O: Sink, R: Threads + Sync>(
 ) -> Status
     ensures printed { result ≢ Status.WriteFault → (text : List ℕ) × EndsGiven (words_given all.now) (S.left input.old) result text × Appends (O.written output.old) (O.written output.new) text }
     // If the output failed, a prefix of the text with which the program would otherwise have ended.
-    ensures front { result ≡ Status.WriteFault → (status : Status) × (text : List ℕ) × EndsGiven (words_given all.now) (S.left input.old) status text × (words_given all.now ≡ Ok (codes "replay" ∷ []) → HasRead (S.left input.new) (S.fault_count input.old) (S.fault_count input.new) status) × AppendsFront (O.written output.old) (O.written output.new) text }
-    ensures end { words_given all.now ≡ Ok (codes "replay" ∷ []) → result ≡ Status.Done → IsAtEnd (S.left input.new) }
-    // Only a replay reads the input.
-    ensures untouched { words_given all.now ≢ Ok (codes "replay" ∷ []) → input.new ≡ input.old }
+    ensures front { result ≡ Status.WriteFault → (status : Status) × (text : List ℕ) × EndsGiven (words_given all.now) (S.left input.old) status text × (GivenToRead (words_given all.now) → HasRead (S.left input.new) (S.fault_count input.old) (S.fault_count input.new) status) × AppendsFront (O.written output.old) (O.written output.new) text }
+    ensures end { GivenToRead (words_given all.now) → result ≡ Status.Done → IsAtEnd (S.left input.new) }
+    // Only a replay and an audit read the input.
+    ensures untouched { ¬ GivenToRead (words_given all.now) → input.new ≡ input.old }
     ensures read { result ≡ Status.ReadFault → Rose (S.fault_count input.old) (S.fault_count input.new) }
     ensures write { result ≡ Status.WriteFault → Rose (O.fault_count output.old) (O.fault_count output.new) }
     // If no other end has a cause, the job runs to its end, unless out of memory.

@@ -3,11 +3,17 @@ use Rattle.ens_base.specs.declared.status.Status.TheVariants as Status
 use Rattle.replay.proofs.Completing.{memory_read, usage_read}
 use Rattle.ensemble.specs.Arguments.{words_given}
 use Rattle.ensemble.specs.declared.arguments.ArgumentsError.TheVariants.{NotText, Memory}
-use Rattle.ensemble.proofs.Endings.{front_given, unread_ends}
+use Rattle.ensemble.proofs.Endings.{front_given, given_to_read, not_to_read, unread_ends}
 use Rattle.ensemble.proofs.top.run_program.Goals as goal
 
 pub returns-in-Ok-words_of-clause-front : goal.returns-in-Ok-words_of-clause-front
 returns-in-Ok-words_of-clause-front g c = λ fault. front_given _ _ _ _ _ (c.ensemble_main.ensures.front fault) (search rules)
+
+pub returns-in-Ok-words_of-clause-end : goal.returns-in-Ok-words_of-clause-end
+returns-in-Ok-words_of-clause-end g c = given_to_read (words_given c.args.all.now) _ _ c.ensemble_main.ensures.end (search rules)
+
+pub returns-in-Ok-words_of-clause-untouched : goal.returns-in-Ok-words_of-clause-untouched
+returns-in-Ok-words_of-clause-untouched g c = not_to_read (words_given c.args.all.now) _ _ c.ensemble_main.ensures.untouched (search rules)
 
 pub returns-in-Err-clause-front : goal.returns-in-Err-clause-front
 returns-in-Err-clause-front g c = rw c.in-Ok.is (λ fault. (Status.Memory, _, refl, λ e. memory_read _ _ _, c.finish.ensures.front fault))

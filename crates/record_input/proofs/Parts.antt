@@ -1,0 +1,138 @@
+-- The lines of a source, taken one after another, are the parts into which its bytes are split.
+use Rattle.std.proofs.Common.{◌≡◌, ◌≢◌, ℕ, zero, suc, ◌+◌, ◌<◌, ◌≤◌, ◌==◌, Bool, true, false, List, [], ◌∷◌, ◌++◌, ◌^◌, length, take, Option, None, Some, Result, Ok, Err, refl, sym, ap, subst, ◌∙◌, append_assoc, append-nil, arith, lit<}
+use Rattle.std.specs.Prelude.{All}
+use Rattle.std.specs.List.{onto_first}
+use Rattle.std.specs.Io.KnownBytes.{Consumes, IsAtEnd, prepend_known}
+use Rattle.std.proofs.lemmas.Bool.Decides.{nat_tests}
+use Rattle.std.proofs.lemmas.List.Elements.{All-head, All-tail, All-weaker}
+use Rattle.std.proofs.lemmas.List.Splits.{slice_split-cons_yes, slice_split-cons_no, slice_split_none, slice_split_at}
+use Rattle.ens_outside.specs.Lines.{HasNoFeed}
+use Rattle.schedule_words.specs.Words.{parts_of}
+use Rattle.history_record.specs.Reading.{Stage, Before, Behind, Stops, and_then, end_stage, most_in, next_stage, read_parts}
+use Rattle.history_record.specs.declared.error.AuditError.{AuditError}
+use Rattle.history_record.specs.declared.error.AuditError.TheVariants.{Bad, Lines, Memory}
+use Rattle.history_record.specs.declared.record.Record.{Record}
+use Rattle.record_input.specs.Lines.{BeginsLong}
+use Rattle.record_input.specs.Reading.{ReadsAs, ReadsOn, Refuses, of_audit}
+use Rattle.record_input.specs.declared.read.ReadError.{ReadError}
+use Rattle.record_input.specs.declared.read.ReadError.TheVariants as read
+
+is_feed_of : (b : ℕ) → b ≢ 10 → (b == 10) ≡ false
+is_feed_of b apart = grind (arith, nat_tests)
+
+no_feeds : (xs : List ℕ) → HasNoFeed xs → All (λ b. (b == 10) ≡ false) xs
+no_feeds xs clear = All-weaker (λ b. b ≢ 10) (λ b. (b == 10) ≡ false) is_feed_of xs clear
+
+parts_line : (v y : List ℕ) → HasNoFeed v → parts_of 10 ((v ++ 10 ∷ []) ++ y) ≡ v ∷ parts_of 10 y
+parts_line v y clear = ap (λ (l : List ℕ). parts_of 10 l) (append_assoc v (10 ∷ []) y) ∙ slice_split_at (λ b. b == 10) v 10 y (no_feeds v clear) refl
+
+onto_some : (x : ℕ) (w : List ℕ) (more : List (List ℕ)) (parts : List (List ℕ)) → parts ≡ w ∷ more → onto_first x parts ≡ (x ∷ w) ∷ more
+onto_some x w more parts e = ap (onto_first x) e
+
+-- there is a first part
+first_part : (xs : List ℕ) → (w : List ℕ) × (more : List (List ℕ)) × (parts_of 10 xs ≡ w ∷ more)
+first_part [] = ([], [], refl)
+first_part (x ∷ xs) = by_test (x == 10) refl (first_part xs)
+  where
+    by_test : (b : Bool) → (x == 10) ≡ b → (w : List ℕ) × (more : List (List ℕ)) × (parts_of 10 xs ≡ w ∷ more) → (w : List ℕ) × (more : List (List ℕ)) × (parts_of 10 (x ∷ xs) ≡ w ∷ more)
+    by_test true e rest = ([], parts_of 10 xs, slice_split-cons_yes (λ b. b == 10) x xs e)
+    by_test false e rest = (x ∷ rest.0, rest.1, slice_split-cons_no (λ b. b == 10) x xs e ∙ onto_some x rest.0 rest.1 (parts_of 10 xs) rest.2)
+
+-- the first part is as long as the bytes before the first line feed
+long_part : (n : ℕ) (xs : List ℕ) → n ≤ length xs → HasNoFeed (take n xs) → (w : List ℕ) × (more : List (List ℕ)) × (parts_of 10 xs ≡ w ∷ more) × (n ≤ length w)
+long_part zero xs fits clear = let part = first_part xs in (part.0, part.1, part.2, omega arith)
+long_part (suc n) [] fits clear = absurd (omega arith)
+long_part (suc n) (x ∷ xs) fits clear =
+    let rest = long_part n xs (omega arith) (All-tail (λ b. b ≢ 10) x (take n xs) clear) in
+    let head : (x == 10) ≡ false = is_feed_of x (All-head (λ b. b ≢ 10) x (take n xs) clear) in
+    (x ∷ rest.0, rest.1, slice_split-cons_no (λ b. b == 10) x xs head ∙ onto_some x rest.0 rest.1 (parts_of 10 xs) rest.2, (let more : n ≤ length rest.0 = rest.3 in omega arith))
+
+-- a line in front of more lines
+read_more : (s : Stage) (v : List ℕ) (parts : List (List ℕ)) (w : List ℕ) (more : List (List ℕ)) → parts ≡ w ∷ more → read_parts s (v ∷ parts) ≡ and_then (next_stage s v) (λ t. read_parts t parts)
+read_more s v parts w more e = let P : List (List ℕ) → Type 0 = λ l. read_parts s (v ∷ l) ≡ and_then (next_stage s v) (λ t. read_parts t l) in subst P (sym e) refl
+
+read_line : (s : Stage) (x v y : List ℕ) → HasNoFeed v → x ≡ (v ++ 10 ∷ []) ++ y → read_parts s (parts_of 10 x) ≡ and_then (next_stage s v) (λ t. read_parts t (parts_of 10 y))
+read_line s x v y clear is =
+    let part = first_part y in
+    ap (λ (l : List ℕ). read_parts s (parts_of 10 l)) is ∙ ap (λ (l : List (List ℕ)). read_parts s l) (parts_line v y clear) ∙ read_more s v (parts_of 10 y) part.0 part.1 part.2
+
+pub line_taken : (a b : Option (List ℕ)) (s t : Stage) (v : List ℕ) → HasNoFeed v → Consumes a b (v ++ 10 ∷ []) → next_stage s v ≡ Ok t → ReadsOn a s b t
+line_taken None b s t v clear took ok = tt
+line_taken (Some x) None s t v clear took ok = absurd took
+line_taken (Some x) (Some y) s t v clear took ok = read_line s x v y clear took ∙ ap (λ (r : Result Stage AuditError). and_then r (λ u. read_parts u (parts_of 10 y))) ok
+
+line_refused : (a b : Option (List ℕ)) (s : Stage) (v : List ℕ) (e : AuditError) → HasNoFeed v → Consumes a b (v ++ 10 ∷ []) → next_stage s v ≡ Err e → ReadsAs a s (Err e)
+line_refused None b s v e clear took bad = tt
+line_refused (Some x) None s v e clear took bad = absurd took
+line_refused (Some x) (Some y) s v e clear took bad = read_line s x v y clear took ∙ ap (λ (r : Result Stage AuditError). and_then r (λ u. read_parts u (parts_of 10 y))) bad
+
+pub refuses_line : (a b : Option (List ℕ)) (s : Stage) (v : List ℕ) (e : AuditError) → HasNoFeed v → Consumes a b (v ++ 10 ∷ []) → Stops (next_stage s v) e → Refuses a s (of_audit e)
+refuses_line a b s v (Bad line cause) clear took bad = line_refused a b s v (Bad line cause) clear took bad
+refuses_line a b s v Lines clear took bad = line_refused a b s v Lines clear took bad
+refuses_line a b s v Memory clear took bad = tt
+
+-- a line has far fewer bytes than 2 ^ 24
+pub most_few : (s : Stage) → most_in s < 2 ^ 24
+most_few (Before p) = lit< tt
+most_few (Behind h) = lit< tt
+
+-- a line that is too long, whatever its bytes are and whether a line feed follows it
+abbrev IsRefusedLong : Stage → AuditError → Type 0
+IsRefusedLong s e = (t : List ℕ) → most_in s < length t → (next_stage s t ≡ Err e) × (end_stage s t ≡ Err e)
+
+long_parts : (s : Stage) (w : List ℕ) (more : List (List ℕ)) (e : AuditError) → most_in s < length w → IsRefusedLong s e → read_parts s (w ∷ more) ≡ Err e
+long_parts s w [] e long is = (is w long).1
+long_parts s w (n ∷ more) e long is = ap (λ (r : Result Stage AuditError). and_then r (λ t. read_parts t (n ∷ more))) (is w long).0
+
+long_refused : (a : Option (List ℕ)) (s : Stage) (e : AuditError) → BeginsLong (most_in s) a → IsRefusedLong s e → ReadsAs a s (Err e)
+long_refused None s e begins is = tt
+long_refused (Some x) s e begins is =
+    let part = long_part (most_in s + 1) x (omega (arith, begins.0)) begins.1 in
+    let long : most_in s + 1 ≤ length part.0 = part.3 in
+    ap (λ (l : List (List ℕ)). read_parts s l) part.2 ∙ long_parts s part.0 part.1 e (omega (arith, long)) is
+
+pub refuses_long : (a : Option (List ℕ)) (s : Stage) (e : AuditError) → BeginsLong (most_in s) a → IsRefusedLong s e → Refuses a s (of_audit e)
+refuses_long a s (Bad line cause) begins is = long_refused a s (Bad line cause) begins is
+refuses_long a s Lines begins is = long_refused a s Lines begins is
+refuses_long a s Memory begins is = tt
+
+-- what follows the last line feed
+pub rest_read : (a b : Option (List ℕ)) (s : Stage) (v : List ℕ) → HasNoFeed v → Consumes a b v → IsAtEnd b → ReadsAs a s (end_stage s v)
+rest_read None b s v clear took end = tt
+rest_read (Some x) None s v clear took end = absurd took
+rest_read (Some x) (Some y) s v clear took end =
+    let is : x ≡ v = took ∙ ap (λ (l : List ℕ). v ++ l) end ∙ append-nil v in
+    ap (λ (l : List ℕ). read_parts s (parts_of 10 l)) is ∙ ap (λ (l : List (List ℕ)). read_parts s l) (slice_split_none (λ b. b == 10) v (no_feeds v clear))
+
+pub refuses_rest : (a : Option (List ℕ)) (s : Stage) (v : List ℕ) (e : AuditError) → end_stage s v ≡ Err e → ReadsAs a s (end_stage s v) → Refuses a s (of_audit e)
+refuses_rest a s v (Bad line cause) is read = let P : Result Record AuditError → Type 0 = λ r. ReadsAs a s r in subst P is read
+refuses_rest a s v Lines is read = let P : Result Record AuditError → Type 0 = λ r. ReadsAs a s r in subst P is read
+refuses_rest a s v Memory is read = tt
+
+-- one step of reading after another
+pub reads_on : (a b c : Option (List ℕ)) (s t u : Stage) → ReadsOn a s b t → ReadsOn b t c u → ReadsOn a s c u
+reads_on None b c s t u first second = tt
+reads_on (Some x) None c s t u first second = absurd first
+reads_on (Some x) (Some y) None s t u first second = absurd second
+reads_on (Some x) (Some y) (Some z) s t u first second = first ∙ second
+
+pub reads_as : (a b : Option (List ℕ)) (s t : Stage) (r : Result Record AuditError) → ReadsOn a s b t → ReadsAs b t r → ReadsAs a s r
+reads_as None b s t r first second = tt
+reads_as (Some x) None s t r first second = absurd first
+reads_as (Some x) (Some y) s t r first second = first ∙ second
+
+pub refuses_later : (a b : Option (List ℕ)) (s t : Stage) (e : ReadError) → ReadsOn a s b t → Refuses b t e → Refuses a s e
+refuses_later a b s t (read.Bad line cause) on bad = reads_as a b s t (Err (Bad line cause)) on bad
+refuses_later a b s t read.Lines on bad = reads_as a b s t (Err Lines) on bad
+refuses_later a b s t read.Failed on bad = tt
+refuses_later a b s t read.Memory on bad = tt
+
+pub reads_first : (a : Option (List ℕ)) (s : Stage) → ReadsOn a s (prepend_known [] a) s
+reads_first None s = tt
+reads_first (Some x) s = refl
+
+-- if nothing is pending or left, nothing is left
+pub ended_left : (pending : List ℕ) (left : Option (List ℕ)) → IsAtEnd (prepend_known pending left) → IsAtEnd left
+ended_left pending None h = tt
+ended_left [] (Some y) h = h
+ended_left (x ∷ pending) (Some y) h = let never : x ∷ (pending ++ y) ≡ [] = h in absurd cc

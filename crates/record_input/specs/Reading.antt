@@ -1,0 +1,37 @@
+-- How the rest of a source is read, and why no record was read.
+use Rattle.std.specs.Prelude.{◌≡◌, ℕ, List, Option, None, Some, Result, Err, IfSome}
+use Rattle.ens_outside.specs.declared.lines.NextError.{NextError}
+use Rattle.ens_outside.specs.declared.lines.NextError.TheVariants as next
+use Rattle.schedule_words.specs.Words.{parts_of}
+use Rattle.history_record.specs.Reading.{Stage, read_parts}
+use Rattle.history_record.specs.declared.error.AuditError.{AuditError}
+use Rattle.history_record.specs.declared.error.AuditError.TheVariants as audit
+use Rattle.history_record.specs.declared.record.Record.{Record}
+use Rattle.record_input.specs.declared.read.ReadError.{ReadError}
+use Rattle.record_input.specs.declared.read.ReadError.TheVariants as read
+
+abbrev pub of_next : NextError → ReadError
+of_next next.Failed = read.Failed
+of_next next.Memory = read.Memory
+
+abbrev pub of_audit : AuditError → ReadError
+of_audit (audit.Bad line cause) = read.Bad line cause
+of_audit audit.Lines = read.Lines
+of_audit audit.Memory = read.Memory
+
+-- the bytes to come, after the lines so far, give this result
+abbrev pub ReadsAs : Option (List ℕ) → Stage → Result Record AuditError → Type 0
+ReadsAs rest stage result = IfSome rest (λ bytes. read_parts stage (parts_of 10 bytes) ≡ result)
+
+-- the bytes before and the bytes now, each after the lines read by then, give the same result
+abbrev pub ReadsOn : Option (List ℕ) → Stage → Option (List ℕ) → Stage → Type 0
+ReadsOn None s rest t = Unit {0}
+ReadsOn (Some old) s None t = ⊥
+ReadsOn (Some old) s (Some new) t = read_parts s (parts_of 10 old) ≡ read_parts t (parts_of 10 new)
+
+-- an error and the bytes to come: it names their first bad line and its cause, or they have too many lines
+abbrev pub Refuses : Option (List ℕ) → Stage → ReadError → Type 0
+Refuses rest stage (read.Bad line cause) = ReadsAs rest stage (Err (audit.Bad line cause))
+Refuses rest stage read.Lines = ReadsAs rest stage (Err audit.Lines)
+Refuses rest stage read.Failed = Unit {0}
+Refuses rest stage read.Memory = Unit {0}

@@ -1,0 +1,20 @@
+use Rattle.std.proofs.Common.{refl, sym, subst}
+use Rattle.ens_base.specs.declared.status.Status.{Status}
+use Rattle.ens_base.specs.declared.status.Status.TheVariants as status
+use Rattle.record_report.specs.Printed.{PrintsReport}
+use Rattle.record_report.proofs.Printing.{not_done, not_read_fault, writes_no_fault}
+use Rattle.record_report.proofs.job.print_report.Goals as goal
+
+pub write_ending-requires : goal.write_ending-requires
+write_ending-requires g c = writes_no_fault _ c.in-Ok.audited.status _ c.in-Ok.ensures.printed
+
+pub returns-in-Ok-clause-printed : goal.returns-in-Ok-clause-printed
+returns-in-Ok-clause-printed g c = λ wrote.
+    let w = c.write_ending.ensures.written wrote in
+    (c.in-Ok.audited.text.items, subst (λ (s : Status). PrintsReport (g.S.Source.left c.args.input.now) s c.in-Ok.audited.text.items) (sym w.0) c.in-Ok.ensures.printed, w.1)
+
+pub returns-in-Ok-clause-front : goal.returns-in-Ok-clause-front
+returns-in-Ok-clause-front g c = λ fault. (c.in-Ok.audited.status, c.in-Ok.audited.text.items, c.in-Ok.ensures.printed, c.in-Ok.ensures.end, c.in-Ok.ensures.read, c.write_ending.ensures.front fault)
+
+pub returns-in-Err-clause-front : goal.returns-in-Err-clause-front
+returns-in-Err-clause-front g c = λ fault. (status.Memory, _, refl, (λ is. absurd (not_done is)), (λ is. absurd (not_read_fault is)), c.finish.ensures.front fault)
