@@ -1,10 +1,12 @@
 ghost use Rattle.std.specs.Prelude.{◌≡◌, ◌≢◌, ℕ, List, Option, Ok, IfOk, IfSome, MatchOption, None, string_bytes};
-ghost use Rattle.std.specs.Io.KnownBytes.{Appends, IsAtEnd};
+ghost use Rattle.std.specs.Io.KnownBytes.{Appends};
 ghost use Rattle.ens_base.specs.Causes.{Rose};
 ghost use Rattle.ens_base.specs.declared.status.Status.{Status};
 ghost use Rattle.ens_outside.specs.Written.{AppendsFront};
+ghost use Rattle.replay.specs.Jobs.{HasRead};
 ghost use Rattle.replay.specs.Worlds.{schedule_run};
 ghost use Rattle.world_spec.specs.Messages.{IsPastMessages, IsWithinMessages};
+ghost use Rattle.schedule_input.specs.Reading.{WasTakenTo};
 ghost use Rattle.schedule_premise.specs.Premise.{first_unsound};
 ghost use Rattle.schedule_text.specs.Reading.{schedule_of};
 ghost use Rattle.schedule_text.specs.Spelling.{IsSchedule};
@@ -84,7 +86,8 @@ fn trace_ending<S: Source, R: Threads + Sync>(
     input: &mut S,
 ) -> Result<Ending, AllocError>
     ensures printed { IfOk result (λ e. Traces (S.left input.old) e.status (string_bytes e.text)) }
-    ensures end { IfOk result (λ e. e.status ≡ Status.Done → IsAtEnd (S.left input.new)) }
+    ensures input { IfOk result (λ e. HasRead (S.left input.old) (S.left input.new) (S.fault_count input.old) (S.fault_count input.new) e.status) }
+    ensures taken { WasTakenTo (S.left input.old) (S.left input.new) }
     ensures read { IfOk result (λ e. e.status ≡ Status.ReadFault → Rose (S.fault_count input.old) (S.fault_count input.new)) }
 {
     match read_schedule(alloc, input) {
@@ -101,7 +104,7 @@ fn trace_ending<S: Source, R: Threads + Sync>(
 /// LINE CAUSE` if the input is not a schedule, `limit lines 200000` if it has too many lines,
 /// `premise VIEW reverted MEMBERS` if at least half of the members of a view are reverted, `limit
 /// messages 500000` if its run would send more messages, and `memory` when out of memory. If the
-/// output fails, a prefix of the text was written.
+/// output fails, a prefix was written of the text with which the trace would otherwise have ended.
 pub fn trace<S: Source, O: Sink, R: Threads + Sync>(
     rt: &R,
     alloc: Global,
@@ -109,8 +112,8 @@ pub fn trace<S: Source, O: Sink, R: Threads + Sync>(
     output: &mut O,
 ) -> Status
     ensures printed { result ≢ Status.WriteFault → (text : List ℕ) × Traces (S.left input.old) result text × Appends (O.written output.old) (O.written output.new) text }
-    ensures front { result ≡ Status.WriteFault → (status : Status) × (text : List ℕ) × Traces (S.left input.old) status text × AppendsFront (O.written output.old) (O.written output.new) text }
-    ensures end { result ≡ Status.Done → IsAtEnd (S.left input.new) }
+    ensures front { result ≡ Status.WriteFault → (status : Status) × (text : List ℕ) × Traces (S.left input.old) status text × HasRead (S.left input.old) (S.left input.new) (S.fault_count input.old) (S.fault_count input.new) status × AppendsFront (O.written output.old) (O.written output.new) text }
+    ensures input { result ≢ Status.WriteFault → HasRead (S.left input.old) (S.left input.new) (S.fault_count input.old) (S.fault_count input.new) result }
     ensures read { result ≡ Status.ReadFault → Rose (S.fault_count input.old) (S.fault_count input.new) }
     ensures write { result ≡ Status.WriteFault → Rose (O.fault_count output.old) (O.fault_count output.new) }
 {
