@@ -1,6 +1,8 @@
 -- A replay that nothing ends early runs to its end.
 use Rattle.std.proofs.Common.{◌≡◌, ◌⊎◌, ◌<◌, ℕ, Bool, true, false, if◌then◌else◌, List, [], ◌∷◌, ◌++◌, Option, None, Some, Result, Ok, Err, inl, inr, refl, sym, subst, ◌∙◌, arith}
-use Rattle.std.specs.Prelude.{IsSomeAnd}
+use Rattle.std.specs.Prelude.{◌≢◌, IfOk, IsSomeAnd, string_bytes}
+use Rattle.std.specs.Io.KnownBytes.{IsAtEnd}
+use Rattle.ens_base.specs.Causes.{Rose}
 use Rattle.std.specs.List.{list_any}
 use Rattle.ens_base.proofs.Lists.{in_append, in_left, in_right}
 use Rattle.ens_base.specs.Lists.{◌∈◌, same_bytes}
@@ -9,7 +11,13 @@ use Rattle.ens_hashing.specs.Hashing.{Book, IsKept, total}
 use Rattle.held_stores.proofs.Books.{kept_once}
 use Rattle.held_stores.specs.Held.{Account, HasNoClash, added, kept_after, once}
 use Rattle.held_stores.specs.Laws.{HasClashed}
+use Rattle.schedule_input.specs.Endings.{IsUnread}
+use Rattle.schedule_input.specs.Reading.{Refuses, WasCutOff, WasTakenTo}
+use Rattle.schedule_input.specs.declared.ending.Ending.{Ending}
+use Rattle.schedule_input.specs.declared.read.ReadError.{ReadError}
+use Rattle.schedule_input.specs.declared.read.ReadError.TheVariants as read
 use Rattle.schedule_premise.specs.Premise.{first_unsound}
+use Rattle.schedule_text.specs.Progress.{Blank}
 use Rattle.schedule_text.specs.Reading.{schedule_of}
 use Rattle.schedule_text.specs.declared.error.ScheduleError.{ScheduleError}
 use Rattle.schedule_text.specs.declared.schedule.Schedule.{Schedule}
@@ -105,22 +113,65 @@ pub runs_out : (source : Option (List ℕ)) (status : Status) (text : List ℕ) 
 runs_out None status text run h calm = absurd run
 runs_out (Some bytes) status text run h calm = known bytes run status text h calm
 
--- ---- an end that is neither a success nor a fault of the source says nothing of the source
+-- ---- how far the source was read
 
-pub usage_read : (left : Option (List ℕ)) (before now : ℕ) → HasRead left before now Status.Usage
-usage_read left before now = record { end = λ e. absurd (not_done e); fault = λ e. absurd (not_read e) }
+-- a job that ended as it was to end
+pub ended_as : (source left : Option (List ℕ)) (before now : ℕ) (status ended : Status) → ended ≡ status → HasRead source left before now status → HasRead source left before now ended
+ended_as source left before now status ended is has = subst (λ (s : Status). HasRead source left before now s) (sym is) has
+
+-- a replay that read a schedule read the whole source
+pub read_whole : (source left : Option (List ℕ)) (before now : ℕ) (status : Status) → WasTakenTo source left → IsAtEnd left → (status ≡ Status.ReadFault → ⊥) → HasRead source left before now status
+read_whole source left before now status taken end calm = record { taken = taken; end = λ needs. end; limit = λ e. inr end; fault = λ e. absurd (calm e) }
+
+-- one that read none ended where the text says
+module _ (source left : Option (List ℕ)) (before now : ℕ) (error : ReadError) (taken : WasTakenTo source left) (rose : error ≡ read.Failed → Rose before now) (cut : error ≡ read.Failed → WasCutOff source left) where
+  unread_status : (status : Status) (text : List ℕ) → IsUnread source status text → (status ≡ Status.ReadFault → error ≡ read.Failed) → HasRead source left before now status
+  unread_status Status.Schedule text unread failed = record { taken = taken; end = λ needs. absurd needs; limit = λ e. absurd (not_limit e); fault = λ e. absurd (not_fault e) }
+    where
+      not_limit : ◌≡◌ {A = Status} Status.Schedule Status.Limit → ⊥
+      not_limit e = cc e
+
+      not_fault : ◌≡◌ {A = Status} Status.Schedule Status.ReadFault → ⊥
+      not_fault e = cc e
+  unread_status Status.Limit text unread failed = record { taken = taken; end = λ needs. absurd needs; limit = λ e. inl unread.0; fault = λ e. absurd (not_fault e) }
+    where
+      not_fault : ◌≡◌ {A = Status} Status.Limit Status.ReadFault → ⊥
+      not_fault e = cc e
+  unread_status Status.ReadFault text unread failed = record { taken = taken; end = λ needs. absurd needs; limit = λ e. absurd (not_limit e); fault = λ e. (rose (failed refl), cut (failed refl)) }
+    where
+      not_limit : ◌≡◌ {A = Status} Status.ReadFault Status.Limit → ⊥
+      not_limit e = cc e
+  unread_status status text unread failed = absurd unread
+
+  pub unread_read : {E : Type 0} (r : Result Ending E) → Refuses source Blank error → IfOk r (λ e. (known : Option (List ℕ)) → Refuses known Blank error → IsUnread known e.status (string_bytes e.text))
+      → IfOk r (λ e. (e.status ≢ Status.Done) × (e.status ≡ Status.ReadFault → error ≡ read.Failed)) → IfOk r (λ e. HasRead source left before now e.status)
+  unread_read (Ok e) refuses printed status = unread_status e.status (string_bytes e.text) (printed source refuses) status.1
+  unread_read (Err e) refuses printed status = tt
+
+-- ---- a source that was not read
+
+nothing_taken : (source : Option (List ℕ)) → WasTakenTo source source
+nothing_taken None = tt
+nothing_taken (Some bytes) = record { lines = []; more = []; p = Blank; are = refl; good = λ rest. refl; few = omega arith; short = omega arith; bound = omega arith }
+
+pub usage_read : (source : Option (List ℕ)) (before now : ℕ) → HasRead source source before now Status.Usage
+usage_read source before now = record { taken = nothing_taken source; end = λ needs. absurd needs; limit = λ e. absurd (not_limit e); fault = λ e. absurd (not_fault e) }
   where
-    not_done : ◌≡◌ {A = Status} Status.Usage Status.Done → ⊥
-    not_done e = cc e
+    not_limit : ◌≡◌ {A = Status} Status.Usage Status.Limit → ⊥
+    not_limit e = cc e
 
-    not_read : ◌≡◌ {A = Status} Status.Usage Status.ReadFault → ⊥
-    not_read e = cc e
+    not_fault : ◌≡◌ {A = Status} Status.Usage Status.ReadFault → ⊥
+    not_fault e = cc e
 
-pub memory_read : (left : Option (List ℕ)) (before now : ℕ) → HasRead left before now Status.Memory
-memory_read left before now = record { end = λ e. absurd (not_done e); fault = λ e. absurd (not_read e) }
+-- out of memory says no more of the source than how much was taken
+pub memory_taken : (source left : Option (List ℕ)) (before now : ℕ) → WasTakenTo source left → HasRead source left before now Status.Memory
+memory_taken source left before now taken = record { taken = taken; end = λ needs. absurd needs; limit = λ e. absurd (not_limit e); fault = λ e. absurd (not_fault e) }
   where
-    not_done : ◌≡◌ {A = Status} Status.Memory Status.Done → ⊥
-    not_done e = cc e
+    not_limit : ◌≡◌ {A = Status} Status.Memory Status.Limit → ⊥
+    not_limit e = cc e
 
-    not_read : ◌≡◌ {A = Status} Status.Memory Status.ReadFault → ⊥
-    not_read e = cc e
+    not_fault : ◌≡◌ {A = Status} Status.Memory Status.ReadFault → ⊥
+    not_fault e = cc e
+
+pub memory_read : (source : Option (List ℕ)) (before now : ℕ) → HasRead source source before now Status.Memory
+memory_read source before now = memory_taken source source before now (nothing_taken source)

@@ -1,6 +1,6 @@
 -- How a replay ends, for each way in which the run of its schedule ends.
 use Rattle.std.proofs.Common.{◌≡◌, ◌<◌, ◌^◌, ℕ, Bool, true, false, not, length, List, [], ◌∷◌, ◌++◌, Option, None, Some, Result, Ok, Err, refl, sym, subst, ◌∙◌, inl, inr, arith, string_bytes}
-use Rattle.std.specs.Prelude.{IfOk, codes}
+use Rattle.std.specs.Prelude.{IfOk, IfSome, codes}
 use Rattle.std.proofs.lemmas.Bool.{false≢true}
 use Rattle.call_refinement.proofs.ScheduleLaws.{schedules_are_legal, schedules_have_causes}
 use Rattle.call_refinement.specs.Lines.{lines_of}
@@ -14,13 +14,15 @@ use Rattle.schedule_input.specs.declared.ending.Ending.{Ending}
 use Rattle.schedule_premise.proofs.Searches.{none_passes}
 use Rattle.schedule_premise.proofs.Soundness.{unreverted_is_none}
 use Rattle.schedule_premise.specs.Premise.{first_unsound, fails, is_reverted, keeps_majority, views_named}
+use Rattle.schedule_text.specs.Reading.{schedule_of}
 use Rattle.schedule_text.specs.Spelling as schedule
 use Rattle.schedule_text.specs.declared.event.ScheduleEvent.TheVariants as line
 use Rattle.schedule_text.specs.declared.schedule.Schedule.{Schedule}
-use Rattle.world_spec.specs.Messages.{IsPastMessages}
+use Rattle.world_model.specs.declared.error.WorldError.TheVariants.{BookFull, Clash}
 use Rattle.sync_laws.specs.Facts.{AreFirm}
 use Rattle.replay.specs.Jobs.{EndsSo, HasAdmitted, HasCausedAnswers, HasLegalHistories, IsRunText, PrintsWith, clash_line, hashed_by, nothing_hashed}
-use Rattle.replay.specs.Worlds.{schedule_run}
+use Rattle.replay.specs.Stops.{PassesLimit, RejectsIn}
+use Rattle.replay.proofs.Stops.{passes_whole, rejects_whole}
 
 -- a schedule without a line that reverts a peer is sound
 pub forward_sound : (s : Schedule) → schedule.IsSchedule s → ((peer changes : ℕ) → line.Revert peer changes ∈ s.events → ⊥) → first_unsound s ≡ None
@@ -52,25 +54,37 @@ module _ (first now : Account) (s : Schedule) (sound : first_unsound s ≡ None)
       let all : HasAdmitted (hashed_by s) first now = record { has = has; apart = apart; fit = λ limit is. (kept_once (hashed_by s) limit now.kept (subst (λ (k : Option Book). HasTaken (hashed_by s) k now.kept) is has.taken)).1 } in
       (s, read, of, sound, ran, all, sound_legal s of sound)
 
-  pub clash_ends : (kept new text : List ℕ) → HasClashed (hashed_by s) first kept new now → text ≡ clash_line kept new → EndsSo first now s Status.Clash text
-  clash_ends kept new text has is None read = (kept, new, has.1, has.3, is, tt)
-  clash_ends kept new text has is (Some bytes) read = (kept, new, has.1, has.3, is, (s, read, sound, has))
+  pub clash_ends : (kept new text : List ℕ) → RejectsIn s first (λ strings mid. HasClashed strings mid kept new now) → text ≡ clash_line kept new → EndsSo first now s Status.Clash text
+  clash_ends kept new text rejects is source read = by source read
+    where
+      has : HasClashed (hashed_by s) first kept new now
+      has = rejects_whole s first now (Clash kept new) rejects
 
-  pub book_ends : (text : List ℕ) → HasFilled (hashed_by s) first now → text ≡ codes "limit book 1073741824" ++ 10 ∷ [] → EndsSo first now s Status.Limit text
-  book_ends text has is None read = inr (inr (has.2, tt, is))
-  book_ends text has is (Some bytes) read = inr (inr (has.2, (s, read, sound, has, λ limit kept. filled_beyond (hashed_by s) limit first now kept has), is))
+      by : (source : Option (List ℕ)) → IfSome source (λ bytes. schedule_of bytes ≡ Ok s) → PrintsWith first now source Status.Clash text
+      by None read = (kept, new, has.1, has.3, is, tt)
+      by (Some bytes) read = (kept, new, has.1, has.3, is, (s, read, sound, has, rejects))
 
-  pub limit_ends : (text : List ℕ) → IsPastMessages (schedule_run s) → text ≡ codes "limit messages 500000" ++ 10 ∷ [] → EndsSo first now s Status.Limit text
-  limit_ends text past is None read = inr (inl (tt, is))
-  limit_ends text past is (Some bytes) read = inr (inl ((s, read, sound, past), is))
+  book_ends : (text : List ℕ) → RejectsIn s first (λ strings mid. HasFilled strings mid now) → text ≡ codes "limit book 1073741824" ++ 10 ∷ [] → EndsSo first now s Status.Limit text
+  book_ends text rejects is source read = by source read
+    where
+      has : HasFilled (hashed_by s) first now
+      has = rejects_whole s first now (BookFull 0) rejects
+
+      by : (source : Option (List ℕ)) → IfSome source (λ bytes. schedule_of bytes ≡ Ok s) → PrintsWith first now source Status.Limit text
+      by None read = inr (inr (has.2, tt, is))
+      by (Some bytes) read = inr (inr (has.2, (s, read, sound, has, (λ limit kept. filled_beyond (hashed_by s) limit first now kept has), rejects), is))
+
+  limit_ends : (text : List ℕ) → PassesLimit s first → text ≡ codes "limit messages 500000" ++ 10 ∷ [] → EndsSo first now s Status.Limit text
+  limit_ends text passes is None read = inr (inl (tt, is))
+  limit_ends text passes is (Some bytes) read = inr (inl ((s, read, sound, passes_whole s first passes, passes), is))
 
   -- the same of the endings that are made with these lines
-  pub book_ending : {E : Type 0} (r : Result Ending E) (line : List ℕ) → line ≡ codes "limit book 1073741824" ++ 10 ∷ [] → IfOk r (λ e. (e.status ≡ Status.Limit) × (string_bytes e.text ≡ line)) → HasFilled (hashed_by s) first now
+  pub book_ending : {E : Type 0} (r : Result Ending E) (line : List ℕ) → line ≡ codes "limit book 1073741824" ++ 10 ∷ [] → IfOk r (λ e. (e.status ≡ Status.Limit) × (string_bytes e.text ≡ line)) → RejectsIn s first (λ strings mid. HasFilled strings mid now)
       → IfOk r (λ e. EndsSo first now s e.status (string_bytes e.text))
   book_ending (Ok e) line is made has = subst (λ status. EndsSo first now s status (string_bytes e.text)) (sym made.0) (book_ends (string_bytes e.text) has (made.1 ∙ is))
   book_ending (Err e) line is made has = tt
 
-  pub limit_ending : {E : Type 0} (r : Result Ending E) (line : List ℕ) → line ≡ codes "limit messages 500000" ++ 10 ∷ [] → IfOk r (λ e. (e.status ≡ Status.Limit) × (string_bytes e.text ≡ line)) → IsPastMessages (schedule_run s)
+  pub limit_ending : {E : Type 0} (r : Result Ending E) (line : List ℕ) → line ≡ codes "limit messages 500000" ++ 10 ∷ [] → IfOk r (λ e. (e.status ≡ Status.Limit) × (string_bytes e.text ≡ line)) → PassesLimit s first
       → IfOk r (λ e. EndsSo first now s e.status (string_bytes e.text))
   limit_ending (Ok e) line is made past = subst (λ status. EndsSo first now s status (string_bytes e.text)) (sym made.0) (limit_ends (string_bytes e.text) past (made.1 ∙ is))
   limit_ending (Err e) line is made past = tt

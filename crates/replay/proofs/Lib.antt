@@ -1,4 +1,5 @@
 pub mod Members
+pub mod Stops
 pub mod Endings
 pub mod Unread
 pub mod Texts

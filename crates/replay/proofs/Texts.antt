@@ -22,6 +22,7 @@ use Rattle.held_stores.specs.Held.{HasNoClash, once}
 use Rattle.held_stores.specs.Laws.{HasClashed, HasFilled}
 use Rattle.replay.specs.Jobs.{EndsInRun, IsRunText, Prints, PrintsWith, hashed_by, nothing_hashed}
 use Rattle.history_scribe.specs.Text.{history_line, printed_line}
+use Rattle.replay.specs.Stops.{PassesLimit, RejectsIn}
 use Rattle.replay.specs.Text.{IsTextOfRun}
 use Rattle.replay.specs.Worlds.{schedule_run}
 use Rattle.replay.proofs.Members.{Contains_from_in, in_from_Contains}
@@ -99,15 +100,19 @@ text_replayed s Status.Premise text is sound h =
 text_replayed s Status.Clash text is sound h =
     let r = h.1 in
     let met : HasClashed (hashed_by s) nothing_hashed r.0 r.1 h.0 = subst (λ (t : Schedule). HasClashed (hashed_by t) nothing_hashed r.0 r.1 h.0) (read_same s r.5.0 is r.5.1) r.5.3 in
-    (h.0, r.0, r.1, met, r.2, r.4)
+    let inside = subst (λ (t : Schedule). RejectsIn t nothing_hashed (λ strings mid. HasClashed strings mid r.0 r.1 h.0)) (read_same s r.5.0 is r.5.1) r.5.4 in
+    (h.0, r.0, r.1, met, inside, r.2, r.4)
 text_replayed s Status.Limit text is sound h = by_limit h.1
   where
     by_limit : PrintsWith nothing_hashed h.0 (Some (schedule_text s)) Status.Limit text → EndsInRun s Status.Limit text
     by_limit (inl lines) = absurd (no_error (sym (schedule_of-text s is) ∙ lines.0))
-    by_limit (inr (inl m)) = inl (subst (λ (t : Schedule). IsPastMessages (schedule_run t)) (read_same s m.0.0 is m.0.1) m.0.3, m.1)
+    by_limit (inr (inl m)) =
+        let same : m.0.0 ≡ s = read_same s m.0.0 is m.0.1 in
+        inl (subst (λ (t : Schedule). IsPastMessages (schedule_run t)) same m.0.3, subst (λ (t : Schedule). PassesLimit t nothing_hashed) same m.0.4, m.1)
     by_limit (inr (inr b)) =
         let met : HasFilled (hashed_by s) nothing_hashed h.0 = subst (λ (t : Schedule). HasFilled (hashed_by t) nothing_hashed h.0) (read_same s b.1.0 is b.1.1) b.1.3 in
-        inr (h.0, met, subst (λ (t : Schedule). 1073741824 < total (once (hashed_by t))) (read_same s b.1.0 is b.1.1) (b.1.4 1073741824 refl), b.2)
+        let inside = subst (λ (t : Schedule). RejectsIn t nothing_hashed (λ strings mid. HasFilled strings mid h.0)) (read_same s b.1.0 is b.1.1) b.1.5 in
+        inr (h.0, met, inside, subst (λ (t : Schedule). 1073741824 < total (once (hashed_by t))) (read_same s b.1.0 is b.1.1) (b.1.4 1073741824 refl), b.2)
 text_replayed s Status.ReadFault text is sound h = h.1
 text_replayed s Status.Memory text is sound h = h.1
 text_replayed s status text is sound h = absurd h.1

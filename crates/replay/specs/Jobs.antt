@@ -1,5 +1,5 @@
 -- What a job prints, and why it ends as it does.
-use Rattle.std.specs.Prelude.{◌≡◌, ◌⊎◌, ◌<◌, ◌≤◌, ℕ, List, [], ◌∷◌, ◌++◌, codes, Option, None, Some, Ok, IfSome}
+use Rattle.std.specs.Prelude.{◌≡◌, ◌⊎◌, ◌<◌, ◌≤◌, ℕ, List, [], ◌∷◌, ◌++◌, codes, Option, None, Some, Ok, Err, IfSome}
 use Rattle.std.specs.Io.KnownBytes.{IsAtEnd}
 use Rattle.call_refinement.specs.Causes.{HaveCauses}
 use Rattle.call_refinement.specs.Lines.{AreLegal}
@@ -8,6 +8,7 @@ use Rattle.held_stores.specs.Laws.{HasClashed, HasFilled}
 use Rattle.schedule_premise.specs.Premise.{first_unsound}
 use Rattle.schedule_text.specs.Reading.{schedule_of}
 use Rattle.schedule_text.specs.Spelling.{IsSchedule}
+use Rattle.schedule_text.specs.declared.error.ScheduleError.TheVariants as schedule
 use Rattle.schedule_text.specs.declared.schedule.Schedule.{Schedule}
 use Rattle.ens_base.specs.Causes.{Rose}
 use Rattle.ens_base.specs.Words.{bytes_word}
@@ -16,6 +17,8 @@ use Rattle.ens_hashing.specs.Hashing.{IsClash, KeepsNothing, empty_book, total}
 use Rattle.history_scribe.specs.Histories.{AreHistories}
 use Rattle.register_model.specs.declared.history.History.{History}
 use Rattle.schedule_input.specs.Endings.{IsBadLine, IsLineLimit, IsUnsound}
+use Rattle.schedule_input.specs.Reading.{WasCutOff, WasTakenTo}
+use Rattle.replay.specs.Stops.{PassesLimit, RejectsIn}
 use Rattle.replay.specs.Text.{IsTextOfRun}
 use Rattle.replay.specs.Worlds.{schedule_run}
 use Rattle.world_spec.specs.Messages.{IsPastMessages, IsWithinMessages}
@@ -63,9 +66,9 @@ abbrev pub IsReplay : Account → Account → List ℕ → List ℕ → Type 0
 IsReplay first now bytes text = (s : Schedule) × (schedule_of bytes ≡ Ok s) × IsSchedule s × (first_unsound s ≡ None) × IsRunText s text × HasAdmitted (hashed_by s) first now × IsLegalRun s
 
 -- the bytes are a sound schedule, and the hasher rejected the next string of its run, which clashes
--- with one that it keeps
+-- with one that it keeps, while the lines before stay within the limit on messages
 abbrev pub IsClashing : Account → Account → List ℕ → List ℕ → List ℕ → Type 0
-IsClashing first now kept new bytes = (s : Schedule) × (schedule_of bytes ≡ Ok s) × (first_unsound s ≡ None) × HasClashed (hashed_by s) first kept new now
+IsClashing first now kept new bytes = (s : Schedule) × (schedule_of bytes ≡ Ok s) × (first_unsound s ≡ None) × HasClashed (hashed_by s) first kept new now × RejectsIn s first (λ strings mid. HasClashed strings mid kept new now)
 
 -- clash HEX HEX, with two different strings that have the same MD5: the one kept, and the new one
 abbrev pub clash_line : List ℕ → List ℕ → List ℕ
@@ -75,18 +78,20 @@ clash_line kept new = codes "clash " ++ bytes_word kept ++ codes " " ++ bytes_wo
 abbrev pub IsClashText : Account → Account → Option (List ℕ) → List ℕ → Type 0
 IsClashText first now source text = (kept : List ℕ) × (new : List ℕ) × IsClash kept new × Rose first.clashes now.clashes × (text ≡ clash_line kept new) × IfSome source (IsClashing first now kept new)
 
--- the bytes are a sound schedule, and its run exceeds the limit on messages
-abbrev pub IsPastLimit : List ℕ → Type 0
-IsPastLimit bytes = (s : Schedule) × (schedule_of bytes ≡ Ok s) × (first_unsound s ≡ None) × IsPastMessages (schedule_run s)
+-- the bytes are a sound schedule, and its run exceeds the limit on messages, with a line before which the
+-- hasher took every string
+abbrev pub IsPastLimit : Account → List ℕ → Type 0
+IsPastLimit first bytes = (s : Schedule) × (schedule_of bytes ≡ Ok s) × (first_unsound s ≡ None) × IsPastMessages (schedule_run s) × PassesLimit s first
 
 -- message 500,001 would be sent, and the text reports it
-abbrev pub IsMessageLimit : Option (List ℕ) → List ℕ → Type 0
-IsMessageLimit source text = IfSome source IsPastLimit × (text ≡ codes "limit messages 500000" ++ 10 ∷ [])
+abbrev pub IsMessageLimit : Account → Option (List ℕ) → List ℕ → Type 0
+IsMessageLimit first source text = IfSome source (IsPastLimit first) × (text ≡ codes "limit messages 500000" ++ 10 ∷ [])
 
 -- the bytes are a sound schedule, and the next string of its run did not fit into the book of the
--- hasher, so that the strings of the run exceed this book
+-- hasher, so that the strings of the run exceed this book, while the lines before stay within the limit
+-- on messages
 abbrev pub IsFilling : Account → Account → List ℕ → Type 0
-IsFilling first now bytes = (s : Schedule) × (schedule_of bytes ≡ Ok s) × (first_unsound s ≡ None) × HasFilled (hashed_by s) first now × Exceed (hashed_by s) first
+IsFilling first now bytes = (s : Schedule) × (schedule_of bytes ≡ Ok s) × (first_unsound s ≡ None) × HasFilled (hashed_by s) first now × Exceed (hashed_by s) first × RejectsIn s first (λ strings mid. HasFilled strings mid now)
 
 -- a full book was found and counted, and the text reports the limit of the book of `replay`
 abbrev pub IsBookLimit : Account → Account → Option (List ℕ) → List ℕ → Type 0
@@ -99,16 +104,26 @@ PrintsWith first now source Status.Done text = IfSome source (λ bytes. IsReplay
 PrintsWith first now source Status.Schedule text = IsBadLine source text
 PrintsWith first now source Status.Premise text = IsUnsound source text
 PrintsWith first now source Status.Clash text = IsClashText first now source text
-PrintsWith first now source Status.Limit text = IsLineLimit source text ⊎ (IsMessageLimit source text ⊎ IsBookLimit first now source text)
+PrintsWith first now source Status.Limit text = IsLineLimit source text ⊎ (IsMessageLimit first source text ⊎ IsBookLimit first now source text)
 PrintsWith first now source Status.ReadFault text = text ≡ codes "read fault" ++ 10 ∷ []
 PrintsWith first now source Status.Memory text = text ≡ codes "memory" ++ 10 ∷ []
 PrintsWith first now source status text = ⊥
 
--- what a job did to its source when it ends with this status: at the end of a replay nothing is left,
--- and a read fault was counted
-pub record HasRead (left : Option (List ℕ)) (before now : ℕ) (status : Status) : Type 0 where
-  pub end : status ≡ Status.Done → IsAtEnd left
-  pub fault : status ≡ Status.ReadFault → Rose before now
+-- a replay ends with this status only if it read a schedule
+abbrev pub NeedsSchedule : Status → Type 0
+NeedsSchedule Status.Done = Unit {0}
+NeedsSchedule Status.Premise = Unit {0}
+NeedsSchedule Status.Clash = Unit {0}
+NeedsSchedule status = ⊥
+
+-- How far a replay read its source, and how many faults were counted, when it ends with this status. Of
+-- a schedule nothing is left. At a limit nothing is left, or line 200,001 begins. A read fault was
+-- counted, and came before the bytes decided anything.
+pub record HasRead (source left : Option (List ℕ)) (before now : ℕ) (status : Status) : Type 0 where
+  pub taken : WasTakenTo source left
+  pub end : NeedsSchedule status → IsAtEnd left
+  pub limit : status ≡ Status.Limit → IfSome source (λ bytes. schedule_of bytes ≡ Err schedule.Lines) ⊎ IsAtEnd left
+  pub fault : status ≡ Status.ReadFault → Rose before now × WasCutOff source left
 
 -- the account of the book of `replay` before it meets a string
 abbrev pub nothing_hashed : Account
@@ -140,8 +155,8 @@ EndsSo first now s status text = (source : Option (List ℕ)) → IfSome source 
 -- how a replay over such a book ends if it reads this schedule and runs it
 abbrev pub EndsInRun : Schedule → Status → List ℕ → Type 0
 EndsInRun s Status.Done text = IsRunText s text × HasNoClash (hashed_by s) × (total (once (hashed_by s)) ≤ 1073741824)
-EndsInRun s Status.Clash text = (now : Account) × (kept : List ℕ) × (new : List ℕ) × HasClashed (hashed_by s) nothing_hashed kept new now × IsClash kept new × (text ≡ clash_line kept new)
-EndsInRun s Status.Limit text = (IsPastMessages (schedule_run s) × (text ≡ codes "limit messages 500000" ++ 10 ∷ [])) ⊎ ((now : Account) × HasFilled (hashed_by s) nothing_hashed now × (1073741824 < total (once (hashed_by s))) × (text ≡ codes "limit book 1073741824" ++ 10 ∷ []))
+EndsInRun s Status.Clash text = (now : Account) × (kept : List ℕ) × (new : List ℕ) × HasClashed (hashed_by s) nothing_hashed kept new now × RejectsIn s nothing_hashed (λ strings mid. HasClashed strings mid kept new now) × IsClash kept new × (text ≡ clash_line kept new)
+EndsInRun s Status.Limit text = (IsPastMessages (schedule_run s) × PassesLimit s nothing_hashed × (text ≡ codes "limit messages 500000" ++ 10 ∷ [])) ⊎ ((now : Account) × HasFilled (hashed_by s) nothing_hashed now × RejectsIn s nothing_hashed (λ strings mid. HasFilled strings mid now) × (1073741824 < total (once (hashed_by s))) × (text ≡ codes "limit book 1073741824" ++ 10 ∷ []))
 EndsInRun s Status.ReadFault text = text ≡ codes "read fault" ++ 10 ∷ []
 EndsInRun s Status.Memory text = text ≡ codes "memory" ++ 10 ∷ []
 EndsInRun s status text = ⊥

@@ -1,4 +1,5 @@
 pub mod Text
 pub mod Worlds
+pub mod Stops
 pub mod Summary
 pub mod Jobs

@@ -1,9 +1,10 @@
 ghost use Rattle.std.specs.Prelude.{◌≡◌, ◌≢◌, List, ℕ, IfOk, IsSomeAnd, string_bytes};
-ghost use Rattle.std.specs.Io.KnownBytes.{Appends, IsAtEnd};
+ghost use Rattle.std.specs.Io.KnownBytes.{Appends};
 ghost use Rattle.ens_base.specs.Causes.{Rose};
 ghost use Rattle.ens_base.specs.declared.status.Status.{Status};
 ghost use Rattle.ens_outside.specs.Written.{AppendsFront};
 ghost use Rattle.held_stores.specs.Held.{Account, account};
+ghost use Rattle.schedule_input.specs.Reading.{WasTakenTo};
 ghost use Rattle.schedule_text.specs.Spelling.{IsSchedule};
 ghost use Rattle.replay.specs.Jobs.{EndsSo, HasRead, IsRunnable, Prints, PrintsWith, RanOut};
 
@@ -46,7 +47,8 @@ fn replay_ending<S: Source, H: Hasher16, R: Threads + Sync>(
     hasher: &mut H,
 ) -> Result<Ending, AllocError>
     ensures printed { IfOk result (λ e. PrintsWith (account H.kept H.clashes H.fulls hasher.old) (account H.kept H.clashes H.fulls hasher.new) (S.left input.old) e.status (string_bytes e.text)) }
-    ensures end { IfOk result (λ e. e.status ≡ Status.Done → IsAtEnd (S.left input.new)) }
+    ensures input { IfOk result (λ e. HasRead (S.left input.old) (S.left input.new) (S.fault_count input.old) (S.fault_count input.new) e.status) }
+    ensures taken { WasTakenTo (S.left input.old) (S.left input.new) }
     ensures read { IfOk result (λ e. e.status ≡ Status.ReadFault → Rose (S.fault_count input.old) (S.fault_count input.new)) }
 {
     match read_schedule(alloc, input) {
@@ -73,8 +75,8 @@ pub fn replay_with<S: Source, O: Sink, H: Hasher16, R: Threads + Sync>(
     hasher: &mut H,
 ) -> Status
     ensures printed { result ≢ Status.WriteFault → (text : List ℕ) × PrintsWith (account H.kept H.clashes H.fulls hasher.old) (account H.kept H.clashes H.fulls hasher.new) (S.left input.old) result text × Appends (O.written output.old) (O.written output.new) text }
-    ensures front { result ≡ Status.WriteFault → (status : Status) × (text : List ℕ) × PrintsWith (account H.kept H.clashes H.fulls hasher.old) (account H.kept H.clashes H.fulls hasher.new) (S.left input.old) status text × HasRead (S.left input.new) (S.fault_count input.old) (S.fault_count input.new) status × AppendsFront (O.written output.old) (O.written output.new) text }
-    ensures end { result ≡ Status.Done → IsAtEnd (S.left input.new) }
+    ensures front { result ≡ Status.WriteFault → (status : Status) × (text : List ℕ) × PrintsWith (account H.kept H.clashes H.fulls hasher.old) (account H.kept H.clashes H.fulls hasher.new) (S.left input.old) status text × HasRead (S.left input.old) (S.left input.new) (S.fault_count input.old) (S.fault_count input.new) status × AppendsFront (O.written output.old) (O.written output.new) text }
+    ensures input { result ≢ Status.WriteFault → HasRead (S.left input.old) (S.left input.new) (S.fault_count input.old) (S.fault_count input.new) result }
     ensures read { result ≡ Status.ReadFault → Rose (S.fault_count input.old) (S.fault_count input.new) }
     ensures write { result ≡ Status.WriteFault → Rose (O.fault_count output.old) (O.fault_count output.new) }
 {
@@ -93,8 +95,8 @@ pub fn replay<S: Source, O: Sink, R: Threads + Sync>(
     output: &mut O,
 ) -> Status
     ensures printed { result ≢ Status.WriteFault → (text : List ℕ) × Prints (S.left input.old) result text × Appends (O.written output.old) (O.written output.new) text }
-    ensures front { result ≡ Status.WriteFault → (status : Status) × (text : List ℕ) × Prints (S.left input.old) status text × HasRead (S.left input.new) (S.fault_count input.old) (S.fault_count input.new) status × AppendsFront (O.written output.old) (O.written output.new) text }
-    ensures end { result ≡ Status.Done → IsAtEnd (S.left input.new) }
+    ensures front { result ≡ Status.WriteFault → (status : Status) × (text : List ℕ) × Prints (S.left input.old) status text × HasRead (S.left input.old) (S.left input.new) (S.fault_count input.old) (S.fault_count input.new) status × AppendsFront (O.written output.old) (O.written output.new) text }
+    ensures input { result ≢ Status.WriteFault → HasRead (S.left input.old) (S.left input.new) (S.fault_count input.old) (S.fault_count input.new) result }
     ensures read { result ≡ Status.ReadFault → Rose (S.fault_count input.old) (S.fault_count input.new) }
     ensures write { result ≡ Status.WriteFault → Rose (O.fault_count output.old) (O.fault_count output.new) }
     // If no other end has a cause, the replay runs to its end, unless out of memory.

@@ -1,12 +1,15 @@
-ghost use Rattle.std.specs.Prelude.{◌≡◌, ◌≢◌, IfOk, MatchOption, None, string_bytes};
+ghost use Rattle.std.specs.Prelude.{◌≡◌, ◌≢◌, IfErr, IfOk, MatchOption, None, OnOk, string_bytes};
 ghost use Rattle.ens_base.specs.declared.status.Status.{Status};
-ghost use Rattle.held_stores.specs.Held.{account};
+ghost use Rattle.ens_hashing.specs.Hashing.{KeepsNothing};
+ghost use Rattle.held_stores.specs.Held.{account, HasHashed, HasNoClash};
 ghost use Rattle.schedule_premise.specs.Premise.{first_unsound};
 ghost use Rattle.schedule_text.specs.Spelling.{IsSchedule};
-ghost use Rattle.replay.specs.Jobs.{EndsSo, clash_line};
+ghost use Rattle.replay.specs.Jobs.{EndsSo, clash_line, hashed_by};
+ghost use Rattle.replay.specs.Stops.{StopsIn};
 ghost use Rattle.replay.specs.Text.{IsTextOfRun};
 ghost use Rattle.world_model.specs.Worlds.{run_of};
-ghost use Rattle.world_spec.specs.Messages.{IsPastMessages};
+ghost use Rattle.world_spec.specs.Messages.{IsPastMessages, IsWithinMessages};
+ghost use Rattle.world_spec.specs.Runs.{unhashed};
 ghost use Rattle.replay.specs.Worlds.{schedule_run};
 ghost use Rattle.replay.specs.Summary.{EndsInSummary, IsSummary};
 
@@ -41,6 +44,28 @@ fn run_text(alloc: Global, world: &World) -> Result<String, AllocError>
     write_text(alloc, world.printed(), &histories)
 }
 
+/// Opens a world and applies the lines of a schedule, one after another. On failure says in which line:
+/// at the limit on messages the hasher took every string of the lines before it, and if the hasher
+/// rejected a string, these lines stay within the limit on messages.
+fn run_lines<H: Hasher16, R: Threads + Sync>(
+    rt: &R,
+    alloc: Global,
+    schedule: &Schedule,
+    hasher: &mut H,
+) -> Result<World, WorldError>
+    requires { IsSchedule schedule.now }
+    ensures reaches { IfOk result (λ w. (run_of w ≡ unhashed (schedule_run schedule.now)) × IsWithinMessages (schedule_run schedule.now) × HasHashed (hashed_by schedule.now) (account H.kept H.clashes H.fulls hasher.old) (account H.kept H.clashes H.fulls hasher.new)) }
+    ensures apart { KeepsNothing (H.kept hasher.old) → OnOk result (HasNoClash (hashed_by schedule.now)) }
+    ensures stops { IfErr result (StopsIn schedule.now (account H.kept H.clashes H.fulls hasher.old) (account H.kept H.clashes H.fulls hasher.new)) }
+{
+    let mut world = World::open(alloc, schedule, hasher)?;
+    let events = schedule.events.as_slice();
+    for place in 0..events.len() {
+        world.apply(rt, alloc, &events[place], hasher)?;
+    }
+    Ok(world)
+}
+
 /// Runs a schedule in a world, and returns how its replay ends: with the text of the run, with a
 /// clash, or at the limit on messages or on the book. Fails when out of memory.
 pub fn run_world<H: Hasher16, R: Threads + Sync>(
@@ -54,7 +79,7 @@ pub fn run_world<H: Hasher16, R: Threads + Sync>(
     ensures ends { IfOk result (λ e. EndsSo (account H.kept H.clashes H.fulls hasher.old) (account H.kept H.clashes H.fulls hasher.new) schedule.now e.status (string_bytes e.text)) }
     ensures status { IfOk result (λ e. e.status ≢ Status.ReadFault) }
 {
-    match World::run(rt, alloc, schedule, hasher) {
+    match run_lines(rt, alloc, schedule, hasher) {
         Ok(world) => Ok(Ending {
             status: Status::Done,
             text: run_text(alloc, &world)?,

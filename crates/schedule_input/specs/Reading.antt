@@ -1,5 +1,5 @@
 -- How the rest of a source is read, and why no schedule was read.
-use Rattle.std.specs.Prelude.{◌≡◌, ◌≤◌, ◌++◌, ℕ, List, [], Option, None, Some, Result, Err, IfSome}
+use Rattle.std.specs.Prelude.{◌≡◌, ◌≤◌, ◌+◌, ◌*◌, ◌++◌, ℕ, List, [], length, Option, None, Some, Result, Err, IfSome}
 use Rattle.schedule_words.specs.Words.{parts_of}
 use Rattle.schedule_text.specs.Progress.{Progress, Blank, lines_so_far}
 use Rattle.schedule_text.specs.Reading.{read_parts}
@@ -40,24 +40,50 @@ pub record IsReached (p : Progress) : Type 0 where
 abbrev pub AreLines : List ℕ → Progress → Type 0
 AreLines lines p = (rest : List ℕ) → read_parts Blank (parts_of 10 (lines ++ rest)) ≡ read_parts p (parts_of 10 rest)
 
--- the lines so far were taken from the front of the first bytes, and the second ones follow them
-abbrev pub HasTaken : Option (List ℕ) → Option (List ℕ) → Progress → Type 0
-HasTaken None rest p = Unit {0}
-HasTaken (Some bytes) None p = ⊥
-HasTaken (Some bytes) (Some rest) p = (lines : List ℕ) × (bytes ≡ lines ++ rest) × AreLines lines p
-
--- A source that held the first bytes failed when the second ones were left, before those that it gave
--- decided anything: they are at most 200,000 lines, none of which is bad, and then at most 4,400 bytes
--- without a line feed, or none after line 200,000.
-pub record IsCutOff (bytes left : List ℕ) : Type 0 where
+-- A source held the first bytes, and the last ones are left. It gave the lines so far, and the pending
+-- bytes after them: on the whole no more than lines of 4,400 bytes, each with its line feed, would have.
+pub record IsReading (bytes pending left : List ℕ) (p : Progress) : Type 0 where
   pub lines : List ℕ
-  pub pending : List ℕ
-  pub p : Progress
   pub are : bytes ≡ lines ++ (pending ++ left)
   pub good : AreLines lines p
+  pub short : length pending ≤ 4401
+  pub few : length lines + length pending ≤ 4401 * lines_so_far p
+
+-- the same if the bytes are known
+abbrev pub HasTaken : Option (List ℕ) → List ℕ → Option (List ℕ) → Progress → Type 0
+HasTaken None pending left p = Unit {0}
+HasTaken (Some bytes) pending None p = ⊥
+HasTaken (Some bytes) pending (Some left) p = IsReading bytes pending left p
+
+-- the bytes of 200,000 lines of 4,400 bytes, each with its line feed, and one byte more
+abbrev pub most_taken : ℕ
+most_taken = 200000 * 4401 + 1
+
+-- Of a source that held the first bytes the second ones are left. It gave at most 200,000 lines, none of
+-- which is bad, and after them at most 4,401 bytes more, so many as the longest line has with its line
+-- feed; on the whole no more than `most_taken`.
+pub record IsTakenTo (bytes left : List ℕ) : Type 0 where
+  pub lines : List ℕ
+  pub more : List ℕ
+  pub p : Progress
+  pub are : bytes ≡ lines ++ (more ++ left)
+  pub good : AreLines lines p
   pub few : lines_so_far p ≤ 200000
-  pub undecided : IsLine pending
-  pub last : lines_so_far p ≡ 200000 → pending ≡ []
+  pub short : length more ≤ 4401
+  pub bound : length lines + length more ≤ most_taken
+
+-- the same if the bytes are known
+abbrev pub WasTakenTo : Option (List ℕ) → Option (List ℕ) → Type 0
+WasTakenTo None left = Unit {0}
+WasTakenTo (Some bytes) None = ⊥
+WasTakenTo (Some bytes) (Some left) = IsTakenTo bytes left
+
+-- The source failed before the bytes that it gave decided anything: after the lines come at most 4,400
+-- bytes without a line feed, or none after line 200,000.
+pub record IsCutOff (bytes left : List ℕ) : Type 0 where
+  pub taken : IsTakenTo bytes left
+  pub undecided : IsLine taken.more
+  pub last : lines_so_far taken.p ≡ 200000 → taken.more ≡ []
 
 -- the same if the bytes are known
 abbrev pub WasCutOff : Option (List ℕ) → Option (List ℕ) → Type 0

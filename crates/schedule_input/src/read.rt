@@ -5,7 +5,7 @@ ghost use Rattle.ens_outside.specs.Lines.{BeginsLong};
 ghost use Rattle.schedule_text.specs.Progress.{Blank, lines_so_far};
 ghost use Rattle.schedule_text.specs.Reading.{ended, schedule_of};
 ghost use Rattle.schedule_text.specs.Spelling.{IsSchedule};
-ghost use Rattle.schedule_input.specs.Reading.{HasTaken, IsReached, ReadsAs, ReadsOn, Refuses, WasCutOff, of_schedule};
+ghost use Rattle.schedule_input.specs.Reading.{HasTaken, IsReached, ReadsAs, ReadsOn, Refuses, WasCutOff, WasTakenTo, of_schedule};
 
 use ens_base::MAX_LINES;
 use ens_outside::{Lines, Next, NextError, Source};
@@ -68,8 +68,9 @@ fn take_line<S: Source>(
     ensures bad { IfErr result (Refuses (prepend_known lines.old.pending.items (S.left input.old)) reading.old) }
     ensures later { S.fault_count input.old ≤ S.fault_count input.new }
     ensures failed { IsErrOf result ReadError.Failed → Rose (S.fault_count input.old) (S.fault_count input.new) }
-    ensures taken { IfOk result (λ o. IfNone o ((source : Option (List ℕ)) → HasTaken source (prepend_known lines.old.pending.items (S.left input.old)) reading.old → HasTaken source (prepend_known lines.new.pending.items (S.left input.new)) reading.new)) }
-    ensures cut { IsErrOf result ReadError.Failed → (source : Option (List ℕ)) → HasTaken source (prepend_known lines.old.pending.items (S.left input.old)) reading.old → lines_so_far reading.old < 200000 → WasCutOff source (S.left input.new) }
+    ensures held { IfOk result (λ o. IfNone o ((source : Option (List ℕ)) → HasTaken source lines.old.pending.items (S.left input.old) reading.old → HasTaken source lines.new.pending.items (S.left input.new) reading.new)) }
+    ensures taken { (source : Option (List ℕ)) → HasTaken source lines.old.pending.items (S.left input.old) reading.old → lines_so_far reading.old < 200000 → WasTakenTo source (S.left input.new) }
+    ensures cut { IsErrOf result ReadError.Failed → (source : Option (List ℕ)) → HasTaken source lines.old.pending.items (S.left input.old) reading.old → lines_so_far reading.old < 200000 → WasCutOff source (S.left input.new) }
 {
     match lines.next(alloc, input)? {
         Next::Line(line) => {
@@ -90,7 +91,8 @@ fn long_line(reading: &Reading) -> ReadError
 }
 
 /// Reads a schedule up to the end of the source, its first bad line, or the first byte of line
-/// 200,001.
+/// 200,001. Takes at most 4,401 bytes from the beginning of the first bad line on, and at most
+/// 880,200,001 bytes in all.
 pub fn read_schedule<S: Source>(alloc: Global, input: &mut S) -> Result<Schedule, ReadError>
     ensures ok { IfOk result (λ s. IfSome (S.left input.old) (λ bytes. schedule_of bytes ≡ Ok s)) }
     ensures valid { IfOk result IsSchedule }
@@ -98,6 +100,8 @@ pub fn read_schedule<S: Source>(alloc: Global, input: &mut S) -> Result<Schedule
     ensures bad { IfErr result (Refuses (S.left input.old) Blank) }
     ensures later { S.fault_count input.old ≤ S.fault_count input.new }
     ensures failed { IsErrOf result ReadError.Failed → Rose (S.fault_count input.old) (S.fault_count input.new) }
+    // However it ends, it took lines none of which is bad, and at most 4,401 bytes after them.
+    ensures taken { WasTakenTo (S.left input.old) (S.left input.new) }
     // The source failed before the bytes that it gave decided anything.
     ensures cut { IsErrOf result ReadError.Failed → WasCutOff (S.left input.old) (S.left input.new) }
 {

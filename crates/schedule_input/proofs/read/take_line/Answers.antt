@@ -1,8 +1,8 @@
-use Rattle.std.proofs.Common.{◌≡◌, ℕ, List, refl, subst, Ok, Err}
+use Rattle.std.proofs.Common.{◌≡◌, ℕ, List, [], ◌∷◌, ◌++◌, length-append, refl, subst, Ok, Err, arith}
 use Rattle.std.proofs.lemmas.Result.{err_from_is_err_and}
 use Rattle.schedule_text.specs.Reading.{next_line, TakesLine}
 use Rattle.schedule_input.proofs.Parts.{line_taken, line_counts, refuses_line, rest_read}
-use Rattle.schedule_input.proofs.Cutting.{taken_next}
+use Rattle.schedule_input.proofs.Cutting.{cut_off, kept_takes, next_failed, taken_next, taken_to}
 use Rattle.schedule_input.proofs.Reached.{reached_next}
 use Rattle.schedule_input.proofs.read.take_line.Goals as goal
 
@@ -30,8 +30,43 @@ returns-in_ok-line-in-Line-clause-reached g c =
     let P : List ℕ → Type 0 = λ v. next_line c.args.reading.now v ≡ Ok c.line.new.self in
     λ reached. reached_next c.args.reading.now c.line.new.self c.in-Line.line.items next.0.no_feed (subst P c.deref.ensures.value c.in_ok-line-in-Line.ensures) reached
 
+pub returns-in_ok-line-in-Line-clause-held : goal.returns-in_ok-line-in-Line-clause-held
+returns-in_ok-line-in-Line-clause-held g c =
+    let next = rw c.in-Line.is at c.in_ok-line.ensures.next in
+    let few = rw c.in-Line.is at c.in_ok-line.ensures.few in
+    let P : List ℕ → Type 0 = λ v. next_line c.args.reading.now v ≡ Ok c.line.new.self in
+    λ source h. taken_next source _ _ _ _ c.args.reading.now c.line.new.self c.in-Line.line.items next.0.no_feed (subst P c.deref.ensures.value c.in_ok-line-in-Line.ensures) next.1 few h
+
 pub returns-in_ok-line-in-Line-clause-taken : goal.returns-in_ok-line-in-Line-clause-taken
 returns-in_ok-line-in-Line-clause-taken g c =
     let next = rw c.in-Line.is at c.in_ok-line.ensures.next in
-    let P : List ℕ → Type 0 = λ v. next_line c.args.reading.now v ≡ Ok c.line.new.self in
-    λ source h. taken_next source _ _ c.args.reading.now c.line.new.self c.in-Line.line.items next.0.no_feed (subst P c.deref.ensures.value c.in_ok-line-in-Line.ensures) next.1 h
+    let few = rw c.in-Line.is at c.in_ok-line.ensures.few in
+    let size = length-append c.in-Line.line.items (10 ∷ []) in
+    λ source h line. taken_to source _ _ _ (c.in-Line.line.items ++ 10 ∷ []) _ c.args.reading.now _ size next.1 few line h
+
+pub returns-in_err-line-in-Line-clause-taken : goal.returns-in_err-line-in-Line-clause-taken
+returns-in_err-line-in-Line-clause-taken g c =
+    let next = rw c.in-Line.is at c.in_ok-line.ensures.next in
+    let few = rw c.in-Line.is at c.in_ok-line.ensures.few in
+    let size = length-append c.in-Line.line.items (10 ∷ []) in
+    λ source h line. taken_to source _ _ _ (c.in-Line.line.items ++ 10 ∷ []) _ c.args.reading.now _ size next.1 few line h
+
+pub returns-in-Rest-clause-taken : goal.returns-in-Rest-clause-taken
+returns-in-Rest-clause-taken g c =
+    let next = rw c.in-Rest.is at c.in_ok-line.ensures.next in
+    let few = rw c.in-Rest.is at c.in_ok-line.ensures.few in
+    λ source h line. taken_to source _ _ _ c.in-Rest.rest.items _ c.args.reading.now _ refl next.1 few line h
+
+pub returns-in-TooLong-clause-taken : goal.returns-in-TooLong-clause-taken
+returns-in-TooLong-clause-taken g c =
+    let next = rw c.in-TooLong.is at c.in_ok-line.ensures.next in
+    let few = rw c.in-TooLong.is at c.in_ok-line.ensures.few in
+    λ source h line. taken_to source _ _ _ [] _ c.args.reading.now _ refl (kept_takes _ _ next.1) few line h
+
+pub returns-in_err-line-clause-taken : goal.returns-in_err-line-clause-taken
+returns-in_err-line-clause-taken g c = λ source h line. taken_to source _ _ _ [] _ c.args.reading.now _ refl (kept_takes _ _ c.in_err-line.ensures.kept) c.in_err-line.ensures.few line h
+
+pub returns-in_err-line-clause-cut : goal.returns-in_err-line-clause-cut
+returns-in_err-line-clause-cut g c =
+    let exit = err_from_is_err_and c.from_residual.result c.from_residual.ensures.1 in
+    rw (exit.1, exit.2) (λ is source h few. cut_off source _ _ _ _ c.args.reading.now h c.in_err-line.ensures.kept (c.in_err-line.ensures.undecided (next_failed c.in_err-line.field-0.0 is)) (omega (arith, few)) (λ e. absurd (omega (arith, e, few))))
