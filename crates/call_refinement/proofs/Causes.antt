@@ -1,6 +1,5 @@
 -- The answers of a world that agrees with the book of a run have their causes in the notes.
-use Rattle.std.proofs.Common.{◌≡◌, ℕ, ◌≤◌, Bool, true, false, ◌⊎◌, List, [], ◌∷◌, Option, None, Some, if◌then◌else◌, eqb, length, map, arith, ap, refl, inl, inr, sym, ◌∙◌, subst}
-use Rattle.std.proofs.lemmas.Bool.Decides.{nat_tests}
+use Rattle.std.proofs.Common.{◌≡◌, ℕ, zero, suc, ◌≤◌, ◌<◌, Bool, true, false, ◌⊎◌, List, [], ◌∷◌, Option, None, Some, if◌then◌else◌, eqb, eqb-true, length, map, arith, ap, refl, inl, inr, sym, ◌∙◌, subst}
 use Rattle.std.proofs.lemmas.List.{length-map}
 use Rattle.ens_base.specs.Lists.{◌∈◌, AreDistinct, same_bytes}
 use Rattle.ens_base.specs.Epochs.{same_version}
@@ -11,22 +10,24 @@ use Rattle.ens_base.specs.declared.reply.Reply.{Reply}
 use Rattle.election_laws.proofs.Epochs.{not_both}
 use Rattle.register_model.specs.Histories.{IsDone, IsRefused}
 use Rattle.register_model.specs.Orders.{rank, rank_or_none}
-use Rattle.register_model.specs.Registers.{outcome, Keeps, Writes}
+use Rattle.register_model.specs.Registers.{outcome, Keeps, Writes, written}
 use Rattle.register_model.specs.declared.answer.Answer.{Answer as Given}
 use Rattle.register_model.specs.declared.call.Call.{Call}
 use Rattle.register_model.specs.declared.note.Note.{Note as Noted}
 use Rattle.register_model.specs.declared.note.Note.TheVariants.{Proposed, Settled as SettledNote, Read}
 use Rattle.register_model.specs.declared.register.Register.{Register}
 use Rattle.register_model.specs.declared.register.Register.TheVariants.{Absent, Present}
-use Rattle.abstract_protocol.specs.Book.{version_of, version_or_none, register_at, Wrote, IsWriteReply, IsReadReply}
+use Rattle.abstract_protocol.specs.Book.{Book, version_of, version_or_none, register_at, Wrote, IsWriteReply, IsReadReply}
 use Rattle.abstract_protocol.specs.Protocol.{State, Step, Begin, Ask, Raise, Elect, Accept, Commit, Adopt, Write, Acknowledge, Install, EndSync, Propose, Settle, Note, Answer, Lose, Revert, happens, MayCome, IsRun, state_after}
-use Rattle.entry_laws.specs.Entries.{EntriesAreSafe, SawNothing, SawNewest, IsByWrite, IsByRead, AnswerKeeps}
+use Rattle.entry_laws.specs.Entries.{EntriesAreSafe, WriteKeeps, RewriteKeeps, SawNothing, SawNewest, IsByWrite, IsByRead, AnswerKeeps}
 use Rattle.entry_laws.proofs.Replies.{run_entries}
+use Rattle.safety_laws.proofs.Chains.{IsOfOrNone, positive, parent_of}
 use Rattle.safety_laws.proofs.Noted.{ProposedHolds, ReadHolds, Listed, run_listed}
+use Rattle.version_laws.proofs.Descent.{Whole, run_whole}
 use Rattle.schedule_text.specs.declared.event.ScheduleEvent.{ScheduleEvent}
 use Rattle.world_spec.specs.Runs.{Run}
 use Rattle.step_refinement.proofs.DistinctItems.{end_distinct}
-use Rattle.call_refinement.specs.Causes.{IsWritten, IsRead, IsUntouched, HasCause, HaveCauses}
+use Rattle.call_refinement.specs.Causes.{StandsFor, none, write, rewrite, IsWritten, IsRead, IsUntouched, HasCause, HaveCauses}
 use Rattle.call_refinement.specs.Lines.{calls_from, answers_in, BookAgrees}
 
 -- ## A command that writes nothing does not return `ok`
@@ -65,13 +66,6 @@ failed_not_ok v e = cc
 
 -- ## A version, or none
 
-none_is_zero : (v : ℕ) → version_or_none v ≡ None → v ≡ 0
-none_is_zero v e = by_cases (eqb v 0) refl e
-  where
-    by_cases : (b : Bool) → eqb v 0 ≡ b → (if b then None else Some (version_of v)) ≡ None → v ≡ 0
-    by_cases true t n = grind (arith, nat_tests)
-    by_cases false t n = absurd (cc)
-
 some_is_it : (v : ℕ) (w : Version) → version_or_none v ≡ Some w → version_of v ≡ w
 some_is_it v w e = by_cases (eqb v 0) e
   where
@@ -85,9 +79,74 @@ zero_is_none v w z e = no (subst (λ (u : ℕ). version_or_none u ≡ Some w) z 
     no : version_or_none 0 ≡ Some w → ⊥
     no n = cc
 
+-- ## The register that a version stands for
+
+some_version : (v : ℕ) → 0 < v → version_or_none v ≡ Some (version_of v)
+some_version v some = by_zero (eqb v 0) refl
+  where
+    not_zero : v ≡ 0 → ⊥
+    not_zero e = omega arith
+
+    by_zero : (b : Bool) → eqb v 0 ≡ b → version_or_none v ≡ Some (version_of v)
+    by_zero true t = absurd (not_zero (eqb-true v 0 t))
+    by_zero false t = rw t refl
+
+some_register : (b : Book) (v : ℕ) → 0 < v → register_at b v ≡ written (b.stamp v) (b.content v)
+some_register b v some = by_zero (eqb v 0) refl
+  where
+    not_zero : v ≡ 0 → ⊥
+    not_zero e = omega arith
+
+    by_zero : (t : Bool) → eqb v 0 ≡ t → register_at b v ≡ written (b.stamp v) (b.content v)
+    by_zero true t = absurd (not_zero (eqb-true v 0 t))
+    by_zero false t = rw t refl
+
+module _ (s : State) (w : Whole s.objects) (entries : EntriesAreSafe s) (listed : Listed s) (k : List ℕ) where
+  -- the version of this rank, or none, stands for this register
+  abbrev Stands : Option Version → Register → Type 0
+  Stands = StandsFor s.book.calls s.book.notes k
+
+  standing : (n v : ℕ) → v < n → IsOfOrNone s k v → Stands (version_or_none v) (register_at s.book v)
+  standing zero v less of = absurd (omega arith)
+  standing (suc n) v less (inl absent) = subst (λ (u : ℕ). Stands (version_or_none u) (register_at s.book u)) (sym absent) none
+  standing (suc n) v less (inr of) = subst (λ (o : Option Version). Stands o (register_at s.book v)) (sym (some_version v some))
+      (by (standing n (s.objects.parent v) (let below : s.objects.parent v < v = w.basics.lower v of.0 in omega arith) (parent_of s w.basics k v of)) (s.book.call v) refl)
+    where
+      some : 0 < v
+      some = positive s w.basics k v of
+
+      u : ℕ
+      u = s.objects.parent v
+
+      noted : (c : Option ℕ) → s.book.call v ≡ c → Proposed k (version_of v) (version_or_none u) c ∈ s.book.notes
+      noted c e = subst (λ (o : Option ℕ). Proposed k (version_of v) (version_or_none u) o ∈ s.book.notes) e
+          (subst (λ (l : List ℕ). Proposed l (version_of v) (version_or_none u) (s.book.call v) ∈ s.book.notes) of.1 (listed.proposed_in v of.0))
+
+      by : Stands (version_or_none u) (register_at s.book u) → (c : Option ℕ) → s.book.call v ≡ c → Stands (Some (version_of v)) (register_at s.book v)
+      by parent None e = subst (Stands (Some (version_of v))) (sym same) (rewrite (version_of v) (version_or_none u) (register_at s.book u) (noted None e) parent)
+        where
+          keeps : RewriteKeeps s v
+          keeps = (entries.proposals v of.0).rewrite e
+
+          same : register_at s.book v ≡ register_at s.book u
+          same = some_register s.book v some ∙ ap (λ (x : Version). written x (s.book.content v)) keeps.same_stamp ∙ ap (λ (x : Option (List ℕ)). written (s.book.stamp u) x) keeps.same_content ∙ sym (some_register s.book u keeps.some)
+      by parent (Some i) e = subst (Stands (Some (version_of v))) (sym is)
+          (write (s.book.asked i) (version_of v) (version_or_none u) (register_at s.book u) (s.book.content v) (listed.call_in i keeps.called) (keeps.on_key ∙ of.1)
+          (noted (Some (s.book.asked i).id) (e ∙ ap (λ (n : ℕ). Some n) (sym (entries.calls i keeps.called).own_id))) parent keeps.applies)
+        where
+          keeps : WriteKeeps s v i
+          keeps = (entries.proposals v of.0).write i e
+
+          is : register_at s.book v ≡ written (version_of v) (s.book.content v)
+          is = some_register s.book v some ∙ ap (λ (x : Version). written x (s.book.content v)) keeps.own_stamp
+
+  -- each version of the book, or none, stands for the register that it leaves there
+  stands_for : (v : ℕ) → IsOfOrNone s k v → Stands (version_or_none v) (register_at s.book v)
+  stands_for v of = standing (suc v) v (omega arith) of
+
 -- ## The causes in the book of a state
 
-module _ (s : State) (entries : EntriesAreSafe s) (listed : Listed s) where
+module _ (s : State) (w : Whole s.objects) (entries : EntriesAreSafe s) (listed : Listed s) where
   module _ (i : ℕ) (called : s.book.called i ≡ true) where
     abbrev c : Call
     c = s.book.asked i
@@ -95,40 +154,51 @@ module _ (s : State) (entries : EntriesAreSafe s) (listed : Listed s) where
     own : c.id ≡ i
     own = (entries.calls i called).own_id
 
-    written : (v : ℕ) → s.objects.proposed v ≡ true → s.book.call v ≡ Some i → s.objects.settled v ≡ true → IsWritten s.book.notes c (version_of v)
-    written v proposed call settled = record {
+    wrote : (v : ℕ) → s.objects.proposed v ≡ true → s.book.call v ≡ Some i → s.objects.settled v ≡ true → IsWritten s.book.calls s.book.notes c (version_of v)
+    wrote v proposed call settled = record {
       parent = version_or_none (s.objects.parent v);
       proposed = subst (λ (o : Option ℕ). Proposed c.key (version_of v) (version_or_none (s.objects.parent v)) o ∈ s.book.notes) (call ∙ ap (λ (n : ℕ). Some n) (sym own))
           (subst (λ (k : List ℕ). Proposed k (version_of v) (version_or_none (s.objects.parent v)) (s.book.call v) ∈ s.book.notes) (sym on_key) (listed.proposed_in v proposed));
       settled = subst (λ (k : List ℕ). SettledNote k (version_of v) ∈ s.book.notes) (sym on_key) (listed.settled_in v settled);
+      register = register_at s.book (s.objects.parent v);
+      stands = stands_for s w entries listed c.key (s.objects.parent v) (parent_of s w.basics c.key v (proposed, sym on_key));
+      content = s.book.content v;
+      writes = keeps.applies;
     }
       where
-        on_key : c.key ≡ s.objects.key v
-        on_key = ((entries.proposals v proposed).write i call).on_key
+        keeps : WriteKeeps s v i
+        keeps = (entries.proposals v proposed).write i call
 
-    read : (r : Reply) → IsReadReply s.book i r → IsRead s.book.notes c r
+        on_key : c.key ≡ s.objects.key v
+        on_key = keeps.on_key
+
+    read : (r : Reply) → IsReadReply s.book i r → IsRead s.book.calls s.book.notes c r
     read r by = record {
       base = version_or_none base;
       noted = subst (λ (j : ℕ). Read j c.key (version_or_none base) ∈ s.book.notes) (sym own) (subst (λ (k : List ℕ). Read i k (version_or_none base) ∈ s.book.notes) (sym on_key) (listed.read_in i by.noted));
-      settled = λ version e. settled version e (entries.reads i by.noted).base;
+      settled = λ version e. settled version e saw;
       register = register_at s.book base;
-      absent = λ e. absent (none_is_zero base e);
+      stands = stands_for s w entries listed c.key base (of_key saw);
       keeps = by.keeps;
     }
       where
         base : ℕ
         base = (s.book.seen i).base
 
+        saw : SawNothing s (s.book.seen i) ⊎ SawNewest s (s.book.seen i)
+        saw = (entries.reads i by.noted).base
+
         on_key : c.key ≡ (s.book.seen i).key
         on_key = (entries.reads i by.noted).on_key
 
-        absent : base ≡ 0 → register_at s.book base ≡ Absent
-        absent z = ap (λ (u : ℕ). register_at s.book u) z
+        of_key : SawNothing s (s.book.seen i) ⊎ SawNewest s (s.book.seen i) → IsOfOrNone s c.key base
+        of_key (inl nothing) = inl nothing.none
+        of_key (inr newest) = inr (newest.proposed, newest.key ∙ sym on_key)
 
         settled : (version : Version) → version_or_none base ≡ Some version → SawNothing s (s.book.seen i) ⊎ SawNewest s (s.book.seen i) → SettledNote c.key version ∈ s.book.notes
-        settled version e (inl saw) = absurd (zero_is_none base version saw.none e)
-        settled version e (inr saw) = subst (λ (w : Version). SettledNote c.key w ∈ s.book.notes) (some_is_it base version e)
-            (subst (λ (k : List ℕ). SettledNote k (version_of base) ∈ s.book.notes) (saw.key ∙ sym on_key) (listed.settled_in base saw.settled))
+        settled version e (inl nothing) = absurd (zero_is_none base version nothing.none e)
+        settled version e (inr newest) = subst (λ (w : Version). SettledNote c.key w ∈ s.book.notes) (some_is_it base version e)
+            (subst (λ (k : List ℕ). SettledNote k (version_of base) ∈ s.book.notes) (newest.key ∙ sym on_key) (listed.settled_in base newest.settled))
 
     untouched : ((v : ℕ) → Wrote s.objects s.book i v → ⊥) → (s.book.noted i ≡ true → ⊥) → IsUntouched s.book.notes c
     untouched not_written not_noted = record {
@@ -142,25 +212,25 @@ module _ (s : State) (entries : EntriesAreSafe s) (listed : Listed s) where
         by_read : (key : List ℕ) (base : Option Version) → ReadHolds s c.id key (rank_or_none base) → ⊥
         by_read key base h = not_noted (subst (λ (j : ℕ). s.book.noted j ≡ true) own h.noted)
 
-    cause : (r : Reply) → (IsDone r → IsWriteReply s.objects s.book i r ⊎ IsReadReply s.book i r) → (IsRefused r → (v : ℕ) → Wrote s.objects s.book i v → ⊥) → (IsRefused r → s.book.noted i ≡ true → ⊥) → HasCause s.book.notes c r
+    cause : (r : Reply) → (IsDone r → IsWriteReply s.objects s.book i r ⊎ IsReadReply s.book i r) → (IsRefused r → (v : ℕ) → Wrote s.objects s.book i v → ⊥) → (IsRefused r → s.book.noted i ≡ true → ⊥) → HasCause s.book.calls s.book.notes c r
     cause (Reply.Ok stamp) done not_written not_noted = by_done (done tt)
       where
-        by_done : IsWriteReply s.objects s.book i (Reply.Ok stamp) ⊎ IsReadReply s.book i (Reply.Ok stamp) → IsWritten s.book.notes c stamp
-        by_done (inl by) = subst (IsWritten s.book.notes c) (same_stamp stamp (version_of by.version) by.reply) (written by.version by.wrote.0 by.wrote.1 by.settled)
+        by_done : IsWriteReply s.objects s.book i (Reply.Ok stamp) ⊎ IsReadReply s.book i (Reply.Ok stamp) → IsWritten s.book.calls s.book.notes c stamp
+        by_done (inl by) = subst (IsWritten s.book.calls s.book.notes c) (same_stamp stamp (version_of by.version) by.reply) (wrote by.version by.wrote.0 by.wrote.1 by.settled)
         by_done (inr by) = absurd (keeps_not_ok c.command (register_at s.book (s.book.seen i).base) stamp by.keeps)
     cause (Reply.Value stamp bytes) done not_written not_noted = by_done (done tt)
       where
-        by_done : IsWriteReply s.objects s.book i (Reply.Value stamp bytes) ⊎ IsReadReply s.book i (Reply.Value stamp bytes) → IsRead s.book.notes c (Reply.Value stamp bytes)
+        by_done : IsWriteReply s.objects s.book i (Reply.Value stamp bytes) ⊎ IsReadReply s.book i (Reply.Value stamp bytes) → IsRead s.book.calls s.book.notes c (Reply.Value stamp bytes)
         by_done (inl by) = absurd (value_not_ok stamp (version_of by.version) bytes by.reply)
         by_done (inr by) = read (Reply.Value stamp bytes) by
     cause Reply.NotFound done not_written not_noted = by_done (done tt)
       where
-        by_done : IsWriteReply s.objects s.book i Reply.NotFound ⊎ IsReadReply s.book i Reply.NotFound → IsRead s.book.notes c Reply.NotFound
+        by_done : IsWriteReply s.objects s.book i Reply.NotFound ⊎ IsReadReply s.book i Reply.NotFound → IsRead s.book.calls s.book.notes c Reply.NotFound
         by_done (inl by) = absurd (absent_not_ok (version_of by.version) by.reply)
         by_done (inr by) = read Reply.NotFound by
     cause Reply.Failed done not_written not_noted = by_done (done tt)
       where
-        by_done : IsWriteReply s.objects s.book i Reply.Failed ⊎ IsReadReply s.book i Reply.Failed → IsRead s.book.notes c Reply.Failed
+        by_done : IsWriteReply s.objects s.book i Reply.Failed ⊎ IsReadReply s.book i Reply.Failed → IsRead s.book.calls s.book.notes c Reply.Failed
         by_done (inl by) = absurd (failed_not_ok (version_of by.version) by.reply)
         by_done (inr by) = read Reply.Failed by
     cause Reply.Unavailable done not_written not_noted = untouched (not_written tt) (not_noted tt)
@@ -169,7 +239,7 @@ module _ (s : State) (entries : EntriesAreSafe s) (listed : Listed s) where
     cause Reply.Timeout done not_written not_noted = tt
 
   -- an answer has its cause
-  kept_cause : (i : ℕ) (a : Given) → (keeps : AnswerKeeps s i a) → HasCause s.book.notes (s.book.asked i) a.reply
+  kept_cause : (i : ℕ) (a : Given) → (keeps : AnswerKeeps s i a) → HasCause s.book.calls s.book.notes (s.book.asked i) a.reply
   kept_cause i a keeps = cause i keeps.called a.reply (λ d. guards (keeps.done d)) keeps.not_written keeps.not_noted
     where
       guards : IsByWrite s i a ⊎ IsByRead s i (s.book.seen i) a → IsWriteReply s.objects s.book i a.reply ⊎ IsReadReply s.book i a.reply
@@ -177,7 +247,7 @@ module _ (s : State) (entries : EntriesAreSafe s) (listed : Listed s) where
       guards (inr by) = inr (record { noted = by.noted; keeps = by.keeps })
 
   -- each answer of the book is to a call, and has its cause
-  pub answer_cause : (a : Given) → a ∈ s.book.answers → (c : Call) × (c ∈ s.book.calls) × (c.id ≡ a.id) × HasCause s.book.notes c a.reply
+  pub answer_cause : (a : Given) → a ∈ s.book.answers → (c : Call) × (c ∈ s.book.calls) × (c.id ≡ a.id) × HasCause s.book.calls s.book.notes c a.reply
   answer_cause a h = (s.book.asked a.id, listed.call_in a.id keeps.called, (entries.calls a.id keeps.called).own_id, kept_cause a.id a keeps)
     where
       keeps : AnswerKeeps s a.id a
@@ -249,17 +319,51 @@ run_once view (e ∷ steps) run = once_step (state_after view steps) e run.1 (ru
 
 -- ## In a world that agrees with the book
 
+-- what is said of some calls is said of more
+module _ (few more : List Call) (notes : List Noted) (among : (c : Call) → c ∈ few → c ∈ more) where
+  stands_of : (key : List ℕ) (version : Option Version) (register : Register) → StandsFor few notes key version register → StandsFor more notes key version register
+  stands_of key version register none = none
+  stands_of key version register (write call v parent old content called on_key noted stands writes) = write call v parent old content (among call called) on_key noted (stands_of key parent old stands) writes
+  stands_of key version register (rewrite v parent old noted stands) = rewrite v parent old noted (stands_of key parent old stands)
+
+  written_of : (c : Call) (version : Version) → IsWritten few notes c version → IsWritten more notes c version
+  written_of c version h = record {
+    parent = h.parent;
+    proposed = h.proposed;
+    settled = h.settled;
+    register = h.register;
+    stands = stands_of c.key h.parent h.register h.stands;
+    content = h.content;
+    writes = h.writes;
+  }
+
+  read_of : (c : Call) (reply : Reply) → IsRead few notes c reply → IsRead more notes c reply
+  read_of c reply h = record { base = h.base; noted = h.noted; settled = h.settled; register = h.register; stands = stands_of c.key h.base h.register h.stands; keeps = h.keeps }
+
+  cause_of : (c : Call) (reply : Reply) → HasCause few notes c reply → HasCause more notes c reply
+  cause_of c (Reply.Ok stamp) h = written_of c stamp h
+  cause_of c (Reply.Value stamp bytes) h = read_of c (Reply.Value stamp bytes) h
+  cause_of c Reply.NotFound h = read_of c Reply.NotFound h
+  cause_of c Reply.Failed h = read_of c Reply.Failed h
+  cause_of c Reply.Unavailable h = h
+  cause_of c Reply.Busy h = h
+  cause_of c Reply.Lost h = h
+  cause_of c Reply.Timeout h = tt
+
 -- the answers of the world have their causes in its notes
 pub causes_of : (view : List ℕ) (steps : List Step) (events : List ScheduleEvent) (w : Run) → IsRun view steps → BookAgrees events w (state_after view steps).book → HaveCauses events w.printed w.notes
 causes_of view steps events w run agrees = record {
-  caused = λ a m. by_cause a (answer_cause s (run_entries view steps run) (run_listed view steps run) a ((agrees.answers a).1 m));
+  caused = λ a m. by_cause a (answer_cause s whole entries listed a ((agrees.answers a).1 m));
   once = end_distinct (ids_of s.book.answers) (run_once view steps run) [] (ids_of (answers_in w.printed)) (λ i m. printed i (id_in s.book.answers i m)) (no_more (length-map s.book.answers (λ (a : Given). a.id)) agrees.many (length-map (answers_in w.printed) (λ (a : Given). a.id)));
-  proposed = λ id key version parent m. in_lines id (proposed_call s entries listed id key version parent (noted (Proposed key version parent (Some id)) m));
-  read = λ id key base m. in_lines id (read_call s entries listed id key base (noted (Read id key base) m));
+  proposed = λ id key version parent m. in_lines id (proposed_call s whole entries listed id key version parent (noted (Proposed key version parent (Some id)) m));
+  read = λ id key base m. in_lines id (read_call s whole entries listed id key base (noted (Read id key base) m));
 }
   where
     s : State
     s = state_after view steps
+
+    whole : Whole s.objects
+    whole = run_whole view steps run
 
     entries : EntriesAreSafe s
     entries = run_entries view steps run
@@ -273,8 +377,8 @@ causes_of view steps events w run agrees = record {
     in_lines : (id : ℕ) → (c : Call) × (c ∈ s.book.calls) × (c.id ≡ id) → (c : Call) × (c ∈ calls_from 1 events) × (c.id ≡ id)
     in_lines id c = (c.0, (agrees.calls c.0).0 c.1, c.2)
 
-    by_cause : (a : Given) → (c : Call) × (c ∈ s.book.calls) × (c.id ≡ a.id) × HasCause s.book.notes c a.reply → (c : Call) × (c ∈ calls_from 1 events) × (c.id ≡ a.id) × HasCause w.notes c a.reply
-    by_cause a c = (c.0, (agrees.calls c.0).0 c.1, c.2, subst (λ (notes : List Noted). HasCause notes c.0 a.reply) agrees.notes c.3)
+    by_cause : (a : Given) → (c : Call) × (c ∈ s.book.calls) × (c.id ≡ a.id) × HasCause s.book.calls s.book.notes c a.reply → (c : Call) × (c ∈ calls_from 1 events) × (c.id ≡ a.id) × HasCause (calls_from 1 events) w.notes c a.reply
+    by_cause a c = (c.0, (agrees.calls c.0).0 c.1, c.2, subst (λ (notes : List Noted). HasCause (calls_from 1 events) notes c.0 a.reply) agrees.notes (cause_of s.book.calls (calls_from 1 events) s.book.notes (λ d. (agrees.calls d).0) c.0 a.reply c.3))
 
     printed : (i : ℕ) → (a : Given) × (a ∈ s.book.answers) × (a.id ≡ i) → i ∈ ids_of (answers_in w.printed)
     printed i a = subst (λ (j : ℕ). j ∈ ids_of (answers_in w.printed)) a.2 (in_ids (answers_in w.printed) a.0 ((agrees.answers a.0).0 a.1))

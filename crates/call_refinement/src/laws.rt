@@ -31,8 +31,9 @@ pub fn schedules_have_legal_histories()
 /// Each answer printed is to a call of the schedule and has its cause in the notes, and no call is
 /// answered twice. `ok` is answered only if a version was proposed for the call and settled, under
 /// this stamp; any other completed reply only if a read of the call was noted, on no version or on a
-/// settled one; and for a refused call no version was proposed and no read was noted. The notes name
-/// calls of the schedule alone.
+/// settled one, and if it is what the command returns on the register that this version stands for;
+/// and for a refused call no version was proposed and no read was noted. The notes name calls of the
+/// schedule alone.
 pub fn answers_have_causes()
     ensures { (peers : ℕ) (view : List ℕ) (events : List ScheduleEvent) → peers ≤ 31 → IsView view → length events < 2 ^ 32 → AreFirm (lines_of view events) → AllMayStand peers events → AreDistinct (call_ids events) → HasNoClash (run_of_schedule peers view events).hashed
         → HaveCauses events (run_of_schedule peers view events).printed (run_of_schedule peers view events).notes }
