@@ -8,11 +8,11 @@ use Rattle.ens_words.specs.declared.job.WordsError.TheVariants.{Usage}
 use Rattle.ens_words.proofs.Exactly.{job_back}
 use Rattle.ens_words.specs.Reading.{job_of}
 use Rattle.record_report.proofs.Printing.{runs_out as report_runs_out}
-use Rattle.replay.proofs.Completing.{runs_out}
-use Rattle.replay.specs.Jobs.{RanOut}
+use Rattle.replay.proofs.Completing.{memory_read, runs_out, usage_read}
+use Rattle.replay.specs.Jobs.{HasRead, RanOut}
 use Rattle.replay.specs.Summary.{EndsInSummary}
 use Rattle.schedule_generator.specs.Generated.{generate}
-use Rattle.ensemble.specs.Top.{AskForNone, AskToRead, Does, Ends, EndsGiven, EndsUnread, GivenToRead, IsBuilt, IsUnhindered, PrintsSummary, ReadsInput}
+use Rattle.ensemble.specs.Top.{AskForNone, AskToRead, DidRead, Does, Ends, EndsGiven, EndsUnread, GivenFor, GivenToRead, HasReadRecord, IsBuilt, IsUnhindered, PrintsSummary, ReadsInput}
 use Rattle.ensemble.specs.declared.arguments.ArgumentsError.{ArgumentsError}
 
 pub summary_prints : (number calls : ℕ) (status : Status) (text : List ℕ) → EndsInSummary (generate number calls) status text → PrintsSummary number calls status text
@@ -89,31 +89,68 @@ job_completes words source Status.Usage text job asks free ends calm = absurd (e
 job_completes words source Status.Memory text job asks free ends calm = inr refl
 job_completes words source status text job asks free ends calm = unhindered source job status text free (subst (λ (j : Job). Does j source status text) (asked_one words ends.0 job ends.1 asks) ends.2) calm
 
--- words that ask to read ask for a job that reads the input
-pub reads_asked : (words : List (List ℕ)) (job : Job) → AskFor words job → AskToRead words → ReadsInput job
-reads_asked words job asks (inl e) = inl (asked_one words job Replay asks (tt, e))
-reads_asked words job asks (inr e) = inr (asked_one words job Audit asks (tt, e))
-
+-- words that ask for a job that reads the input ask to read
 pub asked_reads : (words : List (List ℕ)) (job : Job) → AskFor words job → ReadsInput job → AskToRead words
 asked_reads words job asks (inl e) = inl (asks.1 ∙ ap words_of e)
 asked_reads words job asks (inr e) = inr (asks.1 ∙ ap words_of e)
 
 -- the same of words that were read
-pub given_to_read : (given : Result (List (List ℕ)) ArgumentsError) (words : List (List ℕ)) (Q : Type 0) → (AskToRead words → Q) → given ≡ Ok words → GivenToRead given → Q
-given_to_read given words Q f is asks = f (subst GivenToRead is asks)
+pub given_did_read : (given : Result (List (List ℕ)) ArgumentsError) (words : List (List ℕ)) (Q : Job → Type 0) → ((job : Job) → AskFor words job → Q job) → given ≡ Ok words → (job : Job) → GivenFor given job → Q job
+given_did_read given words Q f is job asks = f job (subst (λ (g : Result (List (List ℕ)) ArgumentsError). GivenFor g job) is asks)
 
 pub not_to_read : (given : Result (List (List ℕ)) ArgumentsError) (words : List (List ℕ)) (Q : Type 0) → (¬ AskToRead words → Q) → given ≡ Ok words → ¬ GivenToRead given → Q
 not_to_read given words Q f is none = f (λ asks. none (subst GivenToRead (sym is) asks))
 
+-- a job that ended before it began, or at whose start memory ran out, left its source as it was
+at_usage : ◌≡◌ {A = Status} Status.Usage Status.Done → ⊥
+at_usage e = cc e
+
+fault_at_usage : ◌≡◌ {A = Status} Status.Usage Status.ReadFault → ⊥
+fault_at_usage e = cc e
+
+pub usage_did_read : (job : Job) (source : Option (List ℕ)) (before now : ℕ) → DidRead job source source before now Status.Usage
+usage_did_read Replay source before now = usage_read source before now
+usage_did_read Audit source before now = record { end = λ e. absurd (at_usage e); fault = λ e. absurd (fault_at_usage e) }
+usage_did_read (Peer w) source before now = tt
+usage_did_read (Cluster w) source before now = tt
+usage_did_read (Generate number calls summary) source before now = tt
+
+at_memory : ◌≡◌ {A = Status} Status.Memory Status.Done → ⊥
+at_memory e = cc e
+
+fault_at_memory : ◌≡◌ {A = Status} Status.Memory Status.ReadFault → ⊥
+fault_at_memory e = cc e
+
+pub memory_did_read : (job : Job) (source : Option (List ℕ)) (before now : ℕ) → DidRead job source source before now Status.Memory
+memory_did_read Replay source before now = memory_read source before now
+memory_did_read Audit source before now = record { end = λ e. absurd (at_memory e); fault = λ e. absurd (fault_at_memory e) }
+memory_did_read (Peer w) source before now = tt
+memory_did_read (Cluster w) source before now = tt
+memory_did_read (Generate number calls summary) source before now = tt
+
+-- the same at a status that is known to be this one
+pub did_read_at : (job : Job) (source left : Option (List ℕ)) (before now : ℕ) (status ended : Status) → ended ≡ status → DidRead job source left before now status → DidRead job source left before now ended
+did_read_at job source left before now status ended is did = subst (λ (s : Status). DidRead job source left before now s) (sym is) did
+
+pub did_read_record : (job : Job) (source left : Option (List ℕ)) (before now : ℕ) (status : Status) → job ≡ Audit → HasReadRecord left before now status → DidRead job source left before now status
+did_read_record job source left before now status is has = rw is has
+
+pub did_read_schedule : (job : Job) (source left : Option (List ℕ)) (before now : ℕ) (status : Status) → job ≡ Replay → HasRead source left before now status → DidRead job source left before now status
+did_read_schedule job source left before now status is has = rw is has
+
+-- the job that the words ask for is the one that read
+pub asked_did_read : (words : List (List ℕ)) (job other : Job) (source left : Option (List ℕ)) (before now : ℕ) (status : Status) → AskFor words job → AskFor words other → DidRead job source left before now status → DidRead other source left before now status
+asked_did_read words job other source left before now status asks also did = subst (λ (j : Job). DidRead j source left before now status) (asked_one words job other asks also) did
+
 -- what a job that reads words ends with, for words that were read
-pub front_given : (given : Result (List (List ℕ)) ArgumentsError) (words : List (List ℕ)) (source : Option (List ℕ)) (Q : Status → Type 0) (R : List ℕ → Type 0)
-    → (status : Status) × (text : List ℕ) × Ends words source status text × (AskToRead words → Q status) × R text
-    → given ≡ Ok words → (status : Status) × (text : List ℕ) × EndsGiven given source status text × (GivenToRead given → Q status) × R text
+pub front_given : (given : Result (List (List ℕ)) ArgumentsError) (words : List (List ℕ)) (source : Option (List ℕ)) (Q : Job → Status → Type 0) (R : List ℕ → Type 0)
+    → (status : Status) × (text : List ℕ) × Ends words source status text × ((job : Job) → AskFor words job → Q job status) × R text
+    → given ≡ Ok words → (status : Status) × (text : List ℕ) × EndsGiven given source status text × ((job : Job) → GivenFor given job → Q job status) × R text
 front_given given words source Q R f is = (
   f.0,
   f.1,
   subst (λ (g : Result (List (List ℕ)) ArgumentsError). EndsGiven g source f.0 f.1) (sym is) f.2,
-  (λ asks. f.3 (subst GivenToRead is asks)),
+  (λ job asks. f.3 job (subst (λ (g : Result (List (List ℕ)) ArgumentsError). GivenFor g job) is asks)),
   f.4,
 )
 

@@ -1,11 +1,13 @@
 -- The jobs, and what the program prints.
 use Rattle.std.specs.Prelude.{◌≡◌, ◌⊎◌, ℕ, true, false, List, [], ◌∷◌, ◌++◌, codes, Option, Result, Ok, Err, IsSomeAnd}
+use Rattle.std.specs.Io.KnownBytes.{IsAtEnd}
+use Rattle.ens_base.specs.Causes.{Rose}
 use Rattle.ens_base.specs.declared.status.Status.{Status}
 use Rattle.ens_words.specs.Forms.{AskFor}
 use Rattle.ens_words.specs.declared.job.Job.{Job}
 use Rattle.ens_words.specs.declared.job.Job.TheVariants.{Replay, Peer, Cluster, Audit, Generate}
 use Rattle.record_report.specs.Printed.{IsAuditable, PrintsReport}
-use Rattle.replay.specs.Jobs.{IsRunnable, Prints}
+use Rattle.replay.specs.Jobs.{HasRead, IsRunnable, Prints}
 use Rattle.replay.specs.Summary.{EndsInSummary, StaysWithin}
 use Rattle.schedule_generator.specs.Generated.{generate}
 use Rattle.schedule_text.specs.Spelling.{schedule_text}
@@ -25,6 +27,17 @@ ReadsInput job = (job ≡ Replay) ⊎ (job ≡ Audit)
 -- the words ask for one of them
 abbrev pub AskToRead : List (List ℕ) → Type 0
 AskToRead words = (words ≡ codes "replay" ∷ []) ⊎ (words ≡ codes "audit" ∷ [])
+
+-- how far an audit read its source: at status 0 nothing is left, and a read fault was counted
+pub record HasReadRecord (left : Option (List ℕ)) (before now : ℕ) (status : Status) : Type 0 where
+  pub end : status ≡ Status.Done → IsAtEnd left
+  pub fault : status ≡ Status.ReadFault → Rose before now
+
+-- how far a job read its source, and how many faults were counted, when it ends with this status
+abbrev pub DidRead : Job → (source left : Option (List ℕ)) → (before now : ℕ) → Status → Type 0
+DidRead Replay source left before now status = HasRead source left before now status
+DidRead Audit source left before now status = HasReadRecord left before now status
+DidRead job source left before now status = Unit {0}
 
 -- the words ask for none of the jobs that the program runs
 abbrev pub AskForNone : List (List ℕ) → Type 0

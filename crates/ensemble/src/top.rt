@@ -1,13 +1,13 @@
 ghost use Rattle.std.specs.Prelude.{◌≡◌, ◌≢◌, ℕ, List, map};
-ghost use Rattle.std.specs.Io.KnownBytes.{Appends, IsAtEnd};
+ghost use Rattle.std.specs.Io.KnownBytes.{Appends};
 ghost use Rattle.ens_base.specs.Causes.{Rose};
 ghost use Rattle.ens_base.specs.declared.status.Status.{Status};
 ghost use Rattle.ens_outside.specs.Written.{AppendsFront};
 ghost use Rattle.ens_words.specs.Forms.{AskFor, IsJob};
 ghost use Rattle.ens_words.specs.declared.job.Job.{Job};
 ghost use Rattle.ensemble.specs.Arguments.{words_given};
-ghost use Rattle.ensemble.specs.Top.{AskToRead, Does, Ends, EndsGiven, GivenFor, GivenToRead, IsUnhindered, ReadsInput};
-ghost use Rattle.replay.specs.Jobs.{HasRead, RanOut};
+ghost use Rattle.ensemble.specs.Top.{AskToRead, DidRead, Does, Ends, EndsGiven, GivenFor, GivenToRead, IsUnhindered, ReadsInput};
+ghost use Rattle.replay.specs.Jobs.{RanOut};
 
 use crate::arguments::{ArgumentsError, words_of};
 use crate::generating::{print_generated, print_summary};
@@ -29,8 +29,8 @@ fn run_job<S: Source, O: Sink, R: Threads + Sync>(
 ) -> Status
     requires { IsJob job }
     ensures printed { result ≢ Status.WriteFault → (text : List ℕ) × Does job (S.left input.old) result text × Appends (O.written output.old) (O.written output.new) text }
-    ensures front { result ≡ Status.WriteFault → (status : Status) × (text : List ℕ) × Does job (S.left input.old) status text × (ReadsInput job → HasRead (S.left input.new) (S.fault_count input.old) (S.fault_count input.new) status) × AppendsFront (O.written output.old) (O.written output.new) text }
-    ensures end { ReadsInput job → result ≡ Status.Done → IsAtEnd (S.left input.new) }
+    ensures front { result ≡ Status.WriteFault → (status : Status) × (text : List ℕ) × Does job (S.left input.old) status text × DidRead job (S.left input.old) (S.left input.new) (S.fault_count input.old) (S.fault_count input.new) status × AppendsFront (O.written output.old) (O.written output.new) text }
+    ensures input { result ≢ Status.WriteFault → DidRead job (S.left input.old) (S.left input.new) (S.fault_count input.old) (S.fault_count input.new) result }
     ensures untouched { ¬ ReadsInput job → input.new ≡ input.old }
     ensures read { result ≡ Status.ReadFault → Rose (S.fault_count input.old) (S.fault_count input.new) }
     ensures write { result ≡ Status.WriteFault → Rose (O.fault_count output.old) (O.fault_count output.new) }
@@ -71,8 +71,9 @@ pub fn ensemble_main<S: Source, O: Sink, R: Threads + Sync>(
     // and a history for each key; for an audit, the report of the record that was read.
     ensures printed { result ≢ Status.WriteFault → (text : List ℕ) × Ends (map (λ w. w.now) words.now) (S.left input.old) result text × Appends (O.written output.old) (O.written output.new) text }
     // If the output failed, a prefix of the text with which the job would otherwise have ended.
-    ensures front { result ≡ Status.WriteFault → (status : Status) × (text : List ℕ) × Ends (map (λ w. w.now) words.now) (S.left input.old) status text × (AskToRead (map (λ w. w.now) words.now) → HasRead (S.left input.new) (S.fault_count input.old) (S.fault_count input.new) status) × AppendsFront (O.written output.old) (O.written output.new) text }
-    ensures end { AskToRead (map (λ w. w.now) words.now) → result ≡ Status.Done → IsAtEnd (S.left input.new) }
+    ensures front { result ≡ Status.WriteFault → (status : Status) × (text : List ℕ) × Ends (map (λ w. w.now) words.now) (S.left input.old) status text × ((job : Job) → AskFor (map (λ w. w.now) words.now) job → DidRead job (S.left input.old) (S.left input.new) (S.fault_count input.old) (S.fault_count input.new) status) × AppendsFront (O.written output.old) (O.written output.new) text }
+    // How far a replay or an audit read the input.
+    ensures input { result ≢ Status.WriteFault → (job : Job) → AskFor (map (λ w. w.now) words.now) job → DidRead job (S.left input.old) (S.left input.new) (S.fault_count input.old) (S.fault_count input.new) result }
     // Only a replay and an audit read the input.
     ensures untouched { ¬ AskToRead (map (λ w. w.now) words.now) → input.new ≡ input.old }
     ensures read { result ≡ Status.ReadFault → Rose (S.fault_count input.old) (S.fault_count input.new) }
@@ -98,8 +99,9 @@ pub fn run_program<S: Source, O: Sink, R: Threads + Sync>(
 ) -> Status
     ensures printed { result ≢ Status.WriteFault → (text : List ℕ) × EndsGiven (words_given all.now) (S.left input.old) result text × Appends (O.written output.old) (O.written output.new) text }
     // If the output failed, a prefix of the text with which the program would otherwise have ended.
-    ensures front { result ≡ Status.WriteFault → (status : Status) × (text : List ℕ) × EndsGiven (words_given all.now) (S.left input.old) status text × (GivenToRead (words_given all.now) → HasRead (S.left input.new) (S.fault_count input.old) (S.fault_count input.new) status) × AppendsFront (O.written output.old) (O.written output.new) text }
-    ensures end { GivenToRead (words_given all.now) → result ≡ Status.Done → IsAtEnd (S.left input.new) }
+    ensures front { result ≡ Status.WriteFault → (status : Status) × (text : List ℕ) × EndsGiven (words_given all.now) (S.left input.old) status text × ((job : Job) → GivenFor (words_given all.now) job → DidRead job (S.left input.old) (S.left input.new) (S.fault_count input.old) (S.fault_count input.new) status) × AppendsFront (O.written output.old) (O.written output.new) text }
+    // How far a replay or an audit read the input.
+    ensures input { result ≢ Status.WriteFault → (job : Job) → GivenFor (words_given all.now) job → DidRead job (S.left input.old) (S.left input.new) (S.fault_count input.old) (S.fault_count input.new) result }
     // Only a replay and an audit read the input.
     ensures untouched { ¬ GivenToRead (words_given all.now) → input.new ≡ input.old }
     ensures read { result ≡ Status.ReadFault → Rose (S.fault_count input.old) (S.fault_count input.new) }

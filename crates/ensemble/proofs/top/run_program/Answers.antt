@@ -1,29 +1,37 @@
 use Rattle.std.proofs.Common.{rules, ◌≡◌, ◌∷◌, [], ◌++◌, Err, codes, refl}
 use Rattle.ens_base.specs.declared.status.Status.TheVariants as Status
-use Rattle.replay.proofs.Completing.{memory_read, usage_read}
 use Rattle.ensemble.specs.Arguments.{words_given}
 use Rattle.ensemble.specs.declared.arguments.ArgumentsError.TheVariants.{NotText, Memory}
-use Rattle.ensemble.proofs.Endings.{front_given, given_to_read, not_to_read, unread_ends}
+use Rattle.ensemble.proofs.Endings.{did_read_at, front_given, given_did_read, memory_did_read, not_to_read, unread_ends, usage_did_read}
 use Rattle.ensemble.proofs.top.run_program.Goals as goal
 
 pub returns-in-Ok-words_of-clause-front : goal.returns-in-Ok-words_of-clause-front
 returns-in-Ok-words_of-clause-front g c = λ fault. front_given _ _ _ _ _ (c.ensemble_main.ensures.front fault) (search rules)
 
-pub returns-in-Ok-words_of-clause-end : goal.returns-in-Ok-words_of-clause-end
-returns-in-Ok-words_of-clause-end g c = given_to_read (words_given c.args.all.now) _ _ c.ensemble_main.ensures.end (search rules)
+pub returns-in-Ok-words_of-clause-input : goal.returns-in-Ok-words_of-clause-input
+returns-in-Ok-words_of-clause-input g c = λ wrote. given_did_read (words_given c.args.all.now) _ _ (c.ensemble_main.ensures.input wrote) (search rules)
 
 pub returns-in-Ok-words_of-clause-untouched : goal.returns-in-Ok-words_of-clause-untouched
 returns-in-Ok-words_of-clause-untouched g c = not_to_read (words_given c.args.all.now) _ _ c.ensemble_main.ensures.untouched (search rules)
 
 pub returns-in-Err-clause-front : goal.returns-in-Err-clause-front
-returns-in-Err-clause-front g c = rw c.in-Ok.is (λ fault. (Status.Memory, _, refl, λ e. memory_read _ _ _, c.finish.ensures.front fault))
+returns-in-Err-clause-front g c = rw c.in-Ok.is (λ fault. (Status.Memory, _, refl, λ job asks. memory_did_read job _ _ _, c.finish.ensures.front fault))
 
 pub returns-in-Err-NotText-clause-front : goal.returns-in-Err-NotText-clause-front
 returns-in-Err-NotText-clause-front g c = λ fault.
     let given : words_given c.args.all.now ≡ Err NotText = search rules in
-    (Status.Usage, codes "usage" ++ 10 ∷ [], unread_ends (words_given c.args.all.now) NotText _ _ _ given refl, λ e. usage_read _ _ _, c.finish-in-Err-NotText.ensures.front fault)
+    (Status.Usage, codes "usage" ++ 10 ∷ [], unread_ends (words_given c.args.all.now) NotText _ _ _ given refl, λ job asks. usage_did_read job _ _ _, c.finish-in-Err-NotText.ensures.front fault)
 
 pub returns-in-Err-Memory-clause-front : goal.returns-in-Err-Memory-clause-front
 returns-in-Err-Memory-clause-front g c = λ fault.
     let given : words_given c.args.all.now ≡ Err Memory = search rules in
-    (Status.Memory, codes "memory" ++ 10 ∷ [], unread_ends (words_given c.args.all.now) Memory _ _ _ given refl, λ e. memory_read _ _ _, c.finish-in-Err-Memory.ensures.front fault)
+    (Status.Memory, codes "memory" ++ 10 ∷ [], unread_ends (words_given c.args.all.now) Memory _ _ _ given refl, λ job asks. memory_did_read job _ _ _, c.finish-in-Err-Memory.ensures.front fault)
+
+pub returns-in-Err-clause-input : goal.returns-in-Err-clause-input
+returns-in-Err-clause-input g c = λ wrote job asks. did_read_at job _ _ _ _ _ _ (c.finish.ensures.written wrote).0 (memory_did_read job _ _ _)
+
+pub returns-in-Err-NotText-clause-input : goal.returns-in-Err-NotText-clause-input
+returns-in-Err-NotText-clause-input g c = λ wrote job asks. did_read_at job _ _ _ _ _ _ (c.finish-in-Err-NotText.ensures.written wrote).0 (usage_did_read job _ _ _)
+
+pub returns-in-Err-Memory-clause-input : goal.returns-in-Err-Memory-clause-input
+returns-in-Err-Memory-clause-input g c = λ wrote job asks. did_read_at job _ _ _ _ _ _ (c.finish-in-Err-Memory.ensures.written wrote).0 (memory_did_read job _ _ _)
