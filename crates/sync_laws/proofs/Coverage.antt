@@ -13,7 +13,7 @@ use Rattle.abstract_protocol.specs.Objects.{Map, Objects, IsGenuine, IsSynced}
 use Rattle.sync_laws.specs.Facts.{Fact, Lines, AreFirm}
 use Rattle.sync_laws.specs.Trees.{Tree}
 use Rattle.sync_laws.specs.Syncs.{Stage, Asking, Sync, Covered, AskHolds, SyncHolds, IsOver, is_finished, new_ask, sources_of, given_by, gathered, merged_of, has_finished, is_sure}
-use Rattle.sync_laws.specs.Exchange.{Counts, Answers}
+use Rattle.sync_laws.specs.Exchange.{Counts}
 use Rattle.sync_laws.specs.Messages.{GiveSays}
 
 -- ## One ask
@@ -32,17 +32,6 @@ max_right a b = grind (arith, nat_tests)
 
 pub max_least : (a b c : ℕ) → a ≤ c → b ≤ c → max a b ≤ c
 max_least a b c l m = grind (arith, nat_tests)
-
--- a give that answers keeps covered what the map that it was made from has
-pub answers_keep : (shown scan : Map) (a b : Asking) (k : List ℕ) (v : ℕ) → Answers shown scan a b → v ≤ shown k → Covered a scan k v → Covered b scan k v
-answers_keep shown scan a b k v answers l c none = by_left (a.left k) refl
-  where
-    by_left : (x : Bool) → a.left k ≡ x → v ≤ max (b.received k) (scan k)
-    by_left true e = le_trans l (answers.answered k e none)
-    by_left false e = le_trans (c e) (max_more (a.received k) (b.received k) (scan k) (answers.more k))
-
-pub answers_count : (shown scan : Map) (flag : Bool) (a b : Asking) → Answers shown scan a b → b.flagged ≡ (a.flagged && flag) → (is_finished b.stage ≡ true → (k : List ℕ) → b.left k ≡ false) → Counts shown scan flag a b
-answers_count shown scan flag a b answers flagged done = record { flagged = flagged; from = answers.from; keeps = λ k v some l c. answers_keep shown scan a b k v answers l c; done = done }
 
 both_flags : (a flag firm : Bool) → ((a && flag) || firm) ≡ true → ((a || firm) ≡ true) × ((flag || firm) ≡ true)
 both_flags a flag firm h = (grind arith, grind arith)

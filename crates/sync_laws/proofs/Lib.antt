@@ -1,15 +1,3 @@
 pub mod Coverage
-pub mod Exchange
-pub mod Growth
 pub mod Peers
-pub mod Views
 pub mod Gives
-pub mod Trust
-pub mod Elections
-pub mod Changes
-pub mod States
-pub mod Runs
-pub mod Witness
-pub mod Rules
-pub mod Puts
-pub mod Healing

@@ -4,6 +4,3 @@ pub mod Syncs
 pub mod Exchange
 pub mod Peers
 pub mod Messages
-pub mod Moves
-pub mod Laws
-pub mod Rules

@@ -1,7 +1,7 @@
 -- Peers with their facts, trees, trust, phases and syncs, and what these say of the abstract protocol.
 use Rattle.std.specs.Prelude.{◌≡◌, ℕ, ◌<◌, ◌≤◌, Bool, true, false, Option, None, Some}
 use Rattle.election_laws.specs.Preparing.{proposer_of}
-use Rattle.abstract_protocol.specs.Ledger.{Ledger, is_established, put}
+use Rattle.abstract_protocol.specs.Ledger.{Ledger, is_established}
 use Rattle.abstract_protocol.specs.Objects.{Objects, IsHonest}
 use Rattle.sync_laws.specs.Facts.{Fact, count_of, Lines, IsTrue, IsFirst, IsSaved, HasPromised}
 use Rattle.sync_laws.specs.Trees.{Tree, TreeHolds}
@@ -27,9 +27,6 @@ pub record Peer : Type 0 where
 
 abbrev pub peer_of : Fact → Tree → Bool → Phase → Option Sync → Peer
 peer_of f t trusted phase sync = record { fact = f; tree = t; mode = Up trusted phase sync }
-
-abbrev pub down_of : Fact → Tree → Peer
-down_of f t = record { fact = f; tree = t; mode = Down }
 
 abbrev pub trusts : Mode → Bool
 trusts Down = false
@@ -100,23 +97,3 @@ pub record PeerHolds (g : Lines) (o : Objects) (p : ℕ) (x : Peer) : Type 0 whe
   pub tree : TreeHolds o p x.tree
   pub firm : g.firm p ≡ true → x.tree.intact ≡ true → IsHonest o p
   pub mode : ModeHolds g o p x.fact x.tree x.mode
-
--- the peer neither prepares an epoch nor starts or leads one
-abbrev pub IsIdle : Phase → Type 0
-IsIdle Following = Unit {0}
-IsIdle (Probing best count) = Unit {0}
-IsIdle phase = ⊥
-
-abbrev pub nobody : ℕ → Bool
-nobody q = false
-
--- the phase once a peer that starts the epoch has accepted it itself
-abbrev pub with_own : ℕ → Phase → Phase
-with_own p (Starting new accepts) = Starting new (put accepts p true)
-with_own p phase = phase
-
--- the phase of a peer that no longer trusts its tree: it leads no epoch
-abbrev pub unled : Phase → Phase
-unled (Starting new accepts) = Following
-unled (Leading new accepts finishing) = Following
-unled phase = phase

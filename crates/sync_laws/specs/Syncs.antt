@@ -3,7 +3,6 @@ use Rattle.std.specs.Prelude.{◌≡◌, ℕ, ◌<◌, ◌≤◌, Bool, true, fa
 use Rattle.ens_base.specs.Lists.{◌∈◌}
 use Rattle.ens_base.specs.Views.{last_view}
 use Rattle.joint_views.specs.Quorums.{is_majority}
-use Rattle.abstract_protocol.specs.Ledger.{put}
 use Rattle.abstract_protocol.specs.Objects.{Map, Objects, IsGenuine}
 use Rattle.sync_laws.specs.Facts.{Fact, Lines, IsFirst}
 use Rattle.sync_laws.specs.Trees.{Tree, IsScan, Scan}
@@ -36,12 +35,6 @@ pub record Sync : Type 0 where
   pub fact : Fact
   pub scan : Scan
   pub asks : ℕ → Asking
-
-abbrev pub with_ask : Sync → ℕ → Asking → Sync
-with_ask y q a = record y { asks = put y.asks q a }
-
-abbrev pub new_sync : Fact → Scan → Sync
-new_sync n scan = record { fact = n; scan = scan; asks = λ q. new_ask Open }
 
 -- the sources: the members of the old view, or of the only one
 abbrev pub sources_of : Sync → List ℕ

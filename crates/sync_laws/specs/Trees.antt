@@ -1,5 +1,5 @@
 -- Trees of peers: their maps, and what a scan finds.
-use Rattle.std.specs.Prelude.{◌≡◌, ℕ, Bool, true, false, List, ◌∷◌, ◌⊎◌}
+use Rattle.std.specs.Prelude.{◌≡◌, ℕ, Bool, true, false, List}
 use Rattle.ens_base.specs.Lists.{◌∈◌}
 use Rattle.abstract_protocol.specs.Objects.{Map, Objects, IsGenuine}
 
@@ -13,9 +13,6 @@ pub record Tree : Type 0 where
   pub top : Map
   pub named : List Map
   pub intact : Bool
-
-abbrev pub shows_now : Tree → Map → Tree
-shows_now t m = record { top = m; named = m ∷ t.named; intact = true }
 
 -- the peer shows the map under its top record; each map that ever stood there has genuine entries
 pub record TreeHolds (o : Objects) (p : ℕ) (t : Tree) : Type 0 where
@@ -35,8 +32,3 @@ pub record IsScan (t : Tree) (x : Scan) : Type 0 where
   pub lost : (k : List ℕ) → x.broken k ≡ true → x.entries k ≡ 0
   pub whole : x.damaged ≡ false → (k : List ℕ) → x.broken k ≡ false
   pub verifies : x.damaged ≡ false → t.intact ≡ true
-
--- tree u is tree t with this map under its top record, or with another one of the same entries
-pub record Shows (t : Tree) (m : Map) (u : Tree) : Type 0 where
-  pub top : (k : List ℕ) → m k ≡ u.top k
-  pub named : (n : Map) → n ∈ u.named → (n ∈ t.named) ⊎ ((k : List ℕ) → n k ≡ m k)
