@@ -2,6 +2,9 @@
 use Rattle.std.proofs.Common.{◌≡◌, ◌<◌, ◌^◌, ℕ, Bool, true, false, not, length, List, [], ◌∷◌, ◌++◌, Option, None, Some, Result, Ok, Err, refl, sym, subst, ◌∙◌, inl, inr, arith, string_bytes}
 use Rattle.std.specs.Prelude.{IfOk, IfSome, codes}
 use Rattle.std.proofs.lemmas.Bool.{false≢true}
+use Rattle.calm_runs.proofs.Histories.{histories_in_order}
+use Rattle.calm_runs.proofs.Schedules.{calls_complete}
+use Rattle.calm_runs.specs.Calm.{RunsUndisturbed}
 use Rattle.call_refinement.proofs.ScheduleLaws.{schedules_are_legal, schedules_have_causes}
 use Rattle.call_refinement.specs.Lines.{lines_of}
 use Rattle.ens_base.specs.Lists.{◌∈◌}
@@ -20,7 +23,7 @@ use Rattle.schedule_text.specs.declared.event.ScheduleEvent.TheVariants as line
 use Rattle.schedule_text.specs.declared.schedule.Schedule.{Schedule}
 use Rattle.world_model.specs.declared.error.WorldError.TheVariants.{BookFull, Clash}
 use Rattle.sync_laws.specs.Facts.{AreFirm}
-use Rattle.replay.specs.Jobs.{EndsSo, HasAdmitted, HasCausedAnswers, HasLegalHistories, IsRunText, PrintsWith, clash_line, hashed_by, nothing_hashed}
+use Rattle.replay.specs.Jobs.{CompletesCalls, EndsSo, HasAdmitted, HasCausedAnswers, HasLegalHistories, IsRunText, PrintsWith, clash_line, hashed_by, nothing_hashed}
 use Rattle.replay.specs.Stops.{PassesLimit, RejectsIn}
 use Rattle.replay.proofs.Stops.{passes_whole, rejects_whole}
 
@@ -36,11 +39,13 @@ firm_lines s sound view named = kept (keeps_majority (is_reverted s.events) view
     kept true is = refl
     kept false is = absurd (false≢true (sym is))
 
--- a sound schedule of whose strings no two clash has legal histories, and its answers have causes
-sound_legal : (s : Schedule) → schedule.IsSchedule s → first_unsound s ≡ None → HasNoClash (hashed_by s) → HasLegalHistories s × HasCausedAnswers s
+-- a sound schedule of whose strings no two clash has legal histories, its answers have causes, and if nothing
+-- disturbs it each call is completed
+sound_legal : (s : Schedule) → schedule.IsSchedule s → first_unsound s ≡ None → HasNoClash (hashed_by s) → HasLegalHistories s × HasCausedAnswers s × CompletesCalls s
 sound_legal s of sound apart = (
   schedules_are_legal s.peers s.view s.events of.peers.1 of.view.1 few (firm_lines s sound) of.events of.distinct apart,
   schedules_have_causes s.peers s.view s.events of.peers.1 of.view.1 few (firm_lines s sound) of.events of.distinct apart,
+  λ undisturbed within. let runs : RunsUndisturbed s = record { schedule = of; undisturbed = undisturbed; within = within; apart = apart } in (calls_complete s runs, histories_in_order s runs),
 )
   where
     few : length s.events < 2 ^ 32

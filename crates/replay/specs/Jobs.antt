@@ -1,8 +1,10 @@
 -- What a job prints, and why it ends as it does.
 use Rattle.std.specs.Prelude.{◌≡◌, ◌⊎◌, ◌<◌, ◌≤◌, ℕ, List, [], ◌∷◌, ◌++◌, codes, Option, None, Some, Ok, Err, IfSome}
 use Rattle.std.specs.Io.KnownBytes.{IsAtEnd}
+use Rattle.calm_order.specs.Served.{AreServed, ids_on}
+use Rattle.calm_runs.specs.Calm.{IsUndisturbed}
 use Rattle.call_refinement.specs.Causes.{HaveCauses}
-use Rattle.call_refinement.specs.Lines.{AreLegal}
+use Rattle.call_refinement.specs.Lines.{AreLegal, answers_in, calls_from}
 use Rattle.held_stores.specs.Held.{Account, HasHashed, HasNoClash, once}
 use Rattle.held_stores.specs.Laws.{HasClashed, HasFilled}
 use Rattle.schedule_premise.specs.Premise.{first_unsound}
@@ -11,6 +13,7 @@ use Rattle.schedule_text.specs.Spelling.{IsSchedule}
 use Rattle.schedule_text.specs.declared.error.ScheduleError.TheVariants as schedule
 use Rattle.schedule_text.specs.declared.schedule.Schedule.{Schedule}
 use Rattle.ens_base.specs.Causes.{Rose}
+use Rattle.ens_base.specs.Lists.{◌∈◌}
 use Rattle.ens_base.specs.Words.{bytes_word}
 use Rattle.ens_base.specs.declared.status.Status.{Status}
 use Rattle.ens_hashing.specs.Hashing.{IsClash, KeepsNothing, empty_book, total}
@@ -56,12 +59,19 @@ HasLegalHistories s = (histories : List History) → AreHistories (schedule_run 
 abbrev pub HasCausedAnswers : Schedule → Type 0
 HasCausedAnswers s = HaveCauses s.events (schedule_run s).printed (schedule_run s).notes
 
--- both, if no two different strings of the run have the same MD5
+-- if nothing in the schedule disturbs it, and the run stays within the limit on messages, each call is
+-- completed before the next one begins, and each history has the calls on its key in the order of their
+-- lines
+abbrev pub CompletesCalls : Schedule → Type 0
+CompletesCalls s = IsUndisturbed s → IsWithinMessages (schedule_run s) → AreServed (calls_from 1 s.events) (answers_in (schedule_run s).printed)
+    × ((histories : List History) → AreHistories (schedule_run s).notes (schedule_run s).called histories → (h : History) → h ∈ histories → h.calls ≡ ids_on h.key (calls_from 1 s.events))
+
+-- all three, if no two different strings of the run have the same MD5
 abbrev pub IsLegalRun : Schedule → Type 0
-IsLegalRun s = HasNoClash (hashed_by s) → HasLegalHistories s × HasCausedAnswers s
+IsLegalRun s = HasNoClash (hashed_by s) → HasLegalHistories s × HasCausedAnswers s × CompletesCalls s
 
 -- the bytes are a sound schedule, the text is that of its run, the hasher took the strings of the run,
--- the histories are legal, and the answers have causes
+-- the histories are legal, the answers have causes, and an undisturbed run completes each call
 abbrev pub IsReplay : Account → Account → List ℕ → List ℕ → Type 0
 IsReplay first now bytes text = (s : Schedule) × (schedule_of bytes ≡ Ok s) × IsSchedule s × (first_unsound s ≡ None) × IsRunText s text × HasAdmitted (hashed_by s) first now × IsLegalRun s
 

@@ -3,6 +3,11 @@ use Rattle.ens_base.specs.declared.status.Status.TheVariants as Status
 use Rattle.ensemble.proofs.Endings.{asked_did_read, asked_reads, did_read_at, job_completes, job_ends, memory_did_read, refused_words, usage_did_read}
 use Rattle.ensemble.proofs.top.ensemble_main.Goals as goal
 
+pub returns-in-Ok-clause-printed : goal.returns-in-Ok-clause-printed
+returns-in-Ok-clause-printed g c = λ wrote.
+    let p = c.run_job.ensures.printed wrote in
+    (p.0, job_ends _ _ c.in-Ok.job _ p.0 c.in-Ok.ensures p.1, p.2)
+
 pub returns-in-Ok-clause-front : goal.returns-in-Ok-clause-front
 returns-in-Ok-clause-front g c = λ fault.
     let f = c.run_job.ensures.front fault in

@@ -1,0 +1,108 @@
+-- Where the peers of a calm run stand, and to whom a message to all other members goes.
+use Rattle.std.proofs.Common.{◌≡◌, ◌≤◌, ◌==◌, ◌&&◌, refl, ap, sym, ◌∙◌, subst, arith, ℕ, zero, suc, Bool, true, false, not, List, [], ◌∷◌, map, Some}
+use Rattle.std.specs.Prelude.{◌≢◌, slice_get}
+use Rattle.std.proofs.lemmas.Bool.{and_parts, eqb-true, eqb-false, false≢true}
+use Rattle.std.proofs.lemmas.List.FromFn.{get_or-map-range_with_len}
+use Rattle.ens_base.proofs.Lists.{tested_in, in_tested}
+use Rattle.ens_base.specs.Lists.{◌∈◌, is_in}
+use Rattle.ens_base.specs.PeerSet.{holds}
+use Rattle.ens_base.specs.View.{IsPeer}
+use Rattle.ens_base.specs.declared.entry.Entry.{Entry}
+use Rattle.held_stores.specs.Held.{Held, HeldStores}
+use Rattle.held_stores.specs.Laws.{held_with}
+use Rattle.joint_views.specs.Members.{members, those}
+use Rattle.joint_views.specs.Quorums.{is_member}
+use Rattle.leader_words.specs.declared.out.Outgoing.{Outgoing}
+use Rattle.peer_fact.specs.declared.fact.Fact.{Fact}
+use Rattle.peer_state.specs.declared.state.State.{State}
+use Rattle.phase_rows.specs.Peers.{others_of}
+use Rattle.register_model.specs.declared.note.Note.{Note}
+use Rattle.step_plans.specs.Calls.{Save}
+use Rattle.step_plans.specs.Plans.{Out}
+use Rattle.step_plans.specs.Sends.{posted_to}
+use Rattle.tree_refinement.specs.Trees.{AreAmong}
+use Rattle.tree_refinement.specs.Whole.{IsWhole}
+use Rattle.wire_frames.specs.declared.frame.Frame.{Frame}
+use Rattle.wire_frames.specs.declared.message.Message.{Message}
+use Rattle.world_spec.specs.Nodes.{Up}
+use Rattle.world_spec.specs.Runs.{Run, place_of, frame_from}
+use Rattle.calm_steps.proofs.RowsLand.{held_saved}
+use Rattle.calm_steps.proofs.TreeCalls.{keeps, serves}
+use Rattle.calm_runs.proofs.Parts.{set_same, set_other, places_apart}
+use Rattle.calm_runs.proofs.Posting.{frame_sent, posted_only, posted_high, told_each}
+use Rattle.calm_runs.proofs.Worlds.{moved, whole_grows}
+
+-- peer q is in this state, over stores whose tree is whole and shows this map
+pub record Stands (w : Run) (q : ℕ) (x : State) (m : List Entry) : Type 0 where
+  pub stores : HeldStores
+  pub at : slice_get w.nodes (place_of q) ≡ Some (Up x stores)
+  pub whole : IsWhole (held_with stores w.hashed) m
+
+-- a saved fact leaves the tree whole
+pub whole_saved : (fact : Fact) (h : Held) (m : List Entry) → IsWhole h m → IsWhole (held_saved (Some fact) h) m
+whole_saved fact h m whole = subst (λ g. IsWhole g m) (ap (λ a. a.held) (serves (Save fact) h whole.no_faults)) (keeps (Save fact) h m tt whole)
+
+module _ (p : ℕ) (y : State) (g : Held) (out : Out) (ms : List Note) (w : Run) where
+  -- the peer that took the step
+  pub stands_here : (x : State) (s : HeldStores) (m : List Entry) → slice_get w.nodes (place_of p) ≡ Some (Up x s) → IsWhole g m → Stands (moved p y g out ms w) p y m
+  stands_here x s m at whole = record { stores = g.stores; at = set_same w.nodes (place_of p) (Up y g.stores) (Up x s) at; whole = whole }
+
+  -- and any other peer
+  pub stands_other : (q : ℕ) (x : State) (m : List Entry) → IsPeer p → IsPeer q → q ≢ p → AreAmong w.hashed g.hashed → Stands w q x m → Stands (moved p y g out ms w) q x m
+  stands_other q x m pp qq other grown s = record {
+    stores = s.stores;
+    at = set_other w.nodes (place_of p) (place_of q) (Up y g.stores) (places_apart p q pp qq (λ same. other (sym same))) ∙ s.at;
+    whole = whole_grows s.stores w.hashed g.hashed m grown s.whole;
+  }
+
+-- ## Messages to all other members
+
+-- which peers pass a test
+those_are : (test : ℕ → Bool) (q : ℕ) → IsPeer q → holds (those test) q ≡ test q
+those_are test zero peer = absurd (omega (arith, peer.0))
+those_are test (suc k) peer = get_or-map-range_with_len test 1 31 k (suc k) false (omega (arith, peer.1)) (omega arith)
+
+not_itself : (q p : ℕ) → q ≢ p → not (q == p) ≡ true
+not_itself q p other = by (q == p) refl where
+  by : (b : Bool) → (q == p) ≡ b → not b ≡ true
+  by false same = refl
+  by true same = absurd (other (eqb-true q p same))
+
+module _ (me : ℕ) (view : List ℕ) (peers : (q : ℕ) → q ∈ view → IsPeer q) where
+  abbrev pub IsOther : ℕ → Type 0
+  IsOther q = (q ∈ view) × (q ≢ me)
+
+  others_hold : (q : ℕ) → IsPeer q → holds (others_of me (members (view ∷ []))) q ≡ (is_member (view ∷ []) q && not (q == me))
+  others_hold q peer = those_are (λ p. holds (members (view ∷ [])) p && not (p == me)) q peer ∙ ap (λ b. b && not (q == me)) (those_are (is_member (view ∷ [])) q peer)
+
+  -- each other member gets the message
+  pub goes_to_all : (message : Message) (q : ℕ) → IsOther q → (let f : Frame = record { from = me; to = q; message = message } in f) ∈ map (frame_from me) (posted_to (others_of me (members (view ∷ []))) (Some message))
+  goes_to_all message q other =
+      frame_sent me q (others_of me (members (view ∷ []))) message (peers q other.0) (others_hold q (peers q other.0) ∙ rw (tested_in view q other.0, not_itself q me other.1) refl)
+
+  -- and nobody else
+  pub record IsToOther (sent : Message) (f : Frame) : Type 0 where
+    pub from : f.from ≡ me
+    pub to : IsOther f.to
+    pub message : f.message ≡ sent
+
+  is_other : (q : ℕ) → (is_member (view ∷ []) q && not (q == me)) ≡ true → IsOther q
+  is_other q passes = (listed (is_in view q) refl, differs (q == me) refl) where
+    parts : (is_member (view ∷ []) q ≡ true) × (not (q == me) ≡ true)
+    parts = and_parts (is_member (view ∷ []) q) (not (q == me)) passes
+
+    listed : (b : Bool) → is_in view q ≡ b → q ∈ view
+    listed true is = in_tested view q is
+    listed false is = absurd (false≢true (sym (rw is refl) ∙ parts.0))
+
+    differs : (b : Bool) → (q == me) ≡ b → q ≢ me
+    differs false is = eqb-false q me is
+    differs true is = absurd (false≢true (sym (rw is refl) ∙ parts.1))
+
+  pub goes_to_others : (message : Message) (f : Frame) → f ∈ map (frame_from me) (posted_to (others_of me (members (view ∷ []))) (Some message)) → IsToOther message f
+  goes_to_others message f is = told_each (λ g. IsToOther message g) me (posted_to (others_of me (members (view ∷ []))) (Some message)) f each is where
+    each : (x : Outgoing) → x ∈ posted_to (others_of me (members (view ∷ []))) (Some message) → IsToOther message (frame_from me x)
+    each x at =
+        let it = posted_only (holds (others_of me (members (view ∷ [])))) (λ k. message) 31 x at in
+        let high : x.to ≤ 31 = posted_high (holds (others_of me (members (view ∷ [])))) (λ k. message) 31 x at in
+        record { from = refl; to = is_other x.to (sym (others_hold x.to (it.low, omega (arith, high))) ∙ it.tested); message = it.message }
