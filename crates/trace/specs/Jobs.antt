@@ -1,7 +1,7 @@
 -- What a trace prints, and why it ends as it does.
-use Rattle.std.specs.Prelude.{◌≡◌, ◌⊎◌, ℕ, List, [], ◌∷◌, ◌++◌, codes, Option, None, Ok, IfSome}
+use Rattle.std.specs.Prelude.{◌≡◌, ◌⊎◌, ℕ, Bool, List, [], ◌∷◌, ◌++◌, codes, Option, None, Ok, IfSome}
 use Rattle.ens_base.specs.declared.status.Status.{Status}
-use Rattle.replay.specs.Worlds.{schedule_run}
+use Rattle.world_spec.specs.Lines.{run_of_schedule}
 use Rattle.schedule_input.specs.Endings.{IsBadLine, IsLineLimit, IsUnsound}
 use Rattle.schedule_premise.specs.Premise.{first_unsound}
 use Rattle.schedule_text.specs.Reading.{schedule_of}
@@ -11,24 +11,24 @@ use Rattle.trace.specs.Text.{trace_text}
 
 -- the bytes are a sound schedule, its run stays within the limit on messages, and the text is the
 -- list of these messages
-abbrev pub IsTrace : List ℕ → List ℕ → Type 0
-IsTrace bytes text = (s : Schedule) × (schedule_of bytes ≡ Ok s) × (first_unsound s ≡ None) × IsWithinMessages (schedule_run s) × (text ≡ trace_text (schedule_run s).mail.sent)
+abbrev pub IsTrace : Bool → List ℕ → List ℕ → Type 0
+IsTrace names bytes text = (s : Schedule) × (schedule_of bytes ≡ Ok s) × (first_unsound s ≡ None) × IsWithinMessages (run_of_schedule s.peers s.view s.events) × (text ≡ trace_text names (run_of_schedule s.peers s.view s.events).mail.sent)
 
 -- the bytes are a sound schedule, and its run exceeds the limit on messages
 abbrev pub IsPastLimit : List ℕ → Type 0
-IsPastLimit bytes = (s : Schedule) × (schedule_of bytes ≡ Ok s) × (first_unsound s ≡ None) × IsPastMessages (schedule_run s)
+IsPastLimit bytes = (s : Schedule) × (schedule_of bytes ≡ Ok s) × (first_unsound s ≡ None) × IsPastMessages (run_of_schedule s.peers s.view s.events)
 
 -- message 500,001 would be sent, and the text reports it
 abbrev pub IsMessageLimit : Option (List ℕ) → List ℕ → Type 0
 IsMessageLimit source text = IfSome source IsPastLimit × (text ≡ codes "limit messages 500000" ++ 10 ∷ [])
 
--- the text that a trace of these bytes prints, for each status; it ends with no other status,
+-- the text that a trace of these bytes prints, with names or without, for each status; it ends with no other status,
 -- unless the output fails
-abbrev pub Traces : Option (List ℕ) → Status → List ℕ → Type 0
-Traces source Status.Done text = IfSome source (λ bytes. IsTrace bytes text)
-Traces source Status.Schedule text = IsBadLine source text
-Traces source Status.Premise text = IsUnsound source text
-Traces source Status.Limit text = IsLineLimit source text ⊎ IsMessageLimit source text
-Traces source Status.ReadFault text = text ≡ codes "read fault" ++ 10 ∷ []
-Traces source Status.Memory text = text ≡ codes "memory" ++ 10 ∷ []
-Traces source status text = ⊥
+abbrev pub Traces : Bool → Option (List ℕ) → Status → List ℕ → Type 0
+Traces names source Status.Done text = IfSome source (λ bytes. IsTrace names bytes text)
+Traces names source Status.Schedule text = IsBadLine source text
+Traces names source Status.Premise text = IsUnsound source text
+Traces names source Status.Limit text = IsLineLimit source text ⊎ IsMessageLimit source text
+Traces names source Status.ReadFault text = text ≡ codes "read fault" ++ 10 ∷ []
+Traces names source Status.Memory text = text ≡ codes "memory" ++ 10 ∷ []
+Traces names source status text = ⊥

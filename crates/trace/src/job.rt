@@ -3,7 +3,7 @@ ghost use Rattle.std.specs.Io.KnownBytes.{Appends, IsAtEnd};
 ghost use Rattle.ens_base.specs.Causes.{Rose};
 ghost use Rattle.ens_base.specs.declared.status.Status.{Status};
 ghost use Rattle.ens_outside.specs.Written.{AppendsFront};
-ghost use Rattle.replay.specs.Worlds.{schedule_run};
+ghost use Rattle.world_spec.specs.Lines.{run_of_schedule};
 ghost use Rattle.world_spec.specs.Messages.{IsPastMessages, IsWithinMessages};
 ghost use Rattle.schedule_premise.specs.Premise.{first_unsound};
 ghost use Rattle.schedule_text.specs.Reading.{schedule_of};
@@ -26,14 +26,15 @@ use world_model::{World, WorldError};
 fn run_text<R: Threads + Sync>(
     rt: &R,
     alloc: Global,
+    names: bool,
     schedule: &Schedule,
 ) -> Result<Option<String>, AllocError>
     requires { IsSchedule schedule.now }
-    ensures { IfOk result (λ o. MatchOption o (IsPastMessages (schedule_run schedule.now)) (λ text. IsWithinMessages (schedule_run schedule.now) × (string_bytes text ≡ trace_text (schedule_run schedule.now).mail.sent))) }
+    ensures { IfOk result (λ o. MatchOption o (IsPastMessages (run_of_schedule schedule.now.peers schedule.now.view schedule.now.events)) (λ text. IsWithinMessages (run_of_schedule schedule.now.peers schedule.now.view schedule.now.events) × (string_bytes text ≡ trace_text names (run_of_schedule schedule.now.peers schedule.now.view schedule.now.events).mail.sent))) }
 {
     let mut hasher = PlainHasher;
     match World::run(rt, alloc, schedule, &mut hasher) {
-        Ok(world) => Ok(Some(write_trace(alloc, world.sent())?)),
+        Ok(world) => Ok(Some(write_trace(alloc, names, world.sent())?)),
         Err(WorldError::MessageLimit) => Ok(None),
         Err(WorldError::Memory) => Err(AllocError),
         Err(WorldError::Clash { .. } | WorldError::BookFull(_)) => unreachable!(),
@@ -44,14 +45,15 @@ fn run_text<R: Threads + Sync>(
 fn sound_ending<R: Threads + Sync>(
     rt: &R,
     alloc: Global,
+    names: bool,
     schedule: &Schedule,
 ) -> Result<Ending, AllocError>
     requires valid { IsSchedule schedule.now }
     requires sound { first_unsound schedule.now ≡ None }
-    ensures printed { IfOk result (λ e. (source : Option (List ℕ)) → IfSome source (λ bytes. schedule_of bytes ≡ Ok schedule.now) → Traces source e.status (string_bytes e.text)) }
+    ensures printed { IfOk result (λ e. (source : Option (List ℕ)) → IfSome source (λ bytes. schedule_of bytes ≡ Ok schedule.now) → Traces names source e.status (string_bytes e.text)) }
     ensures status { IfOk result (λ e. e.status ≢ Status.ReadFault) }
 {
-    match run_text(rt, alloc, schedule)? {
+    match run_text(rt, alloc, names, schedule)? {
         Some(text) => Ok(Ending {
             status: Status::Done,
             text,
@@ -64,15 +66,16 @@ fn sound_ending<R: Threads + Sync>(
 fn run_ending<R: Threads + Sync>(
     rt: &R,
     alloc: Global,
+    names: bool,
     schedule: &Schedule,
 ) -> Result<Ending, AllocError>
     requires { IsSchedule schedule.now }
-    ensures printed { IfOk result (λ e. (source : Option (List ℕ)) → IfSome source (λ bytes. schedule_of bytes ≡ Ok schedule.now) → Traces source e.status (string_bytes e.text)) }
+    ensures printed { IfOk result (λ e. (source : Option (List ℕ)) → IfSome source (λ bytes. schedule_of bytes ≡ Ok schedule.now) → Traces names source e.status (string_bytes e.text)) }
     ensures status { IfOk result (λ e. e.status ≢ Status.ReadFault) }
 {
     match Ending::unsound(alloc, schedule)? {
         Some(ending) => Ok(ending),
-        None => sound_ending(rt, alloc, schedule),
+        None => sound_ending(rt, alloc, names, schedule),
     }
 }
 
@@ -81,21 +84,22 @@ fn run_ending<R: Threads + Sync>(
 fn trace_ending<S: Source, R: Threads + Sync>(
     rt: &R,
     alloc: Global,
+    names: bool,
     input: &mut S,
 ) -> Result<Ending, AllocError>
-    ensures printed { IfOk result (λ e. Traces (S.left input.old) e.status (string_bytes e.text)) }
+    ensures printed { IfOk result (λ e. Traces names (S.left input.old) e.status (string_bytes e.text)) }
     ensures end { IfOk result (λ e. e.status ≡ Status.Done → IsAtEnd (S.left input.new)) }
     ensures read { IfOk result (λ e. e.status ≡ Status.ReadFault → Rose (S.fault_count input.old) (S.fault_count input.new)) }
 {
     match read_schedule(alloc, input) {
-        Ok(schedule) => run_ending(rt, alloc, &schedule),
+        Ok(schedule) => run_ending(rt, alloc, names, &schedule),
         Err(error) => Ending::unread(alloc, error),
     }
 }
 
 /// Reads a schedule from the input, runs it, and writes every message that it sends to the output,
 /// in the order of sending: its number from 1, its sender, its receiver, and the bytes of its frame
-/// in hexadecimal digits. Returns the status.
+/// in hexadecimal digits; with `names` also the label of the message. Returns the status.
 ///
 /// A trace that ends in any other way writes one line: `read fault` if the input failed, `schedule
 /// LINE CAUSE` if the input is not a schedule, `limit lines 200000` if it has too many lines,
@@ -105,16 +109,17 @@ fn trace_ending<S: Source, R: Threads + Sync>(
 pub fn trace<S: Source, O: Sink, R: Threads + Sync>(
     rt: &R,
     alloc: Global,
+    names: bool,
     input: &mut S,
     output: &mut O,
 ) -> Status
-    ensures printed { result ≢ Status.WriteFault → (text : List ℕ) × Traces (S.left input.old) result text × Appends (O.written output.old) (O.written output.new) text }
-    ensures front { result ≡ Status.WriteFault → (status : Status) × (text : List ℕ) × Traces (S.left input.old) status text × AppendsFront (O.written output.old) (O.written output.new) text }
+    ensures printed { result ≢ Status.WriteFault → (text : List ℕ) × Traces names (S.left input.old) result text × Appends (O.written output.old) (O.written output.new) text }
+    ensures front { result ≡ Status.WriteFault → (status : Status) × (text : List ℕ) × Traces names (S.left input.old) status text × AppendsFront (O.written output.old) (O.written output.new) text }
     ensures end { result ≡ Status.Done → IsAtEnd (S.left input.new) }
     ensures read { result ≡ Status.ReadFault → Rose (S.fault_count input.old) (S.fault_count input.new) }
     ensures write { result ≡ Status.WriteFault → Rose (O.fault_count output.old) (O.fault_count output.new) }
 {
-    match trace_ending(rt, alloc, input) {
+    match trace_ending(rt, alloc, names, input) {
         Ok(ending) => finish(output, ending.text.as_str(), ending.status),
         Err(_) => finish(output, "memory\n", Status::Memory),
     }

@@ -32,7 +32,7 @@ fn each_status_has_its_case(rt: HostRuntime) -> Result<(), Fail> {
         let mut input = MemSource::new(schedule.as_bytes().to_vec(alloc)?, vec![in alloc; read]?);
         let mut output = MemSink::new(alloc, 200, Vec::new(alloc))?;
         assert_eq!(rt;
-            trace(&rt, alloc, &mut input, &mut output),
+            trace(&rt, alloc, false, &mut input, &mut output),
             status,
             "{schedule}"
         );
@@ -48,7 +48,7 @@ fn a_front_is_written_where_the_output_fails_on_the_way(rt: HostRuntime) -> Resu
     let mut input = MemSource::new(schedule.as_bytes().to_vec(alloc)?, Vec::new(alloc));
     let mut output = MemSink::new(alloc, 8, Vec::new(alloc))?;
     assert_eq!(rt;
-        trace(&rt, alloc, &mut input, &mut output),
+        trace(&rt, alloc, false, &mut input, &mut output),
         Status::WriteFault
     );
     assert_eq!(rt; output.bytes(), b"1 1 2 52".as_slice());

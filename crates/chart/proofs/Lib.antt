@@ -1,0 +1,9 @@
+pub mod Arrows
+pub mod Calms
+pub mod Unread
+pub mod Drawn
+pub mod Shown
+pub mod Plain
+pub mod Steps
+pub mod Since
+pub mod Refused
