@@ -28,18 +28,16 @@ fn bound<R: Net>(net: &R, port: u16) -> io::Result<UdpSocket> {
     Ok(socket)
 }
 
-/// Waits until the socket is ready for one of these events, for so many milliseconds at most. A signal
-/// ends the wait. What the socket is ready for shows at the next call on it.
-fn wait(socket: &UdpSocket, events: i16, milliseconds: i32) {
+/// Waits until the socket is ready for one of these events, for so many milliseconds at most. Returns
+/// whether it is. A signal ends the wait.
+fn is_ready(socket: &UdpSocket, events: i16, milliseconds: i32) -> bool {
     let fd = socket.as_raw_fd();
-    poll(
-        &mut [pollfd {
-            fd,
-            events,
-            revents: 0,
-        }],
-        milliseconds,
-    );
+    let mut asked = [pollfd {
+        fd,
+        events,
+        revents: 0,
+    }];
+    poll(&mut asked, milliseconds) > 0
 }
 
 impl Mailbox {
@@ -56,12 +54,11 @@ impl Mailbox {
     pub fn post(&self, port: u16, frame: &[u8]) -> io::Result<()> {
         let to = (Ipv4Addr::LOCALHOST, port);
         let sent = match self.socket.send_to(frame, to) {
-            Ok(sent) => sent,
             Err(e) if e.kind() == ErrorKind::WouldBlock => {
-                wait(&self.socket, POLLOUT, SEND_WAIT);
+                is_ready(&self.socket, POLLOUT, SEND_WAIT);
                 self.socket.send_to(frame, to)?
             }
-            Err(e) => return Err(e),
+            sent => sent?,
         };
         if sent < frame.len() {
             return Err(io::Error::from(ErrorKind::WriteZero));
@@ -75,8 +72,7 @@ impl Mailbox {
         if self.room.is_empty() {
             self.room.fill(&self.socket)?;
         }
-        if self.room.is_empty() {
-            wait(&self.socket, POLLIN, LOOK_WAIT);
+        if self.room.is_empty() && is_ready(&self.socket, POLLIN, LOOK_WAIT) {
             self.room.fill(&self.socket)?;
         }
         Ok(())
