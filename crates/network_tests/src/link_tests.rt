@@ -14,6 +14,7 @@ fn frames_of_every_length_come_as_they_were_sent(rt: HostRuntime) -> Result<(), 
     let base = base(process::id(rt.process()));
     let mut one = UdpLink::new(&rt, base, 1);
     let mut two = UdpLink::new(&rt, base, 2);
+    assert!(rt; one.send(alloc, 2, b"nobody listens").is_ok());
     let nothing = two.receive(alloc);
     assert!(rt; matches!(&nothing, Ok(None)));
     for length in [0, 26, 4_110, 65_507] {
