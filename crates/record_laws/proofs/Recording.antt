@@ -173,7 +173,7 @@ module _ (s : Schedule) (is : IsSchedule s) (sound : first_unsound s ≡ None) (
       within : a.event ≤ length s.events
       within = subst (λ (n : ℕ). a.event ≤ n) b.agrees.now (subst (λ (x : Answer). x.event ≤ t.book.now) (listed.answer a noted) ((run_entries s.view b.steps b.run).answers a.id (listed.answered a noted)).now)
 
-      by : (c : Call) × (c ∈ calls_from 1 s.events) × (c.id ≡ a.id) × HasCause run.notes c a.reply → IsTimely s.events a × LineFits (lines.Answer a)
+      by : (c : Call) × (c ∈ calls_from 1 s.events) × (c.id ≡ a.id) × HasCause (calls_from 1 s.events) run.notes c a.reply → IsTimely s.events a × LineFits (lines.Answer a)
       by c =
           let asked : t.book.asked a.id ≡ c.0 = subst (λ (i : ℕ). t.book.asked i ≡ c.0) c.2 (listed.asked c.0 ((b.agrees.calls c.0).1 c.1)) in
           let fits = call_fits s.peers 1 s.events c.0 is.events c.1 in (

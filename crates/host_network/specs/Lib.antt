@@ -1,0 +1,4 @@
+pub mod Faults
+pub mod Ports
+pub mod Rooms
+pub mod Ticks

@@ -1,0 +1,13 @@
+//! Adapters over the network of the system and its clock: a link over UDP on 127.0.0.1, and a ticker
+//! over the monotonic clock. They tell nothing of what the system gives or takes, and count each call
+//! that fails. Whatever stands over them is proved over the traits alone.
+#![tactic(auto)]
+
+mod clock_ticker;
+mod mailbox;
+mod ports;
+mod room;
+mod udp_link;
+
+pub use clock_ticker::ClockTicker;
+pub use udp_link::UdpLink;

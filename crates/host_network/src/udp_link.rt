@@ -1,0 +1,123 @@
+ghost use Rattle.std.specs.Prelude.{◌≡◌, ◌≤◌, ◌+◌, ◌^◌, None, IfOk, OnErr};
+ghost use Rattle.ens_outside.specs.Links.{LinkCounts};
+ghost use Rattle.host_network.specs.Faults.{CountsExactly};
+
+use crate::mailbox::Mailbox;
+use crate::ports::port_of;
+use ens_outside::{Link, LinkError};
+use std::alloc::Global;
+use std::net::Net;
+
+/// A link over UDP (RFC 768) on 127.0.0.1. The number N has the port `base + N`, a frame is the
+/// payload of one datagram, and `me` is the number whose port this link is bound to.
+///
+/// The socket is bound at the first call. Until a call succeeds in that, each one tries again, and
+/// fails if the port is taken.
+///
+/// A look that finds a frame returns it at once, whatever its length: 0 bytes to the 65,507 that a
+/// datagram holds. A look that finds none waits for one, for at most a millisecond, without using
+/// the processor. A frame that is longer than a datagram is not sent: the call fails. Whether
+/// somebody listens at the port of the receiver is not told.
+#[derive(Drop)]
+pub struct UdpLink<R: Net> {
+    net: R,
+    base: u16,
+    me: u32,
+    mailbox: Option<Mailbox>,
+    faults: u64,
+}
+
+impl<R: Net> UdpLink<R> {
+    /// Makes a link of the number `me`. Binds nothing yet.
+    pub fn new(net: R, base: u16, me: u32) -> Self
+        ensures { result.faults ≡ 0 }
+    {
+        UdpLink {
+            net,
+            base,
+            me,
+            mailbox: None,
+            faults: 0,
+        }
+    }
+
+    /// Returns the port of a number. Fails exactly if there is no such port.
+    fn port(&self, number: u32) -> Result<u16, LinkError>
+        ensures ok { IfOk result (λ port. port ≡ self.now.base + number) }
+        ensures err { OnErr result (2 ^ 16 ≤ self.now.base + number) }
+    {
+        match port_of(self.base, number) {
+            Some(port) => Ok(port),
+            None => Err(LinkError::Failed),
+        }
+    }
+
+    /// Binds the socket, if it is not bound yet.
+    fn bind(&mut self, alloc: Global) -> Result<(), LinkError>
+        ensures { self.new.faults ≡ self.old.faults }
+    {
+        if self.mailbox.is_none() {
+            self.mailbox = Some(Mailbox::open(&self.net, alloc, self.port(self.me)?)?);
+        }
+        Ok(())
+    }
+
+    /// Sends a frame, and counts no fault.
+    fn post(&mut self, alloc: Global, to: u32, frame: &[u8]) -> Result<(), LinkError>
+        ensures { self.new.faults ≡ self.old.faults }
+    {
+        self.bind(alloc)?;
+        let port = self.port(to)?;
+        match &self.mailbox {
+            Some(mailbox) if mailbox.post(port, frame).is_ok() => Ok(()),
+            _ => Err(LinkError::Failed),
+        }
+    }
+
+    /// Looks for a frame, and counts no fault.
+    fn look(&mut self, alloc: Global) -> Result<Option<Vec<u8>>, LinkError>
+        ensures { self.new.faults ≡ self.old.faults }
+    {
+        self.bind(alloc)?;
+        match &mut self.mailbox {
+            Some(mailbox) => mailbox.receive(alloc),
+            None => Err(LinkError::Failed),
+        }
+    }
+
+    /// Counts a fault if the call failed. Returns what the call answered.
+    fn counted<T>(&mut self, answer: Result<T, LinkError>) -> Result<T, LinkError>
+        ensures answer { result ≡ answer }
+        ensures counts { LinkCounts self.old.faults self.new.faults result }
+        ensures exactly { CountsExactly self.old.faults self.new.faults result }
+    {
+        if let Err(LinkError::Failed) = &answer {
+            self.faults = self.faults.saturating_add(1);
+        }
+        answer
+    }
+}
+
+impl<R: Net> Link for UdpLink<R> {
+    ghost sent = { λ l. None };
+
+    ghost given = { λ l. None };
+
+    ghost waits = { λ l. None };
+
+    ghost fault_count = { λ l. l.faults };
+
+    fn faults(&self) -> u64 {
+        self.faults
+    }
+
+    fn send(&mut self, alloc: Global, to: u32, frame: &[u8]) -> Result<(), LinkError> {
+        let sent = self.post(alloc, to, frame);
+        self.counted(sent)
+    }
+
+    fn receive(&mut self, alloc: Global) -> Result<Option<Vec<u8>>, LinkError> {
+        let received = self.look(alloc);
+        self.counted(received)
+    }
+}
