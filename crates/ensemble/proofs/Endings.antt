@@ -110,7 +110,7 @@ fault_at_usage e = cc e
 
 pub usage_did_read : (job : Job) (source : Option (List ℕ)) (before now : ℕ) → DidRead job source source before now Status.Usage
 usage_did_read Replay source before now = usage_read source before now
-usage_did_read Audit source before now = record { end = λ e. absurd (at_usage e); fault = λ e. absurd (fault_at_usage e) }
+usage_did_read Audit source before now = record { end = λ e. absurd (at_usage e); fault = λ e. absurd (fault_at_usage e); cut = λ e. absurd (fault_at_usage e) }
 usage_did_read (Peer w) source before now = tt
 usage_did_read (Cluster w) source before now = tt
 usage_did_read (Generate number calls summary) source before now = tt
@@ -123,7 +123,7 @@ fault_at_memory e = cc e
 
 pub memory_did_read : (job : Job) (source : Option (List ℕ)) (before now : ℕ) → DidRead job source source before now Status.Memory
 memory_did_read Replay source before now = memory_read source before now
-memory_did_read Audit source before now = record { end = λ e. absurd (at_memory e); fault = λ e. absurd (fault_at_memory e) }
+memory_did_read Audit source before now = record { end = λ e. absurd (at_memory e); fault = λ e. absurd (fault_at_memory e); cut = λ e. absurd (fault_at_memory e) }
 memory_did_read (Peer w) source before now = tt
 memory_did_read (Cluster w) source before now = tt
 memory_did_read (Generate number calls summary) source before now = tt
@@ -132,7 +132,7 @@ memory_did_read (Generate number calls summary) source before now = tt
 pub did_read_at : (job : Job) (source left : Option (List ℕ)) (before now : ℕ) (status ended : Status) → ended ≡ status → DidRead job source left before now status → DidRead job source left before now ended
 did_read_at job source left before now status ended is did = subst (λ (s : Status). DidRead job source left before now s) (sym is) did
 
-pub did_read_record : (job : Job) (source left : Option (List ℕ)) (before now : ℕ) (status : Status) → job ≡ Audit → HasReadRecord left before now status → DidRead job source left before now status
+pub did_read_record : (job : Job) (source left : Option (List ℕ)) (before now : ℕ) (status : Status) → job ≡ Audit → HasReadRecord source left before now status → DidRead job source left before now status
 did_read_record job source left before now status is has = rw is has
 
 pub did_read_schedule : (job : Job) (source left : Option (List ℕ)) (before now : ℕ) (status : Status) → job ≡ Replay → HasRead source left before now status → DidRead job source left before now status

@@ -6,6 +6,7 @@ use Rattle.ens_base.specs.declared.status.Status.{Status}
 use Rattle.ens_words.specs.Forms.{AskFor}
 use Rattle.ens_words.specs.declared.job.Job.{Job}
 use Rattle.ens_words.specs.declared.job.Job.TheVariants.{Replay, Peer, Cluster, Audit, Generate}
+use Rattle.record_input.specs.Reading.{WasCutOff}
 use Rattle.record_report.specs.Printed.{IsAuditable, PrintsReport}
 use Rattle.replay.specs.Jobs.{HasRead, IsRunnable, Prints}
 use Rattle.replay.specs.Summary.{EndsInSummary, StaysWithin}
@@ -28,15 +29,17 @@ ReadsInput job = (job ≡ Replay) ⊎ (job ≡ Audit)
 abbrev pub AskToRead : List (List ℕ) → Type 0
 AskToRead words = (words ≡ codes "replay" ∷ []) ⊎ (words ≡ codes "audit" ∷ [])
 
--- how far an audit read its source: at status 0 nothing is left, and a read fault was counted
-pub record HasReadRecord (left : Option (List ℕ)) (before now : ℕ) (status : Status) : Type 0 where
+-- how far an audit read its source: at status 0 nothing is left, and a read fault was counted, and came
+-- before the bytes that the source gave decided anything
+pub record HasReadRecord (source left : Option (List ℕ)) (before now : ℕ) (status : Status) : Type 0 where
   pub end : status ≡ Status.Done → IsAtEnd left
   pub fault : status ≡ Status.ReadFault → Rose before now
+  pub cut : status ≡ Status.ReadFault → WasCutOff source left
 
 -- how far a job read its source, and how many faults were counted, when it ends with this status
 abbrev pub DidRead : Job → (source left : Option (List ℕ)) → (before now : ℕ) → Status → Type 0
 DidRead Replay source left before now status = HasRead source left before now status
-DidRead Audit source left before now status = HasReadRecord left before now status
+DidRead Audit source left before now status = HasReadRecord source left before now status
 DidRead job source left before now status = Unit {0}
 
 -- the words ask for none of the jobs that the program runs

@@ -11,5 +11,6 @@ mod report;
 mod text;
 
 pub use auditing::audit;
+pub use history_record::{AuditError, Record, read_record};
 pub use report::Report;
 pub use text::report_text;

@@ -1,2 +1,3 @@
 pub mod NextLine
 pub mod Parts
+pub mod Cutting

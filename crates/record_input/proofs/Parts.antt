@@ -51,7 +51,7 @@ long_part (suc n) (x ∷ xs) fits clear =
 read_more : (s : Stage) (v : List ℕ) (parts : List (List ℕ)) (w : List ℕ) (more : List (List ℕ)) → parts ≡ w ∷ more → read_parts s (v ∷ parts) ≡ and_then (next_stage s v) (λ t. read_parts t parts)
 read_more s v parts w more e = let P : List (List ℕ) → Type 0 = λ l. read_parts s (v ∷ l) ≡ and_then (next_stage s v) (λ t. read_parts t l) in subst P (sym e) refl
 
-read_line : (s : Stage) (x v y : List ℕ) → HasNoFeed v → x ≡ (v ++ 10 ∷ []) ++ y → read_parts s (parts_of 10 x) ≡ and_then (next_stage s v) (λ t. read_parts t (parts_of 10 y))
+pub read_line : (s : Stage) (x v y : List ℕ) → HasNoFeed v → x ≡ (v ++ 10 ∷ []) ++ y → read_parts s (parts_of 10 x) ≡ and_then (next_stage s v) (λ t. read_parts t (parts_of 10 y))
 read_line s x v y clear is =
     let part = first_part y in
     ap (λ (l : List ℕ). read_parts s (parts_of 10 l)) is ∙ ap (λ (l : List (List ℕ)). read_parts s l) (parts_line v y clear) ∙ read_more s v (parts_of 10 y) part.0 part.1 part.2

@@ -1,12 +1,13 @@
 -- How the rest of a source is read, and why no record was read.
-use Rattle.std.specs.Prelude.{◌≡◌, ℕ, List, Option, None, Some, Result, Err, IfSome}
+use Rattle.std.specs.Prelude.{◌≡◌, ◌++◌, ℕ, List, Option, None, Some, Result, Err, IfSome}
 use Rattle.ens_outside.specs.declared.lines.NextError.{NextError}
 use Rattle.ens_outside.specs.declared.lines.NextError.TheVariants as next
 use Rattle.schedule_words.specs.Words.{parts_of}
-use Rattle.history_record.specs.Reading.{Stage, read_parts}
+use Rattle.history_record.specs.Reading.{Stage, first_stage, most_in, read_parts}
 use Rattle.history_record.specs.declared.error.AuditError.{AuditError}
 use Rattle.history_record.specs.declared.error.AuditError.TheVariants as audit
 use Rattle.history_record.specs.declared.record.Record.{Record}
+use Rattle.record_input.specs.Lines.{IsLine}
 use Rattle.record_input.specs.declared.read.ReadError.{ReadError}
 use Rattle.record_input.specs.declared.read.ReadError.TheVariants as read
 
@@ -28,6 +29,40 @@ abbrev pub ReadsOn : Option (List ℕ) → Stage → Option (List ℕ) → Stage
 ReadsOn None s rest t = Unit {0}
 ReadsOn (Some old) s None t = ⊥
 ReadsOn (Some old) s (Some new) t = read_parts s (parts_of 10 old) ≡ read_parts t (parts_of 10 new)
+
+-- these bytes, read from the beginning, come to this stage
+abbrev pub ComeTo : List ℕ → Stage → Type 0
+ComeTo lines stage = (rest : List ℕ) → read_parts first_stage (parts_of 10 (lines ++ rest)) ≡ read_parts stage (parts_of 10 rest)
+
+-- a source held the first bytes, and the last ones are left: it gave the lines so far, and the pending
+-- bytes after them
+pub record IsReading (bytes pending left : List ℕ) (stage : Stage) : Type 0 where
+  pub lines : List ℕ
+  pub are : bytes ≡ lines ++ (pending ++ left)
+  pub good : ComeTo lines stage
+
+-- the same if the bytes are known
+abbrev pub HasTaken : Option (List ℕ) → List ℕ → Option (List ℕ) → Stage → Type 0
+HasTaken None pending left stage = Unit {0}
+HasTaken (Some bytes) pending None stage = ⊥
+HasTaken (Some bytes) pending (Some left) stage = IsReading bytes pending left stage
+
+-- Of a source that held the first bytes the second ones are left. It failed before the bytes that it gave
+-- decided anything: after lines none of which is bad come no line feed and no more bytes than the next
+-- line may have.
+pub record IsCutOff (bytes left : List ℕ) : Type 0 where
+  pub lines : List ℕ
+  pub more : List ℕ
+  pub stage : Stage
+  pub are : bytes ≡ lines ++ (more ++ left)
+  pub good : ComeTo lines stage
+  pub undecided : IsLine (most_in stage) more
+
+-- the same if the bytes are known
+abbrev pub WasCutOff : Option (List ℕ) → Option (List ℕ) → Type 0
+WasCutOff None left = Unit {0}
+WasCutOff (Some bytes) None = ⊥
+WasCutOff (Some bytes) (Some left) = IsCutOff bytes left
 
 -- an error and the bytes to come: it names their first bad line and its cause, or they have too many lines
 abbrev pub Refuses : Option (List ℕ) → Stage → ReadError → Type 0

@@ -130,8 +130,12 @@ impl RecordLines {
         requires { most < 2 ^ 24 }
         ensures next { IfOk result (IsNext most (prepend_known self.old.pending.items (S.left source.old))
             (prepend_known self.new.pending.items (S.left source.new))) }
+        ensures kept { OnErr result (Keeps (prepend_known self.old.pending.items (S.left source.old))
+            (prepend_known self.new.pending.items (S.left source.new))) }
         ensures later { S.fault_count source.old ≤ S.fault_count source.new }
         ensures failed { IsErrOf result NextError.Failed → Rose (S.fault_count source.old) (S.fault_count source.new) }
+        // The source failed before the bytes that it gave decided anything.
+        ensures undecided { IsErrOf result NextError.Failed → IsLine most self.new.pending.items }
     {
         let mut searched = 0;
         for turn in 0..most + 2 {

@@ -4,7 +4,7 @@ ghost use Rattle.ens_base.specs.Causes.{Rose};
 ghost use Rattle.history_record.specs.Reading.{end_stage, first_stage, lines_of, most_in, record_of};
 ghost use Rattle.history_record.specs.Records.{IsRecord};
 ghost use Rattle.record_input.specs.Lines.{BeginsLong};
-ghost use Rattle.record_input.specs.Reading.{ReadsAs, ReadsOn, Refuses};
+ghost use Rattle.record_input.specs.Reading.{HasTaken, ReadsAs, ReadsOn, Refuses, WasCutOff};
 
 use crate::lines::RecordLines;
 use ens_outside::{Next, NextError, Source};
@@ -69,6 +69,8 @@ fn take_line<S: Source>(
     ensures bad { IfErr result (Refuses (prepend_known lines.old.pending.items (S.left input.old)) reading.old) }
     ensures later { S.fault_count input.old ≤ S.fault_count input.new }
     ensures failed { IsErrOf result ReadError.Failed → Rose (S.fault_count input.old) (S.fault_count input.new) }
+    ensures held { IfOk result (λ o. IfNone o ((source : Option (List ℕ)) → HasTaken source lines.old.pending.items (S.left input.old) reading.old → HasTaken source lines.new.pending.items (S.left input.new) reading.new)) }
+    ensures cut { IsErrOf result ReadError.Failed → (source : Option (List ℕ)) → HasTaken source lines.old.pending.items (S.left input.old) reading.old → WasCutOff source (S.left input.new) }
 {
     match lines.next(alloc, input, reading.most_bytes())? {
         Next::Line(line) => {
@@ -110,6 +112,8 @@ pub fn read_record<S: Source>(alloc: Global, input: &mut S) -> Result<Record, Re
     ensures bad { IfErr result (Refuses (S.left input.old) first_stage) }
     ensures later { S.fault_count input.old ≤ S.fault_count input.new }
     ensures failed { IsErrOf result ReadError.Failed → Rose (S.fault_count input.old) (S.fault_count input.new) }
+    // The source failed before the bytes that it gave decided anything.
+    ensures cut { IsErrOf result ReadError.Failed → WasCutOff (S.left input.old) (S.left input.new) }
 {
     let mut lines = RecordLines::new(alloc);
     let mut reading = RecordReading::new(alloc);

@@ -5,7 +5,7 @@ ghost use Rattle.ens_base.specs.declared.status.Status.{Status};
 ghost use Rattle.ens_outside.specs.Written.{AppendsFront};
 ghost use Rattle.history_record.specs.Reading.{first_stage, record_of};
 ghost use Rattle.history_record.specs.Records.{IsRecord};
-ghost use Rattle.record_input.specs.Reading.{Refuses};
+ghost use Rattle.record_input.specs.Reading.{Refuses, WasCutOff};
 ghost use Rattle.record_report.specs.Printed.{IsReportText, PrintsReport};
 
 use ens_base::Status;
@@ -63,6 +63,7 @@ fn audit_ending<S: Source>(alloc: Global, input: &mut S) -> Result<Audited, Allo
     ensures printed { IfOk result (λ a. PrintsReport (S.left input.old) a.status a.text.items) }
     ensures end { IfOk result (λ a. a.status ≡ Status.Done → IsAtEnd (S.left input.new)) }
     ensures read { IfOk result (λ a. a.status ≡ Status.ReadFault → Rose (S.fault_count input.old) (S.fault_count input.new)) }
+    ensures cut { IfOk result (λ a. a.status ≡ Status.ReadFault → WasCutOff (S.left input.old) (S.left input.new)) }
 {
     match read_record(alloc, input) {
         Ok(record) => read_ending(alloc, &record),
@@ -92,9 +93,11 @@ fn write_ending<O: Sink>(output: &mut O, audited: &Audited) -> Status
 /// ended.
 pub fn print_report<S: Source, O: Sink>(alloc: Global, input: &mut S, output: &mut O) -> Status
     ensures printed { result ≢ Status.WriteFault → (text : List ℕ) × PrintsReport (S.left input.old) result text × Appends (O.written output.old) (O.written output.new) text }
-    ensures front { result ≡ Status.WriteFault → (status : Status) × (text : List ℕ) × PrintsReport (S.left input.old) status text × (status ≡ Status.Done → IsAtEnd (S.left input.new)) × (status ≡ Status.ReadFault → Rose (S.fault_count input.old) (S.fault_count input.new)) × AppendsFront (O.written output.old) (O.written output.new) text }
+    ensures front { result ≡ Status.WriteFault → (status : Status) × (text : List ℕ) × PrintsReport (S.left input.old) status text × (status ≡ Status.Done → IsAtEnd (S.left input.new)) × (status ≡ Status.ReadFault → Rose (S.fault_count input.old) (S.fault_count input.new)) × (status ≡ Status.ReadFault → WasCutOff (S.left input.old) (S.left input.new)) × AppendsFront (O.written output.old) (O.written output.new) text }
     ensures end { result ≡ Status.Done → IsAtEnd (S.left input.new) }
     ensures read { result ≡ Status.ReadFault → Rose (S.fault_count input.old) (S.fault_count input.new) }
+    // The input failed before the bytes that it gave decided anything.
+    ensures cut { result ≡ Status.ReadFault → WasCutOff (S.left input.old) (S.left input.new) }
     ensures write { result ≡ Status.WriteFault → Rose (O.fault_count output.old) (O.fault_count output.new) }
 {
     match audit_ending(alloc, input) {

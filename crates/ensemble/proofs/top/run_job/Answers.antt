@@ -11,7 +11,7 @@ returns-in-Peer-clause-front g c = λ fault. (Status.Usage, codes "usage" ++ 10 
 pub returns-in-Audit-clause-front : goal.returns-in-Audit-clause-front
 returns-in-Audit-clause-front g c = λ fault.
     let r = c.print_report.ensures.front fault in
-    (r.0, r.1, subst (λ (job : Job). Does job (g.S.Source.left c.args.input.now) r.0 r.1) (sym c.in-Audit.is) r.2, did_read_record c.args.job _ _ _ _ _ c.in-Audit.is (record { end = r.3; fault = r.4 }), r.5)
+    (r.0, r.1, subst (λ (job : Job). Does job (g.S.Source.left c.args.input.now) r.0 r.1) (sym c.in-Audit.is) r.2, did_read_record c.args.job _ _ _ _ _ c.in-Audit.is (record { end = r.3; fault = r.4; cut = r.5 }), r.6)
 
 pub returns-in-Audit-clause-untouched : goal.returns-in-Audit-clause-untouched
 returns-in-Audit-clause-untouched g c = λ none. absurd (none (inr c.in-Audit.is))
@@ -29,4 +29,4 @@ pub returns-in-Replay-clause-input : goal.returns-in-Replay-clause-input
 returns-in-Replay-clause-input g c = λ wrote. did_read_schedule c.args.job _ _ _ _ _ c.in-Replay.is (c.replay.ensures.input wrote)
 
 pub returns-in-Audit-clause-input : goal.returns-in-Audit-clause-input
-returns-in-Audit-clause-input g c = λ wrote. did_read_record c.args.job _ _ _ _ _ c.in-Audit.is (record { end = c.print_report.ensures.end; fault = c.print_report.ensures.read })
+returns-in-Audit-clause-input g c = λ wrote. did_read_record c.args.job _ _ _ _ _ c.in-Audit.is (record { end = c.print_report.ensures.end; fault = c.print_report.ensures.read; cut = c.print_report.ensures.cut })

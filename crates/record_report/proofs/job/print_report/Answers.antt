@@ -14,7 +14,7 @@ returns-in-Ok-clause-printed g c = λ wrote.
     (c.in-Ok.audited.text.items, subst (λ (s : Status). PrintsReport (g.S.Source.left c.args.input.now) s c.in-Ok.audited.text.items) (sym w.0) c.in-Ok.ensures.printed, w.1)
 
 pub returns-in-Ok-clause-front : goal.returns-in-Ok-clause-front
-returns-in-Ok-clause-front g c = λ fault. (c.in-Ok.audited.status, c.in-Ok.audited.text.items, c.in-Ok.ensures.printed, c.in-Ok.ensures.end, c.in-Ok.ensures.read, c.write_ending.ensures.front fault)
+returns-in-Ok-clause-front g c = λ fault. (c.in-Ok.audited.status, c.in-Ok.audited.text.items, c.in-Ok.ensures.printed, c.in-Ok.ensures.end, c.in-Ok.ensures.read, c.in-Ok.ensures.cut, c.write_ending.ensures.front fault)
 
 pub returns-in-Err-clause-front : goal.returns-in-Err-clause-front
-returns-in-Err-clause-front g c = λ fault. (status.Memory, _, refl, (λ is. absurd (not_done is)), (λ is. absurd (not_read_fault is)), c.finish.ensures.front fault)
+returns-in-Err-clause-front g c = λ fault. (status.Memory, _, refl, (λ is. absurd (not_done is)), (λ is. absurd (not_read_fault is)), (λ is. absurd (not_read_fault is)), c.finish.ensures.front fault)
