@@ -1,0 +1,38 @@
+use Rattle.std.proofs.Common.{◌≡◌, ℕ, List, [], refl, subst, Ok, Err}
+use Rattle.std.proofs.lemmas.Result.{err_from_is_err_and}
+use Rattle.line_reading.proofs.Cutting.{cut_off, taken_next}
+use Rattle.line_reading.proofs.Parts.{line_taken, rest_read}
+use Rattle.cluster_script.specs.Reading.{TakesLine}
+use Rattle.cluster_script.specs.Scripts.{ended, next_line}
+use Rattle.cluster_script.proofs.Refusing.{line_counts, next_failed, refuses_line}
+use Rattle.cluster_script.proofs.read.take_line.Goals as goal
+
+pub returns-in_err-line-in-Line-clause-bad : goal.returns-in_err-line-in-Line-clause-bad
+returns-in_err-line-in-Line-clause-bad g c =
+    let exit = err_from_is_err_and c.from_residual-in_err-line-in-Line.result c.from_residual-in_err-line-in-Line.ensures.1 in
+    let next = rw c.in-Line.is at c.in_ok-line.ensures.next in
+    let P : List ℕ → Type 0 = λ v. TakesLine c.args.reading.now.peers c.args.reading.now.lines.items v c.line.new.self.lines.items (Err c.in_err-line-in-Line.field-0.0) in
+    rw (exit.1, exit.2) (refuses_line c.args.reading.now.peers _ _ c.args.reading.now.lines.items c.line.new.self.lines.items c.in-Line.line.items c.in_err-line-in-Line.field-0.0 next.0.no_feed next.1 (subst P c.deref.ensures.value c.in_err-line-in-Line.ensures.takes))
+
+pub returns-in_ok-line-in-Line-clause-line : goal.returns-in_ok-line-in-Line-clause-line
+returns-in_ok-line-in-Line-clause-line g c =
+    let next = rw c.in-Line.is at c.in_ok-line.ensures.next in
+    let P : List ℕ → Type 0 = λ v. next_line c.args.reading.now.peers c.args.reading.now.lines.items v ≡ Ok c.line.new.self.lines.items in
+    let taken = subst P c.deref.ensures.value c.in_ok-line-in-Line.ensures.takes in
+    (line_taken (next_line c.args.reading.now.peers) ended _ _ c.args.reading.now.lines.items c.line.new.self.lines.items c.in-Line.line.items next.0.no_feed next.1 taken, line_counts c.args.reading.now.peers c.args.reading.now.lines.items c.line.new.self.lines.items c.in-Line.line.items taken)
+
+pub returns-in-Rest-clause-rest : goal.returns-in-Rest-clause-rest
+returns-in-Rest-clause-rest g c =
+    let next = rw c.in-Rest.is at c.in_ok-line.ensures.next in
+    (rest_read (next_line c.args.reading.now.peers) ended _ _ c.args.reading.now.lines.items c.in-Rest.rest.items next.0.no_feed next.1 next.2, next.2, refl)
+
+pub returns-in_ok-line-in-Line-clause-held : goal.returns-in_ok-line-in-Line-clause-held
+returns-in_ok-line-in-Line-clause-held g c =
+    let next = rw c.in-Line.is at c.in_ok-line.ensures.next in
+    let P : List ℕ → Type 0 = λ v. next_line c.args.reading.now.peers c.args.reading.now.lines.items v ≡ Ok c.line.new.self.lines.items in
+    λ source h. taken_next (next_line c.args.reading.now.peers) ended [] source _ _ _ _ c.args.reading.now.lines.items c.line.new.self.lines.items c.in-Line.line.items next.0.no_feed (subst P c.deref.ensures.value c.in_ok-line-in-Line.ensures.takes) next.1 h
+
+pub returns-in_err-line-clause-cut : goal.returns-in_err-line-clause-cut
+returns-in_err-line-clause-cut g c =
+    let exit = err_from_is_err_and c.from_residual.result c.from_residual.ensures.1 in
+    rw (exit.1, exit.2) (λ is source h. cut_off (next_line c.args.reading.now.peers) ended [] source _ _ _ _ c.args.reading.now.lines.items h c.in_err-line.ensures.kept (c.in_err-line.ensures.undecided (next_failed c.in_err-line.field-0.0 is)))
