@@ -35,4 +35,4 @@ returns-in_ok-line-in-Line-clause-held g c =
 pub returns-in_err-line-clause-cut : goal.returns-in_err-line-clause-cut
 returns-in_err-line-clause-cut g c =
     let exit = err_from_is_err_and c.from_residual.result c.from_residual.ensures.1 in
-    rw (exit.1, exit.2) (λ is source h. cut_off source _ _ _ _ c.args.reading.now h c.in_err-line.ensures.kept (c.in_err-line.ensures.undecided (next_failed c.in_err-line.field-0.0 is)))
+    rw (exit.1, exit.2) (λ is source h. cut_off source _ _ _ _ c.args.reading.now h c.in_err-line.ensures.kept (rw c.most_bytes.ensures at (c.in_err-line.ensures.undecided (next_failed c.in_err-line.field-0.0 is))))
