@@ -1,0 +1,13 @@
+pub mod Walked
+pub mod Caused
+pub mod Saving
+pub mod Kept
+pub mod Moments
+pub mod Joining
+pub mod Ticking
+pub mod Making
+pub mod Stepping
+pub mod Reading
+pub mod Opening
+pub mod Ending
+pub mod Finishing

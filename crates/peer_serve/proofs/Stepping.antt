@@ -1,0 +1,96 @@
+-- A step that was taken with an empty outbox, and the sending of what it put out.
+use Rattle.std.specs.Prelude.{IfErr, IsErrAnd, IsErrOf, Option, Some}
+use Rattle.std.proofs.Common.{◌≡◌, ◌↔◌, ap, sym, subst, refl, ℕ, Bool, true, false, List, [], ◌∷◌, Result, Ok, Err, inl, inr, arith}
+use Rattle.ens_outside.specs.declared.errors.LinkError.{LinkError}
+use Rattle.ens_outside.specs.declared.errors.LinkError.TheVariants as links
+use Rattle.frame_sending.specs.Sending.{BrokeOff, SentAll}
+use Rattle.peer_plan.specs.Drives.{step_of}
+use Rattle.peer_plan.specs.Kept.{AllMayGo, MaySend}
+use Rattle.peer_state.specs.declared.event.Event.{Event}
+use Rattle.peer_state.specs.declared.state.State.{State}
+use Rattle.register_model.specs.declared.note.Note.{Note}
+use Rattle.std.proofs.lemmas.List.Elements.{All-nil}
+use Rattle.step_plans.specs.Calls.{Call, AnswerOf}
+use Rattle.step_plans.specs.Outboxes.{HasNotesAlone, out_of}
+use Rattle.step_plans.specs.Plans.{Plan, Out, Finished, Stopped, Runs}
+use Rattle.step_plans.specs.Steps.{HasFinished, HasStopped}
+use Rattle.step_plans.specs.declared.error.PeerError.{PeerError}
+use Rattle.step_plans.specs.declared.error.PeerError.TheVariants as errors
+use Rattle.step_plans.specs.declared.outbox.Outbox.{Outbox}
+use Rattle.turn_spec.specs.Deeds.{frames_of}
+use Rattle.turn_spec.specs.Going.{Grew, Point}
+use Rattle.peer_serve.proofs.Joining.{took_one}
+use Rattle.peer_serve.specs.Faults.{link_status, peer_status, status_of}
+use Rattle.peer_serve.specs.Turning.{Fell, RanInto, Took}
+use Rattle.peer_serve.specs.declared.error.ServeError.{ServeError}
+use Rattle.peer_serve.specs.declared.error.ServeError.TheVariants as serves
+
+-- a peer that goes on does not fail as a halted one
+pub not_halted : {T : Type 0} (halted : Bool) → halted ≡ false → (r : Result T PeerError) → (IsErrOf r errors.Halted ↔ (halted ≡ true)) → IsErrOf r errors.Halted → ⊥
+not_halted halted up r is failed = let none : ⊥ = grind (arith, up, is.0 failed) in none
+
+pub no_error : {T E : Type 0} (x : T) (e : E) → IsErrOf {T = T} {E = E} (Ok x) e → ⊥
+no_error x e bad = let none : ⊥ = cc in none
+
+-- `?` returns the error that it met
+pub error_is : {T : Type 0} (e : ServeError) (r : Result T ServeError) (G : ServeError → Type 0) → IsErrAnd r G → ((d : ServeError) → G d → d ≡ e) → r ≡ Err e
+error_is e (Ok x) G and same = absurd and
+error_is e (Err d) G and same = ap Err (same d and)
+
+pub if_error : {T : Type 0} (e : ServeError) (r : Result T ServeError) (Q : ServeError → Type 0) → r ≡ Err e → Q e → IfErr r Q
+if_error {T} e r Q is here = subst (λ (s : Result T ServeError). IfErr s Q) (sym is) here
+
+-- nothing in an empty outbox may not go
+pub all_may_go : (me : ℕ) (o : Outbox) → HasNotesAlone o → AllMayGo me (out_of o)
+all_may_go me o alone = rw alone.sends (All-nil (MaySend me))
+
+-- no error of a step is one of the link
+pub never_link : (error : PeerError) (e : ServeError) → status_of e ≡ peer_status error → e ≡ serves.Link → ⊥
+never_link errors.StoreFault e same is = absurd (cc (ap status_of is))
+never_link (errors.BadFact why) e same is = absurd (cc (ap status_of is))
+never_link errors.Halted e same is = absurd (cc (ap status_of is))
+never_link error e same is = absurd (cc (ap status_of is))
+
+module _ {P : Type 0} (does : P → (call : Call) → AnswerOf call → P → Type 0) (refuses : P → Call → PeerError → P → Type 0) (plan : Plan State) (y : State) (s t : P) (before after : Outbox) (alone : HasNotesAlone before) (quiet : before.notes.items ≡ []) where
+  pub finished_runs : HasFinished does refuses plan s before y t after → Runs does refuses plan s [] (Finished y (out_of after)) t after.notes.items
+  finished_runs did =
+      let ran = rw quiet at did.ran in
+      let same : out_of after ≡ did.out = rw did.sends (rw did.answers (rw did.changes (rw alone.sends (rw alone.answers (rw alone.changes refl))))) in
+      subst (λ (o : Out). Runs does refuses plan s [] (Finished y o) t after.notes.items) (sym same) ran
+
+  pub stopped_runs : (error : PeerError) → HasStopped does refuses plan error s before t after → Runs does refuses plan s [] (Stopped error) t after.notes.items
+  stopped_runs error did = rw quiet at did.ran
+
+-- the same at the plan of a step, of a peer that is `mine`
+module _ {P : Type 0} (does : P → (call : Call) → AnswerOf call → P → Type 0) (refuses : P → Call → PeerError → P → Type 0) (me mine : ℕ) (same : mine ≡ me) (event : Event) (x y : State) (s t : P)
+    (before after : Outbox) (alone : HasNotesAlone before) (quiet : before.notes.items ≡ []) where
+  pub finished_step : HasFinished does refuses (step_of mine event x) s before y t after → Runs does refuses (step_of me event x) s [] (Finished y (out_of after)) t after.notes.items
+  finished_step did = finished_runs does refuses (step_of me event x) y s t before after alone quiet (subst (λ (n : ℕ). HasFinished does refuses (step_of n event x) s before y t after) same did)
+
+  pub stopped_step : (error : PeerError) → HasStopped does refuses (step_of mine event x) error s before t after → Runs does refuses (step_of me event x) s [] (Stopped error) t after.notes.items
+  stopped_step error did = stopped_runs does refuses (step_of me event x) y s t before after alone quiet error (subst (λ (n : ℕ). HasStopped does refuses (step_of n event x) error s before t after) same did)
+
+module _ {P L : Type 0} (does : P → (call : Call) → AnswerOf call → P → Type 0) (refuses : P → Call → PeerError → P → Type 0)
+    (sent : L → Option (List (ℕ × List ℕ))) (given : L → Option (List (Option (List ℕ)))) (faults : L → ℕ) (me : ℕ) (event : Event) (a b : Point P L) where
+  -- all that the step put out was sent
+  pub took_sent : (out : Out) (notes : List Note) → Runs does refuses (step_of me event a.state) a.stores [] (Finished b.state out) b.stores notes
+      → SentAll sent given faults (frames_of me out) a.link b.link → Took does refuses sent given me [] (event ∷ []) a b
+  took_sent out notes ran went = took_one does refuses sent given me event a b out notes ran went.looked went.sends
+
+  -- the step was stopped, and nothing was sent
+  pub was_stopped : (e : ServeError) → (e ≡ serves.Link → ⊥) → RanInto does refuses (status_of e) (step_of me event a.state) a.stores b.stores → Grew (given a.link) (given b.link) [] → Grew (sent a.link) (sent b.link) []
+      → Fell does refuses sent given me (status_of e) (Some event) a b
+  was_stopped serves.Store other ran looked sends = record { ran = ran; looked = looked; sends = sends }
+  was_stopped serves.Link other ran looked sends = absurd (other refl)
+  was_stopped serves.Memory other ran looked sends = inr (inl (record { ran = ran; looked = looked; sends = sends }))
+
+  -- the sending of what the step put out broke off
+  pub was_cut : (e : LinkError) (out : Out) (notes : List Note) → Runs does refuses (step_of me event a.state) a.stores [] (Finished b.state out) b.stores notes
+      → BrokeOff sent given faults e (frames_of me out) a.link b.link → Fell does refuses sent given me (link_status e) (Some event) a b
+  was_cut links.Failed out notes ran broke = record { out = out; notes = notes; ran = ran; looked = broke.looked; sends = broke.sends }
+  was_cut links.Memory out notes ran broke = inr (inr (record { out = out; notes = notes; ran = ran; looked = broke.looked; sends = broke.sends }))
+
+-- the error of a link that was translated to that of a link
+pub link_failed : (e : LinkError) (s : ServeError) → status_of s ≡ link_status e → s ≡ serves.Link → e ≡ links.Failed
+link_failed links.Failed s same is = refl
+link_failed links.Memory s same is = absurd (cc (ap status_of is))

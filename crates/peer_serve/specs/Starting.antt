@@ -1,0 +1,91 @@
+-- How a peer starts on its disks.
+use Rattle.std.specs.Prelude.{◌≡◌, ◌⊎◌, ℕ, List, [], Option, None}
+use Rattle.disk_log.specs.LogFiles.{IsClean}
+use Rattle.disk_log.specs.Records.{entries_of}
+use Rattle.disk_stores.specs.DiskCalls.{HoldsNodes, HoldsObjects}
+use Rattle.disk_stores.specs.NodeMaps.{nodes_of}
+use Rattle.ens_base.specs.Causes.{Rose}
+use Rattle.ens_base.specs.declared.peer_words.PeerWords.{PeerWords}
+use Rattle.ens_base.specs.declared.status.Status.{Status}
+use Rattle.fact_store.specs.Files.{file_kept}
+use Rattle.fact_store.specs.Keeping.{file_fact}
+use Rattle.peer_fact.specs.declared.fact.Fact.{Fact}
+use Rattle.peer_plan.specs.Starts.{start_of}
+use Rattle.peer_state.specs.declared.state.State.{State}
+use Rattle.slot_disk.specs.Crash.{LeavesOnly, SeenIn, Told}
+use Rattle.slot_disk.specs.SlotFiles.{IsAtRest}
+use Rattle.step_plans.specs.Plans.{Finished, Runs, Stopped, nothing}
+use Rattle.peer_serve.specs.DiskPeers.{Of, OnDisks, disks_do, disks_refuse, disks_under}
+use Rattle.peer_serve.specs.Faults.{Between, DiskRose, IsCause, IsStoreCause}
+use Rattle.peer_serve.specs.Saves.{LeavesFacts, Saves, saves_in}
+use Rattle.peer_serve.specs.Turning.{RanInto}
+use Rattle.peer_serve.specs.declared.disks.Disks.{Disks}
+
+module _ {D : Type 0} (seen : D → Option (List ℕ)) (may_leave : D → List ℕ → Type 0) (moment : D → ℕ) (left_since : D → ℕ → List ℕ → Type 0) (faults : D → ℕ) where
+  -- The logs of nodes and objects were opened, and no fault was counted. The root of the tree is not
+  -- read yet.
+  pub record LogsOpened (nodes objects : D) (s : OnDisks D) : Type 0 where
+    pub nodes_held : Told (seen nodes) (λ file. HoldsNodes seen s.0.tree.store (nodes_of file))
+    pub nodes_good : faults s.0.tree.store.log.file.disk ≡ faults nodes
+    pub objects_held : Told (seen objects) (λ file. HoldsObjects seen s.0.backend (entries_of file))
+    pub objects_good : faults s.0.backend.log.file.disk ≡ faults objects
+    pub clean : IsClean s.0.tree.store.log.file × IsClean s.0.backend.log.file
+    pub unread : s.0.tree.top ≡ None
+
+  -- one of the logs was not opened, and both hold what they held
+  pub record LogsRefused (status : Status) (nodes objects nodes_after objects_after : D) : Type 0 where
+    pub nodes_held : Told (seen nodes) (λ file. SeenIn seen nodes_after (λ after. nodes_of after ≡ nodes_of file))
+    pub objects_held : Told (seen objects) (λ file. SeenIn seen objects_after (λ after. entries_of after ≡ entries_of file))
+    pub cause : IsCause (Rose (faults nodes) (faults nodes_after) ⊎ Rose (faults objects) (faults objects_after)) ⊥ status
+
+  -- Stores were opened on disks, and no fault was counted: over disks that tell their bytes they hold
+  -- what the disks held. A crash of the disk of the facts at any moment until then leaves what it might
+  -- have left before. The root of the tree is not read yet.
+  pub record Opened (disks : Disks D) (s : OnDisks D) : Type 0 where
+    pub facts : Of disks.facts (λ d. Told (seen d) (λ file. IsAtRest seen may_leave s.0.facts.slots × (file_kept s.0.facts ≡ file_fact file)) × (faults s.0.facts.slots.disk ≡ faults d))
+    pub moments : Of disks.facts (λ d. LeavesOnly moment left_since d s.0.facts.slots.disk (may_leave d))
+    pub nodes : Of disks.nodes (λ d. Told (seen d) (λ file. HoldsNodes seen s.0.tree.store (nodes_of file)) × (faults s.0.tree.store.log.file.disk ≡ faults d))
+    pub objects : Of disks.objects (λ d. Told (seen d) (λ file. HoldsObjects seen s.0.backend (entries_of file)) × (faults s.0.backend.log.file.disk ≡ faults d))
+    pub unspent : s.0.facts.spent ≡ 0
+    pub clean : IsClean s.0.tree.store.log.file × IsClean s.0.backend.log.file
+    pub unread : s.0.tree.top ≡ None
+
+  -- A disk was not opened. A crash of the disk of the facts, at the end and at any moment until then,
+  -- leaves what it might have left before, and a read of it returns such bytes; the others hold what
+  -- they held.
+  pub record Unopened (status : Status) (disks disks_after : Disks D) : Type 0 where
+    pub facts : Between disks.facts disks_after.facts (λ d e. (c : List ℕ) → may_leave e c → may_leave d c)
+    pub moments : Between disks.facts disks_after.facts (λ d e. LeavesOnly moment left_since d e (may_leave d))
+    pub read : Between disks.facts disks_after.facts (λ d e. Told (seen d) (λ file. SeenIn seen e (may_leave d)))
+    pub nodes : Between disks.nodes disks_after.nodes (λ d e. Told (seen d) (λ file. SeenIn seen e (λ after. nodes_of after ≡ nodes_of file)))
+    pub objects : Between disks.objects disks_after.objects (λ d e. Told (seen d) (λ file. SeenIn seen e (λ after. entries_of after ≡ entries_of file)))
+    pub cause : IsCause (DiskRose faults disks disks_after) ⊥ status
+
+  -- the peer opened its stores on the disks, and started: in this state, with these stores
+  pub record Began (w : PeerWords) (disks : Disks D) (x : State) (s : OnDisks D) : Type 0 where
+    pub first : OnDisks D
+    pub opened : Opened disks first
+    pub starts : Runs (disks_do seen may_leave moment left_since faults) (disks_refuse seen may_leave moment left_since faults) (start_of w.view) first [] (Finished x nothing) s []
+
+  -- what a crash leaves of a disk of facts that told its bytes, and these stores are on it now
+  abbrev pub FactsLeft : Disks D → OnDisks D → Saves → Type 0
+  FactsLeft disks s saves = Of disks.facts (λ d. Told (seen d) (λ file. LeavesFacts may_leave moment left_since d s.0.facts.slots.disk file saves))
+
+  -- the facts that the start saved
+  abbrev pub saved_at_start : (w : PeerWords) (disks : Disks D) (x : State) (s : OnDisks D) → Began w disks x s → List Fact
+  saved_at_start w disks x s began =
+      (saves_in (disks_do seen may_leave moment left_since faults) (disks_refuse seen may_leave moment left_since faults) (start_of w.view) began.first [] (Finished x nothing) s [] began.starts).saved
+
+  -- the peer opened its stores, and its start was stopped
+  pub record Unstarted (w : PeerWords) (status : Status) (disks disks_after : Disks D) : Type 0 where
+    pub first : OnDisks D
+    pub opened : Opened disks first
+    pub end : OnDisks D
+    pub stops : RanInto (disks_do seen may_leave moment left_since faults) (disks_refuse seen may_leave moment left_since faults) status (start_of w.view) first end
+    pub disks_end : disks_after ≡ disks_under end.0
+    pub facts : FactsLeft disks end (saves_in (disks_do seen may_leave moment left_since faults) (disks_refuse seen may_leave moment left_since faults) (start_of w.view) first [] (Stopped stops.error) end stops.notes stops.ran)
+    pub cause : IsCause (IsStoreCause faults disks disks_after end.0.facts) ⊥ status
+
+  -- the peer made no turn
+  abbrev pub Refused : PeerWords → Status → Disks D → Disks D → Type 0
+  Refused w status disks disks_after = Unopened status disks disks_after ⊎ Unstarted w status disks disks_after

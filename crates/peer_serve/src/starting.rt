@@ -1,0 +1,111 @@
+ghost use Rattle.std.specs.Prelude.{◌≡◌, IfOk, IfErr};
+ghost use Rattle.ens_base.specs.View.{IsPeer};
+ghost use Rattle.peer_serve.specs.DiskPeers.{all_there};
+ghost use Rattle.peer_serve.specs.Faults.{status_of};
+ghost use Rattle.peer_serve.specs.Starting.{Began, LogsOpened, LogsRefused, Opened, Refused as IsRefused, Unopened};
+ghost use Rattle.peer_serve.specs.Turning.{IsReady};
+
+use crate::disks::{DiskPeer, DiskStores, Three, close};
+use crate::error::{ServeError, keep_error, peer_error, store_error};
+use disk_stores::{DiskBackend, DiskNodes};
+use ens_base::{PeerWords, Refused};
+use ens_hashing::PlainHasher;
+use fact_store::FactFile;
+use peer_core::{Peer, Stores};
+use slot_disk::Disk;
+use std::alloc::Global;
+use synctree::Tree;
+
+/// Opens the stores of nodes and of objects, beside the file of facts.
+fn open_logs<D: Disk>(
+    alloc: Global,
+    facts: FactFile<D>,
+    nodes: D,
+    objects: D,
+) -> Result<DiskStores<D>, Refused<Three<D>, ServeError>>
+    ensures facts { IfOk result (λ s. s.facts ≡ facts) }
+    ensures opened { IfOk result (λ s. LogsOpened D.seen D.may_leave D.moment D.left_since D.fault_count nodes objects (s, record {})) }
+    ensures kept { IfErr result (λ r. r.held.facts ≡ facts.slots.disk) }
+    ensures refused { IfErr result (λ r. LogsRefused D.seen D.may_leave D.moment D.left_since D.fault_count (status_of r.error) nodes objects r.held.nodes r.held.objects) }
+{
+    let nodes = match DiskNodes::open(alloc, nodes) {
+        Ok(nodes) => nodes,
+        Err(refused) => {
+            return Err(Refused {
+                error: store_error(refused.error),
+                held: Three {
+                    facts: facts.into_disk(),
+                    nodes: refused.held,
+                    objects,
+                },
+            });
+        }
+    };
+    match DiskBackend::open(alloc, objects) {
+        Ok(backend) => Ok(Stores {
+            backend,
+            tree: Tree::unopened(nodes),
+            facts,
+        }),
+        Err(refused) => Err(Refused {
+            error: store_error(refused.error),
+            held: Three {
+                facts: facts.into_disk(),
+                nodes: nodes.into_disk(),
+                objects: refused.held,
+            },
+        }),
+    }
+}
+
+/// Opens stores on the disks, that of the facts first, which is locked by whoever serves.
+fn open<D: Disk>(
+    alloc: Global,
+    disks: Three<D>,
+) -> Result<DiskStores<D>, Refused<Three<D>, ServeError>>
+    ensures opened { IfOk result (λ s. Opened D.seen D.may_leave D.moment D.left_since D.fault_count (all_there disks) (s, record {})) }
+    ensures unopened { IfErr result (λ r. Unopened D.seen D.may_leave D.moment D.left_since D.fault_count (status_of r.error) (all_there disks) (all_there r.held)) }
+{
+    let Three {
+        facts,
+        nodes,
+        objects,
+    } = disks;
+    match FactFile::open(alloc, facts) {
+        Ok(facts) => open_logs(alloc, facts, nodes, objects),
+        Err(refused) => Err(Refused {
+            error: keep_error(refused.error),
+            held: Three {
+                facts: refused.held,
+                nodes,
+                objects,
+            },
+        }),
+    }
+}
+
+/// Starts a peer on the disks.
+///
+/// # Errors
+///
+/// `Store` only if a fault of a disk was counted, the file of facts holds a record that is no fact, or
+/// it has its last serial number; `Memory` when out of memory. The disks are returned.
+pub(crate) fn start<D: Disk>(
+    alloc: Global,
+    words: &PeerWords,
+    disks: Three<D>,
+) -> Result<DiskPeer<D>, Refused<Three<D>, ServeError>>
+    requires { IsPeer words.now.me }
+    ensures began { IfOk result (λ p. Began D.seen D.may_leave D.moment D.left_since D.fault_count words.now (all_there disks) p.machine.state (p.machine.stores, record {})) }
+    ensures ready { IfOk result (λ p. IsReady words.now p) }
+    ensures refused { IfErr result (λ r. IsRefused D.seen D.may_leave D.moment D.left_since D.fault_count words.now (status_of r.error) (all_there disks) (all_there r.held)) }
+{
+    let stores = open(alloc, disks)?;
+    match Peer::start(alloc, words.me, words.view, stores, &mut PlainHasher) {
+        Ok(peer) => Ok(peer),
+        Err(refused) => Err(Refused {
+            error: peer_error(refused.error),
+            held: close(refused.held),
+        }),
+    }
+}
