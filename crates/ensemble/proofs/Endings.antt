@@ -25,24 +25,22 @@ verb_length (verb ∷ rest) = length verb
 
 -- words that ask for a job that is not built ask for no other
 unbuilt : (words : List (List ℕ)) (job other : Job) → ¬ IsBuilt job → AskFor words job → AskFor words other → ¬ IsBuilt other
-unbuilt words (Peer w) Replay never asks also built = let bad : ◌≡◌ {A = ℕ} 4 6 = ap verb_length (sym asks.1 ∙ also.1) in absurd (omega (arith, bad))
-unbuilt words (Peer w) (Generate number calls summary) never asks also built = let bad : ◌≡◌ {A = ℕ} 4 8 = ap verb_length (sym asks.1 ∙ also.1) in absurd (omega (arith, bad))
-unbuilt words (Peer w) Audit never asks also built = let bad : ◌≡◌ {A = ℕ} 4 5 = ap verb_length (sym asks.1 ∙ also.1) in absurd (omega (arith, bad))
 unbuilt words (Cluster w) Audit never asks also built = let bad : ◌≡◌ {A = ℕ} 7 5 = ap verb_length (sym asks.1 ∙ also.1) in absurd (omega (arith, bad))
 unbuilt words (Cluster w) Replay never asks also built = let bad : ◌≡◌ {A = ℕ} 7 6 = ap verb_length (sym asks.1 ∙ also.1) in absurd (omega (arith, bad))
 unbuilt words (Cluster w) (Generate number calls summary) never asks also built = let bad : ◌≡◌ {A = ℕ} 7 8 = ap verb_length (sym asks.1 ∙ also.1) in absurd (omega (arith, bad))
-unbuilt words job (Peer w) never asks also built = built
+unbuilt words (Cluster w) (Peer v) never asks also built = let bad : ◌≡◌ {A = ℕ} 7 4 = ap verb_length (sym asks.1 ∙ also.1) in absurd (omega (arith, bad))
 unbuilt words job (Cluster w) never asks also built = built
+unbuilt words (Peer w) other never asks also built = absurd (never tt)
 unbuilt words Replay other never asks also built = absurd (never tt)
 unbuilt words Audit other never asks also built = absurd (never tt)
 unbuilt words (Generate number calls summary) other never asks also built = absurd (never tt)
 
 pub job_ends : (words : List (List ℕ)) (source : Option (List ℕ)) (job : Job) (status : Status) (text : List ℕ) → AskFor words job → Does job source status text
     → Ends words source status text
-job_ends words source (Peer w) Status.Usage text asks h = ((λ other. unbuilt words (Peer w) other (λ b. b) asks), h)
+job_ends words source (Peer w) Status.Usage text asks h = absurd h
 job_ends words source (Cluster w) Status.Usage text asks h = ((λ other. unbuilt words (Cluster w) other (λ b. b) asks), h)
-job_ends words source (Peer w) status text asks h = absurd h
 job_ends words source (Cluster w) status text asks h = absurd h
+job_ends words source (Peer w) Status.Memory text asks h = h
 job_ends words source Replay Status.Usage text asks h = absurd h.1
 job_ends words source (Generate number calls true) Status.Usage text asks h = absurd h
 job_ends words source (Generate number calls false) Status.Usage text asks h = absurd h
@@ -79,7 +77,7 @@ unhindered source (Generate number calls true) status text free does calm = absu
 built : (source : Option (List ℕ)) (job : Job) → IsUnhindered job source → IsBuilt job
 built source Replay free = tt
 built source Audit free = tt
-built source (Peer w) free = free
+built source (Peer w) free = absurd free
 built source (Cluster w) free = free
 built source (Generate number calls summary) free = tt
 

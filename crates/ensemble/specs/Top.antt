@@ -2,10 +2,13 @@
 use Rattle.std.specs.Prelude.{◌≡◌, ◌⊎◌, ℕ, true, false, List, [], ◌∷◌, ◌++◌, codes, Option, Result, Ok, Err, IsSomeAnd}
 use Rattle.std.specs.Io.KnownBytes.{IsAtEnd}
 use Rattle.ens_base.specs.Causes.{Rose}
+use Rattle.ens_base.specs.declared.peer_words.PeerWords.{PeerWords}
 use Rattle.ens_base.specs.declared.status.Status.{Status}
 use Rattle.ens_words.specs.Forms.{AskFor}
 use Rattle.ens_words.specs.declared.job.Job.{Job}
 use Rattle.ens_words.specs.declared.job.Job.TheVariants.{Replay, Peer, Cluster, Audit, Generate}
+use Rattle.peer_serve.specs.Faults.{fault_text}
+use Rattle.peer_serve.specs.Serving.{counts_text}
 use Rattle.record_input.specs.Reading.{WasCutOff}
 use Rattle.record_report.specs.Printed.{IsAuditable, PrintsReport}
 use Rattle.replay.specs.Jobs.{HasRead, IsRunnable, Prints}
@@ -15,9 +18,8 @@ use Rattle.schedule_text.specs.Spelling.{schedule_text}
 use Rattle.ensemble.specs.declared.arguments.ArgumentsError.{ArgumentsError}
 use Rattle.ensemble.specs.declared.arguments.ArgumentsError.TheVariants.{NotText, Memory}
 
--- the jobs that the program runs: a peer of its own, and peers over a network, are not built yet
+-- the jobs that the program runs: several peers in one process, over a network, are not built yet
 abbrev pub IsBuilt : Job → Type 0
-IsBuilt (Peer words) = ⊥
 IsBuilt (Cluster words) = ⊥
 IsBuilt job = Unit {0}
 
@@ -65,6 +67,14 @@ abbrev pub PrintsSummary : ℕ → ℕ → Status → List ℕ → Type 0
 PrintsSummary number calls Status.Memory text = IsMemoryText text
 PrintsSummary number calls status text = EndsInSummary (generate number calls) status text
 
+-- a peer counts its frames after its last turn, or reports a fault
+abbrev pub PrintsCounts : PeerWords → Status → List ℕ → Type 0
+PrintsCounts w Status.Done text = (taken : ℕ) × (ignored : ℕ) × (text ≡ counts_text w.me taken ignored)
+PrintsCounts w Status.StoreFault text = text ≡ fault_text Status.StoreFault
+PrintsCounts w Status.LinkFault text = text ≡ fault_text Status.LinkFault
+PrintsCounts w Status.Memory text = IsMemoryText text
+PrintsCounts w status text = ⊥
+
 -- a job that is not built ends with the usage line
 abbrev pub DoesNothing : Status → List ℕ → Type 0
 DoesNothing Status.Usage text = IsUsageText text
@@ -73,7 +83,7 @@ DoesNothing status text = ⊥
 -- the text that a job prints, for each status; only a replay and an audit read the source
 abbrev pub Does : Job → Option (List ℕ) → Status → List ℕ → Type 0
 Does Replay source status text = Prints source status text
-Does (Peer words) source status text = DoesNothing status text
+Does (Peer words) source status text = PrintsCounts words status text
 Does (Cluster words) source status text = DoesNothing status text
 Does Audit source status text = PrintsReport source status text
 Does (Generate number calls false) source status text = PrintsSchedule number calls status text

@@ -1,4 +1,4 @@
-use crate::top::ensemble_main;
+use crate::memory_tests::run;
 use ens_base::Status;
 use ens_outside::{MemSink, MemSource};
 use std::test::Fail;
@@ -34,11 +34,6 @@ fn each_form_has_its_case(rt: HostRuntime) -> Result<(), Fail> {
             "usage\n",
         ),
         (
-            &["peer", "1", "3", "7000", "9", "1", "2"],
-            Status::Usage,
-            "usage\n",
-        ),
-        (
             &["cluster", "3", "7000", "1", "2"],
             Status::Usage,
             "usage\n",
@@ -49,10 +44,7 @@ fn each_form_has_its_case(rt: HostRuntime) -> Result<(), Fail> {
     for (words, status, text) in cases {
         let mut input = MemSource::new(Vec::new(alloc), Vec::new(alloc));
         let mut output = MemSink::new(alloc, 400, Vec::new(alloc))?;
-        assert_eq!(rt;
-            ensemble_main(&rt, alloc, words, &mut input, &mut output),
-            status
-        );
+        assert_eq!(rt; run(&rt, alloc, words, &mut input, &mut output)?, status);
         assert_eq!(rt; output.bytes(), text.as_bytes());
     }
     Ok(())

@@ -1,32 +1,57 @@
-//! The program `ensemble`: passes its arguments, its standard input and its standard output to
-//! `run_program`, and exits with the status that this returns.
+//! The program `ensemble`: passes its arguments, its standard input and output, the files of the
+//! current folder, a socket and the clock to `run_program`, and exits with the status that this
+//! returns.
 //!
 //! `run_program` passes the words after the name of the program to `ensemble_main`. For the argument
-//! `replay`, `ensemble_main` guarantees that every history it prints is legal. The clauses of both
-//! stand in `top.rt`; the definitions that they cite stand in `specs/Top` and in the crate replay.
+//! `replay`, `ensemble_main` guarantees that every history it prints is legal; for `peer`, that it
+//! serves as the protocol defines. The clauses of both stand in `top.rt`; the definitions that they
+//! cite stand in `specs/Top` and `specs/Peers`, and in the crates replay and peer_serve.
 #![tactic(auto)]
 
 mod arguments;
 mod generating;
+mod host;
 mod laws;
 mod top;
 
 use arguments::all_arguments;
-use ens_outside::{ReaderSource, WriterSink};
+use ens_base::Status;
+use ens_outside::{ReaderSource, WriterSink, finish};
+use host::{disks_of, link_of, peer_of, stand_in, ticker_of};
 use std::env;
 use std::process::ExitCode;
 use top::run_program;
 
 fn main(rt: HostRuntime) -> ExitCode {
     let alloc = rt.alloc();
+    // Where this fails, no file of a peer can be opened either.
+    let _held = stand_in(&rt);
     let mut input = ReaderSource::new(rt.stdin());
     let mut output = WriterSink::new(rt.stdout());
     let all = all_arguments(alloc, env::args(&rt));
-    ExitCode::from(run_program(&rt, alloc, &all, &mut input, &mut output).number())
+    let Ok(peer) = peer_of(alloc, &all) else {
+        return ExitCode::from(finish(&mut output, "memory\n", Status::Memory).number());
+    };
+    let mut link = link_of(&rt, peer);
+    let mut disks = disks_of(&rt);
+    let mut ticker = ticker_of(&rt);
+    let status = run_program(
+        &rt,
+        alloc,
+        &all,
+        &mut input,
+        &mut output,
+        &mut link,
+        &mut disks,
+        &mut ticker,
+    );
+    ExitCode::from(status.number())
 }
 
 #[cfg(test)]
 mod generate_tests;
+#[cfg(test)]
+mod memory_tests;
 #[cfg(test)]
 mod replay_tests;
 #[cfg(test)]

@@ -1,44 +1,58 @@
 ghost use Rattle.std.specs.Prelude.{◌≡◌, ◌≢◌, ℕ, List, map};
 ghost use Rattle.std.specs.Io.KnownBytes.{Appends};
 ghost use Rattle.ens_base.specs.Causes.{Rose};
+ghost use Rattle.ens_base.specs.declared.peer_words.PeerWords.{PeerWords as Words};
 ghost use Rattle.ens_base.specs.declared.status.Status.{Status};
 ghost use Rattle.ens_outside.specs.Written.{AppendsFront};
 ghost use Rattle.ens_words.specs.Forms.{AskFor, IsJob};
 ghost use Rattle.ens_words.specs.declared.job.Job.{Job};
+ghost use Rattle.ens_words.specs.declared.job.Job.TheVariants as jobs;
 ghost use Rattle.ensemble.specs.Arguments.{words_given};
+ghost use Rattle.ensemble.specs.Peers.{AreUntouched, AskToServe, CameToServe, GivenToServe, HasServed, OnPeer};
 ghost use Rattle.ensemble.specs.Top.{AskToRead, DidRead, Does, Ends, EndsGiven, GivenFor, GivenToRead, IsUnhindered, ReadsInput};
+ghost use Rattle.peer_serve.specs.DiskPeers.{AreThere};
 ghost use Rattle.replay.specs.Jobs.{RanOut};
 
 use crate::arguments::{ArgumentsError, words_of};
 use crate::generating::{print_generated, print_summary};
 use ens_base::Status;
-use ens_outside::{Sink, Source, finish};
+use ens_outside::{Link, Sink, Source, Ticker, finish};
 use ens_words::{Job, WordsError, read_words};
+use peer_serve::{Disks, serve};
 use record_report::print_report;
 use replay::replay;
+use slot_disk::Disk;
 use std::alloc::Global;
 use std::thread::Threads;
 
-/// Runs a job on this input and output. Returns the status.
-fn run_job<S: Source, O: Sink, R: Threads + Sync>(
+/// Runs a job on this input and output. A peer also uses the link, the disks and the ticker. Returns
+/// the status.
+fn run_job<S: Source, O: Sink, L: Link, D: Disk + Drop, T: Ticker, R: Threads + Sync>(
     rt: &R,
     alloc: Global,
     job: Job,
     input: &mut S,
     output: &mut O,
+    link: &mut L,
+    disks: &mut Disks<D>,
+    ticker: &mut T,
 ) -> Status
-    requires { IsJob job }
+    requires job { IsJob job }
+    requires there { AreThere disks.old }
     ensures printed { result ≢ Status.WriteFault → (text : List ℕ) × Does job (S.left input.old) result text × Appends (O.written output.old) (O.written output.new) text }
     ensures front { result ≡ Status.WriteFault → (status : Status) × (text : List ℕ) × Does job (S.left input.old) status text × DidRead job (S.left input.old) (S.left input.new) (S.fault_count input.old) (S.fault_count input.new) status × AppendsFront (O.written output.old) (O.written output.new) text }
     ensures input { result ≢ Status.WriteFault → DidRead job (S.left input.old) (S.left input.new) (S.fault_count input.old) (S.fault_count input.new) result }
     ensures untouched { ¬ ReadsInput job → input.new ≡ input.old }
     ensures read { result ≡ Status.ReadFault → Rose (S.fault_count input.old) (S.fault_count input.new) }
     ensures write { result ≡ Status.WriteFault → Rose (O.fault_count output.old) (O.fault_count output.new) }
+    ensures served { OnPeer job (HasServed D.seen D.may_leave D.moment D.left_since D.fault_count L.sent L.given L.fault_count T.coming disks.old disks.new link.old link.new ticker.old ticker.new (O.written output.old) (O.written output.new) (O.fault_count output.old) (O.fault_count output.new) result) (AreUntouched disks.old disks.new link.old link.new ticker.old ticker.new) }
+    ensures there { AreThere disks.new }
 {
     match job {
         Job::Replay => replay(rt, alloc, input, output),
         Job::Audit => print_report(alloc, input, output),
-        Job::Peer(_) | Job::Cluster(_) => finish(output, "usage\n", Status::Usage),
+        Job::Peer(words) => serve(rt, alloc, &words, link, disks, ticker, output),
+        Job::Cluster(_) => finish(output, "usage\n", Status::Usage),
         Job::Generate {
             number,
             calls,
@@ -59,14 +73,21 @@ fn run_job<S: Source, O: Sink, R: Threads + Sync>(
 /// key. `audit` reads a record, which is a schedule with such a text, and writes the report on its
 /// histories. `generate NUMBER CALLS schedule` writes the schedule of 1 to 20,000 calls that is
 /// generated from a number, and `generate NUMBER CALLS summary` the six lines that sum up its run.
-/// Any other arguments are a usage error, and so far the forms of `peer` and `cluster` are one too.
-pub fn ensemble_main<S: Source, O: Sink, R: Threads + Sync>(
+/// `peer ID PEERS PORT TURNS MEMBER ..` serves as one peer over the link, on the disks, and writes how
+/// many frames it took and ignored. Whoever makes the link makes it for these words: as the number ID,
+/// with the ports from PORT on. Any other arguments are a usage error, and so far the form of
+/// `cluster` is one too.
+pub fn ensemble_main<S: Source, O: Sink, L: Link, D: Disk + Drop, T: Ticker, R: Threads + Sync>(
     rt: &R,
     alloc: Global,
     words: &[&str],
     input: &mut S,
     output: &mut O,
+    link: &mut L,
+    disks: &mut Disks<D>,
+    ticker: &mut T,
 ) -> Status
+    requires there { AreThere disks.old }
     // What is written, for each status: for a replay that ran to its end, what the world printed,
     // and a history for each key; for an audit, the report of the record that was read.
     ensures printed { result ≢ Status.WriteFault → (text : List ℕ) × Ends (map (λ w. w.now) words.now) (S.left input.old) result text × Appends (O.written output.old) (O.written output.new) text }
@@ -80,9 +101,14 @@ pub fn ensemble_main<S: Source, O: Sink, R: Threads + Sync>(
     ensures write { result ≡ Status.WriteFault → Rose (O.fault_count output.old) (O.fault_count output.new) }
     // If no other end has a cause, the job runs to its end, unless out of memory.
     ensures completes { (job : Job) → AskFor (map (λ w. w.now) words.now) job → IsUnhindered job (S.left input.old) → ¬ Rose (S.fault_count input.old) (S.fault_count input.new) → ¬ Rose (O.fault_count output.old) (O.fault_count output.new) → RanOut result }
+    // What became of a peer: its turns, its steps and what they sent, its disks, and what it printed.
+    ensures served { (w : Words) → AskFor (map (λ w. w.now) words.now) (jobs.Peer w) → CameToServe D.seen D.may_leave D.moment D.left_since D.fault_count L.sent L.given L.fault_count T.coming disks.old disks.new link.old link.new ticker.old ticker.new (O.written output.old) (O.written output.new) (O.fault_count output.old) (O.fault_count output.new) result w }
+    // Only a peer touches the disks, the link and the ticker, and the disks stay there.
+    ensures alone { ¬ AskToServe (map (λ w. w.now) words.now) → AreUntouched disks.old disks.new link.old link.new ticker.old ticker.new }
+    ensures there { AreThere disks.new }
 {
     match read_words(alloc, words) {
-        Ok(job) => run_job(rt, alloc, job, input, output),
+        Ok(job) => run_job(rt, alloc, job, input, output, link, disks, ticker),
         Err(WordsError::Usage) => finish(output, "usage\n", Status::Usage),
         Err(WordsError::Memory) => finish(output, "memory\n", Status::Memory),
     }
@@ -90,13 +116,17 @@ pub fn ensemble_main<S: Source, O: Sink, R: Threads + Sync>(
 
 /// Runs the program with all its arguments, its name first, or with why they could not be read: it
 /// ends with a usage error if one of them is not valid text. Returns the status.
-pub fn run_program<S: Source, O: Sink, R: Threads + Sync>(
+pub fn run_program<S: Source, O: Sink, L: Link, D: Disk + Drop, T: Ticker, R: Threads + Sync>(
     rt: &R,
     alloc: Global,
     all: &Result<Vec<String>, ArgumentsError>,
     input: &mut S,
     output: &mut O,
+    link: &mut L,
+    disks: &mut Disks<D>,
+    ticker: &mut T,
 ) -> Status
+    requires there { AreThere disks.old }
     ensures printed { result ≢ Status.WriteFault → (text : List ℕ) × EndsGiven (words_given all.now) (S.left input.old) result text × Appends (O.written output.old) (O.written output.new) text }
     // If the output failed, a prefix of the text with which the program would otherwise have ended.
     ensures front { result ≡ Status.WriteFault → (status : Status) × (text : List ℕ) × EndsGiven (words_given all.now) (S.left input.old) status text × ((job : Job) → GivenFor (words_given all.now) job → DidRead job (S.left input.old) (S.left input.new) (S.fault_count input.old) (S.fault_count input.new) status) × AppendsFront (O.written output.old) (O.written output.new) text }
@@ -108,10 +138,14 @@ pub fn run_program<S: Source, O: Sink, R: Threads + Sync>(
     ensures write { result ≡ Status.WriteFault → Rose (O.fault_count output.old) (O.fault_count output.new) }
     // If no other end has a cause, the job runs to its end, unless out of memory.
     ensures completes { (job : Job) → GivenFor (words_given all.now) job → IsUnhindered job (S.left input.old) → ¬ Rose (S.fault_count input.old) (S.fault_count input.new) → ¬ Rose (O.fault_count output.old) (O.fault_count output.new) → RanOut result }
+    // What became of a peer, unless memory ran out before its words were read.
+    ensures served { (w : Words) → GivenFor (words_given all.now) (jobs.Peer w) → CameToServe D.seen D.may_leave D.moment D.left_since D.fault_count L.sent L.given L.fault_count T.coming disks.old disks.new link.old link.new ticker.old ticker.new (O.written output.old) (O.written output.new) (O.fault_count output.old) (O.fault_count output.new) result w }
+    // Only a peer touches the disks, the link and the ticker.
+    ensures alone { ¬ GivenToServe (words_given all.now) → AreUntouched disks.old disks.new link.old link.new ticker.old ticker.new }
 {
     match all {
         Ok(all) => match words_of(alloc, all) {
-            Ok(words) => ensemble_main(rt, alloc, &words, input, output),
+            Ok(words) => ensemble_main(rt, alloc, &words, input, output, link, disks, ticker),
             Err(_) => finish(output, "memory\n", Status::Memory),
         },
         Err(ArgumentsError::NotText) => finish(output, "usage\n", Status::Usage),

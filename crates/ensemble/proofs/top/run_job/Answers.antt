@@ -1,12 +1,16 @@
-use Rattle.std.proofs.Common.{rules, ◌∷◌, [], ◌++◌, codes, inl, inr, sym, subst}
-use Rattle.ens_base.specs.declared.status.Status.TheVariants as Status
+use Rattle.std.proofs.Common.{rules, ℕ, List, ◌∷◌, [], ◌++◌, codes, inl, inr, sym, subst}
+use Rattle.ens_base.specs.declared.status.Status.{Status}
+use Rattle.ens_base.specs.declared.status.Status.TheVariants as statuses
 use Rattle.ens_words.specs.declared.job.Job.{Job}
-use Rattle.ensemble.specs.Top.{Does}
+use Rattle.ensemble.specs.Top.{Does, PrintsCounts}
 use Rattle.ensemble.proofs.Endings.{did_read_at, did_read_record, did_read_schedule, usage_did_read}
+use Rattle.ensemble.proofs.Serving.{ended_prints, front_text, peer_did_read, reads_nothing, whole_text}
+use Rattle.ensemble.proofs.top.run_job.Given as given
 use Rattle.ensemble.proofs.top.run_job.Goals as goal
+use Rattle.peer_serve.specs.Serving.{Printed}
 
-pub returns-in-Peer-clause-front : goal.returns-in-Peer-clause-front
-returns-in-Peer-clause-front g c = λ fault. (Status.Usage, codes "usage" ++ 10 ∷ [], search rules, usage_did_read c.args.job _ _ _, c.finish.ensures.front fault)
+pub returns-in-Cluster-clause-front : goal.returns-in-Cluster-clause-front
+returns-in-Cluster-clause-front g c = λ fault. (statuses.Usage, codes "usage" ++ 10 ∷ [], search rules, usage_did_read c.args.job _ _ _, c.finish.ensures.front fault)
 
 pub returns-in-Audit-clause-front : goal.returns-in-Audit-clause-front
 returns-in-Audit-clause-front g c = λ fault.
@@ -22,11 +26,46 @@ returns-in-Replay-clause-front g c = λ fault. let r = c.replay.ensures.front fa
 pub returns-in-Replay-clause-untouched : goal.returns-in-Replay-clause-untouched
 returns-in-Replay-clause-untouched g c = λ none. absurd (none (inl c.in-Replay.is))
 
-pub returns-in-Peer-clause-input : goal.returns-in-Peer-clause-input
-returns-in-Peer-clause-input g c = λ wrote. did_read_at c.args.job _ _ _ _ _ _ (c.finish.ensures.written wrote).0 (usage_did_read c.args.job _ _ _)
+pub returns-in-Cluster-clause-input : goal.returns-in-Cluster-clause-input
+returns-in-Cluster-clause-input g c = λ wrote. did_read_at c.args.job _ _ _ _ _ _ (c.finish.ensures.written wrote).0 (usage_did_read c.args.job _ _ _)
 
 pub returns-in-Replay-clause-input : goal.returns-in-Replay-clause-input
 returns-in-Replay-clause-input g c = λ wrote. did_read_schedule c.args.job _ _ _ _ _ c.in-Replay.is (c.replay.ensures.input wrote)
 
 pub returns-in-Audit-clause-input : goal.returns-in-Audit-clause-input
 returns-in-Audit-clause-input g c = λ wrote. did_read_record c.args.job _ _ _ _ _ c.in-Audit.is (record { end = c.print_report.ensures.end; fault = c.print_report.ensures.read; cut = c.print_report.ensures.cut })
+
+-- the text with which the peer ended, and what was printed of it
+counts : (g : given.Over) (c : goal.After-serve g) → (status : Status) × (text : List ℕ) × PrintsCounts c.in-Peer.words status text
+    × Printed (g.O.Sink.written c.args.output.now) (g.O.Sink.written c.serve.new.output) (g.O.Sink.fault_count c.args.output.now) (g.O.Sink.fault_count c.serve.new.output) status text c.serve.result
+counts g c =
+    let e = c.serve.ensures.ended in
+    (e.0, e.1, ended_prints g.D.Disk.seen g.D.Disk.may_leave g.D.Disk.moment g.D.Disk.left_since g.D.Disk.fault_count g.L.Link.sent g.L.Link.given g.L.Link.fault_count g.T.Ticker.coming c.in-Peer.words c.args.disks.now c.serve.new.disks c.args.link.now c.serve.new.link c.args.ticker.now c.serve.new.ticker e.0 e.1 e.2, e.3)
+
+pub returns-in-Peer-clause-printed : goal.returns-in-Peer-clause-printed
+returns-in-Peer-clause-printed g c = λ no.
+    let e = counts g c in
+    let p = whole_text c.in-Peer.words (g.O.Sink.written c.args.output.now) (g.O.Sink.written c.serve.new.output) (g.O.Sink.fault_count c.args.output.now) (g.O.Sink.fault_count c.serve.new.output) e.0 e.1 c.serve.result e.2 e.3 no in
+    (p.0, subst (λ (job : Job). Does job (g.S.Source.left c.args.input.now) c.serve.result p.0) (sym c.in-Peer.is) p.1, p.2)
+
+pub returns-in-Peer-clause-front : goal.returns-in-Peer-clause-front
+returns-in-Peer-clause-front g c = λ fault.
+    let e = counts g c in
+    let f = front_text c.in-Peer.words (g.O.Sink.written c.args.output.now) (g.O.Sink.written c.serve.new.output) (g.O.Sink.fault_count c.args.output.now) (g.O.Sink.fault_count c.serve.new.output) e.0 e.1 c.serve.result e.2 e.3 fault in
+    (f.0, f.1, subst (λ (job : Job). Does job (g.S.Source.left c.args.input.now) f.0 f.1) (sym c.in-Peer.is) f.2, peer_did_read c.args.job c.in-Peer.words _ _ _ _ _ c.in-Peer.is, f.3)
+
+pub returns-in-Peer-clause-input : goal.returns-in-Peer-clause-input
+returns-in-Peer-clause-input g c = λ wrote. peer_did_read c.args.job c.in-Peer.words _ _ _ _ _ c.in-Peer.is
+
+pub returns-in-Peer-clause-read : goal.returns-in-Peer-clause-read
+returns-in-Peer-clause-read g c = λ fault.
+    let e = counts g c in
+    absurd (reads_nothing c.in-Peer.words (g.O.Sink.written c.args.output.now) (g.O.Sink.written c.serve.new.output) (g.O.Sink.fault_count c.args.output.now) (g.O.Sink.fault_count c.serve.new.output) e.0 e.1 c.serve.result e.2 e.3 fault)
+
+pub returns-in-Peer-clause-write : goal.returns-in-Peer-clause-write
+returns-in-Peer-clause-write g c = λ fault.
+    let e = counts g c in
+    (front_text c.in-Peer.words (g.O.Sink.written c.args.output.now) (g.O.Sink.written c.serve.new.output) (g.O.Sink.fault_count c.args.output.now) (g.O.Sink.fault_count c.serve.new.output) e.0 e.1 c.serve.result e.2 e.3 fault).4
+
+pub returns-in-Peer-clause-served : goal.returns-in-Peer-clause-served
+returns-in-Peer-clause-served g c = rw c.in-Peer.is c.serve.ensures.ended
