@@ -152,6 +152,11 @@ front_given given words source Q R f is = (
   f.4,
 )
 
+-- what a job prints, for words that were read
+pub printed_given : (given : Result (List (List ℕ)) ArgumentsError) (words : List (List ℕ)) (source : Option (List ℕ)) (status : Status) (R : List ℕ → Type 0)
+    → (text : List ℕ) × Ends words source status text × R text → given ≡ Ok words → (text : List ℕ) × EndsGiven given source status text × R text
+printed_given given words source status R p is = (p.0, subst (λ (g : Result (List (List ℕ)) ArgumentsError). EndsGiven g source status p.0) (sym is) p.1, p.2)
+
 -- what the program ends with, for words that were not read
 pub unread_ends : (given : Result (List (List ℕ)) ArgumentsError) (why : ArgumentsError) (source : Option (List ℕ)) (status : Status) (text : List ℕ) → given ≡ Err why → EndsUnread why status text → EndsGiven given source status text
 unread_ends given why source status text is ends = subst (λ (g : Result (List (List ℕ)) ArgumentsError). EndsGiven g source status text) (sym is) ends

@@ -1,5 +1,5 @@
 -- What a peer prints, and what became of it, for the words that asked for it.
-use Rattle.std.proofs.Common.{◌≡◌, ℕ, Bool, List, Option, None, Some, Result, Ok, Err, refl, inl, inr, sym, subst, ◌∙◌}
+use Rattle.std.proofs.Common.{◌≡◌, ℕ, Bool, List, Option, Result, Ok, Err, refl, inl, inr, sym, subst, ◌∙◌}
 use Rattle.std.specs.Io.KnownBytes.{Appends}
 use Rattle.ens_base.specs.Causes.{Rose}
 use Rattle.ens_base.specs.declared.peer_words.PeerWords.{PeerWords}
@@ -12,7 +12,7 @@ use Rattle.peer_serve.specs.Serving.{Ended, Printed}
 use Rattle.peer_serve.specs.declared.disks.Disks.{Disks}
 use Rattle.turn_spec.specs.Turns.{ignored_in, taken_in}
 use Rattle.ensemble.proofs.Endings.{asked_one}
-use Rattle.ensemble.specs.Peers.{AskToServe, GivenToServe, IsPeerOf, OnPeer}
+use Rattle.ensemble.specs.Peers.{AskToServe, GivenToServe, OnPeer}
 use Rattle.ensemble.specs.Top.{DidRead, GivenFor, PrintsCounts}
 use Rattle.ensemble.specs.declared.arguments.ArgumentsError.{ArgumentsError}
 

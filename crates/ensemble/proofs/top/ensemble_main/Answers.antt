@@ -1,4 +1,4 @@
-use Rattle.std.proofs.Common.{refl, inl, inr, sym}
+use Rattle.std.proofs.Common.{refl, inl, inr}
 use Rattle.ens_base.specs.declared.status.Status.TheVariants as Status
 use Rattle.ens_words.specs.declared.job.Job.TheVariants as jobs
 use Rattle.ensemble.proofs.Endings.{asked_did_read, asked_reads, did_read_at, job_completes, job_ends, memory_did_read, refused_words, usage_did_read}

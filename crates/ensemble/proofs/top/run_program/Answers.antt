@@ -2,9 +2,12 @@ use Rattle.std.proofs.Common.{rules, ◌≡◌, ◌∷◌, [], ◌++◌, Err, co
 use Rattle.ens_base.specs.declared.status.Status.TheVariants as Status
 use Rattle.ensemble.specs.Arguments.{words_given}
 use Rattle.ensemble.specs.declared.arguments.ArgumentsError.TheVariants.{NotText, Memory}
-use Rattle.ensemble.proofs.Endings.{did_read_at, front_given, given_did_read, memory_did_read, not_to_read, unread_ends, usage_did_read}
+use Rattle.ensemble.proofs.Endings.{did_read_at, front_given, given_did_read, memory_did_read, not_to_read, printed_given, unread_ends, usage_did_read}
 use Rattle.ensemble.proofs.Serving.{finished, given_alone, given_served, unread_served}
 use Rattle.ensemble.proofs.top.run_program.Goals as goal
+
+pub returns-in-Ok-words_of-clause-printed : goal.returns-in-Ok-words_of-clause-printed
+returns-in-Ok-words_of-clause-printed g c = λ wrote. printed_given (words_given c.args.all.now) _ _ _ _ (c.ensemble_main.ensures.printed wrote) (search rules)
 
 pub returns-in-Ok-words_of-clause-front : goal.returns-in-Ok-words_of-clause-front
 returns-in-Ok-words_of-clause-front g c = λ fault. front_given _ _ _ _ _ (c.ensemble_main.ensures.front fault) (search rules)
