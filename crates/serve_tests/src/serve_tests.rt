@@ -1,3 +1,6 @@
+ghost use Rattle.std.specs.Prelude.{IfOk};
+ghost use Rattle.peer_serve.specs.DiskPeers.{AreThere};
+
 use ens_base::{Bytes, PeerId, PeerWords, Status, View};
 use ens_outside::{MemLink, MemSink, MemTicker};
 use peer_serve::{Disks, serve};
@@ -45,7 +48,9 @@ fn disk(alloc: Global, failing: Failing) -> Result<MemDisk, Fail> {
 }
 
 /// Three disks with nothing on them.
-fn empty_disks(alloc: Global) -> Result<Disks<MemDisk>, Fail> {
+fn empty_disks(alloc: Global) -> Result<Disks<MemDisk>, Fail>
+    ensures { IfOk result AreThere }
+{
     Ok(Disks {
         facts: Some(disk(alloc, Failing::never(alloc))?),
         nodes: Some(disk(alloc, Failing::never(alloc))?),
@@ -69,7 +74,10 @@ fn served<R: Threads + Sync>(
     disks: &mut Disks<MemDisk>,
     looks: Vec<Option<Bytes>>,
     ticks: usize,
-) -> Result<Ended, Fail> {
+) -> Result<Ended, Fail>
+    requires { AreThere disks.old }
+    ensures { AreThere disks.new }
+{
     let words = PeerWords {
         me: PeerId(1),
         peers: 1,
@@ -103,10 +111,11 @@ fn answered(alloc: Global, ended: &Ended, frame: &str) -> Result<bool, Fail> {
     let frame = bytes(alloc, frame)?;
     let served = ended.status == Status::Done
         && ended.text.bytes() == b"peer 1 frames 1 refused 0\n".as_slice();
-    match ended.link.sent() {
-        [(32, sent)] => Ok(served && *sent == frame),
-        _ => Ok(false),
-    }
+    let sent = ended.link.sent();
+    let Some((to, bytes)) = sent.first() else {
+        return Ok(false);
+    };
+    Ok(served && sent.len() == 1 && *to == 32 && *bytes == frame)
 }
 
 #[test]
