@@ -5,7 +5,7 @@ use Rattle.slot_disk.specs.Crash.{LeavesOnly, SeenIn}
 use Rattle.slot_disk.specs.Slots.{record_in, last_serial}
 use Rattle.slot_disk.specs.SlotFiles.{remembered, IsAtRest}
 use Rattle.ens_base.specs.declared.refused.Refused.{Refused}
-use Rattle.peer_fact.specs.declared.fact.Fact.{Fact}
+use Rattle.peer_fact.specs.declared.saved.SavedFact.{SavedFact}
 use Rattle.peer_fact.specs.declared.error.FactError.{FactError}
 use Rattle.fact_store.specs.Keeping.{KeeperCall, KeeperAnswer, Load, Save, IsOldOrNewIn, IsBad, fact_in}
 use Rattle.fact_store.specs.declared.error.KeepError.{KeepError}
@@ -18,7 +18,7 @@ disk_after (Ok file) = file.slots.disk
 disk_after (Err refused) = refused.held
 
 -- the fact in the current slot
-abbrev pub file_kept : {D : Type 0} → FactFile D → Option (Result Fact FactError)
+abbrev pub file_kept : {D : Type 0} → FactFile D → Option (Result SavedFact FactError)
 file_kept f = fact_in (record_in (remembered f.slots))
 
 -- the last serial number
@@ -32,13 +32,13 @@ file_faults faults f = min (faults f.slots.disk + f.spent) (2 ^ 64 - 1)
 
 -- a save of a file at rest: a crash at any moment of it leaves the old fact or this one, and so does
 -- a read after it
-pub record Replaces {D : Type 0} (seen : D → Option (List ℕ)) (may_leave : D → List ℕ → Type 0) (moment : D → ℕ) (left_since : D → ℕ → List ℕ → Type 0) (fact : Fact) (f g : FactFile D) : Type 0 where
+pub record Replaces {D : Type 0} (seen : D → Option (List ℕ)) (may_leave : D → List ℕ → Type 0) (moment : D → ℕ) (left_since : D → ℕ → List ℕ → Type 0) (fact : SavedFact) (f g : FactFile D) : Type 0 where
   pub any_moment : IsAtRest seen may_leave f.slots → LeavesOnly moment left_since f.slots.disk g.slots.disk (IsOldOrNewIn (file_kept f) fact)
   pub seen_too : IsAtRest seen may_leave f.slots → SeenIn seen g.slots.disk (IsOldOrNewIn (file_kept f) fact)
 
 -- a save that succeeded: the fact is kept with the next serial number, a file at rest is at rest
 -- again, and no fault is counted
-pub record Saved {D : Type 0} (seen : D → Option (List ℕ)) (may_leave : D → List ℕ → Type 0) (faults : D → ℕ) (fact : Fact) (f g : FactFile D) : Type 0 where
+pub record Saved {D : Type 0} (seen : D → Option (List ℕ)) (may_leave : D → List ℕ → Type 0) (faults : D → ℕ) (fact : SavedFact) (f g : FactFile D) : Type 0 where
   pub kept : file_kept g ≡ Some (Ok fact)
   pub serial : file_serial g ≡ file_serial f + 1
   pub room : file_serial f < 2 ^ 64 - 1

@@ -3,7 +3,7 @@ ghost use Rattle.ens_base.specs.Causes.{HasCause, Rose};
 ghost use Rattle.slot_disk.specs.Crash.{Told, StaysSeen, LeavesOnly, SeenIn, IsOn};
 ghost use Rattle.slot_disk.specs.Slots.{record_in, last_serial};
 ghost use Rattle.slot_disk.specs.SlotFiles.{remembered, IsAtRest};
-ghost use Rattle.peer_fact.specs.FactBytes.{fact_of};
+ghost use Rattle.peer_fact.specs.SavedBytes.{saved_of};
 ghost use Rattle.fact_store.specs.Keeping.{IsBad, Loads, IsOldOrNew, IsOldOrNewIn, IsPutError, IsOpenError, opened_with, fact_in, file_fact};
 ghost use Rattle.fact_store.specs.declared.error.KeepError.TheVariants as errors;
 ghost use Rattle.slot_disk.specs.declared.error.SlotError.TheVariants as slot_errors;
@@ -11,7 +11,7 @@ ghost use Rattle.slot_disk.specs.declared.error.SlotError.TheVariants as slot_er
 use crate::error::KeepError;
 use crate::keeper::FactKeeper;
 use ens_base::Refused;
-use peer_fact::{Change, Fact, FactError};
+use peer_fact::{Change, Fact, FactError, SavedFact};
 use slot_disk::{Disk, SlotError, SlotFile};
 use std::alloc::Global;
 
@@ -23,18 +23,18 @@ pub struct FactFile<D: Disk> {
 }
 
 /// Decodes a record.
-fn loaded(bytes: &[u8]) -> Result<Option<Fact>, KeepError>
-    ensures loads { (before now : ℕ) → Loads (Some (fact_of bytes.now)) before now result }
+fn loaded(bytes: &[u8]) -> Result<Option<SavedFact>, KeepError>
+    ensures loads { (before now : ℕ) → Loads (Some (saved_of bytes.now)) before now result }
     ensures bad { IfErr result IsBad }
 {
-    match Fact::decode(bytes) {
+    match SavedFact::decode(bytes) {
         Ok(fact) => Ok(Some(fact)),
         Err(e) => Err(KeepError::Bad(e)),
     }
 }
 
 /// Saves the encoding of a fact.
-fn put<D: Disk>(slots: &mut SlotFile<D>, fact: &Fact) -> Result<(), SlotError>
+fn put<D: Disk>(slots: &mut SlotFile<D>, fact: &SavedFact) -> Result<(), SlotError>
     ensures any_moment { IsAtRest D.seen D.may_leave slots.old → LeavesOnly D.moment D.left_since slots.old.disk slots.new.disk (IsOldOrNewIn (fact_in (record_in (remembered slots.old))) fact.now) }
     ensures seen { IsAtRest D.seen D.may_leave slots.old → SeenIn D.seen slots.new.disk (IsOldOrNewIn (fact_in (record_in (remembered slots.old))) fact.now) }
     ensures at_rest { OnOk result (IsAtRest D.seen D.may_leave slots.old → IsAtRest D.seen D.may_leave slots.new) }
@@ -118,14 +118,14 @@ impl<D: Disk> FactKeeper for FactFile<D> {
         self.slots.faults().saturating_add(self.spent)
     }
 
-    fn load(&mut self) -> Result<Option<Fact>, KeepError> {
+    fn load(&mut self) -> Result<Option<SavedFact>, KeepError> {
         match self.slots.record() {
             None => Ok(None),
             Some(bytes) => loaded(bytes),
         }
     }
 
-    fn save(&mut self, fact: &Fact) -> Result<(), KeepError> {
+    fn save(&mut self, fact: &SavedFact) -> Result<(), KeepError> {
         match put(&mut self.slots, fact) {
             Ok(()) => Ok(()),
             Err(SlotError::Failed) => Err(KeepError::Failed),

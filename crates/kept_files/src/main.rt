@@ -9,7 +9,7 @@ use ens_hashing::{Hasher16, PlainHasher};
 use ens_outside::{Backend, NodeStore};
 use fact_store::{FactFile, FactKeeper};
 use host_adapters::FileDisk;
-use peer_fact::Fact;
+use peer_fact::{Fact, SavedFact};
 use std::alloc::Global;
 use std::fs::File;
 use std::io;
@@ -29,13 +29,16 @@ fn number_in(bytes: Option<Vec<u8>>) -> u64 {
 /// Returns the count of the kept ballot, and saves a fact with the next one. `None` if a call fails.
 fn next_fact<R: Files<File = File> + Drop>(rt: R, alloc: Global) -> Option<u64> {
     let mut file = FactFile::open(alloc, FileDisk::new(rt, "facts")).ok()?;
-    let mut fact = match file.load().ok()? {
-        Some(fact) => fact,
-        None => Fact::opening(View::new(&[PeerId(1), PeerId(2), PeerId(3)]).ok()?),
+    let mut saved = match file.load().ok()? {
+        Some(saved) => saved,
+        None => SavedFact {
+            fact: Fact::opening(View::new(&[PeerId(1), PeerId(2), PeerId(3)]).ok()?),
+            seal: None,
+        },
     };
-    let number = fact.ballot.count;
-    fact.ballot.count = number.saturating_add(1);
-    file.save(&fact).ok()?;
+    let number = saved.fact.ballot.count;
+    saved.fact.ballot.count = number.saturating_add(1);
+    file.save(&saved).ok()?;
     Some(number)
 }
 

@@ -27,7 +27,7 @@ change_faults =
     faults_then (plain_grammar FactRule byte_grammar) (plain_faults FactRule (byte_faults (λ _ _. ⊥))) _
     (λ n start. or_else 1 start (eqb n 0) (faultless changes.None) (or_else 1 start (eqb n 1) added_faults (or_else 1 start (eqb n 2) (faultless changes.Drop) (rejects 1 start (Broken rules.Tag start) (omega arith) (rules.Tag, refl)))))
 
-fields_faults : Faults Ended IsNamed fields_at
+pub fields_faults : Faults Ended IsNamed fields_at
 unfolding fields_at
 fields_faults =
     faults_then (plain_grammar FactRule epoch_grammar) (plain_faults FactRule (epoch_faults (λ _ _. ⊥))) _ (λ ballot start. inl
@@ -43,10 +43,10 @@ fact_faults =
     faults_then (plain_grammar FactRule byte_grammar) (plain_faults FactRule (byte_faults (λ _ _. ⊥))) _
     (λ n start. or_else 1 start (eqb n 1) fields_faults (rejects 1 start (Broken rules.Tag start) (omega arith) (rules.Tag, refl)))
 
-ended_no_memory : {R : Type 0} (p : ℕ) → (let none : Fault R = NoMemory in none) ≡ Ended p → ⊥
+pub ended_no_memory : {R : Type 0} (p : ℕ) → (let none : Fault R = NoMemory in none) ≡ Ended p → ⊥
 ended_no_memory p e = cc
 
-broken_no_memory : {R : Type 0} (rule : R) (p : ℕ) → NoMemory ≡ Broken rule p → ⊥
+pub broken_no_memory : {R : Type 0} (rule : R) (p : ℕ) → NoMemory ≡ Broken rule p → ⊥
 broken_no_memory rule p e = cc
 
 fault_no_memory : (bytes : List ℕ) → IsOne Ended (IsNamed {R = FactRule}) fact_at bytes 0 NoMemory → ⊥

@@ -6,12 +6,12 @@ use Rattle.fact_store.specs.Keeping.{KeeperCall, KeeperAnswer, Load, Save}
 use Rattle.fact_store.specs.declared.error.KeepError.{KeepError}
 use Rattle.fact_store.specs.declared.error.KeepError.TheVariants.{Failed}
 use Rattle.peer_fact.specs.declared.error.FactError.{FactError}
-use Rattle.peer_fact.specs.declared.fact.Fact.{Fact}
+use Rattle.peer_fact.specs.declared.saved.SavedFact.{SavedFact}
 use Rattle.world_stores.specs.Faults.{spent}
 use Rattle.world_stores.specs.declared.fact.HeldFact.{HeldFact}
 
 -- the kept fact, as a keeper reports it
-abbrev pub kept_of : Option Fact → Option (Result Fact FactError)
+abbrev pub kept_of : Option SavedFact → Option (Result SavedFact FactError)
 kept_of None = None
 kept_of (Some fact) = Some (Ok fact)
 

@@ -5,12 +5,12 @@ ghost use Rattle.world_stores.specs.Faults.{awaiting, no_faults};
 use crate::faults::Faults;
 use ens_outside::Leaves;
 use fact_store::{FactKeeper, KeepError};
-use peer_fact::{Change, Fact};
+use peer_fact::{Change, Fact, SavedFact};
 
 /// Keeps the fact of a peer in memory. A load never fails. A save fails exactly if a failure waits.
 #[derive(Debug, Drop)]
 pub struct HeldFact {
-    pub kept: Option<Fact>,
+    pub kept: Option<SavedFact>,
     pub faults: Faults,
 }
 
@@ -46,11 +46,11 @@ impl FactKeeper for HeldFact {
         self.faults.count
     }
 
-    fn load(&mut self) -> Result<Option<Fact>, KeepError> {
+    fn load(&mut self) -> Result<Option<SavedFact>, KeepError> {
         Ok(self.kept)
     }
 
-    fn save(&mut self, fact: &Fact) -> Result<(), KeepError> {
+    fn save(&mut self, fact: &SavedFact) -> Result<(), KeepError> {
         match self.faults.pending {
             None => {
                 self.kept = Some(*fact);
