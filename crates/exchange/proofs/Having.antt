@@ -5,8 +5,9 @@ use Rattle.ens_base.specs.declared.entry.Entry.{Entry}
 use Rattle.ens_base.specs.declared.epoch.Version.{Version}
 use Rattle.ens_base.specs.Lists.{◌∈◌}
 use Rattle.tree_node.specs.declared.position.Position.{Position}
+use Rattle.tree_node.specs.declared.version.TreeVersion.{TreeVersion}
 use Rattle.tree_maps.specs.Forms.{child}
-use Rattle.tree_maps.specs.Sixteen.{sixteen}
+use Rattle.tree_maps.specs.Sixteen.{form_of}
 use Rattle.exchange.specs.Asks.{onward, is_known, if_unknown, to_ask, last_key}
 use Rattle.exchange.specs.Covers.{IsAtLeast, Has, Passes, PassesAny, Covers}
 
@@ -54,38 +55,38 @@ from_filter q e (x ∷ m) i = by (q x) refl i (λ j. from_filter q e m j)
     by true is (inr j) rest = let r = rest j in (inr r.0, r.1)
     by false is j rest = let r = rest j in (inr r.0, r.1)
 
-pub any_append : (a b : List Position) (k : List ℕ) → PassesAny k a ⊎ PassesAny k b → PassesAny k (a ++ b)
-any_append [] b k (inl h) = absurd h
-any_append [] b k (inr h) = h
-any_append (p ∷ a) b k (inl (inl h)) = inl h
-any_append (p ∷ a) b k (inl (inr h)) = inr (any_append a b k (inl h))
-any_append (p ∷ a) b k (inr h) = inr (any_append a b k (inr h))
+pub any_append : (tree : TreeVersion) (a b : List Position) (k : List ℕ) → PassesAny tree k a ⊎ PassesAny tree k b → PassesAny tree k (a ++ b)
+any_append tree [] b k (inl h) = absurd h
+any_append tree [] b k (inr h) = h
+any_append tree (p ∷ a) b k (inl (inl h)) = inl h
+any_append tree (p ∷ a) b k (inl (inr h)) = inr (any_append tree a b k (inl h))
+any_append tree (p ∷ a) b k (inr h) = inr (any_append tree a b k (inr h))
 
 -- what lies under a position left is covered by the ask that goes on
-pub onward_covers : (ps : List Position) (es own : List Entry) (k : List ℕ) (v : Version) → PassesAny k ps ⊎ (Has es k v ⊎ Has own k v) → Covers (onward ps es) own k v
-onward_covers [] es own k v (inl h) = absurd h
-onward_covers [] es own k v (inr h) = inr h
-onward_covers (p ∷ ps) es own k v (inl (inl h)) = inl (inl (h, refl))
-onward_covers (p ∷ ps) es own k v (inl (inr h)) = inl (inr h)
-onward_covers (p ∷ ps) es own k v (inr h) = inr h
+pub onward_covers : (tree : TreeVersion) (ps : List Position) (es own : List Entry) (k : List ℕ) (v : Version) → PassesAny tree k ps ⊎ (Has es k v ⊎ Has own k v) → Covers tree (onward ps es) own k v
+onward_covers tree [] es own k v (inl h) = absurd h
+onward_covers tree [] es own k v (inr h) = inr h
+onward_covers tree (p ∷ ps) es own k v (inl (inl h)) = inl (inl (h, refl))
+onward_covers tree (p ∷ ps) es own k v (inl (inr h)) = inl (inr h)
+onward_covers tree (p ∷ ps) es own k v (inr h) = inr h
 
 -- a child that is not known is asked for
-pub asked_any : (damaged : List Position) (at : Position) (own cs : List (Option (List ℕ))) (i j : ℕ) (d k : List ℕ) → get_or cs j None ≡ Some d → is_known damaged (child sixteen at (i + j)) (get_or own (i + j) None) d ≡ false
-    → Passes k (child sixteen at (i + j)) → PassesAny k (to_ask damaged at own i cs)
-asked_any damaged at own [] i j d k e f l = absurd cc
-asked_any damaged at own (c ∷ cs) i zero d k e f l =
+pub asked_any : (tree : TreeVersion) (damaged : List Position) (at : Position) (own cs : List (Option (List ℕ))) (i j : ℕ) (d k : List ℕ) → get_or cs j None ≡ Some d → is_known damaged (child (form_of tree) at (i + j)) (get_or own (i + j) None) d ≡ false
+    → Passes tree k (child (form_of tree) at (i + j)) → PassesAny tree k (to_ask tree damaged at own i cs)
+asked_any tree damaged at own [] i j d k e f l = absurd cc
+asked_any tree damaged at own (c ∷ cs) i zero d k e f l =
     let same : i + 0 ≡ i = omega arith in
-    any_append (if_unknown damaged (child sixteen at i) (get_or own i None) c) (to_ask damaged at own (i + 1) cs) k (inl (
-    subst (λ (o : Option (List ℕ)). PassesAny k (if_unknown damaged (child sixteen at i) (get_or own i None) o)) (sym e)
-    (here (is_known damaged (child sixteen at i) (get_or own i None) d) (subst (λ (n : ℕ). is_known damaged (child sixteen at n) (get_or own n None) d ≡ false) same f) (subst (λ (n : ℕ). Passes k (child sixteen at n)) same l))))
+    any_append tree (if_unknown damaged (child (form_of tree) at i) (get_or own i None) c) (to_ask tree damaged at own (i + 1) cs) k (inl (
+    subst (λ (o : Option (List ℕ)). PassesAny tree k (if_unknown damaged (child (form_of tree) at i) (get_or own i None) o)) (sym e)
+    (here (is_known damaged (child (form_of tree) at i) (get_or own i None) d) (subst (λ (n : ℕ). is_known damaged (child (form_of tree) at n) (get_or own n None) d ≡ false) same f) (subst (λ (n : ℕ). Passes tree k (child (form_of tree) at n)) same l))))
   where
-    here : (b : Bool) → b ≡ false → Passes k (child sixteen at i) → PassesAny k (cond b [] (child sixteen at i ∷ []))
+    here : (b : Bool) → b ≡ false → Passes tree k (child (form_of tree) at i) → PassesAny tree k (cond b [] (child (form_of tree) at i ∷ []))
     here true z p = absurd cc
     here false z p = inl p
-asked_any damaged at own (c ∷ cs) i (suc j) d k e f l =
+asked_any tree damaged at own (c ∷ cs) i (suc j) d k e f l =
     let next : i + suc j ≡ (i + 1) + j = omega arith in
-    any_append (if_unknown damaged (child sixteen at i) (get_or own i None) c) (to_ask damaged at own (i + 1) cs) k (inr (
-    asked_any damaged at own cs (i + 1) j d k e (subst (λ (n : ℕ). is_known damaged (child sixteen at n) (get_or own n None) d ≡ false) next f) (subst (λ (n : ℕ). Passes k (child sixteen at n)) next l)))
+    any_append tree (if_unknown damaged (child (form_of tree) at i) (get_or own i None) c) (to_ask tree damaged at own (i + 1) cs) k (inr (
+    asked_any tree damaged at own cs (i + 1) j d k e (subst (λ (n : ℕ). is_known damaged (child (form_of tree) at n) (get_or own n None) d ≡ false) next f) (subst (λ (n : ℕ). Passes tree k (child (form_of tree) at n)) next l)))
 
 last_at : (x : Entry) (es : List Entry) (e : Entry) (n : ℕ) → n ≡ length es → Some e ≡ slice_get (x ∷ es) n → Some e.key ≡ last_key (x ∷ es)
 last_at x [] e zero l is = let same : e ≡ x = cc in ap (λ (y : Entry). Some y.key) same

@@ -7,12 +7,13 @@ use Rattle.std.proofs.lemmas.Bool.Decides.{nat_tests}
 use Rattle.std.proofs.Math.Nat.{div-lt_iff_lt-mul, div-add-mod}
 use native.Mathlib.Nat.{pow-suc, pow-zero}
 use Rattle.tree_node.specs.declared.position.Position.{Position}
+use Rattle.tree_node.specs.declared.version.TreeVersion.{TreeVersion}
 use Rattle.tree_node.specs.Positions.{IsPosition}
 use Rattle.tree_maps.specs.Forms.{Form, Laws}
 use Rattle.tree_maps.specs.Paths.{passes}
-use Rattle.tree_maps.specs.Sixteen.{sixteen}
+use Rattle.tree_maps.specs.Sixteen.{form_of}
 use Rattle.tree_maps.proofs.Below.{some_width}
-use Rattle.tree_maps.proofs.Formats.{sixteen_laws}
+use Rattle.tree_maps.proofs.Formats.{form_laws}
 use Rattle.synctree.proofs.Places.{width_is}
 use Rattle.exchange.specs.Asks.{up, lies_in, meets}
 use Rattle.exchange.specs.Covers.{Passes, PassesAny}
@@ -76,21 +77,21 @@ apart false true c e = absurd cc
 apart true b c e = absurd cc
 
 -- if a path goes through both, the lower one lies under the other
-pub lies_under : (key : List ℕ) (p q : Position) → IsPosition p → IsPosition q → q.level ≤ p.level → Passes key p → Passes key q → lies_in p q ≡ true
-lies_under key p q ip iq le a b = tests q.level p.level (up 16 (p.level - q.level) p.index) q.index le (subst (λ (w : ℕ). up w (p.level - q.level) p.index ≡ q.index) width_is (one (p.level - q.level) (back p.level q.level le)))
+pub lies_under : (tree : TreeVersion) (key : List ℕ) (p q : Position) → IsPosition tree p → IsPosition tree q → q.level ≤ p.level → Passes tree key p → Passes tree key q → lies_in p q ≡ true
+lies_under tree key p q ip iq le a b = tests q.level p.level (up 16 (p.level - q.level) p.index) q.index le (subst (λ (w : ℕ). up w (p.level - q.level) p.index ≡ q.index) (width_is tree) (one (p.level - q.level) (back p.level q.level le)))
   where
-    one : (n : ℕ) → n + q.level ≡ p.level → up sixteen.width n p.index ≡ q.index
-    one n e = passes_once sixteen sixteen_laws key q.level (up sixteen.width n p.index) q.index
-        (up_small sixteen sixteen_laws key n q.level p.level p.index e (subst (λ (w : ℕ). p.index < w ^ p.level) (sym width_is) ip.index))
-        (subst (λ (w : ℕ). q.index < w ^ q.level) (sym width_is) iq.index)
-        (passes_up sixteen sixteen_laws key n q.level p.level p.index e a) b
+    one : (n : ℕ) → n + q.level ≡ p.level → up (form_of tree).width n p.index ≡ q.index
+    one n e = passes_once (form_of tree) (form_laws tree) key q.level (up (form_of tree).width n p.index) q.index
+        (up_small (form_of tree) (form_laws tree) key n q.level p.level p.index e (subst (λ (w : ℕ). p.index < w ^ p.level) (sym (width_is tree)) ip.index))
+        (subst (λ (w : ℕ). q.index < w ^ q.level) (sym (width_is tree)) iq.index)
+        (passes_up (form_of tree) (form_laws tree) key n q.level p.level p.index e a) b
 
 -- a path through a position goes through no other that does not meet it
-pub passes_none : (key : List ℕ) (at : Position) (others : List Position) → IsPosition at → AllByRecursion IsPosition others → meets others at ≡ false → Passes key at → PassesAny key others → ⊥
-passes_none key at [] i all z p any = any
-passes_none key at (d ∷ ds) i all z p (inr any) = passes_none key at ds i all.1 ((apart (lies_in d at) (lies_in at d) (meets ds at) z).1) p any
-passes_none key at (d ∷ ds) i all z p (inl q) = by (total d.level at.level)
+pub passes_none : (tree : TreeVersion) (key : List ℕ) (at : Position) (others : List Position) → IsPosition tree at → AllByRecursion (IsPosition tree) others → meets others at ≡ false → Passes tree key at → PassesAny tree key others → ⊥
+passes_none tree key at [] i all z p any = any
+passes_none tree key at (d ∷ ds) i all z p (inr any) = passes_none tree key at ds i all.1 ((apart (lies_in d at) (lies_in at d) (meets ds at) z).1) p any
+passes_none tree key at (d ∷ ds) i all z p (inl q) = by (total d.level at.level)
   where
     by : (d.level ≤ at.level) ⊎ (at.level ≤ d.level) → ⊥
-    by (inl le) = not_both (lies_in at d) (lies_under key at d i all.0 le p q) ((apart (lies_in d at) (lies_in at d) (meets ds at) z).0.1)
-    by (inr le) = not_both (lies_in d at) (lies_under key d at all.0 i le q p) ((apart (lies_in d at) (lies_in at d) (meets ds at) z).0.0)
+    by (inl le) = not_both (lies_in at d) (lies_under tree key at d i all.0 le p q) ((apart (lies_in d at) (lies_in at d) (meets ds at) z).0.1)
+    by (inr le) = not_both (lies_in d at) (lies_under tree key d at all.0 i le q p) ((apart (lies_in d at) (lies_in at d) (meets ds at) z).0.0)

@@ -4,6 +4,7 @@ use Rattle.std.specs.Prelude.{reverse, option_to_list}
 use Rattle.std.proofs.lemmas.List.{reverse-append, reverse-reverse}
 use Rattle.std.specs.List.{AllByRecursion}
 use Rattle.tree_node.specs.declared.position.Position.{Position}
+use Rattle.tree_node.specs.declared.version.TreeVersion.{TreeVersion}
 use Rattle.tree_node.specs.Positions.{IsPosition}
 use Rattle.exchange.specs.Asked.{ArePlaces}
 use Rattle.exchange.specs.declared.question.Question.{Question}
@@ -17,6 +18,6 @@ next_reversed seen [] now None n m s l e d = (sym s, ap reverse (sym (e ∙ appe
 next_reversed seen (x ∷ old) now None n m s l e d = absurd (omega (arith, l, d.0))
 next_reversed seen old now (Some p) n m s l e d = sym s ∙ ap reverse e ∙ reverse-append now (option_to_list (Some p))
 
-pub left_places : (current : Option Question) (left : List Position) → ArePlaces current left → AllByRecursion IsPosition left
-left_places None left p = p
-left_places (Some q) left p = p.1
+pub left_places : (tree : TreeVersion) (current : Option Question) (left : List Position) → ArePlaces tree current left → AllByRecursion (IsPosition tree) left
+left_places tree None left p = p
+left_places tree (Some q) left p = p.1

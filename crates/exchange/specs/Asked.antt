@@ -3,6 +3,7 @@ use Rattle.std.specs.Prelude.{List, Option, None, Some}
 use Rattle.std.specs.List.{AllByRecursion}
 use Rattle.ens_base.specs.declared.entry.Entry.{Entry}
 use Rattle.tree_node.specs.declared.position.Position.{Position}
+use Rattle.tree_node.specs.declared.version.TreeVersion.{TreeVersion}
 use Rattle.tree_node.specs.Positions.{IsPosition}
 use Rattle.exchange.specs.declared.question.Question.{Question}
 
@@ -12,7 +13,7 @@ pub record Asked : Type 0 where
   pub left : List Position
   pub received : List Entry
 
--- positions of the tree
-abbrev pub ArePlaces : Option Question → List Position → Type 0
-ArePlaces None left = AllByRecursion IsPosition left
-ArePlaces (Some q) left = IsPosition q.position × AllByRecursion IsPosition left
+-- positions of the tree of this version
+abbrev pub ArePlaces : TreeVersion → Option Question → List Position → Type 0
+ArePlaces tree None left = AllByRecursion (IsPosition tree) left
+ArePlaces tree (Some q) left = IsPosition tree q.position × AllByRecursion (IsPosition tree) left

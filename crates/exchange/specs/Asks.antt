@@ -7,10 +7,12 @@ use Rattle.tree_node.specs.declared.body.Scan.{Scan}
 use Rattle.tree_node.specs.declared.body.TreeBody.{TreeBody}
 use Rattle.tree_node.specs.declared.body.TreeBody.TheVariants.{Inner, Page, Damaged}
 use Rattle.tree_node.specs.declared.position.Position.{Position}
+use Rattle.tree_node.specs.declared.version.TreeVersion.{TreeVersion}
+use Rattle.tree_node.specs.TreeVersions.{levels}
 use Rattle.tree_node.specs.Nodes.{inner_of}
 use Rattle.tree_node.specs.Positions.{same_position}
 use Rattle.tree_maps.specs.Forms.{root, child}
-use Rattle.tree_maps.specs.Sixteen.{sixteen, children_of, children_in}
+use Rattle.tree_maps.specs.Sixteen.{form_of, children_of, children_in}
 use Rattle.synctree.specs.declared.error.TreeError.{TreeError}
 use Rattle.synctree.specs.declared.error.TreeError.TheVariants as trees
 use Rattle.synctree.specs.Nodes.{node_plan}
@@ -79,18 +81,18 @@ if_unknown damaged at own None = []
 if_unknown damaged at own (Some digest) = if is_known damaged at own digest then [] else at ∷ []
 
 -- the children to ask for, from child i on, in ascending order
-abbrev pub to_ask : List Position → Position → List (Option (List ℕ)) → ℕ → List (Option (List ℕ)) → List Position
-to_ask damaged at own i [] = []
-to_ask damaged at own i (c ∷ cs) = if_unknown damaged (child sixteen at i) (get_or own i None) c ++ to_ask damaged at own (i + 1) cs
+abbrev pub to_ask : TreeVersion → List Position → Position → List (Option (List ℕ)) → ℕ → List (Option (List ℕ)) → List Position
+to_ask tree damaged at own i [] = []
+to_ask tree damaged at own i (c ∷ cs) = if_unknown damaged (child (form_of tree) at i) (get_or own i None) c ++ to_ask tree damaged at own (i + 1) cs
 
 abbrev pub or_none : Option (List (Option (List ℕ))) → List (Option (List ℕ))
 or_none None = []
 or_none (Some names) = names
 
 -- the digests that the own node with these bytes names; none without a node
-abbrev pub names_in : Position → Option (List ℕ) → List (Option (List ℕ))
-names_in at None = []
-names_in at (Some bytes) = or_none (children_in (inner_of at bytes))
+abbrev pub names_in : TreeVersion → Position → Option (List ℕ) → List (Option (List ℕ))
+names_in tree at None = []
+names_in tree at (Some bytes) = or_none (children_in (inner_of tree at bytes))
 
 -- ## What an answer leads to
 
@@ -105,8 +107,8 @@ is_empty [] = true
 is_empty (e ∷ es) = false
 
 -- after the children of an inner node, the ask goes on with those it must ask for
-abbrev pub after_inner : List Position → Position → List (Option (List ℕ)) → List (Option (List ℕ)) → Asked → Asked
-after_inner damaged at own cs ask = onward (to_ask damaged at own 0 cs ++ ask.left) ask.received
+abbrev pub after_inner : TreeVersion → List Position → Position → List (Option (List ℕ)) → List (Option (List ℕ)) → Asked → Asked
+after_inner tree damaged at own cs ask = onward (to_ask tree damaged at own 0 cs ++ ask.left) ask.received
 
 -- after a page, the ask goes on past its last key if more entries follow
 abbrev pub after_page : Position → List Entry → Bool → Asked → Asked
@@ -122,43 +124,43 @@ stepped ask = (step_to ask.current, ask)
 
 -- What a body for the open question leads to. Damage, the wrong form for the position, and a page
 -- with no entries before more of them end the ask.
-abbrev pub reply : List Position → List (Option (List ℕ)) → Position → TreeBody → Asked → Step × Asked
-reply damaged own at (Inner mask digests) ask = if at.level == 3 then (steps.Dropped, ask) else stepped (after_inner damaged at own (children_of mask digests) ask)
-reply damaged own at (Page es more) ask = if at.level == 3 && not (is_empty es && more) then stepped (after_page at es more ask) else (steps.Dropped, ask)
-reply damaged own at (Damaged p) ask = (steps.Dropped, ask)
+abbrev pub reply : TreeVersion → List Position → List (Option (List ℕ)) → Position → TreeBody → Asked → Step × Asked
+reply tree damaged own at (Inner mask digests) ask = if at.level == levels tree then (steps.Dropped, ask) else stepped (after_inner tree damaged at own (children_of mask digests) ask)
+reply tree damaged own at (Page es more) ask = if at.level == levels tree && not (is_empty es && more) then stepped (after_page at es more ask) else (steps.Dropped, ask)
+reply tree damaged own at (Damaged p) ask = (steps.Dropped, ask)
 
 -- What a body leads to, from the bytes of the own node at the position, or none if there is no such
 -- node. A body for any other question than the open one is ignored.
-abbrev pub taken : Scan → Option (List ℕ) → Question → TreeBody → Asked → Step × Asked
-taken scan own q body ask = if is_open ask.current q then reply scan.damaged (names_in q.position own) q.position body ask else (steps.Ignored, ask)
+abbrev pub taken : TreeVersion → Scan → Option (List ℕ) → Question → TreeBody → Asked → Step × Asked
+taken tree scan own q body ask = if is_open ask.current q then reply tree scan.damaged (names_in tree q.position own) q.position body ask else (steps.Ignored, ask)
 
 -- ## The own node
 
-abbrev pub is_inner : Position → TreeBody → Bool
-is_inner at (Inner mask digests) = not (at.level == 3)
-is_inner at (Page es more) = false
-is_inner at (Damaged p) = false
+abbrev pub is_inner : TreeVersion → Position → TreeBody → Bool
+is_inner tree at (Inner mask digests) = not (at.level == levels tree)
+is_inner tree at (Page es more) = false
+is_inner tree at (Damaged p) = false
 
 -- whether the own node is read first: for the children of the open position
-abbrev pub needs_own : Question → TreeBody → Asked → Bool
-needs_own q body ask = is_open ask.current q && is_inner q.position body
+abbrev pub needs_own : TreeVersion → Question → TreeBody → Asked → Bool
+needs_own tree q body ask = is_open ask.current q && is_inner tree q.position body
 
 -- reads the own node at the position if it is needed
-abbrev pub own_plan : Option (List ℕ) → Question → TreeBody → Asked → Plan (Option (List ℕ))
-own_plan top q body ask = if needs_own q body ask then node_plan sixteen top q.position else Done None
+abbrev pub own_plan : TreeVersion → Option (List ℕ) → Question → TreeBody → Asked → Plan (Option (List ℕ))
+own_plan tree top q body ask = if needs_own tree q body ask then node_plan (form_of tree) top q.position else Done None
 
 abbrev pub passed : Step × Asked → Result Step AskError × Asked
 passed next = (Ok next.0, next.1)
 
 -- What a body leads to after the own node was read. A position of the own tree that does not verify
 -- names no children; after any other error the ask is as it was.
-abbrev pub after_read : Scan → Result (Option (List ℕ)) TreeError → Question → TreeBody → Asked → Result Step AskError × Asked
-after_read scan (Ok own) q body ask = passed (taken scan own q body ask)
-after_read scan (Err (trees.Damaged at)) q body ask = passed (taken scan None q body ask)
-after_read scan (Err trees.Failed) q body ask = (Err Store, ask)
-after_read scan (Err (trees.Clash first second)) q body ask = (Err (Clash first second), ask)
-after_read scan (Err (trees.BookFull bytes)) q body ask = (Err (BookFull bytes), ask)
-after_read scan (Err trees.Memory) q body ask = (Err Memory, ask)
+abbrev pub after_read : TreeVersion → Scan → Result (Option (List ℕ)) TreeError → Question → TreeBody → Asked → Result Step AskError × Asked
+after_read tree scan (Ok own) q body ask = passed (taken tree scan own q body ask)
+after_read tree scan (Err (trees.Damaged at)) q body ask = passed (taken tree scan None q body ask)
+after_read tree scan (Err trees.Failed) q body ask = (Err Store, ask)
+after_read tree scan (Err (trees.Clash first second)) q body ask = (Err (Clash first second), ask)
+after_read tree scan (Err (trees.BookFull bytes)) q body ask = (Err (BookFull bytes), ask)
+after_read tree scan (Err trees.Memory) q body ask = (Err Memory, ask)
 
 -- this step and this ask, or out of memory and the ask as it was
 abbrev pub Steps : Step × Asked → Asked → Result Step AskError → Asked → Type 0
@@ -166,5 +168,5 @@ Steps next old (Ok step) new = (step ≡ next.0) × (new ≡ next.1)
 Steps next old (Err e) new = (e ≡ Memory) × (new ≡ old)
 
 -- the own node was read if it was needed, and this came of it, or memory ran out behind the read
-abbrev pub Takes : (Result (Option (List ℕ)) TreeError → Type 0) → Scan → Question → TreeBody → Asked → Result Step AskError → Asked → Type 0
-Takes did scan q body old result new = (read : Result (Option (List ℕ)) TreeError) × did read × (((result, new) ≡ after_read scan read q body old) ⊎ ((result ≡ Err Memory) × (new ≡ old)))
+abbrev pub Takes : TreeVersion → (Result (Option (List ℕ)) TreeError → Type 0) → Scan → Question → TreeBody → Asked → Result Step AskError → Asked → Type 0
+Takes tree did scan q body old result new = (read : Result (Option (List ℕ)) TreeError) × did read × (((result, new) ≡ after_read tree scan read q body old) ⊎ ((result ≡ Err Memory) × (new ≡ old)))

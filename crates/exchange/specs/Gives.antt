@@ -7,7 +7,9 @@ use Rattle.tree_node.specs.declared.error.NodeError.{NodeError}
 use Rattle.tree_node.specs.declared.node.InnerNode.{InnerNode}
 use Rattle.tree_node.specs.declared.node.Segment.{Segment}
 use Rattle.tree_node.specs.declared.position.Position.{Position}
+use Rattle.tree_node.specs.declared.version.TreeVersion.{TreeVersion}
 use Rattle.tree_node.specs.Entries.{is_above}
+use Rattle.tree_node.specs.TreeVersions.{levels}
 use Rattle.tree_node.specs.Nodes.{inner_of, segment_of}
 use Rattle.synctree.specs.declared.error.TreeError.{TreeError}
 use Rattle.synctree.specs.declared.error.TreeError.TheVariants as trees
@@ -38,14 +40,14 @@ abbrev pub segment_body : Position → Option (List ℕ) → Result Segment Node
 segment_body at after (Ok s) = page_of after s.entries
 segment_body at after (Err e) = Damaged at
 
--- an empty position: no children, or no entries
-abbrev pub nothing : Position → TreeBody
-nothing at = if at.level == 3 then Page [] false else Inner 0 []
+-- an empty position of the tree of this version: no children, or no entries
+abbrev pub nothing : TreeVersion → Position → TreeBody
+nothing tree at = if at.level == levels tree then Page [] false else Inner 0 []
 
 -- what is sent for a question, from the bytes of the node, or none if the position is empty
-abbrev pub given : Option (List ℕ) → Question → TreeBody
-given None q = nothing q.position
-given (Some bytes) q = if q.position.level == 3 then segment_body q.position q.after (segment_of q.position bytes) else inner_body q.position (inner_of q.position bytes)
+abbrev pub given : TreeVersion → Option (List ℕ) → Question → TreeBody
+given tree None q = nothing tree q.position
+given tree (Some bytes) q = if q.position.level == levels tree then segment_body q.position q.after (segment_of tree q.position bytes) else inner_body q.position (inner_of tree q.position bytes)
 
 -- this value, or out of memory
 abbrev pub Makes : {A : Type 0} → Result A AskError → A → Type 0
@@ -53,14 +55,14 @@ Makes (Ok y) x = y ≡ x
 Makes (Err e) x = e ≡ Memory
 
 -- what is sent after a node was read: damage is a body, and any other error is passed on
-abbrev pub answered : Question → Result (Option (List ℕ)) TreeError → Result TreeBody AskError
-answered q (Ok node) = Ok (given node q)
-answered q (Err (trees.Damaged at)) = Ok (Damaged at)
-answered q (Err trees.Failed) = Err Store
-answered q (Err (trees.Clash first second)) = Err (Clash first second)
-answered q (Err (trees.BookFull bytes)) = Err (BookFull bytes)
-answered q (Err trees.Memory) = Err Memory
+abbrev pub answered : TreeVersion → Question → Result (Option (List ℕ)) TreeError → Result TreeBody AskError
+answered tree q (Ok node) = Ok (given tree node q)
+answered tree q (Err (trees.Damaged at)) = Ok (Damaged at)
+answered tree q (Err trees.Failed) = Err Store
+answered tree q (Err (trees.Clash first second)) = Err (Clash first second)
+answered tree q (Err (trees.BookFull bytes)) = Err (BookFull bytes)
+answered tree q (Err trees.Memory) = Err Memory
 
 -- a node was read, and this was sent, or memory ran out behind the read
-abbrev pub Answers : (Result (Option (List ℕ)) TreeError → Type 0) → Question → Result TreeBody AskError → Type 0
-Answers did q result = (read : Result (Option (List ℕ)) TreeError) × did read × ((result ≡ answered q read) ⊎ (result ≡ Err Memory))
+abbrev pub Answers : TreeVersion → (Result (Option (List ℕ)) TreeError → Type 0) → Question → Result TreeBody AskError → Type 0
+Answers tree did q result = (read : Result (Option (List ℕ)) TreeError) × did read × ((result ≡ answered tree q read) ⊎ (result ≡ Err Memory))

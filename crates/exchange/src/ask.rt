@@ -1,5 +1,7 @@
 ghost use Rattle.std.specs.Prelude.{◌≡◌, ◌++◌, ℕ, List, Some, option_map, IfSome, OnOk, OnErr, if◌then◌else◌};
 ghost use Rattle.std.specs.List.{AllByRecursion};
+ghost use Rattle.tree_node.specs.declared.version.TreeVersion.{TreeVersion};
+ghost use Rattle.tree_node.specs.declared.version.TreeVersion.TheVariants.{Two};
 ghost use Rattle.tree_node.specs.Positions.{IsPosition};
 ghost use Rattle.ens_base.specs.declared.epoch.Version.{Version};
 ghost use Rattle.exchange.specs.Asked.{ArePlaces};
@@ -13,11 +15,12 @@ use ens_base::{Entry, Key, Seq};
 use std::alloc::{AllocError, Global};
 use std::marker::Model;
 use std::mem::replace;
-use synctree::{DEPTH, ROOT};
-use tree_node::{Position, TreeBody};
+use synctree::ROOT;
+use tree_node::{Position, TreeBody, TreeVersion};
 
 /// An ask of one peer for the map of another: the question that is open, the positions left to ask
-/// after it, and the entries received. It goes depth first, children ascending.
+/// after it, and the entries received. It goes depth first, children ascending. How deep it goes is up
+/// to the version of the own tree, which each call that takes an answer is told.
 #[derive(Debug, Drop)]
 pub struct Ask {
     /// The open question, or none if nothing is left to ask.
@@ -30,12 +33,13 @@ pub struct Ask {
 
 impl Model for Ask {
     ghost use Rattle.exchange.specs.Asked.{Asked, ArePlaces};
+    ghost use Rattle.tree_node.specs.declared.version.TreeVersion.TheVariants.{Two};
 
     ghost Value = { Asked };
 
     ghost view = { λ a. record { current = a.current; left = a.left; received = a.received } };
 
-    ghost invariant = { λ a. ArePlaces a.current a.left };
+    ghost invariant = { λ a. ArePlaces Two a.current a.left };
 }
 
 /// Returns the question for the whole of a position.
@@ -51,7 +55,7 @@ fn whole(at: Position) -> Question
 /// Takes the first position left, and returns the question for the whole of it.
 fn next_question(left: &mut Places) -> Option<Question>
     ensures onward { (received : List Entry) → onward left.old received ≡ record { current = result; left = left.new; received = received } }
-    ensures places { AllByRecursion IsPosition left.old → ArePlaces result left.new }
+    ensures places { AllByRecursion (IsPosition Two) left.old → ArePlaces Two result left.new }
 {
     match left.next() {
         Some(at) => Some(whole(at)),
@@ -92,22 +96,23 @@ fn same_question(a: &Question, b: &Question) -> bool
         && same_after(&a.after, &b.after)
 }
 
-/// Tests whether the body is an inner node, and may be one at the position.
-fn is_inner(at: Position, body: &TreeBody) -> bool
-    ensures { result ≡ Rattle.exchange.specs.Asks.is_inner at body.now }
+/// Tests whether the body is an inner node, and may be one at the position of the tree of this version.
+fn is_inner(version: TreeVersion, at: Position, body: &TreeBody) -> bool
+    ensures { result ≡ Rattle.exchange.specs.Asks.is_inner version at body.now }
 {
     match body {
-        TreeBody::Inner { .. } => at.level != DEPTH,
+        TreeBody::Inner { .. } => at.level != version.levels(),
         TreeBody::Page { .. } => false,
         TreeBody::Damaged(_) => false,
     }
 }
 
 impl Ask {
-    /// Begins an ask, with the question for the root. It covers every version.
+    /// Begins an ask, with the question for the root. It covers every version of a value, in a tree of each
+    /// version.
     pub fn start(alloc: Global) -> Ask
         ensures ask { result ≡ started }
-        ensures covers { (own : List Entry) (key : List ℕ) (v : Version) → Covers result own key v }
+        ensures covers { (tree : TreeVersion) (own : List Entry) (key : List ℕ) (v : Version) → Covers tree result own key v }
     {
         Ask {
             current: Some(whole(ROOT)),
@@ -119,7 +124,7 @@ impl Ask {
     /// Returns the open question, or `None` if the ask is done.
     pub fn question(&self) -> Option<&Question>
         ensures question { option_map (λ q. q.now) result ≡ self.now.current }
-        ensures position { IfSome result (λ q. IsPosition q.now.position) }
+        ensures position { IfSome result (λ q. IsPosition Two q.now.position) }
     {
         self.current.as_ref()
     }
@@ -153,11 +158,12 @@ impl Ask {
         }
     }
 
-    /// Tests whether the own node at the position is needed to take the body.
-    pub fn needs_own(&self, question: &Question, body: &TreeBody) -> bool
-        ensures { result ≡ needs_own_node question.now body.now self.now }
+    /// Tests whether the own node at the position, in the own tree of this version, is needed to take
+    /// the body.
+    pub fn needs_own(&self, question: &Question, body: &TreeBody, version: TreeVersion) -> bool
+        ensures { result ≡ needs_own_node version question.now body.now self.now }
     {
-        self.is_open(question) && is_inner(question.position, body)
+        self.is_open(question) && is_inner(version, question.position, body)
     }
 
     /// Goes on with the first position left, or ends.
@@ -170,7 +176,7 @@ impl Ask {
     /// Goes on with the children of an inner node, and after them with what was left before. When out
     /// of memory, leaves the ask unchanged.
     pub(crate) fn go_down(&mut self, children: Vec<Position>) -> Result<(), AllocError>
-        requires { AllByRecursion IsPosition children.items }
+        requires { AllByRecursion (IsPosition Two) children.items }
         ensures ok { OnOk result (self.new ≡ onward (children.items ++ self.old.left) self.old.received) }
         ensures err { OnErr result (self.new ≡ self.old) }
     {
@@ -189,7 +195,7 @@ impl Ask {
         after: Option<Key>,
         more: bool,
     ) -> Result<(), AllocError>
-        requires { IsPosition at }
+        requires { IsPosition Two at }
         ensures ok { OnOk result (self.new ≡ (if more then record { current = Some (record { position = at; after = after }); left = self.old.left; received = self.old.received ++ page.items } else onward self.old.left (self.old.received ++ page.items))) }
         ensures err { OnErr result (self.new ≡ self.old) }
     {

@@ -1,5 +1,8 @@
 ghost use Rattle.std.specs.Prelude.{◌≡◌, ◌≤◌, ◌<◌, ◌++◌, length, get_or, None, IfOk, IfErr, OnOk};
 ghost use Rattle.std.specs.List.{AllByRecursion};
+ghost use Rattle.tree_node.specs.declared.version.TreeVersion.{TreeVersion};
+ghost use Rattle.tree_node.specs.declared.version.TreeVersion.TheVariants.{Two};
+ghost use Rattle.tree_node.specs.TreeVersions.{levels};
 ghost use Rattle.tree_node.specs.Positions.{IsPosition};
 ghost use Rattle.exchange.specs.Asks.{if_unknown, to_ask};
 ghost use Rattle.exchange.specs.declared.error.AskError.TheVariants.{Memory};
@@ -85,7 +88,8 @@ fn push_unknown(
     }
 }
 
-/// Returns the children to ask for, in ascending order. Fails only when out of memory.
+/// Returns the children to ask for, in ascending order; they are the same in the tree of each version.
+/// Fails only when out of memory.
 pub(crate) fn children_to_ask(
     alloc: Global,
     damaged: &[Position],
@@ -93,11 +97,11 @@ pub(crate) fn children_to_ask(
     own: &[Option<Digest>],
     names: &[Option<Digest>],
 ) -> Result<Vec<Position>, AskError>
-    requires position { IsPosition at }
-    requires above { at.level < 3 }
+    requires position { IsPosition Two at }
+    requires above { at.level < levels Two }
     requires width { length names.now ≤ 16 }
-    ensures ok { IfOk result (λ v. v.items ≡ to_ask damaged.now at own.now 0 names.now) }
-    ensures positions { IfOk result (λ v. AllByRecursion IsPosition v.items) }
+    ensures ok { IfOk result (λ v. (tree : TreeVersion) → v.items ≡ to_ask tree damaged.now at own.now 0 names.now) }
+    ensures positions { IfOk result (λ v. AllByRecursion (IsPosition Two) v.items) }
     ensures memory { IfErr result (λ e. e ≡ Memory) }
 {
     let mut asked = Vec::new(alloc);

@@ -1,7 +1,7 @@
 ghost use Rattle.std.specs.Prelude.{◌≡◌, IfOk, IfErr};
 ghost use Rattle.tree_node.specs.Nodes.{inner_of, segment_of};
 ghost use Rattle.tree_node.specs.Positions.{IsPosition};
-ghost use Rattle.tree_maps.specs.Sixteen.{sixteen};
+ghost use Rattle.tree_maps.specs.Sixteen.{form_of};
 ghost use Rattle.synctree.specs.Nodes.{node_plan};
 ghost use Rattle.synctree.specs.Outsides.{outside_does, outside_refuses};
 ghost use Rattle.synctree.specs.Plans.{Did};
@@ -16,10 +16,7 @@ use ens_outside::NodeStore;
 use std::alloc::Global;
 use std::cmp::Ordering;
 use synctree::{Tree, TreeError};
-use tree_node::{NodeError, Position, TreeBody, decode_inner, decode_segment};
-
-/// The level of the segments.
-const LAST_LEVEL: u8 = 3;
+use tree_node::{NodeError, Position, TreeBody, TreeVersion, decode_inner, decode_segment};
 
 /// The greatest number of entries in a page.
 const PAGE: usize = 32;
@@ -61,11 +58,16 @@ fn page(alloc: Global, entries: &[Entry], after: &Option<Key>) -> Result<TreeBod
 }
 
 /// Returns what a peer sends of the inner node with these bytes.
-fn inner(alloc: Global, bytes: &[u8], at: Position) -> Result<TreeBody, AskError>
-    requires { IsPosition at }
-    ensures { Makes result (inner_body at (inner_of at bytes.now)) }
+fn inner(
+    alloc: Global,
+    version: TreeVersion,
+    bytes: &[u8],
+    at: Position,
+) -> Result<TreeBody, AskError>
+    requires { IsPosition version at }
+    ensures { Makes result (inner_body at (inner_of version at bytes.now)) }
 {
-    match decode_inner(alloc, bytes, at) {
+    match decode_inner(alloc, bytes, at, version) {
         Ok(node) => Ok(TreeBody::Inner {
             mask: node.mask,
             digests: node.digests,
@@ -78,25 +80,26 @@ fn inner(alloc: Global, bytes: &[u8], at: Position) -> Result<TreeBody, AskError
 /// Returns what a peer sends of the segment with these bytes.
 fn segment(
     alloc: Global,
+    version: TreeVersion,
     bytes: &[u8],
     at: Position,
     after: &Option<Key>,
 ) -> Result<TreeBody, AskError>
-    requires { IsPosition at }
-    ensures { Makes result (segment_body at after.now (segment_of at bytes.now)) }
+    requires { IsPosition version at }
+    ensures { Makes result (segment_body at after.now (segment_of version at bytes.now)) }
 {
-    match decode_segment(alloc, bytes, at) {
+    match decode_segment(alloc, bytes, at, version) {
         Ok(node) => page(alloc, node.entries.as_slice(), after),
         Err(NodeError::Memory) => Err(AskError::Memory),
         Err(_) => Ok(TreeBody::Damaged(at)),
     }
 }
 
-/// Returns what a peer sends of an empty position.
-fn nothing(alloc: Global, at: Position) -> TreeBody
-    ensures { result ≡ Rattle.exchange.specs.Gives.nothing at }
+/// Returns what a peer sends of an empty position of the tree of this version.
+fn nothing(alloc: Global, version: TreeVersion, at: Position) -> TreeBody
+    ensures { result ≡ Rattle.exchange.specs.Gives.nothing version at }
 {
-    if at.level == LAST_LEVEL {
+    if at.level == version.levels() {
         TreeBody::Page {
             entries: Seq::new(Vec::new(alloc)),
             more: false,
@@ -109,19 +112,25 @@ fn nothing(alloc: Global, at: Position) -> TreeBody
     }
 }
 
-/// Returns what a peer sends for a question, from the bytes of the node at its position, or none if
-/// the position is empty. Fails only when out of memory.
-pub fn given(alloc: Global, node: &Option<Bytes>, question: &Question) -> Result<TreeBody, AskError>
-    requires { IsPosition question.now.position }
-    ensures { Makes result (body_given node.now question.now) }
+/// Returns what a peer sends for a question, from the bytes of the node at its position in the tree of
+/// this version, or none if the position is empty. Fails only when out of memory.
+pub fn given(
+    alloc: Global,
+    version: TreeVersion,
+    node: &Option<Bytes>,
+    question: &Question,
+) -> Result<TreeBody, AskError>
+    requires { IsPosition version question.now.position }
+    ensures { Makes result (body_given version node.now question.now) }
 {
     let at = question.position;
+    let last = version.levels();
     match node {
-        None => Ok(nothing(alloc, at)),
-        Some(bytes) if at.level == LAST_LEVEL => {
-            segment(alloc, bytes.as_slice(), at, &question.after)
+        None => Ok(nothing(alloc, version, at)),
+        Some(bytes) if at.level == last => {
+            segment(alloc, version, bytes.as_slice(), at, &question.after)
         }
-        Some(bytes) => inner(alloc, bytes.as_slice(), at),
+        Some(bytes) => inner(alloc, version, bytes.as_slice(), at),
     }
 }
 
@@ -134,14 +143,16 @@ pub fn give<N: NodeStore, H: Hasher16>(
     hasher: &mut H,
     question: &Question,
 ) -> Result<TreeBody, AskError>
-    requires { IsPosition question.now.position }
-    ensures did { Answers (λ r. Did (outside_does N.may_answer N.top_record N.fault_count H.kept H.clashes H.fulls) (outside_refuses N.may_refuse N.top_record N.fault_count H.kept H.clashes H.fulls)
-        (node_plan sixteen tree.old.top question.now.position) (tree.old.store, hasher.old) r (tree.new.store, hasher.new)) question.now result }
+    requires { IsPosition tree.old.version question.now.position }
+    ensures did { Answers tree.old.version (λ r. Did (outside_does N.may_answer N.top_record N.fault_count H.kept H.clashes H.fulls) (outside_refuses N.may_refuse N.top_record N.fault_count H.kept H.clashes H.fulls)
+        (node_plan (form_of tree.old.version) tree.old.top question.now.position) (tree.old.store, hasher.old) r (tree.new.store, hasher.new)) question.now result }
+    ensures version_is { tree.new.version ≡ tree.old.version }
     ensures top { tree.new.top ≡ tree.old.top }
     ensures refused { IfErr result (λ e. IsCause N.fault_count H.clashes H.fulls (tree.old.store, hasher.old) (tree.new.store, hasher.new) e) }
 {
+    let version = tree.version();
     match tree.node(alloc, hasher, question.position) {
-        Ok(node) => given(alloc, &node, question),
+        Ok(node) => given(alloc, version, &node, question),
         Err(TreeError::Damaged(at)) => Ok(TreeBody::Damaged(at)),
         Err(TreeError::Failed) => Err(AskError::Store),
         Err(TreeError::Clash { first, second }) => Err(AskError::Clash { first, second }),

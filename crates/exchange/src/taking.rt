@@ -1,7 +1,9 @@
 ghost use Rattle.std.specs.Prelude.{◌≡◌, ◌≤◌, ◌<◌, length, IfOk, IfErr};
+ghost use Rattle.tree_node.specs.TreeVersions.{levels};
 ghost use Rattle.tree_node.specs.Positions.{IsPosition};
-ghost use Rattle.tree_maps.specs.Sixteen.{sixteen, children_of, children_in};
+ghost use Rattle.tree_maps.specs.Sixteen.{children_of, children_in};
 ghost use Rattle.tree_node.specs.Nodes.{inner_of};
+ghost use Rattle.tree_node.specs.declared.version.TreeVersion.TheVariants.{Two};
 ghost use Rattle.synctree.specs.Outsides.{outside_does, outside_refuses};
 ghost use Rattle.synctree.specs.Plans.{Did};
 ghost use Rattle.exchange.specs.Asks.{names_in, or_none, after_inner, after_page, stepped, reply as reply_to, taken, needs_own as needs_own_node, own_plan, Steps, Takes};
@@ -18,8 +20,8 @@ use ens_base::{Bytes, Digest, Entry, Key, Seq};
 use ens_hashing::Hasher16;
 use ens_outside::NodeStore;
 use std::alloc::Global;
-use synctree::{DEPTH, Tree, TreeError, children};
-use tree_node::{InnerNode, NodeError, Position, Scan, TreeBody, decode_inner};
+use synctree::{Tree, TreeError, children};
+use tree_node::{InnerNode, NodeError, Position, Scan, TreeBody, TreeVersion, decode_inner};
 
 /// Returns the children of an inner node, `None` for each that is missing. Fails only when out of
 /// memory.
@@ -36,6 +38,7 @@ fn children_of_node(alloc: Global, node: &InnerNode) -> Result<Seq<Option<Digest
 /// Returns the children that a body names. Fails only when out of memory.
 fn children_of_body(
     alloc: Global,
+    version: TreeVersion,
     at: Position,
     mask: u16,
     digests: &Seq<Digest>,
@@ -44,6 +47,7 @@ fn children_of_body(
     ensures width { IfOk result (λ names. length names ≤ 16) }
 {
     let node = InnerNode {
+        version,
         position: at,
         mask,
         digests: Seq::new(Vec::from_slice(alloc, digests.as_slice())?),
@@ -55,15 +59,16 @@ fn children_of_body(
 /// when out of memory.
 fn names_of_own(
     alloc: Global,
+    version: TreeVersion,
     at: Position,
     own: &Option<Bytes>,
 ) -> Result<Seq<Option<Digest>>, AskError>
-    requires { IsPosition at }
-    ensures { Makes result (names_in at own.now) }
+    requires { IsPosition version at }
+    ensures { Makes result (names_in version at own.now) }
 {
     match own {
         None => Ok(Seq::new(Vec::new(alloc))),
-        Some(bytes) => names_of_bytes(alloc, at, bytes.as_slice()),
+        Some(bytes) => names_of_bytes(alloc, version, at, bytes.as_slice()),
     }
 }
 
@@ -71,13 +76,14 @@ fn names_of_own(
 /// node of this position. Fails only when out of memory.
 fn names_of_bytes(
     alloc: Global,
+    version: TreeVersion,
     at: Position,
     bytes: &[u8],
 ) -> Result<Seq<Option<Digest>>, AskError>
-    requires { IsPosition at }
-    ensures { Makes result (or_none (children_in (inner_of at bytes.now))) }
+    requires { IsPosition version at }
+    ensures { Makes result (or_none (children_in (inner_of version at bytes.now))) }
 {
-    match decode_inner(alloc, bytes, at) {
+    match decode_inner(alloc, bytes, at, version) {
         Ok(node) => children_of_node(alloc, &node),
         Err(NodeError::Memory) => Err(AskError::Memory),
         Err(_) => Ok(Seq::new(Vec::new(alloc))),
@@ -116,12 +122,13 @@ fn read_own<N: NodeStore, H: Hasher16>(
     question: &Question,
     body: &TreeBody,
 ) -> Result<Option<Bytes>, TreeError>
-    requires { IsPosition question.now.position }
+    requires { IsPosition tree.old.version question.now.position }
     ensures did { Did (outside_does N.may_answer N.top_record N.fault_count H.kept H.clashes H.fulls) (outside_refuses N.may_refuse N.top_record N.fault_count H.kept H.clashes H.fulls)
-        (own_plan tree.old.top question.now body.now ask.now) (tree.old.store, hasher.old) result (tree.new.store, hasher.new) }
+        (own_plan tree.old.version tree.old.top question.now body.now ask.now) (tree.old.store, hasher.old) result (tree.new.store, hasher.new) }
+    ensures version_is { tree.new.version ≡ tree.old.version }
     ensures top { tree.new.top ≡ tree.old.top }
 {
-    if ask.needs_own(question, body) {
+    if ask.needs_own(question, body, tree.version()) {
         tree.node(alloc, hasher, question.position)
     } else {
         Ok(None)
@@ -133,17 +140,18 @@ impl Ask {
     fn take_inner(
         &mut self,
         alloc: Global,
+        version: TreeVersion,
         own: &Option<Bytes>,
         damaged: &[Position],
         at: Position,
         names: &[Option<Digest>],
     ) -> Result<Step, AskError>
-        requires position { IsPosition at }
-        requires above { at.level < 3 }
+        requires position { IsPosition version at }
+        requires above { at.level < levels version }
         requires width { length names.now ≤ 16 }
-        ensures { Steps (stepped (after_inner damaged.now at (names_in at own.now) names.now self.old)) self.old result self.new }
+        ensures { Steps (stepped (after_inner version damaged.now at (names_in version at own.now) names.now self.old)) self.old result self.new }
     {
-        let own = names_of_own(alloc, at, own)?;
+        let own = names_of_own(alloc, version, at, own)?;
         let asked = children_to_ask(alloc, damaged, at, own.as_slice(), names)?;
         self.go_down(asked)?;
         Ok(self.step())
@@ -157,7 +165,7 @@ impl Ask {
         entries: &[Entry],
         more: bool,
     ) -> Result<Step, AskError>
-        requires { IsPosition at }
+        requires { IsPosition Two at }
         ensures { Steps (stepped (after_page at entries.now more self.old)) self.old result self.new }
     {
         let page = copies(alloc, entries)?;
@@ -170,25 +178,27 @@ impl Ask {
     fn reply(
         &mut self,
         alloc: Global,
+        version: TreeVersion,
         own: &Option<Bytes>,
         damaged: &[Position],
         at: Position,
         body: &TreeBody,
     ) -> Result<Step, AskError>
-        requires { IsPosition at }
-        ensures { Steps (reply_to damaged.now (names_in at own.now) at body.now self.old) self.old result self.new }
+        requires { IsPosition version at }
+        ensures { Steps (reply_to version damaged.now (names_in version at own.now) at body.now self.old) self.old result self.new }
     {
+        let last = version.levels();
         match body {
             TreeBody::Inner { mask, digests } => {
-                if at.level == DEPTH {
+                if at.level == last {
                     return Ok(Step::Dropped);
                 }
-                let names = children_of_body(alloc, at, *mask, digests)?;
-                self.take_inner(alloc, own, damaged, at, names.as_slice())
+                let names = children_of_body(alloc, version, at, *mask, digests)?;
+                self.take_inner(alloc, version, own, damaged, at, names.as_slice())
             }
             TreeBody::Page { entries, more } => {
                 let entries = entries.as_slice();
-                if at.level == DEPTH && !(entries.is_empty() && *more) {
+                if at.level == last && !(entries.is_empty() && *more) {
                     self.take_page(alloc, at, entries, *more)
                 } else {
                     Ok(Step::Dropped)
@@ -199,21 +209,23 @@ impl Ask {
     }
 
     /// Takes a body for a question, given the bytes of the own node at the position, or none if there
-    /// is no such node or it does not verify. `scan` is the scan of the own tree at the start of the
-    /// ask. Fails only when out of memory, and then leaves the ask unchanged.
+    /// is no such node or it does not verify. `version` is that of the own tree, and `scan` its scan at
+    /// the start of the ask. Fails only when out of memory, and then leaves the ask unchanged.
     pub fn take_read(
         &mut self,
         alloc: Global,
+        version: TreeVersion,
         own: &Option<Bytes>,
         scan: &Scan,
         question: &Question,
         body: &TreeBody,
     ) -> Result<Step, AskError>
-        requires { IsPosition question.now.position }
-        ensures { Steps (taken scan.now own.now question.now body.now self.old) self.old result self.new }
+        requires { IsPosition version question.now.position }
+        ensures { Steps (taken version scan.now own.now question.now body.now self.old) self.old result self.new }
     {
         if self.is_open(question) {
-            self.reply(alloc, own, scan.damaged.as_slice(), question.position, body)
+            let damaged = scan.damaged.as_slice();
+            self.reply(alloc, version, own, damaged, question.position, body)
         } else {
             Ok(Step::Ignored)
         }
@@ -233,15 +245,19 @@ impl Ask {
         question: &Question,
         body: &TreeBody,
     ) -> Result<Step, AskError>
-        requires { IsPosition question.now.position }
-        ensures took { Takes (λ r. Did (outside_does N.may_answer N.top_record N.fault_count H.kept H.clashes H.fulls) (outside_refuses N.may_refuse N.top_record N.fault_count H.kept H.clashes H.fulls)
-            (own_plan own.old.top question.now body.now self.old) (own.old.store, hasher.old) r (own.new.store, hasher.new)) scan.now question.now body.now self.old result self.new }
+        requires { IsPosition own.old.version question.now.position }
+        ensures took { Takes own.old.version (λ r. Did (outside_does N.may_answer N.top_record N.fault_count H.kept H.clashes H.fulls) (outside_refuses N.may_refuse N.top_record N.fault_count H.kept H.clashes H.fulls)
+            (own_plan own.old.version own.old.top question.now body.now self.old) (own.old.store, hasher.old) r (own.new.store, hasher.new)) scan.now question.now body.now self.old result self.new }
+        ensures version_is { own.new.version ≡ own.old.version }
         ensures top { own.new.top ≡ own.old.top }
         ensures refused { IfErr result (λ e. IsCause N.fault_count H.clashes H.fulls (own.old.store, hasher.old) (own.new.store, hasher.new) e) }
     {
+        let version = own.version();
         match read_own(alloc, self, own, hasher, question, body) {
-            Ok(node) => self.take_read(alloc, &node, scan, question, body),
-            Err(TreeError::Damaged(_)) => self.take_read(alloc, &None, scan, question, body),
+            Ok(node) => self.take_read(alloc, version, &node, scan, question, body),
+            Err(TreeError::Damaged(_)) => {
+                self.take_read(alloc, version, &None, scan, question, body)
+            }
             Err(TreeError::Failed) => Err(AskError::Store),
             Err(TreeError::Clash { first, second }) => Err(AskError::Clash { first, second }),
             Err(TreeError::BookFull(bytes)) => Err(AskError::BookFull(bytes)),

@@ -6,12 +6,14 @@ use Rattle.md5.specs.Md5.{md5}
 use Rattle.ens_base.specs.declared.entry.Entry.{Entry}
 use Rattle.ens_outside.specs.Maps.{Entries, value_at}
 use Rattle.tree_node.specs.declared.position.Position.{Position}
+use Rattle.tree_node.specs.declared.version.TreeVersion.{TreeVersion}
+use Rattle.tree_node.specs.TreeVersions.{levels}
 use Rattle.tree_node.specs.Positions.{IsPosition}
-use Rattle.tree_maps.specs.Sixteen.{sixteen}
+use Rattle.tree_maps.specs.Sixteen.{form_of}
 use Rattle.tree_maps.specs.Forms.{Form, Laws, IsPlace, root}
 use Rattle.tree_maps.specs.Maps.{within, named, text, IsNode}
 use Rattle.tree_maps.specs.Paths.{under, present}
-use Rattle.tree_maps.proofs.Formats.{sixteen_laws}
+use Rattle.tree_maps.proofs.Formats.{form_laws}
 use Rattle.tree_maps.proofs.Unique.{root_is_node, child_is, children_again}
 use Rattle.tree_maps.proofs.Below.{IsThere, place, under_child, child_again, parent_place, node_below, some_width, present_is, named_is, first_text}
 use Rattle.synctree.proofs.Places.{place_of}
@@ -57,5 +59,5 @@ module _ (F : Form) (laws : Laws F) where
   digest_is : (h : ℕ) (s : Nodes) (m : List Entry) (at : Position) → IsPlace F h at → HoldsMap F s m → named_at F s at ≡ digest_of_node F at m
   digest_is h s m at p holds = name_is h at.level at.index s m p holds ∙ ap (λ (n : ℕ). option_map md5 (present at.level (under F at m) (text F n at (under F at m)))) (omega (arith, p.level))
 
-pub name_is_digest : (s : Nodes) (m : List Entry) (at : Position) → HoldsMap sixteen s m → IsPosition at → named_at sixteen s at ≡ digest_of_node sixteen at m
-name_is_digest s m at holds position = digest_is sixteen sixteen_laws (3 - at.level) s m at (place_of at position) holds
+pub name_is_digest : (tree : TreeVersion) (s : Nodes) (m : List Entry) (at : Position) → HoldsMap (form_of tree) s m → IsPosition tree at → named_at (form_of tree) s at ≡ digest_of_node (form_of tree) at m
+name_is_digest tree s m at holds position = digest_is (form_of tree) (form_laws tree) (levels tree - at.level) s m at (place_of tree at position) holds

@@ -1,16 +1,19 @@
 -- The position of the segment of a key.
-use Rattle.std.proofs.Common.{◌≡◌, ℕ, zero, suc, ◌+◌, ◌*◌, ◌/◌, ◌%◌, ◌<◌, ◌^◌, true, List, get_or, refl, ap, arith}
+use Rattle.std.proofs.Common.{◌≡◌, ℕ, zero, suc, ◌+◌, ◌*◌, ◌/◌, ◌%◌, ◌<◌, ◌≤◌, ◌^◌, true, List, refl, ap, sym, subst, ◌∙◌, arith}
 use Rattle.std.specs.Prelude.{◌==◌}
 use Rattle.std.proofs.lemmas.Bool.Decides.{nat_tests}
 use Rattle.std.proofs.lemmas.Nat.{div-mul-add, mod-mul-add, mul-add-lt}
 use native.Mathlib.Nat.{pow-suc, pow-zero}
 use Rattle.md5.specs.Md5.{md5}
+use Rattle.tree_node.specs.declared.version.TreeVersion.{TreeVersion}
+use Rattle.tree_node.specs.declared.position.Position.{Position}
+use Rattle.tree_node.specs.TreeVersions.{levels}
 use Rattle.tree_node.specs.Positions.{IsPosition}
-use Rattle.tree_maps.specs.Forms.{Form, Laws}
+use Rattle.tree_maps.specs.Forms.{Form, Laws, child}
 use Rattle.tree_maps.specs.Paths.{passes}
-use Rattle.tree_maps.specs.Sixteen.{sixteen}
-use Rattle.tree_maps.proofs.Formats.{sixteen_laws}
-use Rattle.tree_maps.proofs.Names.{md5_run}
+use Rattle.tree_maps.specs.Sixteen.{form_of, nibble}
+use Rattle.tree_maps.proofs.Formats.{form_laws}
+use Rattle.synctree.proofs.Places.{width_is, depth_is, digit_is, position_of}
 use Rattle.node_faults.specs.Naming.{index_of, segment_place}
 
 same_itself : (n : ℕ) → (n == n) ≡ true
@@ -32,23 +35,23 @@ module _ (F : Form) (laws : Laws F) where
   path_goes_on key (suc level) =
       rw (child_div F.width (index_of F key level) (F.digit key level) (laws.in_width key level), child_mod F.width (index_of F key level) (F.digit key level) (laws.in_width key level), path_goes_on key level) (same_itself (F.digit key level))
 
-index_small : (key : List ℕ) → index_of sixteen key 3 < sixteen.width ^ 3
-index_small key = index_below sixteen sixteen_laws key 3
+pub segment_position : (tree : TreeVersion) (key : List ℕ) → IsPosition tree (segment_place (form_of tree) key)
+segment_position tree key = position_of tree 0 (segment_place (form_of tree) key) (record { level = omega arith; index = index_below (form_of tree) (form_laws tree) key (form_of tree).depth })
 
-pub segment_position : (key : List ℕ) → IsPosition (segment_place sixteen key)
-unfolding sixteen
-segment_position key = record { level = omega arith; index = index_small key }
+pub segment_path : (tree : TreeVersion) (key : List ℕ) → passes (form_of tree) key (segment_place (form_of tree) key).level (segment_place (form_of tree) key).index ≡ true
+segment_path tree key = path_goes_on (form_of tree) (form_laws tree) key (form_of tree).depth
 
-pub segment_path : (key : List ℕ) → passes sixteen key (segment_place sixteen key).level (segment_place sixteen key).index ≡ true
-segment_path key = path_goes_on sixteen sixteen_laws key sixteen.depth
+-- the position of this level on the path of a key
+abbrev pub on_path : TreeVersion → List ℕ → ℕ → Position
+on_path tree key level = record { level = level; index = index_of (form_of tree) key level }
 
--- the first twelve bits of the MD5 of the key are the index
-twelve_bits : (a b : ℕ) → a < 256 → b < 256 → 16 * a + b / 16 ≡ 16 * (16 * (16 * 0 + a / 16 % 16) + a % 16) + b / 16 % 16
-twelve_bits a b below small = omega arith
+pub path_position : (tree : TreeVersion) (key : List ℕ) (level : ℕ) → level ≤ levels tree → IsPosition tree (on_path tree key level)
+path_position tree key level low = record { level = low; index = subst (λ (w : ℕ). index_of (form_of tree) key level < w ^ level) (width_is tree) (index_below (form_of tree) (form_laws tree) key level) }
 
-place_of_digest : (key : List ℕ) → record { level = 3; index = 16 * get_or (md5 key) 0 0 + get_or (md5 key) 1 0 / 16 } ≡ segment_place sixteen key
-unfolding sixteen
-place_of_digest key = ap (λ (n : ℕ). record { level = 3; index = n }) (twelve_bits (get_or (md5 key) 0 0) (get_or (md5 key) 1 0) ((md5_run key).bytes 0) ((md5_run key).bytes 1))
+pub path_below : (tree : TreeVersion) (key : List ℕ) (level : ℕ) → child (form_of tree) (on_path tree key level) (nibble (md5 key) level) ≡ on_path tree key (level + 1)
+path_below tree key level =
+    let next : level + 1 ≡ suc level = omega arith in
+    ap (λ (n : ℕ). child (form_of tree) (on_path tree key level) n) (sym (digit_is tree key level)) ∙ rw next refl
 
-pub place_is : (key digest : List ℕ) (first second : ℕ) → digest ≡ md5 key → first ≡ get_or digest 0 0 → second ≡ get_or digest 1 0 / 16 → record { level = 3; index = 16 * first + second } ≡ segment_place sixteen key
-place_is key digest first second is a b = rw (a, b, is) (place_of_digest key)
+pub path_end : (tree : TreeVersion) (key : List ℕ) (level : ℕ) (at : Position) → level ≡ levels tree → at ≡ on_path tree key level → at ≡ segment_place (form_of tree) key
+path_end tree key level at last is = is ∙ ap (on_path tree key) (last ∙ sym (depth_is tree))

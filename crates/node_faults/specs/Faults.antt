@@ -2,7 +2,8 @@
 use Rattle.std.specs.Prelude.{ℕ, List, Option, None, Some}
 use Rattle.ens_outside.specs.Maps.{Entries, with_value}
 use Rattle.tree_node.specs.declared.position.Position.{Position}
-use Rattle.tree_maps.specs.Sixteen.{sixteen}
+use Rattle.tree_node.specs.declared.version.TreeVersion.{TreeVersion}
+use Rattle.tree_maps.specs.Sixteen.{form_of}
 use Rattle.world_stores.specs.Maps.{without}
 use Rattle.world_stores.specs.Nodes.{Nodes}
 use Rattle.node_faults.specs.Naming.{named_at}
@@ -21,6 +22,7 @@ abbrev pub replaced_if : Option (List ℕ) → Option (List ℕ) → Entries →
 replaced_if None bytes es = es
 replaced_if (Some digest) bytes es = replaced digest bytes es
 
--- the nodes after the one that they name at a position was replaced by these bytes, or removed
-abbrev pub spoiled_node : Position → Option (List ℕ) → Nodes → Nodes
-spoiled_node at bytes s = record s { entries = replaced_if (named_at sixteen s at) bytes s.entries }
+-- the nodes of a tree of this version after the one that they name at a position was replaced by these
+-- bytes, or removed
+abbrev pub spoiled_node : TreeVersion → Position → Option (List ℕ) → Nodes → Nodes
+spoiled_node tree at bytes s = record s { entries = replaced_if (named_at (form_of tree) s at) bytes s.entries }

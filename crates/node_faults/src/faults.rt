@@ -1,6 +1,7 @@
 ghost use Rattle.std.specs.Prelude.{◌≡◌, ◌≤◌, ◌<◌, ◌^◌, IfErr, OnOk, OnErr};
+ghost use Rattle.tree_node.specs.TreeVersions.{levels};
 ghost use Rattle.tree_node.specs.Positions.{IsPosition};
-ghost use Rattle.tree_maps.specs.Sixteen.{sixteen};
+ghost use Rattle.tree_maps.specs.Sixteen.{form_of};
 ghost use Rattle.node_faults.specs.Faults.{place_at, replaced, spoiled_node};
 ghost use Rattle.node_faults.specs.Naming.{segment_place};
 
@@ -8,7 +9,7 @@ use crate::naming::{named_at, segment_of};
 use ens_base::{Bytes, Digest, Key};
 use ens_outside::StoreError;
 use std::alloc::Global;
-use tree_node::Position;
+use tree_node::{Position, TreeVersion};
 use world_stores::HeldNodes;
 
 /// Stores `bytes` under `digest`, or removes the node under it if `bytes` is `None`.
@@ -35,22 +36,23 @@ fn replace(
 fn damage_at(
     alloc: Global,
     nodes: &mut HeldNodes,
+    version: TreeVersion,
     at: Position,
     bytes: &Option<Bytes>,
 ) -> Result<(), StoreError>
-    requires { IsPosition at }
-    ensures ok { OnOk result (nodes.new ≡ spoiled_node at bytes.now nodes.old) }
+    requires { IsPosition version at }
+    ensures ok { OnOk result (nodes.new ≡ spoiled_node version at bytes.now nodes.old) }
     ensures err { OnErr result (nodes.new ≡ nodes.old) }
     ensures memory { IfErr result (λ e. e ≡ StoreError.Memory) }
 {
-    match named_at(alloc, nodes, at)? {
+    match named_at(alloc, version, nodes, at)? {
         Some(digest) => replace(alloc, nodes, &digest, bytes),
         None => Ok(()),
     }
 }
 
-/// Replaces the bytes of the segment of `key`, or removes that node if `bytes` is `None`. Changes
-/// nothing if the stored nodes name no such segment.
+/// Replaces the bytes of the segment of `key` in a tree of this version, or removes that node if
+/// `bytes` is `None`. Changes nothing if the stored nodes name no such segment.
 ///
 /// # Errors
 ///
@@ -58,19 +60,20 @@ fn damage_at(
 pub fn damage(
     alloc: Global,
     nodes: &mut HeldNodes,
+    version: TreeVersion,
     key: &Key,
     bytes: &Option<Bytes>,
 ) -> Result<(), StoreError>
-    ensures ok { OnOk result (nodes.new ≡ spoiled_node (segment_place sixteen key.now) bytes.now nodes.old) }
+    ensures ok { OnOk result (nodes.new ≡ spoiled_node version (segment_place (form_of version) key.now) bytes.now nodes.old) }
     ensures err { OnErr result (nodes.new ≡ nodes.old) }
     ensures memory { IfErr result (λ e. e ≡ StoreError.Memory) }
 {
-    damage_at(alloc, nodes, segment_of(key), bytes)
+    damage_at(alloc, nodes, version, segment_of(version, key), bytes)
 }
 
-/// Replaces the bytes of the inner node at this level, 0 to 2, and index, below 16 to the power of
-/// the level, or removes that node if `bytes` is `None`. Changes nothing if the stored nodes name no
-/// such node.
+/// Replaces the bytes of the inner node of a tree of this version at this level, which is above that of
+/// the segments, and index, below 16 to the power of the level, or removes that node if `bytes` is
+/// `None`. Changes nothing if the stored nodes name no such node.
 ///
 /// # Errors
 ///
@@ -78,15 +81,17 @@ pub fn damage(
 pub fn inner(
     alloc: Global,
     nodes: &mut HeldNodes,
+    version: TreeVersion,
     level: u8,
     index: u32,
     bytes: &Option<Bytes>,
 ) -> Result<(), StoreError>
-    requires level { level ≤ 2 }
+    requires level { level < levels version }
     requires index { index < 16 ^ level }
-    ensures ok { OnOk result (nodes.new ≡ spoiled_node (place_at level index) bytes.now nodes.old) }
+    ensures ok { OnOk result (nodes.new ≡ spoiled_node version (place_at level index) bytes.now nodes.old) }
     ensures err { OnErr result (nodes.new ≡ nodes.old) }
     ensures memory { IfErr result (λ e. e ≡ StoreError.Memory) }
 {
-    damage_at(alloc, nodes, Position { level, index }, bytes)
+    let at = Position { level, index };
+    damage_at(alloc, nodes, version, at, bytes)
 }

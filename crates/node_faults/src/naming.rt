@@ -1,14 +1,15 @@
 ghost use Rattle.std.specs.Prelude.{◌≡◌, ◌-◌, ◌/◌, ◌≤◌, ◌<◌, IfOk, IfErr, get_or, None};
+ghost use Rattle.tree_node.specs.TreeVersions.{levels};
 ghost use Rattle.tree_node.specs.Positions.{IsPosition};
-ghost use Rattle.tree_maps.specs.Sixteen.{sixteen, children_of};
+ghost use Rattle.tree_maps.specs.Sixteen.{form_of, children_of};
 ghost use Rattle.node_faults.specs.Naming.{child_in as child_encoded, child_under as child_stored, named_at as digest_at, segment_place};
 
 use ens_base::{Digest, Key};
 use ens_hashing::digest_of;
 use ens_outside::StoreError;
 use std::alloc::Global;
-use synctree::{DEPTH, children};
-use tree_node::{InnerNode, NodeError, Position, decode_inner};
+use synctree::{ROOT, child, children, nibble};
+use tree_node::{InnerNode, NodeError, Position, TreeVersion, decode_inner};
 use world_stores::HeldNodes;
 
 /// Returns the position of the parent.
@@ -39,18 +40,19 @@ fn child_of(alloc: Global, node: &InnerNode, digit: u8) -> Result<Option<Digest>
 
 /// Returns the digest of child `digit` in bytes that encode the inner node of a position, or `None`
 /// if there is no such child, or the bytes encode no such node. Fails only when out of memory.
-#[tactic(auto, unfolding(tree_maps::specs::Sixteen::sixteen))]
+#[tactic(auto, unfolding(tree_maps::specs::Sixteen::form_of))]
 fn child_in(
     alloc: Global,
+    version: TreeVersion,
     bytes: &[u8],
     at: Position,
     digit: u8,
 ) -> Result<Option<Digest>, StoreError>
-    requires { IsPosition at }
-    ensures found { IfOk result (λ o. o ≡ child_encoded sixteen at digit bytes.now) }
+    requires { IsPosition version at }
+    ensures found { IfOk result (λ o. o ≡ child_encoded (form_of version) at digit bytes.now) }
     ensures memory { IfErr result (λ e. e ≡ StoreError.Memory) }
 {
-    match decode_inner(alloc, bytes, at) {
+    match decode_inner(alloc, bytes, at, version) {
         Ok(node) => child_of(alloc, &node, digit),
         Err(NodeError::Memory) => Err(StoreError::Memory),
         Err(_) => Ok(None),
@@ -61,30 +63,32 @@ fn child_in(
 /// is no such child or no such node. Fails only when out of memory.
 fn child_under(
     alloc: Global,
+    version: TreeVersion,
     nodes: &HeldNodes,
     at: Position,
     digit: u8,
     digest: &Digest,
 ) -> Result<Option<Digest>, StoreError>
-    requires { IsPosition at }
-    ensures found { IfOk result (λ o. o ≡ child_stored sixteen nodes.now.entries at digit digest.now) }
+    requires { IsPosition version at }
+    ensures found { IfOk result (λ o. o ≡ child_stored (form_of version) nodes.now.entries at digit digest.now) }
     ensures memory { IfErr result (λ e. e ≡ StoreError.Memory) }
 {
     match nodes.look(digest) {
-        Some(bytes) => child_in(alloc, bytes, at, digit),
+        Some(bytes) => child_in(alloc, version, bytes, at, digit),
         None => Ok(None),
     }
 }
 
-/// Returns the digest that the stored nodes name at a position, or `None` if they name none. Fails
-/// only when out of memory.
+/// Returns the digest that the stored nodes of a tree of this version name at a position, or `None` if
+/// they name none. Fails only when out of memory.
 pub(crate) fn named_at(
     alloc: Global,
+    version: TreeVersion,
     nodes: &HeldNodes,
     at: Position,
 ) -> Result<Option<Digest>, StoreError>
-    requires { IsPosition at }
-    ensures found { IfOk result (λ o. o ≡ digest_at sixteen nodes.now at) }
+    requires { IsPosition version at }
+    ensures found { IfOk result (λ o. o ≡ digest_at (form_of version) nodes.now at) }
     ensures memory { IfErr result (λ e. e ≡ StoreError.Memory) }
 {
     if at.level == 0 {
@@ -92,20 +96,21 @@ pub(crate) fn named_at(
     }
     let above = parent(at);
     let digit = (at.index % 16) as u8;
-    match named_at(alloc, nodes, above)? {
-        Some(digest) => child_under(alloc, nodes, above, digit, &digest),
+    match named_at(alloc, version, nodes, above)? {
+        Some(digest) => child_under(alloc, version, nodes, above, digit, &digest),
         None => Ok(None),
     }
 }
 
-/// Returns the position of the segment of a key.
-pub(crate) fn segment_of(key: &Key) -> Position
-    ensures place { result ≡ segment_place sixteen key.now }
-    ensures position { IsPosition result }
+/// Returns the position of the segment of a key in the tree of this version.
+pub(crate) fn segment_of(version: TreeVersion, key: &Key) -> Position
+    ensures place { result ≡ segment_place (form_of version) key.now }
+    ensures position { IsPosition version result }
 {
-    let digest = digest_of(key.bytes());
-    Position {
-        level: DEPTH,
-        index: 16 * u32::from(digest.0[0]) + u32::from(digest.0[1] / 16),
+    let path = digest_of(key.bytes());
+    let mut at = ROOT;
+    for level in 0..version.levels() {
+        at = child(at, nibble(&path, level));
     }
+    at
 }

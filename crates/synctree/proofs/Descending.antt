@@ -12,9 +12,12 @@ use Rattle.ens_base.specs.Lists.{◌∈◌, same_bytes}
 use Rattle.ens_outside.specs.Stores.{NodeCall, NodeAnswer}
 use Rattle.ens_outside.specs.declared.errors.StoreError.{StoreError}
 use Rattle.tree_node.specs.declared.position.Position.{Position}
+use Rattle.tree_node.specs.declared.version.TreeVersion.{TreeVersion}
+use Rattle.tree_node.specs.TreeVersions.{levels}
 use Rattle.tree_node.specs.Positions.{IsPosition}
+use Rattle.tree_node.proofs.TreeVersionLaws.{levels_few}
 use Rattle.tree_node.specs.Nodes.{inner_of, segment_of}
-use Rattle.tree_maps.specs.Sixteen.{sixteen, children_in, entries_in}
+use Rattle.tree_maps.specs.Sixteen.{form_of, children_in, entries_in}
 use Rattle.tree_maps.specs.Forms.{Form, Laws, IsPlace, root}
 use Rattle.tree_maps.specs.Maps.{within, named, text, children, AreApart, Stands}
 use Rattle.tree_maps.specs.Paths.{under, present, node_of}
@@ -58,27 +61,29 @@ module _ {N H : Type 0} (may : N → (call : NodeCall) → NodeAnswer call → N
       → DidOutside may loses top faults kept clashes fulls (if test then Done (Some bytes) else Broken at) s r s → DidOutside may loses top faults kept clashes fulls (if is_node F (F.depth - at.level) at bytes then Done (Some bytes) else Broken at) s r s
   bytes_did at bytes test s r is d = rw is d
 
-pub parent_position : (at above : Position) → IsPosition at → 0 < at.level → above ≡ place (at.level - 1) (at.index / 16) → IsPosition above
-parent_position at above p some is = subst IsPosition (sym is) (record { level = omega (arith, p.level); index = small at.level at.index p.level some p.index })
+pub parent_position : (v : TreeVersion) (at above : Position) → IsPosition v at → 0 < at.level → above ≡ place (at.level - 1) (at.index / 16) → IsPosition v above
+parent_position v at above p some is = subst (IsPosition v) (sym is) (record { level = omega (arith, p.level); index = small at.level at.index (omega (arith, p.level, levels_few v)) some p.index })
   where
-    small : (l i : ℕ) → l ≤ 3 → 0 < l → i < 16 ^ l → i / 16 < 16 ^ (l - 1)
+    small : (l i : ℕ) → l ≤ 5 → 0 < l → i < 16 ^ l → i / 16 < 16 ^ (l - 1)
     small zero i a b c = absurd (omega arith)
     small (suc zero) i a b c = omega (arith, c)
     small (suc (suc zero)) i a b c = omega (arith, c)
     small (suc (suc (suc zero))) i a b c = omega (arith, c)
-    small (suc (suc (suc (suc l)))) i a b c = absurd (omega arith)
+    small (suc (suc (suc (suc zero)))) i a b c = omega (arith, c)
+    small (suc (suc (suc (suc (suc zero))))) i a b c = omega (arith, c)
+    small (suc (suc (suc (suc (suc (suc l)))))) i a b c = absurd (omega arith)
 
 -- ## Tests of bytes
 
-pub inner_kind : (at : Position) (bytes : List ℕ) → at.level < 3 → is_node sixteen (3 - at.level) at bytes ≡ is_some (children_in (inner_of at bytes))
-inner_kind at bytes low = by (3 - at.level) (omega (arith, low))
+pub inner_kind : (v : TreeVersion) (at : Position) (bytes : List ℕ) → at.level < levels v → is_node (form_of v) (levels v - at.level) at bytes ≡ is_some (children_in (inner_of v at bytes))
+inner_kind v at bytes low = by (levels v - at.level) (omega (arith, low))
   where
-    by : (h : ℕ) → 0 < h → is_node sixteen h at bytes ≡ is_some (children_in (inner_of at bytes))
+    by : (h : ℕ) → 0 < h → is_node (form_of v) h at bytes ≡ is_some (children_in (inner_of v at bytes))
     by zero some = absurd (omega arith)
-    by (suc h) some = rw (inner_is at bytes) refl
+    by (suc h) some = rw (inner_is v at bytes) refl
 
-pub segment_kind : (at : Position) (bytes : List ℕ) → at.level ≡ 3 → is_node sixteen (3 - at.level) at bytes ≡ is_some (entries_in (segment_of at bytes))
-segment_kind at bytes low = let zero_is : 3 - at.level ≡ 0 = omega (arith, low) in rw (zero_is, segment_is at bytes) refl
+pub segment_kind : (v : TreeVersion) (at : Position) (bytes : List ℕ) → at.level ≡ levels v → is_node (form_of v) (levels v - at.level) at bytes ≡ is_some (entries_in (segment_of v at bytes))
+segment_kind v at bytes low = let zero_is : levels v - at.level ≡ 0 = omega (arith, low) in rw (zero_is, segment_is v at bytes) refl
 
 -- ## What is read
 

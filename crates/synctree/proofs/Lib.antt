@@ -8,4 +8,6 @@ pub mod Meaning
 pub mod Puts
 pub mod Standing
 pub mod Descending
+pub mod Shapes
 pub mod Writing
+pub mod Records

@@ -10,6 +10,7 @@ use Rattle.ens_hashing.specs.Hashing.{Book}
 use Rattle.ens_outside.specs.Stores.{NodeCall, NodeAnswer}
 use Rattle.ens_outside.specs.declared.errors.StoreError.{StoreError}
 use Rattle.tree_node.specs.declared.position.Position.{Position}
+use Rattle.tree_node.specs.declared.version.TreeVersion.{TreeVersion}
 use Rattle.tree_node.specs.declared.node.InnerNode.{InnerNode}
 use Rattle.tree_node.specs.declared.error.NodeError.{NodeError}
 use Rattle.tree_node.specs.Nodes.{inner_spelling, segment_spelling, inner_of}
@@ -17,7 +18,7 @@ use Rattle.tree_node.specs.Entries.{is_less, is_above, IsNext, AreAbove, AreEntr
 use Rattle.tree_node.specs.Repeats.{AreListed}
 use Rattle.tree_maps.specs.Entries.{IsBelowAll, Ascends, put}
 use Rattle.tree_maps.specs.Forms.{Form, child}
-use Rattle.tree_maps.specs.Sixteen.{sixteen, spread, children_of, inner_node, segment, children_in}
+use Rattle.tree_maps.specs.Sixteen.{form_of, spread, children_of, inner_node, segment, children_in}
 use Rattle.tree_maps.proofs.Parts.{ascends-put, below_trans}
 use Rattle.tree_maps.proofs.Formats.{above_of, key_above}
 use Rattle.synctree.specs.declared.error.TreeError.{TreeError}
@@ -27,13 +28,13 @@ use Rattle.synctree.proofs.Exits.{DidOutside, after, cut_off}
 use Rattle.synctree.proofs.Meaning.{opened}
 use Rattle.synctree.proofs.Places.{inner_is}
 
-pub inner_text_is : (at : Position) (cs : List (Option (List ℕ))) → sixteen.inner_text at cs ≡ inner_spelling (inner_node at cs)
-unfolding sixteen
-inner_text_is at cs = refl
+pub inner_text_is : (v : TreeVersion) (at : Position) (cs : List (Option (List ℕ))) → (form_of v).inner_text at cs ≡ inner_spelling (inner_node v at cs)
+unfolding form_of
+inner_text_is v at cs = refl
 
-pub segment_text_is : (at : Position) (es : List Entry) → sixteen.segment_text at es ≡ segment_spelling (segment at es)
-unfolding sixteen
-segment_text_is at es = refl
+pub segment_text_is : (v : TreeVersion) (at : Position) (es : List Entry) → (form_of v).segment_text at es ≡ segment_spelling (segment v at es)
+unfolding form_of
+segment_text_is v at es = refl
 
 length_spread : (n mask : ℕ) (ds : List (List ℕ)) → length (spread n mask ds) ≡ n
 length_spread zero mask ds = refl
@@ -51,9 +52,9 @@ pub read_width : (r : Result InnerNode NodeError) (names : List (Option (List �
 read_width (Ok n) names e = let is : children_of n.mask n.digests ≡ names = cc in ap length (sym is) ∙ length_children n.mask n.digests
 read_width (Err d) names e = absurd cc
 
-pub width_of : {S : Type 0} (does : S → (call : Call) → AnswerOf call → S → Type 0) (refuses : S → Call → TreeError → S → Type 0) (at : Position) (digest : List ℕ) (s t : S) (r : Result (List (Option (List ℕ))) TreeError) → Did does refuses (open_node (sixteen.inner_at at) at digest) s r t → IfOk r (λ names. length names ≡ 16)
-width_of does refuses at digest s t (Ok names) (xs, ends) = let o = opened does (sixteen.inner_at at) at digest s t xs names ends in read_width (inner_of at o.bytes) names (sym (inner_is at o.bytes) ∙ o.is_node)
-width_of does refuses at digest s t (Err e) d = tt
+pub width_of : {S : Type 0} (does : S → (call : Call) → AnswerOf call → S → Type 0) (refuses : S → Call → TreeError → S → Type 0) (v : TreeVersion) (at : Position) (digest : List ℕ) (s t : S) (r : Result (List (Option (List ℕ))) TreeError) → Did does refuses (open_node ((form_of v).inner_at at) at digest) s r t → IfOk r (λ names. length names ≡ 16)
+width_of does refuses v at digest s t (Ok names) (xs, ends) = let o = opened does ((form_of v).inner_at at) at digest s t xs names ends in read_width (inner_of v at o.bytes) names (sym (inner_is v at o.bytes) ∙ o.is_node)
+width_of does refuses v at digest s t (Err e) d = tt
 
 -- ## Entries in order
 

@@ -4,19 +4,22 @@ use Rattle.ens_hashing.specs.Hashing.{Book}
 use Rattle.md5.specs.Md5.{md5}
 use Rattle.ens_outside.specs.Stores.{NodeCall, NodeAnswer, Write}
 use Rattle.ens_outside.specs.declared.errors.StoreError.{StoreError}
+use Rattle.tree_node.specs.declared.version.TreeVersion.{TreeVersion}
+use Rattle.tree_node.specs.declared.version.TreeVersion.TheVariants.{One, Two}
 use Rattle.tree_node.specs.Nodes.{inner_spelling}
 use Rattle.tree_maps.specs.Forms.{root}
 use Rattle.tree_maps.specs.Maps.{text}
-use Rattle.tree_maps.specs.Sixteen.{sixteen}
+use Rattle.tree_maps.specs.Sixteen.{form_of}
 use Rattle.synctree.specs.declared.error.TreeError.{TreeError}
 use Rattle.synctree.specs.Plans.{Node, Done, Ask}
 use Rattle.synctree.specs.Halves.{NodesDid, HasherDid}
 use Rattle.synctree.specs.Walks.{store}
 use Rattle.synctree.proofs.Exits.{DidOutside, node_err, node_ok, hash_ok}
 
-pub empty_is : text sixteen sixteen.depth root [] ≡ inner_spelling (record { position = root; mask = 0; digests = [] })
-unfolding sixteen
-empty_is = refl
+pub empty_is : (v : TreeVersion) → text (form_of v) (form_of v).depth root [] ≡ inner_spelling (record { version = v; position = root; mask = 0; digests = [] })
+unfolding form_of
+empty_is One = refl
+empty_is Two = refl
 
 module _ {N H : Type 0} (may : N → (call : NodeCall) → NodeAnswer call → N → Type 0) (loses : N → NodeCall → StoreError → N → Type 0) (top : N → Option (Option (List ℕ))) (faults : N → ℕ)
     (kept : H → Option Book) (clashes fulls : H → ℕ) where

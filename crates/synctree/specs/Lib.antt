@@ -6,4 +6,7 @@ pub mod Walks
 pub mod Trees
 pub mod Meanings
 pub mod Nodes
+pub mod Shapes
 pub mod Installs
+pub mod Seals
+pub mod Records

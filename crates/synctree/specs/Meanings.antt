@@ -10,6 +10,7 @@ use Rattle.synctree.specs.Plans.{Call, AnswerOf, Ends}
 use Rattle.ens_base.specs.declared.refused.Refused.{Refused}
 use Rattle.synctree.specs.declared.error.TreeError.{TreeError}
 use Rattle.synctree.specs.declared.tree.Tree.{Tree}
+use Rattle.synctree.specs.Seals.{root_under}
 use Rattle.synctree.specs.Trees.{get_plan, insert_plan}
 
 -- The plan of a get ended with this entry. It is the entry of the map that stands under the top
@@ -19,10 +20,11 @@ pub record Finds {S : Type 0} (does : S → (call : Call) → AnswerOf call → 
   pub ends : Ends does (get_plan F top key) s strings (Ok o) t
   pub answers : (digest : List ℕ) (m : List Entry) → top ≡ Some digest → Stands F digest m → AreApart strings F F.depth root m → o ≡ lookup key m
 
--- a tree over the store as the call left it, or the error of the call and the store
-abbrev pub Opens : {N : Type 0} → (Result (Option (List ℕ)) TreeError → N → Type 0) → Result (Tree N) (Refused N TreeError) → Type 0
-Opens did (Ok tree) = did (Ok tree.top) tree.store
-Opens did (Err refused) = did (Err refused.error) refused.held
+-- a tree over the store as the call left it, whose root is that of the top record under the seal, or
+-- the error of the call and the store
+abbrev pub Opens : {N : Type 0} → (Result (Option (List ℕ)) TreeError → N → Type 0) → Option (List ℕ) → Result (Tree N) (Refused N TreeError) → Type 0
+Opens did seal (Ok tree) = (top : Option (List ℕ)) × did (Ok top) tree.store × (tree.top ≡ root_under seal top)
+Opens did seal (Err refused) = did (Err refused.error) refused.held
 
 -- a fresh tree whose top record has the digest that its plan returned, or the error of the plan and
 -- the store
@@ -30,11 +32,11 @@ abbrev pub Freshens : {N : Type 0} → (Result (List ℕ) TreeError → N → Ty
 Freshens did (Ok tree) = IsSomeAnd tree.top (λ digest. did (Ok digest) tree.store)
 Freshens did (Err refused) = did (Err refused.error) refused.held
 
--- the tree after it was opened again: its root has the digest that was in the top record, if there
--- was one, or after an error the tree has its old root
-abbrev pub Reopens : (Result (Option (List ℕ)) TreeError → Type 0) → Option (List ℕ) → Result (Unit {0}) TreeError → Option (List ℕ) → Type 0
-Reopens did old (Ok x) new = did (Ok new)
-Reopens did old (Err e) new = did (Err e) × (new ≡ old)
+-- the tree after it was opened again: its root is that of the top record under the seal, or after an
+-- error the tree has its old root
+abbrev pub Reopens : (Result (Option (List ℕ)) TreeError → Type 0) → Option (List ℕ) → Option (List ℕ) → Result (Unit {0}) TreeError → Option (List ℕ) → Type 0
+Reopens did seal old (Ok x) new = (top : Option (List ℕ)) × did (Ok top) × (new ≡ root_under seal top)
+Reopens did seal old (Err e) new = did (Err e) × (new ≡ old)
 
 -- the tree after a change: its root has the digest that the plan returned, or after an error the
 -- tree has its old root

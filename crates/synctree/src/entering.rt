@@ -4,17 +4,18 @@ ghost use Rattle.tree_node.specs.Positions.{IsPosition};
 ghost use Rattle.tree_node.specs.Entries.{AreAbove, AreEntries};
 ghost use Rattle.tree_maps.specs.Entries.{put};
 ghost use Rattle.tree_maps.specs.Forms.{IsPlace};
-ghost use Rattle.tree_maps.specs.Sixteen.{sixteen};
+ghost use Rattle.tree_maps.specs.Sixteen.{form_of};
 ghost use Rattle.synctree.specs.Answers.{Makes};
 ghost use Rattle.synctree.specs.Outsides.{outside_does, outside_refuses};
 ghost use Rattle.synctree.specs.Plans.{Did};
+ghost use Rattle.synctree.specs.Records.{KeptUnlessFailed};
 ghost use Rattle.synctree.specs.Walks.{reach, store as store_plan, enter as enter_plan};
 ghost use Rattle.synctree.specs.Trees.{publish_plan, insert_plan};
 
 use crate::calls::{hash, set_top};
 use crate::encoding::{encode_inner, encode_segment};
 use crate::error::TreeError;
-use crate::shape::{DEPTH, ROOT, WIDTH, child, name_of, nibble, with_child};
+use crate::shape::{ROOT, WIDTH, child, name_of, nibble, with_child};
 use crate::store::store;
 use crate::walk::{open_inner, open_segment};
 use ens_base::{Digest, Entry, Seq};
@@ -22,7 +23,7 @@ use ens_hashing::Hasher16;
 use ens_outside::NodeStore;
 use std::alloc::Global;
 use std::cmp::Ordering;
-use tree_node::{Position, Segment};
+use tree_node::{Position, Segment, TreeVersion};
 
 /// Returns the children of an inner node that has none.
 fn no_children(alloc: Global) -> Result<Seq<Option<Digest>>, TreeError>
@@ -36,16 +37,17 @@ fn reach_inner<N: NodeStore, H: Hasher16>(
     alloc: Global,
     nodes: &mut N,
     hasher: &mut H,
+    version: TreeVersion,
     at: Position,
     named: Option<Digest>,
 ) -> Result<Seq<Option<Digest>>, TreeError>
-    requires { IsPosition at }
+    requires { IsPosition version at }
     ensures did { Did (outside_does N.may_answer N.top_record N.fault_count H.kept H.clashes H.fulls) (outside_refuses N.may_refuse N.top_record N.fault_count H.kept H.clashes H.fulls)
-        (reach (sixteen.inner_at at) (replicate 16 None) at named) (nodes.old, hasher.old) result (nodes.new, hasher.new) }
+        (reach ((form_of version).inner_at at) (replicate 16 None) at named) (nodes.old, hasher.old) result (nodes.new, hasher.new) }
     ensures width { IfOk result (λ names. length names ≡ 16) }
 {
     match named {
-        Some(digest) => open_inner(alloc, nodes, hasher, at, &digest),
+        Some(digest) => open_inner(alloc, nodes, hasher, version, at, &digest),
         None => no_children(alloc),
     }
 }
@@ -55,16 +57,17 @@ fn reach_segment<N: NodeStore, H: Hasher16>(
     alloc: Global,
     nodes: &mut N,
     hasher: &mut H,
+    version: TreeVersion,
     at: Position,
     named: Option<Digest>,
 ) -> Result<Seq<Entry>, TreeError>
-    requires { IsPosition at }
+    requires { IsPosition version at }
     ensures did { Did (outside_does N.may_answer N.top_record N.fault_count H.kept H.clashes H.fulls) (outside_refuses N.may_refuse N.top_record N.fault_count H.kept H.clashes H.fulls)
-        (reach (sixteen.segment_at at) [] at named) (nodes.old, hasher.old) result (nodes.new, hasher.new) }
+        (reach ((form_of version).segment_at at) [] at named) (nodes.old, hasher.old) result (nodes.new, hasher.new) }
     ensures entries { IfOk result (λ entries. AreEntries entries) }
 {
     match named {
-        Some(digest) => open_segment(alloc, nodes, hasher, at, &digest),
+        Some(digest) => open_segment(alloc, nodes, hasher, version, at, &digest),
         None => Ok(Seq::new(Vec::new(alloc))),
     }
 }
@@ -99,15 +102,17 @@ fn store_segment<N: NodeStore, H: Hasher16>(
     alloc: Global,
     nodes: &mut N,
     hasher: &mut H,
+    version: TreeVersion,
     at: Position,
     entries: Seq<Entry>,
 ) -> Result<Digest, TreeError>
-    requires position { IsPosition at }
+    requires position { IsPosition version at }
     requires ascending { AreAbove [] entries }
     ensures { Did (outside_does N.may_answer N.top_record N.fault_count H.kept H.clashes H.fulls) (outside_refuses N.may_refuse N.top_record N.fault_count H.kept H.clashes H.fulls)
-        (store_plan (sixteen.segment_text at entries)) (nodes.old, hasher.old) result (nodes.new, hasher.new) }
+        (store_plan ((form_of version).segment_text at entries)) (nodes.old, hasher.old) result (nodes.new, hasher.new) }
 {
     let segment = Segment {
+        version,
         position: at,
         entries,
     };
@@ -120,15 +125,16 @@ fn store_inner<N: NodeStore, H: Hasher16>(
     alloc: Global,
     nodes: &mut N,
     hasher: &mut H,
+    version: TreeVersion,
     at: Position,
     names: &[Option<Digest>],
 ) -> Result<Digest, TreeError>
-    requires position { IsPosition at }
+    requires position { IsPosition version at }
     requires width { length names.now ≤ 16 }
     ensures { Did (outside_does N.may_answer N.top_record N.fault_count H.kept H.clashes H.fulls) (outside_refuses N.may_refuse N.top_record N.fault_count H.kept H.clashes H.fulls)
-        (store_plan (sixteen.inner_text at names.now)) (nodes.old, hasher.old) result (nodes.new, hasher.new) }
+        (store_plan ((form_of version).inner_text at names.now)) (nodes.old, hasher.old) result (nodes.new, hasher.new) }
 {
-    let bytes = encode_inner(alloc, at, names)?;
+    let bytes = encode_inner(alloc, version, at, names)?;
     store(alloc, nodes, hasher, bytes.as_slice())
 }
 
@@ -138,17 +144,18 @@ fn enter_in_segment<N: NodeStore, H: Hasher16>(
     alloc: Global,
     nodes: &mut N,
     hasher: &mut H,
+    version: TreeVersion,
     at: Position,
     named: Option<Digest>,
     entry: &Entry,
 ) -> Result<Digest, TreeError>
-    requires { IsPosition at }
+    requires { IsPosition version at }
     ensures { Did (outside_does N.may_answer N.top_record N.fault_count H.kept H.clashes H.fulls) (outside_refuses N.may_refuse N.top_record N.fault_count H.kept H.clashes H.fulls)
-        (enter_plan sixteen 0 at named entry.now) (nodes.old, hasher.old) result (nodes.new, hasher.new) }
+        (enter_plan (form_of version) 0 at named entry.now) (nodes.old, hasher.old) result (nodes.new, hasher.new) }
 {
-    let old = reach_segment(alloc, nodes, hasher, at, named)?;
+    let old = reach_segment(alloc, nodes, hasher, version, at, named)?;
     let new = put_into(alloc, old, entry)?;
-    store_segment(alloc, nodes, hasher, at, new)
+    store_segment(alloc, nodes, hasher, version, at, new)
 }
 
 /// Enters the entry under a node with `height` levels below it: writes the nodes on its path, the
@@ -157,27 +164,38 @@ fn enter<N: NodeStore, H: Hasher16>(
     alloc: Global,
     nodes: &mut N,
     hasher: &mut H,
+    version: TreeVersion,
     height: u8,
     at: Position,
     named: Option<Digest>,
     path: &Digest,
     entry: &Entry,
 ) -> Result<Digest, TreeError>
-    requires place { IsPlace sixteen height at }
+    requires place { IsPlace (form_of version) height at }
     requires path { path.now ≡ md5 entry.now.key }
     ensures { Did (outside_does N.may_answer N.top_record N.fault_count H.kept H.clashes H.fulls) (outside_refuses N.may_refuse N.top_record N.fault_count H.kept H.clashes H.fulls)
-        (enter_plan sixteen height at named entry.now) (nodes.old, hasher.old) result (nodes.new, hasher.new) }
+        (enter_plan (form_of version) height at named entry.now) (nodes.old, hasher.old) result (nodes.new, hasher.new) }
 {
     if height == 0 {
-        return enter_in_segment(alloc, nodes, hasher, at, named, entry);
+        return enter_in_segment(alloc, nodes, hasher, version, at, named, entry);
     }
-    let names = reach_inner(alloc, nodes, hasher, at, named)?;
+    let names = reach_inner(alloc, nodes, hasher, version, at, named)?;
     let digit = nibble(path, at.level);
     let named = name_of(names.as_slice(), digit);
     let place = child(at, digit);
-    let below = enter(alloc, nodes, hasher, height - 1, place, named, path, entry)?;
+    let below = enter(
+        alloc,
+        nodes,
+        hasher,
+        version,
+        height - 1,
+        place,
+        named,
+        path,
+        entry,
+    )?;
     let names = with_child(names, digit, below);
-    store_inner(alloc, nodes, hasher, at, names.as_slice())
+    store_inner(alloc, nodes, hasher, version, at, names.as_slice())
 }
 
 /// Enters the entry into the tree under the top record, and returns the digest of the new root.
@@ -185,15 +203,17 @@ pub(crate) fn enter_from_top<N: NodeStore, H: Hasher16>(
     alloc: Global,
     nodes: &mut N,
     hasher: &mut H,
+    version: TreeVersion,
     top: Option<Digest>,
     entry: &Entry,
 ) -> Result<Digest, TreeError>
-    ensures { Did (outside_does N.may_answer N.top_record N.fault_count H.kept H.clashes H.fulls) (outside_refuses N.may_refuse N.top_record N.fault_count H.kept H.clashes H.fulls)
-        (insert_plan sixteen top entry.now) (nodes.old, hasher.old) result (nodes.new, hasher.new) }
+    ensures did { Did (outside_does N.may_answer N.top_record N.fault_count H.kept H.clashes H.fulls) (outside_refuses N.may_refuse N.top_record N.fault_count H.kept H.clashes H.fulls)
+        (insert_plan (form_of version) top entry.now) (nodes.old, hasher.old) result (nodes.new, hasher.new) }
+    ensures kept { KeptUnlessFailed (N.top_record nodes.old) (N.top_record nodes.new) result }
 {
     let path = hash(alloc, hasher, entry.key.bytes())?;
     match top {
-        Some(digest) => publish(alloc, nodes, hasher, digest, &path, entry),
+        Some(digest) => publish(alloc, nodes, hasher, version, digest, &path, entry),
         None => Err(TreeError::Damaged(ROOT)),
     }
 }
@@ -204,15 +224,28 @@ fn publish<N: NodeStore, H: Hasher16>(
     alloc: Global,
     nodes: &mut N,
     hasher: &mut H,
+    version: TreeVersion,
     digest: Digest,
     path: &Digest,
     entry: &Entry,
 ) -> Result<Digest, TreeError>
     requires { path.now ≡ md5 entry.now.key }
-    ensures { Did (outside_does N.may_answer N.top_record N.fault_count H.kept H.clashes H.fulls) (outside_refuses N.may_refuse N.top_record N.fault_count H.kept H.clashes H.fulls)
-        (publish_plan sixteen digest entry.now) (nodes.old, hasher.old) result (nodes.new, hasher.new) }
+    ensures did { Did (outside_does N.may_answer N.top_record N.fault_count H.kept H.clashes H.fulls) (outside_refuses N.may_refuse N.top_record N.fault_count H.kept H.clashes H.fulls)
+        (publish_plan (form_of version) digest entry.now) (nodes.old, hasher.old) result (nodes.new, hasher.new) }
+    ensures kept { KeptUnlessFailed (N.top_record nodes.old) (N.top_record nodes.new) result }
 {
-    let new = enter(alloc, nodes, hasher, DEPTH, ROOT, Some(digest), path, entry)?;
+    let height = version.levels();
+    let new = enter(
+        alloc,
+        nodes,
+        hasher,
+        version,
+        height,
+        ROOT,
+        Some(digest),
+        path,
+        entry,
+    )?;
     set_top(nodes, &new)?;
     Ok(new)
 }

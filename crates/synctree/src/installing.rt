@@ -1,6 +1,7 @@
 ghost use Rattle.std.specs.Prelude.{◌≡◌, IfOk};
 ghost use Rattle.synctree.specs.Installs.{store_does, store_refuses, write_all as write_all_plan, install_plan};
 ghost use Rattle.synctree.specs.Plans.{Did};
+ghost use Rattle.synctree.specs.Records.{KeptUnlessFailed};
 
 use crate::calls::{set_top, write};
 use crate::error::TreeError;
@@ -35,6 +36,7 @@ pub(crate) fn install_all<N: NodeStore>(
     ensures did { Did (store_does N.may_answer N.top_record N.fault_count) (store_refuses N.may_refuse N.top_record N.fault_count)
         (install_plan nodes.now top.now) store.old result store.new }
     ensures top { IfOk result (λ digest. digest ≡ top.now) }
+    ensures kept { KeptUnlessFailed (N.top_record store.old) (N.top_record store.new) result }
 {
     write_all(alloc, store, nodes)?;
     set_top(store, top)?;

@@ -17,14 +17,16 @@ mod error;
 mod installing;
 mod nodes;
 mod reading;
+mod seals;
 mod shape;
 mod store;
 mod stored_node;
 mod tree;
+mod versions;
 mod walk;
 
 pub use encoding::{encode_inner, encode_segment};
 pub use error::TreeError;
-pub use shape::{DEPTH, ROOT, child, children};
+pub use shape::{ROOT, child, children, nibble};
 pub use stored_node::StoredNode;
 pub use tree::{Tree, TreeMark};

@@ -1,21 +1,22 @@
 ghost use Rattle.std.specs.Prelude.{◌≡◌, ◌-◌, ◌/◌, ◌<◌};
+ghost use Rattle.tree_node.specs.TreeVersions.{levels};
 ghost use Rattle.tree_node.specs.Positions.{IsPosition};
 ghost use Rattle.std.specs.Option.{is_some};
 ghost use Rattle.tree_node.specs.Nodes.{inner_of, segment_of};
-ghost use Rattle.tree_maps.specs.Sixteen.{sixteen, children_in, entries_in};
+ghost use Rattle.tree_maps.specs.Sixteen.{form_of, children_in, entries_in};
 ghost use Rattle.synctree.specs.Answers.{Makes};
 ghost use Rattle.synctree.specs.Outsides.{outside_does, outside_refuses};
 ghost use Rattle.synctree.specs.Plans.{Did};
 ghost use Rattle.synctree.specs.Nodes.{child_name as child_name_plan, name_at as name_plan, node_bytes as bytes_plan, is_node as encodes, node_under, node_plan};
 
 use crate::error::TreeError;
-use crate::shape::{DEPTH, ROOT, name_of};
+use crate::shape::{ROOT, name_of};
 use crate::walk::{fetch, open_inner};
 use ens_base::{Bytes, Digest};
 use ens_hashing::Hasher16;
 use ens_outside::NodeStore;
 use std::alloc::Global;
-use tree_node::{NodeError, Position, decode_inner, decode_segment};
+use tree_node::{NodeError, Position, TreeVersion, decode_inner, decode_segment};
 
 /// Returns the position of the parent.
 fn parent(at: Position) -> Position
@@ -34,15 +35,16 @@ fn child_name<N: NodeStore, H: Hasher16>(
     alloc: Global,
     nodes: &mut N,
     hasher: &mut H,
+    version: TreeVersion,
     at: Position,
     digit: u8,
     digest: &Digest,
 ) -> Result<Option<Digest>, TreeError>
-    requires { IsPosition at }
+    requires { IsPosition version at }
     ensures { Did (outside_does N.may_answer N.top_record N.fault_count H.kept H.clashes H.fulls) (outside_refuses N.may_refuse N.top_record N.fault_count H.kept H.clashes H.fulls)
-        (child_name_plan sixteen at digit digest.now) (nodes.old, hasher.old) result (nodes.new, hasher.new) }
+        (child_name_plan (form_of version) at digit digest.now) (nodes.old, hasher.old) result (nodes.new, hasher.new) }
 {
-    let names = open_inner(alloc, nodes, hasher, at, digest)?;
+    let names = open_inner(alloc, nodes, hasher, version, at, digest)?;
     Ok(name_of(names.as_slice(), digit))
 }
 
@@ -52,42 +54,54 @@ fn name_at<N: NodeStore, H: Hasher16>(
     alloc: Global,
     nodes: &mut N,
     hasher: &mut H,
+    version: TreeVersion,
     top: &Digest,
     at: Position,
 ) -> Result<Option<Digest>, TreeError>
-    requires { IsPosition at }
+    requires { IsPosition version at }
     ensures { Did (outside_does N.may_answer N.top_record N.fault_count H.kept H.clashes H.fulls) (outside_refuses N.may_refuse N.top_record N.fault_count H.kept H.clashes H.fulls)
-        (name_plan sixteen top.now at.level at.index) (nodes.old, hasher.old) result (nodes.new, hasher.new) }
+        (name_plan (form_of version) top.now at.level at.index) (nodes.old, hasher.old) result (nodes.new, hasher.new) }
 {
     if at.level == 0 {
         return Ok(Some(*top));
     }
     let above = parent(at);
     let digit = (at.index % 16) as u8;
-    match name_at(alloc, nodes, hasher, top, above)? {
-        Some(digest) => child_name(alloc, nodes, hasher, above, digit, &digest),
+    match name_at(alloc, nodes, hasher, version, top, above)? {
+        Some(digest) => child_name(alloc, nodes, hasher, version, above, digit, &digest),
         None => Ok(None),
     }
 }
 
 /// Tests whether the bytes encode a node of this position. Fails only when out of memory.
-fn is_node(alloc: Global, bytes: &[u8], at: Position) -> Result<bool, TreeError>
-    requires { IsPosition at }
-    ensures { Makes result (encodes sixteen (3 - at.level) at bytes.now) }
+fn is_node(
+    alloc: Global,
+    bytes: &[u8],
+    version: TreeVersion,
+    at: Position,
+) -> Result<bool, TreeError>
+    requires { IsPosition version at }
+    ensures { Makes result (encodes (form_of version) (levels version - at.level) at bytes.now) }
 {
-    if at.level == DEPTH {
-        is_segment(alloc, bytes, at)
+    let last = version.levels();
+    if at.level == last {
+        is_segment(alloc, bytes, version, at)
     } else {
-        is_inner(alloc, bytes, at)
+        is_inner(alloc, bytes, version, at)
     }
 }
 
 /// Tests whether the bytes encode an inner node of this position. Fails only when out of memory.
-fn is_inner(alloc: Global, bytes: &[u8], at: Position) -> Result<bool, TreeError>
-    requires { IsPosition at }
-    ensures { Makes result (is_some (children_in (inner_of at bytes.now))) }
+pub(crate) fn is_inner(
+    alloc: Global,
+    bytes: &[u8],
+    version: TreeVersion,
+    at: Position,
+) -> Result<bool, TreeError>
+    requires { IsPosition version at }
+    ensures { Makes result (is_some (children_in (inner_of version at bytes.now))) }
 {
-    match decode_inner(alloc, bytes, at) {
+    match decode_inner(alloc, bytes, at, version) {
         Ok(_node) => Ok(true),
         Err(NodeError::Memory) => Err(TreeError::Memory),
         Err(_) => Ok(false),
@@ -95,11 +109,16 @@ fn is_inner(alloc: Global, bytes: &[u8], at: Position) -> Result<bool, TreeError
 }
 
 /// Tests whether the bytes encode a segment of this position. Fails only when out of memory.
-fn is_segment(alloc: Global, bytes: &[u8], at: Position) -> Result<bool, TreeError>
-    requires { IsPosition at }
-    ensures { Makes result (is_some (entries_in (segment_of at bytes.now))) }
+fn is_segment(
+    alloc: Global,
+    bytes: &[u8],
+    version: TreeVersion,
+    at: Position,
+) -> Result<bool, TreeError>
+    requires { IsPosition version at }
+    ensures { Makes result (is_some (entries_in (segment_of version at bytes.now))) }
 {
-    match decode_segment(alloc, bytes, at) {
+    match decode_segment(alloc, bytes, at, version) {
         Ok(_node) => Ok(true),
         Err(NodeError::Memory) => Err(TreeError::Memory),
         Err(_) => Ok(false),
@@ -111,15 +130,16 @@ fn node_bytes<N: NodeStore, H: Hasher16>(
     alloc: Global,
     nodes: &mut N,
     hasher: &mut H,
+    version: TreeVersion,
     at: Position,
     digest: &Digest,
 ) -> Result<Option<Bytes>, TreeError>
-    requires { IsPosition at }
+    requires { IsPosition version at }
     ensures { Did (outside_does N.may_answer N.top_record N.fault_count H.kept H.clashes H.fulls) (outside_refuses N.may_refuse N.top_record N.fault_count H.kept H.clashes H.fulls)
-        (bytes_plan sixteen at digest.now) (nodes.old, hasher.old) result (nodes.new, hasher.new) }
+        (bytes_plan (form_of version) at digest.now) (nodes.old, hasher.old) result (nodes.new, hasher.new) }
 {
     let bytes = fetch(alloc, nodes, hasher, at, digest)?;
-    if is_node(alloc, bytes.as_slice(), at)? {
+    if is_node(alloc, bytes.as_slice(), version, at)? {
         Ok(Some(bytes))
     } else {
         Err(TreeError::Damaged(at))
@@ -132,15 +152,16 @@ fn node_at<N: NodeStore, H: Hasher16>(
     alloc: Global,
     nodes: &mut N,
     hasher: &mut H,
+    version: TreeVersion,
     top: &Digest,
     at: Position,
 ) -> Result<Option<Bytes>, TreeError>
-    requires { IsPosition at }
+    requires { IsPosition version at }
     ensures { Did (outside_does N.may_answer N.top_record N.fault_count H.kept H.clashes H.fulls) (outside_refuses N.may_refuse N.top_record N.fault_count H.kept H.clashes H.fulls)
-        (node_under sixteen at top.now) (nodes.old, hasher.old) result (nodes.new, hasher.new) }
+        (node_under (form_of version) at top.now) (nodes.old, hasher.old) result (nodes.new, hasher.new) }
 {
-    match name_at(alloc, nodes, hasher, top, at)? {
-        Some(digest) => node_bytes(alloc, nodes, hasher, at, &digest),
+    match name_at(alloc, nodes, hasher, version, top, at)? {
+        Some(digest) => node_bytes(alloc, nodes, hasher, version, at, &digest),
         None => Ok(None),
     }
 }
@@ -151,15 +172,16 @@ pub(crate) fn node_from_top<N: NodeStore, H: Hasher16>(
     alloc: Global,
     nodes: &mut N,
     hasher: &mut H,
+    version: TreeVersion,
     top: Option<Digest>,
     at: Position,
 ) -> Result<Option<Bytes>, TreeError>
-    requires { IsPosition at }
+    requires { IsPosition version at }
     ensures { Did (outside_does N.may_answer N.top_record N.fault_count H.kept H.clashes H.fulls) (outside_refuses N.may_refuse N.top_record N.fault_count H.kept H.clashes H.fulls)
-        (node_plan sixteen top at) (nodes.old, hasher.old) result (nodes.new, hasher.new) }
+        (node_plan (form_of version) top at) (nodes.old, hasher.old) result (nodes.new, hasher.new) }
 {
     match top {
-        Some(digest) => node_at(alloc, nodes, hasher, &digest, at),
+        Some(digest) => node_at(alloc, nodes, hasher, version, &digest, at),
         None => Err(TreeError::Damaged(ROOT)),
     }
 }

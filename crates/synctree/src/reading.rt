@@ -10,19 +10,20 @@ use crate::error::TreeError;
 use crate::shape::children;
 use ens_base::{Digest, Entry, Key, Seq};
 use std::alloc::Global;
-use tree_node::{NodeError, Position, decode_inner, decode_segment};
+use tree_node::{NodeError, Position, TreeVersion, decode_inner, decode_segment};
 
 /// Decodes an inner node, and returns its children. `Damaged` names `at` if the bytes are not an
 /// inner node of that position.
 pub(crate) fn inner(
     alloc: Global,
     bytes: &[u8],
+    version: TreeVersion,
     at: Position,
 ) -> Result<Seq<Option<Digest>>, TreeError>
-    requires { IsPosition at }
-    ensures { Spells result at (children_in (inner_of at bytes.now)) }
+    requires { IsPosition version at }
+    ensures { Spells result at (children_in (inner_of version at bytes.now)) }
 {
-    match decode_inner(alloc, bytes, at) {
+    match decode_inner(alloc, bytes, at, version) {
         Ok(node) => children(alloc, &node),
         Err(NodeError::Memory) => Err(TreeError::Memory),
         Err(_) => Err(TreeError::Damaged(at)),
@@ -31,12 +32,17 @@ pub(crate) fn inner(
 
 /// Decodes a segment, and returns its entries. `Damaged` names `at` if the bytes are not a segment
 /// of that position.
-pub(crate) fn segment(alloc: Global, bytes: &[u8], at: Position) -> Result<Seq<Entry>, TreeError>
-    requires { IsPosition at }
-    ensures read { Spells result at (entries_in (segment_of at bytes.now)) }
+pub(crate) fn segment(
+    alloc: Global,
+    bytes: &[u8],
+    version: TreeVersion,
+    at: Position,
+) -> Result<Seq<Entry>, TreeError>
+    requires { IsPosition version at }
+    ensures read { Spells result at (entries_in (segment_of version at bytes.now)) }
     ensures entries { IfOk result (λ entries. AreEntries entries) }
 {
-    match decode_segment(alloc, bytes, at) {
+    match decode_segment(alloc, bytes, at, version) {
         Ok(node) => Ok(node.entries),
         Err(NodeError::Memory) => Err(TreeError::Memory),
         Err(_) => Err(TreeError::Damaged(at)),

@@ -1,9 +1,11 @@
 ghost use Rattle.std.specs.Prelude.{◌≡◌, ◌≤◌, ◌<◌, ◌^◌, IfOk, IfErr, length, None, Some, set, slice_get, get_or, if◌then◌else◌};
 ghost use Rattle.md5.specs.Md5.{md5};
+ghost use Rattle.tree_node.specs.declared.version.TreeVersion.{TreeVersion};
+ghost use Rattle.tree_node.specs.declared.version.TreeVersion.TheVariants.{Two};
+ghost use Rattle.tree_node.specs.TreeVersions.{levels};
 ghost use Rattle.tree_node.specs.Positions.{IsPosition};
-ghost use Rattle.tree_node.specs.Nodes.{inner_of};
 ghost use Rattle.tree_maps.specs.Forms.{child as child_of, IsPlace};
-ghost use Rattle.tree_maps.specs.Sixteen.{sixteen, children_of, mask_of, digests_of, nibble};
+ghost use Rattle.tree_maps.specs.Sixteen.{form_of, children_of, mask_of, digests_of, nibble};
 ghost use Rattle.synctree.specs.declared.error.TreeError.TheVariants.{Memory};
 
 use crate::error::TreeError;
@@ -14,16 +16,13 @@ use tree_node::{InnerNode, Position};
 /// The number of children of an inner node.
 pub(crate) const WIDTH: usize = 16;
 
-/// The number of levels of inner nodes.
-pub const DEPTH: u8 = 3;
-
 /// The position of the root.
 pub const ROOT: Position = Position { level: 0, index: 0 };
 
 /// Returns nibble `level` of the digest, the high nibble of a byte first: at this level, a key with
 /// this digest belongs to the child of this number.
-pub(crate) fn nibble(digest: &Digest, level: u8) -> u8
-    requires { level < 4 }
+pub fn nibble(digest: &Digest, level: u8) -> u8
+    requires { level < 32 }
     ensures { result ≡ Rattle.tree_maps.specs.Sixteen.nibble digest.now level }
 {
     let byte = digest.0[(level / 2) as usize];
@@ -116,12 +115,12 @@ pub(crate) fn with_child(
     Seq::new(children)
 }
 
-/// Returns the position of child `digit`.
+/// Returns the position of child `digit`, which is the same in the tree of each version.
 pub fn child(at: Position, digit: u8) -> Position
-    requires position { IsPosition at }
-    requires above { at.level < 3 }
+    requires position { IsPosition Two at }
+    requires above { at.level < levels Two }
     requires digit { digit < 16 }
-    ensures { result ≡ child_of sixteen at digit }
+    ensures { (version : TreeVersion) → result ≡ child_of (form_of version) at digit }
 {
     Position {
         level: at.level + 1,

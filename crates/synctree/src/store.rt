@@ -1,8 +1,9 @@
 ghost use Rattle.std.specs.Prelude.{◌≡◌, ℕ, List, []};
 ghost use Rattle.md5.specs.Md5.{md5};
-ghost use Rattle.tree_maps.specs.Sixteen.{sixteen};
+ghost use Rattle.tree_maps.specs.Sixteen.{form_of};
 ghost use Rattle.synctree.specs.Outsides.{outside_does, outside_refuses};
 ghost use Rattle.synctree.specs.Plans.{Did};
+ghost use Rattle.synctree.specs.Records.{KeptUnlessFailed};
 ghost use Rattle.synctree.specs.Walks.{store as store_plan};
 ghost use Rattle.synctree.specs.Trees.{fresh_plan};
 
@@ -13,7 +14,7 @@ use ens_base::{Digest, Seq};
 use ens_hashing::Hasher16;
 use ens_outside::NodeStore;
 use std::alloc::Global;
-use tree_node::InnerNode;
+use tree_node::{InnerNode, TreeVersion};
 
 /// Writes a node under its MD5, and returns the digest.
 pub(crate) fn store<N: NodeStore, H: Hasher16>(
@@ -30,16 +31,20 @@ pub(crate) fn store<N: NodeStore, H: Hasher16>(
     Ok(digest)
 }
 
-/// Writes the root of the empty map, and then the top record. Returns the digest of the root.
+/// Writes the root of the empty map in this version, and then the top record. Returns the digest of the
+/// root.
 pub(crate) fn store_empty<N: NodeStore, H: Hasher16>(
     alloc: Global,
     nodes: &mut N,
     hasher: &mut H,
+    version: TreeVersion,
 ) -> Result<Digest, TreeError>
-    ensures { Did (outside_does N.may_answer N.top_record N.fault_count H.kept H.clashes H.fulls) (outside_refuses N.may_refuse N.top_record N.fault_count H.kept H.clashes H.fulls)
-        (fresh_plan sixteen) (nodes.old, hasher.old) result (nodes.new, hasher.new) }
+    ensures did { Did (outside_does N.may_answer N.top_record N.fault_count H.kept H.clashes H.fulls) (outside_refuses N.may_refuse N.top_record N.fault_count H.kept H.clashes H.fulls)
+        (fresh_plan (form_of version)) (nodes.old, hasher.old) result (nodes.new, hasher.new) }
+    ensures kept { KeptUnlessFailed (N.top_record nodes.old) (N.top_record nodes.new) result }
 {
     let root = InnerNode {
+        version,
         position: ROOT,
         mask: 0,
         digests: Seq::new(Vec::new(alloc)),

@@ -4,7 +4,7 @@ ghost use Rattle.tree_maps.specs.Entries.{put as put_in, lookup as found};
 ghost use Rattle.tree_node.specs.Entries.{AreEntries};
 ghost use Rattle.tree_node.specs.Positions.{IsPosition};
 ghost use Rattle.tree_maps.specs.Forms.{IsPlace};
-ghost use Rattle.tree_maps.specs.Sixteen.{sixteen};
+ghost use Rattle.tree_maps.specs.Sixteen.{form_of};
 ghost use Rattle.synctree.specs.Outsides.{outside_does, outside_refuses};
 ghost use Rattle.synctree.specs.Plans.{Did};
 ghost use Rattle.synctree.specs.Walks.{fetch as fetch_plan, open_node, find as find_plan, reach, store as store_plan, enter as enter_plan};
@@ -13,12 +13,12 @@ ghost use Rattle.synctree.specs.Trees.{get_plan};
 use crate::calls::{hash, read};
 use crate::error::TreeError;
 use crate::reading::{inner, lookup, segment};
-use crate::shape::{DEPTH, ROOT, child, name_of, nibble};
+use crate::shape::{ROOT, child, name_of, nibble};
 use ens_base::{Bytes, Digest, Entry, Key, Seq};
 use ens_hashing::Hasher16;
 use ens_outside::NodeStore;
 use std::alloc::Global;
-use tree_node::Position;
+use tree_node::{Position, TreeVersion};
 
 /// Returns the bytes stored under the digest, which is their MD5. `Damaged` names `at` if there are
 /// no such bytes.
@@ -48,15 +48,16 @@ pub(crate) fn open_inner<N: NodeStore, H: Hasher16>(
     alloc: Global,
     nodes: &mut N,
     hasher: &mut H,
+    version: TreeVersion,
     at: Position,
     digest: &Digest,
 ) -> Result<Seq<Option<Digest>>, TreeError>
-    requires { IsPosition at }
+    requires { IsPosition version at }
     ensures { Did (outside_does N.may_answer N.top_record N.fault_count H.kept H.clashes H.fulls) (outside_refuses N.may_refuse N.top_record N.fault_count H.kept H.clashes H.fulls)
-        (open_node (sixteen.inner_at at) at digest.now) (nodes.old, hasher.old) result (nodes.new, hasher.new) }
+        (open_node ((form_of version).inner_at at) at digest.now) (nodes.old, hasher.old) result (nodes.new, hasher.new) }
 {
     let bytes = fetch(alloc, nodes, hasher, at, digest)?;
-    inner(alloc, bytes.as_slice(), at)
+    inner(alloc, bytes.as_slice(), version, at)
 }
 
 /// Returns the entries of the segment under the digest.
@@ -64,16 +65,17 @@ pub(crate) fn open_segment<N: NodeStore, H: Hasher16>(
     alloc: Global,
     nodes: &mut N,
     hasher: &mut H,
+    version: TreeVersion,
     at: Position,
     digest: &Digest,
 ) -> Result<Seq<Entry>, TreeError>
-    requires { IsPosition at }
+    requires { IsPosition version at }
     ensures did { Did (outside_does N.may_answer N.top_record N.fault_count H.kept H.clashes H.fulls) (outside_refuses N.may_refuse N.top_record N.fault_count H.kept H.clashes H.fulls)
-        (open_node (sixteen.segment_at at) at digest.now) (nodes.old, hasher.old) result (nodes.new, hasher.new) }
+        (open_node ((form_of version).segment_at at) at digest.now) (nodes.old, hasher.old) result (nodes.new, hasher.new) }
     ensures entries { IfOk result (λ entries. AreEntries entries) }
 {
     let bytes = fetch(alloc, nodes, hasher, at, digest)?;
-    segment(alloc, bytes.as_slice(), at)
+    segment(alloc, bytes.as_slice(), version, at)
 }
 
 /// Returns the entry of the key in the segment under the digest.
@@ -81,15 +83,16 @@ fn find_in_segment<N: NodeStore, H: Hasher16>(
     alloc: Global,
     nodes: &mut N,
     hasher: &mut H,
+    version: TreeVersion,
     at: Position,
     digest: &Digest,
     key: &Key,
 ) -> Result<Option<Entry>, TreeError>
-    requires { IsPosition at }
+    requires { IsPosition version at }
     ensures { Did (outside_does N.may_answer N.top_record N.fault_count H.kept H.clashes H.fulls) (outside_refuses N.may_refuse N.top_record N.fault_count H.kept H.clashes H.fulls)
-        (find_plan sixteen 0 at digest.now key.now) (nodes.old, hasher.old) result (nodes.new, hasher.new) }
+        (find_plan (form_of version) 0 at digest.now key.now) (nodes.old, hasher.old) result (nodes.new, hasher.new) }
 {
-    let entries = open_segment(alloc, nodes, hasher, at, digest)?;
+    let entries = open_segment(alloc, nodes, hasher, version, at, digest)?;
     lookup(alloc, entries.as_slice(), key)
 }
 
@@ -99,26 +102,37 @@ fn find<N: NodeStore, H: Hasher16>(
     alloc: Global,
     nodes: &mut N,
     hasher: &mut H,
+    version: TreeVersion,
     height: u8,
     at: Position,
     digest: &Digest,
     path: &Digest,
     key: &Key,
 ) -> Result<Option<Entry>, TreeError>
-    requires place { IsPlace sixteen height at }
+    requires place { IsPlace (form_of version) height at }
     requires path { path.now ≡ md5 key.now }
     ensures { Did (outside_does N.may_answer N.top_record N.fault_count H.kept H.clashes H.fulls) (outside_refuses N.may_refuse N.top_record N.fault_count H.kept H.clashes H.fulls)
-        (find_plan sixteen height at digest.now key.now) (nodes.old, hasher.old) result (nodes.new, hasher.new) }
+        (find_plan (form_of version) height at digest.now key.now) (nodes.old, hasher.old) result (nodes.new, hasher.new) }
 {
     if height == 0 {
-        return find_in_segment(alloc, nodes, hasher, at, digest, key);
+        return find_in_segment(alloc, nodes, hasher, version, at, digest, key);
     }
-    let names = open_inner(alloc, nodes, hasher, at, digest)?;
+    let names = open_inner(alloc, nodes, hasher, version, at, digest)?;
     let digit = nibble(path, at.level);
     match name_of(names.as_slice(), digit) {
         Some(below) => {
             let at = child(at, digit);
-            find(alloc, nodes, hasher, height - 1, at, &below, path, key)
+            find(
+                alloc,
+                nodes,
+                hasher,
+                version,
+                height - 1,
+                at,
+                &below,
+                path,
+                key,
+            )
         }
         None => Ok(None),
     }
@@ -129,15 +143,19 @@ pub(crate) fn find_from_top<N: NodeStore, H: Hasher16>(
     alloc: Global,
     nodes: &mut N,
     hasher: &mut H,
+    version: TreeVersion,
     top: Option<Digest>,
     key: &Key,
 ) -> Result<Option<Entry>, TreeError>
     ensures { Did (outside_does N.may_answer N.top_record N.fault_count H.kept H.clashes H.fulls) (outside_refuses N.may_refuse N.top_record N.fault_count H.kept H.clashes H.fulls)
-        (get_plan sixteen top key.now) (nodes.old, hasher.old) result (nodes.new, hasher.new) }
+        (get_plan (form_of version) top key.now) (nodes.old, hasher.old) result (nodes.new, hasher.new) }
 {
     let path = hash(alloc, hasher, key.bytes())?;
+    let height = version.levels();
     match top {
-        Some(digest) => find(alloc, nodes, hasher, DEPTH, ROOT, &digest, &path, key),
+        Some(digest) => find(
+            alloc, nodes, hasher, version, height, ROOT, &digest, &path, key,
+        ),
         None => Err(TreeError::Damaged(ROOT)),
     }
 }

@@ -1,92 +1,29 @@
 -- A plan that sets the top record by its last call alone: what each of its ends leaves there.
-use Rattle.std.proofs.Common.{◌≡◌, ◌⊎◌, ℕ, zero, suc, Bool, true, false, cond, List, [], ◌∷◌, Option, None, Some, Result, Ok, Err, get_or, set, replicate, refl, sym, subst, inl, inr}
-use Rattle.md5.specs.Md5.{md5}
-use Rattle.ens_base.specs.Lists.{same_bytes}
+use Rattle.std.proofs.Common.{◌≡◌, ◌⊎◌, ℕ, List, [], Option, None, Some, Result, Ok, Err, refl, sym, subst, inl, inr}
 use Rattle.ens_base.specs.declared.entry.Entry.{Entry}
-use Rattle.ens_outside.specs.Stores.{Read, Write, Top, SetTop}
+use Rattle.ens_outside.specs.Stores.{SetTop}
 use Rattle.ens_outside.specs.Told.{StaysTold}
 use Rattle.tree_node.specs.declared.position.Position.{Position}
-use Rattle.tree_maps.specs.Entries.{put}
-use Rattle.tree_maps.specs.Forms.{Form, child, root}
-use Rattle.synctree.specs.Installs.{write_all}
-use Rattle.synctree.specs.Plans.{Call, Node, Hash, AnswerOf, Plan, Done, Broken, Ask, ◌>>=◌, Ends, Stops, Did}
-use Rattle.synctree.specs.Walks.{verified, fetch, spelled, reach, store, set_top, enter}
+use Rattle.tree_maps.specs.Forms.{Form, root}
+use Rattle.synctree.specs.Plans.{Call, Node, AnswerOf, Plan, Done, Broken, Ask, ◌>>=◌, Ends, Stops, Did}
+use Rattle.synctree.specs.Walks.{set_top}
 use Rattle.synctree.specs.declared.error.TreeError.{TreeError}
 use Rattle.synctree.specs.declared.error.TreeError.TheVariants.{Damaged, Failed, Clash, BookFull, Memory}
-use Rattle.synctree.specs.declared.stored_node.StoredNode.{StoredNode}
 use Rattle.synctree.proofs.Meaning.{ok_once, parted}
+use Rattle.synctree.proofs.Records.{told_on, SetsNone, enter_none, Sparing, still, ends_keep}
 use Rattle.tree_laws.specs.Tops.{HoldsTop, OldOrNew, LeavesTop, path_plan}
 
 -- ## Known records
-
-pub told_still : (old : Option (Option (List ℕ))) → StaysTold old old
-told_still None = tt
-told_still (Some top) = refl
-
-told_on : (a b c : Option (Option (List ℕ))) → StaysTold a b → StaysTold b c → StaysTold a c
-told_on None b c h k = tt
-told_on (Some top) b c h k = subst (λ (o : Option (Option (List ℕ))). StaysTold o c) h k
 
 told_holds : (a b c : Option (Option (List ℕ))) (digest : List ℕ) → StaysTold a b → HoldsTop b c digest → HoldsTop a c digest
 told_holds None b c digest h k = tt
 told_holds (Some top) b c digest h k = subst (λ (o : Option (Option (List ℕ))). HoldsTop o c digest) h k
 
--- ## Plans without the top record
-
--- the call does not set the top record
-abbrev pub IsOther : Call → Type 0
-IsOther (Node (Read digest)) = Unit {0}
-IsOther (Node (Write digest bytes)) = Unit {0}
-IsOther (Node Top) = Unit {0}
-IsOther (Node (SetTop digest)) = ⊥
-IsOther (Hash bytes) = Unit {0}
-
--- no call of the plan sets the top record
-abbrev pub SetsNone : {A : Type 0} → Plan A → Type 0
-SetsNone (Done x) = Unit {0}
-SetsNone (Broken at) = Unit {0}
-SetsNone (Ask call next) = IsOther call × ((a : AnswerOf call) → SetsNone (next a))
-
-none_then : {A B : Type 0} (p : Plan A) (f : A → Plan B) → SetsNone p → ((x : A) → SetsNone (f x)) → SetsNone (p >>= f)
-none_then (Done x) f n k = k x
-none_then (Broken at) f n k = tt
-none_then (Ask call next) f n k = (n.0, λ a. none_then (next a) f (n.1 a) k)
-
-tested_none : (b : Bool) (bytes : List ℕ) (at : Position) → SetsNone (cond b (Done bytes) (Broken at))
-tested_none true bytes at = tt
-tested_none false bytes at = tt
-
-verified_none : (at : Position) (digest : List ℕ) (o : Option (List ℕ)) → SetsNone (verified at digest o)
-verified_none at digest None = tt
-verified_none at digest (Some bytes) = (tt, λ _. tested_none (same_bytes (md5 bytes) digest) bytes at)
-
-spelled_none : {A : Type 0} (at : Position) (o : Option A) → SetsNone (spelled at o)
-spelled_none at None = tt
-spelled_none at (Some node) = tt
-
-reach_none : {A : Type 0} (node_at : List ℕ → Option A) (empty : A) (at : Position) (named : Option (List ℕ)) → SetsNone (reach node_at empty at named)
-reach_none node_at empty at None = tt
-reach_none node_at empty at (Some digest) = none_then (fetch at digest) (λ bytes. spelled at (node_at bytes)) (tt, verified_none at digest) (λ bytes. spelled_none at (node_at bytes))
-
-pub store_none : (bytes : List ℕ) → SetsNone (store bytes)
-store_none bytes = (tt, λ _. (tt, λ _. tt))
-
-enter_none : (F : Form) (h : ℕ) (at : Position) (named : Option (List ℕ)) (e : Entry) → SetsNone (enter F h at named e)
-enter_none F zero at named e = none_then (reach (F.segment_at at) [] at named) (λ entries. store (F.segment_text at (put e entries))) (reach_none (F.segment_at at) [] at named) (λ entries. store_none (F.segment_text at (put e entries)))
-enter_none F (suc h) at named e =
-    none_then (reach (F.inner_at at) (replicate F.width None) at named)
-    (λ names. enter F h (child F at (F.digit e.key at.level)) (get_or names (F.digit e.key at.level) None) e >>= (λ below. store (F.inner_text at (set names (F.digit e.key at.level) (Some below)))))
-    (reach_none (F.inner_at at) (replicate F.width None) at named)
-    (λ names. none_then (enter F h (child F at (F.digit e.key at.level)) (get_or names (F.digit e.key at.level) None) e) (λ below. store (F.inner_text at (set names (F.digit e.key at.level) (Some below))))
-    (enter_none F h (child F at (F.digit e.key at.level)) (get_or names (F.digit e.key at.level) None) e) (λ below. store_none (F.inner_text at (set names (F.digit e.key at.level) (Some below)))))
+-- ## The path of an entry
 
 pub path_none : (F : Form) (top : Option (List ℕ)) (e : Entry) → SetsNone (path_plan F top e)
 path_none F None e = (tt, λ _. tt)
 path_none F (Some digest) e = (tt, λ _. enter_none F F.depth root (Some digest) e)
-
-pub write_all_none : (nodes : List StoredNode) → SetsNone (write_all nodes)
-write_all_none [] = tt
-write_all_none (n ∷ ns) = (tt, λ _. write_all_none ns)
 
 -- ## The ends of a plan that sets it last
 
@@ -100,20 +37,11 @@ IsLate Memory = Unit {0}
 
 -- what a store and a hasher leave of the top record
 pub record Keeping {S : Type 0} (top : S → Option (Option (List ℕ))) (does : S → (call : Call) → AnswerOf call → S → Type 0) (refuses : S → Call → TreeError → S → Type 0) : Type 0 where
-  pub answered : (s t : S) (call : Call) (a : AnswerOf call) → IsOther call → does s call a t → StaysTold (top s) (top t)
-  pub refused : (s t : S) (call : Call) (e : TreeError) → IsOther call → refuses s call e t → StaysTold (top s) (top t)
+  pub sparing : Sparing top does refuses
   pub sets : (s t : S) (digest : List ℕ) → does s (Node (SetTop digest)) tt t → HoldsTop (top s) (top t) digest
   pub set_refused : (s t : S) (digest : List ℕ) (e : TreeError) → refuses s (Node (SetTop digest)) e t → StaysTold (top s) (top t) ⊎ (IsLate e × HoldsTop (top s) (top t) digest)
 
 module _ {S : Type 0} (top : S → Option (Option (List ℕ))) (does : S → (call : Call) → AnswerOf call → S → Type 0) (refuses : S → Call → TreeError → S → Type 0) (keeping : Keeping top does refuses) where
-  still : (s t : S) → t ≡ s → StaysTold (top s) (top t)
-  still s t same = subst (λ (u : S). StaysTold (top s) (top u)) (sym same) (told_still (top s))
-
-  ends_keep : {A : Type 0} (p : Plan A) (s t : S) (xs : List (List ℕ)) (out : Result A Position) → SetsNone p → Ends does p s xs out t → StaysTold (top s) (top t)
-  ends_keep (Done x) s t xs out n (e, is, same) = still s t same
-  ends_keep (Broken at) s t xs out n (e, is, same) = still s t same
-  ends_keep (Ask call next) s t xs out n (a, u, rest, d, e, more) = told_on (top s) (top u) (top t) (keeping.answered s u call a n.0 d) (ends_keep (next a) u t rest out (n.1 a) more)
-
   -- the plan p ended with a value, and the record holds the digest that follows from it
   record Set {A : Type 0} (p : Plan A) (g : A → List ℕ) (s t : S) (new : List ℕ) : Type 0 where
     value : A
@@ -135,13 +63,13 @@ module _ {S : Type 0} (top : S → Option (Option (List ℕ))) (does : S → (ca
         between = u;
         ends = came;
         is = ok_once new (g x) is;
-        holds = told_holds (top s) (top u) (top t) (g x) (ends_keep p s u first (Ok x) n came) (subst (λ (w : S). HoldsTop (top u) (top w) (g x)) (sym same) (keeping.sets u v (g x) d));
+        holds = told_holds (top s) (top u) (top t) (g x) (ends_keep top does refuses keeping.sparing p s u first (Ok x) n came) (subst (λ (w : S). HoldsTop (top u) (top w) (g x)) (sym same) (keeping.sets u v (g x) d));
       }
 
   broken_keeps : {A : Type 0} (p : Plan A) (g : A → List ℕ) (s t : S) (xs : List (List ℕ)) (at : Position) → SetsNone p → Ends does (p >>= (λ x. set_top (g x))) s xs (Err at) t → StaysTold (top s) (top t)
   broken_keeps (Done x) g s t xs at n (a, u, rest, d, e, (m, is, same)) = absurd cc
-  broken_keeps (Broken b) g s t xs at n (e, is, same) = still s t same
-  broken_keeps (Ask call next) g s t xs at n (a, u, rest, d, e, more) = told_on (top s) (top u) (top t) (keeping.answered s u call a n.0 d) (broken_keeps (next a) g u t rest at (n.1 a) more)
+  broken_keeps (Broken b) g s t xs at n (e, is, same) = still top does refuses keeping.sparing s t same
+  broken_keeps (Ask call next) g s t xs at n (a, u, rest, d, e, more) = told_on (top s) (top u) (top t) (keeping.sparing.answered s u call a n.0 d) (broken_keeps (next a) g u t rest at (n.1 a) more)
 
   -- the record is as it was, or the plan p ended and the digest was set
   abbrev Stopped : {A : Type 0} → Plan A → (A → List ℕ) → S → TreeError → S → Type 0
@@ -169,13 +97,13 @@ module _ {S : Type 0} (top : S → Option (Option (List ℕ))) (does : S → (ca
   )
 
   stopped : {A : Type 0} (p : Plan A) (g : A → List ℕ) (s t : S) (e : TreeError) → SetsNone p → Stops does refuses (p >>= (λ x. set_top (g x))) s e t → Stopped p g s e t
-  stopped (Done x) g s t e n (inl (m, same)) = inl (still s t same)
+  stopped (Done x) g s t e n (inl (m, same)) = inl (still top does refuses keeping.sparing s t same)
   stopped (Done x) g s t e n (inr (inl r)) = at_set x g s t e (keeping.set_refused s t (g x) e r)
   stopped (Done x) g s t e n (inr (inr (a, u, d, (m, same)))) = at_set x g s t e (inr (subst IsLate (sym m) tt, subst (λ (w : S). HoldsTop (top s) (top w) (g x)) (sym same) (keeping.sets s u (g x) d)))
-  stopped (Broken at) g s t e n (m, same) = inl (still s t same)
-  stopped (Ask call next) g s t e n (inl (m, same)) = inl (still s t same)
-  stopped (Ask call next) g s t e n (inr (inl r)) = inl (keeping.refused s t call e n.0 r)
-  stopped (Ask call next) g s t e n (inr (inr (a, u, d, more))) = further call next g s u t a e d (keeping.answered s u call a n.0 d) (stopped (next a) g u t e (n.1 a) more)
+  stopped (Broken at) g s t e n (m, same) = inl (still top does refuses keeping.sparing s t same)
+  stopped (Ask call next) g s t e n (inl (m, same)) = inl (still top does refuses keeping.sparing s t same)
+  stopped (Ask call next) g s t e n (inr (inl r)) = inl (keeping.sparing.refused s t call e n.0 r)
+  stopped (Ask call next) g s t e n (inr (inr (a, u, d, more))) = further call next g s u t a e d (keeping.sparing.answered s u call a n.0 d) (stopped (next a) g u t e (n.1 a) more)
 
   module _ {A : Type 0} (p : Plan A) (g : A → List ℕ) (s : S) (IsNew : List ℕ → Type 0) (new_is : (x : A) (xs : List (List ℕ)) (u : S) → Ends does p s xs (Ok x) u → IsNew (g x)) (none : SetsNone p) where
     early : (t : S) (e : TreeError) → (IsLate e → ⊥) → Stopped p g s e t → StaysTold (top s) (top t)

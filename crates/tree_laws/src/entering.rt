@@ -1,11 +1,12 @@
-ghost use Rattle.std.specs.Prelude.{OnOk};
+ghost use Rattle.std.specs.Prelude.{◌≡◌, OnOk};
 ghost use Rattle.std.specs.Option.{IsSomeAnd};
 ghost use Rattle.ens_base.specs.Limits.{IsBytes, IsKey, IsVersion};
 ghost use Rattle.ens_fields.specs.Entries.{IsEntry};
 ghost use Rattle.ens_fields.specs.Numbers.{IsRun};
-ghost use Rattle.tree_maps.specs.Sixteen.{sixteen};
+ghost use Rattle.tree_maps.specs.Sixteen.{form_of};
 ghost use Rattle.synctree.specs.Meanings.{Enters};
 ghost use Rattle.synctree.specs.Outsides.{outside_does};
+ghost use Rattle.synctree.specs.Records.{KeptUnlessFailed};
 ghost use Rattle.tree_laws.specs.Tops.{Entered, IsRootWith, LeavesTop};
 
 use ens_base::{Digest, Entry, Key, Version};
@@ -58,15 +59,17 @@ fn digest_fits(digest: Digest)
 /// Calls `Tree::insert`. If a map stands under the old top record, the map with the entry, if it has
 /// fewer than 2^32 entries, stands under the new one, whatever the entry is, unless a string that was
 /// hashed has the digest of a different node of the old map. `LeavesTop` says what the store's top
-/// record is after each result.
+/// record is after each result. When out of memory it is as it was.
 pub fn insert<N: NodeStore, H: Hasher16>(
     tree: &mut Tree<N>,
     alloc: Global,
     hasher: &mut H,
     entry: &Entry,
 ) -> Result<(), TreeError>
-    ensures stands { OnOk result (IsSomeAnd tree.new.top (λ new. Entered (outside_does N.may_answer N.top_record N.fault_count H.kept H.clashes H.fulls) sixteen tree.old.top entry.now (tree.old.store, hasher.old) new (tree.new.store, hasher.new))) }
-    ensures top { Enters (LeavesTop (IsRootWith (outside_does N.may_answer N.top_record N.fault_count H.kept H.clashes H.fulls) sixteen tree.old.top entry.now (tree.old.store, hasher.old)) (N.top_record tree.old.store) (N.top_record tree.new.store)) tree.old.top result tree.new.top }
+    ensures version_is { tree.new.version ≡ tree.old.version }
+    ensures stands { OnOk result (IsSomeAnd tree.new.top (λ new. Entered (outside_does N.may_answer N.top_record N.fault_count H.kept H.clashes H.fulls) (form_of tree.old.version) tree.old.top entry.now (tree.old.store, hasher.old) new (tree.new.store, hasher.new))) }
+    ensures top { Enters (LeavesTop (IsRootWith (outside_does N.may_answer N.top_record N.fault_count H.kept H.clashes H.fulls) (form_of tree.old.version) tree.old.top entry.now (tree.old.store, hasher.old)) (N.top_record tree.old.store) (N.top_record tree.new.store)) tree.old.top result tree.new.top }
+    ensures kept { KeptUnlessFailed (N.top_record tree.old.store) (N.top_record tree.new.store) result }
 {
     entries_fit(entry);
     tree.insert(alloc, hasher, entry)

@@ -3,9 +3,9 @@
 //!
 //! A store may know what its top record holds (`top_record`). A change that succeeds leaves its new
 //! digest there. After damage, a clash or a full book the record is as it was. After a failure of the
-//! store, and when out of memory, it is as it was or holds the new digest (`LeavesTop` in
-//! `specs/Tops`). That it is as it was whenever memory ran out does not follow, since a plan may run
-//! out of memory after its last call.
+//! store it is as it was or holds the new digest (`LeavesTop` in `specs/Tops`). When out of memory it is
+//! as it was: a plan may run out of memory after its last call, so that does not follow from the plan,
+//! but the calls of `synctree` say it of themselves (`KeptUnlessFailed`).
 #![tactic(auto)]
 
 mod entering;

@@ -1,4 +1,4 @@
--- Decoding what the tree of sixteen encodes gives the same node.
+-- Decoding what the tree of a version encodes gives the same node.
 use Rattle.std.proofs.Common.{◌≡◌, ℕ, zero, suc, ◌+◌, ◌*◌, ◌/◌, ◌%◌, ◌<◌, ◌≤◌, ◌^◌, Bool, true, false, cond, List, [], ◌∷◌, Option, None, Some, length, refl, ap, ◌∙◌, subst, arith}
 use Rattle.std.specs.Prelude.{slice_index, count_ones, ◌==◌}
 use Rattle.std.specs.List.{AllByRecursion}
@@ -11,6 +11,8 @@ use Rattle.ens_base.specs.declared.entry.Entry.{Entry}
 use Rattle.ens_base.specs.Lists.{bytes_cmp}
 use Rattle.ens_fields.specs.Entries.{IsEntry}
 use Rattle.tree_node.specs.declared.position.Position.{Position}
+use Rattle.tree_node.specs.declared.version.TreeVersion.{TreeVersion}
+use Rattle.tree_node.specs.TreeVersions.{levels}
 use Rattle.tree_node.specs.Positions.{IsPosition}
 use Rattle.tree_node.specs.Entries.{is_less, is_above, AreAbove, AreDigests}
 use Rattle.tree_node.specs.Nodes.{inner_spelling, segment_spelling, inner_of, segment_of}
@@ -18,7 +20,7 @@ use Rattle.tree_node.proofs.EntryLaws.{entries_valid}
 use Rattle.tree_node.proofs.NodeLaws.{inner_again, segment_again}
 use Rattle.tree_maps.specs.Entries.{IsBelowAll, Ascends, IsMap}
 use Rattle.tree_maps.specs.Forms.{IsPlace, AreNames, Laws}
-use Rattle.tree_maps.specs.Sixteen.{nibble, mask_of, digests_of, spread, children_of, inner_node, segment, children_in, entries_in, sixteen}
+use Rattle.tree_maps.specs.Sixteen.{nibble, mask_of, digests_of, spread, children_of, inner_node, segment, children_in, entries_in, form_of}
 
 spread_again : (n : ℕ) (cs : List (Option (List ℕ))) → length cs ≡ n → spread n (mask_of cs) (digests_of cs) ≡ cs
 spread_again zero [] e = refl
@@ -60,9 +62,9 @@ names_digests [] a = tt
 names_digests (None ∷ cs) a = names_digests cs a
 names_digests (Some d ∷ cs) a = (a.0, names_digests cs a.1)
 
-place_position : (h : ℕ) (at : Position) → IsPlace sixteen h at → IsPosition at
-unfolding sixteen
-place_position h at p = record { level = omega (arith, p.level); index = p.index }
+place_position : (v : TreeVersion) (h : ℕ) (at : Position) → IsPlace (form_of v) h at → IsPosition v at
+unfolding form_of
+place_position v h at p = record { level = omega (arith, p.level); index = p.index }
 
 above_less : (low key : List ℕ) → bytes_cmp low key ≡ Less → is_above low key ≡ true
 above_less low key e = ap is_less e
@@ -79,14 +81,14 @@ pub map_above : (m : List Entry) → AllByRecursion IsEntry m → Ascends m → 
 map_above [] all a = tt
 map_above (e ∷ es) all a = (key_above e.key all.0.key.size.0, above_of e.key es a.0 a.1)
 
-inner_reads : (h : ℕ) (at : Position) (cs : List (Option (List ℕ))) → IsPlace sixteen h at → length cs ≡ 16 → AreNames cs → children_in (inner_of at (inner_spelling (inner_node at cs))) ≡ Some cs
-inner_reads h at cs p l names =
-    ap children_in (inner_again at (place_position h at p) (inner_spelling (inner_node at cs)) (inner_node at cs) (record { position = place_position h at p; mask = subst (λ (n : ℕ). mask_of cs < 2 ^ n) l (mask_below cs); each = mask_ones cs; digests = names_digests cs names }) refl refl)
+inner_reads : (v : TreeVersion) (h : ℕ) (at : Position) (cs : List (Option (List ℕ))) → IsPlace (form_of v) h at → length cs ≡ 16 → AreNames cs → children_in (inner_of v at (inner_spelling (inner_node v at cs))) ≡ Some cs
+inner_reads v h at cs p l names =
+    ap children_in (inner_again v at (place_position v h at p) (inner_spelling (inner_node v at cs)) (inner_node v at cs) (record { position = place_position v h at p; mask = subst (λ (n : ℕ). mask_of cs < 2 ^ n) l (mask_below cs); each = mask_ones cs; digests = names_digests cs names }) refl refl refl)
     ∙ ap Some (children_again cs l)
 
-segment_reads : (h : ℕ) (at : Position) (es : List Entry) → IsPlace sixteen h at → IsMap es → entries_in (segment_of at (segment_spelling (segment at es))) ≡ Some es
-segment_reads h at es p ok =
-    ap entries_in (segment_again at (place_position h at p) (segment_spelling (segment at es)) (segment at es) (record { position = place_position h at p; few = ok.few; entries = entries_valid [] es (map_above es ok.entries ok.ascends) ok.entries }) refl refl)
+segment_reads : (v : TreeVersion) (h : ℕ) (at : Position) (es : List Entry) → IsPlace (form_of v) h at → IsMap es → entries_in (segment_of v at (segment_spelling (segment v at es))) ≡ Some es
+segment_reads v h at es p ok =
+    ap entries_in (segment_again v at (place_position v h at p) (segment_spelling (segment v at es)) (segment v at es) (record { position = place_position v h at p; few = ok.few; entries = entries_valid [] es (map_above es ok.entries ok.ascends) ok.entries }) refl refl refl)
 
 pub nibble_below : (digest : List ℕ) (level : ℕ) → nibble digest level < 16
 nibble_below digest level = by (level % 2 == 0)
@@ -95,14 +97,14 @@ nibble_below digest level = by (level % 2 == 0)
     by true = omega arith
     by false = omega arith
 
-pub sixteen_laws : Laws sixteen
-unfolding sixteen
-sixteen_laws = record {
+pub form_laws : (v : TreeVersion) → Laws (form_of v)
+unfolding form_of
+form_laws v = record {
   in_width = λ key level. nibble_below (md5 key) level;
-  inner_again = λ h at cs p l names. inner_reads h at cs p l names;
-  segment_again = λ h at es p ok. segment_reads h at es p ok;
+  inner_again = λ h at cs p l names. inner_reads v h at cs p l names;
+  segment_again = λ h at es p ok. segment_reads v h at es p ok;
 }
 
-pub sixteen_shape : (sixteen.width ≡ 16) × (sixteen.depth ≡ 3)
-unfolding sixteen
-sixteen_shape = (refl, refl)
+pub form_shape : (v : TreeVersion) → ((form_of v).width ≡ 16) × ((form_of v).depth ≡ levels v)
+unfolding form_of
+form_shape v = (refl, refl)

@@ -1,11 +1,14 @@
--- The tree with three levels of inner nodes, sixteen children each, above 4,096 segments.
+-- The trees that peers keep: inner nodes with sixteen children, on three or five levels by the version of
+-- the tree, above its segments.
 use Rattle.std.specs.Prelude.{ℕ, zero, suc, ◌+◌, ◌*◌, ◌/◌, ◌%◌, ◌==◌, List, [], ◌∷◌, Option, None, Some, Result, Ok, Err, slice_get, slice_index, drop, if◌then◌else◌}
 use Rattle.md5.specs.Md5.{md5}
 use Rattle.ens_base.specs.declared.entry.Entry.{Entry}
 use Rattle.tree_node.specs.declared.position.Position.{Position}
+use Rattle.tree_node.specs.declared.version.TreeVersion.{TreeVersion}
 use Rattle.tree_node.specs.declared.node.InnerNode.{InnerNode}
 use Rattle.tree_node.specs.declared.node.Segment.{Segment}
 use Rattle.tree_node.specs.declared.error.NodeError.{NodeError}
+use Rattle.tree_node.specs.TreeVersions.{levels}
 use Rattle.tree_node.specs.Nodes.{inner_spelling, segment_spelling, inner_of, segment_of}
 use Rattle.tree_maps.specs.Forms.{Form}
 
@@ -33,12 +36,12 @@ spread zero mask ds = []
 spread (suc n) mask ds = if mask % 2 == 1 then slice_get ds 0 ∷ spread n (mask / 2) (drop 1 ds) else None ∷ spread n (mask / 2) ds
 
 -- the inner node with these children
-abbrev pub inner_node : Position → List (Option (List ℕ)) → InnerNode
-inner_node at cs = record { position = at; mask = mask_of cs; digests = digests_of cs }
+abbrev pub inner_node : TreeVersion → Position → List (Option (List ℕ)) → InnerNode
+inner_node v at cs = record { version = v; position = at; mask = mask_of cs; digests = digests_of cs }
 
 -- the segment with these entries
-abbrev pub segment : Position → List Entry → Segment
-segment at es = record { position = at; entries = es }
+abbrev pub segment : TreeVersion → Position → List Entry → Segment
+segment v at es = record { version = v; position = at; entries = es }
 
 -- the sixteen children of an inner node
 unfoldable pub children_of : ℕ → List (List ℕ) → List (Option (List ℕ))
@@ -52,13 +55,14 @@ abbrev pub entries_in : Result Segment NodeError → Option (List Entry)
 entries_in (Ok s) = Some s.entries
 entries_in (Err e) = None
 
-unfoldable pub sixteen : Form
-sixteen = record {
+-- the form of the tree of this version
+unfoldable pub form_of : TreeVersion → Form
+form_of v = record {
   width = 16;
-  depth = 3;
+  depth = levels v;
   digit = λ key level. nibble (md5 key) level;
-  inner_text = λ at cs. inner_spelling (inner_node at cs);
-  inner_at = λ at bytes. children_in (inner_of at bytes);
-  segment_text = λ at es. segment_spelling (segment at es);
-  segment_at = λ at bytes. entries_in (segment_of at bytes);
+  inner_text = λ at cs. inner_spelling (inner_node v at cs);
+  inner_at = λ at bytes. children_in (inner_of v at bytes);
+  segment_text = λ at es. segment_spelling (segment v at es);
+  segment_at = λ at bytes. entries_in (segment_of v at bytes);
 }

@@ -2,16 +2,18 @@ ghost use Rattle.std.specs.Prelude.{◌≡◌, ℕ, List};
 ghost use Rattle.ens_base.specs.declared.entry.Entry.{Entry};
 ghost use Rattle.tree_maps.specs.Forms.{root, Laws};
 ghost use Rattle.tree_maps.specs.Maps.{Stands, NodesApart};
-ghost use Rattle.tree_maps.specs.Sixteen.{sixteen};
+ghost use Rattle.tree_maps.specs.Sixteen.{form_of};
+ghost use Rattle.tree_node.specs.TreeVersions.{levels};
+ghost use Rattle.tree_node.specs.declared.version.TreeVersion.{TreeVersion};
 
-/// At most one map stands under a digest, unless a node of one map and a different node of the
+/// In the tree of each version at most one map stands under a digest, unless a node of one map and a different node of the
 /// other have the same digest.
 pub fn one_map_stands()
-    ensures { (d : List ℕ) (m n : List Entry) → Stands sixteen d m → Stands sixteen d n → NodesApart sixteen sixteen.depth root m n → m ≡ n }
+    ensures { (v : TreeVersion) (d : List ℕ) (m n : List Entry) → Stands (form_of v) d m → Stands (form_of v) d n → NodesApart (form_of v) (form_of v).depth root m n → m ≡ n }
 {}
 
-/// In the tree of sixteen, what a node spells is read again, and each key goes to one child.
+/// In the tree of each version, what a node spells is read again, and each key goes to one child.
 pub fn nodes_are_read_again()
-    ensures laws { Laws sixteen }
-    ensures shape { (sixteen.width ≡ 16) × (sixteen.depth ≡ 3) }
+    ensures laws { (v : TreeVersion) → Laws (form_of v) }
+    ensures shape { (v : TreeVersion) → ((form_of v).width ≡ 16) × ((form_of v).depth ≡ levels v) }
 {}

@@ -3,7 +3,7 @@
 //! The form of a tree says how many children an inner node has, how many levels there are, and how
 //! nodes are encoded. A map from keys to entries stands under a digest if the tree of the map, in
 //! which each node is named by its MD5, has this digest at its root. `specs/Maps.antt` defines
-//! this, and `specs/Sixteen.antt` the form of the tree that peers keep. Each law is a function
+//! this, and `specs/Sixteen.antt` the form of the tree that peers keep, in each version. Each law is a function
 //! without effect.
 #![tactic(auto)]
 

@@ -1,4 +1,5 @@
 pub mod RepeatLaws
+pub mod TreeVersionLaws
 pub mod PositionLaws
 pub mod EntryLaws
 pub mod NodeLaws

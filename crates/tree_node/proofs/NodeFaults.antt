@@ -12,23 +12,25 @@ use Rattle.ens_fields.proofs.FieldLaws.{key_grammar, version_grammar}
 use Rattle.ens_fields.proofs.FirstFaultLaws.{Faults, IsRule, faultless, faults_then, faults_last}
 use Rattle.ens_fields.proofs.FieldFaults.{or_else, rejects, byte_faults, number_faults, run_faults, key_faults, version_faults}
 use Rattle.tree_node.specs.declared.position.Position.{Position}
+use Rattle.tree_node.specs.declared.version.TreeVersion.{TreeVersion}
 use Rattle.tree_node.specs.Repeats.{list_at}
+use Rattle.tree_node.specs.TreeVersions.{levels}
 use Rattle.tree_node.specs.Positions.{level_at, index_at, position_at, any_position_at}
 use Rattle.tree_node.specs.Entries.{is_above, rest_at, next_at, entries_at, IsNext, digests_at}
 use Rattle.tree_node.proofs.PositionLaws.{level_grammar}
 use Rattle.tree_node.proofs.EntryLaws.{next_grammar}
 
-level_faults : Faults fields.Short IsRule level_at
+level_faults : (v : TreeVersion) → Faults fields.Short IsRule (level_at v)
 unfolding level_at
-level_faults = faults_then byte_grammar (byte_faults IsRule) _ (λ level start. or_else 1 start (nat_le level 3) (faultless level) (rejects 1 start (fields.Rule start) (omega arith) refl))
+level_faults v = faults_then byte_grammar (byte_faults IsRule) _ (λ level start. or_else 1 start (nat_le level (levels v)) (faultless level) (rejects 1 start (fields.Rule start) (omega arith) refl))
 
 index_faults : (level : ℕ) → Faults fields.Short IsRule (index_at level)
 unfolding index_at
 index_faults level = faults_then u32_grammar (number_faults IsRule 4) _ (λ index start. or_else 4 start (nat_lt index (16 ^ level)) (faultless index) (rejects 4 start (fields.Rule start) (omega arith) refl))
 
-pub position_faults : Faults fields.Short IsRule position_at
+pub position_faults : (v : TreeVersion) → Faults fields.Short IsRule (position_at v)
 unfolding position_at
-position_faults = faults_then level_grammar level_faults _ (λ level start. inl (faults_last (index_faults level) (λ index. let made : Position = record { level = level; index = index } in made)))
+position_faults v = faults_then (level_grammar v) (level_faults v) _ (λ level start. inl (faults_last (index_faults level) (λ index. let made : Position = record { level = level; index = index } in made)))
 
 pub any_position_faults : (IsBroken : ℕ → FieldError → Type 0) → Faults fields.Short IsBroken any_position_at
 unfolding any_position_at

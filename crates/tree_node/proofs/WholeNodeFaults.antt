@@ -10,10 +10,12 @@ use Rattle.ens_fields.proofs.NumberLaws.{byte_grammar, u16_grammar, u32_grammar}
 use Rattle.ens_fields.proofs.FirstFaultLaws.{IsOne, Faults, IsRule, err_is, ok_no_err, faultless, faults_then, faults_last, faults_as, none_begins}
 use Rattle.ens_fields.proofs.FieldFaults.{or_else, rejects, byte_faults, number_faults}
 use Rattle.tree_node.specs.declared.position.Position.{Position}
+use Rattle.tree_node.specs.declared.version.TreeVersion.{TreeVersion}
 use Rattle.tree_node.specs.declared.node.InnerNode.{InnerNode}
 use Rattle.tree_node.specs.declared.node.Segment.{Segment}
 use Rattle.tree_node.specs.declared.error.NodeError.{NodeError}
 use Rattle.tree_node.specs.declared.error.NodeError.TheVariants.{Short, Trailing, Order, Position as OtherPosition, Memory, BadTag}
+use Rattle.tree_node.specs.TreeVersions.{inner_tag, segment_tag}
 use Rattle.tree_node.specs.Positions.{IsPosition, same_position}
 use Rattle.tree_node.specs.Nodes.{IsInner, inner_spelling, IsSegment, segment_spelling, ended, ordered, asked_at, inner_fields_at, inner_at, segment_fields_at, segment_at}
 use Rattle.tree_node.specs.FirstFaults.{BreaksNode, IsFirstOfNode, NodeFaultsFirst}
@@ -78,27 +80,27 @@ asked_faults : (asked : Position) → Faults too_short at_rule (asked_at asked)
 unfolding asked_at
 asked_faults asked = faults_then (ended_grammar any_grammar) (ended_faults (any_position_faults (λ _ _. ⊥))) _ (λ position start. or_else _ start (same_position position asked) (faultless position) (rejects _ start OtherPosition (omega arith) tt))
 
-inner_fields_faults : (asked : Position) → IsPosition asked → Faults too_short at_rule (inner_fields_at asked)
+inner_fields_faults : (v : TreeVersion) (asked : Position) → IsPosition v asked → Faults too_short at_rule (inner_fields_at v asked)
 unfolding inner_fields_at
-inner_fields_faults asked ok =
-    faults_then (asked_grammar asked ok) (asked_faults asked) _ (λ position start. inl
+inner_fields_faults v asked ok =
+    faults_then (asked_grammar v asked ok) (asked_faults asked) _ (λ position start. inl
     (faults_then (ended_grammar u16_grammar) (ended_faults (number_faults (λ _ _. ⊥) 2)) _ (λ mask start. inl
-    (faults_last (ended_faults (digests_faults (λ _ _. ⊥) (count_ones mask))) (λ digests. let made : InnerNode = record { position = position; mask = mask; digests = digests } in made)))))
+    (faults_last (ended_faults (digests_faults (λ _ _. ⊥) (count_ones mask))) (λ digests. let made : InnerNode = record { version = v; position = position; mask = mask; digests = digests } in made)))))
 
-inner_faults : (asked : Position) → IsPosition asked → Faults too_short at_rule (inner_at asked)
+inner_faults : (v : TreeVersion) (asked : Position) → IsPosition v asked → Faults too_short at_rule (inner_at v asked)
 unfolding inner_at
-inner_faults asked ok = faults_then (ended_grammar byte_grammar) (ended_faults (byte_faults (λ _ _. ⊥))) _ (λ tag start. or_else 1 start (eqb tag 1) (inner_fields_faults asked ok) (rejects 1 start BadTag (omega arith) tt))
+inner_faults v asked ok = faults_then (ended_grammar byte_grammar) (ended_faults (byte_faults (λ _ _. ⊥))) _ (λ tag start. or_else 1 start (eqb tag (inner_tag v)) (inner_fields_faults v asked ok) (rejects 1 start BadTag (omega arith) tt))
 
-segment_fields_faults : (asked : Position) → IsPosition asked → Faults too_short at_rule (segment_fields_at asked)
+segment_fields_faults : (v : TreeVersion) (asked : Position) → IsPosition v asked → Faults too_short at_rule (segment_fields_at v asked)
 unfolding segment_fields_at
-segment_fields_faults asked ok =
-    faults_then (asked_grammar asked ok) (asked_faults asked) _ (λ position start. inl
+segment_fields_faults v asked ok =
+    faults_then (asked_grammar v asked ok) (asked_faults asked) _ (λ position start. inl
     (faults_then (ended_grammar u32_grammar) (ended_faults (number_faults (λ _ _. ⊥) 4)) _ (λ count start. inl
-    (faults_last (ordered_faults (entries_faults count)) (λ entries. let made : Segment = record { position = position; entries = entries } in made)))))
+    (faults_last (ordered_faults (entries_faults count)) (λ entries. let made : Segment = record { version = v; position = position; entries = entries } in made)))))
 
-segment_faults : (asked : Position) → IsPosition asked → Faults too_short at_rule (segment_at asked)
+segment_faults : (v : TreeVersion) (asked : Position) → IsPosition v asked → Faults too_short at_rule (segment_at v asked)
 unfolding segment_at
-segment_faults asked ok = faults_then (ended_grammar byte_grammar) (ended_faults (byte_faults (λ _ _. ⊥))) _ (λ tag start. or_else 1 start (eqb tag 2) (segment_fields_faults asked ok) (rejects 1 start BadTag (omega arith) tt))
+segment_faults v asked ok = faults_then (ended_grammar byte_grammar) (ended_faults (byte_faults (λ _ _. ⊥))) _ (λ tag start. or_else 1 start (eqb tag (segment_tag v)) (segment_fields_faults v asked ok) (rejects 1 start BadTag (omega arith) tt))
 
 node_faults : {A : Type 0} {IsValid : A → Type 0} {spelling : A → List ℕ} {read : Reader A NodeError} → IsGrammar IsValid spelling read → Faults too_short at_rule read → NodeFaultsFirst IsValid spelling read
 node_faults {A = A} {IsValid = IsValid} {spelling = spelling} {read = read} g f bytes at e fits le h = by e (f.one bytes at e fits le h)
@@ -115,8 +117,8 @@ node_faults {A = A} {IsValid = IsValid} {spelling = spelling} {read = read} g f 
     by e (inl s) = subst (IsFirstOfNode IsValid spelling read bytes at) (sym s.1) (s.0, subst (EndsInside read bytes at s.0) s.1 s.2)
     by e (inr b) = ruled e b.2 (record { place = b.0; end = b.1; breaks = b.3; none = none_begins g bytes at b.0 b.1 e b.3 })
 
-pub inner_first : (asked : Position) → IsPosition asked → (g : IsGrammar (λ n. IsInner n × (n.position ≡ asked)) inner_spelling (inner_at asked)) → NodeFaultsFirst (λ n. IsInner n × (n.position ≡ asked)) inner_spelling (inner_at asked)
-inner_first asked ok g = node_faults g (inner_faults asked ok)
+pub inner_first : (v : TreeVersion) (asked : Position) → IsPosition v asked → (g : IsGrammar (λ n. IsInner n × (n.version ≡ v) × (n.position ≡ asked)) inner_spelling (inner_at v asked)) → NodeFaultsFirst (λ n. IsInner n × (n.version ≡ v) × (n.position ≡ asked)) inner_spelling (inner_at v asked)
+inner_first v asked ok g = node_faults g (inner_faults v asked ok)
 
-pub segment_first : (asked : Position) → IsPosition asked → (g : IsGrammar (λ s. IsSegment s × (s.position ≡ asked)) segment_spelling (segment_at asked)) → NodeFaultsFirst (λ s. IsSegment s × (s.position ≡ asked)) segment_spelling (segment_at asked)
-segment_first asked ok g = node_faults g (segment_faults asked ok)
+pub segment_first : (v : TreeVersion) (asked : Position) → IsPosition v asked → (g : IsGrammar (λ s. IsSegment s × (s.version ≡ v) × (s.position ≡ asked)) segment_spelling (segment_at v asked)) → NodeFaultsFirst (λ s. IsSegment s × (s.version ≡ v) × (s.position ≡ asked)) segment_spelling (segment_at v asked)
+segment_first v asked ok g = node_faults g (segment_faults v asked ok)

@@ -1,4 +1,5 @@
 pub mod Repeats
+pub mod TreeVersions
 pub mod Positions
 pub mod Entries
 pub mod Nodes

@@ -6,33 +6,35 @@ use Rattle.ens_fields.specs.declared.field_error.FieldError.TheVariants as field
 use Rattle.ens_base.specs.Results.{◌>>=◌}
 use Rattle.ens_fields.specs.Numbers.{byte_at, number_at}
 use Rattle.tree_node.specs.declared.position.Position.{Position}
+use Rattle.tree_node.specs.declared.version.TreeVersion.{TreeVersion}
 use Rattle.tree_node.specs.declared.node.InnerNode.{InnerNode}
 use Rattle.tree_node.specs.declared.node.Segment.{Segment}
 use Rattle.tree_node.specs.declared.error.NodeError.{NodeError}
 use Rattle.tree_node.specs.declared.error.NodeError.TheVariants.{Short, Trailing, Order, Position as OtherPosition, Memory, BadTag}
+use Rattle.tree_node.specs.TreeVersions.{inner_tag, segment_tag}
 use Rattle.tree_node.specs.Positions.{IsPosition, position_spelling, any_position_at, same_position}
 use Rattle.tree_node.specs.Entries.{AreEntries, entries_spelling, entries_at, AreDigests, digests_spelling, digests_at}
 
 -- one digest for each bit of the mask, that of the lowest bit first
 pub record IsInner (n : InnerNode) : Type 0 where
-  pub position : IsPosition n.position
+  pub position : IsPosition n.version n.position
   pub mask : n.mask < 2 ^ 16
   pub each : length n.digests ≡ count_ones n.mask
   pub digests : AreDigests n.digests
 
--- the tag 1, the position, the mask, and the digests
+-- the tag, the position, the mask, and the digests
 abbrev pub inner_spelling : InnerNode → List ℕ
-inner_spelling n = 1 ∷ [] ++ position_spelling n.position ++ big_bytes 2 n.mask ++ digests_spelling n.digests
+inner_spelling n = inner_tag n.version ∷ [] ++ position_spelling n.position ++ big_bytes 2 n.mask ++ digests_spelling n.digests
 
 -- entries whose keys ascend strictly
 pub record IsSegment (s : Segment) : Type 0 where
-  pub position : IsPosition s.position
+  pub position : IsPosition s.version s.position
   pub few : length s.entries < 2 ^ 32
   pub entries : AreEntries s.entries
 
--- the tag 2, the position, four bytes for how many entries, and the entries
+-- the tag, the position, four bytes for how many entries, and the entries
 abbrev pub segment_spelling : Segment → List ℕ
-segment_spelling s = 2 ∷ [] ++ position_spelling s.position ++ big_bytes 4 (length s.entries) ++ entries_spelling s.entries
+segment_spelling s = segment_tag s.version ∷ [] ++ position_spelling s.position ++ big_bytes 4 (length s.entries) ++ entries_spelling s.entries
 
 -- the same answer of a field that has no rule of its own
 abbrev pub ended : {X : Type 0} → Result X FieldError → Result X NodeError
@@ -55,32 +57,32 @@ asked_at asked bytes at = do
   if same_position position.0 asked then Ok position else Err OtherPosition
 
 -- what follows the tag of an inner node
-unfoldable pub inner_fields_at : Position → List ℕ → ℕ → Result (InnerNode × ℕ) NodeError
-inner_fields_at asked bytes at = do
+unfoldable pub inner_fields_at : TreeVersion → Position → List ℕ → ℕ → Result (InnerNode × ℕ) NodeError
+inner_fields_at v asked bytes at = do
   position ← asked_at asked bytes at
   mask ← ended (number_at 2 bytes position.1)
   digests ← ended (digests_at (count_ones mask.0) bytes mask.1)
-  Ok (record { position = position.0; mask = mask.0; digests = digests.0 }, digests.1)
+  Ok (record { version = v; position = position.0; mask = mask.0; digests = digests.0 }, digests.1)
 
--- the inner node of this position
-unfoldable pub inner_at : Position → List ℕ → ℕ → Result (InnerNode × ℕ) NodeError
-inner_at asked bytes at = do
+-- the inner node of this position in the tree of this version
+unfoldable pub inner_at : TreeVersion → Position → List ℕ → ℕ → Result (InnerNode × ℕ) NodeError
+inner_at v asked bytes at = do
   tag ← ended (byte_at bytes at)
-  if tag.0 == 1 then inner_fields_at asked bytes tag.1 else Err BadTag
+  if tag.0 == inner_tag v then inner_fields_at v asked bytes tag.1 else Err BadTag
 
 -- what follows the tag of a segment
-unfoldable pub segment_fields_at : Position → List ℕ → ℕ → Result (Segment × ℕ) NodeError
-segment_fields_at asked bytes at = do
+unfoldable pub segment_fields_at : TreeVersion → Position → List ℕ → ℕ → Result (Segment × ℕ) NodeError
+segment_fields_at v asked bytes at = do
   position ← asked_at asked bytes at
   count ← ended (number_at 4 bytes position.1)
   entries ← ordered (entries_at count.0 bytes count.1)
-  Ok (record { position = position.0; entries = entries.0 }, entries.1)
+  Ok (record { version = v; position = position.0; entries = entries.0 }, entries.1)
 
--- the segment of this position
-unfoldable pub segment_at : Position → List ℕ → ℕ → Result (Segment × ℕ) NodeError
-segment_at asked bytes at = do
+-- the segment of this position in the tree of this version
+unfoldable pub segment_at : TreeVersion → Position → List ℕ → ℕ → Result (Segment × ℕ) NodeError
+segment_at v asked bytes at = do
   tag ← ended (byte_at bytes at)
-  if tag.0 == 2 then segment_fields_at asked bytes tag.1 else Err BadTag
+  if tag.0 == segment_tag v then segment_fields_at v asked bytes tag.1 else Err BadTag
 
 -- what was read, if it is all there is
 abbrev pub all_of : {X : Type 0} → Result (X × ℕ) NodeError → ℕ → Result X NodeError
@@ -88,11 +90,11 @@ all_of (Ok x) size = if x.1 == size then Ok x.0 else Err Trailing
 all_of (Err e) size = Err e
 
 -- the node of this position that the bytes spell, or the first fault from the left
-abbrev pub inner_of : Position → List ℕ → Result InnerNode NodeError
-inner_of asked bytes = all_of (inner_at asked bytes 0) (length bytes)
+abbrev pub inner_of : TreeVersion → Position → List ℕ → Result InnerNode NodeError
+inner_of v asked bytes = all_of (inner_at v asked bytes 0) (length bytes)
 
-abbrev pub segment_of : Position → List ℕ → Result Segment NodeError
-segment_of asked bytes = all_of (segment_at asked bytes 0) (length bytes)
+abbrev pub segment_of : TreeVersion → Position → List ℕ → Result Segment NodeError
+segment_of v asked bytes = all_of (segment_at v asked bytes 0) (length bytes)
 
 abbrev pub Fails : {X : Type 0} → NodeError → Result X NodeError → Type 0
 Fails Memory read = Unit {0}

@@ -30,26 +30,26 @@ fn with_room(alloc: Global, room: usize) -> Result<Vec<u8>, NodeError>
 }
 
 fn append_inner(x: &InnerNode, out: &mut Vec<u8>) -> Result<(), FieldError>
-    requires { IsPosition x.now.position }
+    requires { IsPosition x.now.version x.now.position }
     ensures ok { OnOk result (out.new.items ≡ out.old.items ++ inner_spelling x.now) }
     ensures valid { OnOk result ((x.now.mask < 2 ^ 16) × AreDigests x.now.digests) }
     ensures memory { IfErr result (λ e. e ≡ FieldError.Memory) }
 {
-    put_u8(1, out)?;
+    put_u8(x.version.inner_tag(), out)?;
     put_position(&x.position, out)?;
     put_u16(x.mask, out)?;
     append_digests(x.digests.as_slice(), out)
 }
 
 fn append_segment(x: &Segment, out: &mut Vec<u8>) -> Result<(), FieldError>
-    requires position { IsPosition x.now.position }
+    requires position { IsPosition x.now.version x.now.position }
     requires few { length x.now.entries < 2 ^ 32 }
     ensures ok { OnOk result (out.new.items ≡ out.old.items ++ segment_spelling x.now) }
     ensures valid { OnOk result (AllByRecursion IsEntry x.now.entries) }
     ensures memory { IfErr result (λ e. e ≡ FieldError.Memory) }
 {
     let entries = x.entries.as_slice();
-    put_u8(2, out)?;
+    put_u8(x.version.segment_tag(), out)?;
     put_position(&x.position, out)?;
     put_u32(entries.len() as u32, out)?;
     append_entries(entries, out)
@@ -59,10 +59,10 @@ impl InnerNode {
     /// The spelling of the node, which has one digest for each set bit of its mask. [`decode_inner`]
     /// reads it again.
     pub fn encode(&self, alloc: Global) -> Result<Vec<u8>, NodeError>
-        requires position { IsPosition self.now.position }
+        requires position { IsPosition self.now.version self.now.position }
         requires each { length self.now.digests ≡ count_ones self.now.mask }
         ensures ok { IfOk result (λ v. v.items ≡ inner_spelling self.now) }
-        ensures again { IfOk result (λ v. inner_of self.now.position v.items ≡ Ok self.now) }
+        ensures again { IfOk result (λ v. inner_of self.now.version self.now.position v.items ≡ Ok self.now) }
         ensures memory { IfErr result (λ e. e ≡ NodeError.Memory) }
     {
         let mut out = with_room(alloc, WIDEST_INNER)?;
@@ -76,11 +76,11 @@ impl InnerNode {
 impl Segment {
     /// The spelling of the segment, whose keys strictly ascend. [`decode_segment`] reads it again.
     pub fn encode(&self, alloc: Global) -> Result<Vec<u8>, NodeError>
-        requires position { IsPosition self.now.position }
+        requires position { IsPosition self.now.version self.now.position }
         requires few { length self.now.entries < 2 ^ 32 }
         requires ascending { AreAbove [] self.now.entries }
         ensures ok { IfOk result (λ v. v.items ≡ segment_spelling self.now) }
-        ensures again { IfOk result (λ v. segment_of self.now.position v.items ≡ Ok self.now) }
+        ensures again { IfOk result (λ v. segment_of self.now.version self.now.position v.items ≡ Ok self.now) }
         ensures memory { IfErr result (λ e. e ≡ NodeError.Memory) }
     {
         let mut out = with_room(alloc, USUAL_SEGMENT)?;

@@ -1,4 +1,5 @@
 use crate::position::Position;
+use crate::version::TreeVersion;
 use ens_base::{Digest, Entry, Seq};
 
 /// An inner node: bit c of the mask says whether child c exists, and the digests are those of the children
@@ -6,6 +7,7 @@ use ens_base::{Digest, Entry, Seq};
 /// 16 * index + c).
 #[derive(Debug, Drop)]
 pub struct InnerNode {
+    pub version: TreeVersion,
     pub position: Position,
     pub mask: u16,
     pub digests: Seq<Digest>,
@@ -14,6 +16,7 @@ pub struct InnerNode {
 /// A segment: entries whose keys strictly ascend.
 #[derive(Debug, Drop)]
 pub struct Segment {
+    pub version: TreeVersion,
     pub position: Position,
     pub entries: Seq<Entry>,
 }

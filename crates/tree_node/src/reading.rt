@@ -3,6 +3,7 @@ ghost use Rattle.ens_fields.specs.Numbers.{byte_at, number_at};
 ghost use Rattle.ens_fields.specs.Faults.{BreaksNoRule};
 ghost use Rattle.tree_node.specs.declared.node.InnerNode.{InnerNode};
 ghost use Rattle.tree_node.specs.declared.node.Segment.{Segment};
+ghost use Rattle.tree_node.specs.TreeVersions.{inner_tag, segment_tag};
 ghost use Rattle.tree_node.specs.Positions.{IsPosition, any_position_at};
 ghost use Rattle.tree_node.specs.Entries.{entries_at, digests_at};
 ghost use Rattle.tree_node.specs.Nodes.{IsInner, inner_spelling, IsSegment, segment_spelling, ended as unruled, ordered as by_order, asked_at, inner_fields_at, inner_at, segment_fields_at, segment_at, all_of, inner_of, segment_of, Answers};
@@ -11,6 +12,7 @@ use crate::entries::{take_digests, take_entries};
 use crate::error::NodeError;
 use crate::node::{InnerNode, Segment};
 use crate::position::{Position, take_any_position};
+use crate::version::TreeVersion;
 use ens_base::{Digest, Entry, Seq};
 use ens_fields::{FieldError, take_u8, take_u16, take_u32};
 use std::alloc::Global;
@@ -84,12 +86,13 @@ fn read_entries(
 #[tactic(auto, unfolding(crate::specs::Nodes::inner_fields_at))]
 fn read_inner_fields(
     alloc: Global,
+    version: TreeVersion,
     asked: Position,
     bytes: &[u8],
     at: usize,
 ) -> Result<(InnerNode, usize), NodeError>
     requires { at ≤ length bytes.now }
-    ensures exact { Answers result (inner_fields_at asked bytes.now at) }
+    ensures exact { Answers result (inner_fields_at version asked bytes.now at) }
     ensures within { IfOk result (λ x. x.1 ≤ length bytes.now) }
 {
     let (position, at) = read_position(asked, bytes, at)?;
@@ -97,6 +100,7 @@ fn read_inner_fields(
     let (digests, at) = read_digests(alloc, mask.count_ones(), bytes, at)?;
     Ok((
         InnerNode {
+            version,
             position,
             mask,
             digests,
@@ -106,41 +110,61 @@ fn read_inner_fields(
 }
 
 #[tactic(auto, unfolding(crate::specs::Nodes::inner_at))]
-fn read_inner(alloc: Global, asked: Position, bytes: &[u8]) -> Result<(InnerNode, usize), NodeError>
-    ensures exact { Answers result (inner_at asked bytes.now 0) }
+fn read_inner(
+    alloc: Global,
+    version: TreeVersion,
+    asked: Position,
+    bytes: &[u8],
+) -> Result<(InnerNode, usize), NodeError>
+    ensures exact { Answers result (inner_at version asked bytes.now 0) }
 {
     let (tag, at) = ended(take_u8(bytes, 0))?;
-    match tag {
-        1 => read_inner_fields(alloc, asked, bytes, at),
-        _ => Err(NodeError::BadTag),
+    if tag == version.inner_tag() {
+        read_inner_fields(alloc, version, asked, bytes, at)
+    } else {
+        Err(NodeError::BadTag)
     }
 }
 
 #[tactic(auto, unfolding(crate::specs::Nodes::segment_fields_at))]
 fn read_segment_fields(
     alloc: Global,
+    version: TreeVersion,
     asked: Position,
     bytes: &[u8],
     at: usize,
 ) -> Result<(Segment, usize), NodeError>
     requires { at ≤ length bytes.now }
-    ensures exact { Answers result (segment_fields_at asked bytes.now at) }
+    ensures exact { Answers result (segment_fields_at version asked bytes.now at) }
     ensures within { IfOk result (λ x. x.1 ≤ length bytes.now) }
 {
     let (position, at) = read_position(asked, bytes, at)?;
     let (count, at) = ended(take_u32(bytes, at))?;
     let (entries, at) = read_entries(alloc, count, bytes, at)?;
-    Ok((Segment { position, entries }, at))
+    Ok((
+        Segment {
+            version,
+            position,
+            entries,
+        },
+        at,
+    ))
 }
 
 #[tactic(auto, unfolding(crate::specs::Nodes::segment_at))]
-fn read_segment(alloc: Global, asked: Position, bytes: &[u8]) -> Result<(Segment, usize), NodeError>
-    ensures exact { Answers result (segment_at asked bytes.now 0) }
+fn read_segment(
+    alloc: Global,
+    version: TreeVersion,
+    asked: Position,
+    bytes: &[u8],
+) -> Result<(Segment, usize), NodeError>
+    ensures exact { Answers result (segment_at version asked bytes.now 0) }
 {
     let (tag, at) = ended(take_u8(bytes, 0))?;
-    match tag {
-        2 => read_segment_fields(alloc, asked, bytes, at),
-        _ => Err(NodeError::BadTag),
+    if tag == version.segment_tag() {
+        read_segment_fields(alloc, version, asked, bytes, at)
+    } else {
+        Err(NodeError::BadTag)
     }
 }
 
@@ -160,32 +184,42 @@ fn if_all<T: Drop>(read: Result<(T, usize), NodeError>, size: usize) -> Result<T
     }
 }
 
-/// Returns the inner node at position `at` that the bytes spell, all of them, or the first fault from the
-/// left.
-pub fn decode_inner(alloc: Global, bytes: &[u8], at: Position) -> Result<InnerNode, NodeError>
-    requires { IsPosition at }
+/// Returns the inner node at position `at` of the tree of this version that the bytes spell, all of them,
+/// or the first fault from the left. A node of the other version has another tag.
+pub fn decode_inner(
+    alloc: Global,
+    bytes: &[u8],
+    at: Position,
+    version: TreeVersion,
+) -> Result<InnerNode, NodeError>
+    requires { IsPosition version at }
     // What is read was spelled so.
-    ensures found { IfOk result (λ n. IsInner n × (n.position ≡ at) × (bytes.now ≡ inner_spelling n)) }
+    ensures found { IfOk result (λ n. IsInner n × (n.version ≡ version) × (n.position ≡ at) × (bytes.now ≡ inner_spelling n)) }
     // What is spelled so is read, unless memory runs out.
-    ensures only { (n : InnerNode) → IsInner n → n.position ≡ at → bytes.now ≡ inner_spelling n → Answers result (Ok n) }
+    ensures only { (n : InnerNode) → IsInner n → n.version ≡ version → n.position ≡ at → bytes.now ≡ inner_spelling n → Answers result (Ok n) }
     // Which fault it is.
-    ensures exact { Answers result (inner_of at bytes.now) }
+    ensures exact { Answers result (inner_of version at bytes.now) }
 {
-    let read = read_inner(alloc, at, bytes);
+    let read = read_inner(alloc, version, at, bytes);
     if_all(read, bytes.len())
 }
 
-/// Returns the segment at position `at` that the bytes spell, all of them, or the first fault from the
-/// left.
-pub fn decode_segment(alloc: Global, bytes: &[u8], at: Position) -> Result<Segment, NodeError>
-    requires { IsPosition at }
+/// Returns the segment at position `at` of the tree of this version that the bytes spell, all of them, or
+/// the first fault from the left. A node of the other version has another tag.
+pub fn decode_segment(
+    alloc: Global,
+    bytes: &[u8],
+    at: Position,
+    version: TreeVersion,
+) -> Result<Segment, NodeError>
+    requires { IsPosition version at }
     // What is read was spelled so.
-    ensures found { IfOk result (λ s. IsSegment s × (s.position ≡ at) × (bytes.now ≡ segment_spelling s)) }
+    ensures found { IfOk result (λ s. IsSegment s × (s.version ≡ version) × (s.position ≡ at) × (bytes.now ≡ segment_spelling s)) }
     // What is spelled so is read, unless memory runs out.
-    ensures only { (s : Segment) → IsSegment s → s.position ≡ at → bytes.now ≡ segment_spelling s → Answers result (Ok s) }
+    ensures only { (s : Segment) → IsSegment s → s.version ≡ version → s.position ≡ at → bytes.now ≡ segment_spelling s → Answers result (Ok s) }
     // Which fault it is.
-    ensures exact { Answers result (segment_of at bytes.now) }
+    ensures exact { Answers result (segment_of version at bytes.now) }
 {
-    let read = read_segment(alloc, at, bytes);
+    let read = read_segment(alloc, version, at, bytes);
     if_all(read, bytes.len())
 }

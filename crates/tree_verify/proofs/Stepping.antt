@@ -11,9 +11,12 @@ use Rattle.ens_outside.specs.Stores.{NodeCall, NodeAnswer}
 use Rattle.ens_outside.specs.declared.errors.StoreError.{StoreError}
 use Rattle.tree_node.specs.declared.body.Scan.{Scan}
 use Rattle.tree_node.specs.declared.position.Position.{Position}
+use Rattle.tree_node.specs.declared.version.TreeVersion.{TreeVersion}
+use Rattle.tree_node.specs.TreeVersions.{levels}
+use Rattle.tree_node.proofs.TreeVersionLaws.{levels_few}
 use Rattle.tree_node.specs.Nodes.{inner_of, segment_of}
-use Rattle.tree_maps.specs.Forms.{Form, IsPlace, child}
-use Rattle.tree_maps.specs.Sixteen.{sixteen, children_in, entries_in as segment_entries}
+use Rattle.tree_maps.specs.Forms.{Form, IsPlace, child, root}
+use Rattle.tree_maps.specs.Sixteen.{form_of, children_in, entries_in as segment_entries}
 use Rattle.tree_maps.proofs.Unique.{child_place}
 use Rattle.tree_maps.proofs.Slices.{take_at}
 use Rattle.synctree.specs.Answers.{Makes}
@@ -44,19 +47,19 @@ not_opened node_at (Some d) found (Some bytes) is test = by (same_bytes (md5 byt
     by true e = absurd cc
     by false e = refl
 
-pub inner_made : (at : Position) (named found read : Option (List ℕ)) (bytes b : List ℕ) (r : Result (Option (List (Option (List ℕ)))) TreeError) → found ≡ digest_if read → read ≡ Some bytes → b ≡ bytes → agree named found ≡ true → Makes r (children_in (inner_of at b)) → Makes r (verified (sixteen.inner_at at) named read)
-inner_made at named found read bytes b r is some same test m = subst (λ x. Makes r x) (sym (opened_is (sixteen.inner_at at) named found read bytes b is some same test ∙ inner_is at b)) m
+pub inner_made : (v : TreeVersion) (at : Position) (named found read : Option (List ℕ)) (bytes b : List ℕ) (r : Result (Option (List (Option (List ℕ)))) TreeError) → found ≡ digest_if read → read ≡ Some bytes → b ≡ bytes → agree named found ≡ true → Makes r (children_in (inner_of v at b)) → Makes r (verified ((form_of v).inner_at at) named read)
+inner_made v at named found read bytes b r is some same test m = subst (λ x. Makes r x) (sym (opened_is ((form_of v).inner_at at) named found read bytes b is some same test ∙ inner_is v at b)) m
 
-pub segment_made : (at : Position) (named found read : Option (List ℕ)) (bytes b : List ℕ) (r : Result (Option (List Entry)) TreeError) → found ≡ digest_if read → read ≡ Some bytes → b ≡ bytes → agree named found ≡ true → Makes r (segment_entries (segment_of at b)) → Makes r (verified (sixteen.segment_at at) named read)
-segment_made at named found read bytes b r is some same test m = subst (λ x. Makes r x) (sym (opened_is (sixteen.segment_at at) named found read bytes b is some same test ∙ segment_is at b)) m
+pub segment_made : (v : TreeVersion) (at : Position) (named found read : Option (List ℕ)) (bytes b : List ℕ) (r : Result (Option (List Entry)) TreeError) → found ≡ digest_if read → read ≡ Some bytes → b ≡ bytes → agree named found ≡ true → Makes r (segment_entries (segment_of v at b)) → Makes r (verified ((form_of v).segment_at at) named read)
+segment_made v at named found read bytes b r is some same test m = subst (λ x. Makes r x) (sym (opened_is ((form_of v).segment_at at) named found read bytes b is some same test ∙ segment_is v at b)) m
 
-pub inner_width : (at : Position) (named read : Option (List ℕ)) (names : List (Option (List ℕ))) → verified (sixteen.inner_at at) named read ≡ Some names → length names ≡ 16
-inner_width at None read names e = absurd cc
-inner_width at (Some d) None names e = absurd cc
-inner_width at (Some d) (Some bytes) names e = by (same_bytes (md5 bytes) d) e
+pub inner_width : (v : TreeVersion) (at : Position) (named read : Option (List ℕ)) (names : List (Option (List ℕ))) → verified ((form_of v).inner_at at) named read ≡ Some names → length names ≡ 16
+inner_width v at None read names e = absurd cc
+inner_width v at (Some d) None names e = absurd cc
+inner_width v at (Some d) (Some bytes) names e = by (same_bytes (md5 bytes) d) e
   where
-    by : (t : Bool) → cond t (sixteen.inner_at at bytes) None ≡ Some names → length names ≡ 16
-    by true e = read_width (inner_of at bytes) names (sym (inner_is at bytes) ∙ e)
+    by : (t : Bool) → cond t ((form_of v).inner_at at bytes) None ≡ Some names → length names ≡ 16
+    by true e = read_width (inner_of v at bytes) names (sym (inner_is v at bytes) ∙ e)
     by false e = absurd cc
 
 pub slots_snoc : (F : Form) (at : Position) (i : ℕ) (names : List (Option (List ℕ))) (name : Option (List ℕ)) → child_slots F at i (names ++ name ∷ []) ≡ child_slots F at i names ++ child_slots F at (i + length names) (name ∷ [])
@@ -118,40 +121,53 @@ module _ (F : Form) (i : ℕ) (xs : List Slot) (rs : List (Option (List ℕ))) (
   damage_next now e l p q is = ap (λ ys. ys ++ damage_of x.at (verified (F.segment_at x.at) x.digest r)) is ∙ sym (damage_snoc F (take i xs) (take i rs) x r (same_length e l))
       ∙ ap (λ ys. damage_in F ys (take i rs ++ r ∷ [])) (sym (take_at xs i x x l p)) ∙ ap (damage_in F (take (i + 1) xs)) (sym (take_at rs i r r (omega (arith, e)) q))
 
-pub next_height : (h : ℕ) (xs : List Slot) → AreSlots (h + 1) xs → AreSlots (suc h) xs
-next_height h xs a = let next : h + 1 ≡ suc h = omega arith in subst (λ (n : ℕ). AreSlots n xs) next a
+pub next_height : (v : TreeVersion) (h : ℕ) (xs : List Slot) → AreSlots v (h + 1) xs → AreSlots v (suc h) xs
+next_height v h xs a = let next : h + 1 ≡ suc h = omega arith in subst (λ (n : ℕ). AreSlots v n xs) next a
 
 -- ## Slots of the next level
 
-child_are : (h i : ℕ) (at : Position) (names : List (Option (List ℕ))) → IsPlace sixteen (suc h) at → at.level + suc h ≡ 3 → i + length names ≤ 16 → AreSlots h (child_slots sixteen at i names)
-child_are h i at [] p l few = All-nil (IsSlot h)
-child_are h i at (None ∷ names) p l few = child_are h (i + 1) at names p l (omega arith)
-child_are h i at (Some d ∷ names) p l few = All-cons (IsSlot h) (slot (child sixteen at i) (Some d)) (child_slots sixteen at (i + 1) names)
-    (record { position = position_of h (child sixteen at i) (child_place sixteen h at i (wide i (omega arith)) p); below = sum at.level h l })
-    (child_are h (i + 1) at names p l (omega arith))
+child_are : (v : TreeVersion) (h i : ℕ) (at : Position) (names : List (Option (List ℕ))) → IsPlace (form_of v) (suc h) at → at.level + suc h ≡ levels v → i + length names ≤ 16 → AreSlots v h (child_slots (form_of v) at i names)
+child_are v h i at [] p l few = All-nil (IsSlot v h)
+child_are v h i at (None ∷ names) p l few = child_are v h (i + 1) at names p l (omega arith)
+child_are v h i at (Some d ∷ names) p l few = All-cons (IsSlot v h) (slot (child (form_of v) at i) (Some d)) (child_slots (form_of v) at (i + 1) names)
+    (record { position = position_of v h (child (form_of v) at i) (child_place (form_of v) h at i (wide i (omega arith)) p); below = sum at.level h l })
+    (child_are v h (i + 1) at names p l (omega arith))
   where
-    wide : (c : ℕ) → c < 16 → c < sixteen.width
-    wide c l = rw width_is l
+    wide : (c : ℕ) → c < 16 → c < (form_of v).width
+    wide c l = rw (width_is v) l
 
-    sum : (a b : ℕ) → a + suc b ≡ 3 → (a + 1) + b ≡ 3
+    sum : (a b : ℕ) → a + suc b ≡ levels v → (a + 1) + b ≡ levels v
     sum a b e = omega arith
 
-below_are : (h : ℕ) (x : Slot) (r : Option (List ℕ)) (o : Option (List (Option (List ℕ)))) → IsSlot (suc h) x → verified (sixteen.inner_at x.at) x.digest r ≡ o → AreSlots h (slots_below sixteen x.at o)
-below_are h x r None s e = All-cons (IsSlot h) (slot x.at None) [] (record { position = s.position; below = tt }) (All-nil (IsSlot h))
-below_are h x r (Some names) s e = child_are h 0 x.at names (place (named_below x.digest s.below e)) (named_below x.digest s.below e) (omega (arith, inner_width x.at x.digest r names e))
+below_are : (v : TreeVersion) (h : ℕ) (x : Slot) (r : Option (List ℕ)) (o : Option (List (Option (List ℕ)))) → IsSlot v (suc h) x → verified ((form_of v).inner_at x.at) x.digest r ≡ o → AreSlots v h (slots_below (form_of v) x.at o)
+below_are v h x r None s e = All-cons (IsSlot v h) (slot x.at None) [] (record { position = s.position; below = tt }) (All-nil (IsSlot v h))
+below_are v h x r (Some names) s e = child_are v h 0 x.at names (place (named_below x.digest s.below e)) (named_below x.digest s.below e) (omega (arith, inner_width v x.at x.digest r names e))
   where
-    named_below : (q : Option (List ℕ)) → HasBelow (suc h) x.at q → verified (sixteen.inner_at x.at) q r ≡ Some names → x.at.level + suc h ≡ 3
+    named_below : (q : Option (List ℕ)) → HasBelow v (suc h) x.at q → verified ((form_of v).inner_at x.at) q r ≡ Some names → x.at.level + suc h ≡ levels v
     named_below None b e = absurd cc
     named_below (Some d) b e = b
 
-    place : x.at.level + suc h ≡ 3 → IsPlace sixteen (suc h) x.at
-    place l = subst (λ (n : ℕ). IsPlace sixteen n x.at) (omega (arith, l)) (place_of x.at s.position)
+    place : x.at.level + suc h ≡ levels v → IsPlace (form_of v) (suc h) x.at
+    place l = subst (λ (n : ℕ). IsPlace (form_of v) n x.at) (omega (arith, l)) (place_of v x.at s.position)
 
-pub level_are : (h : ℕ) (xs : List Slot) (rs : List (Option (List ℕ))) → AreSlots (suc h) xs → AreSlots h (next_level sixteen xs rs)
-level_are h [] rs a = All-nil (IsSlot h)
-level_are h (x ∷ xs) [] a = All-nil (IsSlot h)
-level_are h (x ∷ xs) (r ∷ rs) a = All-append (IsSlot h) (slots_below sixteen x.at (verified (sixteen.inner_at x.at) x.digest r)) (next_level sixteen xs rs)
-    (below_are h x r (verified (sixteen.inner_at x.at) x.digest r) (All-head (IsSlot (suc h)) x xs a) refl) (level_are h xs rs (All-tail (IsSlot (suc h)) x xs a))
+pub level_are : (v : TreeVersion) (h : ℕ) (xs : List Slot) (rs : List (Option (List ℕ))) → AreSlots v (suc h) xs → AreSlots v h (next_level (form_of v) xs rs)
+level_are v h [] rs a = All-nil (IsSlot v h)
+level_are v h (x ∷ xs) [] a = All-nil (IsSlot v h)
+level_are v h (x ∷ xs) (r ∷ rs) a = All-append (IsSlot v h) (slots_below (form_of v) x.at (verified ((form_of v).inner_at x.at) x.digest r)) (next_level (form_of v) xs rs)
+    (below_are v h x r (verified ((form_of v).inner_at x.at) x.digest r) (All-head (IsSlot v (suc h)) x xs a) refl) (level_are v h xs rs (All-tail (IsSlot v (suc h)) x xs a))
+
+-- an inner node that verifies stands above the last level of the deepest tree
+pub above_last : (v : TreeVersion) (h : ℕ) (at : Position) (named read : Option (List ℕ)) (names : List (Option (List ℕ))) → HasBelow v (h + 1) at named → verified ((form_of v).inner_at at) named read ≡ Some names → at.level < 5
+above_last v h at None read names b e = absurd cc
+above_last v h at (Some d) read names b e = omega (arith, b, levels_few v)
+
+-- a scan begins with the slot of the root
+pub first_slots : (v : TreeVersion) (h : ℕ) (top : Option (List ℕ)) → h ≡ levels v → AreSlots v h (slot root top ∷ [])
+first_slots v h top e = All-cons (IsSlot v h) (slot root top) [] (record { position = record { level = omega arith; index = omega arith }; below = by top }) (All-nil (IsSlot v h))
+  where
+    by : (o : Option (List ℕ)) → HasBelow v h root o
+    by None = tt
+    by (Some d) = omega (arith, e)
 
 -- ## The steps of a scan
 

@@ -1,6 +1,6 @@
 ghost use Rattle.std.specs.Prelude.{◌≡◌, ◌++◌, ◌∷◌, [], length, map, IfOk, IfErr, OnOk};
 ghost use Rattle.tree_node.specs.Positions.{IsPosition};
-ghost use Rattle.tree_maps.specs.Sixteen.{sixteen};
+ghost use Rattle.tree_maps.specs.Sixteen.{form_of};
 ghost use Rattle.synctree.specs.Answers.{Makes};
 ghost use Rattle.synctree.specs.declared.error.TreeError.TheVariants.{Memory};
 ghost use Rattle.tree_verify.specs.Hashers.{digest_if};
@@ -14,7 +14,7 @@ use crate::sorting::sort_entries;
 use ens_base::{Bytes, Digest, Entry, Seq};
 use std::alloc::Global;
 use synctree::TreeError;
-use tree_node::{Position, Scan};
+use tree_node::{Position, Scan, TreeVersion};
 
 /// Appends the entries of a segment. Fails only when out of memory.
 fn push_entries(all: &mut Vec<Entry>, entries: Seq<Entry>) -> Result<(), TreeError>
@@ -31,20 +31,21 @@ fn push_entries(all: &mut Vec<Entry>, entries: Seq<Entry>) -> Result<(), TreeErr
 /// when out of memory.
 fn push_found(
     alloc: Global,
+    version: TreeVersion,
     entries: &mut Vec<Entry>,
     damaged: &mut Vec<Position>,
     slot: Slot,
     read: &Option<Bytes>,
     found: Option<Digest>,
 ) -> Result<(), TreeError>
-    requires position { IsPosition slot.at }
+    requires position { IsPosition version slot.at }
     requires found { found ≡ digest_if read.now }
-    ensures entries { OnOk result (entries.new.items ≡ entries.old.items ++ entries_of (verified (sixteen.segment_at slot.at) slot.digest read.now)) }
-    ensures damaged { OnOk result (damaged.new.items ≡ damaged.old.items ++ damage_of slot.at (verified (sixteen.segment_at slot.at) slot.digest read.now)) }
+    ensures entries { OnOk result (entries.new.items ≡ entries.old.items ++ entries_of (verified ((form_of version).segment_at slot.at) slot.digest read.now)) }
+    ensures damaged { OnOk result (damaged.new.items ≡ damaged.old.items ++ damage_of slot.at (verified ((form_of version).segment_at slot.at) slot.digest read.now)) }
     ensures memory { IfErr result (λ e. e ≡ Memory) }
 {
     let at = slot.at;
-    match open_segment(alloc, slot, read, found)? {
+    match open_segment(alloc, version, slot, read, found)? {
         Some(segment) => push_entries(entries, segment),
         None => {
             damaged.push(at)?;
@@ -54,11 +55,16 @@ fn push_found(
 }
 
 /// Returns what a scan found at the lowest level. Fails only when out of memory.
-pub(crate) fn last_level(alloc: Global, slots: &[Slot], level: &Level) -> Result<Scan, TreeError>
-    requires slots { AreSlots 0 slots.now }
+pub(crate) fn last_level(
+    alloc: Global,
+    version: TreeVersion,
+    slots: &[Slot],
+    level: &Level,
+) -> Result<Scan, TreeError>
+    requires slots { AreSlots version 0 slots.now }
     requires reads { length level.now.reads ≡ length slots.now }
     requires found { level.now.found ≡ map digest_if level.now.reads }
-    ensures { Makes result (found_in sixteen slots.now level.now.reads) }
+    ensures { Makes result (found_in (form_of version) slots.now level.now.reads) }
 {
     let reads = level.reads.as_slice();
     let found = level.found.as_slice();
@@ -67,6 +73,7 @@ pub(crate) fn last_level(alloc: Global, slots: &[Slot], level: &Level) -> Result
     for i in 0..slots.len() {
         push_found(
             alloc,
+            version,
             &mut entries,
             &mut damaged,
             slots[i],

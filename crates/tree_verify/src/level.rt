@@ -30,6 +30,7 @@ fn read_slot<N: NodeStore>(
     slot: Slot,
 ) -> Result<Option<Bytes>, TreeError>
     ensures did { Did (store_does N.may_answer N.top_record N.fault_count) (store_refuses N.may_refuse N.top_record N.fault_count) (read_named slot.digest) tree.old.store result tree.new.store }
+    ensures version_is { tree.new.version ≡ tree.old.version }
     ensures top { tree.new.top ≡ tree.old.top }
 {
     match slot.digest {
@@ -46,6 +47,7 @@ fn read_all<N: NodeStore>(
 ) -> Result<Seq<Option<Bytes>>, TreeError>
     ensures did { Did (store_does N.may_answer N.top_record N.fault_count) (store_refuses N.may_refuse N.top_record N.fault_count) (read_all_plan slots.now) tree.old.store result tree.new.store }
     ensures reads { IfOk result (λ reads. length reads ≡ length slots.now) }
+    ensures version_is { tree.new.version ≡ tree.old.version }
     ensures top { tree.new.top ≡ tree.old.top }
 {
     let mut reads = Vec::new(alloc);
@@ -69,6 +71,7 @@ pub(crate) fn read_level<N: NodeStore, H: Hasher16, R: Threads + Sync, G: Gate +
     ensures did { Reads (λ r. Did (outside_does N.may_answer N.top_record N.fault_count H.kept H.clashes H.fulls) (outside_refuses N.may_refuse N.top_record N.fault_count H.kept H.clashes H.fulls)
         (read_level_plan slots.now) (tree.old.store, hasher.old) r (tree.new.store, hasher.new)) result }
     ensures reads { IfOk result (λ level. length level.reads ≡ length slots.now) }
+    ensures version_is { tree.new.version ≡ tree.old.version }
     ensures top { tree.new.top ≡ tree.old.top }
 {
     let reads = read_all(alloc, tree, slots)?;

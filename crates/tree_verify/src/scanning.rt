@@ -1,5 +1,5 @@
 ghost use Rattle.std.specs.Prelude.{◌≡◌, IfOk};
-ghost use Rattle.tree_maps.specs.Sixteen.{sixteen};
+ghost use Rattle.tree_maps.specs.Sixteen.{form_of};
 ghost use Rattle.synctree.specs.Outsides.{outside_does, outside_refuses};
 ghost use Rattle.synctree.specs.Plans.{Did};
 ghost use Rattle.tree_verify.specs.Levels.{scan_from as scan_from_plan, scan_plan};
@@ -16,30 +16,42 @@ use ens_hashing::Hasher16;
 use ens_outside::NodeStore;
 use std::alloc::Global;
 use std::thread::Threads;
-use synctree::{DEPTH, ROOT, Tree, TreeError};
-use tree_node::Scan;
+use synctree::{ROOT, Tree, TreeError};
+use tree_node::{Scan, TreeVersion};
 
-/// Scans the nodes of a level with `height` levels below it, and all below them.
+/// Scans the nodes of a level with `height` levels below it, as nodes of this version, and all below
+/// them.
 fn scan_from<N: NodeStore, H: Hasher16, R: Threads + Sync, G: Gate + Sync>(
     rt: &R,
     alloc: Global,
     tree: &mut Tree<N>,
     hasher: &mut H,
     gate: &G,
+    version: TreeVersion,
     height: u8,
     slots: &[Slot],
 ) -> Result<Scan, TreeError>
-    requires { AreSlots height slots.now }
+    requires { AreSlots version height slots.now }
     ensures did { Did (outside_does N.may_answer N.top_record N.fault_count H.kept H.clashes H.fulls) (outside_refuses N.may_refuse N.top_record N.fault_count H.kept H.clashes H.fulls)
-        (scan_from_plan sixteen height slots.now) (tree.old.store, hasher.old) result (tree.new.store, hasher.new) }
+        (scan_from_plan (form_of version) height slots.now) (tree.old.store, hasher.old) result (tree.new.store, hasher.new) }
+    ensures version_is { tree.new.version ≡ tree.old.version }
     ensures top { tree.new.top ≡ tree.old.top }
 {
     let level = read_level(rt, alloc, tree, hasher, gate, slots)?;
     if height == 0 {
-        return last_level(alloc, slots, &level);
+        return last_level(alloc, version, slots, &level);
     }
-    let next = next_level(alloc, slots, &level, height - 1)?;
-    scan_from(rt, alloc, tree, hasher, gate, height - 1, next.as_slice())
+    let next = next_level(alloc, version, slots, &level, height - 1)?;
+    scan_from(
+        rt,
+        alloc,
+        tree,
+        hasher,
+        gate,
+        version,
+        height - 1,
+        next.as_slice(),
+    )
 }
 
 /// Returns the entries of all segments that verify, in the order of their keys, and the positions
@@ -57,13 +69,25 @@ pub fn scan<N: NodeStore, H: Hasher16, R: Threads + Sync, G: Gate + Sync>(
     gate: &G,
 ) -> Result<Scan, TreeError>
     ensures did { Did (outside_does N.may_answer N.top_record N.fault_count H.kept H.clashes H.fulls) (outside_refuses N.may_refuse N.top_record N.fault_count H.kept H.clashes H.fulls)
-        (scan_plan sixteen tree.old.top) (tree.old.store, hasher.old) result (tree.new.store, hasher.new) }
-    ensures finds { IfOk result (λ found. Scans (outside_does N.may_answer N.top_record N.fault_count H.kept H.clashes H.fulls) sixteen tree.old.top (tree.old.store, hasher.old) found (tree.new.store, hasher.new)) }
+        (scan_plan (form_of tree.old.version) tree.old.top) (tree.old.store, hasher.old) result (tree.new.store, hasher.new) }
+    ensures finds { IfOk result (λ found. Scans (outside_does N.may_answer N.top_record N.fault_count H.kept H.clashes H.fulls) (form_of tree.old.version) tree.old.top (tree.old.store, hasher.old) found (tree.new.store, hasher.new)) }
+    ensures version_is { tree.new.version ≡ tree.old.version }
     ensures top { tree.new.top ≡ tree.old.top }
 {
     let first = [Slot {
         at: ROOT,
         digest: tree.top(),
     }];
-    scan_from(rt, alloc, tree, hasher, gate, DEPTH, first.as_slice())
+    let version = tree.version();
+    let height = version.levels();
+    scan_from(
+        rt,
+        alloc,
+        tree,
+        hasher,
+        gate,
+        version,
+        height,
+        first.as_slice(),
+    )
 }

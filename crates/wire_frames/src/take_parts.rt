@@ -12,7 +12,7 @@ use ens_base::{Digest, Entry, Key, Seq};
 use ens_fields::{FieldError, take_entry, take_epoch, take_key, take_u8, take_u16};
 use ens_object::{Object, take_object};
 use std::alloc::Global;
-use tree_node::{TreeBody, take_digests, take_entries, take_position};
+use tree_node::{TreeBody, TreeVersion, take_digests, take_entries, take_position};
 
 /// Reads a flag of one byte at `at`. Returns it and the place after it.
 #[tactic(auto, unfolding(crate::specs::Parts::flag_at))]
@@ -172,7 +172,7 @@ fn take_damaged_body(bytes: &[u8], at: usize) -> Result<(TreeBody, usize), Field
     ensures exact { damaged_body_at bytes.now at ≡ result }
     ensures within { IfOk result (λ x. x.1 ≤ length bytes.now) }
 {
-    let (position, at) = take_position(bytes, at)?;
+    let (position, at) = take_position(bytes, at, TreeVersion::One)?;
     Ok((TreeBody::Damaged(position), at))
 }
 
@@ -208,7 +208,7 @@ fn take_damaged(bytes: &[u8], at: usize) -> Result<(NackCause, usize), FieldErro
     ensures exact { damaged_at bytes.now at ≡ result }
     ensures within { IfOk result (λ x. x.1 ≤ length bytes.now) }
 {
-    let (position, at) = take_position(bytes, at)?;
+    let (position, at) = take_position(bytes, at, TreeVersion::One)?;
     Ok((NackCause::Damaged(position), at))
 }
 

@@ -1,7 +1,7 @@
-use Rattle.tree_maps.specs.Sixteen.{sixteen}
-use Rattle.tree_maps.proofs.Formats.{sixteen_laws}
+use Rattle.tree_maps.specs.Sixteen.{form_of}
+use Rattle.tree_maps.proofs.Formats.{form_laws}
 use Rattle.node_faults.proofs.Builds.{from_build, to_build}
 use Rattle.node_faults.proofs.laws.a_build_has_the_nodes.Goals as goal
 
 pub returns : goal.returns
-returns c = λ m node. (from_build sixteen sixteen_laws m node, to_build sixteen sixteen_laws m node)
+returns c = λ tree m node. (from_build (form_of tree) (form_laws tree) m node, to_build (form_of tree) (form_laws tree) m node)

@@ -1,6 +1,7 @@
 use Rattle.std.proofs.Common.{◌<◌, ◌∙◌, ◌-◌, get_or, ap, sym, subst, arith, ℕ, List, None}
 use Rattle.tree_node.specs.declared.position.Position.{Position}
-use Rattle.tree_maps.specs.Sixteen.{sixteen, nibble}
+use Rattle.tree_node.proofs.TreeVersionLaws.{levels_few, position_deepest}
+use Rattle.tree_maps.specs.Sixteen.{form_of, nibble}
 use Rattle.tree_maps.proofs.Formats.{nibble_below}
 use Rattle.synctree.specs.Walks.{find}
 use Rattle.synctree.proofs.Exits.{DidOutside}
@@ -9,22 +10,22 @@ use Rattle.synctree.proofs.Finding.{find_err, find_none, find_down}
 use Rattle.synctree.proofs.walk.+find.Goals as goal
 
 pub find_in_segment-requires : goal.find_in_segment-requires
-find_in_segment-requires g t c = position_of c.args.height c.args.at c.requires.place
+find_in_segment-requires g t c = position_of c.args.version c.args.height c.args.at c.requires.place
 
 pub open_inner-requires : goal.open_inner-requires
-open_inner-requires g t c = position_of c.args.height c.args.at c.requires.place
+open_inner-requires g t c = position_of c.args.version c.args.height c.args.at c.requires.place
 
 pub returns-in_err-names : goal.returns-in_err-names
-returns-in_err-names g t c = find_err g.N.NodeStore.may_answer g.N.NodeStore.may_refuse g.N.NodeStore.top_record g.N.NodeStore.fault_count g.H.Hasher16.kept g.H.Hasher16.clashes g.H.Hasher16.fulls sixteen c.args.height (c.args.height - 1) c.args.at c.args.digest.now c.args.key.now (c.args.nodes.now, c.args.hasher.now) (c.open_inner.new.nodes, c.open_inner.new.hasher) c.from_residual.result c.in_err-names.field-0.0 _ (omega (arith, c.if-height-eq0.false)) c.in_err-names.ensures c.from_residual.ensures.0 c.from_residual.ensures.1 (λ d h. h)
+returns-in_err-names g t c = find_err g.N.NodeStore.may_answer g.N.NodeStore.may_refuse g.N.NodeStore.top_record g.N.NodeStore.fault_count g.H.Hasher16.kept g.H.Hasher16.clashes g.H.Hasher16.fulls (form_of c.args.version) c.args.height (c.args.height - 1) c.args.at c.args.digest.now c.args.key.now (c.args.nodes.now, c.args.hasher.now) (c.open_inner.new.nodes, c.open_inner.new.hasher) c.from_residual.result c.in_err-names.field-0.0 _ (omega (arith, c.if-height-eq0.false)) c.in_err-names.ensures c.from_residual.ensures.0 c.from_residual.ensures.1 (λ d h. h)
 
 pub nibble-digit-requires : goal.nibble-digit-requires
-nibble-digit-requires g t c = let low = level_below c.args.height c.args.at c.requires.place (omega (arith, c.if-height-eq0.false)) in omega (arith, low)
+nibble-digit-requires g t c = let low = level_below c.args.version c.args.height c.args.at c.requires.place (omega (arith, c.if-height-eq0.false)) in omega (arith, low, levels_few c.args.version)
 
 pub child-at-requires-clause-position : goal.child-at-requires-clause-position
-child-at-requires-clause-position g t c = position_of c.args.height c.args.at c.requires.place
+child-at-requires-clause-position g t c = position_deepest c.args.version c.args.at (position_of c.args.version c.args.height c.args.at c.requires.place)
 
 pub child-at-requires-clause-above : goal.child-at-requires-clause-above
-child-at-requires-clause-above g t c = level_below c.args.height c.args.at c.requires.place (omega (arith, c.if-height-eq0.false))
+child-at-requires-clause-above g t c = let low = level_below c.args.version c.args.height c.args.at c.requires.place (omega (arith, c.if-height-eq0.false)) in omega (arith, low, levels_few c.args.version)
 
 pub find-requires : goal.find-requires
 find-requires g t c κs within = (
@@ -33,18 +34,18 @@ find-requires g t c κs within = (
     within.0,
     (
       within.1,
-      (place_below c.args.height c.args.at c.child-at.result c.nibble-digit.result c.requires.place (omega (arith, c.if-height-eq0.false)) c.child-at.ensures (subst (λ (n : ℕ). n < 16) (sym c.nibble-digit.ensures) (nibble_below c.args.path.now c.args.at.level)), c.requires.path),
+      (place_below c.args.version c.args.height c.args.at c.child-at.result c.nibble-digit.result c.requires.place (omega (arith, c.if-height-eq0.false)) (c.child-at.ensures c.args.version) (subst (λ (n : ℕ). n < 16) (sym c.nibble-digit.ensures) (nibble_below c.args.path.now c.args.at.level)), c.requires.path),
     ),
   ),
 )
 
 pub returns-in-Some : goal.returns-in-Some
-returns-in-Some g t c = find_down g.N.NodeStore.may_answer g.N.NodeStore.may_refuse g.N.NodeStore.top_record g.N.NodeStore.fault_count g.H.Hasher16.kept g.H.Hasher16.clashes g.H.Hasher16.fulls sixteen c.args.height (c.args.height - 1) c.nibble-digit.result c.args.at c.args.digest.now c.in-Some.below c.args.key.now (c.args.nodes.now, c.args.hasher.now) (c.open_inner.new.nodes, c.open_inner.new.hasher) (c.find.new.nodes, c.find.new.hasher) c.in_ok-names.names c.find.result (omega (arith, c.if-height-eq0.false))
-    (c.nibble-digit.ensures ∙ ap (λ (d : List ℕ). nibble d c.args.at.level) c.requires.path ∙ sym (digit_is c.args.key.now c.args.at.level)) c.in_ok-names.ensures
+returns-in-Some g t c = find_down g.N.NodeStore.may_answer g.N.NodeStore.may_refuse g.N.NodeStore.top_record g.N.NodeStore.fault_count g.H.Hasher16.kept g.H.Hasher16.clashes g.H.Hasher16.fulls (form_of c.args.version) c.args.height (c.args.height - 1) c.nibble-digit.result c.args.at c.args.digest.now c.in-Some.below c.args.key.now (c.args.nodes.now, c.args.hasher.now) (c.open_inner.new.nodes, c.open_inner.new.hasher) (c.find.new.nodes, c.find.new.hasher) c.in_ok-names.names c.find.result (omega (arith, c.if-height-eq0.false))
+    (c.nibble-digit.ensures ∙ ap (λ (d : List ℕ). nibble d c.args.at.level) c.requires.path ∙ sym (digit_is c.args.version c.args.key.now c.args.at.level)) c.in_ok-names.ensures
     (ap (λ xs. get_or xs c.nibble-digit.result None) (sym c.as_slice.ensures) ∙ sym c.name_of.ensures ∙ c.in-Some.is)
-    (subst (λ (p : Position). DidOutside g.N.NodeStore.may_answer g.N.NodeStore.may_refuse g.N.NodeStore.top_record g.N.NodeStore.fault_count g.H.Hasher16.kept g.H.Hasher16.clashes g.H.Hasher16.fulls (find sixteen (c.args.height - 1) p c.in-Some.below c.args.key.now) (c.open_inner.new.nodes, c.open_inner.new.hasher) c.find.result (c.find.new.nodes, c.find.new.hasher)) c.child-at.ensures c.find.ensures)
+    (subst (λ (p : Position). DidOutside g.N.NodeStore.may_answer g.N.NodeStore.may_refuse g.N.NodeStore.top_record g.N.NodeStore.fault_count g.H.Hasher16.kept g.H.Hasher16.clashes g.H.Hasher16.fulls (find (form_of c.args.version) (c.args.height - 1) p c.in-Some.below c.args.key.now) (c.open_inner.new.nodes, c.open_inner.new.hasher) c.find.result (c.find.new.nodes, c.find.new.hasher)) (c.child-at.ensures c.args.version) c.find.ensures)
 
 pub returns : goal.returns
-returns g t c = find_none g.N.NodeStore.may_answer g.N.NodeStore.may_refuse g.N.NodeStore.top_record g.N.NodeStore.fault_count g.H.Hasher16.kept g.H.Hasher16.clashes g.H.Hasher16.fulls sixteen c.args.height (c.args.height - 1) c.nibble-digit.result c.args.at c.args.digest.now c.args.key.now (c.args.nodes.now, c.args.hasher.now) (c.open_inner.new.nodes, c.open_inner.new.hasher) c.in_ok-names.names (omega (arith, c.if-height-eq0.false))
-    (c.nibble-digit.ensures ∙ ap (λ (d : List ℕ). nibble d c.args.at.level) c.requires.path ∙ sym (digit_is c.args.key.now c.args.at.level)) c.in_ok-names.ensures
+returns g t c = find_none g.N.NodeStore.may_answer g.N.NodeStore.may_refuse g.N.NodeStore.top_record g.N.NodeStore.fault_count g.H.Hasher16.kept g.H.Hasher16.clashes g.H.Hasher16.fulls (form_of c.args.version) c.args.height (c.args.height - 1) c.nibble-digit.result c.args.at c.args.digest.now c.args.key.now (c.args.nodes.now, c.args.hasher.now) (c.open_inner.new.nodes, c.open_inner.new.hasher) c.in_ok-names.names (omega (arith, c.if-height-eq0.false))
+    (c.nibble-digit.ensures ∙ ap (λ (d : List ℕ). nibble d c.args.at.level) c.requires.path ∙ sym (digit_is c.args.version c.args.key.now c.args.at.level)) c.in_ok-names.ensures
     (ap (λ xs. get_or xs c.nibble-digit.result None) (sym c.as_slice.ensures) ∙ sym c.name_of.ensures ∙ c.in-None.is)

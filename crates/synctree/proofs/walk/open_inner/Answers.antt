@@ -1,5 +1,5 @@
 use Rattle.std.proofs.Common.{◌∙◌, ap, sym, subst, ℕ, List}
-use Rattle.tree_maps.specs.Sixteen.{sixteen, children_in}
+use Rattle.tree_maps.specs.Sixteen.{form_of, children_in}
 use Rattle.tree_node.specs.Nodes.{inner_of}
 use Rattle.synctree.specs.Answers.{Spells}
 use Rattle.synctree.specs.Walks.{fetch, spelled}
@@ -8,9 +8,9 @@ use Rattle.synctree.proofs.Places.{inner_is}
 use Rattle.synctree.proofs.walk.open_inner.Goals as goal
 
 pub returns-in_err-bytes : goal.returns-in_err-bytes
-returns-in_err-bytes g c = cut_off g.N.NodeStore.may_answer g.N.NodeStore.may_refuse g.N.NodeStore.top_record g.N.NodeStore.fault_count g.H.Hasher16.kept g.H.Hasher16.clashes g.H.Hasher16.fulls (fetch c.args.at c.args.digest.now) (λ bytes. spelled c.args.at (sixteen.inner_at c.args.at bytes)) (c.args.nodes.now, c.args.hasher.now) (c.fetch.new.nodes, c.fetch.new.hasher) c.from_residual.result c.in_err-bytes.field-0.0 _ c.in_err-bytes.ensures c.from_residual.ensures.0 c.from_residual.ensures.1 (λ d h. h)
+returns-in_err-bytes g c = cut_off g.N.NodeStore.may_answer g.N.NodeStore.may_refuse g.N.NodeStore.top_record g.N.NodeStore.fault_count g.H.Hasher16.kept g.H.Hasher16.clashes g.H.Hasher16.fulls (fetch c.args.at c.args.digest.now) (λ bytes. spelled c.args.at ((form_of c.args.version).inner_at c.args.at bytes)) (c.args.nodes.now, c.args.hasher.now) (c.fetch.new.nodes, c.fetch.new.hasher) c.from_residual.result c.in_err-bytes.field-0.0 _ c.in_err-bytes.ensures c.from_residual.ensures.0 c.from_residual.ensures.1 (λ d h. h)
 
 pub returns : goal.returns
-returns g c = after g.N.NodeStore.may_answer g.N.NodeStore.may_refuse g.N.NodeStore.top_record g.N.NodeStore.fault_count g.H.Hasher16.kept g.H.Hasher16.clashes g.H.Hasher16.fulls (fetch c.args.at c.args.digest.now) (λ bytes. spelled c.args.at (sixteen.inner_at c.args.at bytes)) (c.args.nodes.now, c.args.hasher.now) (c.fetch.new.nodes, c.fetch.new.hasher) (c.fetch.new.nodes, c.fetch.new.hasher) c.in_ok-bytes.bytes c.inner.result c.in_ok-bytes.ensures
-    (spelled_did g.N.NodeStore.may_answer g.N.NodeStore.may_refuse g.N.NodeStore.top_record g.N.NodeStore.fault_count g.H.Hasher16.kept g.H.Hasher16.clashes g.H.Hasher16.fulls c.inner.result c.args.at (sixteen.inner_at c.args.at c.in_ok-bytes.bytes) (c.fetch.new.nodes, c.fetch.new.hasher)
-    (subst (λ x. Spells c.inner.result c.args.at x) (ap (λ (b : List ℕ). children_in (inner_of c.args.at b)) c.as_slice.ensures ∙ sym (inner_is c.args.at c.in_ok-bytes.bytes)) c.inner.ensures))
+returns g c = after g.N.NodeStore.may_answer g.N.NodeStore.may_refuse g.N.NodeStore.top_record g.N.NodeStore.fault_count g.H.Hasher16.kept g.H.Hasher16.clashes g.H.Hasher16.fulls (fetch c.args.at c.args.digest.now) (λ bytes. spelled c.args.at ((form_of c.args.version).inner_at c.args.at bytes)) (c.args.nodes.now, c.args.hasher.now) (c.fetch.new.nodes, c.fetch.new.hasher) (c.fetch.new.nodes, c.fetch.new.hasher) c.in_ok-bytes.bytes c.inner.result c.in_ok-bytes.ensures
+    (spelled_did g.N.NodeStore.may_answer g.N.NodeStore.may_refuse g.N.NodeStore.top_record g.N.NodeStore.fault_count g.H.Hasher16.kept g.H.Hasher16.clashes g.H.Hasher16.fulls c.inner.result c.args.at ((form_of c.args.version).inner_at c.args.at c.in_ok-bytes.bytes) (c.fetch.new.nodes, c.fetch.new.hasher)
+    (subst (λ x. Spells c.inner.result c.args.at x) (ap (λ (b : List ℕ). children_in (inner_of c.args.version c.args.at b)) c.as_slice.ensures ∙ sym (inner_is c.args.version c.args.at c.in_ok-bytes.bytes)) c.inner.ensures))

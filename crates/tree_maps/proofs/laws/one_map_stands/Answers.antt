@@ -1,7 +1,7 @@
-use Rattle.tree_maps.specs.Sixteen.{sixteen}
+use Rattle.tree_maps.specs.Sixteen.{form_of}
 use Rattle.tree_maps.proofs.Unique.{one_stands}
-use Rattle.tree_maps.proofs.Formats.{sixteen_laws}
+use Rattle.tree_maps.proofs.Formats.{form_laws}
 use Rattle.tree_maps.proofs.laws.one_map_stands.Goals as goal
 
 pub returns : goal.returns
-returns c = λ d m n a b apart. one_stands sixteen sixteen_laws d m n a b apart
+returns c = λ v d m n a b apart. one_stands (form_of v) (form_laws v) d m n a b apart

@@ -6,10 +6,10 @@ use Rattle.tree_node.proofs.WholeNodeFaults.{inner_first, segment_first}
 use Rattle.tree_node.proofs.faults.nodes_fault_first.Goals as goal
 
 pub returns-clause-position : goal.returns-clause-position
-returns-clause-position c = field_faults position_grammar position_faults
+returns-clause-position c = λ v. field_faults (position_grammar v) (position_faults v)
 
 pub returns-clause-inner : goal.returns-clause-inner
-returns-clause-inner c = λ asked ok. inner_first asked ok (inner_grammar asked ok)
+returns-clause-inner c = λ v asked ok. inner_first v asked ok (inner_grammar v asked ok)
 
 pub returns-clause-segment : goal.returns-clause-segment
-returns-clause-segment c = λ asked ok. segment_first asked ok (segment_grammar asked ok)
+returns-clause-segment c = λ v asked ok. segment_first v asked ok (segment_grammar v asked ok)

@@ -1,4 +1,4 @@
-use Rattle.tree_node.proofs.NodeLaws.{inner_grammar, segment_grammar, inner_apart, segments_apart}
+use Rattle.tree_node.proofs.NodeLaws.{inner_grammar, segment_grammar, inner_apart, segments_apart, kinds_apart}
 use Rattle.tree_node.proofs.laws.nodes_stand_apart.Goals as goal
 
 pub returns-clause-inner_grammar : goal.returns-clause-inner_grammar
@@ -12,3 +12,6 @@ returns-clause-inner c = inner_apart
 
 pub returns-clause-segments : goal.returns-clause-segments
 returns-clause-segments c = segments_apart
+
+pub returns-clause-kinds : goal.returns-clause-kinds
+returns-clause-kinds c = kinds_apart

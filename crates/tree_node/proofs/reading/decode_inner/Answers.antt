@@ -5,10 +5,10 @@ use Rattle.tree_node.proofs.reading.decode_inner.Goals as goal
 
 pub returns-clause-found : goal.returns-clause-found
 returns-clause-found c =
-    let exact : Answers c.if_all.result (inner_of c.args.at c.args.bytes.now) = rw c.if_all.ensures (all_answers _ _ (length c.args.bytes.now) c.read_inner-read.ensures.exact) in
-    inner_found c.args.at c.requires c.args.bytes.now c.if_all.result (λ i. omega (arith, c.type_inv.bytes i)) exact
+    let exact : Answers c.if_all.result (inner_of c.args.version c.args.at c.args.bytes.now) = rw c.if_all.ensures (all_answers _ _ (length c.args.bytes.now) c.read_inner-read.ensures.exact) in
+    inner_found c.args.version c.args.at c.requires c.args.bytes.now c.if_all.result (λ i. omega (arith, c.type_inv.bytes i)) exact
 
 pub returns-clause-only : goal.returns-clause-only
 returns-clause-only c =
-    let exact : Answers c.if_all.result (inner_of c.args.at c.args.bytes.now) = rw c.if_all.ensures (all_answers _ _ (length c.args.bytes.now) c.read_inner-read.ensures.exact) in
-    λ n good is e. subst (λ r. Answers c.if_all.result r) (inner_again c.args.at c.requires c.args.bytes.now n good is e) exact
+    let exact : Answers c.if_all.result (inner_of c.args.version c.args.at c.args.bytes.now) = rw c.if_all.ensures (all_answers _ _ (length c.args.bytes.now) c.read_inner-read.ensures.exact) in
+    λ n good of is e. subst (λ r. Answers c.if_all.result r) (inner_again c.args.version c.args.at c.requires c.args.bytes.now n good of is e) exact

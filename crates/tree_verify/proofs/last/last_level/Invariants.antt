@@ -1,10 +1,10 @@
 use Rattle.std.proofs.Common.{◌≡◌, take}
-use Rattle.tree_maps.specs.Sixteen.{sixteen}
+use Rattle.tree_maps.specs.Sixteen.{form_of}
 use Rattle.tree_verify.specs.Levels.{entries_in, damage_in}
 use Rattle.tree_verify.proofs.last.last_level.Given as goal
 
 abbrev pub invariant-loop-i : goal.invariant-loop-i
 invariant-loop-i l = record {
-  entries : l.entries.items ≡ entries_in sixteen (take l.i l.slots) (take l.i l.reads);
-  damaged : l.damaged.items ≡ damage_in sixteen (take l.i l.slots) (take l.i l.reads);
+  entries : l.entries.items ≡ entries_in (form_of l.version) (take l.i l.slots) (take l.i l.reads);
+  damaged : l.damaged.items ≡ damage_in (form_of l.version) (take l.i l.slots) (take l.i l.reads);
 }

@@ -23,6 +23,7 @@ returns-in_err-push-clause-did g c = passed_on c.from_residual-in_err-push.resul
 pub loop-slot-preserved : goal.loop-slot-preserved
 loop-slot-preserved g c = record {
   reads = ap length (c.in_ok-push.ensures).items ∙ length_one c.loop-slot.reads.items c.in_ok-read.read ∙ ap (λ (n : ℕ). n + 1) (c.loop-slot.invariant).reads;
+  version_is = (c.in_ok-read.ensures).version_is ∙ (c.loop-slot.invariant).version_is;
   top = (c.in_ok-read.ensures).top ∙ (c.loop-slot.invariant).top;
   did = subst (λ (ys : List (Option (List ℕ))). GoesOn (store_does g.N.NodeStore.may_answer g.N.NodeStore.top_record g.N.NodeStore.fault_count) (store_refuses g.N.NodeStore.may_refuse g.N.NodeStore.top_record g.N.NodeStore.fault_count) (λ x. read_named x.digest) c.args.slots.now (drop (c.loop-slot.slot-index + 1) c.args.slots.now) ys c.args.tree.now.store c.read_slot.new.tree.store) (sym (c.in_ok-push.ensures).items)
       (goes_next (store_does g.N.NodeStore.may_answer g.N.NodeStore.top_record g.N.NodeStore.fault_count) (store_refuses g.N.NodeStore.may_refuse g.N.NodeStore.top_record g.N.NodeStore.fault_count) (λ (x : Slot). read_named x.digest) c.args.slots.now (drop (c.loop-slot.slot-index + 1) c.args.slots.now) c.loop-slot.reads.items c.slot-item.result c.in_ok-read.read c.args.tree.now.store c.loop-slot.tree.store c.read_slot.new.tree.store

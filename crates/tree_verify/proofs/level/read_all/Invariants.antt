@@ -7,6 +7,7 @@ use Rattle.tree_verify.proofs.level.read_all.Given as goal
 abbrev pub invariant-loop-slot : goal.invariant-loop-slot
 invariant-loop-slot g l = record {
   reads : length l.reads.items ≡ l.slot-index;
+  version_is : l.tree.version ≡ l.fn.tree.version;
   top : l.tree.top ≡ l.fn.tree.top;
   did : GoesOn (store_does g.N.NodeStore.may_answer g.N.NodeStore.top_record g.N.NodeStore.fault_count) (store_refuses g.N.NodeStore.may_refuse g.N.NodeStore.top_record g.N.NodeStore.fault_count) (λ x. read_named x.digest) l.slots (drop l.slot-index l.slots) l.reads.items l.fn.tree.store l.tree.store;
 }
