@@ -1,6 +1,10 @@
 pub mod Lists
+pub mod Numbers
+pub mod Indexes
+pub mod Placing
 pub mod Levels
 pub mod Buckets
+pub mod Growing
 pub mod Admissions
 pub mod Climbing
 pub mod Keys

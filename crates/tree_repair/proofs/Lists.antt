@@ -1,10 +1,7 @@
 -- Lists of what a function gives at each place, and lists that grow.
-use Rattle.std.proofs.Common.{◌≡◌, ◌≢◌, ℕ, zero, suc, ◌+◌, ◌-◌, ◌<◌, ◌≤◌, Bool, true, false, cond, List, [], ◌∷◌, ◌++◌, Option, None, Some, length, get_or, set, take, drop, map, refl, ap, sym, ◌∙◌, arith}
-use Rattle.std.specs.Prelude.{filter}
-use Rattle.ens_base.specs.declared.entry.Entry.{Entry}
+use Rattle.std.proofs.Common.{◌≡◌, ℕ, zero, suc, ◌+◌, ◌<◌, ◌≤◌, List, [], ◌∷◌, ◌++◌, Option, None, Some, length, get_or, set, drop, map, refl, ap, sym, ◌∙◌, arith}
 use Rattle.tree_maps.specs.Maps.{each_of}
 use Rattle.tree_repair.specs.Builds.{somes}
-use Rattle.tree_repair.specs.Levels.{has_any}
 
 -- what was set lies before the rest
 pub drop_set : {A : Type 0} (xs : List A) (i : ℕ) (v : A) → drop (i + 1) (set xs i v) ≡ drop (i + 1) xs
@@ -69,52 +66,10 @@ pub each_from : {A : Type 0} (f g : ℕ → A) (n i j : ℕ) → ((p q : ℕ) �
 each_from f g zero i j h = refl
 each_from f g (suc n) i j h = rw (h i j (omega arith) (omega arith) (omega arith), each_from f g n (i + 1) (j + 1) (λ p q a b e. h p q (omega arith) (omega arith) (omega arith))) refl
 
-drop_each : {A : Type 0} (f : ℕ → A) (k t i n : ℕ) → t ≡ k + n → drop k (each_of f t i) ≡ each_of f n (i + k)
-drop_each f zero t i n e = let same : t ≡ n = omega arith in let there : i + 0 ≡ i = omega arith in rw (same, there) refl
-drop_each f (suc k) zero i n e = absurd (omega arith)
-drop_each f (suc k) (suc t) i n e = let next : i + suc k ≡ (i + 1) + k = omega arith in rw next (drop_each f k t (i + 1) n (omega arith))
+pub map_map : {A B C : Type 0} (f : B → C) (g : A → B) (xs : List A) → map f (map g xs) ≡ map (λ x. f (g x)) xs
+map_map f g [] = refl
+map_map f g (x ∷ xs) = ap (λ ys. f (g x) ∷ ys) (map_map f g xs)
 
-take_each : {A : Type 0} (f : ℕ → A) (n t i : ℕ) → n ≤ t → take n (each_of f t i) ≡ each_of f n i
-take_each f zero t i l = refl
-take_each f (suc n) zero i l = absurd (omega arith)
-take_each f (suc n) (suc t) i l = ap (λ xs. f i ∷ xs) (take_each f n t (i + 1) (omega arith))
-
-pub slice_each : {A : Type 0} (f : ℕ → A) (k n t : ℕ) → k + n ≤ t → take n (drop k (each_of f t 0)) ≡ each_of f n (0 + k)
-slice_each f k n t l = rw (drop_each f k t 0 (t - k) (omega arith)) (take_each f n (t - k) (0 + k) (omega arith))
-
-pub map_each : {A B : Type 0} (g : A → B) (f : ℕ → A) (n i : ℕ) → map g (each_of f n i) ≡ each_of (λ j. g (f j)) n i
-map_each g f zero i = refl
-map_each g f (suc n) i = ap (λ xs. g (f i) ∷ xs) (map_each g f n (i + 1))
-
-pub each_last : {A : Type 0} (f : ℕ → A) (n : ℕ) → each_of f (n + 1) 0 ≡ each_of f n 0 ++ f n ∷ []
-each_last {A = A} f n = let next : n + 1 ≡ suc n = omega arith in let here : 0 + n ≡ n = omega arith in rw next (by n 0 ∙ ap (λ k. each_of f n 0 ++ f k ∷ []) here)
-  where
-    by : (k i : ℕ) → each_of f (suc k) i ≡ each_of f k i ++ f (i + k) ∷ []
-    by zero i = ap (λ j. f j ∷ []) (omega arith)
-    by (suc k) i = ap (λ xs. f i ∷ xs) (by k (i + 1) ∙ ap (λ j. each_of f k (i + 1) ++ f j ∷ []) (omega arith))
-
-pub no_any : (g : ℕ → Option (List ℕ)) (n i : ℕ) → ((j : ℕ) → g j ≡ None) → has_any (each_of g n i) ≡ false
-no_any g zero i h = refl
-no_any g (suc n) i h = rw (h i) (no_any g n (i + 1) h)
-
-pub some_any : (g : ℕ → Option (List ℕ)) (n i j : ℕ) (d : List ℕ) → i ≤ j → j < i + n → g j ≡ Some d → has_any (each_of g n i) ≡ true
-some_any g zero i j d a b e = absurd (omega arith)
-some_any g (suc n) i j d a b e = by (g i) refl (λ ne. some_any g n (i + 1) j d (omega arith) (omega arith) e)
-  where
-    none_some : (let o : Option (List ℕ) = None in o) ≡ Some d → ⊥
-    none_some h = absurd cc
-
-    by : (x : Option (List ℕ)) → g i ≡ x → (i ≢ j → has_any (each_of g n (i + 1)) ≡ true) → has_any (x ∷ each_of g n (i + 1)) ≡ true
-    by (Some y) is rest = refl
-    by None is rest = rest (λ same. none_some (sym is ∙ ap g same ∙ e))
-
-pub filter_push : (p : Entry → Bool) (xs : List Entry) (e : Entry) → filter p (xs ++ e ∷ []) ≡ filter p xs ++ cond (p e) (e ∷ []) []
-filter_push p [] e = by (p e)
-  where
-    by : (b : Bool) → cond b (e ∷ []) [] ≡ cond b (e ∷ []) []
-    by b = refl
-filter_push p (x ∷ xs) e = by (p x) (filter_push p xs e)
-  where
-    by : (b : Bool) → filter p (xs ++ e ∷ []) ≡ filter p xs ++ cond (p e) (e ∷ []) [] → cond b (x ∷ filter p (xs ++ e ∷ [])) (filter p (xs ++ e ∷ [])) ≡ cond b (x ∷ filter p xs) (filter p xs) ++ cond (p e) (e ∷ []) []
-    by true h = ap (λ ys. x ∷ ys) h
-    by false h = h
+pub length_of_map : {A B : Type 0} (f : A → B) (xs : List A) → length (map f xs) ≡ length xs
+length_of_map f [] = refl
+length_of_map f (x ∷ xs) = ap suc (length_of_map f xs)

@@ -16,7 +16,7 @@ use Rattle.synctree.specs.declared.error.TreeError.TheVariants.{Damaged, Failed,
 use Rattle.synctree.proofs.Composing.{did_then, did_err}
 use Rattle.synctree.proofs.Exits.{DidOutside}
 use Rattle.synctree.proofs.Writing.{DidStore}
-use Rattle.tree_maps.specs.Sixteen.{sixteen}
+use Rattle.tree_maps.specs.Forms.{Form}
 use Rattle.tree_node.specs.declared.position.Position.{Position}
 use Rattle.tree_repair.specs.Admitting.{Admitted, Rejected}
 use Rattle.tree_repair.specs.Builds.{build_nodes, build_of}
@@ -96,23 +96,23 @@ module _ {N H : Type 0} (may : N → (call : NodeCall) → NodeAnswer call → N
   store_did h p s t (Err Memory) did = store_stops h p s t Memory did
 
   -- the hasher rejected a node of the build, and nothing was written
-  pub not_built : (m : List Entry) (n : N) (h k : H) (e : HashError) → Rejected kept clashes fulls (build_nodes sixteen m) h e k → Both (rebuild_plan sixteen m) (n, h) (Err (refused e)) (n, k)
-  not_built m n h k e why = did_err Does Refuses (hash_all (build_nodes sixteen m)) (λ _. install_plan (build_of sixteen m).nodes (build_of sixteen m).top) (n, h) (n, k) (refused e) (hashes_err n (build_nodes sixteen m) h k e why)
+  pub not_built : (F : Form) (m : List Entry) (n : N) (h k : H) (e : HashError) → Rejected kept clashes fulls (build_nodes F m) h e k → Both (rebuild_plan F m) (n, h) (Err (refused e)) (n, k)
+  not_built F m n h k e why = did_err Does Refuses (hash_all (build_nodes F m)) (λ _. install_plan (build_of F m).nodes (build_of F m).top) (n, h) (n, k) (refused e) (hashes_err n (build_nodes F m) h k e why)
 
   -- the hasher admitted the nodes of the build, and the store was asked to write them
-  then_installed : (m : List Entry) (n t : N) (h k : H) (r : Result (List ℕ) TreeError) → Admitted kept clashes fulls (build_nodes sixteen m) h k → Alone (install_plan (build_of sixteen m).nodes (build_of sixteen m).top) n r t
-      → Both (rebuild_plan sixteen m) (n, h) r (t, k)
-  then_installed m n t h k r a did = did_then Does Refuses (hash_all (build_nodes sixteen m)) (λ _. install_plan (build_of sixteen m).nodes (build_of sixteen m).top) (n, h) (n, k) (t, k) tt r
-      (build_nodes sixteen m, hashes_end n (build_nodes sixteen m) h k a)
-      (store_did k (install_plan (build_of sixteen m).nodes (build_of sixteen m).top) n t r did)
+  then_installed : (F : Form) (m : List Entry) (n t : N) (h k : H) (r : Result (List ℕ) TreeError) → Admitted kept clashes fulls (build_nodes F m) h k → Alone (install_plan (build_of F m).nodes (build_of F m).top) n r t
+      → Both (rebuild_plan F m) (n, h) r (t, k)
+  then_installed F m n t h k r a did = did_then Does Refuses (hash_all (build_nodes F m)) (λ _. install_plan (build_of F m).nodes (build_of F m).top) (n, h) (n, k) (t, k) tt r
+      (build_nodes F m, hashes_end n (build_nodes F m) h k a)
+      (store_did k (install_plan (build_of F m).nodes (build_of F m).top) n t r did)
 
   enters_more : (P Q : Result (List ℕ) TreeError → Type 0) (old new : Option (List ℕ)) (r : Result (Unit {0}) TreeError) → ((x : Result (List ℕ) TreeError) → P x → Q x) → Enters P old r new → Enters Q old r new
   enters_more P Q old (Some root) (Ok u) k did = k (Ok root) did
   enters_more P Q old None (Ok u) k did = absurd did
   enters_more P Q old new (Err e) k did = (k (Err e) did.0, did.1)
 
-  pub rebuilt : (m : List Entry) (built : Built) (n t : N) (h k : H) (old new : Option (List ℕ)) (r : Result (Unit {0}) TreeError) → built ≡ build_of sixteen m → Admitted kept clashes fulls (build_nodes sixteen m) h k
-      → Enters (λ x. Alone (install_plan built.nodes built.top) n x t) old r new → Enters (λ x. Both (rebuild_plan sixteen m) (n, h) x (t, k)) old r new
-  rebuilt m built n t h k old new r is a did = enters_more (λ x. Alone (install_plan (build_of sixteen m).nodes (build_of sixteen m).top) n x t) (λ x. Both (rebuild_plan sixteen m) (n, h) x (t, k)) old new r
-      (λ x part. then_installed m n t h k x a part)
+  pub rebuilt : (F : Form) (m : List Entry) (built : Built) (n t : N) (h k : H) (old new : Option (List ℕ)) (r : Result (Unit {0}) TreeError) → built ≡ build_of F m → Admitted kept clashes fulls (build_nodes F m) h k
+      → Enters (λ x. Alone (install_plan built.nodes built.top) n x t) old r new → Enters (λ x. Both (rebuild_plan F m) (n, h) x (t, k)) old r new
+  rebuilt F m built n t h k old new r is a did = enters_more (λ x. Alone (install_plan (build_of F m).nodes (build_of F m).top) n x t) (λ x. Both (rebuild_plan F m) (n, h) x (t, k)) old new r
+      (λ x part. then_installed F m n t h k x a part)
       (subst (λ (b : Built). Enters (λ x. Alone (install_plan b.nodes b.top) n x t) old r new) is did)

@@ -7,7 +7,6 @@ use Rattle.tree_maps.specs.Forms.{Form, root}
 use Rattle.tree_maps.specs.Maps.{each_of, text}
 use Rattle.tree_maps.specs.Paths.{node_of}
 use Rattle.synctree.specs.declared.stored_node.StoredNode.{StoredNode}
-use Rattle.tree_verify.specs.Hashers.{digest_if}
 use Rattle.tree_repair.specs.declared.built.Built.{Built}
 
 -- the items that are there
@@ -40,7 +39,3 @@ stored t = record { digest = md5 t; bytes = t }
 -- the plain build of a map
 abbrev pub build_of : Form → List Entry → Built
 build_of F m = record { nodes = map stored (build_nodes F m); top = md5 (text F F.depth root m) }
-
--- the digests of the nodes of a level
-abbrev pub names_of : Form → ℕ → List Entry → List (Option (List ℕ))
-names_of F level m = map digest_if (level_of F level m)

@@ -1,32 +1,31 @@
--- The steps from a level to the next.
-use Rattle.std.specs.Prelude.{ℕ, zero, suc, ◌+◌, ◌*◌, ◌==◌, ◌||◌, Bool, true, false, List, [], ◌∷◌, ◌++◌, Option, None, Some, if◌then◌else◌}
-use Rattle.md5.specs.Md5.{md5}
+-- The nodes of a level that are there. Every node but the root is there only if it has entries, so a
+-- level has no more of them than the map has entries.
+use Rattle.std.specs.Prelude.{ℕ, zero, suc, ◌+◌, ◌*◌, ◌^◌, Bool, List, Option, filter, map}
+use Rattle.std.specs.Option.{is_some}
 use Rattle.ens_base.specs.declared.entry.Entry.{Entry}
-use Rattle.tree_node.specs.declared.position.Position.{Position}
-use Rattle.tree_node.specs.declared.node.Segment.{Segment}
-use Rattle.tree_maps.specs.Paths.{present}
-use Rattle.tree_maps.specs.Sixteen.{nibble, sixteen, segment}
+use Rattle.tree_maps.specs.Forms.{Form}
+use Rattle.tree_maps.specs.Maps.{each_of}
+use Rattle.tree_maps.specs.Paths.{node_of}
+use Rattle.tree_verify.specs.Hashers.{digest_if}
+use Rattle.tree_repair.specs.Builds.{place}
 
--- the index of the segment of a key
-abbrev pub segment_index : List ℕ → ℕ
-segment_index key = 16 * (16 * nibble (md5 key) 0 + nibble (md5 key) 1) + nibble (md5 key) 2
+-- the index of the node of a level that the path of a key goes through
+abbrev pub index_of : Form → ℕ → List ℕ → ℕ
+index_of F zero key = 0
+index_of F (suc level) key = F.width * index_of F level key + F.digit key level
 
--- whether any child is present
-abbrev pub has_any : List (Option (List ℕ)) → Bool
-has_any [] = false
-has_any (None ∷ cs) = has_any cs
-has_any (Some d ∷ cs) = true
+-- whether the node with this index is there
+abbrev pub is_there : Form → ℕ → List Entry → ℕ → Bool
+is_there F level m i = is_some (node_of F (place level i) m)
 
--- the inner node with these children, unless it is not the root and there are none
-abbrev pub inner_slot : Position → List (Option (List ℕ)) → Option (List ℕ)
-inner_slot at cs = if at.level == 0 || has_any cs then Some (sixteen.inner_text at cs) else None
+-- the indexes of the nodes that are there, from left to right
+abbrev pub indexes_of : Form → ℕ → List Entry → List ℕ
+indexes_of F level m = filter (is_there F level m) (each_of (λ i. i) (F.width ^ level) 0)
 
--- a segment, if it has entries
-abbrev pub segment_slot : Segment → Option (List ℕ)
-segment_slot s = present 3 s.entries (sixteen.segment_text s.position s.entries)
+-- the text of each of them
+abbrev pub texts_of : Form → ℕ → List Entry → List (Option (List ℕ))
+texts_of F level m = map (λ i. node_of F (place level i) m) (indexes_of F level m)
 
--- one more entry in segment i
-abbrev pub with_entry : List Segment → ℕ → Entry → List Segment
-with_entry [] i e = []
-with_entry (s ∷ ss) zero e = segment s.position (s.entries ++ e ∷ []) ∷ ss
-with_entry (s ∷ ss) (suc i) e = s ∷ with_entry ss i e
+-- the digest of each of them
+abbrev pub names_of : Form → ℕ → List Entry → List (Option (List ℕ))
+names_of F level m = map digest_if (texts_of F level m)

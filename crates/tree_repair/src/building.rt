@@ -1,27 +1,25 @@
 ghost use Rattle.std.specs.Prelude.{◌≡◌, ◌≤◌, ◌-◌, ◌++◌, ◌∷◌, [], map, IfOk, OnOk};
 ghost use Rattle.tree_node.specs.Entries.{AreAbove};
+ghost use Rattle.tree_node.specs.TreeVersions.{levels};
 ghost use Rattle.tree_maps.specs.Entries.{IsMap};
 ghost use Rattle.tree_maps.specs.Maps.{Stands};
-ghost use Rattle.tree_maps.specs.Sixteen.{sixteen};
+ghost use Rattle.tree_maps.specs.Sixteen.{form_of};
 ghost use Rattle.tree_repair.specs.Admitting.{AdmitsAll};
 ghost use Rattle.tree_verify.specs.Hashers.{digest_if};
-ghost use Rattle.tree_repair.specs.Builds.{somes, names_of, nodes_down, stored, build_nodes, build_of};
+ghost use Rattle.tree_repair.specs.Builds.{somes, nodes_down, stored, build_nodes, build_of};
+ghost use Rattle.tree_repair.specs.Levels.{indexes_of, names_of};
 
 use crate::built::Built;
 use crate::inner::inner_texts;
+use crate::level::{Names, Texts};
 use crate::segments::segment_texts;
 use ens_base::{Bytes, Digest, Entry, Seq};
 use ens_hashing::{HashError, Hasher16};
 use std::alloc::Global;
 use std::thread::Threads;
-use synctree::StoredNode;
+use synctree::{ROOT, StoredNode};
+use tree_node::TreeVersion;
 use tree_verify::{Gate, digests};
-
-/// The level of the root.
-const ROOT_LEVEL: u8 = 0;
-
-/// The level of the segments.
-const LAST_LEVEL: u8 = 3;
 
 /// Admits a text, if there is one, and appends it to the nodes.
 fn keep<H: Hasher16>(
@@ -66,71 +64,80 @@ fn keep_all<H: Hasher16>(
     Ok(())
 }
 
-/// Hashes the texts of a level by threads, admits them and appends them to the nodes. Returns their
+/// Hashes the nodes of a level by threads, admits them and appends them to the nodes. Returns their
 /// digests.
 fn keep_level<H: Hasher16, R: Threads + Sync, G: Gate + Sync>(
     rt: &R,
     alloc: Global,
     hasher: &mut H,
     gate: &G,
-    texts: Vec<Option<Bytes>>,
+    level: Texts,
     nodes: &mut Vec<StoredNode>,
-) -> Result<Vec<Option<Digest>>, HashError>
-    ensures names { IfOk result (λ v. v.items ≡ map digest_if texts.items) }
-    ensures nodes { OnOk result (nodes.new.items ≡ nodes.old.items ++ map stored (somes texts.items)) }
-    ensures admits { AdmitsAll H.kept H.clashes H.fulls (somes texts.items) hasher.old result hasher.new }
+) -> Result<Names, HashError>
+    ensures indexes { IfOk result (λ v. v.indexes.items ≡ level.indexes.items) }
+    ensures names { IfOk result (λ v. v.names.items ≡ map digest_if level.texts.items) }
+    ensures nodes { OnOk result (nodes.new.items ≡ nodes.old.items ++ map stored (somes level.texts.items)) }
+    ensures admits { AdmitsAll H.kept H.clashes H.fulls (somes level.texts.items) hasher.old result hasher.new }
 {
+    let Texts { indexes, texts } = level;
     let names = digests(rt, alloc, texts.as_slice(), gate)?;
     keep_all(alloc, hasher, texts, names.as_slice(), nodes)?;
-    Ok(names)
+    Ok(Names { indexes, names })
 }
 
-/// Builds the nodes of a level and of all levels below it, the lowest level first. Returns the
-/// digests of the level.
+/// Builds the nodes of a level and of all levels below it, the lowest level first, in the tree of this
+/// version. Returns the digests of the level.
 fn build_level<H: Hasher16, R: Threads + Sync, G: Gate + Sync>(
     rt: &R,
     alloc: Global,
+    version: TreeVersion,
     hasher: &mut H,
     gate: &G,
     level: u8,
     entries: &[Entry],
     nodes: &mut Vec<StoredNode>,
-) -> Result<Vec<Option<Digest>>, HashError>
-    requires level { level ≤ 3 }
+) -> Result<Names, HashError>
+    requires level { level ≤ levels version }
     requires ascending { AreAbove [] entries.now }
-    ensures names { IfOk result (λ v. v.items ≡ names_of sixteen level entries.now) }
-    ensures nodes { OnOk result (nodes.new.items ≡ nodes.old.items ++ map stored (nodes_down sixteen (3 - level) level entries.now)) }
-    ensures admits { AdmitsAll H.kept H.clashes H.fulls (nodes_down sixteen (3 - level) level entries.now) hasher.old result hasher.new }
+    ensures indexes { IfOk result (λ v. v.indexes.items ≡ indexes_of (form_of version) level entries.now) }
+    ensures names { IfOk result (λ v. v.names.items ≡ names_of (form_of version) level entries.now) }
+    ensures nodes { OnOk result (nodes.new.items ≡ nodes.old.items ++ map stored (nodes_down (form_of version) (levels version - level) level entries.now)) }
+    ensures admits { AdmitsAll H.kept H.clashes H.fulls (nodes_down (form_of version) (levels version - level) level entries.now) hasher.old result hasher.new }
 {
-    if level == LAST_LEVEL {
-        let texts = segment_texts(rt, alloc, entries)?;
-        return keep_level(rt, alloc, hasher, gate, texts, nodes);
+    let last = version.levels();
+    if level == last {
+        let segments = segment_texts(rt, alloc, version, entries)?;
+        return keep_level(rt, alloc, hasher, gate, segments, nodes);
     }
-    let names = build_level(rt, alloc, hasher, gate, level + 1, entries, nodes)?;
-    let texts = inner_texts(alloc, level, names.as_slice())?;
-    keep_level(rt, alloc, hasher, gate, texts, nodes)
+    let below = build_level(rt, alloc, version, hasher, gate, level + 1, entries, nodes)?;
+    let inner = inner_texts(alloc, version, level, &below)?;
+    keep_level(rt, alloc, hasher, gate, inner, nodes)
 }
 
-/// Returns the plain build of a map, given as its entries in ascending order of keys. The nodes of a
-/// level are hashed by threads, in pieces that the gate sees begin; the keys too, without the gate.
-/// The hasher admits each node, in the order of the build. Fails only if the hasher rejects a node, or
-/// when out of memory, which a segment of 2^32 entries or more counts as.
+/// Returns the plain build of a map in this version of the tree. The map is given as its entries in
+/// ascending order of keys. The nodes of a level are hashed by threads, in pieces that the gate sees
+/// begin; the keys too, without the gate. The hasher admits each node, in the order of the build. Fails
+/// only if the hasher rejects a node, or when out of memory, which a segment of 2^32 entries or more
+/// counts as.
 pub fn build<H: Hasher16, R: Threads + Sync, G: Gate + Sync>(
     rt: &R,
     alloc: Global,
+    version: TreeVersion,
     hasher: &mut H,
     gate: &G,
     entries: &[Entry],
 ) -> Result<Built, HashError>
     requires { AreAbove [] entries.now }
-    ensures built { IfOk result (λ b. b ≡ build_of sixteen entries.now) }
-    ensures stands { IfOk result (λ b. IsMap entries.now → Stands sixteen b.top entries.now) }
-    ensures admits { AdmitsAll H.kept H.clashes H.fulls (build_nodes sixteen entries.now) hasher.old result hasher.new }
+    ensures built { IfOk result (λ b. b ≡ build_of (form_of version) entries.now) }
+    ensures stands { IfOk result (λ b. IsMap entries.now → Stands (form_of version) b.top entries.now) }
+    ensures admits { AdmitsAll H.kept H.clashes H.fulls (build_nodes (form_of version) entries.now) hasher.old result hasher.new }
 {
     let mut nodes = Vec::new(alloc);
-    let names = build_level(rt, alloc, hasher, gate, ROOT_LEVEL, entries, &mut nodes)?;
+    let root = build_level(
+        rt, alloc, version, hasher, gate, ROOT.level, entries, &mut nodes,
+    )?;
     Ok(Built {
         nodes: Seq::new(nodes),
-        top: names[0].unwrap(),
+        top: root.names[0].unwrap(),
     })
 }

@@ -13,7 +13,11 @@ mod building;
 mod built;
 mod inner;
 mod installing;
+mod level;
+mod order;
+mod paths;
 mod rebuilding;
+mod runs;
 mod segments;
 
 pub use ascending::ascends;

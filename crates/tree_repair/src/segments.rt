@@ -1,24 +1,22 @@
-ghost use Rattle.std.specs.Prelude.{◌≡◌, ◌<◌, ◌^◌, [], length, map, IfOk, OnOk, set, get_or};
+ghost use Rattle.std.specs.Prelude.{◌≡◌, ◌<◌, [], length, map, IfOk};
+ghost use Rattle.std.specs.List.{All};
 ghost use Rattle.tree_node.specs.Entries.{AreAbove};
+ghost use Rattle.tree_node.specs.TreeVersions.{levels};
 ghost use Rattle.tree_node.specs.Positions.{IsPosition};
-ghost use Rattle.tree_maps.specs.Maps.{each_of};
-ghost use Rattle.tree_maps.specs.Sixteen.{sixteen, segment};
-ghost use Rattle.tree_maps.specs.Paths.{under};
-ghost use Rattle.tree_repair.specs.Builds.{place, level_of};
-ghost use Rattle.tree_repair.specs.Levels.{segment_index, segment_slot, with_entry};
+ghost use Rattle.tree_maps.specs.Sixteen.{form_of};
+ghost use Rattle.tree_repair.specs.Builds.{place};
+ghost use Rattle.tree_repair.specs.Levels.{index_of, indexes_of, texts_of};
+ghost use Rattle.tree_repair.specs.Segments.{taken};
 
-use ens_base::{Bytes, Entry, Key, Seq};
-use ens_hashing::digest_of;
+use crate::level::Texts;
+use crate::order::{Placed, in_order};
+use crate::paths::segment_of;
+use crate::runs::runs_of;
+use ens_base::{Bytes, Entry, Seq};
 use std::alloc::{AllocError, Global};
 use std::thread::{Threads, for_each_mut};
 use synctree::encode_segment;
-use tree_node::{Position, Segment};
-
-/// The level of the segments.
-const LEVEL: u8 = 3;
-
-/// The number of segments.
-const COUNT: usize = 4096;
+use tree_node::{Position, Segment, TreeVersion};
 
 /// The number of keys from which on threads share the hashing of keys.
 const FEWEST_SHARED: usize = 1_000;
@@ -26,22 +24,16 @@ const FEWEST_SHARED: usize = 1_000;
 /// The number of threads that share it.
 const THREADS: usize = 8;
 
-/// Returns the index of the segment of a key: the first 12 bits of its MD5.
-fn segment_of(key: &Key) -> usize
-    ensures { result ≡ segment_index key.now }
-{
-    let path = digest_of(key.bytes());
-    usize::from(path.0[0]) * 16 + usize::from(path.0[1] / 16)
-}
-
-/// Returns the index of the segment of the key of each entry. Threads share the work; below 1,000
-/// entries one thread does it, since to start threads takes longer than to hash a few hundred keys.
+/// Returns the index of the segment of the key of each entry in the tree of this version. Threads share
+/// the work; below 1,000 entries one thread does it, since to start threads takes longer than to hash a
+/// few hundred keys.
 fn segments_of<R: Threads + Sync>(
     rt: &R,
     alloc: Global,
+    version: TreeVersion,
     entries: &[Entry],
-) -> Result<Vec<usize>, AllocError>
-    ensures { IfOk result (λ v. v.items ≡ map (λ e. segment_index e.key) entries.now) }
+) -> Result<Vec<u32>, AllocError>
+    ensures { IfOk result (λ v. v.items ≡ map (λ e. index_of (form_of version) (form_of version).depth e.key) entries.now) }
 {
     let threads = if entries.len() < FEWEST_SHARED {
         1
@@ -54,79 +46,79 @@ fn segments_of<R: Threads + Sync>(
         indexes.as_mut_slice(),
         threads,
         &|i, index| {
-            *index = segment_of(&entries[i].key);
+            *index = segment_of(version, &entries[i].key);
         },
     );
     Ok(indexes)
 }
 
-/// Returns every segment of the tree, without entries.
-fn empty_segments(alloc: Global) -> Result<Vec<Segment>, AllocError>
-    ensures { IfOk result (λ v. v.items ≡ each_of (λ i. segment (place 3 i) []) (sixteen.width ^ 3) 0) }
+/// Returns the segment of each place.
+fn numbers_of(alloc: Global, places: &[Placed]) -> Result<Vec<u32>, AllocError>
+    ensures { IfOk result (λ v. v.items ≡ map (λ p. p.segment) places.now) }
 {
-    let mut segments = Vec::new(alloc);
-    for i in 0..COUNT {
-        let position = Position {
-            level: LEVEL,
-            index: i as u32,
-        };
-        let entries = Seq::new(Vec::new(alloc));
-        segments.push(Segment { position, entries })?;
+    places.iter().map(|placed| placed.segment).collect(alloc)
+}
+
+/// Returns copies of the entries at these places.
+fn copies(alloc: Global, entries: &[Entry], places: &[Placed]) -> Result<Seq<Entry>, AllocError>
+    requires { All (λ p. p.entry < length entries.now) places.now }
+    ensures { IfOk result (λ s. s ≡ taken entries.now places.now) }
+{
+    let mut copies = Vec::with_capacity(alloc, places.len())?;
+    for placed in places {
+        copies.push(entries[placed.entry].copy(alloc)?)?;
     }
-    Ok(segments)
+    Ok(Seq::new(copies))
 }
 
-/// Appends an entry to segment `i`.
-fn append(segments: &mut Vec<Segment>, i: usize, entry: Entry) -> Result<(), AllocError>
-    requires { i < length segments.old.items }
-    ensures { OnOk result (segments.new.items ≡ with_entry segments.old.items i entry) }
-{
-    segments[i].entries.push(entry)?;
-    Ok(())
-}
-
-/// Returns every segment of the tree of these entries, whose keys are hashed by threads.
-fn sort_out<R: Threads + Sync>(
-    rt: &R,
+/// Returns the bytes of the segment of this version with this index that has the entries at these
+/// places.
+fn segment_text(
     alloc: Global,
+    version: TreeVersion,
+    index: u32,
     entries: &[Entry],
-) -> Result<Vec<Segment>, AllocError>
-    ensures { IfOk result (λ v. v.items ≡ each_of (λ i. segment (place 3 i) (under sixteen (place 3 i) entries.now)) (sixteen.width ^ 3) 0) }
+    places: &[Placed],
+) -> Result<Bytes, AllocError>
+    requires position { IsPosition version (place (levels version) index) }
+    requires within { All (λ p. p.entry < length entries.now) places.now }
+    requires ascending { AreAbove [] (taken entries.now places.now) }
+    ensures { IfOk result (λ b. b ≡ (form_of version).segment_text (place (levels version) index) (taken entries.now places.now)) }
 {
-    let mut segments = empty_segments(alloc)?;
-    let indexes = segments_of(rt, alloc, entries)?;
-    for i in 0..entries.len() {
-        append(&mut segments, indexes[i], entries[i].copy(alloc)?)?;
-    }
-    Ok(segments)
+    let segment = Segment {
+        version,
+        position: Position {
+            level: version.levels(),
+            index,
+        },
+        entries: copies(alloc, entries, places)?,
+    };
+    Ok(Bytes::new(encode_segment(alloc, &segment)?))
 }
 
-/// Returns the bytes of a segment, or `None` if it has no entries.
-fn segment_text(alloc: Global, segment: &Segment) -> Result<Option<Bytes>, AllocError>
-    requires position { IsPosition segment.now.position }
-    requires ascending { AreAbove [] segment.now.entries }
-    ensures { IfOk result (λ o. o ≡ segment_slot segment.now) }
-{
-    if segment.entries.as_slice().is_empty() {
-        return Ok(None);
-    }
-    Ok(Some(Bytes::new(encode_segment(alloc, segment)?)))
-}
-
-/// Returns the bytes of each segment of the tree of these entries, or `None` for a segment without
-/// entries.
+/// Returns the segments of the tree of these entries in this version that are there, which are those
+/// with entries.
 pub(crate) fn segment_texts<R: Threads + Sync>(
     rt: &R,
     alloc: Global,
+    version: TreeVersion,
     entries: &[Entry],
-) -> Result<Vec<Option<Bytes>>, AllocError>
+) -> Result<Texts, AllocError>
     requires { AreAbove [] entries.now }
-    ensures { IfOk result (λ v. v.items ≡ level_of sixteen 3 entries.now) }
+    ensures indexes { IfOk result (λ t. t.indexes.items ≡ indexes_of (form_of version) (levels version) entries.now) }
+    ensures texts { IfOk result (λ t. t.texts.items ≡ texts_of (form_of version) (levels version) entries.now) }
 {
-    let segments = sort_out(rt, alloc, entries)?;
-    let mut texts = Vec::new(alloc);
-    for segment in &segments {
-        texts.push(segment_text(alloc, segment)?)?;
+    let segments = segments_of(rt, alloc, version, entries)?;
+    let order = in_order(alloc, segments.as_slice())?;
+    let numbers = numbers_of(alloc, order.as_slice())?;
+    let runs = runs_of(alloc, numbers.as_slice())?;
+    let mut texts = Texts::new(alloc);
+    for run in &runs {
+        let places = &order[run.start..run.end];
+        texts.push(
+            run.number,
+            segment_text(alloc, version, run.number, entries, places)?,
+        )?;
     }
     Ok(texts)
 }

@@ -1,8 +1,11 @@
-use Rattle.std.proofs.Common.{◌≡◌, ◌*◌, take, drop}
-use Rattle.tree_maps.specs.Maps.{each_of}
+use Rattle.std.proofs.Common.{◌≡◌, Some, map, take}
+use Rattle.tree_maps.specs.Sixteen.{form_of}
 use Rattle.tree_repair.specs.Builds.{place}
-use Rattle.tree_repair.specs.Levels.{inner_slot}
+use Rattle.tree_repair.specs.Inner.{children_of}
 use Rattle.tree_repair.proofs.inner.inner_texts.Given as goal
 
-abbrev pub invariant-loop-i : goal.invariant-loop-i
-invariant-loop-i l = l.texts.items ≡ each_of (λ i. inner_slot (place l.level i) (take 16 (drop (16 * i) l.names))) l.i 0
+abbrev pub invariant-loop-run : goal.invariant-loop-run
+invariant-loop-run l = record {
+  indexes : l.texts.indexes.items ≡ map (λ r. r.number) (take l.run-index l.run-items);
+  texts : l.texts.texts.items ≡ map (λ i. Some ((form_of l.version).inner_text (place l.level i) (children_of 16 i l.below.indexes.items l.below.names.items))) l.texts.indexes.items;
+}

@@ -1,6 +1,12 @@
 use Rattle.std.proofs.Common.{◌≡◌, map, take}
-use Rattle.tree_repair.specs.Levels.{segment_slot}
+use Rattle.tree_node.specs.TreeVersions.{levels}
+use Rattle.tree_maps.specs.Paths.{node_of}
+use Rattle.tree_maps.specs.Sixteen.{form_of}
+use Rattle.tree_repair.specs.Builds.{place}
 use Rattle.tree_repair.proofs.segments.segment_texts.Given as goal
 
-abbrev pub invariant-loop-segment : goal.invariant-loop-segment
-invariant-loop-segment g l = l.texts.items ≡ map segment_slot (take l.segment-index l.segment-items)
+abbrev pub invariant-loop-run : goal.invariant-loop-run
+invariant-loop-run g l = record {
+  indexes : l.texts.indexes.items ≡ map (λ r. r.number) (take l.run-index l.run-items);
+  texts : l.texts.texts.items ≡ map (λ i. node_of (form_of l.version) (place (levels l.version) i) l.entries) l.texts.indexes.items;
+}
