@@ -12,6 +12,7 @@ use Rattle.phase_rows.specs.declared.phase.Then.TheVariants.{Stay, Follow, SyncO
 use Rattle.phase_rows.specs.Peers.{nobody, alone, joined, members, others_of, others_outside, with_members}
 use Rattle.phase_rows.specs.Orders.{is_same, is_newer, may_accept}
 use Rattle.phase_rows.specs.Rows.{silent, sends, saves_and_sends, at_ballot, anew_at_6}
+use Rattle.phase_rows.specs.declared.rules.PhaseRule.TheVariants as phase_rules
 use Rattle.election.specs.declared.election.Election.{Election}
 use Rattle.election.specs.declared.election.Election.TheVariants.{Preparing, Starting}
 
@@ -37,7 +38,7 @@ next_ballot count me = record { count = count + 1; proposer = me }
 -- promise it
 abbrev pub prepares : Fact → ℕ → Fact → Epoch → PhaseOut × Option Election
 prepares fact me base ballot = (
-  saves_and_sends (at_ballot fact ballot) (others_of me (members base.views)) (Prepare ballot) (Rule 13),
+  saves_and_sends (at_ballot fact ballot) (others_of me (members base.views)) (Prepare ballot) (Rule phase_rules.EnoughPromised),
   Some (Preparing base (alone me) (members base.views) 0),
 )
 
@@ -54,8 +55,8 @@ row_10 fact me best count =
 abbrev pub promised_by : Fact → List Bool → List Bool → ℕ → ℕ → ℕ → Epoch → Fact → Election × PhaseOut
 promised_by base promises asked age me from ballot promised =
     if is_newer promised base
-    then (Preparing promised (joined from promises) (with_members asked promised.views) age, sends (others_outside me asked promised.views) (Prepare ballot) (Rule 13))
-    else (Preparing base (joined from promises) asked age, silent (Rule 13))
+    then (Preparing promised (joined from promises) (with_members asked promised.views) age, sends (others_outside me asked promised.views) (Prepare ballot) (Rule phase_rules.EnoughPromised))
+    else (Preparing base (joined from promises) asked age, silent (Rule phase_rules.EnoughPromised))
 
 -- rule 12: a peer that prepares counts a promise of its ballot; any other promise is ignored
 abbrev pub row_12 : Election → Fact → ℕ → ℕ → Epoch → Fact → Election × PhaseOut
@@ -75,7 +76,7 @@ first_fact fact me views = record { ballot = fact.ballot; epoch = fact.ballot; s
 unfoldable pub starts : Bool → ℕ → Fact → Election × PhaseOut
 starts trusted me new =
     if may_accept trusted me new
-    then (Starting new (alone me) 0, saves_and_sends new (others_of me (members new.views)) (NewEpoch new) (Rule 14))
+    then (Starting new (alone me) 0, saves_and_sends new (others_of me (members new.views)) (NewEpoch new) (Rule phase_rules.EnoughAccepted))
     else (Starting new nobody 0, sends (others_of me (members new.views)) (NewEpoch new) (SyncOn new))
 
 -- the epoch begins on these views, or the peer follows if it is in none of them

@@ -11,6 +11,7 @@ use Rattle.phase_rows.specs.declared.phase.Then.TheVariants.{Stay, Follow, Lead,
 use Rattle.phase_rows.specs.Peers.{joined, others_outside}
 use Rattle.phase_rows.specs.Orders.{is_same}
 use Rattle.phase_rows.specs.Rows.{silent, sends}
+use Rattle.phase_rows.specs.declared.rules.PhaseRule.TheVariants as phase_rules
 use Rattle.election.specs.Preparing.{ignored}
 use Rattle.election.specs.declared.election.Election.{Election}
 use Rattle.election.specs.declared.election.Election.TheVariants.{Preparing, Starting}
@@ -48,5 +49,5 @@ abbrev pub row_17 : Election → Fact → ℕ → Epoch → ℕ → Election × 
 row_17 (Preparing base promises asked age) fact from ballot seq = ignored (Preparing base promises asked age)
 row_17 (Starting new accepts age) fact from ballot seq =
     if is_same ballot fact.ballot && seq == 1
-    then (Starting new (joined from accepts) age, silent (Rule 14))
+    then (Starting new (joined from accepts) age, silent (Rule phase_rules.EnoughAccepted))
     else ignored (Starting new accepts age)

@@ -6,8 +6,9 @@ use crate::election::Election;
 use ens_base::{Epoch, PeerId, PeerSet, Views};
 use peer_fact::{Change, Fact};
 use phase_rows::{
-    PhaseOut, Then, alone, anew_at_6, are_quorum, at_ballot, is_member, is_newer, is_same,
-    may_accept, members, others_of, others_outside, save_and_send, send, silent, with_members,
+    PhaseOut, PhaseRule, Then, alone, anew_at_6, are_quorum, at_ballot, is_member, is_newer,
+    is_same, may_accept, members, others_of, others_outside, save_and_send, send, silent,
+    with_members,
 };
 use wire_frames::Message;
 
@@ -21,7 +22,7 @@ fn prepare(fact: Fact, me: PeerId, base: Fact, ballot: Epoch) -> (PhaseOut, Opti
         at_ballot(&fact, ballot),
         others_of(me, &asked),
         Message::Prepare(ballot),
-        Then::Rule(13),
+        Then::Rule(PhaseRule::EnoughPromised),
     );
     let state = Election::Preparing {
         base,
@@ -76,7 +77,10 @@ fn start(trusted: bool, me: PeerId, new: Fact) -> (Election, PhaseOut)
             accepts: alone(me),
             age: 0,
         };
-        (state, save_and_send(new, to, message, Then::Rule(14)))
+        (
+            state,
+            save_and_send(new, to, message, Then::Rule(PhaseRule::EnoughAccepted)),
+        )
     } else {
         let state = Election::Starting {
             fact: new,
@@ -129,9 +133,13 @@ impl Election {
                         let to = others_outside(me, asked, &promised.views);
                         *base = promised;
                         *asked = with_members(asked, &promised.views);
-                        send(to, Message::Prepare(ballot), Then::Rule(13))
+                        send(
+                            to,
+                            Message::Prepare(ballot),
+                            Then::Rule(PhaseRule::EnoughPromised),
+                        )
                     } else {
-                        silent(Then::Rule(13))
+                        silent(Then::Rule(PhaseRule::EnoughPromised))
                     }
                 } else {
                     silent(Then::Stay)

@@ -5,7 +5,7 @@ ghost use Rattle.election.specs.Starting.{StartsBelow8, resumes, insists, row_4,
 use crate::election::Election;
 use ens_base::{Epoch, PeerId, PeerSet};
 use peer_fact::Fact;
-use phase_rows::{PhaseOut, Then, are_quorum, is_same, others_outside, send, silent};
+use phase_rows::{PhaseOut, PhaseRule, Then, are_quorum, is_same, others_outside, send, silent};
 use wire_frames::Message;
 
 /// Resumes a running sync.
@@ -70,7 +70,7 @@ impl Election {
             Election::Starting { accepts, .. } => {
                 if is_same(ballot, fact.ballot) && seq == 1 {
                     accepts.insert(from);
-                    silent(Then::Rule(14))
+                    silent(Then::Rule(PhaseRule::EnoughAccepted))
                 } else {
                     silent(Then::Stay)
                 }

@@ -2,7 +2,7 @@ ghost use Rattle.std.specs.Prelude.{◌≡◌, ◌<◌};
 
 use ens_base::PeerId;
 use peer_fact::Fact;
-use phase_rows::{PhaseOut, Then, is_member, silent};
+use phase_rows::{PhaseOut, PhaseRule, Then, is_member, silent};
 
 /// The state of a peer that follows: the number of ticks since it last heard from a leader, 0 to 6.
 #[derive(Clone, Copy, Debug, PartialEq, Eq)]
@@ -29,7 +29,7 @@ impl Follower {
         }
         self.quiet += 1;
         if self.quiet == PATIENCE {
-            silent(Then::Rule(7))
+            silent(Then::Rule(PhaseRule::BeginProbing))
         } else {
             silent(Then::Stay)
         }

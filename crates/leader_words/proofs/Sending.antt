@@ -1,9 +1,11 @@
 -- One more turn of the loop that sends a message to all members.
-use Rattle.std.proofs.Common.{◌≡◌, ℕ, suc, ◌+◌, arith, Bool, true, false, if◌then◌else◌, List, [], ◌∷◌, ◌++◌, refl, sym, ap, ◌∙◌}
+use Rattle.std.proofs.Common.{◌≡◌, ℕ, suc, ◌+◌, arith, Bool, true, false, if◌then◌else◌, List, [], ◌∷◌, ◌++◌, refl, sym, ap, ◌∙◌, ◌&&◌, ◌==◌, not}
 use Rattle.std.proofs.lemmas.List.{append_assoc, append-nil}
+use Rattle.ens_base.specs.PeerSet.{holds}
+use Rattle.joint_views.specs.Quorums.{is_member}
 use Rattle.wire_frames.specs.declared.message.Message.{Message}
 use Rattle.leader_words.specs.Outs.{and_send}
-use Rattle.leader_words.specs.Sends.{sent_up_to}
+use Rattle.leader_words.specs.Sends.{is_other, is_other_in, sent_up_to}
 use Rattle.leader_words.specs.declared.out.LeadOut.{LeadOut}
 use Rattle.leader_words.specs.declared.out.Outgoing.{Outgoing}
 
@@ -16,6 +18,10 @@ step_at test message n m e = rw e refl
 
 step : (test : ℕ → Bool) (message : Message) (n : ℕ) → sent_up_to test message (n + 1) ≡ sent_up_to test message n ++ one (test (n + 1)) n message
 step test message n = step_at test message n (n + 1) (omega arith)
+
+-- the members of the views are those of the set that stands for them
+pub in_views : (me : ℕ) (views : List (List ℕ)) (members : List Bool) (p : ℕ) {b : Bool} → holds members p ≡ is_member views p → is_other_in me members p ≡ b → is_other me views p ≡ b
+in_views me views members p same is = ap (λ (t : Bool). t && not (p == me)) (sym same) ∙ is
 
 -- a message to a member that passes the test
 pub sent_to : (test : ℕ → Bool) (message copied : Message) (n : ℕ) (old before now : LeadOut) → test (n + 1) ≡ true → copied ≡ message → before ≡ record old { sends = old.sends ++ sent_up_to test message n } → now ≡ and_send (n + 1) copied before → now ≡ record old { sends = old.sends ++ sent_up_to test message (n + 1) }

@@ -4,9 +4,12 @@ use Rattle.ens_base.specs.declared.reply.Reply.{Reply}
 use Rattle.register_model.specs.declared.note.Note.{Note}
 use Rattle.wire_frames.specs.declared.message.Message.{Message}
 use Rattle.phase_rows.specs.declared.phase.Then.{Then}
-use Rattle.phase_rows.specs.declared.phase.Then.TheVariants.{Stay, Rule}
+use Rattle.phase_rows.specs.declared.phase.Then.TheVariants.{Stay, OnKeys}
+use Rattle.phase_rows.specs.declared.rules.KeyRule.{KeyRule}
+use Rattle.phase_rows.specs.declared.rules.KeyRule.TheVariants as key_rules
 use Rattle.leader_words.specs.declared.out.LeadOut.{LeadOut}
 use Rattle.leader_words.specs.declared.out.Own.{Own}
+use Rattle.leader_words.specs.declared.out.Own.TheVariants as owns
 
 -- an answer that only says what follows
 abbrev pub comes : Then → LeadOut
@@ -25,12 +28,12 @@ abbrev pub and_key : List ℕ → LeadOut → LeadOut
 and_key key o = record o { keys = o.keys ++ key ∷ [] }
 
 -- this rule runs next on this key
-abbrev pub leads_on : ℕ → List ℕ → LeadOut
-leads_on rule key = and_key key (comes (Rule rule))
+abbrev pub leads_on : KeyRule → List ℕ → LeadOut
+leads_on rule key = and_key key (comes (OnKeys rule))
 
 -- the answer with this rule to run next, and one more key on which it runs
-abbrev pub and_then : ℕ → List ℕ → LeadOut → LeadOut
-and_then rule key o = record o { then = Rule rule; keys = o.keys ++ key ∷ [] }
+abbrev pub and_then : KeyRule → List ℕ → LeadOut → LeadOut
+and_then rule key o = record o { then = OnKeys rule; keys = o.keys ++ key ∷ [] }
 
 -- the answer with one more answer to a call
 abbrev pub and_answer : ℕ → ℕ → Reply → LeadOut → LeadOut
@@ -47,3 +50,9 @@ and_send to message o = record o { sends = o.sends ++ record { to = to; message 
 -- the answer with this to ask of the peer's own tree and backend
 abbrev pub and_own : Own → LeadOut → LeadOut
 and_own own o = record o { own = Some own }
+
+-- the rule that asks this, and runs again with what the stores returned
+abbrev pub asked_by : Own → KeyRule
+asked_by (owns.Fetch key) = key_rules.StartCall
+asked_by (owns.Look key) = key_rules.Read
+asked_by (owns.Put object) = key_rules.Put

@@ -1,5 +1,6 @@
 -- Messages to all members except the leader.
 use Rattle.std.specs.Prelude.{ℕ, zero, suc, ◌+◌, ◌==◌, ◌&&◌, not, Bool, if◌then◌else◌, List, [], ◌∷◌, ◌++◌}
+use Rattle.ens_base.specs.PeerSet.{holds}
 use Rattle.joint_views.specs.Quorums.{is_member}
 use Rattle.wire_frames.specs.declared.message.Message.{Message}
 use Rattle.leader_words.specs.declared.out.LeadOut.{LeadOut}
@@ -8,6 +9,10 @@ use Rattle.leader_words.specs.declared.out.Outgoing.{Outgoing}
 -- whether the peer is a member of the views other than `me`
 abbrev pub is_other : ℕ → List (List ℕ) → ℕ → Bool
 is_other me views p = is_member views p && not (p == me)
+
+-- whether the peer is in the set, and is not `me`
+abbrev pub is_other_in : ℕ → List Bool → ℕ → Bool
+is_other_in me set p = holds set p && not (p == me)
 
 -- the message to each peer from 1 up to this number that passes the test, in ascending order
 unfoldable pub sent_up_to : (ℕ → Bool) → Message → ℕ → List Outgoing

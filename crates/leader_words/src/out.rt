@@ -1,14 +1,12 @@
-ghost use Rattle.std.specs.Prelude.{◌≡◌, ℕ, ◌++◌, ◌∷◌, [], OnOk, IfOk};
-ghost use Rattle.ens_base.specs.PeerSet.{holds};
-ghost use Rattle.joint_views.specs.Quorums.{is_member};
-ghost use Rattle.leader_words.specs.Outs.{comes, rests as rests_row, leaves as leaves_row, leads_on as leads_on_row, and_key, and_then, and_answer, and_note, and_send, and_own};
-ghost use Rattle.leader_words.specs.Sends.{is_other, sent_up_to, tells_all as tells_all_row};
+ghost use Rattle.std.specs.Prelude.{◌≡◌, ◌++◌, ◌∷◌, [], OnOk, IfOk};
+ghost use Rattle.leader_words.specs.Outs.{comes, rests as rests_row, leaves as leaves_row, leads_on as leads_on_row, and_key, and_then, and_answer, and_note, and_send, and_own, asked_by as asked_by_rule};
+ghost use Rattle.leader_words.specs.Sends.{is_other_in, sent_up_to, tells_all as tells_all_row};
 
 use crate::error::LeadError;
 use ens_base::{Key, PeerId, PeerSet, Reply, Seq, Views};
 use ens_object::Object;
 use joint_views::members;
-use phase_rows::Then;
+use phase_rows::{KeyRule, Then};
 use register_model::Note;
 use std::alloc::Global;
 use wire_frames::Message;
@@ -32,10 +30,25 @@ pub struct AnswerOut {
 /// returned.
 #[derive(Debug, Drop)]
 pub enum Own {
-    /// Look up the entry and the object of a key, or for rule 28 only the object.
+    /// Rule 28: fetch the object of the key from the backend, whatever the tree has.
+    Fetch(Key),
+    /// Rule 29: look up the entry of the key in the tree, and its object in the backend.
     Look(Key),
-    /// Write the object, after its entry.
+    /// Rule 35: write the object, after its entry.
     Put(Object),
+}
+
+impl Own {
+    /// Returns the rule that asks this, and runs again with what the stores returned.
+    pub fn asked_by(&self) -> KeyRule
+        ensures { result ≡ asked_by_rule self.now }
+    {
+        match self {
+            Own::Fetch(_key) => KeyRule::StartCall,
+            Own::Look(_key) => KeyRule::Read,
+            Own::Put(_object) => KeyRule::Put,
+        }
+    }
 }
 
 /// The answer of a rule of a leader. A leader that steps down answers its calls first. Then the
@@ -86,10 +99,10 @@ impl LeadOut {
     }
 
     /// Makes an answer by which this rule runs next on this key. Fails only when out of memory.
-    pub fn leads_on(alloc: Global, rule: u8, key: &Key) -> Result<LeadOut, LeadError>
+    pub fn leads_on(alloc: Global, rule: KeyRule, key: &Key) -> Result<LeadOut, LeadError>
         ensures { IfOk result (λ o. o ≡ leads_on_row rule key.now) }
     {
-        let mut out = LeadOut::comes(alloc, Then::Rule(rule));
+        let mut out = LeadOut::comes(alloc, Then::OnKeys(rule));
         out.key(key.copy(alloc)?)?;
         Ok(out)
     }
@@ -103,11 +116,11 @@ impl LeadOut {
     }
 
     /// Makes this rule run next, and adds a key on which it runs. Fails only when out of memory.
-    pub fn then(&mut self, rule: u8, key: Key) -> Result<(), LeadError>
+    pub fn then(&mut self, rule: KeyRule, key: Key) -> Result<(), LeadError>
         ensures { OnOk result (self.new ≡ and_then rule key self.old) }
     {
         self.keys.push(key)?;
-        self.then = Then::Rule(rule);
+        self.then = Then::OnKeys(rule);
         Ok(())
     }
 
@@ -142,30 +155,9 @@ impl LeadOut {
         self.own = Some(own);
     }
 
-    /// Adds the message to each of the members, which are those of the views, except `me`.
-    #[tactic(auto, unfolding(crate::specs::Sends::sent_up_to))]
-    fn tell_others(
-        &mut self,
-        alloc: Global,
-        me: PeerId,
-        views: &Views,
-        members: &PeerSet,
-        message: &Message,
-    ) -> Result<(), LeadError>
-        requires { (p : ℕ) → holds members.now p ≡ is_member views.now p }
-        ensures { OnOk result (self.new ≡ tells_all_row me views.now message.now self.old) }
-    {
-        for below in 0..31 {
-            let peer = PeerId(below + 1);
-            if is_other_of(me, views, members, peer) {
-                self.send(peer, message.copy(alloc)?)?;
-            }
-        }
-        Ok(())
-    }
-
     /// Adds the message to each member of the views except `me`, in ascending order. Fails only
     /// when out of memory.
+    #[tactic(auto, unfolding(crate::specs::Sends::sent_up_to))]
     pub fn tell_all(
         &mut self,
         alloc: Global,
@@ -175,16 +167,20 @@ impl LeadOut {
     ) -> Result<(), LeadError>
         ensures { OnOk result (self.new ≡ tells_all_row me views.now message.now self.old) }
     {
-        self.tell_others(alloc, me, views, &members(views), message)
+        let members = members(views);
+        for below in 0..31 {
+            let peer = PeerId(below + 1);
+            if is_other_of(me, &members, peer) {
+                self.send(peer, message.copy(alloc)?)?;
+            }
+        }
+        Ok(())
     }
 }
 
-/// Whether `peer` is one of the members, which are those of the views, and is not `me`.
-pub fn is_other_of(me: PeerId, views: &Views, members: &PeerSet, peer: PeerId) -> bool
-    requires { (p : ℕ) → holds members.now p ≡ is_member views.now p }
-    ensures { result ≡ is_other me views.now peer }
+/// Whether `peer` is in the set and is not `me`.
+pub fn is_other_of(me: PeerId, members: &PeerSet, peer: PeerId) -> bool
+    ensures { result ≡ is_other_in me members.now peer }
 {
-    // The views stand for what the set holds.
-    let _ = views;
     members.has(peer) && peer != me
 }

@@ -10,7 +10,9 @@ use Rattle.ens_base.specs.declared.epoch.Version.{Version}
 use Rattle.ens_object.specs.declared.object.Object.{Object}
 use Rattle.register_model.specs.declared.note.Note.{Note}
 use Rattle.phase_rows.specs.declared.phase.Seen.{Seen}
-use Rattle.phase_rows.specs.declared.phase.Then.TheVariants.{Rule}
+use Rattle.phase_rows.specs.declared.phase.Then.TheVariants.{OnKeys}
+use Rattle.phase_rows.specs.declared.rules.KeyRule.{KeyRule}
+use Rattle.phase_rows.specs.declared.rules.KeyRule.TheVariants as key_rules
 use Rattle.call_table.specs.Calls.{has_calls, running, without_running, older, due, not_due}
 use Rattle.call_table.specs.Rows.{row_at, check_at}
 use Rattle.call_table.specs.Late.{late_put_after}
@@ -36,7 +38,6 @@ use Rattle.leading.specs.declared.pending.Pending.{Pending}
 use Rattle.leading.specs.declared.pending.Pending.TheVariants as tasks
 use Rattle.leading.proofs.Lookups.{running_other}
 use Rattle.leading.proofs.Moves.{IsStep}
-use Rattle.leading.proofs.Steps.{by_number}
 
 -- ## No call
 
@@ -49,10 +50,6 @@ nobody_runs key l e = ap (running key) (no_calls l.table.calls e)
 
 taken_idle : (l : Leader) → l.task ≡ tasks.Nothing → idle (with_task tasks.Nothing l) ≡ idle l
 taken_idle l none = ap (λ (t : Pending). idle (with_task t l)) (sym none)
-
--- the row of a rule does nothing
-abbrev DoesNothing : Leader → ℕ → Leader × LeadOut → Type 0
-DoesNothing l n r = r ≡ idle l
 
 module _ (l : Leader) (empty : has_calls l.table.calls ≡ false) (none : l.task ≡ tasks.Nothing) where
   row_28_idle : (key : List ℕ) (seen : Seen) → row_28 key seen l ≡ idle l
@@ -82,17 +79,16 @@ module _ (l : Leader) (empty : has_calls l.table.calls ≡ false) (none : l.task
   row_36_idle : (key : List ℕ) → row_36 key l ≡ idle l
   row_36_idle key = ap (λ (call : Option Waiting). (l, next_call call key)) (nobody_runs key l empty)
 
-  pub lead_row_idle : (n : ℕ) (key : List ℕ) (seen : Seen) → lead_row n key seen l ≡ idle l
-  lead_row_idle n key seen =
-      by_number (DoesNothing l) n 28 _ _ (row_28_idle key seen) (λ not_28.
-      by_number (DoesNothing l) n 29 _ _ (row_29_idle key seen) (λ not_29.
-      by_number (DoesNothing l) n 30 _ _ (row_30_idle key) (λ not_30.
-      by_number (DoesNothing l) n 31 _ _ (row_31_idle key) (λ not_31.
-      by_number (DoesNothing l) n 32 _ _ (row_32_idle key) (λ not_32.
-      by_number (DoesNothing l) n 33 _ _ (row_33_idle key) (λ not_33.
-      by_number (DoesNothing l) n 34 _ _ (row_34_idle key) (λ not_34.
-      by_number (DoesNothing l) n 35 _ _ (row_35_idle key seen) (λ not_35.
-      by_number (DoesNothing l) n 36 _ _ (row_36_idle key) (λ not_36. refl)))))))))
+  pub lead_row_idle : (rule : KeyRule) (key : List ℕ) (seen : Seen) → lead_row rule key seen l ≡ idle l
+  lead_row_idle key_rules.StartCall key seen = row_28_idle key seen
+  lead_row_idle key_rules.Read key seen = row_29_idle key seen
+  lead_row_idle key_rules.EnoughReplies key seen = row_30_idle key
+  lead_row_idle key_rules.Write key seen = row_31_idle key
+  lead_row_idle key_rules.Rewrite key seen = row_32_idle key
+  lead_row_idle key_rules.Check key seen = row_33_idle key
+  lead_row_idle key_rules.Apply key seen = row_34_idle key
+  lead_row_idle key_rules.Put key seen = row_35_idle key seen
+  lead_row_idle key_rules.StartNextCall key seen = row_36_idle key
 
   module _ (calm : IsCalm l.table) where
     stage_idle : (key : List ℕ) → (row_at key l.table.rows).stage ≡ stages.Idle
@@ -142,8 +138,8 @@ module _ (key : List ℕ) (old new : CallTable) (others : KeepsOthers key old ne
   served (a ∷ b ∷ answers) notes serves = absurd serves
 
 -- after a step on a key, a key without a call is idle if that was so before
-pub calm_kept : (n : ℕ) (key : List ℕ) (size : ℕ) (Ready : Type 0) (l : Leader) (r : Leader × LeadOut) → IsStep n key size Ready l r → Ready → IsCalm l.table → IsCalm r.0.table
-calm_kept n key size Ready l r s ready calm = by_kept s.kept
+pub calm_kept : (rule : KeyRule) (key : List ℕ) (size : ℕ) (Ready : Type 0) (l : Leader) (r : Leader × LeadOut) → IsStep rule key size Ready l r → Ready → IsCalm l.table → IsCalm r.0.table
+calm_kept rule key size Ready l r s ready calm = by_kept s.kept
   where
     by_kept : (Ready → Runs key l) ⊎ (r.0.table ≡ l.table) → IsCalm r.0.table
     by_kept (inl runs) = served key l.table r.0.table s.others (runs ready) calm r.1.answers r.1.notes s.serves
@@ -168,13 +164,13 @@ empty_late t none = ap (late_put_after t.rows []) none
 
 -- the leader with this table, and the answers to these calls
 abbrev paired : Leader → CallTable → List DueCall → Leader × LeadOut
-paired l t ds = (record l { table = t }, timed_out ds (comes (Rule 36)))
+paired l t ds = (record l { table = t }, timed_out ds (comes (OnKeys key_rules.StartNextCall)))
 
 abbrev ages_by : Bool → Leader → Leader × LeadOut
 ages_by b l = if b then (l, leaves) else paired l (without_due l.table) (due l.table.calls)
 
 abbrev pub ends_by : Bool → Leader → Leader × LeadOut
-ends_by b l = (l, if b then leaves else comes (Rule 36))
+ends_by b l = (l, if b then leaves else comes (OnKeys key_rules.StartNextCall))
 
 late_empty : (b : Bool) (l : Leader) → l.table.calls ≡ [] → ages_by b l ≡ ends_by b l
 late_empty true l none = refl

@@ -1,5 +1,6 @@
 -- What rule 27 keeps to.
 use Rattle.std.proofs.Common.{◌≡◌, ◌≤◌, ◌+◌, ◌*◌, ◌==◌, refl, lit≤, ℕ, Bool, true, false, length, length-append, nat_le, if◌then◌else◌, List, [], ◌∷◌, ◌++◌, Some, None, arith}
+use Rattle.phase_rows.specs.declared.rules.KeyRule.TheVariants as key_rules
 use Rattle.ens_base.specs.Lists.{same_bytes}
 use Rattle.ens_base.specs.declared.command.Command.{Command}
 use Rattle.ens_base.specs.declared.reply.Reply.{Reply}
@@ -27,8 +28,8 @@ pub record IsJoin (key : List ℕ) (l : Leader) (r : Leader × LeadOut) : Type 0
   pub leave : r.1.leave ≡ false
   pub own : r.1.own ≡ None
   pub names : NamesOn key r.1.then r.1.keys
-  pub lowers : turns_after 27 r.1 + weight r.0 ≤ 25 + weight l
-  pub ready : IsAtRest l → IsReadyFor 27 key None r.1.then r.0
+  pub lowers : turns_after r.1 + weight r.0 ≤ 25 + weight l
+  pub ready : IsAtRest l → IsReadyFor key None r.1.then r.0
   pub calm : IsCalm l.table → IsCalm r.0.table
   pub counts : CountsInOwnViews l → CountsInOwnViews r.0
 
@@ -65,7 +66,7 @@ none_before k (v ∷ calls) w e = by_key (same_bytes v.key k) e (none_before k c
 one_longer : (calls : List Waiting) (w : Waiting) (x a : ℕ) → a ≤ 12 → a + (13 * length (calls ++ w ∷ []) + x) ≤ 25 + (13 * length calls + x)
 one_longer calls w x a h = let long : length (calls ++ w ∷ []) ≡ length calls + 1 = length-append calls (w ∷ []) in omega (arith, long, h)
 
-joins : (key : List ℕ) (l : Leader) (w : Waiting) (alone : Bool) → IsJoin key l (joined w l, if alone then leads_on 28 key else rests)
+joins : (key : List ℕ) (l : Leader) (w : Waiting) (alone : Bool) → IsJoin key l (joined w l, if alone then leads_on key_rules.StartCall key else rests)
 joins key l w true = record {
   fact = refl;
   me = refl;
@@ -76,9 +77,9 @@ joins key l w true = record {
   notes = refl;
   leave = refl;
   own = refl;
-  names = (lit≤ tt, lit≤ tt, refl);
+  names = refl;
   lowers = one_longer l.table.calls w (task_turns l.task) 12 (lit≤ tt);
-  ready = λ rest. free 28 key (joined w l) refl rest.task;
+  ready = λ rest. free key_rules.StartCall key (joined w l) refl rest.task;
   calm = λ calm k none. calm k (none_before k l.table.calls w none);
   counts = λ before. before;
 }

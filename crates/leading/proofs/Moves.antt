@@ -1,6 +1,6 @@
 -- What a step on a key keeps to, and the steps that many rules share.
 use Rattle.std.specs.Prelude.{All, IsSome}
-use Rattle.std.proofs.Common.{◌≡◌, ◌<◌, ◌⊎◌, ◌+◌, ◌*◌, ◌∙◌, ap, sym, refl, subst, inl, inr, lit≤, ℕ, Bool, true, false, length, if◌then◌else◌, List, [], ◌∷◌, Option, Some, None, arith}
+use Rattle.std.proofs.Common.{◌≡◌, ◌<◌, ◌⊎◌, ◌+◌, ◌*◌, ◌∙◌, ap, sym, refl, subst, inl, inr, ℕ, Bool, true, false, length, if◌then◌else◌, List, [], ◌∷◌, Option, Some, None, arith}
 use Rattle.std.proofs.lemmas.Bool.{true≢false}
 use Rattle.std.proofs.lemmas.List.Elements.{All-nil}
 use Rattle.ens_base.specs.Lists.{◌∈◌, same_bytes}
@@ -10,6 +10,8 @@ use Rattle.register_model.specs.declared.note.Note.{Note}
 use Rattle.register_model.specs.declared.note.Note.TheVariants.{Proposed, Settled, Read}
 use Rattle.phase_rows.specs.declared.phase.Then.{Then}
 use Rattle.phase_rows.specs.declared.phase.Then.TheVariants.{Stay, Untrust}
+use Rattle.phase_rows.specs.declared.rules.KeyRule.{KeyRule}
+use Rattle.phase_rows.specs.declared.rules.KeyRule.TheVariants as key_rules
 use Rattle.call_table.specs.Calls.{running, without_running}
 use Rattle.call_table.specs.Rows.{row_at}
 use Rattle.call_table.specs.Tables.{ended, rested}
@@ -36,60 +38,60 @@ either P false a b p q = q
 
 -- ## Notes
 
--- only rule 35 notes a version as settled
-abbrev pub OnlySettlesBy35 : ℕ → List Note → Type 0
-OnlySettlesBy35 n notes = (k : List ℕ) (version : Version) → Settled k version ∈ notes → n ≡ 35
+-- only a put notes a version as settled
+abbrev pub OnlyPutSettles : KeyRule → List Note → Type 0
+OnlyPutSettles n notes = (k : List ℕ) (version : Version) → Settled k version ∈ notes → n ≡ key_rules.Put
 
--- without an answer, at most one note is made by the rule of this number: that a version of this
--- key is proposed, or by rule 35 that one is settled
-abbrev TellsBy : ℕ → List ℕ → List Note → Type 0
+-- without an answer, at most one note is made by this rule: that a version of this key is
+-- proposed, or by a put that one is settled
+abbrev TellsBy : KeyRule → List ℕ → List Note → Type 0
 TellsBy n key [] = Unit {0}
 TellsBy n key (Proposed k version parent call ∷ []) = k ≡ key
-TellsBy n key (Settled k version ∷ []) = (k ≡ key) × (n ≡ 35)
+TellsBy n key (Settled k version ∷ []) = (k ≡ key) × (n ≡ key_rules.Put)
 TellsBy n key notes = ⊥
 
-tells_of : (n : ℕ) (key : List ℕ) (notes : List Note) → TellsBy n key notes → TellsOf key notes
-tells_of n key [] tells = tt
-tells_of n key (Proposed k version parent call ∷ []) tells = tells
-tells_of n key (Settled k version ∷ []) tells = tells.0
-tells_of n key (Read id k base ∷ []) tells = absurd tells
-tells_of n key (Proposed k version parent call ∷ y ∷ notes) tells = absurd tells
-tells_of n key (Settled k version ∷ y ∷ notes) tells = absurd tells
-tells_of n key (Read id k base ∷ y ∷ notes) tells = absurd tells
+tells_of : (rule : KeyRule) (key : List ℕ) (notes : List Note) → TellsBy rule key notes → TellsOf key notes
+tells_of rule key [] tells = tt
+tells_of rule key (Proposed k version parent call ∷ []) tells = tells
+tells_of rule key (Settled k version ∷ []) tells = tells.0
+tells_of rule key (Read id k base ∷ []) tells = absurd tells
+tells_of rule key (Proposed k version parent call ∷ y ∷ notes) tells = absurd tells
+tells_of rule key (Settled k version ∷ y ∷ notes) tells = absurd tells
+tells_of rule key (Read id k base ∷ y ∷ notes) tells = absurd tells
 
-settled_by : (n : ℕ) (key : List ℕ) (notes : List Note) → TellsBy n key notes → OnlySettlesBy35 n notes
-settled_by n key [] tells k version h = absurd h
-settled_by n key (Proposed j own parent call ∷ []) tells k version (inl e) = absurd cc
-settled_by n key (Proposed j own parent call ∷ []) tells k version (inr h) = absurd h
-settled_by n key (Settled j own ∷ []) tells k version h = tells.1
-settled_by n key (Read id j base ∷ []) tells k version h = absurd tells
-settled_by n key (Proposed j own parent call ∷ y ∷ notes) tells k version h = absurd tells
-settled_by n key (Settled j own ∷ y ∷ notes) tells k version h = absurd tells
-settled_by n key (Read id j base ∷ y ∷ notes) tells k version h = absurd tells
+settled_by : (rule : KeyRule) (key : List ℕ) (notes : List Note) → TellsBy rule key notes → OnlyPutSettles rule notes
+settled_by rule key [] tells k version h = absurd h
+settled_by rule key (Proposed j own parent call ∷ []) tells k version (inl e) = absurd cc
+settled_by rule key (Proposed j own parent call ∷ []) tells k version (inr h) = absurd h
+settled_by rule key (Settled j own ∷ []) tells k version h = tells.1
+settled_by rule key (Read id j base ∷ []) tells k version h = absurd tells
+settled_by rule key (Proposed j own parent call ∷ y ∷ notes) tells k version h = absurd tells
+settled_by rule key (Settled j own ∷ y ∷ notes) tells k version h = absurd tells
+settled_by rule key (Read id j base ∷ y ∷ notes) tells k version h = absurd tells
 
-pub read_settles_nothing : (n id : ℕ) (key : List ℕ) (base : Option Version) → OnlySettlesBy35 n (Read id key base ∷ [])
-read_settles_nothing n id key base k version (inl e) = absurd cc
-read_settles_nothing n id key base k version (inr h) = absurd h
+pub read_settles_nothing : (rule : KeyRule) (id : ℕ) (key : List ℕ) (base : Option Version) → OnlyPutSettles rule (Read id key base ∷ [])
+read_settles_nothing rule id key base k version (inl e) = absurd cc
+read_settles_nothing rule id key base k version (inr h) = absurd h
 
 -- ## One step on a key
 
 -- A step on a key leads from a leader to another, and has an answer. `n` is its rule, and `size` is
 -- the most rules that run from it on for one call. If `Ready` holds before, the leader is ready for
 -- what comes next.
-pub record IsStep (n : ℕ) (key : List ℕ) (size : ℕ) (Ready : Type 0) (l : Leader) (r : Leader × LeadOut) : Type 0 where
+pub record IsStep (rule : KeyRule) (key : List ℕ) (size : ℕ) (Ready : Type 0) (l : Leader) (r : Leader × LeadOut) : Type 0 where
   pub fact : r.0.fact ≡ l.fact
   pub me : r.0.me ≡ l.me
   pub accepts : r.0.accepts ≡ l.accepts
   pub others : KeepsOthers key l.table r.0.table
   pub sends : All (MayGo l.me) r.1.sends
   pub names : NamesOn key r.1.then r.1.keys
-  pub asks : AsksOn n key r.1.own
+  pub asks : AsksOn rule key r.1.own
   pub serves : Serves key l.table r.0.table r.1.answers r.1.notes
   pub numbers : Numbers l r.0
-  pub lowers : turns_after n r.1 + weight r.0 < size + weight l
-  pub ready : Ready → IsReadyFor n key r.1.own r.1.then r.0
+  pub lowers : turns_after r.1 + weight r.0 < size + weight l
+  pub ready : Ready → IsReadyFor key r.1.own r.1.then r.0
   pub kept : (Ready → Runs key l) ⊎ (r.0.table ≡ l.table)
-  pub settles : OnlySettlesBy35 n r.1.notes
+  pub settles : OnlyPutSettles rule r.1.notes
   pub counts : CountsInOwnViews l → CountsInOwnViews r.0
 
 -- the leader at the end of a step in which no call is answered
@@ -136,11 +138,11 @@ same_weight : (a size x y : ℕ) (before after : List Waiting) → after ≡ bef
 same_weight a size x y before after e less = let same : length after ≡ length before = ap length e in omega (arith, same, less)
 
 -- a step in which no call is answered
-pub goes : (n size : ℕ) (key : List ℕ) (Ready : Type 0) (l m : Leader) (leave : Bool) (sends : List Outgoing) (notes : List Note) (own : Option Own) (next : Then) (keys : List (List ℕ))
-    → IsMoved key l m → All (MayGo l.me) sends → NamesOn key next keys → AsksOn n key own → TellsBy n key notes
-    → turns_next n own next keys + task_turns m.task < size + task_turns l.task
-    → (Ready → IsReadyFor n key own next m) → (Ready → Runs key l) ⊎ (m.table ≡ l.table) → IsStep n key size Ready l (m, out leave sends notes own next keys)
-goes n size key Ready l m leave sends notes own next keys moved may names asks tells less ready kept = record {
+pub goes : (rule : KeyRule) (size : ℕ) (key : List ℕ) (Ready : Type 0) (l m : Leader) (leave : Bool) (sends : List Outgoing) (notes : List Note) (own : Option Own) (next : Then) (keys : List (List ℕ))
+    → IsMoved key l m → All (MayGo l.me) sends → NamesOn key next keys → AsksOn rule key own → TellsBy rule key notes
+    → turns_next own next keys + task_turns m.task < size + task_turns l.task
+    → (Ready → IsReadyFor key own next m) → (Ready → Runs key l) ⊎ (m.table ≡ l.table) → IsStep rule key size Ready l (m, out leave sends notes own next keys)
+goes rule size key Ready l m leave sends notes own next keys moved may names asks tells less ready kept = record {
   fact = moved.fact;
   me = moved.me;
   accepts = moved.accepts;
@@ -148,18 +150,18 @@ goes n size key Ready l m leave sends notes own next keys moved may names asks t
   sends = may;
   names = names;
   asks = asks;
-  serves = (moved.calls, tells_of n key notes tells);
+  serves = (moved.calls, tells_of rule key notes tells);
   numbers = inl moved.seq;
-  lowers = same_weight (turns_next n own next keys) size (task_turns l.task) (task_turns m.task) l.table.calls m.table.calls moved.calls less;
+  lowers = same_weight (turns_next own next keys) size (task_turns l.task) (task_turns m.task) l.table.calls m.table.calls moved.calls less;
   ready = ready;
   kept = kept;
-  settles = settled_by n key notes tells;
+  settles = settled_by rule key notes tells;
   counts = moved.counts;
 }
 
 -- a free leader is ready for the rules that begin without a task
-pub free : (n : ℕ) (key : List ℕ) (l : Leader) → is_start n ≡ true → l.task ≡ tasks.Nothing → IsReady n key l
-free n key l start none = subst (λ (t : Pending). Fits n key l t) (sym none) start
+pub free : (rule : KeyRule) (key : List ℕ) (l : Leader) → is_start rule ≡ true → l.task ≡ tasks.Nothing → IsReady rule key l
+free rule key l start none = subst (λ (t : Pending). Fits rule key l t) (sym none) start
 
 -- before a rule that begins without a task
 abbrev pub IsFree : List ℕ → Leader → Type 0
@@ -172,16 +174,16 @@ pub room_at : (a size x : ℕ) → a < size → a + x < size + x
 room_at a size x h = omega (arith, h)
 
 -- nothing happens
-pub idle_step : (n size : ℕ) (key : List ℕ) (Ready : Type 0) (l : Leader) → 0 < size → (Ready → l.task ≡ tasks.Nothing) → IsStep n key size Ready l (idle l)
-idle_step n size key Ready l h ready = goes n size key Ready l l false [] [] None Stay [] (stays key l) (none_may l.me) refl tt tt (room_at 0 size (task_turns l.task) h) ready (inr refl)
+pub idle_step : (rule : KeyRule) (size : ℕ) (key : List ℕ) (Ready : Type 0) (l : Leader) → 0 < size → (Ready → l.task ≡ tasks.Nothing) → IsStep rule key size Ready l (idle l)
+idle_step rule size key Ready l h ready = goes rule size key Ready l l false [] [] None Stay [] (stays key l) (none_may l.me) refl tt tt (room_at 0 size (task_turns l.task) h) ready (inr refl)
 
 -- the leader steps down
-pub leaves_step : (n size : ℕ) (key : List ℕ) (Ready : Type 0) (l : Leader) → 0 < size → (Ready → l.task ≡ tasks.Nothing) → IsStep n key size Ready l (l, leaves)
-leaves_step n size key Ready l h ready = goes n size key Ready l l true [] [] None Stay [] (stays key l) (none_may l.me) refl tt tt (room_at 0 size (task_turns l.task) h) ready (inr refl)
+pub leaves_step : (rule : KeyRule) (size : ℕ) (key : List ℕ) (Ready : Type 0) (l : Leader) → 0 < size → (Ready → l.task ≡ tasks.Nothing) → IsStep rule key size Ready l (l, leaves)
+leaves_step rule size key Ready l h ready = goes rule size key Ready l l true [] [] None Stay [] (stays key l) (none_may l.me) refl tt tt (room_at 0 size (task_turns l.task) h) ready (inr refl)
 
 -- the tree is no longer trusted
-pub untrust_step : (n size : ℕ) (key : List ℕ) (Ready : Type 0) (l : Leader) → 0 < size → (Ready → l.task ≡ tasks.Nothing) → IsStep n key size Ready l (l, comes Untrust)
-untrust_step n size key Ready l h ready = goes n size key Ready l l false [] [] None Untrust [] (stays key l) (none_may l.me) refl tt tt (room_at 0 size (task_turns l.task) h) ready (inr refl)
+pub untrust_step : (rule : KeyRule) (size : ℕ) (key : List ℕ) (Ready : Type 0) (l : Leader) → 0 < size → (Ready → l.task ≡ tasks.Nothing) → IsStep rule key size Ready l (l, comes Untrust)
+untrust_step rule size key Ready l h ready = goes rule size key Ready l l false [] [] None Untrust [] (stays key l) (none_may l.me) refl tt tt (room_at 0 size (task_turns l.task) h) ready (inr refl)
 
 -- ## A running call is answered
 
@@ -207,21 +209,21 @@ ended_counts key m before k = stages_then (CountsIn m.fact.views) key k stages.I
 fewer_weight : (size x y : ℕ) (before after : List Waiting) → length before ≡ length after + 1 → 0 < size → y ≡ x → 13 + (13 * length after + y) < size + (13 * length before + x)
 fewer_weight size x y before after one some same = omega (arith, one, some, same)
 
-pub answered_step : (n size : ℕ) (key : List ℕ) (l m : Leader) (w : Waiting) (reply : Reply) (sends : List Outgoing) (notes : List Note)
-    → IsMoved key l m → m.task ≡ l.task → running key l.table.calls ≡ Some w → All (MayGo l.me) sends → IsCause key w reply notes → OnlySettlesBy35 n notes → 0 < size
-    → IsStep n key size (IsFree key l) l (answered w reply key (out false sends notes None Stay []) m)
-answered_step n size key l m w reply sends notes moved task e may cause settles some = record {
+pub answered_step : (rule : KeyRule) (size : ℕ) (key : List ℕ) (l m : Leader) (w : Waiting) (reply : Reply) (sends : List Outgoing) (notes : List Note)
+    → IsMoved key l m → m.task ≡ l.task → running key l.table.calls ≡ Some w → All (MayGo l.me) sends → IsCause key w reply notes → OnlyPutSettles rule notes → 0 < size
+    → IsStep rule key size (IsFree key l) l (answered w reply key (out false sends notes None Stay []) m)
+answered_step rule size key l m w reply sends notes moved task e may cause settles some = record {
   fact = moved.fact;
   me = moved.me;
   accepts = moved.accepts;
   others = λ k off. ended_others key k l m moved.others off;
   sends = may;
-  names = (lit≤ tt, lit≤ tt, refl);
+  names = refl;
   asks = tt;
   serves = (w, is, refl, refl, cause);
   numbers = inl moved.seq;
   lowers = fewer_weight size (task_turns l.task) (task_turns m.task) l.table.calls (ended key m.table).calls fewer some (ap task_turns task);
-  ready = λ before. free 36 key (record m { table = ended key m.table }) refl (task ∙ before.0);
+  ready = λ before. free key_rules.StartNextCall key (record m { table = ended key m.table }) refl (task ∙ before.0);
   kept = inl (λ before. before.1);
   settles = settles;
   counts = λ before. ended_counts key m (moved.counts before);
@@ -240,8 +242,8 @@ kept_by Before After R T from (inl f) = inl (λ after. f (from after))
 kept_by Before After R T from (inr e) = inr e
 
 -- a step from a ready leader, if it is one from a leader that is free or has a running call
-pub on_ready : (n size : ℕ) (key : List ℕ) (Before After : Type 0) (l : Leader) (r : Leader × LeadOut) → (After → Before) → IsStep n key size Before l r → IsStep n key size After l r
-on_ready n size key Before After l r from s = record {
+pub on_ready : (rule : KeyRule) (size : ℕ) (key : List ℕ) (Before After : Type 0) (l : Leader) (r : Leader × LeadOut) → (After → Before) → IsStep rule key size Before l r → IsStep rule key size After l r
+on_ready rule size key Before After l r from s = record {
   fact = s.fact;
   me = s.me;
   accepts = s.accepts;
@@ -259,23 +261,23 @@ on_ready n size key Before After l r from s = record {
 }
 
 -- a leader that is ready for a rule that begins without a task has none
-no_start : (n m : ℕ) → is_start m ≡ false → n ≡ m → is_start n ≡ true → ⊥
-no_start n m off e held = absurd (true≢false (sym held ∙ ap is_start e ∙ off))
+no_start : (rule m : KeyRule) → is_start m ≡ false → rule ≡ m → is_start rule ≡ true → ⊥
+no_start rule m off e held = absurd (true≢false (sym held ∙ ap is_start e ∙ off))
 
-pub no_task : (n : ℕ) (key : List ℕ) (l : Leader) (task : Pending) → is_start n ≡ true → Fits n key l task → task ≡ tasks.Nothing
-no_task n key l tasks.Nothing start fits = refl
-no_task n key l (tasks.Write content parent) start fits = absurd (no_start n 31 refl fits.0 start)
-no_task n key l (tasks.Rewrite o) start fits = absurd (no_start n 32 refl fits.0 start)
-no_task n key l (tasks.Check reply) start fits = absurd (no_start n 33 refl fits.0 start)
-no_task n key l (tasks.Apply current) start fits = absurd (no_start n 34 refl fits.0 start)
-no_task n key l (tasks.Propose o parent call) start fits = absurd (no_start n 35 refl fits.0 start)
+pub no_task : (rule : KeyRule) (key : List ℕ) (l : Leader) (task : Pending) → is_start rule ≡ true → Fits rule key l task → task ≡ tasks.Nothing
+no_task rule key l tasks.Nothing start fits = refl
+no_task rule key l (tasks.Write content parent) start fits = absurd (no_start rule key_rules.Write refl fits.0 start)
+no_task rule key l (tasks.Rewrite o) start fits = absurd (no_start rule key_rules.Rewrite refl fits.0 start)
+no_task rule key l (tasks.Check reply) start fits = absurd (no_start rule key_rules.Check refl fits.0 start)
+no_task rule key l (tasks.Apply current) start fits = absurd (no_start rule key_rules.Apply refl fits.0 start)
+no_task rule key l (tasks.Propose o parent call) start fits = absurd (no_start rule key_rules.Put refl fits.0 start)
 
 -- a rule that begins without a task: with no call nothing happens, and with a running call it is a step
-pub started_by : (n size : ℕ) (key : List ℕ) (l : Leader) (call : Option Waiting) (row : Option Waiting → Leader × LeadOut) → is_start n ≡ true → 0 < size → running key l.table.calls ≡ call
-    → row None ≡ idle l → ((w : Waiting) → running key l.table.calls ≡ Some w → IsStep n key size (IsFree key l) l (row (Some w))) → IsStep n key size (IsReady n key l) l (row call)
-started_by n size key l None row start some e none step = subst (λ (r : Leader × LeadOut). IsStep n key size (IsReady n key l) l r) (sym none) (idle_step n size key (IsReady n key l) l some (λ ready. no_task n key l l.task start ready))
-started_by n size key l (Some w) row start some e none step =
-    on_ready n size key (IsFree key l) (IsReady n key l) l (row (Some w)) (λ ready. (no_task n key l l.task start ready, runs key l.table.calls w e)) (step w e)
+pub started_by : (rule : KeyRule) (size : ℕ) (key : List ℕ) (l : Leader) (call : Option Waiting) (row : Option Waiting → Leader × LeadOut) → is_start rule ≡ true → 0 < size → running key l.table.calls ≡ call
+    → row None ≡ idle l → ((w : Waiting) → running key l.table.calls ≡ Some w → IsStep rule key size (IsFree key l) l (row (Some w))) → IsStep rule key size (IsReady rule key l) l (row call)
+started_by rule size key l None row start some e none step = subst (λ (r : Leader × LeadOut). IsStep rule key size (IsReady rule key l) l r) (sym none) (idle_step rule size key (IsReady rule key l) l some (λ ready. no_task rule key l l.task start ready))
+started_by rule size key l (Some w) row start some e none step =
+    on_ready rule size key (IsFree key l) (IsReady rule key l) l (row (Some w)) (λ ready. (no_task rule key l l.task start ready, runs key l.table.calls w e)) (step w e)
 
 -- ## Rules that take the task
 
@@ -283,8 +285,8 @@ in_all : (a size x y : ℕ) → a < size + x + (y + 0) → a < size + (y + x)
 in_all a size x y h = omega (arith, h)
 
 -- the task is taken first
-pub taken : (n size : ℕ) (key : List ℕ) (Before After : Type 0) (l : Leader) (r : Leader × LeadOut) → (After → Before) → IsStep n key (size + task_turns l.task) Before (with_task tasks.Nothing l) r → IsStep n key size After l r
-taken n size key Before After l r from s = record {
+pub taken : (rule : KeyRule) (size : ℕ) (key : List ℕ) (Before After : Type 0) (l : Leader) (r : Leader × LeadOut) → (After → Before) → IsStep rule key (size + task_turns l.task) Before (with_task tasks.Nothing l) r → IsStep rule key size After l r
+taken rule size key Before After l r from s = record {
   fact = s.fact;
   me = s.me;
   accepts = s.accepts;
@@ -294,7 +296,7 @@ taken n size key Before After l r from s = record {
   asks = s.asks;
   serves = s.serves;
   numbers = s.numbers;
-  lowers = in_all (turns_after n r.1 + weight r.0) size (task_turns l.task) (13 * length l.table.calls) s.lowers;
+  lowers = in_all (turns_after r.1 + weight r.0) size (task_turns l.task) (13 * length l.table.calls) s.lowers;
   ready = λ after. s.ready (from after);
   kept = kept_by Before After (Runs key l) (r.0.table ≡ l.table) from s.kept;
   settles = s.settles;
@@ -302,16 +304,16 @@ taken n size key Before After l r from s = record {
 }
 
 -- with a task left, the key has a running call
-has_run : (n : ℕ) (key : List ℕ) (l : Leader) (task : Pending) → is_start n ≡ false → Fits n key l task → Runs key l
-has_run n key l tasks.Nothing off fits = absurd (true≢false (sym fits ∙ off))
-has_run n key l (tasks.Write content parent) off fits = fits.1
-has_run n key l (tasks.Rewrite o) off fits = fits.1
-has_run n key l (tasks.Check reply) off fits = fits.1
-has_run n key l (tasks.Apply current) off fits = fits.1
-has_run n key l (tasks.Propose o parent call) off fits = fits.1
+has_run : (rule : KeyRule) (key : List ℕ) (l : Leader) (task : Pending) → is_start rule ≡ false → Fits rule key l task → Runs key l
+has_run rule key l tasks.Nothing off fits = absurd (true≢false (sym fits ∙ off))
+has_run rule key l (tasks.Write content parent) off fits = fits.1
+has_run rule key l (tasks.Rewrite o) off fits = fits.1
+has_run rule key l (tasks.Check reply) off fits = fits.1
+has_run rule key l (tasks.Apply current) off fits = fits.1
+has_run rule key l (tasks.Propose o parent call) off fits = fits.1
 
-pub free_after : (n : ℕ) (key : List ℕ) (l : Leader) → is_start n ≡ false → IsReady n key l → IsFree key (with_task tasks.Nothing l)
-free_after n key l off ready = (refl, has_run n key l l.task off ready)
+pub free_after : (rule : KeyRule) (key : List ℕ) (l : Leader) → is_start rule ≡ false → IsReady rule key l → IsFree key (with_task tasks.Nothing l)
+free_after rule key l off ready = (refl, has_run rule key l l.task off ready)
 
 pub more : (a b x : ℕ) → a < b → a < b + x
 more a b x h = omega (arith, h)

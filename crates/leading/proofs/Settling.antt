@@ -21,6 +21,8 @@ use Rattle.register_model.specs.declared.note.Note.TheVariants.{Proposed, Settle
 use Rattle.wire_frames.specs.declared.message.Message.TheVariants as messages
 use Rattle.phase_rows.specs.declared.phase.Seen.{Seen}
 use Rattle.phase_rows.specs.declared.phase.Seen.TheVariants as seens
+use Rattle.phase_rows.specs.declared.rules.KeyRule.{KeyRule}
+use Rattle.phase_rows.specs.declared.rules.KeyRule.TheVariants as key_rules
 use Rattle.call_table.specs.Calls.{running}
 use Rattle.call_table.specs.Rows.{row_at}
 use Rattle.call_table.specs.declared.row.Stage.{Stage}
@@ -102,10 +104,10 @@ put_settles l (tasks.Check reply) seen key k version same h = absurd h
 put_settles l (tasks.Apply current) seen key k version same h = absurd h
 
 -- of the rules on a key, rule 35 alone settles a put
-pub key_settles : (n : ℕ) (key : List ℕ) (seen : Seen) (l : Leader) (k : List ℕ) (version : Version) → Settled k version ∈ (lead_row n key seen l).1.notes → (n ≡ 35) × (k ≡ key) × SettlesAlone version seen l
-key_settles n key seen l k version h =
-    let is : n ≡ 35 = (lead_step n key seen l).settles k version h in
-    let parts = put_settles l l.task seen key k version refl (subst (λ (m : ℕ). Settled k version ∈ (lead_row m key seen l).1.notes) is h) in (is, parts.0, parts.1)
+pub key_settles : (rule : KeyRule) (key : List ℕ) (seen : Seen) (l : Leader) (k : List ℕ) (version : Version) → Settled k version ∈ (lead_row rule key seen l).1.notes → (rule ≡ key_rules.Put) × (k ≡ key) × SettlesAlone version seen l
+key_settles rule key seen l k version h =
+    let is : rule ≡ key_rules.Put = (lead_step rule key seen l).settles k version h in
+    let parts = put_settles l l.task seen key k version refl (subst (λ (m : KeyRule). Settled k version ∈ (lead_row m key seen l).1.notes) is h) in (is, parts.0, parts.1)
 
 -- ## Replies
 
@@ -153,10 +155,10 @@ pub joined_settles : (from id : ℕ) (key : List ℕ) (command : Command) (finis
 joined_settles from id key command finishing l = without_notes (row_27 from id key command finishing l).1.notes (row_27_joins from id key command finishing l).notes
 
 pub got_settles : (from : ℕ) (ballot : Epoch) (round : ℕ) (key : List ℕ) (entry : Option Entry) (object : Option Object) (l : Leader) → SettlesNothing (row_29_reply from ballot round key entry object l).1.notes
-got_settles from ballot round key entry object l k version h = let is : 29 ≡ 35 = (row_29_reply_step from ballot round key entry object l).settles k version h in omega (arith, is)
+got_settles from ballot round key entry object l k version h = let is : key_rules.Read ≡ key_rules.Put = (row_29_reply_step from ballot round key entry object l).settles k version h in absurd cc
 
 pub checked_settles : (from : ℕ) (ballot : Epoch) (round : ℕ) (l : Leader) → SettlesNothing (row_33_reply from ballot round l).1.notes
-checked_settles from ballot round l k version h = let is : 33 ≡ 35 = (row_33_reply_step from ballot round l).1.settles k version h in omega (arith, is)
+checked_settles from ballot round l k version h = let is : key_rules.Check ≡ key_rules.Put = (row_33_reply_step from ballot round l).1.settles k version h in absurd cc
 
 pub tick_settles : (finishing : Finishing) (l : Leader) → SettlesNothing (row_5_calls finishing l).1.notes
 tick_settles finishing l = without_notes (row_5_calls finishing l).1.notes (row_5_ticks finishing l).notes

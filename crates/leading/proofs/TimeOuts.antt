@@ -5,7 +5,8 @@ use Rattle.ens_base.specs.Lists.{same_bytes}
 use Rattle.ens_base.proofs.Lists.{bytes_same, bytes_itself}
 use Rattle.ens_base.specs.declared.reply.Reply.TheVariants as replies
 use Rattle.phase_rows.specs.declared.phase.Then.{Then}
-use Rattle.phase_rows.specs.declared.phase.Then.TheVariants.{Stay, Rule}
+use Rattle.phase_rows.specs.declared.phase.Then.TheVariants.{Stay, OnKeys}
+use Rattle.phase_rows.specs.declared.rules.KeyRule.TheVariants as key_rules
 use Rattle.call_table.specs.Calls.{running, waiting_on, older, is_due, not_due, due, due_after, key_if_running}
 use Rattle.call_table.specs.Rows.{Rows, row_at}
 use Rattle.call_table.specs.Tables.{rested, rested_if, rested_all, without_due, late_put}
@@ -241,9 +242,9 @@ pub record IsTick (late : Bool) (l : Leader) (r : Leader × LeadOut) : Type 0 wh
   pub sends : r.1.sends ≡ []
   pub notes : r.1.notes ≡ []
   pub own : r.1.own ≡ None
-  pub next : r.1.then ≡ (if late then Stay else Rule 36)
+  pub next : r.1.then ≡ (if late then Stay else OnKeys key_rules.StartNextCall)
   pub timely : IsTimely late l r
-  pub lowers : turns_after 5 r.1 + weight r.0 ≤ weight l
+  pub lowers : turns_after r.1 + weight r.0 ≤ weight l
   pub calm : IsCalm l.table → IsCalm r.0.table
   pub counts : CountsInOwnViews l → CountsInOwnViews r.0
 
@@ -256,24 +257,24 @@ less_due calls x =
 
 -- the answer of a tick
 abbrev tick_out : Leader → LeadOut
-tick_out l = timed_out (due (map older l.table.calls)) (comes (Rule 36))
+tick_out l = timed_out (due (map older l.table.calls)) (comes (OnKeys key_rules.StartNextCall))
 
-tick_times_out : (l : Leader) → IsTimedOut (due (map older l.table.calls)) (comes (Rule 36)) (tick_out l)
-tick_times_out l = times_out (due (map older l.table.calls)) (comes (Rule 36))
+tick_times_out : (l : Leader) → IsTimedOut (due (map older l.table.calls)) (comes (OnKeys key_rules.StartNextCall)) (tick_out l)
+tick_times_out l = times_out (due (map older l.table.calls)) (comes (OnKeys key_rules.StartNextCall))
 
-turns_of_keys : (o : LeadOut) (keys : List (List ℕ)) → o.own ≡ None → o.then ≡ Rule 36 → o.keys ≡ keys → turns_after 5 o ≡ 13 * length keys
+turns_of_keys : (o : LeadOut) (keys : List (List ℕ)) → o.own ≡ None → o.then ≡ OnKeys key_rules.StartNextCall → o.keys ≡ keys → turns_after o ≡ 13 * length keys
 turns_of_keys o keys own next same =
-    ap (λ (w : Option Own). turns_next 5 w o.then o.keys) own ∙ ap (λ (t : Then). turns_next 5 None t o.keys) next ∙ ap (λ (ks : List (List ℕ)). turns_next 5 None (Rule 36) ks) same
+    ap (λ (w : Option Own). turns_next w o.then o.keys) own ∙ ap (λ (t : Then). turns_next None t o.keys) next ∙ ap (λ (ks : List (List ℕ)). turns_next None (OnKeys key_rules.StartNextCall) ks) same
 
 in_turns : (t k a b x c : ℕ) → t ≡ 13 * k → a ≡ b → 13 * k + (13 * b + x) ≤ c → t + (13 * a + x) ≤ c
 in_turns t k a b x c e f h = omega (arith, e, f, h)
 
-few_turns : (l : Leader) → turns_after 5 (tick_out l) + weight (record l { table = without_due (aged l.table) }) ≤ weight l
+few_turns : (l : Leader) → turns_after (tick_out l) + weight (record l { table = without_due (aged l.table) }) ≤ weight l
 few_turns l =
-    in_turns (turns_after 5 (tick_out l)) (length (keys_of_due (due (map older l.table.calls)))) (length (without_due (aged l.table)).calls) (length (not_due (map older l.table.calls))) (task_turns l.task) (weight l)
+    in_turns (turns_after (tick_out l)) (length (keys_of_due (due (map older l.table.calls)))) (length (without_due (aged l.table)).calls) (length (not_due (map older l.table.calls))) (task_turns l.task) (weight l)
     (turns_of_keys (tick_out l) (keys_of_due (due (map older l.table.calls))) (tick_times_out l).own (tick_times_out l).next (tick_times_out l).keys) (ap length (without_due_calls (aged l.table))) (less_due l.table.calls (task_turns l.task))
 
-aged_tick : (late : Bool) (l : Leader) → IsTick late l (if late then (record l { table = aged l.table }, leaves) else (record l { table = without_due (aged l.table) }, timed_out (due (map older l.table.calls)) (comes (Rule 36))))
+aged_tick : (late : Bool) (l : Leader) → IsTick late l (if late then (record l { table = aged l.table }, leaves) else (record l { table = without_due (aged l.table) }, timed_out (due (map older l.table.calls)) (comes (OnKeys key_rules.StartNextCall))))
 aged_tick true l = record {
   fact = refl;
   me = refl;

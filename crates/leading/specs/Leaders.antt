@@ -1,5 +1,6 @@
 -- The state of a leader, its small changes, and the answer to a running call.
 use Rattle.std.specs.Prelude.{ℕ, ◌+◌, ◌-◌, ◌^◌, ◌==◌, Bool, Option, is_none, List, [], ◌∷◌, ◌++◌}
+use Rattle.phase_rows.specs.declared.rules.KeyRule.TheVariants as key_rules
 use Rattle.ens_base.specs.declared.epoch.Version.{Version}
 use Rattle.ens_base.specs.declared.reply.Reply.{Reply}
 use Rattle.ens_object.specs.declared.object.Object.{Object}
@@ -53,7 +54,7 @@ settled_as version o digest = Present version o.stamp digest (is_none o.value)
 
 -- the running call of the key is answered and removed, and rule 36 runs
 abbrev pub answered : Waiting → Reply → List ℕ → LeadOut → Leader → Leader × LeadOut
-answered w reply key out l = (record l { table = ended key l.table }, and_then 36 key (and_answer w.from w.id reply out))
+answered w reply key out l = (record l { table = ended key l.table }, and_then key_rules.StartNextCall key (and_answer w.from w.id reply out))
 
 -- a read of the settled version is noted, and the running call of the key is answered
 abbrev pub read_answered : Waiting → Reply → List ℕ → LeadOut → Leader → Leader × LeadOut
@@ -61,12 +62,12 @@ read_answered w reply key out l = answered w reply key (and_note (Read w.id key 
 
 -- a command applied to what is known: a write is proposed upon the parent, and a reply is given after a check
 abbrev pub decided : Option Version → Verdict → List ℕ → Leader → Leader × LeadOut
-decided parent (Write content) key l = (with_task (tasks.Write content parent) l, leads_on 31 key)
-decided parent (Answer reply) key l = (with_task (tasks.Check reply) l, leads_on 33 key)
+decided parent (Write content) key l = (with_task (tasks.Write content parent) l, leads_on key_rules.Write key)
+decided parent (Answer reply) key l = (with_task (tasks.Check reply) l, leads_on key_rules.Check key)
 
 -- a command applied to what a round found: a write is proposed upon the settled version, and a reply is given at once
 abbrev pub concluded : Verdict → Waiting → List ℕ → Leader → Leader × LeadOut
-concluded (Write content) w key l = (with_task (tasks.Write content (base key l)) l, leads_on 31 key)
+concluded (Write content) w key l = (with_task (tasks.Write content (base key l)) l, leads_on key_rules.Write key)
 concluded (Answer reply) w key l = read_answered w reply key rests l
 
 -- no number follows this one

@@ -15,6 +15,7 @@ use Rattle.wire_frames.specs.declared.message.Message.TheVariants.{Put}
 use Rattle.phase_rows.specs.declared.phase.Seen.{Seen}
 use Rattle.phase_rows.specs.declared.phase.Seen.TheVariants as seens
 use Rattle.phase_rows.specs.declared.phase.Then.TheVariants.{Untrust}
+use Rattle.phase_rows.specs.declared.rules.KeyRule.TheVariants as key_rules
 use Rattle.call_table.specs.Calls.{running}
 use Rattle.call_table.specs.Rows.{row_at}
 use Rattle.call_table.specs.declared.row.Stage.{Stage}
@@ -31,7 +32,7 @@ use Rattle.leading.specs.declared.pending.Pending.TheVariants as tasks
 
 -- rule 35 is to put this object upon the parent; the number of the epoch rises by 1
 abbrev pub proposed : Object → Option Version → Option ℕ → List ℕ → Leader → Leader × LeadOut
-proposed o parent call key l = (record l { seq = l.seq + 1; task = tasks.Propose o parent call }, leads_on 35 key)
+proposed o parent call key l = (record l { seq = l.seq + 1; task = tasks.Propose o parent call }, leads_on key_rules.Put key)
 
 abbrev pub written_for : Option Waiting → Pending → List ℕ → Leader → Leader × LeadOut
 written_for (Some w) (tasks.Write content parent) key l =
@@ -60,7 +61,7 @@ write_settled (Some w) o key out l = answered w (replies.Ok o.stamp) key out l
 
 -- a settled put: after a rewrite the command is applied, and a write is answered
 abbrev pub settled_for : Bool → Object → List ℕ → LeadOut → Leader → Leader × LeadOut
-settled_for true o key out l = (with_task (tasks.Apply (Some o)) (stands key stages.Idle l), and_then 34 key out)
+settled_for true o key out l = (with_task (tasks.Apply (Some o)) (stands key stages.Idle l), and_then key_rules.Apply key out)
 settled_for false o key out l = write_settled (running key l.table.calls) o key out l
 
 -- a put waits until a quorum has acknowledged it, and then settles

@@ -19,6 +19,7 @@ use Rattle.wire_frames.specs.declared.message.Message.TheVariants.{Get, Check}
 use Rattle.phase_rows.specs.declared.phase.Seen.{Seen}
 use Rattle.phase_rows.specs.declared.phase.Seen.TheVariants as seens
 use Rattle.phase_rows.specs.declared.phase.Then.TheVariants.{Untrust}
+use Rattle.phase_rows.specs.declared.rules.KeyRule.TheVariants as key_rules
 use Rattle.call_table.specs.Best.{better}
 use Rattle.call_table.specs.Calls.{running}
 use Rattle.call_table.specs.Rows.{row_at, check_at, with_check}
@@ -45,7 +46,7 @@ abbrev pub asked : Seen → List ℕ → Leader → Leader × LeadOut
 asked seens.Nothing key l = if is_spent l.round then (l, leaves) else (record l { round = l.round + 1 }, and_own (Look key) rests)
 asked (seens.Damaged at) key l = (l, comes Untrust)
 asked (seens.Held entry object) key l =
-    (stands key (stages.Reading l.round (begun l.fact.views l.me) (better None entry object)) l, tells_all l.me l.fact.views (Get l.fact.epoch l.round key) (leads_on 30 key))
+    (stands key (stages.Reading l.round (begun l.fact.views l.me) (better None entry object)) l, tells_all l.me l.fact.views (Get l.fact.epoch l.round key) (leads_on key_rules.EnoughReplies key))
 asked seen key l = idle l
 
 abbrev pub asked_for : Option Waiting → Seen → List ℕ → Leader → Leader × LeadOut
@@ -58,7 +59,7 @@ row_29 key seen l = asked_for (running key l.table.calls) seen key l
 
 abbrev pub heard : Stage → ℕ → Epoch → ℕ → List ℕ → Option Entry → Option Object → Leader → Leader × LeadOut
 heard (stages.Reading asked votes best) from ballot round key entry object l =
-    if counts ballot round asked l then (stands key (stages.Reading asked (heard_from from votes) (better best entry object)) l, leads_on 30 key) else idle l
+    if counts ballot round asked l then (stands key (stages.Reading asked (heard_from from votes) (better best entry object)) l, leads_on key_rules.EnoughReplies key) else idle l
 heard stage from ballot round key entry object l = idle l
 
 -- rule 29, GetReply: it counts if it names the epoch and the round in which the key is read
@@ -74,8 +75,8 @@ without_object state w key l = idle l
 abbrev pub on_found : Option Object → RoundState → Entry → Waiting → List ℕ → Leader → Leader × LeadOut
 on_found None state u w key l = without_object state w key l
 on_found (Some o) state u w key l =
-    if is_same u.version.epoch l.fact.epoch then (with_task (tasks.Apply (Some o)) (knows key (settled_as u.version o u.digest) l), leads_on 34 key)
-    else (with_task (tasks.Rewrite o) l, leads_on 32 key)
+    if is_same u.version.epoch l.fact.epoch then (with_task (tasks.Apply (Some o)) (knows key (settled_as u.version o u.digest) l), leads_on key_rules.Apply key)
+    else (with_task (tasks.Rewrite o) l, leads_on key_rules.Rewrite key)
 
 -- an overwrite or a delete is decided without the object; any other command needs it
 abbrev pub on_greatest : Option Verdict → RoundState → Found → Waiting → List ℕ → Leader → Leader × LeadOut
@@ -84,7 +85,7 @@ on_greatest None state u w key l = on_found u.object state u.entry w key l
 
 -- what a quorum of replies shows: without an entry the key is absent
 abbrev pub on_best : Option Found → RoundState → Waiting → List ℕ → Leader → Leader × LeadOut
-on_best None state w key l = (with_task (tasks.Apply None) (knows key knowns.Absent l), leads_on 34 key)
+on_best None state w key l = (with_task (tasks.Apply None) (knows key knowns.Absent l), leads_on key_rules.Apply key)
 on_best (Some u) state w key l = on_greatest (blind_verdict w.command) state u w key l
 
 abbrev pub by_state : RoundState → Option Found → Waiting → List ℕ → Leader → Leader × LeadOut

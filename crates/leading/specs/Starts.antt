@@ -11,6 +11,7 @@ use Rattle.register_model.specs.Registers.{outcome}
 use Rattle.register_model.specs.declared.register.Register.TheVariants as registers
 use Rattle.phase_rows.specs.declared.phase.Seen.{Seen}
 use Rattle.phase_rows.specs.declared.phase.Seen.TheVariants as seens
+use Rattle.phase_rows.specs.declared.rules.KeyRule.TheVariants as key_rules
 use Rattle.call_table.specs.Calls.{waiting_on, running}
 use Rattle.call_table.specs.Rows.{row_at}
 use Rattle.call_table.specs.declared.row.Known.{Known}
@@ -18,7 +19,7 @@ use Rattle.call_table.specs.declared.row.Known.TheVariants as knowns
 use Rattle.call_table.specs.declared.waiting.Waiting.{Waiting}
 use Rattle.leader_words.specs.Outs.{rests, leads_on, and_answer, and_own}
 use Rattle.leader_words.specs.declared.out.LeadOut.{LeadOut}
-use Rattle.leader_words.specs.declared.out.Own.TheVariants.{Look}
+use Rattle.leader_words.specs.declared.out.Own.TheVariants.{Fetch}
 use Rattle.leading.specs.Leaders.{idle, joined, decided, base}
 use Rattle.leading.specs.declared.leader.Leader.{Leader}
 
@@ -27,16 +28,16 @@ abbrev pub row_27 : ℕ → ℕ → List ℕ → Command → Bool → Leader →
 row_27 from id key command finishing l =
     if finishing then (l, and_answer from id replies.Unavailable rests)
     else (if nat_le 16 (waiting_on key l.table.calls) then (l, and_answer from id replies.Busy rests)
-    else (joined (record { from = from; id = id; key = key; command = command; age = 0 }) l, if waiting_on key l.table.calls == 0 then leads_on 28 key else rests))
+    else (joined (record { from = from; id = id; key = key; command = command; age = 0 }) l, if waiting_on key l.table.calls == 0 then leads_on key_rules.StartCall key else rests))
 
 -- a command is applied to the settled object; if the backend does not keep that object, the key is read
 abbrev pub on_object : Option Object → Command → List ℕ → Leader → Leader × LeadOut
-on_object None command key l = (l, leads_on 29 key)
+on_object None command key l = (l, leads_on key_rules.Read key)
 on_object (Some o) command key l = decided (base key l) (verdict_of (outcome command (register_of o))) key l
 
 -- a command that needs the settled value: the peer's own backend is asked first
 abbrev pub by_value : Seen → Version → List ℕ → Command → List ℕ → Leader → Leader × LeadOut
-by_value seens.Nothing version digest command key l = (l, and_own (Look key) rests)
+by_value seens.Nothing version digest command key l = (l, and_own (Fetch key) rests)
 by_value (seens.Kept kept) version digest command key l = on_object (matching (record { key = key; version = version; digest = digest }) kept) command key l
 by_value seen version digest command key l = idle l
 
@@ -52,7 +53,7 @@ on_present false version stamp digest seen command key l = by_stamp (stamp_verdi
 
 -- a command goes by what is known of its key; an unknown key is read
 abbrev pub by_known : Known → Seen → Command → List ℕ → Leader → Leader × LeadOut
-by_known knowns.Unknown seen command key l = (l, leads_on 29 key)
+by_known knowns.Unknown seen command key l = (l, leads_on key_rules.Read key)
 by_known knowns.Absent seen command key l = decided (base key l) (verdict_of (outcome command registers.Absent)) key l
 by_known (knowns.Present version stamp digest tombstone) seen command key l = on_present tombstone version stamp digest seen command key l
 
@@ -66,7 +67,7 @@ row_28 key seen l = started (running key l.table.calls) seen key l
 
 abbrev pub next_call : Option Waiting → List ℕ → LeadOut
 next_call None key = rests
-next_call (Some w) key = leads_on 28 key
+next_call (Some w) key = leads_on key_rules.StartCall key
 
 -- rule 36: the next call of the key starts
 abbrev pub row_36 : List ℕ → Leader → Leader × LeadOut

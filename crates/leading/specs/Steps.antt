@@ -1,6 +1,6 @@
 -- What each rule on a key keeps to: to whom it sends, what comes next, which call it answers, and
 -- what it leaves as it was.
-use Rattle.std.specs.Prelude.{◌≡◌, ◌≢◌, ◌≤◌, ◌⊎◌, ℕ, ◌+◌, ◌==◌, ◌||◌, Bool, true, false, IsSome, map, filter, if◌then◌else◌, Option, Some, None, List, [], ◌∷◌}
+use Rattle.std.specs.Prelude.{◌≡◌, ◌≢◌, ◌⊎◌, ℕ, ◌+◌, ◌==◌, ◌||◌, Bool, true, false, IsSome, map, filter, if◌then◌else◌, Option, Some, None, List, [], ◌∷◌}
 use Rattle.ens_base.specs.Lists.{◌∈◌, same_bytes}
 use Rattle.ens_base.specs.PeerSet.{holds}
 use Rattle.ens_base.specs.View.{IsPeer}
@@ -17,13 +17,16 @@ use Rattle.wire_frames.specs.Messages.{Obeys}
 use Rattle.phase_rows.specs.declared.phase.Seen.{Seen}
 use Rattle.phase_rows.specs.declared.phase.Seen.TheVariants.{Stored}
 use Rattle.phase_rows.specs.declared.phase.Then.{Then}
-use Rattle.phase_rows.specs.declared.phase.Then.TheVariants.{Stay, Untrust, Rule}
+use Rattle.phase_rows.specs.declared.phase.Then.TheVariants.{Stay, Untrust, OnKeys}
+use Rattle.phase_rows.specs.declared.rules.KeyRule.{KeyRule}
+use Rattle.phase_rows.specs.declared.rules.KeyRule.TheVariants as key_rules
 use Rattle.call_table.specs.Calls.{running, without_running, older, is_due, not_due}
 use Rattle.call_table.specs.Rows.{row_at}
 use Rattle.call_table.specs.declared.row.Stage.{Stage}
 use Rattle.call_table.specs.declared.row.Stage.TheVariants.{Idle, Putting}
 use Rattle.call_table.specs.declared.table.CallTable.{CallTable}
 use Rattle.call_table.specs.declared.waiting.Waiting.{Waiting}
+use Rattle.leader_words.specs.Outs.{asked_by}
 use Rattle.leader_words.specs.declared.out.AnswerOut.{AnswerOut}
 use Rattle.leader_words.specs.declared.out.LeadOut.{LeadOut}
 use Rattle.leader_words.specs.declared.out.Outgoing.{Outgoing}
@@ -39,18 +42,19 @@ use Rattle.leading.specs.declared.pending.Pending.TheVariants as tasks
 abbrev pub MayGo : ℕ → Outgoing → Type 0
 MayGo me s = IsPeer s.to × (s.to ≢ me) × Obeys s.message
 
--- nothing follows, or the tree is no longer trusted, or one of the rules 28 to 36 runs on this key
+-- nothing follows, or the tree is no longer trusted, or a rule runs on this key
 abbrev pub NamesOn : List ℕ → Then → List (List ℕ) → Type 0
 NamesOn key Stay keys = keys ≡ []
 NamesOn key Untrust keys = keys ≡ []
-NamesOn key (Rule n) keys = (28 ≤ n) × (n ≤ 36) × (keys ≡ key ∷ [])
+NamesOn key (OnKeys rule) keys = keys ≡ key ∷ []
 NamesOn key other keys = ⊥
 
--- rules 28 and 29 look up this key, and rule 35 puts an object
-abbrev pub AsksOn : ℕ → List ℕ → Option Own → Type 0
-AsksOn n key None = Unit {0}
-AsksOn n key (Some (owns.Look k)) = (k ≡ key) × ((n ≡ 28) ⊎ (n ≡ 29))
-AsksOn n key (Some (owns.Put o)) = n ≡ 35
+-- rule 28 fetches the object of this key, rule 29 looks the key up, and rule 35 puts an object
+abbrev pub AsksOn : KeyRule → List ℕ → Option Own → Type 0
+AsksOn rule key None = Unit {0}
+AsksOn rule key (Some (owns.Fetch k)) = (k ≡ key) × (rule ≡ key_rules.StartCall)
+AsksOn rule key (Some (owns.Look k)) = (k ≡ key) × (rule ≡ key_rules.Read)
+AsksOn rule key (Some (owns.Put o)) = rule ≡ key_rules.Put
 
 -- without an answer, at most one note is made: that a version of this key is proposed or settled
 abbrev pub TellsOf : List ℕ → List Note → Type 0
@@ -103,28 +107,32 @@ abbrev pub Runs : List ℕ → Leader → Type 0
 Runs key l = IsSome (running key l.table.calls)
 
 -- the rules that begin without a task
-abbrev pub is_start : ℕ → Bool
-is_start n = n == 28 || n == 29 || n == 30 || n == 36
+abbrev pub is_start : KeyRule → Bool
+is_start key_rules.StartCall = true
+is_start key_rules.Read = true
+is_start key_rules.EnoughReplies = true
+is_start key_rules.StartNextCall = true
+is_start rule = false
 
--- the task of a leader is for the rule of this number, and for a running call of the key
-abbrev pub Fits : ℕ → List ℕ → Leader → Pending → Type 0
-Fits n key l tasks.Nothing = is_start n ≡ true
-Fits n key l (tasks.Write content parent) = (n ≡ 31) × Runs key l
-Fits n key l (tasks.Rewrite o) = (n ≡ 32) × Runs key l
-Fits n key l (tasks.Check reply) = (n ≡ 33) × Runs key l
-Fits n key l (tasks.Apply current) = (n ≡ 34) × Runs key l
-Fits n key l (tasks.Propose o parent call) = (n ≡ 35) × Runs key l × (o.key ≡ key) × (o.version ≡ record { epoch = l.fact.epoch; seq = l.seq })
+-- the task of a leader is for this rule, and for a running call of the key
+abbrev pub Fits : KeyRule → List ℕ → Leader → Pending → Type 0
+Fits rule key l tasks.Nothing = is_start rule ≡ true
+Fits rule key l (tasks.Write content parent) = (rule ≡ key_rules.Write) × Runs key l
+Fits rule key l (tasks.Rewrite o) = (rule ≡ key_rules.Rewrite) × Runs key l
+Fits rule key l (tasks.Check reply) = (rule ≡ key_rules.Check) × Runs key l
+Fits rule key l (tasks.Apply current) = (rule ≡ key_rules.Apply) × Runs key l
+Fits rule key l (tasks.Propose o parent call) = (rule ≡ key_rules.Put) × Runs key l × (o.key ≡ key) × (o.version ≡ record { epoch = l.fact.epoch; seq = l.seq })
 
--- the leader is ready for the rule of this number on the key
-abbrev pub IsReady : ℕ → List ℕ → Leader → Type 0
-IsReady n key l = Fits n key l l.task
+-- the leader is ready for this rule on the key
+abbrev pub IsReady : KeyRule → List ℕ → Leader → Type 0
+IsReady rule key l = Fits rule key l l.task
 
--- the leader is ready for what comes next: the same rule once more after the stores returned, or
+-- the leader is ready for what comes next: the rule that asks the stores, once they returned, or
 -- the rule that is named, or the next event
-abbrev pub IsReadyFor : ℕ → List ℕ → Option Own → Then → Leader → Type 0
-IsReadyFor n key (Some own) next l = IsReady n key l
-IsReadyFor n key None (Rule m) l = IsReady m key l
-IsReadyFor n key None other l = l.task ≡ tasks.Nothing
+abbrev pub IsReadyFor : List ℕ → Option Own → Then → Leader → Type 0
+IsReadyFor key (Some own) next l = IsReady (asked_by own) key l
+IsReadyFor key None (OnKeys rule) l = IsReady rule key l
+IsReadyFor key None other l = l.task ≡ tasks.Nothing
 
 -- a key without a call is idle
 abbrev pub IsCalm : CallTable → Type 0

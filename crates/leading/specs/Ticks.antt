@@ -7,7 +7,9 @@ use Rattle.phase_rows.specs.Orders.{is_joint}
 use Rattle.wire_frames.specs.declared.message.Message.{Message}
 use Rattle.wire_frames.specs.declared.message.Message.TheVariants.{NewEpoch, Commit, Beat}
 use Rattle.phase_rows.specs.declared.phase.Then.{Then}
-use Rattle.phase_rows.specs.declared.phase.Then.TheVariants.{Stay, Rule}
+use Rattle.phase_rows.specs.declared.phase.Then.TheVariants.{Stay, Rule, OnKeys}
+use Rattle.phase_rows.specs.declared.rules.KeyRule.TheVariants as key_rules
+use Rattle.phase_rows.specs.declared.rules.PhaseRule.TheVariants as phase_rules
 use Rattle.call_table.specs.Calls.{older, due}
 use Rattle.call_table.specs.Tables.{late_put, without_due}
 use Rattle.call_table.specs.declared.table.CallTable.{CallTable}
@@ -45,7 +47,7 @@ aged t = record t { calls = map older t.calls }
 abbrev pub after_ages : Finishing → Leader → Leader × LeadOut
 after_ages finishing l =
     if late_put l.table || is_late finishing then (l, leaves)
-    else (record l { table = without_due l.table }, timed_out (due l.table.calls) (comes (Rule 36)))
+    else (record l { table = without_due l.table }, timed_out (due l.table.calls) (comes (OnKeys key_rules.StartNextCall)))
 
 -- rule 5, the calls: if a put or the change is late, the leader steps down; otherwise the calls that are due are answered `timeout`
 abbrev pub row_5_calls : Finishing → Leader → Leader × LeadOut
@@ -72,7 +74,7 @@ is_to_end finishing first = is_none finishing && is_joint first.views
 
 -- rule 25 ends it
 abbrev pub after_tick : Finishing → Leader → Then
-after_tick finishing l = if is_to_end finishing l.fact then Rule 25 else Stay
+after_tick finishing l = if is_to_end finishing l.fact then Rule phase_rules.BeginChange else Stay
 
 -- rule 5, the messages: each other member gets one, and a joint epoch is ended
 abbrev pub row_5_rest : Finishing → Fact → Leader → LeadOut

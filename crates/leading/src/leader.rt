@@ -15,6 +15,7 @@ use ens_object::Object;
 use key_commands::Verdict;
 use leader_words::{AnswerOut, LeadError, LeadOut};
 use peer_fact::{Change, Fact};
+use phase_rows::KeyRule;
 use register_model::Note;
 use std::alloc::Global;
 use std::mem::replace;
@@ -193,7 +194,7 @@ impl Leader {
     {
         let mut out = out;
         out.answer(call.from, call.id, reply)?;
-        out.then(36, key.copy(alloc)?)?;
+        out.then(KeyRule::StartNextCall, key.copy(alloc)?)?;
         self.table.end_running(alloc, key)?;
         Ok(out)
     }
@@ -232,11 +233,11 @@ impl Leader {
         match verdict {
             Verdict::Write(content) => {
                 self.set_task(Pending::Write { content, parent });
-                LeadOut::leads_on(alloc, 31, key)
+                LeadOut::leads_on(alloc, KeyRule::Write, key)
             }
             Verdict::Answer(reply) => {
                 self.set_task(Pending::Check(reply));
-                LeadOut::leads_on(alloc, 33, key)
+                LeadOut::leads_on(alloc, KeyRule::Check, key)
             }
         }
     }
@@ -256,7 +257,7 @@ impl Leader {
             Verdict::Write(content) => {
                 let parent = self.base(key);
                 self.set_task(Pending::Write { content, parent });
-                LeadOut::leads_on(alloc, 31, key)
+                LeadOut::leads_on(alloc, KeyRule::Write, key)
             }
             Verdict::Answer(reply) => {
                 self.answer_read(alloc, call, reply, key, LeadOut::rests(alloc))

@@ -11,7 +11,7 @@ use ens_base::{Digest, Epoch, Key, PeerId, Reply, Version};
 use ens_object::Object;
 use leader_words::{LeadError, LeadOut, Own};
 use peer_fact::{Change, Fact};
-use phase_rows::{Seen, Then};
+use phase_rows::{KeyRule, Seen, Then};
 use quorum_round::{Round, RoundState};
 use register_model::Note;
 use std::alloc::Global;
@@ -35,7 +35,7 @@ impl Leader {
             parent,
             call,
         });
-        LeadOut::leads_on(alloc, 35, key)
+        LeadOut::leads_on(alloc, KeyRule::Put, key)
     }
 
     fn write_for(
@@ -127,7 +127,7 @@ impl Leader {
     {
         if rewrite {
             let mut out = out;
-            out.then(34, key.copy(alloc)?)?;
+            out.then(KeyRule::Apply, key.copy(alloc)?)?;
             self.stand(alloc, key, Stage::Idle)?;
             self.set_task(Pending::Apply(Some(object)));
             return Ok(out);

@@ -18,7 +18,7 @@ use ens_object::{Object, copy_object};
 use key_commands::{Verdict, apply, on_any};
 use leader_words::{LeadError, LeadOut, Own};
 use peer_fact::{Change, Fact};
-use phase_rows::{Seen, Then};
+use phase_rows::{KeyRule, Seen, Then};
 use quorum_round::{Round, RoundState};
 use std::alloc::Global;
 use wire_frames::Message;
@@ -85,7 +85,7 @@ impl Leader {
     ) -> Result<LeadOut, LeadError>
         ensures { IfOk result (λ o. (self.new, o) ≡ asked (seens.Held entry.now object.now) key.now self.old) }
     {
-        let mut out = LeadOut::leads_on(alloc, 30, key)?;
+        let mut out = LeadOut::leads_on(alloc, KeyRule::EnoughReplies, key)?;
         let get = Message::Get(self.fact.epoch, self.round, key.copy(alloc)?);
         self.tell_members(alloc, get, &mut out)?;
         self.begin_reading(alloc, entry, object, key)?;
@@ -140,7 +140,7 @@ impl Leader {
                     best: better(best, entry, object),
                 };
                 self.stand(alloc, key, stage)?;
-                LeadOut::leads_on(alloc, 30, key)
+                LeadOut::leads_on(alloc, KeyRule::EnoughReplies, key)
             }
             _other => Ok(LeadOut::rests(alloc)),
         }
@@ -188,10 +188,10 @@ impl Leader {
                     let known = settled_known(entry.version, &object, entry.digest);
                     self.know(alloc, key, known)?;
                     self.set_task(Pending::Apply(Some(object)));
-                    LeadOut::leads_on(alloc, 34, key)
+                    LeadOut::leads_on(alloc, KeyRule::Apply, key)
                 } else {
                     self.set_task(Pending::Rewrite(object));
-                    LeadOut::leads_on(alloc, 32, key)
+                    LeadOut::leads_on(alloc, KeyRule::Rewrite, key)
                 }
             }
         }
@@ -231,7 +231,7 @@ impl Leader {
             None => {
                 self.know(alloc, key, Known::Absent)?;
                 self.set_task(Pending::Apply(None));
-                LeadOut::leads_on(alloc, 34, key)
+                LeadOut::leads_on(alloc, KeyRule::Apply, key)
             }
             Some(found) => {
                 let verdict = on_any(alloc, &call.command)?;

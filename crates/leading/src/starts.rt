@@ -11,7 +11,7 @@ use kept_objects::is_named;
 use key_commands::{Verdict, apply, on_absent, on_stamp};
 use leader_words::{LeadError, LeadOut, Own};
 use peer_fact::{Change, Fact};
-use phase_rows::Seen;
+use phase_rows::{KeyRule, Seen};
 use std::alloc::Global;
 use wire_frames::Message;
 
@@ -58,7 +58,7 @@ impl Leader {
             return Ok(out);
         }
         if waiting == 0 {
-            out = LeadOut::leads_on(alloc, 28, &key)?;
+            out = LeadOut::leads_on(alloc, KeyRule::StartCall, &key)?;
         }
         let call = Waiting {
             from,
@@ -81,7 +81,7 @@ impl Leader {
         ensures { IfOk result (λ o. (self.new, o) ≡ on_object (option_map (λ x. x.now) object.entry) command.now key.now self.old) }
     {
         match object {
-            None => LeadOut::leads_on(alloc, 29, key),
+            None => LeadOut::leads_on(alloc, KeyRule::Read, key),
             Some(object) => {
                 let parent = self.base(key);
                 let verdict = apply(alloc, command, Some(object))?;
@@ -104,7 +104,7 @@ impl Leader {
         match seen {
             Seen::Nothing => {
                 let mut out = LeadOut::rests(alloc);
-                out.ask(Own::Look(key.copy(alloc)?));
+                out.ask(Own::Fetch(key.copy(alloc)?));
                 Ok(out)
             }
             Seen::Kept(kept) => {
@@ -173,7 +173,7 @@ impl Leader {
         ensures { IfOk result (λ o. (self.new, o) ≡ by_known known seen.now command.now key.now self.old) }
     {
         match known {
-            Known::Unknown => LeadOut::leads_on(alloc, 29, key),
+            Known::Unknown => LeadOut::leads_on(alloc, KeyRule::Read, key),
             Known::Absent => {
                 let parent = self.base(key);
                 let verdict = on_absent(alloc, command)?;
@@ -226,7 +226,7 @@ impl Leader {
     {
         match self.running(alloc, key)? {
             None => Ok(LeadOut::rests(alloc)),
-            Some(_call) => LeadOut::leads_on(alloc, 28, key),
+            Some(_call) => LeadOut::leads_on(alloc, KeyRule::StartCall, key),
         }
     }
 }

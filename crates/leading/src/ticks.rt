@@ -7,7 +7,7 @@ use ens_base::{Key, PeerId, PeerSet, Reply};
 use joint_views::members;
 use leader_words::{LeadError, LeadOut, is_other_of};
 use peer_fact::{Change, Fact};
-use phase_rows::Then;
+use phase_rows::{KeyRule, PhaseRule, Then};
 use std::alloc::Global;
 use wire_frames::Message;
 
@@ -51,7 +51,7 @@ impl Leader {
         if self.table.has_late_put() || is_late(finishing) {
             return Ok(LeadOut::leaves(alloc));
         }
-        let mut out = LeadOut::comes(alloc, Then::Rule(36));
+        let mut out = LeadOut::comes(alloc, Then::OnKeys(KeyRule::StartNextCall));
         let due = self.table.drop_due(alloc)?;
         time_out(alloc, &due, &mut out)?;
         Ok(out)
@@ -113,7 +113,7 @@ impl Leader {
         let members = members(&self.fact.views);
         for below in 0..31 {
             let peer = PeerId(below + 1);
-            if is_other_of(self.me, &self.fact.views, &members, peer) {
+            if is_other_of(self.me, &members, peer) {
                 out.send(peer, self.tick_message(finishing, fact, peer))?;
             }
         }
@@ -132,7 +132,7 @@ impl Leader {
         ensures { result ≡ after_tick finishing.now self.now }
     {
         if self.is_to_end(finishing) {
-            Then::Rule(25)
+            Then::Rule(PhaseRule::BeginChange)
         } else {
             Then::Stay
         }

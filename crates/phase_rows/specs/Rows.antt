@@ -9,6 +9,7 @@ use Rattle.wire_frames.specs.declared.message.NackCause.TheVariants.{Greater}
 use Rattle.phase_rows.specs.declared.phase.PhaseOut.{PhaseOut}
 use Rattle.phase_rows.specs.declared.phase.Then.{Then}
 use Rattle.phase_rows.specs.declared.phase.Then.TheVariants.{Stay, Rule}
+use Rattle.phase_rows.specs.declared.rules.PhaseRule.TheVariants as phase_rules
 use Rattle.phase_rows.specs.Peers.{nobody, alone}
 
 -- save nothing and send nothing
@@ -45,4 +46,4 @@ at_ballot fact ballot = record fact { ballot = ballot }
 
 -- at age 6 probing begins anew (rule 7)
 abbrev pub anew_at_6 : ℕ → Then
-anew_at_6 age = if age == 6 then Rule 7 else Stay
+anew_at_6 age = if age == 6 then Rule phase_rules.BeginProbing else Stay

@@ -4,6 +4,7 @@ ghost use Rattle.phase_rows.specs.Rows.{silent as is_silent, sends, saves, saves
 
 use crate::peers::alone;
 use crate::phase::{PhaseOut, Then};
+use crate::rules::PhaseRule;
 use ens_base::{Epoch, PeerId, PeerSet};
 use peer_fact::Fact;
 use wire_frames::{Message, NackCause};
@@ -95,5 +96,9 @@ pub fn at_ballot(fact: &Fact, ballot: Epoch) -> Fact
 pub fn anew_at_6(age: u8) -> Then
     ensures { result ≡ then_at age }
 {
-    if age == 6 { Then::Rule(7) } else { Then::Stay }
+    if age == 6 {
+        Then::Rule(PhaseRule::BeginProbing)
+    } else {
+        Then::Stay
+    }
 }

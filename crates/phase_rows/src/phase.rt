@@ -1,3 +1,4 @@
+use crate::rules::{KeyRule, PhaseRule};
 use ens_base::{Digest, Entry, PeerSet};
 use ens_object::Object;
 use peer_fact::Fact;
@@ -21,8 +22,10 @@ pub enum Then {
     Resume,
     /// It begins a sync on this fact.
     SyncOn(Fact),
-    /// The rule of this number runs next.
-    Rule(u8),
+    /// This rule of the phases runs next.
+    Rule(PhaseRule),
+    /// This rule runs next on each key that the leader's answer names.
+    OnKeys(KeyRule),
 }
 
 /// The outcome of a rule. The peer acts on it in this order: a leader steps down if `leave` is true, the

@@ -9,6 +9,7 @@ use Rattle.phase_rows.specs.declared.phase.Then.TheVariants.{Stay, Rule}
 use Rattle.phase_rows.specs.Peers.{alone, joined, members, others_of, others_outside, with_members}
 use Rattle.phase_rows.specs.Orders.{is_newer}
 use Rattle.phase_rows.specs.Rows.{silent, sends, anew_at_6}
+use Rattle.phase_rows.specs.declared.rules.PhaseRule.TheVariants as phase_rules
 use Rattle.probe.specs.declared.probing.Probing.{Probing}
 
 -- rule 3: on a tick the age rises by 1, and at 6 rule 7 runs
@@ -22,7 +23,7 @@ first_probing fact me = record { best = fact; count = fact.ballot.count; heard =
 
 -- rule 7: probing begins, and the other members of the fact's views are asked; then rule 9
 abbrev pub row_7 : Fact → ℕ → PhaseOut × Option Probing
-row_7 fact me = (sends (others_of me (members fact.views)) Probe (Rule 9), Some (first_probing fact me))
+row_7 fact me = (sends (others_of me (members fact.views)) Probe (Rule phase_rules.EnoughHeard), Some (first_probing fact me))
 
 -- the sender is heard, and the count is at least that of its ballot
 abbrev pub heard_from : Probing → ℕ → Fact → Probing
@@ -37,8 +38,8 @@ bettered probing reply = record probing { best = reply; asked = with_members pro
 abbrev pub row_8 : Probing → ℕ → ℕ → Fact → Probing × PhaseOut
 row_8 probing me from reply =
     if is_newer reply probing.best
-    then (bettered (heard_from probing from reply) reply, sends (others_outside me probing.asked reply.views) Probe (Rule 9))
-    else (heard_from probing from reply, silent (Rule 9))
+    then (bettered (heard_from probing from reply) reply, sends (others_outside me probing.asked reply.views) Probe (Rule phase_rules.EnoughHeard))
+    else (heard_from probing from reply, silent (Rule phase_rules.EnoughHeard))
 
 -- rule 8, on a probe: the saved fact goes to the sender
 abbrev pub row_8_probe : Fact → ℕ → PhaseOut
@@ -46,4 +47,4 @@ row_8_probe fact from = sends (alone from) (ProbeReply fact) Stay
 
 -- rule 9: once a quorum of the best fact's views was heard, rule 10 runs
 abbrev pub row_9 : Probing → Probing × PhaseOut
-row_9 probing = (probing, silent (if is_quorum (holds probing.heard) probing.best.views then Rule 10 else Stay))
+row_9 probing = (probing, silent (if is_quorum (holds probing.heard) probing.best.views then Rule phase_rules.Prepare else Stay))

@@ -3,6 +3,7 @@ ghost use Rattle.ens_base.specs.PeerSet.{holds};
 ghost use Rattle.joint_views.specs.Quorums.{is_quorum};
 ghost use Rattle.peer_fact.specs.declared.fact.Fact.{Fact};
 ghost use Rattle.phase_rows.specs.declared.phase.Then.TheVariants.{Rule};
+ghost use Rattle.phase_rows.specs.declared.rules.PhaseRule.TheVariants as phase_rules;
 ghost use Rattle.probe.specs.declared.probing.Probing.{Probing};
 ghost use Rattle.probe.specs.Laws.{HasGrown, HasReckonedWith};
 ghost use Rattle.probe.specs.Probing.{row_8, row_9};
@@ -16,5 +17,5 @@ pub fn the_best_is_the_newest_heard()
 
 /// A peer asks for a ballot only once it has heard from a quorum of the best fact's views.
 pub fn a_quorum_was_heard()
-    ensures { (probing : Probing) → (row_9 probing).1.then ≡ Rule 10 → is_quorum (holds probing.heard) probing.best.views ≡ true }
+    ensures { (probing : Probing) → (row_9 probing).1.then ≡ Rule phase_rules.Prepare → is_quorum (holds probing.heard) probing.best.views ≡ true }
 {}

@@ -5,8 +5,8 @@ ghost use Rattle.probe.specs.Probing.{row_3, row_7, row_8, row_8_probe, row_9};
 use ens_base::{PeerId, PeerSet};
 use peer_fact::Fact;
 use phase_rows::{
-    PhaseOut, Then, alone, anew_at_6, are_quorum, is_newer, members, others_of, others_outside,
-    send, silent, with_members,
+    PhaseOut, PhaseRule, Then, alone, anew_at_6, are_quorum, is_newer, members, others_of,
+    others_outside, send, silent, with_members,
 };
 use wire_frames::Message;
 
@@ -38,7 +38,11 @@ pub fn rule_7(fact: Fact, me: PeerId) -> (PhaseOut, Option<Probing>)
         asked,
         age: 0,
     };
-    let out = send(others_of(me, &asked), Message::Probe, Then::Rule(9));
+    let out = send(
+        others_of(me, &asked),
+        Message::Probe,
+        Then::Rule(PhaseRule::EnoughHeard),
+    );
     (out, Some(probing))
 }
 
@@ -72,9 +76,9 @@ impl Probing {
             let to = others_outside(me, &self.asked, &reply.views);
             self.best = reply;
             self.asked = with_members(&self.asked, &reply.views);
-            send(to, Message::Probe, Then::Rule(9))
+            send(to, Message::Probe, Then::Rule(PhaseRule::EnoughHeard))
         } else {
-            silent(Then::Rule(9))
+            silent(Then::Rule(PhaseRule::EnoughHeard))
         }
     }
 
@@ -83,7 +87,7 @@ impl Probing {
         ensures { (self.new, result) ≡ row_9 self.old }
     {
         if are_quorum(&self.heard, &self.best.views) {
-            silent(Then::Rule(10))
+            silent(Then::Rule(PhaseRule::Prepare))
         } else {
             silent(Then::Stay)
         }

@@ -6,6 +6,7 @@ use Rattle.std.proofs.lemmas.Bool.{and_parts}
 use Rattle.std.proofs.lemmas.Bool.Decides.{nat_tests}
 use Rattle.std.proofs.lemmas.List.Elements.{All-nil, All-cons, All-append, All-map, All-set, All-weaker}
 use Rattle.std.proofs.lemmas.Option.{slice_get_within, get_or_from_slice_get}
+use Rattle.tree_node.specs.declared.version.TreeVersion.TheVariants.{One}
 use Rattle.tree_node.specs.declared.body.Scan.{Scan}
 use Rattle.exchange.specs.Asked.{Asked}
 use Rattle.exchange.specs.Asks.{taken}
@@ -63,7 +64,7 @@ answered_is : (me : ℕ) (view : List ℕ) (scan : Scan) (own : Option (List ℕ
 answered_is me view scan own give a h = by (is_open a.stage)
   where
     next : Step × Asked
-    next = taken scan own give.question give.body a.ask
+    next = taken One scan own give.question give.body a.ask
 
     by : (b : Bool) → IsOfOther me view (if b then stepped give.trusted next a else (steps.Ignored, a)).1
     by true = stepped_is me view next.0 give.trusted next.1 a h (taken_places scan own give.question give.body a.ask h.places)

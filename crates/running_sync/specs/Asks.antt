@@ -3,6 +3,7 @@ use Rattle.std.specs.Prelude.{ℕ, zero, suc, ◌+◌, Bool, true, false, not, �
 use Rattle.ens_base.specs.Lists.{is_in}
 use Rattle.std.specs.List.{flat_map}
 use Rattle.ens_base.specs.declared.epoch.Epoch.{Epoch}
+use Rattle.tree_node.specs.declared.version.TreeVersion.TheVariants.{One}
 use Rattle.tree_node.specs.declared.body.Scan.{Scan}
 use Rattle.wire_frames.specs.declared.message.Message.TheVariants.{TreeAsk}
 use Rattle.leader_words.specs.declared.out.Outgoing.{Outgoing}
@@ -61,7 +62,7 @@ stepped flag next a = (next.0, after_step next.0 flag (record a { ask = next.1 }
 -- open question takes an answer
 abbrev pub answered : Scan → Option (List ℕ) → Give → Asking → Step × Asking
 answered scan own give a =
-    if is_open a.stage then stepped give.trusted (taken scan own give.question give.body a.ask) a
+    if is_open a.stage then stepped give.trusted (taken One scan own give.question give.body a.ask) a
     else (steps.Ignored, a)
 
 -- the ask as the sync resumes: a dropped source is asked anew
@@ -89,4 +90,4 @@ place_of peer (a ∷ all) = if a.peer == peer then 0 else place_of peer all + 1
 -- whether the own node at the position is needed to take the answer
 abbrev pub needs_node : Give → Option Asking → Bool
 needs_node give None = false
-needs_node give (Some a) = is_open a.stage && needs_own give.question give.body a.ask
+needs_node give (Some a) = is_open a.stage && needs_own One give.question give.body a.ask

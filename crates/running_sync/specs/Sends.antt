@@ -7,6 +7,7 @@ use Rattle.wire_frames.specs.Messages.{Obeys}
 use Rattle.wire_frames.specs.declared.message.Message.{Message}
 use Rattle.wire_frames.specs.declared.message.Message.TheVariants.{TreeAsk}
 use Rattle.leader_words.specs.declared.out.Outgoing.{Outgoing}
+use Rattle.tree_node.specs.declared.version.TreeVersion.TheVariants.{One}
 use Rattle.exchange.specs.Asked.{ArePlaces}
 use Rattle.running_sync.specs.Running.{Running}
 use Rattle.running_sync.specs.declared.asking.Asking.{Asking}
@@ -16,7 +17,7 @@ pub record IsOfOther (me : ℕ) (view : List ℕ) (a : Asking) : Type 0 where
   pub peer : IsPeer a.peer
   pub member : is_in view a.peer ≡ true
   pub other : a.peer ≢ me
-  pub places : ArePlaces a.ask.current a.ask.left
+  pub places : ArePlaces One a.ask.current a.ask.left
 
 -- the sync asks other members of its view alone, and for positions of the tree
 abbrev pub AsksOthers : ℕ → Running → Type 0

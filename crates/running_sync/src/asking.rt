@@ -1,4 +1,5 @@
 ghost use Rattle.std.specs.Prelude.{◌≡◌, ◌++◌, IfOk, OnOk, Some};
+ghost use Rattle.tree_node.specs.declared.version.TreeVersion.TheVariants.{One};
 ghost use Rattle.tree_node.specs.Positions.{IsPosition};
 ghost use Rattle.exchange.specs.Asks.{taken};
 ghost use Rattle.running_sync.specs.Asks.{anew as anew_at, after_step, answered, resumed, question_of, is_open, is_finished, needs_node};
@@ -8,7 +9,7 @@ use exchange::{Ask, Question, Step};
 use leader_words::Outgoing;
 use std::alloc::Global;
 use sync_rule::SyncError;
-use tree_node::{Scan, TreeBody};
+use tree_node::{Scan, TreeBody, TreeVersion};
 use wire_frames::Message;
 
 /// How far the ask of a source has come.
@@ -96,7 +97,10 @@ impl Asking {
     pub fn needs_own(&self, give: &Give) -> bool
         ensures { result ≡ needs_node give.now (Some self.now) }
     {
-        self.is_open() && self.ask.needs_own(&give.question, &give.body)
+        self.is_open()
+            && self
+                .ask
+                .needs_own(&give.question, &give.body, TreeVersion::One)
     }
 
     /// Appends the message that asks the open question, if nothing is finished. Fails only when out
@@ -135,7 +139,7 @@ impl Asking {
         own: &Option<Bytes>,
         give: &Give,
     ) -> Result<Step, SyncError>
-        requires { IsPosition give.now.question.position }
+        requires { IsPosition One give.now.question.position }
         ensures step { IfOk result (λ step. step ≡ (answered scan.now own.now give.now self.old).0) }
         ensures ask { OnOk result (self.new ≡ (answered scan.now own.now give.now self.old).1) }
     {
@@ -171,11 +175,12 @@ fn take_body(
     own: &Option<Bytes>,
     give: &Give,
 ) -> Result<Step, SyncError>
-    requires { IsPosition give.now.question.position }
-    ensures step { IfOk result (λ step. step ≡ (taken scan.now own.now give.now.question give.now.body ask.old).0) }
-    ensures ask { OnOk result (ask.new ≡ (taken scan.now own.now give.now.question give.now.body ask.old).1) }
+    requires { IsPosition One give.now.question.position }
+    ensures step { IfOk result (λ step. step ≡ (taken One scan.now own.now give.now.question give.now.body ask.old).0) }
+    ensures ask { OnOk result (ask.new ≡ (taken One scan.now own.now give.now.question give.now.body ask.old).1) }
 {
-    match ask.take_read(alloc, own, scan, &give.question, &give.body) {
+    let version = TreeVersion::One;
+    match ask.take_read(alloc, version, own, scan, &give.question, &give.body) {
         Ok(step) => Ok(step),
         Err(_) => Err(SyncError::Memory),
     }

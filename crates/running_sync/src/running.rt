@@ -1,4 +1,5 @@
 ghost use Rattle.std.specs.Prelude.{◌≡◌, ◌<◌, ◌≤◌, length, IfOk, OnOk, IfSome, map, slice_get};
+ghost use Rattle.tree_node.specs.declared.version.TreeVersion.TheVariants.{One};
 ghost use Rattle.tree_node.specs.Positions.{IsPosition};
 ghost use Rattle.sync_rule.specs.Syncs.{outcome_of, MayBeBuilt};
 ghost use Rattle.running_sync.specs.Asks.{is_other, asks_of, resumed, question_of, questions, place_of};
@@ -162,7 +163,7 @@ impl RunningSync {
         give: &Give,
         own: &Option<Bytes>,
     ) -> Result<Seq<Outgoing>, SyncError>
-        requires { IsPosition give.now.question.position }
+        requires { IsPosition One give.now.question.position }
         ensures { IfOk result (λ sends. (self.new, sends) ≡ row_take from give.now own.now self.old) }
     {
         if give.ballot != self.fact.epoch {
@@ -184,7 +185,7 @@ impl RunningSync {
         own: &Option<Bytes>,
     ) -> Result<Seq<Outgoing>, SyncError>
         requires place { place < length self.old.asks }
-        requires position { IsPosition give.now.question.position }
+        requires position { IsPosition One give.now.question.position }
         ensures { IfOk result (λ sends. (self.new, sends) ≡ taken_by place (slice_get self.old.asks place) give.now own.now self.old) }
     {
         let step = self.asks[place].take(alloc, self.sync.scan(), own, give)?;

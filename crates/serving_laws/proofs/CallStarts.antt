@@ -19,6 +19,7 @@ use Rattle.register_model.specs.Registers.{Outcome, Keeps, Writes, outcome}
 use Rattle.register_model.specs.declared.register.Register.TheVariants as registers
 use Rattle.phase_rows.specs.declared.phase.Seen.{Seen}
 use Rattle.phase_rows.specs.declared.phase.Seen.TheVariants as seens
+use Rattle.phase_rows.specs.declared.rules.KeyRule.TheVariants as key_rules
 use Rattle.call_table.specs.Calls.{running, waiting_on}
 use Rattle.call_table.specs.Rows.{row_at}
 use Rattle.call_table.specs.declared.row.Known.{Known}
@@ -26,7 +27,7 @@ use Rattle.call_table.specs.declared.row.Known.TheVariants as knowns
 use Rattle.call_table.specs.declared.waiting.Waiting.{Waiting}
 use Rattle.leader_words.specs.Outs.{rests, leads_on, and_own, and_answer}
 use Rattle.leader_words.specs.declared.out.LeadOut.{LeadOut}
-use Rattle.leader_words.specs.declared.out.Own.TheVariants.{Look}
+use Rattle.leader_words.specs.declared.out.Own.TheVariants.{Fetch}
 use Rattle.serving_laws.specs.Answers.{NeedsValue, IsAbsent, IsSettledObject, decides, Waits}
 use Rattle.leading.specs.Leaders.{base, decided, joined}
 use Rattle.leading.specs.Starts.{row_27, on_object, by_value, by_stamp, by_known, started, row_28}
@@ -49,19 +50,19 @@ is_some n h = grind (arith, nat_tests)
 pub refused_busy : (from id : ℕ) (key : List ℕ) (command : Command) (l : Leader) → 16 ≤ waiting_on key l.table.calls → row_27 from id key command false l ≡ (l, and_answer from id replies.Busy rests)
 refused_busy from id key command l many =
     ap (λ (b : Bool). if b then (l, and_answer from id replies.Busy rests)
-    else (joined (record { from = from; id = id; key = key; command = command; age = 0 }) l, if waiting_on key l.table.calls == 0 then leads_on 28 key else rests)) (at_least (waiting_on key l.table.calls) many)
+    else (joined (record { from = from; id = id; key = key; command = command; age = 0 }) l, if waiting_on key l.table.calls == 0 then leads_on key_rules.StartCall key else rests)) (at_least (waiting_on key l.table.calls) many)
 
 -- the call as it waits
 abbrev joins : ℕ → ℕ → List ℕ → Command → Leader → Leader × LeadOut
-joins from id key command l = (joined (record { from = from; id = id; key = key; command = command; age = 0 }) l, if waiting_on key l.table.calls == 0 then leads_on 28 key else rests)
+joins from id key command l = (joined (record { from = from; id = id; key = key; command = command; age = 0 }) l, if waiting_on key l.table.calls == 0 then leads_on key_rules.StartCall key else rests)
 
 pub joined_waits : (from id : ℕ) (key : List ℕ) (command : Command) (l : Leader) → waiting_on key l.table.calls < 16 → Waits from id key command l (row_27 from id key command false l)
 joined_waits from id key command l few =
     subst (λ (b : Bool). Waits from id key command l (if b then (l, and_answer from id replies.Busy rests) else joins from id key command l)) (sym (below (waiting_on key l.table.calls) few))
     (record {
       waiting = refl;
-      starts = λ none. ap (λ (b : Bool). if b then leads_on 28 key else rests) (is_none (waiting_on key l.table.calls) none);
-      queues = λ some. ap (λ (b : Bool). if b then leads_on 28 key else rests) (is_some (waiting_on key l.table.calls) some);
+      starts = λ none. ap (λ (b : Bool). if b then leads_on key_rules.StartCall key else rests) (is_none (waiting_on key l.table.calls) none);
+      queues = λ some. ap (λ (b : Bool). if b then leads_on key_rules.StartCall key else rests) (is_some (waiting_on key l.table.calls) some);
     })
 
 -- ## Rule 28
@@ -75,8 +76,8 @@ outcome_decides (Keeps reply) key l = refl
 starts_by : (key : List ℕ) (seen : Seen) (w : Waiting) (known : Known) (l : Leader) (r : Leader × LeadOut) → running key l.table.calls ≡ Some w → (row_at key l.table.rows).known ≡ known → by_known known seen w.command key l ≡ r → row_28 key seen l ≡ r
 starts_by key seen w known l r runs is so = ap (λ (call : Option Waiting). started call seen key l) runs ∙ ap (λ (k : Known). by_known k seen w.command key l) is ∙ so
 
-pub starts_unknown : (key : List ℕ) (seen : Seen) (w : Waiting) (l : Leader) → running key l.table.calls ≡ Some w → (row_at key l.table.rows).known ≡ knowns.Unknown → row_28 key seen l ≡ (l, leads_on 29 key)
-starts_unknown key seen w l runs is = starts_by key seen w knowns.Unknown l (l, leads_on 29 key) runs is refl
+pub starts_unknown : (key : List ℕ) (seen : Seen) (w : Waiting) (l : Leader) → running key l.table.calls ≡ Some w → (row_at key l.table.rows).known ≡ knowns.Unknown → row_28 key seen l ≡ (l, leads_on key_rules.Read key)
+starts_unknown key seen w l runs is = starts_by key seen w knowns.Unknown l (l, leads_on key_rules.Read key) runs is refl
 
 pub starts_absent : (key : List ℕ) (seen : Seen) (w : Waiting) (l : Leader) → running key l.table.calls ≡ Some w → IsAbsent (row_at key l.table.rows).known → row_28 key seen l ≡ decides (outcome w.command registers.Absent) key l
 starts_absent key seen w l runs absent = by_case (row_at key l.table.rows).known refl absent
@@ -123,9 +124,9 @@ by_the_value : (key : List ℕ) (seen : Seen) (w : Waiting) (version stamp : Ver
 by_the_value key seen w version stamp digest l r runs is needs so =
     starts_by key seen w (knowns.Present version stamp digest false) l r runs is (ap (λ (v : Option Verdict). by_stamp v seen version digest w.command key l) (value_alone w.command stamp needs) ∙ so)
 
-pub starts_looking : (key : List ℕ) (w : Waiting) (version stamp : Version) (digest : List ℕ) (l : Leader) → running key l.table.calls ≡ Some w → (row_at key l.table.rows).known ≡ knowns.Present version stamp digest false
-    → NeedsValue w.command → row_28 key seens.Nothing l ≡ (l, and_own (Look key) rests)
-starts_looking key w version stamp digest l runs is needs = by_the_value key seens.Nothing w version stamp digest l (l, and_own (Look key) rests) runs is needs refl
+pub starts_fetching : (key : List ℕ) (w : Waiting) (version stamp : Version) (digest : List ℕ) (l : Leader) → running key l.table.calls ≡ Some w → (row_at key l.table.rows).known ≡ knowns.Present version stamp digest false
+    → NeedsValue w.command → row_28 key seens.Nothing l ≡ (l, and_own (Fetch key) rests)
+starts_fetching key w version stamp digest l runs is needs = by_the_value key seens.Nothing w version stamp digest l (l, and_own (Fetch key) rests) runs is needs refl
 
 -- the settled object is the one that the entry names
 named_here : (key : List ℕ) (version : Version) (digest : List ℕ) (o : Object) → o.key ≡ key → o.version ≡ version → is_named (record { key = key; version = version; digest = digest }) o digest ≡ true
@@ -159,6 +160,6 @@ starts_value key kept o w version stamp digest l runs is needs settled =
     (ap (λ (found : Option Object). on_object found w.command key l) (found_here key version digest kept o settled) ∙ outcome_decides (outcome w.command (register_of o)) key l)
 
 pub starts_reading : (key : List ℕ) (kept : Option (Object × List ℕ)) (w : Waiting) (version stamp : Version) (digest : List ℕ) (l : Leader) → running key l.table.calls ≡ Some w → (row_at key l.table.rows).known ≡ knowns.Present version stamp digest false
-    → NeedsValue w.command → ((o : Object) → ¬ IsSettledObject key version digest kept o) → row_28 key (seens.Kept kept) l ≡ (l, leads_on 29 key)
+    → NeedsValue w.command → ((o : Object) → ¬ IsSettledObject key version digest kept o) → row_28 key (seens.Kept kept) l ≡ (l, leads_on key_rules.Read key)
 starts_reading key kept w version stamp digest l runs is needs apart =
-    by_the_value key (seens.Kept kept) w version stamp digest l (l, leads_on 29 key) runs is needs (ap (λ (found : Option Object). on_object found w.command key l) (not_here key version digest kept apart))
+    by_the_value key (seens.Kept kept) w version stamp digest l (l, leads_on key_rules.Read key) runs is needs (ap (λ (found : Option Object). on_object found w.command key l) (not_here key version digest kept apart))

@@ -28,6 +28,7 @@ use Rattle.register_model.specs.declared.note.Note.{Note}
 use Rattle.register_model.specs.declared.note.Note.TheVariants.{Settled, Read}
 use Rattle.wire_frames.specs.declared.message.Message.TheVariants as messages
 use Rattle.phase_rows.specs.declared.phase.Seen.TheVariants as seens
+use Rattle.phase_rows.specs.declared.rules.KeyRule.TheVariants as key_rules
 use Rattle.call_table.specs.Calls.{running, without_running}
 use Rattle.call_table.specs.Rows.{Rows, row_at, check_round, base_of, with_known, with_stage}
 use Rattle.call_table.specs.Tables.{ended, rested}
@@ -270,7 +271,7 @@ command_answered current reply key w l runs task o =
     (at_once key l (with_task tasks.Nothing l) w reply rests refl refl refl refl)))
 
 pub command_written : (current : Option Object) (content : Option (List ℕ)) (key : List ℕ) (w : Waiting) (l : Leader) → running key l.table.calls ≡ Some w → l.task ≡ tasks.Apply current → outcome w.command (register_at current) ≡ Writes content
-    → row_34 key l ≡ (with_task (tasks.Write content (base key l)) l, leads_on 31 key)
+    → row_34 key l ≡ (with_task (tasks.Write content (base key l)) l, leads_on key_rules.Write key)
 command_written current content key w l runs task o =
     ap (λ (call : Option Waiting). applied_for call l.task key (with_task tasks.Nothing l)) runs
     ∙ ap (λ (t : Pending). applied_for (Some w) t key (with_task tasks.Nothing l)) task

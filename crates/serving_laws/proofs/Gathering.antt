@@ -32,6 +32,7 @@ use Rattle.quorum_round.specs.declared.round.Round.{Round}
 use Rattle.quorum_round.specs.declared.round.RoundState.{RoundState}
 use Rattle.quorum_round.specs.declared.round.RoundState.TheVariants.{Open, Met, AllAnswered}
 use Rattle.phase_rows.specs.declared.phase.Seen.TheVariants as seens
+use Rattle.phase_rows.specs.declared.rules.KeyRule.TheVariants as key_rules
 use Rattle.call_table.proofs.Greatest.{best_is_greatest}
 use Rattle.call_table.specs.Best.{entry_cmp, better, IsGreatest, IsBest}
 use Rattle.call_table.specs.Calls.{running}
@@ -90,7 +91,7 @@ pub one_more_reply : (from round : ℕ) (key : List ℕ) (entry : Option Entry) 
     → IsReading key round (record { from = from; entry = entry; object = object } ∷ replies) (row_29_reply from l.fact.epoch round key entry object l).0 × Evaluates key (row_29_reply from l.fact.epoch round key entry object l).1
 one_more_reply from round key entry object replies l whole peer h =
     subst (λ (s : Stage). IsHeard key round (record { from = from; entry = entry; object = object } ∷ replies) (heard s from l.fact.epoch round key entry object l)) (sym h.stage)
-    (subst (λ (b : Bool). IsHeard key round (record { from = from; entry = entry; object = object } ∷ replies) (if b then (stands key (stages.Reading round (heard_from from h.votes) (better h.best entry object)) l, leads_on 30 key) else idle l)) (sym (counted round l)) (
+    (subst (λ (b : Bool). IsHeard key round (record { from = from; entry = entry; object = object } ∷ replies) (if b then (stands key (stages.Reading round (heard_from from h.votes) (better h.best entry object)) l, leads_on key_rules.EnoughReplies key) else idle l)) (sym (counted round l)) (
       record {
         votes = heard_from from h.votes;
         best = better h.best entry object;
@@ -115,7 +116,7 @@ pub other_reply : (from at round : ℕ) (ballot : Epoch) (key : List ℕ) (entry
 other_reply from at round ballot key entry object replies l h not_it =
     subst (λ (s : Stage). heard s from ballot at key entry object l ≡ idle l) (sym h.stage) (by_test (counts ballot at round l) refl)
   where
-    by_test : (b : Bool) → counts ballot at round l ≡ b → (if b then (stands key (stages.Reading round (heard_from from h.votes) (better h.best entry object)) l, leads_on 30 key) else idle l) ≡ idle l
+    by_test : (b : Bool) → counts ballot at round l ≡ b → (if b then (stands key (stages.Reading round (heard_from from h.votes) (better h.best entry object)) l, leads_on key_rules.EnoughReplies key) else idle l) ≡ idle l
     by_test true e = let parts = and_parts (is_same ballot l.fact.epoch) (at == round) e in absurd (not_it (same_epochs ballot l.fact.epoch parts.0, same_numbers at round parts.1))
     by_test false e = refl
 
@@ -217,8 +218,8 @@ module _ (key : List ℕ) (round : ℕ) (replies : List GetReply) (l : Leader) (
   none_best none None is = refl
   none_best none (Some f) is = absurd (none f.entry is.entry.0 is.entry.1)
 
-  pub read_absent : (w : Waiting) → running key l.table.calls ≡ Some w → is_quorum (has_replied replies) l.fact.views ≡ true → HaveNoEntry replies → row_30 key l ≡ (with_task (tasks.Apply None) (knows key knowns.Absent l), leads_on 34 key)
-  read_absent w runs quorum none = met (λ r. r ≡ (with_task (tasks.Apply None) (knows key knowns.Absent l), leads_on 34 key)) w runs quorum (ap (λ (best : Option Found). on_best best (state_of h.votes) w key l) (none_best none h.best best_greatest))
+  pub read_absent : (w : Waiting) → running key l.table.calls ≡ Some w → is_quorum (has_replied replies) l.fact.views ≡ true → HaveNoEntry replies → row_30 key l ≡ (with_task (tasks.Apply None) (knows key knowns.Absent l), leads_on key_rules.Apply key)
+  read_absent w runs quorum none = met (λ r. r ≡ (with_task (tasks.Apply None) (knows key knowns.Absent l), leads_on key_rules.Apply key)) w runs quorum (ap (λ (best : Option Found). on_best best (state_of h.votes) w key l) (none_best none h.best best_greatest))
 
   same_greatest : (u : Entry) → HaveGreatest replies u → (f : Found) → IsGreatest (contents replies) f → f.entry ≡ u
   same_greatest u top f is = by_order (entry_cmp f.entry u) refl
@@ -246,11 +247,11 @@ module _ (key : List ℕ) (round : ℕ) (replies : List GetReply) (l : Leader) (
     blind (commands.Add n) content is = absurd is
     blind (commands.Swap old new) content is = absurd is
 
-    pub read_overwrites : (content : Option (List ℕ)) → is_quorum (has_replied replies) l.fact.views ≡ true → Overwrites w.command content → row_30 key l ≡ (with_task (tasks.Write content (Some u.version)) l, leads_on 31 key)
-    read_overwrites content quorum is = met (λ r. r ≡ (with_task (tasks.Write content (Some u.version)) l, leads_on 31 key)) w runs quorum (
+    pub read_overwrites : (content : Option (List ℕ)) → is_quorum (has_replied replies) l.fact.views ≡ true → Overwrites w.command content → row_30 key l ≡ (with_task (tasks.Write content (Some u.version)) l, leads_on key_rules.Write key)
+    read_overwrites content quorum is = met (λ r. r ≡ (with_task (tasks.Write content (Some u.version)) l, leads_on key_rules.Write key)) w runs quorum (
         ap (λ (best : Option Found). on_best best (state_of h.votes) w key l) b.given
         ∙ ap (λ (v : Option Verdict). on_greatest v (state_of h.votes) b.found w key l) (blind w.command content is)
-        ∙ ap (λ (e : Entry). (with_task (tasks.Write content (Some e.version)) l, leads_on 31 key)) b.entry
+        ∙ ap (λ (e : Entry). (with_task (tasks.Write content (Some e.version)) l, leads_on key_rules.Write key)) b.entry
         )
 
     seeing : (command : Command) → NeedsObject command → blind_verdict command ≡ None
@@ -273,14 +274,14 @@ module _ (key : List ℕ) (round : ℕ) (replies : List GetReply) (l : Leader) (
     has_object o at (Some q) e = (q, e, subst (λ (x : Entry). HaveObject replies x q) b.entry (b.greatest.object q e))
 
     pub read_settles : (o : Object) → is_quorum (has_replied replies) l.fact.views ≡ true → NeedsObject w.command → HaveObject replies u o → u.version.epoch ≡ l.fact.epoch
-        → (p : Object) × HaveObject replies u p × (row_30 key l ≡ (with_task (tasks.Apply (Some p)) (knows key (settled_as u.version p u.digest) l), leads_on 34 key))
+        → (p : Object) × HaveObject replies u p × (row_30 key l ≡ (with_task (tasks.Apply (Some p)) (knows key (settled_as u.version p u.digest) l), leads_on key_rules.Apply key))
     read_settles o quorum needs at same =
         let q = has_object o at b.found.object refl in (
           q.0,
           q.2,
-          seen (λ r. r ≡ (with_task (tasks.Apply (Some q.0)) (knows key (settled_as u.version q.0 u.digest) l), leads_on 34 key)) quorum needs (
+          seen (λ r. r ≡ (with_task (tasks.Apply (Some q.0)) (knows key (settled_as u.version q.0 u.digest) l), leads_on key_rules.Apply key)) quorum needs (
               ap (λ (object : Option Object). on_found object (state_of h.votes) u w key l) q.1
-              ∙ ap (λ (t : Bool). if t then (with_task (tasks.Apply (Some q.0)) (knows key (settled_as u.version q.0 u.digest) l), leads_on 34 key) else (with_task (tasks.Rewrite q.0) l, leads_on 32 key))
+              ∙ ap (λ (t : Bool). if t then (with_task (tasks.Apply (Some q.0)) (knows key (settled_as u.version q.0 u.digest) l), leads_on key_rules.Apply key) else (with_task (tasks.Rewrite q.0) l, leads_on key_rules.Rewrite key))
               (ap (λ (e : Epoch). is_same e l.fact.epoch) same ∙ epoch_itself l.fact.epoch)
               ),
         )
@@ -293,14 +294,14 @@ module _ (key : List ℕ) (round : ℕ) (replies : List GetReply) (l : Leader) (
         by_test false is = refl
 
     pub read_rewrites : (o : Object) → is_quorum (has_replied replies) l.fact.views ≡ true → NeedsObject w.command → HaveObject replies u o → u.version.epoch ≢ l.fact.epoch
-        → (p : Object) × HaveObject replies u p × (row_30 key l ≡ (with_task (tasks.Rewrite p) l, leads_on 32 key))
+        → (p : Object) × HaveObject replies u p × (row_30 key l ≡ (with_task (tasks.Rewrite p) l, leads_on key_rules.Rewrite key))
     read_rewrites o quorum needs at apart =
         let q = has_object o at b.found.object refl in (
           q.0,
           q.2,
-          seen (λ r. r ≡ (with_task (tasks.Rewrite q.0) l, leads_on 32 key)) quorum needs (
+          seen (λ r. r ≡ (with_task (tasks.Rewrite q.0) l, leads_on key_rules.Rewrite key)) quorum needs (
               ap (λ (object : Option Object). on_found object (state_of h.votes) u w key l) q.1
-              ∙ ap (λ (t : Bool). if t then (with_task (tasks.Apply (Some q.0)) (knows key (settled_as u.version q.0 u.digest) l), leads_on 34 key) else (with_task (tasks.Rewrite q.0) l, leads_on 32 key))
+              ∙ ap (λ (t : Bool). if t then (with_task (tasks.Apply (Some q.0)) (knows key (settled_as u.version q.0 u.digest) l), leads_on key_rules.Apply key) else (with_task (tasks.Rewrite q.0) l, leads_on key_rules.Rewrite key))
               (other_epoch u.version.epoch apart)
               ),
         )

@@ -33,6 +33,8 @@ use Rattle.register_model.specs.declared.register.Register.TheVariants as regist
 use Rattle.wire_frames.specs.declared.message.Message.TheVariants as messages
 use Rattle.phase_rows.specs.declared.phase.Seen.{Seen}
 use Rattle.phase_rows.specs.declared.phase.Seen.TheVariants as seens
+use Rattle.phase_rows.specs.declared.rules.KeyRule.{KeyRule}
+use Rattle.phase_rows.specs.declared.rules.KeyRule.TheVariants as key_rules
 use Rattle.call_table.specs.Best.{better}
 use Rattle.call_table.specs.Calls.{running}
 use Rattle.call_table.specs.Rows.{Rows, row_at, check_at, check_round, with_known, with_stage, with_check}
@@ -60,7 +62,6 @@ use Rattle.leading.specs.declared.pending.Pending.TheVariants as tasks
 use Rattle.serving_laws.proofs.Indexed.{index_stays, index_begins, index_ends}
 use Rattle.leading.proofs.Lookups.{stage_other, stage_here, stages_then, known_then}
 use Rattle.leading.proofs.Moves.{either}
-use Rattle.leading.proofs.Steps.{by_number}
 
 -- ## Votes
 
@@ -325,7 +326,7 @@ without_object_so key l w AllAnswered whole clear = so_answered key w _ rests l 
 without_object_so key l w Open whole clear = so_rests key _ _ whole refl refl refl
 without_object_so key l w Met whole clear = so_rests key _ _ whole refl refl refl
 
-applies_so : (key : List ℕ) (l : Leader) (known : Known) (current : Option Object) → KeepsWhole key l (with_task (tasks.Apply current) (knows key known l), leads_on 34 key)
+applies_so : (key : List ℕ) (l : Leader) (known : Known) (current : Option Object) → KeepsWhole key l (with_task (tasks.Apply current) (knows key known l), leads_on key_rules.Apply key)
 applies_so key l known current whole clear = so_goes key _ _ (whole_task (tasks.Apply current) (knows key known l) tt (whole_knows key known l whole)) (clear_knows key known l clear) refl refl
 
 on_found_so : (key : List ℕ) (l : Leader) (w : Waiting) (state : RoundState) (o : Option Object) (u : Entry) → KeepsWhole key l (on_found o state u w key l)
@@ -465,23 +466,19 @@ put_so key l seen (tasks.Rewrite o) whole clear = so_rests key _ _ whole refl re
 put_so key l seen (tasks.Check reply) whole clear = so_rests key _ _ whole refl refl refl
 put_so key l seen (tasks.Apply current) whole clear = so_rests key _ _ whole refl refl refl
 
--- ## The rule of any number
+-- ## Any rule on a key
 
 module _ (key : List ℕ) (seen : Seen) (l : Leader) (whole : IsWhole l) (clear : IsClear l key) where
-  abbrev IsSo : ℕ → Leader × LeadOut → Type 0
-  IsSo n r = KeptWhole key r
-
-  pub rule_so : (n : ℕ) → KeptWhole key (lead_row n key seen l)
-  rule_so n =
-      by_number IsSo n 28 _ _ (started_so key l (running key l.table.calls) seen whole clear) (λ not_28.
-      by_number IsSo n 29 _ _ (asked_for_so key l (running key l.table.calls) seen whole clear) (λ not_29.
-      by_number IsSo n 30 _ _ (gathered_for_so key l (running key l.table.calls) whole clear) (λ not_30.
-      by_number IsSo n 31 _ _ (written_so key (taken l) (running key l.table.calls) l.task (whole_taken l whole) clear) (λ not_31.
-      by_number IsSo n 32 _ _ (rewritten_so key (taken l) l.task (whole_taken l whole) clear) (λ not_32.
-      by_number IsSo n 33 _ _ (checked_so key (taken l) (running key l.table.calls) l.task whole.task (whole_taken l whole) clear) (λ not_33.
-      by_number IsSo n 34 _ _ (applied_so key (taken l) (running key l.table.calls) l.task (whole_taken l whole) clear) (λ not_34.
-      by_number IsSo n 35 _ _ (put_so key (taken l) seen l.task (whole_taken l whole) clear) (λ not_35.
-      by_number IsSo n 36 _ _ (next_so key l (running key l.table.calls) whole clear) (λ not_36. so_rests key _ _ whole refl refl refl)))))))))
+  pub rule_so : (rule : KeyRule) → KeptWhole key (lead_row rule key seen l)
+  rule_so key_rules.StartCall = started_so key l (running key l.table.calls) seen whole clear
+  rule_so key_rules.Read = asked_for_so key l (running key l.table.calls) seen whole clear
+  rule_so key_rules.EnoughReplies = gathered_for_so key l (running key l.table.calls) whole clear
+  rule_so key_rules.Write = written_so key (taken l) (running key l.table.calls) l.task (whole_taken l whole) clear
+  rule_so key_rules.Rewrite = rewritten_so key (taken l) l.task (whole_taken l whole) clear
+  rule_so key_rules.Check = checked_so key (taken l) (running key l.table.calls) l.task whole.task (whole_taken l whole) clear
+  rule_so key_rules.Apply = applied_so key (taken l) (running key l.table.calls) l.task (whole_taken l whole) clear
+  rule_so key_rules.Put = put_so key (taken l) seen l.task (whole_taken l whole) clear
+  rule_so key_rules.StartNextCall = next_so key l (running key l.table.calls) whole clear
 
 -- ## Replies
 

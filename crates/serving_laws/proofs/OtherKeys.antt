@@ -9,7 +9,8 @@ use Rattle.quorum_round.specs.Rounds.{answered as heard_from, state_of}
 use Rattle.quorum_round.specs.declared.round.Round.{Round}
 use Rattle.quorum_round.specs.declared.round.RoundState.{RoundState}
 use Rattle.quorum_round.specs.declared.round.RoundState.TheVariants.{Open, Met, AllAnswered}
-use Rattle.phase_rows.specs.declared.phase.Then.TheVariants.{Rule}
+use Rattle.phase_rows.specs.declared.phase.Then.TheVariants.{OnKeys}
+use Rattle.phase_rows.specs.declared.rules.KeyRule.TheVariants as key_rules
 use Rattle.call_table.specs.Calls.{running, waiting_on, older, is_due, due, due_after, key_if_running}
 use Rattle.call_table.specs.Rows.{row_at, check_at}
 use Rattle.call_table.specs.Tables.{ended, rested, rested_if, rested_all, without_due, late_put}
@@ -143,7 +144,7 @@ all_still (d ∷ ds) k t none = by_running d.running refl (all_still ds k)
 
 -- the leader after a tick
 abbrev ticked : Bool → Leader → Leader × LeadOut
-ticked late l = if late then (record l { table = aged l.table }, leaves) else (record l { table = without_due (aged l.table) }, timed_out (due (map older l.table.calls)) (comes (Rule 36)))
+ticked late l = if late then (record l { table = aged l.table }, leaves) else (record l { table = without_due (aged l.table) }, timed_out (due (map older l.table.calls)) (comes (OnKeys key_rules.StartNextCall)))
 
 ticks_keep : (late : Bool) (k : List ℕ) (l : Leader) → ¬ IsRunningDue k (map older l.table.calls) → row_at k (ticked late l).0.table.rows ≡ row_at k l.table.rows
 ticks_keep true k l none = refl

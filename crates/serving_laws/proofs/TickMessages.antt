@@ -11,6 +11,7 @@ use Rattle.phase_rows.specs.Orders.{is_joint}
 use Rattle.wire_frames.specs.declared.message.Message.{Message}
 use Rattle.wire_frames.specs.declared.message.Message.TheVariants.{NewEpoch, Commit, Beat}
 use Rattle.phase_rows.specs.declared.phase.Then.TheVariants.{Stay, Rule}
+use Rattle.phase_rows.specs.declared.rules.PhaseRule.TheVariants as phase_rules
 use Rattle.leader_words.specs.Sends.{is_other}
 use Rattle.leader_words.specs.declared.out.Outgoing.{Outgoing}
 use Rattle.serving_laws.specs.Answers.{IsOther, IsTold, IsNotTold}
@@ -106,17 +107,17 @@ module _ (finishing : Finishing) (fact : Fact) (l : Leader) where
           itself : (n : ℕ) → not (n == n) ≡ false
           itself n = grind (arith, nat_tests)
 
-  ends_by : (joint : Bool) → is_joint l.fact.views ≡ joint → (f : Finishing) → finishing ≡ f → (((if is_none f && joint then Rule 25 else Stay) ≡ Rule 25) → (is_joint l.fact.views ≡ true) × (finishing ≡ None))
+  ends_by : (joint : Bool) → is_joint l.fact.views ≡ joint → (f : Finishing) → finishing ≡ f → (((if is_none f && joint then Rule phase_rules.BeginChange else Stay) ≡ Rule phase_rules.BeginChange) → (is_joint l.fact.views ≡ true) × (finishing ≡ None))
   ends_by true e None none h = (e, none)
   ends_by true e (Some f) some h = absurd cc
   ends_by false e None same h = absurd cc
   ends_by false e (Some f) same h = absurd cc
 
-  pub ends : ((row_5_rest finishing fact l).then ≡ Rule 25) → (is_joint l.fact.views ≡ true) × (finishing ≡ None)
+  pub ends : ((row_5_rest finishing fact l).then ≡ Rule phase_rules.BeginChange) → (is_joint l.fact.views ≡ true) × (finishing ≡ None)
   ends h = ends_by (is_joint l.fact.views) refl finishing refl h
 
-  pub ended : (is_joint l.fact.views ≡ true) × (finishing ≡ None) → (row_5_rest finishing fact l).then ≡ Rule 25
-  ended both = ap (λ (f : Finishing). if is_none f && is_joint l.fact.views then Rule 25 else Stay) both.1 ∙ ap (λ (b : Bool). if b then Rule 25 else Stay) both.0
+  pub ended : (is_joint l.fact.views ≡ true) × (finishing ≡ None) → (row_5_rest finishing fact l).then ≡ Rule phase_rules.BeginChange
+  ended both = ap (λ (f : Finishing). if is_none f && is_joint l.fact.views then Rule phase_rules.BeginChange else Stay) both.1 ∙ ap (λ (b : Bool). if b then Rule phase_rules.BeginChange else Stay) both.0
 
 -- the messages, by who has accepted what
 pub not_accepted : (finishing : Finishing) (fact : Fact) (l : Leader) (p : ℕ) → holds l.accepts p ≡ false → tick_message finishing fact l p ≡ NewEpoch l.fact

@@ -8,7 +8,8 @@ use Rattle.ens_base.specs.declared.command.Command.{Command}
 use Rattle.ens_base.specs.declared.reply.Reply.{Reply}
 use Rattle.ens_base.specs.declared.reply.Reply.TheVariants as replies
 use Rattle.peer_fact.specs.declared.fact.Fact.{Fact}
-use Rattle.phase_rows.specs.declared.phase.Then.TheVariants.{Rule}
+use Rattle.phase_rows.specs.declared.phase.Then.TheVariants.{OnKeys}
+use Rattle.phase_rows.specs.declared.rules.KeyRule.TheVariants as key_rules
 use Rattle.call_table.specs.Calls.{running, waiting_on, due, older}
 use Rattle.call_table.specs.Rows.{Rows, row_at, check_at, check_round}
 use Rattle.call_table.specs.Tables.{rested, rested_if, rested_all, without_due, late_put}
@@ -63,7 +64,7 @@ joined_so from id key command finishing l whole calm =
     (either (λ (r : Leader × LeadOut). StaysWhole key r) (nat_le 16 (waiting_on key l.table.calls)) _ _ (refused_so key l from id replies.Busy whole)
     (joins (record { from = from; id = id; key = key; command = command; age = 0 }) (waiting_on key l.table.calls == 0) refl))
   where
-    joins : (w : Waiting) (alone : Bool) → (waiting_on key l.table.calls == 0) ≡ alone → StaysWhole key (joined w l, if alone then leads_on 28 key else rests)
+    joins : (w : Waiting) (alone : Bool) → (waiting_on key l.table.calls == 0) ≡ alone → StaysWhole key (joined w l, if alone then leads_on key_rules.StartCall key else rests)
     joins w true e = (so_goes key (joined w l) _ (whole_calls l (l.table.calls ++ w ∷ []) whole) (ap check_round (calm key (nobody_waits key l.table.calls (eqb-true (waiting_on key l.table.calls) 0 e)))) refl refl).stays
     joins w false e = (so_rests key (joined w l) _ (whole_calls l (l.table.calls ++ w ∷ []) whole) refl refl refl).stays
 
@@ -102,7 +103,7 @@ due_clear k t has = ap check_round (ap (λ (rows : Rows). (row_at k rows).stage)
 abbrev TicksWhole : Leader × LeadOut → Type 0
 TicksWhole r = IsWhole r.0 × All (IsClear r.0) r.1.keys
 
-ticks_by : (late : Bool) (l : Leader) → IsWhole l → TicksWhole (if late then (record l { table = aged l.table }, leaves) else (record l { table = without_due (aged l.table) }, timed_out (due (map older l.table.calls)) (comes (Rule 36))))
+ticks_by : (late : Bool) (l : Leader) → IsWhole l → TicksWhole (if late then (record l { table = aged l.table }, leaves) else (record l { table = without_due (aged l.table) }, timed_out (due (map older l.table.calls)) (comes (OnKeys key_rules.StartNextCall))))
 ticks_by true l whole = (whole_calls l (map older l.table.calls) whole, All-nil (IsClear (record l { table = aged l.table })))
 ticks_by false l whole =
     let before : IsWhole (record l { table = aged l.table }) = whole_calls l (map older l.table.calls) whole in (
@@ -111,7 +112,7 @@ ticks_by false l whole =
         task = whole.task;
         index = due_index (aged l.table) l.round before.index;
       },
-      subst (λ (ks : List (List ℕ)). All (IsClear (record l { table = without_due (aged l.table) })) ks) (sym (timed_out_keys (due (map older l.table.calls)) (comes (Rule 36))))
+      subst (λ (ks : List (List ℕ)). All (IsClear (record l { table = without_due (aged l.table) })) ks) (sym (timed_out_keys (due (map older l.table.calls)) (comes (OnKeys key_rules.StartNextCall))))
           (all_keys (IsClear (record l { table = without_due (aged l.table) })) (due (map older l.table.calls)) (λ k has. due_clear k (aged l.table) has)),
     )
 

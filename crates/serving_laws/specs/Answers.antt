@@ -15,7 +15,8 @@ use Rattle.register_model.specs.Registers.{Outcome, Keeps, Writes}
 use Rattle.register_model.specs.declared.note.Note.{Note}
 use Rattle.register_model.specs.declared.note.Note.TheVariants.{Settled}
 use Rattle.wire_frames.specs.declared.message.Message.{Message}
-use Rattle.phase_rows.specs.declared.phase.Then.TheVariants.{Rule}
+use Rattle.phase_rows.specs.declared.phase.Then.TheVariants.{OnKeys}
+use Rattle.phase_rows.specs.declared.rules.KeyRule.TheVariants as key_rules
 use Rattle.call_table.specs.Best.{entry_cmp, best_of}
 use Rattle.call_table.specs.Calls.{running, without_running, waiting_on, is_due}
 use Rattle.call_table.specs.Rows.{row_at}
@@ -39,7 +40,7 @@ pub record IsAnswered (w : Waiting) (reply : Reply) (notes : List Note) (key : L
   pub noted : r.1.notes ≡ notes
   pub calls : r.0.table.calls ≡ without_running key l.table.calls
   pub idle : (row_at key r.0.table.rows).stage ≡ Idle
-  pub next : r.1.then ≡ Rule 36
+  pub next : r.1.then ≡ OnKeys key_rules.StartNextCall
   pub keys : r.1.keys ≡ key ∷ []
 
 -- the sender and those that answered before are a quorum of the views of the leader's epoch
@@ -101,7 +102,7 @@ NeedsObject command = (content : Option (List ℕ)) → ¬ Overwrites command co
 
 -- rule 30 follows on the key
 pub record Evaluates (key : List ℕ) (o : LeadOut) : Type 0 where
-  pub next : o.then ≡ Rule 30
+  pub next : o.then ≡ OnKeys key_rules.EnoughReplies
   pub keys : o.keys ≡ key ∷ []
 
 -- the version of the object is noted as settled, and the key is settled with the object
@@ -112,7 +113,7 @@ pub record IsSettled (o : Object) (digest : List ℕ) (key : List ℕ) (r : Lead
 -- the command of the running call is to be applied to the object next, by rule 34
 pub record IsToApply (o : Object) (key : List ℕ) (r : Leader × LeadOut) : Type 0 where
   pub task : r.0.task ≡ tasks.Apply (Some o)
-  pub next : r.1.then ≡ Rule 34
+  pub next : r.1.then ≡ OnKeys key_rules.Apply
   pub keys : r.1.keys ≡ key ∷ []
 
 -- ## How a call starts
@@ -140,13 +141,13 @@ pub record IsSettledObject (key : List ℕ) (version : Version) (digest : List �
 -- the outcome of a command on the settled object: a write is proposed next, by rule 31, upon the
 -- settled version, and a reply waits for a check, by rule 33
 abbrev pub decides : Outcome → List ℕ → Leader → Leader × LeadOut
-decides (Writes content) key l = (record l { task = tasks.Write content (base key l) }, leads_on 31 key)
-decides (Keeps reply) key l = (record l { task = tasks.Check reply }, leads_on 33 key)
+decides (Writes content) key l = (record l { task = tasks.Write content (base key l) }, leads_on key_rules.Write key)
+decides (Keeps reply) key l = (record l { task = tasks.Check reply }, leads_on key_rules.Check key)
 
 -- the call waits after all others, unanswered, and starts exactly if its key has no other call
 pub record Waits (from id : ℕ) (key : List ℕ) (command : Command) (l : Leader) (r : Leader × LeadOut) : Type 0 where
   pub waiting : r.0 ≡ record l { table = record l.table { calls = l.table.calls ++ record { from = from; id = id; key = key; command = command; age = 0 } ∷ [] } }
-  pub starts : waiting_on key l.table.calls ≡ 0 → r.1 ≡ leads_on 28 key
+  pub starts : waiting_on key l.table.calls ≡ 0 → r.1 ≡ leads_on key_rules.StartCall key
   pub queues : 0 < waiting_on key l.table.calls → r.1 ≡ rests
 
 -- ## Ticks

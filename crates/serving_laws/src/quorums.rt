@@ -12,7 +12,7 @@ ghost use Rattle.quorum_round.specs.declared.round.Round.{Round};
 ghost use Rattle.register_model.specs.Registers.{outcome, Keeps, Writes};
 ghost use Rattle.register_model.specs.declared.note.Note.TheVariants.{Settled, Read};
 ghost use Rattle.phase_rows.specs.declared.phase.Seen.TheVariants as seens;
-ghost use Rattle.phase_rows.specs.declared.phase.Then.TheVariants.{Rule};
+ghost use Rattle.phase_rows.specs.declared.rules.KeyRule.TheVariants as key_rules;
 ghost use Rattle.call_table.specs.Calls.{running};
 ghost use Rattle.call_table.specs.Rows.{row_at};
 ghost use Rattle.call_table.specs.declared.row.Known.TheVariants as knowns;
@@ -71,15 +71,15 @@ pub fn replies_are_gathered()
 pub fn a_quorum_ends_a_read()
     ensures waits { (key : List ℕ) (round : ℕ) (replies : List GetReply) (l : Leader) → IsWhole l → IsReading key round replies l → is_quorum (has_replied replies) l.fact.views ≡ false → row_30 key l ≡ idle l }
     ensures absent { (key : List ℕ) (round : ℕ) (replies : List GetReply) (w : Waiting) (l : Leader) → IsWhole l → IsReading key round replies l → running key l.table.calls ≡ Some w → is_quorum (has_replied replies) l.fact.views ≡ true
-        → HaveNoEntry replies → row_30 key l ≡ (with_task (tasks.Apply None) (knows key knowns.Absent l), leads_on 34 key) }
+        → HaveNoEntry replies → row_30 key l ≡ (with_task (tasks.Apply None) (knows key knowns.Absent l), leads_on key_rules.Apply key) }
     ensures overwrites { (key : List ℕ) (round : ℕ) (replies : List GetReply) (w : Waiting) (u : Entry) (content : Option (List ℕ)) (l : Leader) → IsWhole l → IsReading key round replies l → running key l.table.calls ≡ Some w → is_quorum (has_replied replies) l.fact.views ≡ true
-        → HaveGreatest replies u → Overwrites w.command content → row_30 key l ≡ (with_task (tasks.Write content (Some u.version)) l, leads_on 31 key) }
+        → HaveGreatest replies u → Overwrites w.command content → row_30 key l ≡ (with_task (tasks.Write content (Some u.version)) l, leads_on key_rules.Write key) }
     ensures settles { (key : List ℕ) (round : ℕ) (replies : List GetReply) (w : Waiting) (u : Entry) (o : Object) (l : Leader) → IsWhole l → IsReading key round replies l → running key l.table.calls ≡ Some w → is_quorum (has_replied replies) l.fact.views ≡ true
         → HaveGreatest replies u → NeedsObject w.command → HaveObject replies u o → u.version.epoch ≡ l.fact.epoch
-        → (p : Object) × HaveObject replies u p × (row_30 key l ≡ (with_task (tasks.Apply (Some p)) (knows key (settled_as u.version p u.digest) l), leads_on 34 key)) }
+        → (p : Object) × HaveObject replies u p × (row_30 key l ≡ (with_task (tasks.Apply (Some p)) (knows key (settled_as u.version p u.digest) l), leads_on key_rules.Apply key)) }
     ensures rewrites { (key : List ℕ) (round : ℕ) (replies : List GetReply) (w : Waiting) (u : Entry) (o : Object) (l : Leader) → IsWhole l → IsReading key round replies l → running key l.table.calls ≡ Some w → is_quorum (has_replied replies) l.fact.views ≡ true
         → HaveGreatest replies u → NeedsObject w.command → HaveObject replies u o → u.version.epoch ≢ l.fact.epoch
-        → (p : Object) × HaveObject replies u p × (row_30 key l ≡ (with_task (tasks.Rewrite p) l, leads_on 32 key)) }
+        → (p : Object) × HaveObject replies u p × (row_30 key l ≡ (with_task (tasks.Rewrite p) l, leads_on key_rules.Rewrite key)) }
     ensures lost { (key : List ℕ) (round : ℕ) (replies : List GetReply) (w : Waiting) (u : Entry) (l : Leader) → IsWhole l → IsReading key round replies l → running key l.table.calls ≡ Some w → is_quorum (has_replied replies) l.fact.views ≡ true
         → HaveGreatest replies u → NeedsObject w.command → ((o : Object) → ¬ HaveObject replies u o) → HasEvery (has_replied replies) l.fact.views
         → IsAnswered w answers.Lost [] key l (row_30 key l) }
@@ -93,5 +93,5 @@ pub fn rounds_end_in_the_command()
     ensures answers { (current : Option Object) (reply : Answer) (key : List ℕ) (w : Waiting) (l : Leader) → running key l.table.calls ≡ Some w → l.task ≡ tasks.Apply current → outcome w.command (register_at current) ≡ Keeps reply
         → IsAnswered w reply (Read w.id key (base key l) ∷ []) key l (row_34 key l) }
     ensures writes { (current : Option Object) (content : Option (List ℕ)) (key : List ℕ) (w : Waiting) (l : Leader) → running key l.table.calls ≡ Some w → l.task ≡ tasks.Apply current → outcome w.command (register_at current) ≡ Writes content
-        → row_34 key l ≡ (with_task (tasks.Write content (base key l)) l, leads_on 31 key) }
+        → row_34 key l ≡ (with_task (tasks.Write content (base key l)) l, leads_on key_rules.Write key) }
 {}

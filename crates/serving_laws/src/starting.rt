@@ -8,12 +8,13 @@ ghost use Rattle.register_model.specs.Registers.{outcome};
 ghost use Rattle.register_model.specs.declared.register.Register.TheVariants as registers;
 ghost use Rattle.phase_rows.specs.declared.phase.Seen.{Seen};
 ghost use Rattle.phase_rows.specs.declared.phase.Seen.TheVariants as seens;
+ghost use Rattle.phase_rows.specs.declared.rules.KeyRule.TheVariants as key_rules;
 ghost use Rattle.call_table.specs.Calls.{running, waiting_on};
 ghost use Rattle.call_table.specs.Rows.{row_at};
 ghost use Rattle.call_table.specs.declared.row.Known.TheVariants as knowns;
 ghost use Rattle.call_table.specs.declared.waiting.Waiting.{Waiting};
 ghost use Rattle.leader_words.specs.Outs.{rests, leads_on, and_own, and_answer};
-ghost use Rattle.leader_words.specs.declared.out.Own.TheVariants.{Look};
+ghost use Rattle.leader_words.specs.declared.out.Own.TheVariants.{Fetch};
 ghost use Rattle.serving_laws.specs.Answers.{NeedsValue, IsAbsent, IsSettledObject, decides, Waits};
 ghost use Rattle.leading.specs.Starts.{row_27, row_28};
 ghost use Rattle.leading.specs.declared.leader.Leader.{Leader};
@@ -32,14 +33,14 @@ pub fn calls_are_refused_or_wait()
 /// depend on the value is applied to its stamp. Any other command is applied to the value that the
 /// peer's own backend keeps, if that is the settled one, and else the key is read again.
 pub fn calls_start_by_what_is_settled()
-    ensures unknown { (key : List ℕ) (seen : Seen) (w : Waiting) (l : Leader) → running key l.table.calls ≡ Some w → (row_at key l.table.rows).known ≡ knowns.Unknown → row_28 key seen l ≡ (l, leads_on 29 key) }
+    ensures unknown { (key : List ℕ) (seen : Seen) (w : Waiting) (l : Leader) → running key l.table.calls ≡ Some w → (row_at key l.table.rows).known ≡ knowns.Unknown → row_28 key seen l ≡ (l, leads_on key_rules.Read key) }
     ensures absent { (key : List ℕ) (seen : Seen) (w : Waiting) (l : Leader) → running key l.table.calls ≡ Some w → IsAbsent (row_at key l.table.rows).known → row_28 key seen l ≡ decides (outcome w.command registers.Absent) key l }
     ensures stamp { (key : List ℕ) (seen : Seen) (w : Waiting) (version stamp : Version) (digest bytes : List ℕ) (l : Leader) → running key l.table.calls ≡ Some w → (row_at key l.table.rows).known ≡ knowns.Present version stamp digest false
         → ¬ NeedsValue w.command → row_28 key seen l ≡ decides (outcome w.command (registers.Present stamp bytes)) key l }
-    ensures looks { (key : List ℕ) (w : Waiting) (version stamp : Version) (digest : List ℕ) (l : Leader) → running key l.table.calls ≡ Some w → (row_at key l.table.rows).known ≡ knowns.Present version stamp digest false
-        → NeedsValue w.command → row_28 key seens.Nothing l ≡ (l, and_own (Look key) rests) }
+    ensures fetches { (key : List ℕ) (w : Waiting) (version stamp : Version) (digest : List ℕ) (l : Leader) → running key l.table.calls ≡ Some w → (row_at key l.table.rows).known ≡ knowns.Present version stamp digest false
+        → NeedsValue w.command → row_28 key seens.Nothing l ≡ (l, and_own (Fetch key) rests) }
     ensures value { (key : List ℕ) (kept : Option (Object × List ℕ)) (o : Object) (w : Waiting) (version stamp : Version) (digest : List ℕ) (l : Leader) → running key l.table.calls ≡ Some w → (row_at key l.table.rows).known ≡ knowns.Present version stamp digest false
         → NeedsValue w.command → IsSettledObject key version digest kept o → row_28 key (seens.Kept kept) l ≡ decides (outcome w.command (register_of o)) key l }
     ensures other_value { (key : List ℕ) (kept : Option (Object × List ℕ)) (w : Waiting) (version stamp : Version) (digest : List ℕ) (l : Leader) → running key l.table.calls ≡ Some w → (row_at key l.table.rows).known ≡ knowns.Present version stamp digest false
-        → NeedsValue w.command → ((o : Object) → ¬ IsSettledObject key version digest kept o) → row_28 key (seens.Kept kept) l ≡ (l, leads_on 29 key) }
+        → NeedsValue w.command → ((o : Object) → ¬ IsSettledObject key version digest kept o) → row_28 key (seens.Kept kept) l ≡ (l, leads_on key_rules.Read key) }
 {}

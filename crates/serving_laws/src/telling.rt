@@ -4,6 +4,7 @@ ghost use Rattle.peer_fact.specs.declared.fact.Fact.{Fact};
 ghost use Rattle.phase_rows.specs.Orders.{is_joint};
 ghost use Rattle.wire_frames.specs.declared.message.Message.TheVariants.{NewEpoch, Commit, Beat};
 ghost use Rattle.phase_rows.specs.declared.phase.Then.TheVariants.{Rule};
+ghost use Rattle.phase_rows.specs.declared.rules.PhaseRule.TheVariants as phase_rules;
 ghost use Rattle.serving_laws.specs.Answers.{IsOther, IsTold, IsNotTold};
 ghost use Rattle.leading.specs.Ticks.{Finishing, row_5_rest};
 ghost use Rattle.leading.specs.declared.leader.Leader.{Leader};
@@ -18,5 +19,5 @@ pub fn a_tick_tells_each_member()
     ensures changed { (accepted : List Bool) (age : ℕ) (fact : Fact) (l : Leader) (p : ℕ) → IsOther p l → holds l.accepts p ≡ true → holds accepted p ≡ true → IsTold p (Beat l.fact.epoch) (row_5_rest (Some (accepted, age)) fact l) }
     ensures leads { (fact : Fact) (l : Leader) (p : ℕ) → IsOther p l → holds l.accepts p ≡ true → IsTold p (Beat l.fact.epoch) (row_5_rest None fact l) }
     ensures others { (finishing : Finishing) (fact : Fact) (l : Leader) (p : ℕ) → ¬ IsOther p l → IsNotTold p (row_5_rest finishing fact l) }
-    ensures ends { (finishing : Finishing) (fact : Fact) (l : Leader) → ((row_5_rest finishing fact l).then ≡ Rule 25) ↔ ((is_joint l.fact.views ≡ true) × (finishing ≡ None)) }
+    ensures ends { (finishing : Finishing) (fact : Fact) (l : Leader) → ((row_5_rest finishing fact l).then ≡ Rule phase_rules.BeginChange) ↔ ((is_joint l.fact.views ≡ true) × (finishing ≡ None)) }
 {}

@@ -6,6 +6,7 @@ ghost use Rattle.ens_base.specs.declared.epoch.Version.{Version};
 ghost use Rattle.ens_object.specs.declared.object.Object.{Object};
 ghost use Rattle.peer_fact.specs.declared.fact.Fact.{Fact};
 ghost use Rattle.phase_rows.specs.declared.phase.Seen.{Seen};
+ghost use Rattle.phase_rows.specs.declared.rules.KeyRule.{KeyRule};
 ghost use Rattle.leading.specs.Leaders.{new_leader};
 ghost use Rattle.leading.specs.Puts.{row_35_reply};
 ghost use Rattle.leading.specs.Rounds.{row_29_reply, row_33_reply};
@@ -21,7 +22,7 @@ ghost use Rattle.leading.specs.declared.leader.Leader.{Leader};
 /// a key for a round exactly if the key checks in it. A rule runs on no key that checks.
 pub fn tables_stay_whole()
     ensures new { (fact : Fact) (me : ℕ) (accepts : List Bool) → IsWhole (new_leader fact me accepts) }
-    ensures key { (n : ℕ) (key : List ℕ) (seen : Seen) (l : Leader) → IsWhole l → IsClear l key → StaysWhole key (lead_row n key seen l) }
+    ensures key { (rule : KeyRule) (key : List ℕ) (seen : Seen) (l : Leader) → IsWhole l → IsClear l key → StaysWhole key (lead_row rule key seen l) }
     ensures joined { (from id : ℕ) (key : List ℕ) (command : Words) (finishing : Bool) (l : Leader) → IsWhole l → IsCalm l.table → StaysWhole key (row_27 from id key command finishing l) }
     ensures got { (from : ℕ) (ballot : Epoch) (round : ℕ) (key : List ℕ) (entry : Option Entry) (object : Option Object) (l : Leader) → IsWhole l → StaysWhole key (row_29_reply from ballot round key entry object l) }
     ensures checked { (from : ℕ) (ballot : Epoch) (round : ℕ) (l : Leader) → IsWhole l → (key : List ℕ) × StaysWhole key (row_33_reply from ballot round l) }
@@ -33,7 +34,7 @@ pub fn tables_stay_whole()
 /// `lost` with none, `ok` with a settled version, and `value`, `notfound` and `failed` with a read.
 /// No such rule gives another reply.
 pub fn replies_come_with_their_notes()
-    ensures key { (n : ℕ) (key : List ℕ) (seen : Seen) (l : Leader) → IsWhole l → IsClear l key → AreGiven (lead_row n key seen l).1 }
+    ensures key { (rule : KeyRule) (key : List ℕ) (seen : Seen) (l : Leader) → IsWhole l → IsClear l key → AreGiven (lead_row rule key seen l).1 }
     ensures got { (from : ℕ) (ballot : Epoch) (round : ℕ) (key : List ℕ) (entry : Option Entry) (object : Option Object) (l : Leader) → IsWhole l → AreGiven (row_29_reply from ballot round key entry object l).1 }
     ensures checked { (from : ℕ) (ballot : Epoch) (round : ℕ) (l : Leader) → IsWhole l → AreGiven (row_33_reply from ballot round l).1 }
     ensures put { (from : ℕ) (ballot : Epoch) (key : List ℕ) (version : Version) (l : Leader) → IsWhole l → AreGiven (row_35_reply from ballot key version l).1 }

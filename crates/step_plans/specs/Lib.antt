@@ -1,3 +1,4 @@
+pub mod Saved
 pub mod Calls
 pub mod Plans
 pub mod Outboxes

@@ -7,10 +7,10 @@ use Rattle.step_plans.specs.declared.tasks.Task.TheVariants as tasks
 
 -- the rule that the row of a phase names
 abbrev pub named : Then → List Task
-named (thens.Rule n) = tasks.Phase n ∷ []
+named (thens.Rule rule) = tasks.Phase rule ∷ []
 named other = []
 
 -- the rule that the row of a leader names, on each of its keys
 abbrev pub keyed : Then → List (List ℕ) → List Task
-keyed (thens.Rule n) keys = map (tasks.Key n) keys
+keyed (thens.OnKeys rule) keys = map (tasks.Key rule) keys
 keyed other keys = []

@@ -1,5 +1,6 @@
 ghost use Rattle.std.specs.Prelude.{◌≡◌, [], IfErr};
 ghost use Rattle.std.specs.Thread.{IsSync};
+ghost use Rattle.tree_node.specs.declared.version.TreeVersion.TheVariants.{One};
 ghost use Rattle.tree_node.specs.Entries.{AreAbove};
 ghost use Rattle.tree_node.specs.Positions.{IsPosition};
 ghost use Rattle.step_plans.specs.Calls.{Call, Load, Save, FreshTree, OpenTree, Find, Enter, ScanTree, ReadNode, Install, Fetch, Put, Hash, AnswerOf, Answers};
@@ -9,7 +10,7 @@ ghost use Rattle.step_plans.specs.declared.error.PeerError.TheVariants.{StoreFau
 use crate::error::PeerError;
 use crate::walked::Walked;
 use ens_base::{Bytes, Digest, Entry, Key};
-use peer_fact::{Change, Fact};
+use peer_fact::{Change, Fact, SavedFact};
 use std::alloc::Global;
 use std::thread::Threads;
 use tree_node::{Position, Scan};
@@ -24,11 +25,11 @@ pub trait Store<H> {
     ghost refuses: { Self × H → Call → PeerError → Self × H → Type 0 };
 
     /// Returns the kept fact, or `None` if no fact was ever saved.
-    fn load(&mut self, hasher: &mut H) -> Result<Option<Fact>, PeerError>
+    fn load(&mut self, hasher: &mut H) -> Result<Option<SavedFact>, PeerError>
         ensures { Answers does refuses (self.old, hasher.old) Load result (self.new, hasher.new) };
 
     /// Replaces the kept fact by `fact`. Needs no heap memory.
-    fn save(&mut self, hasher: &mut H, fact: &Fact) -> Result<(), PeerError>
+    fn save(&mut self, hasher: &mut H, fact: &SavedFact) -> Result<(), PeerError>
         ensures answers { Answers does refuses (self.old, hasher.old) (Save fact.now) result (self.new, hasher.new) }
         ensures only { IfErr result (λ e. e ≡ StoreFault) };
 
@@ -36,9 +37,15 @@ pub trait Store<H> {
     fn fresh_tree(&mut self, hasher: &mut H, alloc: Global) -> Result<(), PeerError>
         ensures { Answers does refuses (self.old, hasher.old) FreshTree result (self.new, hasher.new) };
 
-    /// Opens the tree that is kept.
-    fn open_tree(&mut self, hasher: &mut H, alloc: Global) -> Result<(), PeerError>
-        ensures { Answers does refuses (self.old, hasher.old) OpenTree result (self.new, hasher.new) };
+    /// Opens the tree that is kept. Where there is a seal and the tree has another root, its root is
+    /// damaged.
+    fn open_tree(
+        &mut self,
+        hasher: &mut H,
+        alloc: Global,
+        seal: Option<Digest>,
+    ) -> Result<(), PeerError>
+        ensures { Answers does refuses (self.old, hasher.old) (OpenTree seal) result (self.new, hasher.new) };
 
     /// Returns the entry of the key in the tree, or `None` if it has none.
     fn find(
@@ -76,7 +83,7 @@ pub trait Store<H> {
         alloc: Global,
         at: Position,
     ) -> Result<Walked<Option<Bytes>>, PeerError>
-        requires { IsPosition at }
+        requires { IsPosition One at }
         ensures { Answers does refuses (self.old, hasher.old) (ReadNode at) result (self.new, hasher.new) };
 
     /// Builds the tree of these entries, and installs it. Their keys ascend strictly. The nodes are

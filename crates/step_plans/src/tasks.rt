@@ -4,19 +4,22 @@ ghost use Rattle.step_plans.specs.declared.tasks.Task.TheVariants.{Key as OnKey,
 
 use crate::error::PeerError;
 use ens_base::Key;
-use phase_rows::{Seen, Then};
+use phase_rows::{KeyRule, PhaseRule, Seen, Then};
 use std::alloc::{AllocError, Global};
 use std::marker::Model;
 
 /// A rule that a step still has to run.
 #[derive(Debug, Drop)]
 pub enum Task {
-    /// The rule of this number, on the state.
-    Phase(u8),
-    /// The rule of this number, on a key of a leader.
-    Key(u8, Key),
-    /// The rule of this number once more, on a key, with what the stores returned.
-    Again(u8, Key, Seen),
+    /// The rule, on the state.
+    Phase(PhaseRule),
+    /// Rule 5 (d) and (e), once the calls of a tick have gone on: a leader reminds the other members
+    /// of its epoch, and a change that is wanted begins.
+    Remind,
+    /// The rule, on a key of a leader.
+    Key(KeyRule, Key),
+    /// The rule once more, on a key, with what the stores returned.
+    Again(KeyRule, Key, Seen),
 }
 
 /// The rules that a step still has to run. Contracts see a list with the next task first.
@@ -113,13 +116,13 @@ impl Tasks {
         ensures memory { IfErr result (λ e. e ≡ PeerError.Memory) }
     {
         match then {
-            Then::Rule(rule) => Tasks::on_keys(alloc, rule, keys),
+            Then::OnKeys(rule) => Tasks::on_keys(alloc, rule, keys),
             _ => Ok(Tasks::none(alloc)),
         }
     }
 
-    /// Returns the tasks of rule `rule` for each of the keys, in order.
-    fn on_keys(alloc: Global, rule: u8, keys: Vec<Key>) -> Result<Tasks, PeerError>
+    /// Returns the tasks of the rule for each of the keys, in order.
+    fn on_keys(alloc: Global, rule: KeyRule, keys: Vec<Key>) -> Result<Tasks, PeerError>
         ensures ok { IfOk result (λ t. t ≡ map (OnKey rule) keys.items) }
         ensures memory { IfErr result (λ e. e ≡ PeerError.Memory) }
     {
@@ -133,12 +136,12 @@ impl Tasks {
         Ok(tasks)
     }
 
-    /// Returns the task that runs rule `rule` on the key once more, with what the stores returned.
+    /// Returns the task that runs the rule on the key once more, with what the stores returned.
     ///
     /// # Errors
     ///
     /// `Memory` when out of memory, and no other error.
-    pub fn again(alloc: Global, rule: u8, key: &Key, seen: Seen) -> Result<Tasks, PeerError>
+    pub fn again(alloc: Global, rule: KeyRule, key: &Key, seen: Seen) -> Result<Tasks, PeerError>
         ensures ok { IfOk result (λ t. t ≡ Again rule key.now seen ∷ []) }
         ensures memory { IfErr result (λ e. e ≡ PeerError.Memory) }
     {

@@ -9,6 +9,7 @@ use Rattle.phase_rows.specs.declared.phase.Then.TheVariants.{Stay, Rule}
 use Rattle.phase_rows.specs.Orders.{is_joint}
 use Rattle.phase_rows.specs.Peers.{alone, others_of}
 use Rattle.phase_rows.specs.Rows.{silent, saves_and_sends}
+use Rattle.phase_rows.specs.declared.rules.PhaseRule.TheVariants as phase_rules
 use Rattle.view_change.specs.declared.finishing.Finishing.{Finishing}
 use lib.Pointwise.{pointwise}
 
@@ -26,7 +27,7 @@ may_change fact leading finishing view =
 -- runs; otherwise it is refused, and nothing happens
 abbrev pub row_24 : Fact → Bool → Bool → List ℕ → PhaseOut × Bool
 row_24 fact leading finishing view =
-    if may_change fact leading finishing view then (silent (Rule 25), true) else (silent Stay, false)
+    if may_change fact leading finishing view then (silent (Rule phase_rules.BeginChange), true) else (silent Stay, false)
 
 -- the second fact of the epoch: the first one with the change
 abbrev pub second_fact : Fact → Change → Fact

@@ -11,6 +11,7 @@ use Rattle.phase_rows.specs.declared.phase.Then.TheVariants.{Stay, Follow, Rule}
 use Rattle.phase_rows.specs.Orders.{is_same}
 use Rattle.phase_rows.specs.Peers.{joined}
 use Rattle.phase_rows.specs.Rows.{silent}
+use Rattle.phase_rows.specs.declared.rules.PhaseRule.TheVariants as phase_rules
 use Rattle.view_change.specs.declared.finishing.Finishing.{Finishing}
 
 -- rule 17, Accepted, while finishing: an acceptance of the second fact at the ballot is counted
@@ -31,6 +32,6 @@ abbrev pub row_26 : Finishing → Fact → ℕ → Bool → Finishing × PhaseOu
 row_26 finishing fact me unanswered = (
   finishing,
   silent (if may_end finishing fact unanswered
-      then (if is_member (views_after fact) me then Rule 10 else Follow)
+      then (if is_member (views_after fact) me then Rule phase_rules.Prepare else Follow)
       else Stay),
 )

@@ -5,7 +5,7 @@ ghost use Rattle.view_change.specs.Changes.{same_view, may_change as may, row_24
 use crate::finishing::Finishing;
 use ens_base::{PeerId, PeerSet, View};
 use peer_fact::{Change, Fact};
-use phase_rows::{PhaseOut, Then, alone, others_of, save_and_send, silent};
+use phase_rows::{PhaseOut, PhaseRule, Then, alone, others_of, save_and_send, silent};
 use wire_frames::Message;
 
 /// Returns whether two views have the same members.
@@ -30,7 +30,7 @@ pub fn rule_24(fact: Fact, leading: bool, finishing: bool, view: View) -> (Phase
     ensures { result ≡ row_24 fact leading finishing view }
 {
     if may_change(&fact, leading, finishing, view) {
-        (silent(Then::Rule(25)), true)
+        (silent(Then::Rule(PhaseRule::BeginChange)), true)
     } else {
         (silent(Then::Stay), false)
     }

@@ -3,7 +3,7 @@ ghost use Rattle.ens_base.specs.View.{IsPeer};
 
 use ens_base::{Epoch, PeerId, PeerSet};
 use peer_fact::Fact;
-use phase_rows::{PhaseOut, Then, are_quorum, is_member, joined, silent};
+use phase_rows::{PhaseOut, PhaseRule, Then, are_quorum, is_member, joined, silent};
 
 /// The state of a leader that waits for its epoch to end: the peers that accepted the second fact
 /// of the epoch, and the number of ticks that it has waited, 0 to 8.
@@ -38,7 +38,7 @@ impl Finishing {
         if !are_quorum(&self.accepts2, &fact.views) || unanswered {
             silent(Then::Stay)
         } else if is_member(&fact.next_views(), me) {
-            silent(Then::Rule(10))
+            silent(Then::Rule(PhaseRule::Prepare))
         } else {
             silent(Then::Follow)
         }

@@ -8,6 +8,7 @@ ghost use Rattle.peer_fact.specs.declared.fact.Change.{Change};
 ghost use Rattle.peer_fact.specs.declared.fact.Change.TheVariants.{Add, Drop as DropOld};
 ghost use Rattle.peer_fact.specs.declared.fact.Fact.{Fact};
 ghost use Rattle.phase_rows.specs.declared.phase.Then.TheVariants.{Rule};
+ghost use Rattle.phase_rows.specs.declared.rules.PhaseRule.TheVariants as phase_rules;
 ghost use Rattle.view_change.specs.Changes.{row_24, second_fact, row_25};
 ghost use Rattle.view_change.specs.Finishing.{row_17, row_26};
 ghost use Rattle.view_change.specs.declared.finishing.Finishing.{Finishing};
@@ -27,6 +28,6 @@ pub fn changes_keep_the_epoch()
 
 /// An epoch ends only once a quorum of its views has accepted its second fact.
 pub fn epochs_end_by_quorums()
-    ensures ended { (finishing : Finishing) (fact : Fact) (me : ℕ) (unanswered : Bool) → (row_26 finishing fact me unanswered).1.then ≡ Rule 10 → (is_quorum (holds finishing.accepts2) fact.views ≡ true) × (unanswered ≡ false) × (is_member (views_after fact) me ≡ true) }
+    ensures ended { (finishing : Finishing) (fact : Fact) (me : ℕ) (unanswered : Bool) → (row_26 finishing fact me unanswered).1.then ≡ Rule phase_rules.Prepare → (is_quorum (holds finishing.accepts2) fact.views ≡ true) × (unanswered ≡ false) × (is_member (views_after fact) me ≡ true) }
     ensures counted { (finishing : Finishing) (fact : Fact) (from seq p : ℕ) (ballot : Epoch) → holds (row_17 finishing fact from ballot seq).0.accepts2 p ≡ true → (p ≡ from) ⊎ (holds finishing.accepts2 p ≡ true) }
 {}

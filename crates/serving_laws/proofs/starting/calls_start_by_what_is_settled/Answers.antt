@@ -1,4 +1,4 @@
-use Rattle.serving_laws.proofs.CallStarts.{starts_unknown, starts_absent, starts_stamp, starts_looking, starts_value, starts_reading}
+use Rattle.serving_laws.proofs.CallStarts.{starts_unknown, starts_absent, starts_stamp, starts_fetching, starts_value, starts_reading}
 use Rattle.serving_laws.proofs.starting.calls_start_by_what_is_settled.Goals as goal
 
 pub returns-clause-unknown : goal.returns-clause-unknown
@@ -10,8 +10,8 @@ returns-clause-absent c = starts_absent
 pub returns-clause-stamp : goal.returns-clause-stamp
 returns-clause-stamp c = starts_stamp
 
-pub returns-clause-looks : goal.returns-clause-looks
-returns-clause-looks c = starts_looking
+pub returns-clause-fetches : goal.returns-clause-fetches
+returns-clause-fetches c = starts_fetching
 
 pub returns-clause-value : goal.returns-clause-value
 returns-clause-value c = starts_value

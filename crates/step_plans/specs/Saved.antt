@@ -1,0 +1,13 @@
+-- Facts as a peer saves them, each with the seal of its tree, if it has one.
+use Rattle.std.specs.Prelude.{ℕ, List, Option, None, Some}
+use Rattle.peer_fact.specs.declared.fact.Fact.{Fact}
+use Rattle.peer_fact.specs.declared.saved.SavedFact.{SavedFact}
+
+-- the fact, as it is saved with this seal
+abbrev pub with_seal : Option (List ℕ) → Fact → SavedFact
+with_seal seal fact = record { fact = fact; seal = seal }
+
+-- the fact that is kept, without its seal
+abbrev pub bare : Option SavedFact → Option Fact
+bare None = None
+bare (Some saved) = Some saved.fact
