@@ -11,16 +11,19 @@ use Rattle.step_plans.specs.declared.walked.Walked.{Walked}
 use Rattle.step_plans.specs.declared.walked.Walked.TheVariants.{Reached, Broken}
 use Rattle.step_plans.specs.declared.error.PeerError.{PeerError}
 use Rattle.step_plans.specs.declared.error.PeerError.TheVariants as errors
+use Rattle.tree_node.specs.declared.version.TreeVersion.TheVariants.{One}
 use Rattle.synctree.specs.Nodes.{node_plan}
 use Rattle.synctree.specs.Plans.{Plan}
 use Rattle.synctree.specs.Trees.{open_plan, fresh_plan, get_plan, insert_plan}
 use Rattle.synctree.specs.declared.error.TreeError.{TreeError}
 use Rattle.synctree.specs.declared.error.TreeError.TheVariants as trees
-use Rattle.tree_maps.specs.Sixteen.{sixteen}
+use Rattle.tree_maps.specs.Sixteen.{form_of}
 use Rattle.tree_node.specs.declared.position.Position.{Position}
 use Rattle.tree_repair.specs.Rebuilds.{rebuild_plan}
 use Rattle.tree_verify.specs.Levels.{scan_plan}
+use Rattle.synctree.specs.declared.tree.Tree.{Tree}
 use Rattle.peer_core.specs.Stores.{TreeAlone}
+use Rattle.peer_core.proofs.SameStores.{same_stores}
 use Rattle.peer_plan.specs.TreeCalls.{Walks, Halts, Changes, end_of, peer_error}
 use Rattle.world_stores.specs.Faults.{spent}
 use Rattle.world_stores.specs.Nodes.{Nodes}
@@ -33,18 +36,18 @@ use Rattle.held_stores.specs.Walks.{End, Came, Broke, Failed, Walk, walk}
 use Rattle.held_stores.proofs.Taken.{starts_here, rejected_at, rose_since, hashed_more}
 use Rattle.held_stores.proofs.Walking.{Does, Refuses, IsWalk, IsHalted, IsUnplannedTree, end_was, ends_walk, halts_walk, walk_grows, goes_on, fails_by}
 
--- stores with equal parts are equal
-same_stores : (s t : HeldStores) → t.backend ≡ s.backend → t.tree ≡ s.tree → t.facts ≡ s.facts → t ≡ s
-same_stores s t backend tree facts = grind (arith, backend, tree, facts)
-
 with_its_facts : (s t : HeldStores) (facts : HeldFact) → t.backend ≡ s.backend → t.tree ≡ s.tree → t.facts ≡ facts → record s { facts = facts } ≡ t
-with_its_facts s t facts backend tree same = grind (arith, backend, tree, same)
+with_its_facts s t facts backend tree same = sym (same_stores (record s { facts = facts }) t backend tree same)
 
 with_its_backend : (s t : HeldStores) (objects : Objects) → t.backend ≡ objects → t.tree ≡ s.tree → t.facts ≡ s.facts → record s { backend = objects } ≡ t
-with_its_backend s t objects same tree facts = grind (arith, same, tree, facts)
+with_its_backend s t objects same tree facts = sym (same_stores (record s { backend = objects }) t same tree facts)
 
-with_its_tree : (s t : HeldStores) (nodes : Nodes) (top : Option (List ℕ)) → t.backend ≡ s.backend → t.facts ≡ s.facts → t.tree.store ≡ nodes → t.tree.top ≡ top → record s { tree = record { store = nodes; top = top } } ≡ t
-with_its_tree s t nodes top backend facts store same = grind (arith, backend, facts, store, same)
+same_tree : (v w : Tree Nodes) (nodes : Nodes) (top : Option (List ℕ)) → w.version ≡ v.version → w.store ≡ nodes → w.top ≡ top → w ≡ record v { store = nodes; top = top }
+same_tree v w nodes top version store same = grind (arith, version, store, same)
+
+with_its_tree : (s t : HeldStores) (nodes : Nodes) (top : Option (List ℕ)) → t.backend ≡ s.backend → t.facts ≡ s.facts → t.tree.store ≡ nodes → t.tree.top ≡ top → record s { tree = record s.tree { store = nodes; top = top } } ≡ t
+with_its_tree s t nodes top backend facts store same =
+    sym (same_stores (record s { tree = record s.tree { store = nodes; top = top } }) t backend (same_tree s.tree t.tree nodes top (t.of_version_one ∙ sym s.of_version_one) store same) facts)
 
 -- the answer from the walk with this end
 from_walk : {A : Type 0} (call : Call) (tells : End A → Result (AnswerOf call) PeerError) (root : Option (List ℕ) → End A → Option (List ℕ)) (w : Walk A) (end : End A) (s t : HeldStores) (hashed now : List (List ℕ))
@@ -92,19 +95,19 @@ module _ {H : Type 0} (strings : H → Option Book) (c d : H → ℕ) (first : A
       → IsWalk strings c d first p (s.0.tree.store, s.1) hashed (end_was out) (t.0.tree.store, t.1)
   ended p s t hashed out taken walks = ends_walk strings c d first p (s.0.tree.store, s.1) (t.0.tree.store, t.1) hashed walks.0 out taken walks.1
 
-  fresh_came : (s t : HeldStores × H) (hashed : List (List ℕ)) → HasHashed hashed first (known s.1) → (root : List ℕ) → t.0.tree.top ≡ Some root → Walks (Does strings c d first) (fresh_plan sixteen) (s.0.tree, s.1) (Ok root) (t.0.tree, t.1) → TreeAlone s t → Came_to FreshTree s hashed (Ok tt) t
-  fresh_came s t hashed taken root top walks alone = by_tree FreshTree done root_after (fresh_plan sixteen) (Came root) s t hashed (Ok tt) refl refl top alone (ended (fresh_plan sixteen) s t hashed (Ok root) taken walks)
+  fresh_came : (s t : HeldStores × H) (hashed : List (List ℕ)) → HasHashed hashed first (known s.1) → (root : List ℕ) → t.0.tree.top ≡ Some root → Walks (Does strings c d first) (fresh_plan (form_of One)) (s.0.tree, s.1) (Ok root) (t.0.tree, t.1) → TreeAlone s t → Came_to FreshTree s hashed (Ok tt) t
+  fresh_came s t hashed taken root top walks alone = by_tree FreshTree done root_after (fresh_plan (form_of One)) (Came root) s t hashed (Ok tt) refl refl top alone (ended (fresh_plan (form_of One)) s t hashed (Ok root) taken walks)
 
-  installed_came : (entries : _) (s t : HeldStores × H) (hashed : List (List ℕ)) → HasHashed hashed first (known s.1) → (root : List ℕ) → t.0.tree.top ≡ Some root → Walks (Does strings c d first) (rebuild_plan sixteen entries) (s.0.tree, s.1) (Ok root) (t.0.tree, t.1) → TreeAlone s t → Came_to (Install entries) s hashed (Ok tt) t
-  installed_came entries s t hashed taken root top walks alone = by_tree (Install entries) done root_after (rebuild_plan sixteen entries) (Came root) s t hashed (Ok tt) refl refl top alone (ended (rebuild_plan sixteen entries) s t hashed (Ok root) taken walks)
+  installed_came : (entries : _) (s t : HeldStores × H) (hashed : List (List ℕ)) → HasHashed hashed first (known s.1) → (root : List ℕ) → t.0.tree.top ≡ Some root → Walks (Does strings c d first) (rebuild_plan (form_of One) entries) (s.0.tree, s.1) (Ok root) (t.0.tree, t.1) → TreeAlone s t → Came_to (Install entries) s hashed (Ok tt) t
+  installed_came entries s t hashed taken root top walks alone = by_tree (Install entries) done root_after (rebuild_plan (form_of One) entries) (Came root) s t hashed (Ok tt) refl refl top alone (ended (rebuild_plan (form_of One) entries) s t hashed (Ok root) taken walks)
 
   entered_came : (entry : _) (s t : HeldStores × H) (hashed : List (List ℕ)) (a : Walked (Unit {0})) → HasHashed hashed first (known s.1)
-      → Changes (λ end. Walks (Does strings c d first) (insert_plan sixteen s.0.tree.top entry) (s.0.tree, s.1) end (t.0.tree, t.1)) s.0.tree.top a t.0.tree.top → TreeAlone s t → Came_to (Enter entry) s hashed (Ok a) t
+      → Changes (λ end. Walks (Does strings c d first) (insert_plan (form_of One) s.0.tree.top entry) (s.0.tree, s.1) end (t.0.tree, t.1)) s.0.tree.top a t.0.tree.top → TreeAlone s t → Came_to (Enter entry) s hashed (Ok a) t
   entered_came entry s t hashed (Reached u) taken did alone =
-      let at_root = some_root (λ root. Walks (Does strings c d first) (insert_plan sixteen s.0.tree.top entry) (s.0.tree, s.1) (Ok root) (t.0.tree, t.1)) t.0.tree.top did in
-      by_tree (Enter entry) entered root_after (insert_plan sixteen s.0.tree.top entry) (Came at_root.0) s t hashed (Ok (Reached tt)) refl refl at_root.1 alone (ended (insert_plan sixteen s.0.tree.top entry) s t hashed (Ok at_root.0) taken at_root.2)
+      let at_root = some_root (λ root. Walks (Does strings c d first) (insert_plan (form_of One) s.0.tree.top entry) (s.0.tree, s.1) (Ok root) (t.0.tree, t.1)) t.0.tree.top did in
+      by_tree (Enter entry) entered root_after (insert_plan (form_of One) s.0.tree.top entry) (Came at_root.0) s t hashed (Ok (Reached tt)) refl refl at_root.1 alone (ended (insert_plan (form_of One) s.0.tree.top entry) s t hashed (Ok at_root.0) taken at_root.2)
   entered_came entry s t hashed (Broken at) taken did alone =
-      by_tree (Enter entry) entered root_after (insert_plan sixteen s.0.tree.top entry) (Broke at) s t hashed (Ok (Broken at)) refl refl did.1 alone (ended (insert_plan sixteen s.0.tree.top entry) s t hashed (Err at) taken did.0)
+      by_tree (Enter entry) entered root_after (insert_plan (form_of One) s.0.tree.top entry) (Broke at) s t hashed (Ok (Broken at)) refl refl did.1 alone (ended (insert_plan (form_of One) s.0.tree.top entry) s t hashed (Err at) taken did.0)
 
   -- an answered call came to its answer
   pub did_answer : (call : Call) (s t : HeldStores × H) (hashed : List (List ℕ)) (a : AnswerOf call) → HasHashed hashed first (known s.1) → HeldDo strings c d s call a t → Came_to call s hashed (Ok a) t
@@ -113,18 +116,18 @@ module _ {H : Type 0} (strings : H → Option Book) (c d : H → ℕ) (first : A
   did_answer (Save fact) s t hashed a taken did =
       still (Save fact) s t hashed (Ok a) (goes_on s.0.facts.faults.pending _ _ _ did.3.0 (ap (λ k. record { result = Ok tt; held = held_with k hashed }) (with_its_facts s.0 t.0 (record s.0.facts { kept = Some fact }) did.2.0 did.2.1 did.3.2))) did.2.2 taken
   did_answer FreshTree s t hashed a taken did =
-      let at_root = some_root (λ root. Walks (Does strings c d first) (fresh_plan sixteen) (s.0.tree, s.1) (Ok root) (t.0.tree, t.1)) t.0.tree.top did.0 in
+      let at_root = some_root (λ root. Walks (Does strings c d first) (fresh_plan (form_of One)) (s.0.tree, s.1) (Ok root) (t.0.tree, t.1)) t.0.tree.top did.0 in
       fresh_came s t hashed taken at_root.0 at_root.1 at_root.2 did.1.3
-  did_answer OpenTree s t hashed a taken did = by_tree OpenTree done root_read open_plan (Came t.0.tree.top) s t hashed (Ok tt) refl refl refl did.1.3 (ended open_plan s t hashed (Ok t.0.tree.top) taken did.0)
+  did_answer (OpenTree seal) s t hashed a taken did = by_tree (OpenTree seal) done (root_read seal) open_plan (Came did.0.0) s t hashed (Ok tt) refl refl did.0.2 did.1.3 (ended open_plan s t hashed (Ok did.0.0) taken did.0.1)
   did_answer (Find key) s t hashed a taken did =
-      by_tree (Find key) looked root_kept (get_plan sixteen s.0.tree.top key) (end_was (end_of a)) s t hashed (Ok a) refl (looked_end a) did.0.1 did.1.3 (ended (get_plan sixteen s.0.tree.top key) s t hashed (end_of a) taken did.0.0)
+      by_tree (Find key) looked root_kept (get_plan (form_of One) s.0.tree.top key) (end_was (end_of a)) s t hashed (Ok a) refl (looked_end a) did.0.1 did.1.3 (ended (get_plan (form_of One) s.0.tree.top key) s t hashed (end_of a) taken did.0.0)
   did_answer (Enter entry) s t hashed a taken did = entered_came entry s t hashed a taken did.0 did.1.3
   did_answer ScanTree s t hashed a taken did =
-      by_tree ScanTree whole root_kept (scan_plan sixteen s.0.tree.top) (Came a) s t hashed (Ok a) refl refl did.0.1 did.1.3 (ended (scan_plan sixteen s.0.tree.top) s t hashed (Ok a) taken did.0.0)
+      by_tree ScanTree whole root_kept (scan_plan (form_of One) s.0.tree.top) (Came a) s t hashed (Ok a) refl refl did.0.1 did.1.3 (ended (scan_plan (form_of One) s.0.tree.top) s t hashed (Ok a) taken did.0.0)
   did_answer (ReadNode at) s t hashed a taken did =
-      by_tree (ReadNode at) looked root_kept (node_plan sixteen s.0.tree.top at) (end_was (end_of a)) s t hashed (Ok a) refl (looked_end a) did.0.1 did.1.3 (ended (node_plan sixteen s.0.tree.top at) s t hashed (end_of a) taken did.0.0)
+      by_tree (ReadNode at) looked root_kept (node_plan (form_of One) s.0.tree.top at) (end_was (end_of a)) s t hashed (Ok a) refl (looked_end a) did.0.1 did.1.3 (ended (node_plan (form_of One) s.0.tree.top at) s t hashed (end_of a) taken did.0.0)
   did_answer (Install entries) s t hashed a taken did =
-      let at_root = some_root (λ root. Walks (Does strings c d first) (rebuild_plan sixteen entries) (s.0.tree, s.1) (Ok root) (t.0.tree, t.1)) t.0.tree.top did.0 in
+      let at_root = some_root (λ root. Walks (Does strings c d first) (rebuild_plan (form_of One) entries) (s.0.tree, s.1) (Ok root) (t.0.tree, t.1)) t.0.tree.top did.0 in
       installed_came entries s t hashed taken at_root.0 at_root.1 at_root.2 did.1.3
   did_answer (Fetch key) s t hashed a taken did =
       still (Fetch key) s t hashed (Ok a) (rw did.0.1 (ap (λ k. record { result = Ok (value_at key s.0.backend.entries); held = held_with k hashed }) (sym (same_stores s.0 t.0 did.0.2 did.2.0 did.2.1)))) did.2.2 taken
@@ -218,13 +221,13 @@ module _ {H : Type 0} (strings : H → Option Book) (c d : H → ℕ) (first : A
   pub was_refused : (call : Call) (s t : HeldStores × H) (hashed : List (List ℕ)) (e : PeerError) → HasHashed hashed first (known s.1) → HeldRefuse strings c d s call e t → IsRefused call s hashed e t
   was_refused Load s t hashed e taken off = load_refused s t hashed e off
   was_refused (Save fact) s t hashed e taken off = save_refused fact s t hashed e taken off
-  was_refused FreshTree s t hashed e taken off = tree_refused FreshTree done root_after (fresh_plan sixteen) s t hashed e refl refl refl off.2 taken off.0
-  was_refused OpenTree s t hashed e taken off = tree_refused OpenTree done root_read open_plan s t hashed e refl refl refl off.2 taken off.0
-  was_refused (Find key) s t hashed e taken off = tree_refused (Find key) looked root_kept (get_plan sixteen s.0.tree.top key) s t hashed e refl refl refl off.2 taken off.0
-  was_refused (Enter entry) s t hashed e taken off = tree_refused (Enter entry) entered root_after (insert_plan sixteen s.0.tree.top entry) s t hashed e refl refl refl off.2 taken off.0
-  was_refused ScanTree s t hashed e taken off = tree_refused ScanTree whole root_kept (scan_plan sixteen s.0.tree.top) s t hashed e refl refl refl off.2 taken off.0
-  was_refused (ReadNode at) s t hashed e taken off = tree_refused (ReadNode at) looked root_kept (node_plan sixteen s.0.tree.top at) s t hashed e refl refl refl off.2 taken off.0
-  was_refused (Install entries) s t hashed e taken off = tree_refused (Install entries) done root_after (rebuild_plan sixteen entries) s t hashed e refl refl refl off.2 taken off.0
+  was_refused FreshTree s t hashed e taken off = tree_refused FreshTree done root_after (fresh_plan (form_of One)) s t hashed e refl refl refl off.2 taken off.0
+  was_refused (OpenTree seal) s t hashed e taken off = tree_refused (OpenTree seal) done (root_read seal) open_plan s t hashed e refl refl refl off.2 taken off.0
+  was_refused (Find key) s t hashed e taken off = tree_refused (Find key) looked root_kept (get_plan (form_of One) s.0.tree.top key) s t hashed e refl refl refl off.2 taken off.0
+  was_refused (Enter entry) s t hashed e taken off = tree_refused (Enter entry) entered root_after (insert_plan (form_of One) s.0.tree.top entry) s t hashed e refl refl refl off.2 taken off.0
+  was_refused ScanTree s t hashed e taken off = tree_refused ScanTree whole root_kept (scan_plan (form_of One) s.0.tree.top) s t hashed e refl refl refl off.2 taken off.0
+  was_refused (ReadNode at) s t hashed e taken off = tree_refused (ReadNode at) looked root_kept (node_plan (form_of One) s.0.tree.top at) s t hashed e refl refl refl off.2 taken off.0
+  was_refused (Install entries) s t hashed e taken off = tree_refused (Install entries) done root_after (rebuild_plan (form_of One) entries) s t hashed e refl refl refl off.2 taken off.0
   was_refused (Fetch key) s t hashed e taken off = fetch_refused key s t hashed e off
   was_refused (Put key bytes) s t hashed e taken off = put_refused key bytes s t hashed e taken off
   was_refused (Hash bytes) s t hashed e taken off = hash_refused bytes s t hashed e taken off
@@ -239,13 +242,13 @@ saved_grows hashed strings_of (Some leaves) goes fails same failed = rw (failed 
 pub answered_grows : (call : Call) (h : Held) → StartsWith h.hashed (answered call h).held.hashed
 answered_grows Load h = starts_here h.hashed
 answered_grows (Save fact) h = saved_grows h.hashed (λ (k : Answered (Save fact)). k.held.hashed) h.stores.facts.faults.pending _ _ refl (λ leaves. refl)
-answered_grows FreshTree h = walk_grows (fresh_plan sixteen) h.stores.tree.store h.hashed
-answered_grows OpenTree h = walk_grows open_plan h.stores.tree.store h.hashed
-answered_grows (Find key) h = walk_grows (get_plan sixteen h.stores.tree.top key) h.stores.tree.store h.hashed
-answered_grows (Enter entry) h = walk_grows (insert_plan sixteen h.stores.tree.top entry) h.stores.tree.store h.hashed
-answered_grows ScanTree h = walk_grows (scan_plan sixteen h.stores.tree.top) h.stores.tree.store h.hashed
-answered_grows (ReadNode at) h = walk_grows (node_plan sixteen h.stores.tree.top at) h.stores.tree.store h.hashed
-answered_grows (Install entries) h = walk_grows (rebuild_plan sixteen entries) h.stores.tree.store h.hashed
+answered_grows FreshTree h = walk_grows (fresh_plan (form_of One)) h.stores.tree.store h.hashed
+answered_grows (OpenTree seal) h = walk_grows open_plan h.stores.tree.store h.hashed
+answered_grows (Find key) h = walk_grows (get_plan (form_of One) h.stores.tree.top key) h.stores.tree.store h.hashed
+answered_grows (Enter entry) h = walk_grows (insert_plan (form_of One) h.stores.tree.top entry) h.stores.tree.store h.hashed
+answered_grows ScanTree h = walk_grows (scan_plan (form_of One) h.stores.tree.top) h.stores.tree.store h.hashed
+answered_grows (ReadNode at) h = walk_grows (node_plan (form_of One) h.stores.tree.top at) h.stores.tree.store h.hashed
+answered_grows (Install entries) h = walk_grows (rebuild_plan (form_of One) entries) h.stores.tree.store h.hashed
 answered_grows (Fetch key) h = starts_here h.hashed
 answered_grows (Put key bytes) h = saved_grows h.hashed (λ (k : Answered (Put key bytes)). k.held.hashed) h.stores.backend.faults.pending _ _ refl (λ leaves. refl)
 answered_grows (Hash bytes) h = (bytes ∷ [], refl)

@@ -9,10 +9,12 @@ use Rattle.step_plans.specs.declared.walked.Walked.{Walked}
 use Rattle.step_plans.specs.declared.walked.Walked.TheVariants.{Reached, Broken}
 use Rattle.step_plans.specs.declared.error.PeerError.{PeerError}
 use Rattle.step_plans.specs.declared.error.PeerError.TheVariants.{StoreFault}
+use Rattle.tree_node.specs.declared.version.TreeVersion.TheVariants.{One}
 use Rattle.synctree.specs.Nodes.{node_plan}
 use Rattle.synctree.specs.Plans.{Plan}
+use Rattle.synctree.specs.Seals.{root_under}
 use Rattle.synctree.specs.Trees.{open_plan, fresh_plan, get_plan, insert_plan}
-use Rattle.tree_maps.specs.Sixteen.{sixteen}
+use Rattle.tree_maps.specs.Sixteen.{form_of}
 use Rattle.tree_repair.specs.Rebuilds.{rebuild_plan}
 use Rattle.tree_verify.specs.Levels.{scan_plan}
 use Rattle.world_stores.specs.Faults.{spent}
@@ -35,7 +37,7 @@ abbrev pub with_backend : Objects → Held → Held
 with_backend objects h = record h { stores = record h.stores { backend = objects } }
 
 abbrev pub with_tree : {A : Type 0} → Option (List ℕ) → Walk A → Held → Held
-with_tree top w h = record { stores = record h.stores { tree = record { store = w.nodes; top = top } }; hashed = w.hashed }
+with_tree top w h = record { stores = record h.stores { tree = record h.stores.tree { store = w.nodes; top = top } }; hashed = w.hashed }
 
 -- what a walk that looks for something tells
 abbrev pub looked : {A : Type 0} → End A → Result (Walked A) PeerError
@@ -67,11 +69,11 @@ root_after old (Came root) = Some root
 root_after old (Broke at) = old
 root_after old Failed = old
 
--- the root of the tree after its top record was read
-abbrev pub root_read : Option (List ℕ) → End (Option (List ℕ)) → Option (List ℕ)
-root_read old (Came top) = top
-root_read old (Broke at) = old
-root_read old Failed = old
+-- the root of the tree after its top record was read, under this seal
+abbrev pub root_read : Option (List ℕ) → Option (List ℕ) → End (Option (List ℕ)) → Option (List ℕ)
+root_read seal old (Came top) = root_under seal top
+root_read seal old (Broke at) = old
+root_read seal old Failed = old
 
 -- the root stays
 abbrev pub root_kept : {A : Type 0} → Option (List ℕ) → End A → Option (List ℕ)
@@ -107,13 +109,13 @@ after_put call answer new h = unless_failing h.stores.backend.faults.pending (re
 abbrev pub answered : (call : Call) → Held → Answered call
 answered Load h = record { result = Ok h.stores.facts.kept; held = h }
 answered (Save fact) h = after_save (Save fact) tt (record h.stores.facts { kept = Some fact }) h
-answered FreshTree h = by_walk FreshTree done root_after (walked (fresh_plan sixteen) h) h
-answered OpenTree h = by_walk OpenTree done root_read (walked open_plan h) h
-answered (Find key) h = by_walk (Find key) looked root_kept (walked (get_plan sixteen h.stores.tree.top key) h) h
-answered (Enter entry) h = by_walk (Enter entry) entered root_after (walked (insert_plan sixteen h.stores.tree.top entry) h) h
-answered ScanTree h = by_walk ScanTree whole root_kept (walked (scan_plan sixteen h.stores.tree.top) h) h
-answered (ReadNode at) h = by_walk (ReadNode at) looked root_kept (walked (node_plan sixteen h.stores.tree.top at) h) h
-answered (Install entries) h = by_walk (Install entries) done root_after (walked (rebuild_plan sixteen entries) h) h
+answered FreshTree h = by_walk FreshTree done root_after (walked (fresh_plan (form_of One)) h) h
+answered (OpenTree seal) h = by_walk (OpenTree seal) done (root_read seal) (walked open_plan h) h
+answered (Find key) h = by_walk (Find key) looked root_kept (walked (get_plan (form_of One) h.stores.tree.top key) h) h
+answered (Enter entry) h = by_walk (Enter entry) entered root_after (walked (insert_plan (form_of One) h.stores.tree.top entry) h) h
+answered ScanTree h = by_walk ScanTree whole root_kept (walked (scan_plan (form_of One) h.stores.tree.top) h) h
+answered (ReadNode at) h = by_walk (ReadNode at) looked root_kept (walked (node_plan (form_of One) h.stores.tree.top at) h) h
+answered (Install entries) h = by_walk (Install entries) done root_after (walked (rebuild_plan (form_of One) entries) h) h
 answered (Fetch key) h = record { result = Ok (value_at key h.stores.backend.entries); held = h }
 answered (Put key bytes) h = after_put (Put key bytes) tt (record h.stores.backend { entries = with_value key bytes h.stores.backend.entries }) h
 answered (Hash bytes) h = record { result = Ok (md5 bytes); held = and_hashed bytes h }

@@ -1,10 +1,11 @@
 -- The stores of a peer in memory, and the strings that were hashed.
-use Rattle.std.specs.Prelude.{◌≡◌, ◌≤◌, ℕ, if◌then◌else◌, List, [], ◌∷◌, ◌++◌, Option, None, Some, Contains}
+use Rattle.std.specs.Prelude.{◌≡◌, ◌≤◌, ℕ, refl, if◌then◌else◌, List, [], ◌∷◌, ◌++◌, Option, None, Some, Contains}
 use Rattle.std.specs.List.{list_any}
 use Rattle.ens_base.specs.Lists.{same_bytes}
 use Rattle.ens_hashing.specs.Hashing.{Book, Takes}
 use Rattle.ens_outside.specs.declared.memory.failing_call.Leaves.{Leaves}
 use Rattle.md5.specs.Md5.{md5}
+use Rattle.tree_node.specs.declared.version.TreeVersion.TheVariants.{One}
 use Rattle.peer_core.specs.declared.stores.Stores.{Stores}
 use Rattle.world_stores.specs.Faults.{no_faults}
 use Rattle.world_stores.specs.Nodes.{Nodes}
@@ -19,8 +20,9 @@ HeldStores = Stores Objects Nodes HeldFact
 abbrev pub empty_stores : HeldStores
 empty_stores = record {
   backend = record { entries = []; faults = no_faults };
-  tree = record { store = record { entries = []; tops = []; faults = no_faults }; top = None };
+  tree = record { version = One; store = record { entries = []; tops = []; faults = no_faults }; top = None };
   facts = record { kept = None; faults = no_faults };
+  of_version_one = refl;
 }
 
 -- the stores of a peer, and all strings hashed so far, by any peer, in the order in which they came

@@ -8,7 +8,7 @@ use Rattle.ens_outside.specs.declared.errors.StoreError.{StoreError}
 use Rattle.fact_store.specs.Keeping.{KeeperCall, KeeperAnswer}
 use Rattle.fact_store.specs.declared.error.KeepError.{KeepError}
 use Rattle.peer_fact.specs.declared.error.FactError.{FactError}
-use Rattle.peer_fact.specs.declared.fact.Fact.{Fact}
+use Rattle.peer_fact.specs.declared.saved.SavedFact.{SavedFact}
 use Rattle.register_model.specs.declared.note.Note.{Note}
 use Rattle.step_plans.specs.Calls.{Call, Load, Save, FreshTree, OpenTree, Find, Enter, ScanTree, ReadNode, Install, Fetch, Put, Hash, AnswerOf}
 use Rattle.step_plans.specs.Plans.{Plan, Done, Say, Ask, Out, Ending, Stopped, Runs, Follows}
@@ -22,7 +22,7 @@ use Rattle.peer_state.specs.declared.state.State.{State}
 use Rattle.peer_core.specs.declared.stores.Stores.{Stores}
 
 -- a start continues from what was kept
-pub began : {P : Type 0} (does : P → (call : Call) → AnswerOf call → P → Type 0) (refuses : P → Call → PeerError → P → Type 0) (view : List ℕ) (s m t : P) (found : Option Fact) (r : Result State PeerError)
+pub began : {P : Type 0} (does : P → (call : Call) → AnswerOf call → P → Type 0) (refuses : P → Call → PeerError → P → Type 0) (view : List ℕ) (s m t : P) (found : Option SavedFact) (r : Result State PeerError)
     → does s Load found m → Starts does refuses (opened view found) m r t → Starts does refuses (start_of view) s r t
 began does refuses view s m t found (Ok x) did ran = inr (inr (found, m, did, ran))
 began does refuses view s m t found (Err e) did ran = inr (inr (found, m, did, ran))
@@ -47,7 +47,7 @@ rose_later : (a b c : ℕ) → a ≤ b → Rose b c → Rose a c
 rose_later a b c before rose = omega (arith, before, rose)
 
 module _ {B N F H : Type 0} (gives : B → (call : BackendCall) → BackendAnswer call → B → Type 0) (loses : B → BackendCall → StoreError → B → Type 0)
-    (b : B → ℕ) (reads : N → (call : NodeCall) → NodeAnswer call → N → Type 0) (misses : N → NodeCall → StoreError → N → Type 0) (tops : N → Option (Option (List ℕ))) (n : N → ℕ) (tells : F → (call : KeeperCall) → KeeperAnswer call → F → Type 0) (drops : F → KeeperCall → KeepError → F → Type 0) (kept : F → Option (Result Fact FactError)) (f : F → ℕ)
+    (b : B → ℕ) (reads : N → (call : NodeCall) → NodeAnswer call → N → Type 0) (misses : N → NodeCall → StoreError → N → Type 0) (tops : N → Option (Option (List ℕ))) (n : N → ℕ) (tells : F → (call : KeeperCall) → KeeperAnswer call → F → Type 0) (drops : F → KeeperCall → KeepError → F → Type 0) (kept : F → Option (Result SavedFact FactError)) (f : F → ℕ)
     (strings : H → Option Book) (c d : H → ℕ) where
   tree_later : (s t : Stores B N F × H) → TreeLater n c d s t → AreLater b n f c d s t
   tree_later s t later = record {
@@ -90,7 +90,7 @@ module _ {B N F H : Type 0} (gives : B → (call : BackendCall) → BackendAnswe
   do_later s Load a t did = facts_later s t did.2 did.3
   do_later s (Save fact) a t did = facts_later s t did.1 did.2
   do_later s FreshTree a t did = tree_later s t did.1
-  do_later s OpenTree a t did = tree_later s t did.1
+  do_later s (OpenTree seal) a t did = tree_later s t did.1
   do_later s (Find key) a t did = tree_later s t did.1
   do_later s (Enter entry) a t did = tree_later s t did.1
   do_later s ScanTree a t did = tree_later s t did.1
@@ -121,7 +121,7 @@ module _ {B N F H : Type 0} (gives : B → (call : BackendCall) → BackendAnswe
   refusal_cause s Load (errors.BookFull bytes) t off = absurd off.0
   refusal_cause s (Save fact) e t off = fault s e t off.0 (inr (inr off.2.rose))
   refusal_cause s FreshTree e t off = tree_cause s e t off.1
-  refusal_cause s OpenTree e t off = tree_cause s e t off.1
+  refusal_cause s (OpenTree seal) e t off = tree_cause s e t off.1
   refusal_cause s (Find key) e t off = tree_cause s e t off.1
   refusal_cause s (Enter entry) e t off = tree_cause s e t off.1
   refusal_cause s ScanTree e t off = tree_cause s e t off.1
@@ -216,7 +216,7 @@ module _ {B N F H : Type 0} (gives : B → (call : BackendCall) → BackendAnswe
   call_error s (Hash bytes) (errors.BadFact bad) t is off = absurd off.0
   call_error s Load e t is off = absurd is
   call_error s FreshTree e t is off = absurd is
-  call_error s OpenTree e t is off = absurd is
+  call_error s (OpenTree seal) e t is off = absurd is
   call_error s ScanTree e t is off = tree_refusal s e t off.1
   call_error s (ReadNode at) e t is off = tree_refusal s e t off.1
   call_error s (Install entries) e t is off = tree_refusal s e t off.1
@@ -259,7 +259,7 @@ module _ {B N F H : Type 0} (gives : B → (call : BackendCall) → BackendAnswe
     ]
   ]
 
-  opened_backend : (view : List ℕ) (found : Option Fact) (s : Stores B N F × H) (ns : List Note) (e : PeerError) (t : Stores B N F × H) (ms : List Note)
+  opened_backend : (view : List ℕ) (found : Option SavedFact) (s : Stores B N F × H) (ns : List Note) (e : PeerError) (t : Stores B N F × H) (ms : List Note)
       → Runs (stores_do gives b reads tops n tells kept f strings c d) (stores_refuse loses b reads misses tops n drops kept f strings c d) (opened view found) s ns (Stopped e) t ms → t.0.backend ≡ s.0.backend
   opened_backend view (Some fact) s ns e t ms ran = elim ran [
     | inl cut ↦ still_backend s t cut.1
@@ -314,7 +314,7 @@ module _ {B N F H : Type 0} (gives : B → (call : BackendCall) → BackendAnswe
     ]
   ]
 
-  opened_only : (view : List ℕ) (found : Option Fact) (s : Stores B N F × H) (ns : List Note) (e : PeerError) (t : Stores B N F × H) (ms : List Note)
+  opened_only : (view : List ℕ) (found : Option SavedFact) (s : Stores B N F × H) (ns : List Note) (e : PeerError) (t : Stores B N F × H) (ms : List Note)
       → Runs (stores_do gives b reads tops n tells kept f strings c d) (stores_refuse loses b reads misses tops n drops kept f strings c d) (opened view found) s ns (Stopped e) t ms → IsStartError e
   opened_only view (Some fact) s ns e t ms ran = elim ran [
     | inl cut ↦ start_error e errors.Memory cut.0 tt

@@ -8,7 +8,7 @@ use Rattle.ens_outside.specs.declared.errors.StoreError.{StoreError}
 use Rattle.fact_store.specs.Keeping.{KeeperCall, KeeperAnswer}
 use Rattle.fact_store.specs.declared.error.KeepError.{KeepError}
 use Rattle.peer_fact.specs.declared.error.FactError.{FactError}
-use Rattle.peer_fact.specs.declared.fact.Fact.{Fact}
+use Rattle.peer_fact.specs.declared.saved.SavedFact.{SavedFact}
 use Rattle.step_plans.specs.Steps.{Steps}
 use Rattle.step_plans.specs.declared.error.PeerError.{PeerError}
 use Rattle.step_plans.specs.declared.error.PeerError.TheVariants as errors
@@ -34,7 +34,7 @@ as_step_error (errors.BookFull more) is = tt
 
 module _ (me : ℕ) (peer : IsPeer me) (event : Event) (come : MayCome me event) (x : State) (test : is_young x.phase ≡ true)
     {B N F H : Type 0} (gives : B → (call : BackendCall) → BackendAnswer call → B → Type 0) (loses : B → BackendCall → StoreError → B → Type 0)
-    (b : B → ℕ) (reads : N → (call : NodeCall) → NodeAnswer call → N → Type 0) (misses : N → NodeCall → StoreError → N → Type 0) (tops : N → Option (Option (List ℕ))) (n : N → ℕ) (tells : F → (call : KeeperCall) → KeeperAnswer call → F → Type 0) (drops : F → KeeperCall → KeepError → F → Type 0) (kept : F → Option (Result Fact FactError)) (f : F → ℕ)
+    (b : B → ℕ) (reads : N → (call : NodeCall) → NodeAnswer call → N → Type 0) (misses : N → NodeCall → StoreError → N → Type 0) (tops : N → Option (Option (List ℕ))) (n : N → ℕ) (tells : F → (call : KeeperCall) → KeeperAnswer call → F → Type 0) (drops : F → KeeperCall → KeepError → F → Type 0) (kept : F → Option (Result SavedFact FactError)) (f : F → ℕ)
     (strings : H → Option Book) (c d : H → ℕ) {A : Type 0} (s t : Stores B N F × H) (y : State) (before after : Outbox) where
   -- the call took the step, with this result
   abbrev Took : Result A PeerError → Type 0

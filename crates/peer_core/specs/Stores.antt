@@ -12,7 +12,7 @@ use Rattle.fact_store.specs.declared.error.KeepError.{KeepError}
 use Rattle.fact_store.specs.declared.error.KeepError.TheVariants as keeps
 use Rattle.md5.specs.Md5.{md5}
 use Rattle.peer_fact.specs.declared.error.FactError.{FactError}
-use Rattle.peer_fact.specs.declared.fact.Fact.{Fact}
+use Rattle.peer_fact.specs.declared.saved.SavedFact.{SavedFact}
 use Rattle.step_plans.specs.Calls.{Call, Load, Save, Fetch, Put, Hash, AnswerOf}
 use Rattle.step_plans.specs.declared.error.PeerError.{PeerError}
 use Rattle.step_plans.specs.declared.error.PeerError.TheVariants as errors
@@ -38,7 +38,7 @@ abbrev pub BackendAlone : {B N F H : Type 0} → Stores B N F × H → Stores B 
 BackendAlone s t = (t.0.tree ≡ s.0.tree) × (t.0.facts ≡ s.0.facts) × (t.1 ≡ s.1)
 
 -- why a fact was not loaded: the keeper failed, what is kept is not a fact, or out of memory
-abbrev pub IsLoadError : Option (Result Fact FactError) → ℕ → ℕ → PeerError → Type 0
+abbrev pub IsLoadError : Option (Result SavedFact FactError) → ℕ → ℕ → PeerError → Type 0
 IsLoadError kept before now errors.StoreFault = HasFailed before now
 IsLoadError kept before now (errors.BadFact why) = (kept ≡ Some (Err why)) × (before ≤ now)
 IsLoadError kept before now errors.Memory = before ≤ now
@@ -89,7 +89,7 @@ IsBackendRefusal loses b s call e t = ⊥
 -- count decreases, and each call leaves the other stores as they were.
 abbrev pub stores_do : {B N F H : Type 0} → (B → (call : BackendCall) → BackendAnswer call → B → Type 0) → (B → ℕ)
     → (N → (call : NodeCall) → NodeAnswer call → N → Type 0) → (N → Option (Option (List ℕ))) → (N → ℕ)
-    → (F → (call : KeeperCall) → KeeperAnswer call → F → Type 0) → (F → Option (Result Fact FactError)) → (F → ℕ)
+    → (F → (call : KeeperCall) → KeeperAnswer call → F → Type 0) → (F → Option (Result SavedFact FactError)) → (F → ℕ)
     → (H → Option Book) → (H → ℕ) → (H → ℕ) → Stores B N F × H → (call : Call) → AnswerOf call → Stores B N F × H → Type 0
 stores_do gives b reads tops n tells kept f strings c d s Load a t =
     Loads (kept s.0.facts) (f s.0.facts) (f t.0.facts) (Ok a) × (kept t.0.facts ≡ kept s.0.facts) × (f s.0.facts ≤ f t.0.facts) × FactsAlone s t × tells s.0.facts LoadFact a t.0.facts
@@ -106,7 +106,7 @@ stores_do gives b reads tops n tells kept f strings c d s call a t = TreeDoes (o
 -- refused rose, unless out of memory or what is kept is not a fact.
 abbrev pub stores_refuse : {B N F H : Type 0} → (B → BackendCall → StoreError → B → Type 0) → (B → ℕ)
     → (N → (call : NodeCall) → NodeAnswer call → N → Type 0) → (N → NodeCall → StoreError → N → Type 0) → (N → Option (Option (List ℕ))) → (N → ℕ)
-    → (F → KeeperCall → KeepError → F → Type 0) → (F → Option (Result Fact FactError)) → (F → ℕ)
+    → (F → KeeperCall → KeepError → F → Type 0) → (F → Option (Result SavedFact FactError)) → (F → ℕ)
     → (H → Option Book) → (H → ℕ) → (H → ℕ) → Stores B N F × H → Call → PeerError → Stores B N F × H → Type 0
 stores_refuse loses b reads misses tops n drops kept f strings c d s Load e t =
     IsLoadError (kept s.0.facts) (f s.0.facts) (f t.0.facts) e × (kept t.0.facts ≡ kept s.0.facts) × FactsAlone s t × drops s.0.facts LoadFact (keeper_error e) t.0.facts

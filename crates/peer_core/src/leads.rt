@@ -16,7 +16,7 @@ use leader_words::{LeadError, LeadOut, Own};
 use peer_fact::{Change, Fact};
 use peer_plan::own_key;
 use peer_state::{CallIn, Phase};
-use phase_rows::{Seen, Then};
+use phase_rows::{KeyRule, Seen, Then};
 use std::alloc::Global;
 use step_plans::{Outbox, PeerError, Store, Task, Tasks};
 use wire_frames::Message;
@@ -29,21 +29,15 @@ impl<S> Machine<S> {
         hasher: &mut H,
         alloc: Global,
         out: &Outbox,
-        rule: u8,
         own: &Own,
     ) -> Result<Seen, PeerError>
     where
         S: Store<H>,
-        ensures { Acts S.does S.refuses (owned rule own.now) self.old hasher.old out.now result self.new hasher.new out.now }
+        ensures { Acts S.does S.refuses (owned own.now) self.old hasher.old out.now result self.new hasher.new out.now }
     {
         match own {
-            Own::Look(key) => {
-                if rule == 28 {
-                    self.fetched(hasher, alloc, out, key)
-                } else {
-                    self.looked(hasher, alloc, out, key)
-                }
-            }
+            Own::Fetch(key) => self.fetched(hasher, alloc, out, key),
+            Own::Look(key) => self.looked(hasher, alloc, out, key),
             Own::Put(object) => self.written(hasher, alloc, out, object),
         }
     }
@@ -56,14 +50,13 @@ impl<S> Machine<S> {
         alloc: Global,
         out: &mut Outbox,
         me: PeerId,
-        rule: u8,
         own: Option<Own>,
         then: Then,
         keys: Vec<Key>,
     ) -> Result<Tasks, PeerError>
     where
         S: Store<H>,
-        ensures acts { Acts S.does S.refuses (followed_up me rule own then keys.items) self.old hasher.old out.old result self.new hasher.new out.new }
+        ensures acts { Acts S.does S.refuses (followed_up me own then keys.items) self.old hasher.old out.old result self.new hasher.new out.new }
         ensures grows { Grows out.old out.new }
     {
         match own {
@@ -72,8 +65,8 @@ impl<S> Machine<S> {
                 Ok(Tasks::keyed(alloc, then, keys)?)
             }
             Some(own) => {
-                let seen = self.owned(hasher, alloc, out, rule, &own)?;
-                Ok(Tasks::again(alloc, rule, own_key(&own), seen)?)
+                let seen = self.owned(hasher, alloc, out, &own)?;
+                Ok(Tasks::again(alloc, own.asked_by(), own_key(&own), seen)?)
             }
         }
     }
@@ -86,12 +79,11 @@ impl<S> Machine<S> {
         alloc: Global,
         out: &mut Outbox,
         me: PeerId,
-        rule: u8,
         row: LeadOut,
     ) -> Result<Tasks, PeerError>
     where
         S: Store<H>,
-        ensures acts { Acts S.does S.refuses (lead_done me rule row) self.old hasher.old out.old result self.new hasher.new out.new }
+        ensures acts { Acts S.does S.refuses (lead_done me row) self.old hasher.old out.old result self.new hasher.new out.new }
         ensures grows { Grows out.old out.new }
     {
         let LeadOut {
@@ -107,7 +99,7 @@ impl<S> Machine<S> {
         self.state.leave(alloc, out, leave)?;
         out.answer_all(answers.into_vec())?;
         out.send_all(sends.into_vec())?;
-        let tasks = self.follow_up(hasher, alloc, out, me, rule, own, then, keys.into_vec())?;
+        let tasks = self.follow_up(hasher, alloc, out, me, own, then, keys.into_vec())?;
         Ok(tasks)
     }
 
@@ -120,19 +112,19 @@ impl<S> Machine<S> {
         alloc: Global,
         out: &mut Outbox,
         me: PeerId,
-        rule: u8,
+        rule: KeyRule,
         key: &Key,
         seen: &Seen,
     ) -> Result<Tasks, PeerError>
     where
         S: Store<H>,
-        ensures acts { Acts S.does S.refuses (λ x o next. lead (lead_row rule key.now seen.now) me rule x.phase x o next) self.old hasher.old out.old result self.new hasher.new out.new }
+        ensures acts { Acts S.does S.refuses (λ x o next. lead (lead_row rule key.now seen.now) me x.phase x o next) self.old hasher.old out.old result self.new hasher.new out.new }
         ensures grows { Grows out.old out.new }
     {
         match &mut self.state.phase {
             Phase::Leading(leadership) => {
                 let row = leadership.leader.rule(alloc, rule, key, seen)?;
-                self.lead_done(hasher, alloc, out, me, rule, row)
+                self.lead_done(hasher, alloc, out, me, row)
             }
             _ => Ok(Tasks::none(alloc)),
         }
@@ -155,7 +147,7 @@ impl<S> Machine<S> {
     ) -> Result<Tasks, PeerError>
     where
         S: Store<H>,
-        ensures acts { Acts S.does S.refuses (λ x o next. lead (row_29_reply from ballot round key.now entry object) me 29 x.phase x o next) self.old hasher.old out.old result self.new hasher.new out.new }
+        ensures acts { Acts S.does S.refuses (λ x o next. lead (row_29_reply from ballot round key.now entry object) me x.phase x o next) self.old hasher.old out.old result self.new hasher.new out.new }
         ensures grows { Grows out.old out.new }
     {
         match &mut self.state.phase {
@@ -163,7 +155,7 @@ impl<S> Machine<S> {
                 let row = leadership
                     .leader
                     .rule_29_reply(alloc, from, ballot, round, key, entry, object)?;
-                self.lead_done(hasher, alloc, out, me, 29, row)
+                self.lead_done(hasher, alloc, out, me, row)
             }
             _ => Ok(Tasks::none(alloc)),
         }
@@ -214,7 +206,7 @@ impl<S> Machine<S> {
     ) -> Result<Tasks, PeerError>
     where
         S: Store<H>,
-        ensures acts { Acts S.does S.refuses (λ x o next. lead (row_35_reply from ballot key.now version) me 35 x.phase x o next) self.old hasher.old out.old result self.new hasher.new out.new }
+        ensures acts { Acts S.does S.refuses (λ x o next. lead (row_35_reply from ballot key.now version) me x.phase x o next) self.old hasher.old out.old result self.new hasher.new out.new }
         ensures grows { Grows out.old out.new }
     {
         match &mut self.state.phase {
@@ -222,7 +214,7 @@ impl<S> Machine<S> {
                 let row = leadership
                     .leader
                     .rule_35_reply(alloc, from, ballot, key, version)?;
-                self.lead_done(hasher, alloc, out, me, 35, row)
+                self.lead_done(hasher, alloc, out, me, row)
             }
             _ => Ok(Tasks::none(alloc)),
         }
@@ -243,13 +235,13 @@ impl<S> Machine<S> {
     ) -> Result<Tasks, PeerError>
     where
         S: Store<H>,
-        ensures acts { Acts S.does S.refuses (λ x o next. lead (row_33_reply from ballot round) me 33 x.phase x o next) self.old hasher.old out.old result self.new hasher.new out.new }
+        ensures acts { Acts S.does S.refuses (λ x o next. lead (row_33_reply from ballot round) me x.phase x o next) self.old hasher.old out.old result self.new hasher.new out.new }
         ensures grows { Grows out.old out.new }
     {
         match &mut self.state.phase {
             Phase::Leading(leadership) => {
                 let row = leadership.leader.rule_33_reply(alloc, from, ballot, round)?;
-                self.lead_done(hasher, alloc, out, me, 33, row)
+                self.lead_done(hasher, alloc, out, me, row)
             }
             _ => Ok(Tasks::none(alloc)),
         }
@@ -268,7 +260,7 @@ impl<S> Machine<S> {
     ) -> Result<Tasks, PeerError>
     where
         S: Store<H>,
-        ensures acts { Acts S.does S.refuses (λ x o next. lead (row_27 call.now.from call.now.id call.now.key call.now.command finishing) me 27 x.phase x o next) self.old hasher.old out.old result self.new hasher.new out.new }
+        ensures acts { Acts S.does S.refuses (λ x o next. lead (row_27 call.now.from call.now.id call.now.key call.now.command finishing) me x.phase x o next) self.old hasher.old out.old result self.new hasher.new out.new }
         ensures grows { Grows out.old out.new }
     {
         match &mut self.state.phase {
@@ -281,7 +273,7 @@ impl<S> Machine<S> {
                     call.command.copy(alloc)?,
                     finishing,
                 )?;
-                self.lead_done(hasher, alloc, out, me, 27, row)
+                self.lead_done(hasher, alloc, out, me, row)
             }
             _ => Ok(Tasks::none(alloc)),
         }
@@ -332,9 +324,9 @@ impl<S> Machine<S> {
         match &mut self.state.phase {
             Phase::Leading(leadership) => {
                 let row = leadership.rule_5_calls(alloc, &fact)?;
-                let first = self.lead_done(hasher, alloc, out, me, 5, row)?;
+                let first = self.lead_done(hasher, alloc, out, me, row)?;
                 let mut tasks = Tasks::none(alloc);
-                tasks.put_first(Task::Phase(5))?;
+                tasks.put_first(Task::Remind)?;
                 tasks.put_all(first)?;
                 Ok(tasks)
             }

@@ -13,6 +13,7 @@
 //! the state, the stores and the outbox of a step.
 #![tactic(auto)]
 
+mod errors;
 mod leads;
 mod machine;
 mod owns;

@@ -3,6 +3,7 @@ ghost use Rattle.ens_base.specs.View.{IsPeer};
 ghost use Rattle.step_plans.specs.Outboxes.{FitsIn, Grows};
 ghost use Rattle.step_plans.specs.Calls.{Save};
 ghost use Rattle.step_plans.specs.Plans.{asked};
+ghost use Rattle.step_plans.specs.Saved.{with_seal};
 ghost use Rattle.peer_plan.specs.Drives.{performed, row_done, task_done, driven};
 ghost use Rattle.peer_state.specs.Moves.{turned, turned_answers, ends_leading};
 ghost use Rattle.peer_plan.specs.Syncs.{saved, followed_on};
@@ -10,7 +11,7 @@ ghost use Rattle.peer_state.specs.NoAllocation.{ends_step, EndsQuietly, IsFreeRo
 ghost use Rattle.peer_core.specs.Outcomes.{Acts};
 
 use ens_base::PeerId;
-use peer_fact::{Change, Fact};
+use peer_fact::{Change, Fact, SavedFact};
 use peer_state::State;
 use phase_rows::{PhaseOut, Seen, Then};
 use std::alloc::Global;
@@ -26,15 +27,20 @@ pub struct Machine<S> {
 }
 
 impl<S> Machine<S> {
+    /// Saves the fact with the peer's seal.
     #[tactic(auto, using(peer_plan::proofs::Parts::asked_did))]
     fn save_fact<H>(&mut self, hasher: &mut H, out: &Outbox, fact: &Fact) -> Result<(), PeerError>
     where
         S: Store<H>,
-        ensures acts { Acts S.does S.refuses (asked (Save fact.now)) self.old hasher.old out.now result self.new hasher.new out.now }
+        ensures acts { Acts S.does S.refuses (asked (Save (with_seal self.old.state.seal fact.now))) self.old hasher.old out.now result self.new hasher.new out.now }
         ensures only { IfErr result (λ e. e ≡ PeerError.StoreFault) }
         ensures state { self.new.state ≡ self.old.state }
     {
-        self.stores.save(hasher, fact)
+        let saved = SavedFact {
+            fact: *fact,
+            seal: self.state.seal,
+        };
+        self.stores.save(hasher, &saved)
     }
 
     /// Saves the fact, if there is one.
@@ -163,13 +169,10 @@ impl<S> Machine<S> {
     {
         match task {
             Task::Phase(rule) => {
-                if rule == 5 {
-                    self.remind(hasher, alloc, out)
-                } else {
-                    let row = self.state.phase_row(rule, me);
-                    self.row_done(hasher, rt, alloc, out, me, row)
-                }
+                let row = self.state.phase_row(rule, me);
+                self.row_done(hasher, rt, alloc, out, me, row)
             }
+            Task::Remind => self.remind(hasher, alloc, out),
             Task::Key(rule, key) => self.key_done(
                 hasher,
                 alloc,

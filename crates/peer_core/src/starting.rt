@@ -5,7 +5,7 @@ ghost use Rattle.peer_state.specs.NoAllocation.{IsSteady};
 ghost use Rattle.peer_plan.specs.Starts.{Starts, start_of, saves_opening, opened as opens};
 
 use ens_base::View;
-use peer_fact::{Change, Fact};
+use peer_fact::{Change, Fact, SavedFact};
 use peer_plan::first_state;
 use peer_state::State;
 use std::alloc::Global;
@@ -23,8 +23,9 @@ fn save_opening<H, S: Store<H>>(
     ensures own { IfOk result (λ x. (me : ℕ) → IsOwn me x) }
 {
     let fact = Fact::opening(opening);
-    match stores.save(hasher, &fact) {
-        Ok(()) => Ok(first_state(fact, true)),
+    let saved = SavedFact { fact, seal: None };
+    match stores.save(hasher, &saved) {
+        Ok(()) => Ok(first_state(saved, true)),
         Err(error) => Err(error),
     }
 }
@@ -35,7 +36,7 @@ fn opened<H, S: Store<H>>(
     hasher: &mut H,
     alloc: Global,
     opening: View,
-    kept: Option<Fact>,
+    kept: Option<SavedFact>,
 ) -> Result<State, PeerError>
     ensures starts { Starts S.does S.refuses (opens opening kept) (stores.old, hasher.old) result (stores.new, hasher.new) }
     ensures young { IfOk result (λ x. is_young x.phase ≡ true) }
@@ -43,8 +44,8 @@ fn opened<H, S: Store<H>>(
     ensures own { IfOk result (λ x. (me : ℕ) → IsOwn me x) }
 {
     match kept {
-        Some(fact) => match stores.open_tree(hasher, alloc) {
-            Ok(()) => Ok(first_state(fact, false)),
+        Some(saved) => match stores.open_tree(hasher, alloc, None) {
+            Ok(()) => Ok(first_state(saved, false)),
             Err(error) => Err(error),
         },
         None => match stores.fresh_tree(hasher, alloc) {

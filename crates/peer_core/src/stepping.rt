@@ -17,7 +17,7 @@ use following::is_served;
 use peer_fact::{Change, Fact};
 use peer_plan::{after_put, give_of, question_of};
 use peer_state::{Event, Phase};
-use phase_rows::{PhaseOut, Seen, Then};
+use phase_rows::{PhaseOut, PhaseRule, Seen, Then};
 use std::alloc::Global;
 use std::thread::Threads;
 use step_plans::{Outbox, PeerError, Store, Task, Tasks};
@@ -352,7 +352,7 @@ impl<S> Machine<S> {
         ensures grows { Grows out.old out.new }
         ensures fits { IsSteady self.old.state → ¬ IsErrOf result PeerError.Memory }
     {
-        let tasks = self.task_done(hasher, rt, alloc, out, me, Task::Phase(26))?;
+        let tasks = self.task_done(hasher, rt, alloc, out, me, Task::Phase(PhaseRule::EndEpoch))?;
         self.drive(hasher, rt, alloc, out, me, most_turns(), tasks)?;
         Ok(())
     }

@@ -1,82 +1,29 @@
 ghost use Rattle.std.specs.Prelude.{◌≡◌};
-ghost use Rattle.peer_core.specs.Stores.{hash_error as hash_error_of};
-ghost use Rattle.peer_plan.specs.TreeCalls.{heard, peer_error};
+ghost use Rattle.std.specs.Coded.{Coded-set};
+ghost use Rattle.tree_node.specs.declared.version.TreeVersion.TheVariants.{One};
+ghost use Rattle.peer_core.specs.Versions.{version_code};
 
+use crate::errors::{hash_error, tree_error, walked};
 use ens_base::{Bytes, Digest, Entry, Key};
-use ens_hashing::{HashError, Hasher16};
+use ens_hashing::Hasher16;
 use ens_outside::{Backend, NodeStore, StoreError};
 use fact_store::{FactKeeper, KeepError};
-use peer_fact::{Change, Fact};
+use peer_fact::{Change, Fact, SavedFact};
 use std::alloc::Global;
 use std::thread::Threads;
 use step_plans::{PeerError, Store, Walked};
-use synctree::{Tree, TreeError};
-use tree_node::{Position, Scan};
+use synctree::Tree;
+use tree_node::{Position, Scan, TreeVersion};
 use tree_repair::rebuild;
 use tree_verify::{NoGate, scan};
 
-/// The stores of a peer: the objects, the tree, and the fact.
+/// The stores of a peer: the objects, the tree, which is of version one, and the fact.
 #[derive(Drop)]
 pub struct Stores<B, N, F> {
     pub backend: B,
     pub tree: Tree<N>,
     pub facts: F,
-}
-
-/// Returns the error of a peer whose tree was stopped by this error.
-fn tree_error(error: TreeError) -> PeerError
-    ensures { result ≡ peer_error error }
-{
-    match error {
-        TreeError::Damaged(_at) => PeerError::StoreFault,
-        TreeError::Failed => PeerError::StoreFault,
-        TreeError::Clash { first, second } => PeerError::Clash {
-            first: Bytes::new(first),
-            second: Bytes::new(second),
-        },
-        TreeError::BookFull(kept) => PeerError::BookFull(kept),
-        TreeError::Memory => PeerError::Memory,
-    }
-}
-
-/// Returns damage as an answer, and any other error as an error of the peer.
-fn damage<T>(error: TreeError) -> Result<Walked<T>, PeerError>
-    ensures { result ≡ heard (Err error) }
-{
-    match error {
-        TreeError::Damaged(at) => Ok(Walked::Broken(at)),
-        TreeError::Failed => Err(PeerError::StoreFault),
-        TreeError::Clash { first, second } => Err(PeerError::Clash {
-            first: Bytes::new(first),
-            second: Bytes::new(second),
-        }),
-        TreeError::BookFull(kept) => Err(PeerError::BookFull(kept)),
-        TreeError::Memory => Err(PeerError::Memory),
-    }
-}
-
-/// Returns the result of a call of the tree as a result of the stores.
-fn walked<T>(came: Result<T, TreeError>) -> Result<Walked<T>, PeerError>
-    ensures { result ≡ heard came }
-{
-    match came {
-        Ok(found) => Ok(Walked::Reached(found)),
-        Err(error) => damage(error),
-    }
-}
-
-/// Returns the error of a peer for this error of a hasher.
-fn hash_error(error: HashError) -> PeerError
-    ensures { result ≡ hash_error_of error }
-{
-    match error {
-        HashError::Clash { first, second } => PeerError::Clash {
-            first: Bytes::new(first),
-            second: Bytes::new(second),
-        },
-        HashError::BookFull(kept) => PeerError::BookFull(kept),
-        HashError::Memory => PeerError::Memory,
-    }
+    pub ghost of_version_one: { tree.version ≡ One } by { Coded-set version_code tree.version One },
 }
 
 impl<B: Backend, N: NodeStore, F: FactKeeper, H: Hasher16> Store<H> for Stores<B, N, F> {
@@ -86,7 +33,7 @@ impl<B: Backend, N: NodeStore, F: FactKeeper, H: Hasher16> Store<H> for Stores<B
 
     ghost refuses = { stores_refuse B.may_refuse B.fault_count N.may_answer N.may_refuse N.top_record N.fault_count F.may_refuse F.kept F.fault_count H.kept H.clashes H.fulls };
 
-    fn load(&mut self, _hasher: &mut H) -> Result<Option<Fact>, PeerError> {
+    fn load(&mut self, _hasher: &mut H) -> Result<Option<SavedFact>, PeerError> {
         match self.facts.load() {
             Ok(kept) => Ok(kept),
             Err(KeepError::Failed) => Err(PeerError::StoreFault),
@@ -95,7 +42,7 @@ impl<B: Backend, N: NodeStore, F: FactKeeper, H: Hasher16> Store<H> for Stores<B
         }
     }
 
-    fn save(&mut self, _hasher: &mut H, fact: &Fact) -> Result<(), PeerError> {
+    fn save(&mut self, _hasher: &mut H, fact: &SavedFact) -> Result<(), PeerError> {
         match self.facts.save(fact) {
             Ok(()) => Ok(()),
             Err(_) => Err(PeerError::StoreFault),
@@ -103,14 +50,19 @@ impl<B: Backend, N: NodeStore, F: FactKeeper, H: Hasher16> Store<H> for Stores<B
     }
 
     fn fresh_tree(&mut self, hasher: &mut H, alloc: Global) -> Result<(), PeerError> {
-        match self.tree.empty(alloc, hasher) {
+        match self.tree.empty(alloc, TreeVersion::One, hasher) {
             Ok(()) => Ok(()),
             Err(error) => Err(tree_error(error)),
         }
     }
 
-    fn open_tree(&mut self, _hasher: &mut H, _alloc: Global) -> Result<(), PeerError> {
-        match self.tree.reopen() {
+    fn open_tree(
+        &mut self,
+        _hasher: &mut H,
+        _alloc: Global,
+        seal: Option<Digest>,
+    ) -> Result<(), PeerError> {
+        match self.tree.reopen(seal, TreeVersion::One) {
             Ok(()) => Ok(()),
             Err(error) => Err(tree_error(error)),
         }

@@ -3,11 +3,12 @@ ghost use Rattle.ens_base.specs.View.{IsPeer};
 ghost use Rattle.step_plans.specs.Calls.{ScanTree, ReadNode, Install};
 ghost use Rattle.step_plans.specs.Outboxes.{Grows, out_of};
 ghost use Rattle.step_plans.specs.Plans.{asked};
+ghost use Rattle.tree_node.specs.declared.version.TreeVersion.TheVariants.{One};
 ghost use Rattle.tree_node.specs.Entries.{AreAbove};
 ghost use Rattle.tree_node.specs.Positions.{IsPosition};
 ghost use Rattle.peer_state.specs.NoAllocation.{ends_step};
 ghost use Rattle.peer_core.specs.Outcomes.{Acts};
-ghost use Rattle.peer_plan.specs.Syncs.{and_sends, installed, accepted, accepted_in, synced, ended_with, gone_on, begun_sync, resumed_sync, followed_on, own_node, shown_node, needs_node, taken_give, got_give};
+ghost use Rattle.peer_plan.specs.Syncs.{and_sends, installed, accepted, accepted_in, end_sync, by_outcome, go_on, start_sync, resume_sync, followed_on, own_node, shown_node, needs_node, take_give, tree_give};
 ghost use Rattle.peer_plan.specs.Drives.{got_ask};
 ghost use Rattle.sync_rule.specs.Syncs.{MayBeBuilt};
 
@@ -18,8 +19,8 @@ use exchange::Question;
 use leader_words::Outgoing;
 use peer_fact::{Change, Fact};
 use peer_plan::{body_given, needs_node, reached_node};
-use peer_state::{Phase, ask_again, start_sync, sync_outcome, take_answer};
-use phase_rows::Then;
+use peer_state::{Phase, resume_sync, start_sync, sync_outcome, take_give};
+use phase_rows::{PhaseRule, Then};
 use running_sync::{Give, RunningSync};
 use std::alloc::Global;
 use std::thread::Threads;
@@ -54,7 +55,7 @@ impl<S> Machine<S> {
     ) -> Result<Walked<Option<Bytes>>, PeerError>
     where
         S: Store<H>,
-        requires { IsPosition at }
+        requires { IsPosition One at }
         ensures { Acts S.does S.refuses (asked (ReadNode at)) self.old hasher.old out.now result self.new hasher.new out.now }
     {
         self.stores.read_node(hasher, alloc, at)
@@ -111,7 +112,7 @@ impl<S> Machine<S> {
     ) -> Result<Option<Bytes>, PeerError>
     where
         S: Store<H>,
-        requires { IsPosition at }
+        requires { IsPosition One at }
         ensures { Acts S.does S.refuses (own_node needed at) self.old hasher.old out.now result self.new hasher.new out.now }
     {
         if needed {
@@ -134,7 +135,7 @@ impl<S> Machine<S> {
     ) -> Result<Option<TreeBody>, PeerError>
     where
         S: Store<H>,
-        requires { IsPosition question.now.position }
+        requires { IsPosition One question.now.position }
         ensures { Acts S.does S.refuses (shown_node answered question.now) self.old hasher.old out.now result self.new hasher.new out.now }
     {
         if answered {
@@ -184,7 +185,7 @@ impl<S> Machine<S> {
         match &mut self.state.phase {
             Phase::Electing(Election::Starting { accepts, .. }) => {
                 accepts.insert(me);
-                Ok(Tasks::named(alloc, Then::Rule(14))?)
+                Ok(Tasks::named(alloc, Then::Rule(PhaseRule::EnoughAccepted))?)
             }
             Phase::Following(_) => {
                 self.send_accepted(out, me, new)?;
@@ -211,7 +212,7 @@ impl<S> Machine<S> {
         S: Store<H>,
         requires me { IsPeer me }
         requires above { AreAbove [] entries.now }
-        ensures acts { Acts S.does S.refuses (synced me running entries.now) self.old hasher.old out.old result self.new hasher.new out.new }
+        ensures acts { Acts S.does S.refuses (end_sync me running entries.now) self.old hasher.old out.old result self.new hasher.new out.new }
         ensures grows { Grows out.old out.new }
     {
         self.state.sync = None;
@@ -226,7 +227,7 @@ impl<S> Machine<S> {
 
     /// Lets a sync run on, or ends it.
     #[tactic(auto, using(peer_plan::proofs::Parts::cut))]
-    fn end_with<H, R: Threads + Sync>(
+    fn by_outcome<H, R: Threads + Sync>(
         &mut self,
         hasher: &mut H,
         rt: &R,
@@ -240,7 +241,7 @@ impl<S> Machine<S> {
         S: Store<H>,
         requires me { IsPeer me }
         requires above { MayBeBuilt outcome }
-        ensures acts { Acts S.does S.refuses (ended_with me running outcome) self.old hasher.old out.old result self.new hasher.new out.new }
+        ensures acts { Acts S.does S.refuses (by_outcome me running outcome) self.old hasher.old out.old result self.new hasher.new out.new }
         ensures grows { Grows out.old out.new }
     {
         match outcome {
@@ -269,18 +270,18 @@ impl<S> Machine<S> {
     where
         S: Store<H>,
         requires { IsPeer me }
-        ensures acts { Acts S.does S.refuses (gone_on me (running, sends)) self.old hasher.old out.old result self.new hasher.new out.new }
+        ensures acts { Acts S.does S.refuses (go_on me (running, sends)) self.old hasher.old out.old result self.new hasher.new out.new }
         ensures grows { Grows out.old out.new }
     {
         out.send_all(sends.into_vec())?;
         let outcome = sync_outcome(alloc, &running)?;
-        self.end_with(hasher, rt, alloc, out, me, running, outcome)
+        self.by_outcome(hasher, rt, alloc, out, me, running, outcome)
     }
 
     /// Begins a sync on a fact.
     #[tactic(auto, using(peer_plan::proofs::Parts::cut))]
     #[inline(never)]
-    fn begin_sync<H, R: Threads + Sync>(
+    fn start_sync<H, R: Threads + Sync>(
         &mut self,
         hasher: &mut H,
         rt: &R,
@@ -292,7 +293,7 @@ impl<S> Machine<S> {
     where
         S: Store<H>,
         requires { IsPeer me }
-        ensures acts { Acts S.does S.refuses (begun_sync me new) self.old hasher.old out.old result self.new hasher.new out.new }
+        ensures acts { Acts S.does S.refuses (start_sync me new) self.old hasher.old out.old result self.new hasher.new out.new }
         ensures grows { Grows out.old out.new }
     {
         let scan = self.scan(hasher, rt, alloc, out)?;
@@ -311,13 +312,13 @@ impl<S> Machine<S> {
     ) -> Result<Tasks, PeerError>
     where
         S: Store<H>,
-        ensures acts { Acts S.does S.refuses (λ x o next. resumed_sync x.sync x o next) self.old hasher.now out.old result self.new hasher.now out.new }
+        ensures acts { Acts S.does S.refuses (λ x o next. resume_sync x.sync x o next) self.old hasher.now out.old result self.new hasher.now out.new }
         ensures grows { Grows out.old out.new }
     {
         match &mut self.state.sync {
             None => Ok(Tasks::none(alloc)),
             Some(running) => {
-                let sends = ask_again(alloc, running)?;
+                let sends = resume_sync(alloc, running)?;
                 out.send_all(sends.into_vec())?;
                 Ok(Tasks::none(alloc))
             }
@@ -345,12 +346,15 @@ impl<S> Machine<S> {
         ensures fits { ends_step then.now ≡ true → IsOk result }
     {
         match then {
-            Then::SyncOn(new) => self.begin_sync(hasher, rt, alloc, out, me, *new),
+            Then::SyncOn(new) => self.start_sync(hasher, rt, alloc, out, me, *new),
             Then::Resume => self.resume_sync(hasher, alloc, out),
             Then::Rule(_) => Ok(Tasks::named(alloc, *then)?),
-            Then::Stay | Then::Follow | Then::Lead(_) | Then::Untrust | Then::Put => {
-                Ok(Tasks::none(alloc))
-            }
+            Then::Stay
+            | Then::Follow
+            | Then::Lead(_)
+            | Then::Untrust
+            | Then::Put
+            | Then::OnKeys(_) => Ok(Tasks::none(alloc)),
         }
     }
 
@@ -372,7 +376,7 @@ impl<S> Machine<S> {
         S: Store<H>,
         requires me { IsPeer me }
         requires from { IsPeer from }
-        requires position { IsPosition question.position }
+        requires position { IsPosition One question.position }
         ensures acts { Acts S.does S.refuses (got_ask me from ballot question) self.old hasher.old out.old result self.new hasher.new out.new }
         ensures grows { Grows out.old out.new }
     {
@@ -384,7 +388,7 @@ impl<S> Machine<S> {
     }
 
     /// Lets the sync that runs, if one does, take an answer.
-    #[tactic(auto, using(peer_plan::proofs::Parts::cut, peer_plan::proofs::Syncs::gone_on_without))]
+    #[tactic(auto, using(peer_plan::proofs::Parts::cut, peer_plan::proofs::Syncs::go_on_without))]
     fn take_give<H, R: Threads + Sync>(
         &mut self,
         hasher: &mut H,
@@ -399,15 +403,15 @@ impl<S> Machine<S> {
     where
         S: Store<H>,
         requires me { IsPeer me }
-        requires position { IsPosition give.now.question.position }
-        ensures acts { Acts S.does S.refuses (λ x o next. taken_give me from give.now own.now x.sync x o next) self.old hasher.old out.old result self.new hasher.new out.new }
+        requires position { IsPosition One give.now.question.position }
+        ensures acts { Acts S.does S.refuses (λ x o next. take_give me from give.now own.now x.sync x o next) self.old hasher.old out.old result self.new hasher.new out.new }
         ensures grows { Grows out.old out.new }
     {
         match self.state.sync.take() {
             None => Ok(Tasks::none(alloc)),
             Some(running) => {
                 let mut running = running;
-                let sends = take_answer(alloc, &mut running, from, give, own)?;
+                let sends = take_give(alloc, &mut running, from, give, own)?;
                 self.go_on(hasher, rt, alloc, out, me, running, sends)
             }
         }
@@ -429,8 +433,8 @@ impl<S> Machine<S> {
     where
         S: Store<H>,
         requires me { IsPeer me }
-        requires position { IsPosition give.now.question.position }
-        ensures acts { Acts S.does S.refuses (got_give me from give.now) self.old hasher.old out.old result self.new hasher.new out.new }
+        requires position { IsPosition One give.now.question.position }
+        ensures acts { Acts S.does S.refuses (tree_give me from give.now) self.old hasher.old out.old result self.new hasher.new out.new }
         ensures grows { Grows out.old out.new }
     {
         let needed = needs_node(&self.state, from, give);

@@ -17,6 +17,7 @@ use Rattle.following.specs.Requests.{row_21, row_22, row_23}
 use Rattle.following.specs.declared.follower.Follower.{Follower}
 use Rattle.joint_views.specs.Quorums.{is_member}
 use Rattle.kept_objects.specs.Kept.{entry_of, matching, object_in}
+use Rattle.leader_words.specs.Outs.{asked_by}
 use Rattle.leader_words.specs.declared.out.LeadOut.{LeadOut}
 use Rattle.leader_words.specs.declared.out.Outgoing.{Outgoing}
 use Rattle.leader_words.specs.declared.out.Own.{Own}
@@ -43,6 +44,7 @@ use Rattle.tree_node.specs.declared.position.Position.{Position}
 use Rattle.register_model.specs.declared.note.Note.{Note}
 use Rattle.step_plans.specs.Calls.{Call, Save, Find, Enter, ScanTree, ReadNode, Install, Fetch, Put, Hash}
 use Rattle.step_plans.specs.Plans.{Plan, Done, Out, nothing, Rest, Part, Follows, asked, noted}
+use Rattle.step_plans.specs.Saved.{with_seal}
 use Rattle.step_plans.specs.Sends.{posted_to}
 use Rattle.step_plans.specs.Tasks.{named, keyed}
 use Rattle.step_plans.specs.declared.tasks.Task.{Task}
@@ -56,9 +58,10 @@ use Rattle.phase_rows.specs.declared.phase.Seen.{Seen}
 use Rattle.phase_rows.specs.declared.phase.Seen.TheVariants as seens
 use Rattle.phase_rows.specs.declared.phase.Then.{Then}
 use Rattle.phase_rows.specs.declared.phase.Then.TheVariants as thens
+use Rattle.phase_rows.specs.declared.rules.PhaseRule.TheVariants as phase_rules
 use Rattle.peer_state.specs.Ages.{IsYoung, IsYoungChange, IsYoungElection}
 use Rattle.peer_plan.specs.Drives.{row_done, owned, own_key, followed_up, and_row, lead_done, lead, reminded, task_done, driven, ticked, shown, after_put, put_done, delivered, first, most_turns, responded, concluded, step_of, MayCome}
-use Rattle.peer_plan.specs.Syncs.{saved, and_sends, with_sync, installed, accepted, accepted_own, accepted_in, synced, ended_with, gone_on, resumed_sync, followed_on, reached, own_node, body_of, shown_node, needs_node, taken_give}
+use Rattle.peer_plan.specs.Syncs.{saved, and_sends, with_sync, installed, accepted, accepted_own, accepted_in, end_sync, by_outcome, go_on, resume_sync, followed_on, reached, own_node, body_of, shown_node, needs_node, take_give}
 use Rattle.peer_plan.specs.Kept.{IsStepCall}
 use Rattle.peer_state.specs.Leading.{older, end_of, row_5_calls, wished}
 use Rattle.peer_state.specs.Moves.{left, left_answers, turned, turned_answers, leading, with_leader, electing, following, probing, without_sync}
@@ -134,9 +137,10 @@ module _ (P : State → Out → Type 0) where
   if_follows true p q first second = first
   if_follows false p q first second = second
 
-  pub owned_asks : (n : ℕ) (own : Own) → Asks (owned n own)
-  owned_asks n (owns.Look key) x out next go = if_follows (n == 28) _ _ (fetched_asks key x out next go) (looked_asks key x out next go)
-  owned_asks n (owns.Put o) x out next go = written_asks o x out next go
+  pub owned_asks : (own : Own) → Asks (owned own)
+  owned_asks (owns.Fetch key) x out next go = fetched_asks key x out next go
+  owned_asks (owns.Look key) x out next go = looked_asks key x out next go
+  owned_asks (owns.Put o) x out next go = written_asks o x out next go
 
   pub noted_follows : (notes : List Note) (p : Plan State) → Follows IsStepCall P p → Follows IsStepCall P (noted notes p)
   noted_follows [] p follows = follows
@@ -209,10 +213,10 @@ module _ (me : ℕ) (P : State → Out → Type 0) where
   saved_passes : (save : Option Fact) → Passes (saved save)
   saved_passes None x out next young go = go tt x out young
   saved_passes (Some fact) x out next young go =
-      asked_asks P (Save fact) tt x out (λ u y o. next tt (record y { fact = fact }) o) (λ u. go tt (record x { fact = fact }) out young)
+      asked_asks P (Save (with_seal x.seal fact)) tt x out (λ u y o. next tt (record y { fact = fact }) o) (λ u. go tt (record x { fact = fact }) out young)
 
   accepted_own_passes : (e : Election) → IsYoungElection e → Passes (accepted_own me e)
-  accepted_own_passes (Starting new accepts age) is x out next young go = go (tasks.Phase 14 ∷ []) (electing (Starting new (joined me accepts) age) x) out is
+  accepted_own_passes (Starting new accepts age) is x out next young go = go (tasks.Phase phase_rules.EnoughAccepted ∷ []) (electing (Starting new (joined me accepts) age) x) out is
   accepted_own_passes (Preparing base promises asked age) is x out next young go = go [] x out young
 
   accepted_in_passes : (fact : Fact) (phase : Phase) → IsYoung phase → Passes (accepted_in me fact phase)
@@ -221,38 +225,39 @@ module _ (me : ℕ) (P : State → Out → Type 0) where
   accepted_in_passes fact (phases.Probing p) is x out next young go = go [] x out young
   accepted_in_passes fact (phases.Leading l) is x out next young go = go [] x out young
 
-  synced_passes : (r : Running) (entries : List Entry) → Passes (synced me r entries)
-  synced_passes r entries x out next young go =
+  end_sync_passes : (r : Running) (entries : List Entry) → Passes (end_sync me r entries)
+  end_sync_passes r entries x out next young go =
       installed_asks P (needs_build r.sync.scan entries) entries (without_sync x) out
       (λ u y o. saved (Some r.fact) y o (λ v z p. accepted_in me r.fact z.phase (record z { trusted = true }) p next))
       (λ u. saved_passes (Some r.fact) (without_sync x) out (λ v z p. accepted_in me r.fact z.phase (record z { trusted = true }) p next) young
       (λ v z p fine. accepted_in_passes r.fact z.phase fine (record z { trusted = true }) p next fine go))
 
-  ended_with_passes : (r : Running) (outcome : Outcome) → Passes (ended_with me r outcome)
-  ended_with_passes r Pending x out next young go = go [] (with_sync r x) out young
-  ended_with_passes r (Trusted entries) x out next young go = synced_passes r entries x out next young go
+  by_outcome_passes : (r : Running) (outcome : Outcome) → Passes (by_outcome me r outcome)
+  by_outcome_passes r Pending x out next young go = go [] (with_sync r x) out young
+  by_outcome_passes r (Trusted entries) x out next young go = end_sync_passes r entries x out next young go
 
-  gone_on_passes : (r : Running × List Outgoing) → Passes (gone_on me r)
-  gone_on_passes r x out next young go = ended_with_passes r.0 (outcome_of r.0.sync) x (and_sends out r.1) next young go
+  go_on_passes : (r : Running × List Outgoing) → Passes (go_on me r)
+  go_on_passes r x out next young go = by_outcome_passes r.0 (outcome_of r.0.sync) x (and_sends out r.1) next young go
 
-  resumed_passes : (running : Option Running) → Passes (resumed_sync running)
+  resumed_passes : (running : Option Running) → Passes (resume_sync running)
   resumed_passes None x out next young go = go [] x out young
   resumed_passes (Some r) x out next young go = go [] (with_sync (row_resume r).0 x) (and_sends out (row_resume r).1) young
 
   followed_on_passes : (t : Then) → Passes (followed_on me t)
   followed_on_passes (thens.SyncOn fact) x out next young go =
-      asked_asks P ScanTree tt x out (λ scan y o. gone_on me (row_start fact me y.trusted scan) y o next) (λ scan. gone_on_passes (row_start fact me x.trusted scan) x out next young go)
+      asked_asks P ScanTree tt x out (λ scan y o. go_on me (row_start fact me y.trusted scan) y o next) (λ scan. go_on_passes (row_start fact me x.trusted scan) x out next young go)
   followed_on_passes thens.Resume x out next young go = resumed_passes x.sync x out next young go
   followed_on_passes (thens.Rule n) x out next young go = go (named (thens.Rule n)) x out young
+  followed_on_passes (thens.OnKeys n) x out next young go = go [] x out young
   followed_on_passes thens.Stay x out next young go = go [] x out young
   followed_on_passes thens.Follow x out next young go = go [] x out young
   followed_on_passes (thens.Lead fact) x out next young go = go [] x out young
   followed_on_passes thens.Untrust x out next young go = go [] x out young
   followed_on_passes thens.Put x out next young go = go [] x out young
 
-  taken_give_passes : (from : ℕ) (give : Give) (own : Option (List ℕ)) (running : Option Running) → Passes (taken_give me from give own running)
-  taken_give_passes from give own None x out next young go = go [] x out young
-  taken_give_passes from give own (Some r) x out next young go = gone_on_passes (row_take from give own r) x out next young go
+  take_give_passes : (from : ℕ) (give : Give) (own : Option (List ℕ)) (running : Option Running) → Passes (take_give me from give own running)
+  take_give_passes from give own None x out next young go = go [] x out young
+  take_give_passes from give own (Some r) x out next young go = go_on_passes (row_take from give own r) x out next young go
 
   pub row_done_passes : (row : PhaseOut) → Passes (row_done me row)
   row_done_passes row x out next young go =
@@ -261,22 +266,22 @@ module _ (me : ℕ) (P : State → Out → Type 0) where
       (left_young row.leave x young)
       (λ u y o fine. followed_on_passes row.then (turned me row.then y) (turned_answers row.then y (and_sends o (posted_to row.to row.message))) next (turned_young me row.then y fine) go)
 
-  followed_up_passes : (n : ℕ) (own : Option Own) (turn : Then) (keys : List (List ℕ)) → Passes (followed_up me n own turn keys)
-  followed_up_passes n None turn keys x out next young go = go (keyed turn keys) (turned me turn x) (turned_answers turn x out) (turned_young me turn x young)
-  followed_up_passes n (Some own) turn keys x out next young go =
-      owned_asks P n own x out (λ seen y o. next (tasks.Again n (own_key own) seen ∷ []) y o) (λ seen. go (tasks.Again n (own_key own) seen ∷ []) x out young)
+  followed_up_passes : (own : Option Own) (turn : Then) (keys : List (List ℕ)) → Passes (followed_up me own turn keys)
+  followed_up_passes None turn keys x out next young go = go (keyed turn keys) (turned me turn x) (turned_answers turn x out) (turned_young me turn x young)
+  followed_up_passes (Some own) turn keys x out next young go =
+      owned_asks P own x out (λ seen y o. next (tasks.Again (asked_by own) (own_key own) seen ∷ []) y o) (λ seen. go (tasks.Again (asked_by own) (own_key own) seen ∷ []) x out young)
 
-  lead_done_goes : (n : ℕ) (row : LeadOut) (x : State) (out : Out) (next : Rest State (List Task)) → IsYoung (left row.leave x).phase → Goes next → Follows IsStepCall P (lead_done me n row x out next)
-  lead_done_goes n row x out next young go =
-      noted_follows P row.notes (followed_up me n row.own row.then row.keys (left row.leave x) (and_row row x out) next)
-      (followed_up_passes n row.own row.then row.keys (left row.leave x) (and_row row x out) next young go)
+  lead_done_goes : (row : LeadOut) (x : State) (out : Out) (next : Rest State (List Task)) → IsYoung (left row.leave x).phase → Goes next → Follows IsStepCall P (lead_done me row x out next)
+  lead_done_goes row x out next young go =
+      noted_follows P row.notes (followed_up me row.own row.then row.keys (left row.leave x) (and_row row x out) next)
+      (followed_up_passes row.own row.then row.keys (left row.leave x) (and_row row x out) next young go)
 
-  lead_passes : (row : Leader → Leader × LeadOut) (n : ℕ) (phase : Phase) → IsYoung phase → Passes (lead row me n phase)
-  lead_passes row n (phases.Leading l) is x out next young go =
-      let now = leading (with_leader (row l.leader).0 l) x in lead_done_goes n (row l.leader).1 now out next (left_young (row l.leader).1.leave now is) go
-  lead_passes row n (phases.Following f) is x out next young go = go [] x out young
-  lead_passes row n (phases.Probing p) is x out next young go = go [] x out young
-  lead_passes row n (phases.Electing e) is x out next young go = go [] x out young
+  lead_passes : (row : Leader → Leader × LeadOut) (phase : Phase) → IsYoung phase → Passes (lead row me phase)
+  lead_passes row (phases.Leading l) is x out next young go =
+      let now = leading (with_leader (row l.leader).0 l) x in lead_done_goes (row l.leader).1 now out next (left_young (row l.leader).1.leave now is) go
+  lead_passes row (phases.Following f) is x out next young go = go [] x out young
+  lead_passes row (phases.Probing p) is x out next young go = go [] x out young
+  lead_passes row (phases.Electing e) is x out next young go = go [] x out young
 
   reminded_passes : (phase : Phase) → IsYoung phase → Passes (reminded phase)
   reminded_passes (phases.Leading l) is x out next young go = go _ _ _ (wished_young l.leader.fact l.change is)
@@ -285,11 +290,10 @@ module _ (me : ℕ) (P : State → Out → Type 0) where
   reminded_passes (phases.Electing e) is x out next young go = go [] x out young
 
   task_done_passes : (t : Task) → Passes (task_done me t)
-  task_done_passes (tasks.Phase n) x out next young go =
-      if_follows P (n == 5) _ _ (reminded_passes x.phase young x out next young go)
-      (row_done_passes (phase_row n me x).1 (phase_row n me x).0 out next (phase_row_young n me x young) go)
-  task_done_passes (tasks.Key n key) x out next young go = lead_passes (lead_row n key seens.Nothing) n x.phase young x out next young go
-  task_done_passes (tasks.Again n key seen) x out next young go = lead_passes (lead_row n key seen) n x.phase young x out next young go
+  task_done_passes (tasks.Phase n) x out next young go = row_done_passes (phase_row n me x).1 (phase_row n me x).0 out next (phase_row_young n me x young) go
+  task_done_passes tasks.Remind x out next young go = reminded_passes x.phase young x out next young go
+  task_done_passes (tasks.Key n key) x out next young go = lead_passes (lead_row n key seens.Nothing) x.phase young x out next young go
+  task_done_passes (tasks.Again n key seen) x out next young go = lead_passes (lead_row n key seen) x.phase young x out next young go
 
   driven_passes : (n : ℕ) (ts : List Task) → Passes (driven me n ts)
   unfolding driven
@@ -299,7 +303,7 @@ module _ (me : ℕ) (P : State → Out → Type 0) where
       task_done_passes t x out (λ more y o. driven me n (more ++ ts) y o next) young (λ more y o fine. driven_passes n (more ++ ts) y o next fine go)
 
   -- if rule 7 runs next, the age before it may be at its limit
-  driven_7 : (n : ℕ) (x : State) (out : Out) (next : Rest State (List Task)) → Goes next → Follows IsStepCall P (driven me (suc n) (tasks.Phase 7 ∷ []) x out next)
+  driven_7 : (n : ℕ) (x : State) (out : Out) (next : Rest State (List Task)) → Goes next → Follows IsStepCall P (driven me (suc n) (tasks.Phase phase_rules.BeginProbing ∷ []) x out next)
   unfolding driven
   driven_7 n x out next go =
       row_done_passes (begun me x).1 (begun me x).0 out (λ more y o. driven me n (more ++ []) y o next) (lit< tt)
@@ -314,7 +318,7 @@ module _ (me : ℕ) (P : State → Out → Type 0) where
 
   -- a tick that runs rule 7, or leaves ages below their limits
   aged_passes : (t : Bool) (y : State) (out : Out) (next : Rest State (Unit {0})) → (t ≡ false → IsYoung y.phase) → Goes next
-      → Follows IsStepCall P (row_done me (silent (if t then thens.Rule 7 else thens.Stay)) y out (onward next))
+      → Follows IsStepCall P (row_done me (silent (if t then thens.Rule phase_rules.BeginProbing else thens.Stay)) y out (onward next))
   aged_passes true y out next young go = rw most_is_some (driven_7 (2 ^ 64 - 2) y (and_sends out []) (λ rest z q. next tt z q) (λ rest z q fine. go tt z q fine))
   aged_passes false y out next young go = row_done_passes (silent thens.Stay) y out (onward next) (young refl) (onward_goes next go)
 
@@ -341,8 +345,8 @@ module _ (me : ℕ) (P : State → Out → Type 0) where
       aged_passes (p.age + 1 == 6) (probing (record p { age = p.age + 1 }) x) out next (younger p.age young) go
   ticked_passes (phases.Electing e) young x out next go = electing_passes e young x out next go
   ticked_passes (phases.Leading l) young x out next go =
-      lead_done_goes 5 (row_5_calls x.fact l).1 (leading (row_5_calls x.fact l).0 x) out (λ ts y o. onward next (ts ++ tasks.Phase 5 ∷ []) y o) (ticked_young l x)
-      (λ ts y o fine. onward_goes next go (ts ++ tasks.Phase 5 ∷ []) y o fine)
+      lead_done_goes (row_5_calls x.fact l).1 (leading (row_5_calls x.fact l).0 x) out (λ ts y o. onward next (ts ++ tasks.Remind ∷ []) y o) (ticked_young l x)
+      (λ ts y o fine. onward_goes next go (ts ++ tasks.Remind ∷ []) y o fine)
 
   put_done_passes : (turn : Then) (from : ℕ) (ballot : Epoch) (o : Object) (row : PhaseOut) → Passes (put_done turn me from ballot o row)
   put_done_passes thens.Put from ballot o row x out next young go =
@@ -359,19 +363,19 @@ module _ (me : ℕ) (P : State → Out → Type 0) where
       (λ seen. put_done_passes (row_22 x.fact x.trusted from ballot o seen).then from ballot o (row_22 x.fact x.trusted from ballot o seen) x out next young go)
   delivered_passes from (messages.GetReply ballot round key entry object) x out next young go =
       if_follows P (leads x.phase) _ _
-      (confirmed_asks P entry object x out (λ named y o. lead (row_29_reply from ballot round key entry named) me 29 y.phase y o next)
-      (λ named. lead_passes (row_29_reply from ballot round key entry named) 29 x.phase young x out next young go))
+      (confirmed_asks P entry object x out (λ named y o. lead (row_29_reply from ballot round key entry named) me y.phase y o next)
+      (λ named. lead_passes (row_29_reply from ballot round key entry named) x.phase young x out next young go))
       (go [] x out young)
-  delivered_passes from (messages.PutReply ballot key version) x out next young go = lead_passes (row_35_reply from ballot key version) 35 x.phase young x out next young go
-  delivered_passes from (messages.CheckReply ballot round) x out next young go = lead_passes (row_33_reply from ballot round) 33 x.phase young x out next young go
+  delivered_passes from (messages.PutReply ballot key version) x out next young go = lead_passes (row_35_reply from ballot key version) x.phase young x out next young go
+  delivered_passes from (messages.CheckReply ballot round) x out next young go = lead_passes (row_33_reply from ballot round) x.phase young x out next young go
   delivered_passes from (messages.TreeAsk ballot at after) x out next young go =
       let q : Question = record { position = at; after = after } in
       shown_node_asks P (is_same ballot x.fact.ballot) q x out (λ body y o. row_done me (row_23 y.fact y.trusted from ballot q.position q.after body) y o next)
       (λ body. row_done_passes (row_23 x.fact x.trusted from ballot at after body) x out next young go)
   delivered_passes from (messages.TreeGive ballot at after trusted body) x out next young go =
       let give : Give = record { ballot = ballot; question = record { position = at; after = after }; trusted = trusted; body = body } in
-      own_node_asks P (needs_node from give x.sync) at x out (λ own y o. taken_give me from give own y.sync y o next)
-      (λ own. taken_give_passes from give own x.sync x out next young go)
+      own_node_asks P (needs_node from give x.sync) at x out (λ own y o. take_give me from give own y.sync y o next)
+      (λ own. take_give_passes from give own x.sync x out next young go)
   delivered_passes from message x out next young go =
       row_done_passes (received me from message x).1 (received me from message x).0 out next (received_young me from message x young) go
 
@@ -380,13 +384,13 @@ module _ (me : ℕ) (P : State → Out → Type 0) where
   responded_passes events.Tick x out next young go = ticked_passes x.phase young x out next go
   responded_passes (events.Call call) x out next young go =
       if_follows P (leads x.phase) _ _
-      (lead_passes (row_27 call.from call.id call.key call.command (changes x.phase)) 27 x.phase young x out (onward next) young (onward_goes next go))
+      (lead_passes (row_27 call.from call.id call.key call.command (changes x.phase)) x.phase young x out (onward next) young (onward_goes next go))
       (onward_goes next go [] x _ young)
   responded_passes (events.Change view) x out next young go =
       row_done_passes (asked_change view x).1.0 (asked_change view x).0 _ (onward next) (asked_young view x young) (onward_goes next go)
 
   concluded_passes : Passes (concluded me)
-  concluded_passes x out next young go = task_done_passes (tasks.Phase 26) x out (onward next) young (onward_goes next go)
+  concluded_passes x out next young go = task_done_passes (tasks.Phase phase_rules.EndEpoch) x out (onward next) young (onward_goes next go)
 
 -- a step makes only its calls, and leaves ages below their limits
 pub steps_young : (me : ℕ) (event : Event) (x : State) → IsPeer me → MayCome me event → IsYoung x.phase → Follows IsStepCall (λ y out. IsYoung y.phase) (step_of me event x)

@@ -1,5 +1,5 @@
 -- Each row leaves the sync that runs, or none: a sync that runs asks other peers alone.
-use Rattle.std.proofs.Common.{ℕ, Bool, true, false, ◌==◌, List, Option, Some, None}
+use Rattle.std.proofs.Common.{ℕ, Bool, true, false, List, Option, Some, None}
 use Rattle.election.specs.Preparing.{row_10}
 use Rattle.election.specs.declared.election.Election.{Election}
 use Rattle.election.specs.declared.election.Election.TheVariants.{Preparing, Starting}
@@ -12,6 +12,8 @@ use Rattle.wire_frames.specs.declared.message.Message.TheVariants as messages
 use Rattle.phase_rows.specs.declared.phase.PhaseOut.{PhaseOut}
 use Rattle.phase_rows.specs.declared.phase.Then.{Then}
 use Rattle.phase_rows.specs.declared.phase.Then.TheVariants as thens
+use Rattle.phase_rows.specs.declared.rules.PhaseRule.{PhaseRule}
+use Rattle.phase_rows.specs.declared.rules.PhaseRule.TheVariants as phase_rules
 use Rattle.peer_plan.specs.Kept.{IsOwn, SyncsAs}
 use Rattle.peer_state.specs.Moves.{left, turned, stood, waiting_for}
 use Rattle.peer_state.specs.Rows.{runs_sync, aged, aged_election, leads, changes, wanting, asked_change, phase_row, received}
@@ -39,6 +41,7 @@ module _ (me : ℕ) where
   turned_syncs thens.Resume x asks = asks
   turned_syncs (thens.SyncOn fact) x asks = asks
   turned_syncs (thens.Rule n) x asks = asks
+  turned_syncs (thens.OnKeys n) x asks = asks
 
   pub left_own : (leave : Bool) (x : State) → IsOwn me x → IsOwn me (left leave x)
   left_own leave x own = (left_as me leave x own.0, left_syncs leave x own.1)
@@ -55,6 +58,7 @@ module _ (me : ℕ) where
   waiting_syncs thens.Untrust x asks = asks
   waiting_syncs thens.Put x asks = asks
   waiting_syncs (thens.Rule n) x asks = asks
+  waiting_syncs (thens.OnKeys n) x asks = asks
 
   stood_syncs : (election : Option Election) (x : State) → Asks x → Asks (stood election x)
   stood_syncs None x asks = asks
@@ -73,15 +77,14 @@ module _ (me : ℕ) where
   abbrev AsksStill : State × PhaseOut → Type 0
   AsksStill row = Asks row.0
 
-  pub phase_row_syncs : (n : ℕ) (x : State) → Asks x → Asks (phase_row n me x).0
-  phase_row_syncs n x asks =
-      either AsksStill (n == 7) _ _ tt
-      (either AsksStill (n == 9) _ _ (by_probing AsksStill x.phase (λ p is. asks) asks)
-      (either AsksStill (n == 10) _ _ (by_probing AsksStill x.phase (λ p is. stood_syncs (row_10 x.fact me p.best p.count).1 x asks) (by_leading AsksStill x.phase (λ l is. stood_syncs (row_10 x.fact me x.fact x.fact.ballot.count).1 x asks) asks))
-      (either AsksStill (n == 13) _ _ (by_electing AsksStill x.phase (λ e is. asks) asks)
-      (either AsksStill (n == 14) _ _ (by_electing AsksStill x.phase (λ e is. asks) asks)
-      (either AsksStill (n == 25) _ _ (by_leading AsksStill x.phase (λ l is. asks) asks)
-      (either AsksStill (n == 26) _ _ (by_leading AsksStill x.phase (λ l is. asks) asks) asks))))))
+  pub phase_row_syncs : (rule : PhaseRule) (x : State) → Asks x → Asks (phase_row rule me x).0
+  phase_row_syncs phase_rules.BeginProbing x asks = tt
+  phase_row_syncs phase_rules.EnoughHeard x asks = by_probing AsksStill x.phase (λ p is. asks) asks
+  phase_row_syncs phase_rules.Prepare x asks = by_probing AsksStill x.phase (λ p is. stood_syncs (row_10 x.fact me p.best p.count).1 x asks) (by_leading AsksStill x.phase (λ l is. stood_syncs (row_10 x.fact me x.fact x.fact.ballot.count).1 x asks) asks)
+  phase_row_syncs phase_rules.EnoughPromised x asks = by_electing AsksStill x.phase (λ e is. asks) asks
+  phase_row_syncs phase_rules.EnoughAccepted x asks = by_electing AsksStill x.phase (λ e is. asks) asks
+  phase_row_syncs phase_rules.BeginChange x asks = by_leading AsksStill x.phase (λ l is. asks) asks
+  phase_row_syncs phase_rules.EndEpoch x asks = by_leading AsksStill x.phase (λ l is. asks) asks
 
   aged_election_syncs : (e : Election) (x : State) → Asks x → Asks (aged_election e me x).0
   aged_election_syncs (Preparing base promises asked age) x asks = asks

@@ -1,5 +1,5 @@
 -- What a step adds to the outbox does not depend on what is in it.
-use Rattle.std.proofs.Common.{◌≡◌, ◌∙◌, ℕ, zero, suc, ◌==◌, Bool, true, false, if◌then◌else◌, List, [], ◌∷◌, ◌++◌, Option, Some, None, Ok, Err, refl, sym, ap, subst, inr}
+use Rattle.std.proofs.Common.{◌≡◌, ◌∙◌, ℕ, zero, suc, Bool, true, false, if◌then◌else◌, List, [], ◌∷◌, ◌++◌, Option, Some, None, Ok, Err, refl, sym, ap, subst, inr}
 use Rattle.std.proofs.Math.Path.{fun_ext}
 use Rattle.std.proofs.lemmas.List.{append_assoc}
 use Rattle.ens_base.specs.declared.entry.Entry.{Entry}
@@ -10,6 +10,7 @@ use Rattle.following.specs.Refusals.{is_served}
 use Rattle.following.specs.Requests.{row_21, row_22, row_23}
 use Rattle.kept_objects.specs.Kept.{entry_of, matching, object_in}
 use Rattle.leader_words.specs.declared.out.AnswerOut.{AnswerOut}
+use Rattle.leader_words.specs.Outs.{asked_by}
 use Rattle.leader_words.specs.declared.out.LeadOut.{LeadOut}
 use Rattle.leader_words.specs.declared.out.Outgoing.{Outgoing}
 use Rattle.leader_words.specs.declared.out.Own.{Own}
@@ -36,6 +37,7 @@ use Rattle.register_model.specs.declared.note.Note.{Note}
 use Rattle.step_plans.specs.Calls.{Call, Save, Find, Enter, ScanTree, ReadNode, Install, Fetch, Put, Hash, AnswerOf}
 use Rattle.step_plans.specs.Outboxes.{out_of}
 use Rattle.step_plans.specs.Plans.{Plan, Done, Say, Ask, Out, nothing, Rest, Part, Spot, Finished, Stopped, Runs, Did, asked, noted}
+use Rattle.step_plans.specs.Saved.{with_seal}
 use Rattle.step_plans.specs.Sends.{posted_to}
 use Rattle.step_plans.specs.Steps.{HasFinished}
 use Rattle.step_plans.specs.Tasks.{named, keyed}
@@ -53,8 +55,9 @@ use Rattle.phase_rows.specs.declared.phase.Seen.{Seen}
 use Rattle.phase_rows.specs.declared.phase.Seen.TheVariants as seens
 use Rattle.phase_rows.specs.declared.phase.Then.{Then}
 use Rattle.phase_rows.specs.declared.phase.Then.TheVariants as thens
+use Rattle.phase_rows.specs.declared.rules.PhaseRule.TheVariants as phase_rules
 use Rattle.peer_plan.specs.Drives.{performed, row_done, owned, own_key, followed_up, and_row, lead_done, lead, reminded, task_done, driven, ticked, shown, got, got_ask, after_put, put_done, put_in, get_replied, delivered, unavailable, called, and_change, first, responded, concluded, whole, step_of, most_turns}
-use Rattle.peer_plan.specs.Syncs.{saved, and_sends, with_sync, installed, accepted, accepted_own, accepted_in, synced, ended_with, gone_on, begun_sync, resumed_sync, followed_on, reached, own_node, body_of, shown_node, needs_node, taken_give, got_give}
+use Rattle.peer_plan.specs.Syncs.{saved, and_sends, with_sync, installed, accepted, accepted_own, accepted_in, end_sync, by_outcome, go_on, start_sync, resume_sync, followed_on, reached, own_node, body_of, shown_node, needs_node, take_give, tree_give}
 use Rattle.peer_state.specs.Leading.{row_5_calls, ticks, wished, begins}
 use Rattle.peer_state.specs.Moves.{left, left_answers, and_answers, timeouts, ends_leading, turned, turned_answers, leading, with_leader, electing, without_sync}
 use Rattle.peer_plan.specs.Owns.{digested, read, kept, fetched, held, looked_at, looked, found_at, found, entered, written, confirmed}
@@ -108,7 +111,7 @@ module _ (me : ℕ) (a : Out) where
   saved_frames : (save : Option Fact) → Frames (saved save)
   saved_frames None x out next later same = same tt x out
   saved_frames (Some fact) x out next later same =
-      asked_frames (Save fact) x out (λ u y o. next tt (record y { fact = fact }) o) (λ u y o. later tt (record y { fact = fact }) o)
+      asked_frames (Save (with_seal x.seal fact)) x out (λ u y o. next tt (record y { fact = fact }) o) (λ u y o. later tt (record y { fact = fact }) o)
       (λ u y o. same tt (record y { fact = fact }) o)
 
   performed_frames : (row : PhaseOut) → Frames (performed row)
@@ -124,7 +127,7 @@ module _ (me : ℕ) (a : Out) where
   installed_frames false entries x out next later same = same tt x out
 
   accepted_own_frames : (e : Election) → Frames (accepted_own me e)
-  accepted_own_frames (Starting new accepts age) x out next later same = same (tasks.Phase 14 ∷ []) (electing (Starting new (joined me accepts) age) x) out
+  accepted_own_frames (Starting new accepts age) x out next later same = same (tasks.Phase phase_rules.EnoughAccepted ∷ []) (electing (Starting new (joined me accepts) age) x) out
   accepted_own_frames (Preparing base promises sent age) x out next later same = same [] x out
 
   accepted_in_frames : (fact : Fact) (phase : Phase) → Frames (accepted_in me fact phase)
@@ -133,34 +136,35 @@ module _ (me : ℕ) (a : Out) where
   accepted_in_frames fact (phases.Probing p) x out next later same = same [] x out
   accepted_in_frames fact (phases.Leading l) x out next later same = same [] x out
 
-  synced_frames : (r : Running) (entries : List Entry) → Frames (synced me r entries)
-  synced_frames r entries x out next later same =
+  end_sync_frames : (r : Running) (entries : List Entry) → Frames (end_sync me r entries)
+  end_sync_frames r entries x out next later same =
       installed_frames (needs_build r.sync.scan entries) entries (without_sync x) out
       (λ u y o. saved (Some r.fact) y o (λ v z p. accepted_in me r.fact z.phase (record z { trusted = true }) p next))
       (λ u y o. saved (Some r.fact) y o (λ v z p. accepted_in me r.fact z.phase (record z { trusted = true }) p later))
       (λ u y o. saved_frames (Some r.fact) y o (λ v z p. accepted_in me r.fact z.phase (record z { trusted = true }) p next) (λ v z p. accepted_in me r.fact z.phase (record z { trusted = true }) p later)
       (λ v z p. accepted_in_frames r.fact z.phase (record z { trusted = true }) p next later same))
 
-  ended_with_frames : (r : Running) (outcome : Outcome) → Frames (ended_with me r outcome)
-  ended_with_frames r Pending x out next later same = same [] (with_sync r x) out
-  ended_with_frames r (Trusted entries) x out next later same = synced_frames r entries x out next later same
+  by_outcome_frames : (r : Running) (outcome : Outcome) → Frames (by_outcome me r outcome)
+  by_outcome_frames r Pending x out next later same = same [] (with_sync r x) out
+  by_outcome_frames r (Trusted entries) x out next later same = end_sync_frames r entries x out next later same
 
-  gone_on_frames : (r : Running × List Outgoing) → Frames (gone_on me r)
-  gone_on_frames r x out next later same = rw (sends_after out r.1) (ended_with_frames r.0 (outcome_of r.0.sync) x (and_sends out r.1) next later same)
+  go_on_frames : (r : Running × List Outgoing) → Frames (go_on me r)
+  go_on_frames r x out next later same = rw (sends_after out r.1) (by_outcome_frames r.0 (outcome_of r.0.sync) x (and_sends out r.1) next later same)
 
-  begun_sync_frames : (fact : Fact) → Frames (begun_sync me fact)
-  begun_sync_frames fact x out next later same =
-      asked_frames ScanTree x out (λ scan y o. gone_on me (row_start fact me y.trusted scan) y o next) (λ scan y o. gone_on me (row_start fact me y.trusted scan) y o later)
-      (λ scan y o. gone_on_frames (row_start fact me y.trusted scan) y o next later same)
+  start_sync_frames : (fact : Fact) → Frames (start_sync me fact)
+  start_sync_frames fact x out next later same =
+      asked_frames ScanTree x out (λ scan y o. go_on me (row_start fact me y.trusted scan) y o next) (λ scan y o. go_on me (row_start fact me y.trusted scan) y o later)
+      (λ scan y o. go_on_frames (row_start fact me y.trusted scan) y o next later same)
 
-  resumed_frames : (running : Option Running) → Frames (resumed_sync running)
+  resumed_frames : (running : Option Running) → Frames (resume_sync running)
   resumed_frames None x out next later same = same [] x out
   resumed_frames (Some r) x out next later same = rw (sends_after out (row_resume r).1) (same [] (with_sync (row_resume r).0 x) (and_sends out (row_resume r).1))
 
   followed_on_frames : (t : Then) → Frames (followed_on me t)
-  followed_on_frames (thens.SyncOn fact) x out next later same = begun_sync_frames fact x out next later same
+  followed_on_frames (thens.SyncOn fact) x out next later same = start_sync_frames fact x out next later same
   followed_on_frames thens.Resume x out next later same = resumed_frames x.sync x out next later same
   followed_on_frames (thens.Rule n) x out next later same = same (named (thens.Rule n)) x out
+  followed_on_frames (thens.OnKeys n) x out next later same = same [] x out
   followed_on_frames thens.Stay x out next later same = same [] x out
   followed_on_frames thens.Follow x out next later same = same [] x out
   followed_on_frames (thens.Lead fact) x out next later same = same [] x out
@@ -228,28 +232,28 @@ module _ (me : ℕ) (a : Out) where
       asked_frames (Hash (object_spelling o)) x out (λ digest y p. next (matching entry (Some (o, digest))) y p) (λ digest y p. later (matching entry (Some (o, digest))) y p)
       (λ digest y p. same (matching entry (Some (o, digest))) y p)
 
-  owned_frames : (n : ℕ) (own : Own) → Frames (owned n own)
-  owned_frames n (owns.Look key) x out next later same =
-      if_same (n == 28) _ _ _ _ (fetched_frames key x out next later same) (looked_frames key x out next later same)
-  owned_frames n (owns.Put o) x out next later same = written_frames o x out next later same
+  owned_frames : (own : Own) → Frames (owned own)
+  owned_frames (owns.Fetch key) x out next later same = fetched_frames key x out next later same
+  owned_frames (owns.Look key) x out next later same = looked_frames key x out next later same
+  owned_frames (owns.Put o) x out next later same = written_frames o x out next later same
 
-  followed_up_frames : (n : ℕ) (own : Option Own) (turn : Then) (keys : List (List ℕ)) → Frames (followed_up me n own turn keys)
-  followed_up_frames n None turn keys x out next later same =
+  followed_up_frames : (own : Option Own) (turn : Then) (keys : List (List ℕ)) → Frames (followed_up me own turn keys)
+  followed_up_frames None turn keys x out next later same =
       rw (left_after (ends_leading turn) x out) (same (keyed turn keys) (turned me turn x) (turned_answers turn x out))
-  followed_up_frames n (Some own) turn keys x out next later same =
-      owned_frames n own x out (λ seen y o. next (tasks.Again n (own_key own) seen ∷ []) y o) (λ seen y o. later (tasks.Again n (own_key own) seen ∷ []) y o)
-      (λ seen y o. same (tasks.Again n (own_key own) seen ∷ []) y o)
+  followed_up_frames (Some own) turn keys x out next later same =
+      owned_frames own x out (λ seen y o. next (tasks.Again (asked_by own) (own_key own) seen ∷ []) y o) (λ seen y o. later (tasks.Again (asked_by own) (own_key own) seen ∷ []) y o)
+      (λ seen y o. same (tasks.Again (asked_by own) (own_key own) seen ∷ []) y o)
 
-  lead_done_frames : (n : ℕ) (row : LeadOut) → Frames (lead_done me n row)
-  lead_done_frames n row x out next later same =
-      noted_same row.notes _ _ (rw (row_after row x out) (followed_up_frames n row.own row.then row.keys (left row.leave x) (and_row row x out) next later same))
+  lead_done_frames : (row : LeadOut) → Frames (lead_done me row)
+  lead_done_frames row x out next later same =
+      noted_same row.notes _ _ (rw (row_after row x out) (followed_up_frames row.own row.then row.keys (left row.leave x) (and_row row x out) next later same))
 
-  lead_frames : (row : Leader → Leader × LeadOut) (n : ℕ) (phase : Phase) → Frames (lead row me n phase)
-  lead_frames row n (phases.Leading l) x out next later same =
-      lead_done_frames n (row l.leader).1 (leading (with_leader (row l.leader).0 l) x) out next later same
-  lead_frames row n (phases.Following f) x out next later same = same [] x out
-  lead_frames row n (phases.Probing p) x out next later same = same [] x out
-  lead_frames row n (phases.Electing e) x out next later same = same [] x out
+  lead_frames : (row : Leader → Leader × LeadOut) (phase : Phase) → Frames (lead row me phase)
+  lead_frames row (phases.Leading l) x out next later same =
+      lead_done_frames (row l.leader).1 (leading (with_leader (row l.leader).0 l) x) out next later same
+  lead_frames row (phases.Following f) x out next later same = same [] x out
+  lead_frames row (phases.Probing p) x out next later same = same [] x out
+  lead_frames row (phases.Electing e) x out next later same = same [] x out
 
   reminded_frames : (phase : Phase) → Frames (reminded phase)
   reminded_frames (phases.Leading l) x out next later same =
@@ -259,10 +263,10 @@ module _ (me : ℕ) (a : Out) where
   reminded_frames (phases.Electing e) x out next later same = same [] x out
 
   task_done_frames : (t : Task) → Frames (task_done me t)
-  task_done_frames (tasks.Phase n) x out next later same =
-      if_same (n == 5) _ _ _ _ (reminded_frames x.phase x out next later same) (row_done_frames (phase_row n me x).1 (phase_row n me x).0 out next later same)
-  task_done_frames (tasks.Key n key) x out next later same = lead_frames (lead_row n key seens.Nothing) n x.phase x out next later same
-  task_done_frames (tasks.Again n key seen) x out next later same = lead_frames (lead_row n key seen) n x.phase x out next later same
+  task_done_frames (tasks.Phase n) x out next later same = row_done_frames (phase_row n me x).1 (phase_row n me x).0 out next later same
+  task_done_frames tasks.Remind x out next later same = reminded_frames x.phase x out next later same
+  task_done_frames (tasks.Key n key) x out next later same = lead_frames (lead_row n key seens.Nothing) x.phase x out next later same
+  task_done_frames (tasks.Again n key seen) x out next later same = lead_frames (lead_row n key seen) x.phase x out next later same
 
   driven_frames : (n : ℕ) (ts : List Task) → Frames (driven me n ts)
   unfolding driven
@@ -274,8 +278,8 @@ module _ (me : ℕ) (a : Out) where
 
   ticked_frames : (phase : Phase) → Frames (ticked me phase)
   ticked_frames (phases.Leading l) x out next later same =
-      lead_done_frames 5 (row_5_calls x.fact l).1 (leading (row_5_calls x.fact l).0 x) out (λ ts y o. next (ts ++ tasks.Phase 5 ∷ []) y o) (λ ts y o. later (ts ++ tasks.Phase 5 ∷ []) y o)
-      (λ ts y o. same (ts ++ tasks.Phase 5 ∷ []) y o)
+      lead_done_frames (row_5_calls x.fact l).1 (leading (row_5_calls x.fact l).0 x) out (λ ts y o. next (ts ++ tasks.Remind ∷ []) y o) (λ ts y o. later (ts ++ tasks.Remind ∷ []) y o)
+      (λ ts y o. same (ts ++ tasks.Remind ∷ []) y o)
   ticked_frames (phases.Following f) x out next later same = row_done_frames (aged (phases.Following f) me x).1 (aged (phases.Following f) me x).0 out next later same
   ticked_frames (phases.Probing p) x out next later same = row_done_frames (aged (phases.Probing p) me x).1 (aged (phases.Probing p) me x).0 out next later same
   ticked_frames (phases.Electing e) x out next later same = row_done_frames (aged (phases.Electing e) me x).1 (aged (phases.Electing e) me x).0 out next later same
@@ -307,9 +311,9 @@ module _ (me : ℕ) (a : Out) where
   get_replied_frames : (from : ℕ) (ballot : Epoch) (round : ℕ) (key : List ℕ) (entry : Option Entry) (object : Option Object) → Frames (get_replied me from ballot round key entry object)
   get_replied_frames from ballot round key entry object x out next later same =
       confirmed_frames entry object x out
-      (λ named y o. lead (row_29_reply from ballot round key entry named) me 29 y.phase y o next)
-      (λ named y o. lead (row_29_reply from ballot round key entry named) me 29 y.phase y o later)
-      (λ named y o. lead_frames (row_29_reply from ballot round key entry named) 29 y.phase y o next later same)
+      (λ named y o. lead (row_29_reply from ballot round key entry named) me y.phase y o next)
+      (λ named y o. lead (row_29_reply from ballot round key entry named) me y.phase y o later)
+      (λ named y o. lead_frames (row_29_reply from ballot round key entry named) y.phase y o next later same)
 
   shown_node_frames : (answered : Bool) (q : Question) → Frames (shown_node answered q)
   shown_node_frames true q x out next later same =
@@ -328,31 +332,31 @@ module _ (me : ℕ) (a : Out) where
       asked_frames (ReadNode at) x out (λ walked y o. next (reached walked) y o) (λ walked y o. later (reached walked) y o) (λ walked y o. same (reached walked) y o)
   own_node_frames false at x out next later same = same None x out
 
-  taken_give_frames : (from : ℕ) (give : Give) (own : Option (List ℕ)) (running : Option Running) → Frames (taken_give me from give own running)
-  taken_give_frames from give own None x out next later same = same [] x out
-  taken_give_frames from give own (Some r) x out next later same = gone_on_frames (row_take from give own r) x out next later same
+  take_give_frames : (from : ℕ) (give : Give) (own : Option (List ℕ)) (running : Option Running) → Frames (take_give me from give own running)
+  take_give_frames from give own None x out next later same = same [] x out
+  take_give_frames from give own (Some r) x out next later same = go_on_frames (row_take from give own r) x out next later same
 
-  got_give_frames : (from : ℕ) (give : Give) → Frames (got_give me from give)
-  got_give_frames from give x out next later same =
+  tree_give_frames : (from : ℕ) (give : Give) → Frames (tree_give me from give)
+  tree_give_frames from give x out next later same =
       own_node_frames (needs_node from give x.sync) give.question.position x out
-      (λ own y o. taken_give me from give own y.sync y o next) (λ own y o. taken_give me from give own y.sync y o later)
-      (λ own y o. taken_give_frames from give own y.sync y o next later same)
+      (λ own y o. take_give me from give own y.sync y o next) (λ own y o. take_give me from give own y.sync y o later)
+      (λ own y o. take_give_frames from give own y.sync y o next later same)
 
   delivered_frames : (from : ℕ) (message : Message) → Frames (delivered me from message)
   delivered_frames from (messages.Get ballot round key) x out next later same = got_frames from ballot round key x out next later same
   delivered_frames from (messages.Put ballot o) x out next later same = put_in_frames from ballot o x out next later same
   delivered_frames from (messages.GetReply ballot round key entry object) x out next later same =
       if_same (leads x.phase) _ _ _ _ (get_replied_frames from ballot round key entry object x out next later same) (same [] x out)
-  delivered_frames from (messages.PutReply ballot key version) x out next later same = lead_frames (row_35_reply from ballot key version) 35 x.phase x out next later same
-  delivered_frames from (messages.CheckReply ballot round) x out next later same = lead_frames (row_33_reply from ballot round) 33 x.phase x out next later same
+  delivered_frames from (messages.PutReply ballot key version) x out next later same = lead_frames (row_35_reply from ballot key version) x.phase x out next later same
+  delivered_frames from (messages.CheckReply ballot round) x out next later same = lead_frames (row_33_reply from ballot round) x.phase x out next later same
   delivered_frames from (messages.TreeAsk ballot at after) x out next later same = got_ask_frames from ballot (record { position = at; after = after }) x out next later same
   delivered_frames from (messages.TreeGive ballot at after trusted body) x out next later same =
-      got_give_frames from (record { ballot = ballot; question = record { position = at; after = after }; trusted = trusted; body = body }) x out next later same
+      tree_give_frames from (record { ballot = ballot; question = record { position = at; after = after }; trusted = trusted; body = body }) x out next later same
   delivered_frames from message x out next later same = row_done_frames (received me from message x).1 (received me from message x).0 out next later same
 
   called_frames : (call : CallIn) → Frames (called me call)
   called_frames call x out next later same =
-      if_same (leads x.phase) _ _ _ _ (lead_frames (row_27 call.from call.id call.key call.command (changes x.phase)) 27 x.phase x out next later same)
+      if_same (leads x.phase) _ _ _ _ (lead_frames (row_27 call.from call.id call.key call.command (changes x.phase)) x.phase x out next later same)
       (rw (answers_after out (unavailable call ∷ [])) (same [] x (and_answers out (unavailable call ∷ []))))
 
   first_frames : (event : Event) → Frames (first me event)
@@ -373,7 +377,7 @@ module _ (me : ℕ) (a : Out) where
   responded_frames event x out next later same = first_frames event x out (onward next) (onward later) (onward_same next later same)
 
   concluded_frames : Frames (concluded me)
-  concluded_frames x out next later same = task_done_frames (tasks.Phase 26) x out (onward next) (onward later) (onward_same next later same)
+  concluded_frames x out next later same = task_done_frames (tasks.Phase phase_rules.EndEpoch) x out (onward next) (onward later) (onward_same next later same)
 
   whole_frames : (event : Event) → Frames (whole me event)
   whole_frames event x out next later same =

@@ -27,6 +27,7 @@ use Rattle.wire_frames.specs.declared.message.Message.{Message}
 use Rattle.wire_frames.specs.declared.message.Message.TheVariants as messages
 use Rattle.phase_rows.specs.declared.phase.PhaseOut.{PhaseOut}
 use Rattle.phase_rows.specs.declared.phase.Then.TheVariants as thens
+use Rattle.phase_rows.specs.declared.rules.PhaseRule.TheVariants as phase_rules
 use Rattle.peer_plan.specs.Drives.{row_done, delivered, responded, driven, concluded, most_turns, step_of, MayCome}
 use Rattle.peer_plan.specs.Syncs.{and_sends}
 use Rattle.peer_plan.specs.Kept.{IsStepCall}
@@ -106,8 +107,8 @@ received_ends me from (messages.Check ballot round) x is = either EndsStep (is_b
 received_ends me from other x is = absurd is
 
 -- no leader is to end its epoch, so rule 26 does nothing
-pub last_free : (o : Outbox) (me : ℕ) (x : State) → IsSteady x → IsFreeTask o me (OnPhase 26) x
-last_free o me x steady = (λ e. absurd (omega (arith, e)), subst (λ r. IsFreeRow o r.0.phase r.1) (sym (while_26_silent x.phase me x steady)) (stay_free o x.phase))
+pub last_free : (o : Outbox) (me : ℕ) (x : State) → IsSteady x → IsFreeTask o me (OnPhase phase_rules.EndEpoch) x
+last_free o me x steady = subst (λ r. IsFreeRow o r.0.phase r.1) (sym (while_26_silent x.phase me x steady)) (stay_free o x.phase)
 
 one_more : (from : ℕ) (message : Message) (sends : List Outgoing) → IsPeer from → length (sends ++ posted (holds (alone from)) (λ p. message) 31) ≤ length sends + 1
 one_more from message sends peer = rw (posted_alone from message peer) (omega (arith, length-append sends (record { to = from; message = message } ∷ [])))

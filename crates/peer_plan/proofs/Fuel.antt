@@ -1,5 +1,5 @@
 -- Why no task is left at the end of a step: each task lowers the number of tasks that can still run.
-use Rattle.std.proofs.Common.{◌≡◌, ◌≤◌, ◌<◌, ◌+◌, ◌*◌, ◌^◌, ◌==◌, ◌&&◌, lit<, lit≤, mul-suc, mul-zero, ap, refl, sym, arith, length, map, ℕ, zero, suc, Bool, true, false, if◌then◌else◌, List, [], ◌∷◌, ◌++◌, Option, Some, None}
+use Rattle.std.proofs.Common.{◌≡◌, ◌≤◌, ◌<◌, ◌+◌, ◌*◌, ◌^◌, ◌==◌, ◌&&◌, lit<, lit≤, mul-suc, mul-zero, ap, refl, sym, arith, length, map, ℕ, zero, suc, Bool, true, false, List, [], ◌∷◌, ◌++◌, Option, Some, None}
 use Rattle.call_table.specs.Calls.{has_calls}
 use Rattle.ens_base.specs.declared.entry.Entry.{Entry}
 use Rattle.ens_base.specs.declared.epoch.Epoch.{Epoch}
@@ -13,6 +13,7 @@ use Rattle.following.specs.Refusals.{is_served}
 use Rattle.following.specs.Requests.{row_21, row_22, row_23}
 use Rattle.kept_objects.specs.Kept.{entry_of, matching}
 use Rattle.ens_object.specs.Objects.{object_spelling}
+use Rattle.leader_words.specs.Outs.{asked_by}
 use Rattle.leader_words.specs.declared.out.LeadOut.{LeadOut}
 use Rattle.leader_words.specs.declared.out.Own.{Own}
 use Rattle.leader_words.specs.declared.out.Own.TheVariants as owns
@@ -26,7 +27,7 @@ use Rattle.leading.specs.declared.leader.Leader.{Leader}
 use Rattle.leading.specs.declared.pending.Pending.{Pending}
 use Rattle.leading.specs.declared.pending.Pending.TheVariants as pendings
 use Rattle.leading.proofs.Joins.{row_27_joins}
-use Rattle.leading.proofs.Steps.{lead_step, row_29_reply_step, row_33_reply_step, row_35_reply_step}
+use Rattle.leading.proofs.Steps.{lead_step, row_29_reply_step, row_33_reply_step, row_35_reply_step, some_turns as some_key_turns}
 use Rattle.leading.proofs.TimeOuts.{row_5_ticks}
 use Rattle.peer_fact.specs.declared.fact.Change.{Change}
 use Rattle.peer_fact.specs.declared.fact.Change.TheVariants.{Add}
@@ -58,12 +59,15 @@ use Rattle.phase_rows.specs.declared.phase.Seen.{Seen}
 use Rattle.phase_rows.specs.declared.phase.Seen.TheVariants as seens
 use Rattle.phase_rows.specs.declared.phase.Then.{Then}
 use Rattle.phase_rows.specs.declared.phase.Then.TheVariants as thens
+use Rattle.phase_rows.specs.declared.rules.PhaseRule.TheVariants as phase_rules
+use Rattle.phase_rows.specs.declared.rules.KeyRule.{KeyRule}
+use Rattle.phase_rows.specs.declared.rules.PhaseRule.{PhaseRule}
 use Rattle.peer_plan.specs.Drives.{row_done, owned, own_key, followed_up, and_row, lead_done, lead, reminded, task_done, driven, led_in, after_put, put_done, delivered, unavailable, and_change, first, most_turns}
-use Rattle.peer_plan.specs.Syncs.{saved, and_sends, with_sync, accepted, accepted_own, accepted_in, ended_with, gone_on, resumed_sync, followed_on, needs_node, taken_give}
+use Rattle.peer_plan.specs.Syncs.{saved, and_sends, with_sync, accepted, accepted_own, accepted_in, by_outcome, go_on, resume_sync, followed_on, needs_node, take_give}
 use Rattle.peer_state.specs.Leading.{older, end_of, row_5_calls, wished, begins}
 use Rattle.peer_state.specs.Moves.{stopped_leading, without_candidacy, left, left_answers, turned, turned_answers, stood, leading, with_leader, and_answers, electing, without_sync, waiting_phase, waiting_for}
 use Rattle.peer_plan.specs.Owns.{looked, looked_at, held, fetched, found, written, entered}
-use Rattle.peer_state.specs.Rows.{runs_sync, aged, aged_election, begun, while_9, prepared, while_10, while_13, while_14, accepted_by, leads, changes, wanting, asked_change, finishing, begun_change, while_25, ended, while_26, phase_row, received}
+use Rattle.peer_state.specs.Rows.{runs_sync, aged, aged_election, prepared, accepted_by, leads, changes, wanting, asked_change, finishing, begun_change, ended, phase_row, received}
 use Rattle.peer_plan.specs.Turns.{StepsAlone, IsFineAtNone, HasFewCalls}
 use Rattle.peer_state.specs.declared.event.Event.{Event}
 use Rattle.peer_state.specs.declared.event.Event.TheVariants as events
@@ -81,19 +85,18 @@ use Rattle.peer_state.proofs.Phases.{by_probing, by_electing, by_leading}
 -- ## The measure
 
 -- the most tasks that run from the rule of a phase on, itself among them
-abbrev phase_turns : ℕ → ℕ
-phase_turns n =
-    if n == 5 then 2
-    else (if n == 7 then 5
-    else (if n == 9 then 4
-    else (if n == 10 then 3
-    else (if n == 13 then 2
-    else (if n == 14 then 1
-    else (if n == 25 then 1
-    else (if n == 26 then 4 else 1)))))))
+abbrev phase_turns : PhaseRule → ℕ
+phase_turns phase_rules.BeginProbing = 5
+phase_turns phase_rules.EnoughHeard = 4
+phase_turns phase_rules.Prepare = 3
+phase_turns phase_rules.EnoughPromised = 2
+phase_turns phase_rules.EnoughAccepted = 1
+phase_turns phase_rules.BeginChange = 1
+phase_turns phase_rules.EndEpoch = 4
 
 abbrev turns_for : Task → ℕ
 turns_for (tasks.Phase n) = phase_turns n
+turns_for tasks.Remind = 2
 turns_for (tasks.Key n key) = turns_of n
 turns_for (tasks.Again n key seen) = turns_seen n seen
 
@@ -115,19 +118,20 @@ turns_more : (more ts : List Task) → turns (more ++ ts) ≡ turns more + turns
 turns_more [] ts = plus_none (turns ts)
 turns_more (t ∷ more) ts = let rest = turns_more more ts in omega (arith, rest)
 
-turns_keys : (m : ℕ) (keys : List (List ℕ)) → turns (map (tasks.Key m) keys) ≡ turns_of m * length keys
+turns_keys : (m : KeyRule) (keys : List (List ℕ)) → turns (map (tasks.Key m) keys) ≡ turns_of m * length keys
 turns_keys m [] = sym (mul-zero (turns_of m))
 turns_keys m (key ∷ keys) = let rest = turns_keys m keys in let one = mul-suc (turns_of m) (length keys) in omega (arith, rest, one)
 
-turns_keyed : (n : ℕ) (turn : Then) (keys : List (List ℕ)) → turns (keyed turn keys) ≡ turns_next n None turn keys
-turns_keyed n (thens.Rule m) keys = turns_keys m keys
-turns_keyed n thens.Stay keys = refl
-turns_keyed n thens.Follow keys = refl
-turns_keyed n (thens.Lead fact) keys = refl
-turns_keyed n thens.Untrust keys = refl
-turns_keyed n thens.Put keys = refl
-turns_keyed n thens.Resume keys = refl
-turns_keyed n (thens.SyncOn fact) keys = refl
+turns_keyed : (turn : Then) (keys : List (List ℕ)) → turns (keyed turn keys) ≡ turns_next None turn keys
+turns_keyed (thens.OnKeys m) keys = turns_keys m keys
+turns_keyed (thens.Rule m) keys = refl
+turns_keyed thens.Stay keys = refl
+turns_keyed thens.Follow keys = refl
+turns_keyed (thens.Lead fact) keys = refl
+turns_keyed thens.Untrust keys = refl
+turns_keyed thens.Put keys = refl
+turns_keyed thens.Resume keys = refl
+turns_keyed (thens.SyncOn fact) keys = refl
 
 -- something was seen of the stores
 abbrev IsSeen : Seen → Type 0
@@ -137,50 +141,41 @@ IsSeen (seens.Held entry object) = Unit {0}
 IsSeen (seens.Kept object) = Unit {0}
 IsSeen (seens.Stored digest) = Unit {0}
 
-seen_turns : (n : ℕ) (seen : Seen) → IsSeen seen → turns_seen n seen ≡ turns_again n
-seen_turns n seens.Nothing is = absurd is
-seen_turns n (seens.Damaged at) is = refl
-seen_turns n (seens.Held entry object) is = refl
-seen_turns n (seens.Kept object) is = refl
-seen_turns n (seens.Stored digest) is = refl
+seen_turns : (rule : KeyRule) (seen : Seen) → IsSeen seen → turns_seen rule seen ≡ turns_again rule
+seen_turns rule seens.Nothing is = absurd is
+seen_turns rule (seens.Damaged at) is = refl
+seen_turns rule (seens.Held entry object) is = refl
+seen_turns rule (seens.Kept object) is = refl
+seen_turns rule (seens.Stored digest) is = refl
 
-some_of : (n : ℕ) → 0 < turns_of n
-some_of n =
-    either (λ (k : ℕ). 0 < k) (n == 28) _ _ (lit< tt) (either (λ (k : ℕ). 0 < k) (n == 29) _ _ (lit< tt) (either (λ (k : ℕ). 0 < k) (n == 30) _ _ (lit< tt)
-    (either (λ (k : ℕ). 0 < k) (n == 31) _ _ (lit< tt) (either (λ (k : ℕ). 0 < k) (n == 32) _ _ (lit< tt) (either (λ (k : ℕ). 0 < k) (n == 33) _ _ (lit< tt)
-    (either (λ (k : ℕ). 0 < k) (n == 34) _ _ (lit< tt) (either (λ (k : ℕ). 0 < k) (n == 35) _ _ (lit< tt) (either (λ (k : ℕ). 0 < k) (n == 36) _ _ (lit< tt) (lit< tt)))))))))
+phase_few : (rule : PhaseRule) → phase_turns rule + 0 < 26
+phase_few phase_rules.BeginProbing = lit< tt
+phase_few phase_rules.EnoughHeard = lit< tt
+phase_few phase_rules.Prepare = lit< tt
+phase_few phase_rules.EnoughPromised = lit< tt
+phase_few phase_rules.EnoughAccepted = lit< tt
+phase_few phase_rules.BeginChange = lit< tt
+phase_few phase_rules.EndEpoch = lit< tt
 
-some_again : (n : ℕ) → 0 < turns_again n
-some_again n =
-    either (λ (k : ℕ). 0 < k) (n == 28) _ _ (lit< tt) (either (λ (k : ℕ). 0 < k) (n == 29) _ _ (lit< tt) (either (λ (k : ℕ). 0 < k) (n == 35) _ _ (lit< tt) (some_of n)))
-
-some_seen : (n : ℕ) (seen : Seen) → 0 < turns_seen n seen
-some_seen n seens.Nothing = some_of n
-some_seen n (seens.Damaged at) = some_again n
-some_seen n (seens.Held entry object) = some_again n
-some_seen n (seens.Kept object) = some_again n
-some_seen n (seens.Stored digest) = some_again n
-
-phase_few : (n : ℕ) → phase_turns n + 0 < 26
-phase_few n =
-    either (λ (k : ℕ). k + 0 < 26) (n == 5) _ _ (lit< tt) (either (λ (k : ℕ). k + 0 < 26) (n == 7) _ _ (lit< tt) (either (λ (k : ℕ). k + 0 < 26) (n == 9) _ _ (lit< tt)
-    (either (λ (k : ℕ). k + 0 < 26) (n == 10) _ _ (lit< tt) (either (λ (k : ℕ). k + 0 < 26) (n == 13) _ _ (lit< tt) (either (λ (k : ℕ). k + 0 < 26) (n == 14) _ _ (lit< tt)
-    (either (λ (k : ℕ). k + 0 < 26) (n == 25) _ _ (lit< tt) (either (λ (k : ℕ). k + 0 < 26) (n == 26) _ _ (lit< tt) (lit< tt))))))))
-
-phase_some : (n : ℕ) → 0 < phase_turns n
-phase_some n =
-    either (λ (k : ℕ). 0 < k) (n == 5) _ _ (lit< tt) (either (λ (k : ℕ). 0 < k) (n == 7) _ _ (lit< tt) (either (λ (k : ℕ). 0 < k) (n == 9) _ _ (lit< tt)
-    (either (λ (k : ℕ). 0 < k) (n == 10) _ _ (lit< tt) (either (λ (k : ℕ). 0 < k) (n == 13) _ _ (lit< tt) (either (λ (k : ℕ). 0 < k) (n == 14) _ _ (lit< tt)
-    (either (λ (k : ℕ). 0 < k) (n == 25) _ _ (lit< tt) (either (λ (k : ℕ). 0 < k) (n == 26) _ _ (lit< tt) (lit< tt))))))))
+phase_some : (rule : PhaseRule) → 0 < phase_turns rule
+phase_some phase_rules.BeginProbing = lit< tt
+phase_some phase_rules.EnoughHeard = lit< tt
+phase_some phase_rules.Prepare = lit< tt
+phase_some phase_rules.EnoughPromised = lit< tt
+phase_some phase_rules.EnoughAccepted = lit< tt
+phase_some phase_rules.BeginChange = lit< tt
+phase_some phase_rules.EndEpoch = lit< tt
 
 some_turns : (t : Task) → 0 < turns_for t
 some_turns (tasks.Phase n) = phase_some n
-some_turns (tasks.Key n key) = some_of n
-some_turns (tasks.Again n key seen) = some_seen n seen
+some_turns tasks.Remind = lit< tt
+some_turns (tasks.Key n key) = some_key_turns n seens.Nothing
+some_turns (tasks.Again n key seen) = some_key_turns n seen
 
 -- the most tasks that run after a row: those of the rule that it names, or rule 14 after a sync
 abbrev then_turns : Then → ℕ
 then_turns (thens.Rule n) = phase_turns n + 0
+then_turns (thens.OnKeys n) = 0
 then_turns thens.Stay = 0
 then_turns thens.Follow = 0
 then_turns (thens.Lead fact) = 0
@@ -192,6 +187,7 @@ then_turns (thens.SyncOn fact) = 1
 -- what a row names takes fewer turns than any row of an event may
 named_few : (t : Then) → then_turns t < 26
 named_few (thens.Rule n) = phase_few n
+named_few (thens.OnKeys n) = lit< tt
 named_few thens.Stay = lit< tt
 named_few thens.Follow = lit< tt
 named_few (thens.Lead fact) = lit< tt
@@ -200,14 +196,15 @@ named_few thens.Put = lit< tt
 named_few thens.Resume = lit< tt
 named_few (thens.SyncOn fact) = lit< tt
 
-named_rule : (r m k : ℕ) → r ≡ m → phase_turns m < k → phase_turns r + 0 < k
+named_rule : (r m : PhaseRule) (k : ℕ) → r ≡ m → phase_turns m < k → phase_turns r + 0 < k
 named_rule r m k is less = rw is (omega (arith, less))
 
 after_some : (m k : ℕ) → 0 < m → m < k → 1 < k
 after_some m k some less = omega (arith, some, less)
 
-named_only : (m k : ℕ) (t : Then) → NamesOnly m t → phase_turns m < k → then_turns t < k
+named_only : (m : PhaseRule) (k : ℕ) (t : Then) → NamesOnly m t → phase_turns m < k → then_turns t < k
 named_only m k (thens.Rule r) is less = named_rule r m k is less
+named_only m k (thens.OnKeys n) is less = omega (arith, less)
 named_only m k thens.Stay is less = omega (arith, less)
 named_only m k thens.Follow is less = omega (arith, less)
 named_only m k (thens.Lead fact) is less = omega (arith, less)
@@ -218,6 +215,7 @@ named_only m k (thens.SyncOn fact) is less = after_some (phase_turns m) k (phase
 
 named_none : (t : Then) → NamesNone t → then_turns t < 1
 named_none (thens.Rule r) is = absurd is
+named_none (thens.OnKeys n) is = lit< tt
 named_none thens.Stay is = lit< tt
 named_none thens.Follow is = lit< tt
 named_none (thens.Lead fact) is = lit< tt
@@ -263,6 +261,7 @@ turned_owed me thens.Put x = owed_self (owed x.phase)
 turned_owed me thens.Resume x = owed_self (owed x.phase)
 turned_owed me (thens.SyncOn fact) x = owed_self (owed x.phase)
 turned_owed me (thens.Rule n) x = owed_self (owed x.phase)
+turned_owed me (thens.OnKeys n) x = owed_self (owed x.phase)
 
 waiting_phase_owed : (phase : Phase) → owed (waiting_phase phase) ≤ owed phase
 waiting_phase_owed (phases.Leading l) = owed_self (weight l.leader)
@@ -279,6 +278,7 @@ waiting_owed (thens.Lead fact) x = owed_self (owed x.phase)
 waiting_owed thens.Untrust x = owed_self (owed x.phase)
 waiting_owed thens.Put x = owed_self (owed x.phase)
 waiting_owed (thens.Rule n) x = owed_self (owed x.phase)
+waiting_owed (thens.OnKeys n) x = owed_self (owed x.phase)
 
 -- the row owes no more than before, where this phase owed no more
 abbrev OwesNoMore : State → State × PhaseOut → Type 0
@@ -303,15 +303,14 @@ begun_change_owes (Finishes f) l fact me = owed_self (weight l.leader)
 led_less : (l : Leadership) (x : State) → x.phase ≡ phases.Leading l → weight l.leader ≤ owed x.phase
 led_less l x is = rw is (owed_self (weight l.leader))
 
-phase_row_owes : (n me : ℕ) (x : State) → OwesNoMore x (phase_row n me x)
-phase_row_owes n me x =
-    either (OwesNoMore x) (n == 7) _ _ (owed_none (owed x.phase))
-    (either (OwesNoMore x) (n == 9) _ _ (by_probing (OwesNoMore x) x.phase (λ p is. owed_none (owed x.phase)) (same_owed x))
-    (either (OwesNoMore x) (n == 10) _ _ (by_probing (OwesNoMore x) x.phase (λ p is. stood_owes (row_10 x.fact me p.best p.count).1 x) (by_leading (OwesNoMore x) x.phase (λ l is. stood_owes (row_10 x.fact me x.fact x.fact.ballot.count).1 x) (same_owed x)))
-    (either (OwesNoMore x) (n == 13) _ _ (by_electing (OwesNoMore x) x.phase (λ e is. owed_none (owed x.phase)) (same_owed x))
-    (either (OwesNoMore x) (n == 14) _ _ (by_electing (OwesNoMore x) x.phase (λ e is. owed_none (owed x.phase)) (same_owed x))
-    (either (OwesNoMore x) (n == 25) _ _ (by_leading (OwesNoMore x) x.phase (λ l is. let still = begun_change_owes l.change l x.fact me in let leads = led_less l x is in omega (arith, leads, still)) (same_owed x))
-    (either (OwesNoMore x) (n == 26) _ _ (by_leading (OwesNoMore x) x.phase (λ l is. same_owed x) (same_owed x)) (same_owed x)))))))
+phase_row_owes : (rule : PhaseRule) (me : ℕ) (x : State) → OwesNoMore x (phase_row rule me x)
+phase_row_owes phase_rules.BeginProbing me x = owed_none (owed x.phase)
+phase_row_owes phase_rules.EnoughHeard me x = by_probing (OwesNoMore x) x.phase (λ p is. owed_none (owed x.phase)) (same_owed x)
+phase_row_owes phase_rules.Prepare me x = by_probing (OwesNoMore x) x.phase (λ p is. stood_owes (row_10 x.fact me p.best p.count).1 x) (by_leading (OwesNoMore x) x.phase (λ l is. stood_owes (row_10 x.fact me x.fact x.fact.ballot.count).1 x) (same_owed x))
+phase_row_owes phase_rules.EnoughPromised me x = by_electing (OwesNoMore x) x.phase (λ e is. owed_none (owed x.phase)) (same_owed x)
+phase_row_owes phase_rules.EnoughAccepted me x = by_electing (OwesNoMore x) x.phase (λ e is. owed_none (owed x.phase)) (same_owed x)
+phase_row_owes phase_rules.BeginChange me x = by_leading (OwesNoMore x) x.phase (λ l is. let still = begun_change_owes l.change l x.fact me in let leads = led_less l x is in omega (arith, leads, still)) (same_owed x)
+phase_row_owes phase_rules.EndEpoch me x = by_leading (OwesNoMore x) x.phase (λ l is. same_owed x) (same_owed x)
 
 received_owes : (me from : ℕ) (message : Message) (x : State) → OwesNoMore x (received me from message x)
 received_owes me from messages.Probe x = same_owed x
@@ -349,33 +348,25 @@ asked_owes view x = either (λ (y : State). owed y.phase ≤ owed x.phase) (row_
 
 -- ## The rows of rules name rules that take fewer turns
 
--- what holds of both pairs of branches holds of the pair of choices
-each : (R : ℕ → State × PhaseOut → Type 0) (t : Bool) (a b : ℕ) (p q : State × PhaseOut) → R a p → R b q → R (if t then a else b) (if t then p else q)
-each R true a b p q first second = first
-each R false a b p q first second = second
-
 abbrev NamesFewer : ℕ → State × PhaseOut → Type 0
 NamesFewer k r = then_turns r.1.then < k
 
 prepared_names : (me : ℕ) (best : Fact) (count : ℕ) (x : State) → NamesFewer 3 (prepared me best count x)
-prepared_names me best count x = named_only 13 3 (row_10 x.fact me best count).0.then (then_10 x.fact me best count) (lit< tt)
+prepared_names me best count x = named_only phase_rules.EnoughPromised 3 (row_10 x.fact me best count).0.then (then_10 x.fact me best count) (lit< tt)
 
-later_names : (n me : ℕ) (x : State)
-    → NamesFewer (if n == 7 then 5 else (if n == 9 then 4 else (if n == 10 then 3 else (if n == 13 then 2 else (if n == 14 then 1 else (if n == 25 then 1 else (if n == 26 then 4 else 1))))))) (phase_row n me x)
-later_names n me x =
-    each NamesFewer (n == 7) 5 _ (begun me x) _ (lit< tt)
-    (each NamesFewer (n == 9) 4 _ (while_9 x.phase x) _ (by_probing (NamesFewer 4) x.phase (λ p is. named_only 10 4 (row_9 p).1.then (then_9 p) (lit< tt)) (lit< tt))
-    (each NamesFewer (n == 10) 3 _ (while_10 x.phase me x) _ (by_probing (NamesFewer 3) x.phase (λ p is. prepared_names me p.best p.count x) (by_leading (NamesFewer 3) x.phase (λ l is. prepared_names me x.fact x.fact.ballot.count x) (lit< tt)))
-    (each NamesFewer (n == 13) 2 _ (while_13 x.phase me x) _ (by_electing (NamesFewer 2) x.phase (λ e is. named_only 14 2 (row_13 e x.fact me x.trusted).1.then (then_13 e x.fact me x.trusted) (lit< tt)) (lit< tt))
-    (each NamesFewer (n == 14) 1 _ (while_14 x.phase me x) _ (by_electing (NamesFewer 1) x.phase (λ e is. named_none (row_14 e me).1.then (then_14 e me)) (lit< tt))
-    (each NamesFewer (n == 25) 1 _ (while_25 x.phase me x) _ (by_leading (NamesFewer 1) x.phase (λ l is. named_none (begun_change l.change l x.fact me).1.then (then_changed l.change l x.fact me)) (lit< tt))
-    (each NamesFewer (n == 26) 4 1 (while_26 x.phase me x) _ (by_leading (NamesFewer 4) x.phase (λ l is. named_only 10 4 (ended l.change x.fact me (has_calls l.leader.table.calls)).then (then_ended l.change x.fact me (has_calls l.leader.table.calls)) (lit< tt)) (lit< tt)) (lit< tt)))))))
-
-phase_row_names : (n me : ℕ) (x : State) → (n == 5) ≡ false → NamesFewer (phase_turns n) (phase_row n me x)
-phase_row_names n me x e = rw e (later_names n me x)
-
-five_turns : (n : ℕ) → (n == 5) ≡ true → phase_turns n ≡ 2
-five_turns n e = rw e refl
+phase_row_names : (rule : PhaseRule) (me : ℕ) (x : State) → NamesFewer (phase_turns rule) (phase_row rule me x)
+phase_row_names phase_rules.BeginProbing me x = lit< tt
+phase_row_names phase_rules.EnoughHeard me x = by_probing (NamesFewer 4) x.phase (λ p is. named_only phase_rules.Prepare 4 (row_9 p).1.then (then_9 p) (lit< tt)) (lit< tt)
+phase_row_names phase_rules.Prepare me x =
+    by_probing (NamesFewer 3) x.phase (λ p is. prepared_names me p.best p.count x) (by_leading (NamesFewer 3) x.phase (λ l is. prepared_names me x.fact x.fact.ballot.count x) (lit< tt))
+phase_row_names phase_rules.EnoughPromised me x =
+    by_electing (NamesFewer 2) x.phase (λ e is. named_only phase_rules.EnoughAccepted 2 (row_13 e x.fact me x.trusted).1.then (then_13 e x.fact me x.trusted) (lit< tt)) (lit< tt)
+phase_row_names phase_rules.EnoughAccepted me x = by_electing (NamesFewer 1) x.phase (λ e is. named_none (row_14 e me).1.then (then_14 e me)) (lit< tt)
+phase_row_names phase_rules.BeginChange me x =
+    by_leading (NamesFewer 1) x.phase (λ l is. named_none (begun_change l.change l x.fact me).1.then (then_changed l.change l x.fact me)) (lit< tt)
+phase_row_names phase_rules.EndEpoch me x =
+    by_leading (NamesFewer 4) x.phase
+    (λ l is. named_only phase_rules.Prepare 4 (ended l.change x.fact me (has_calls l.leader.table.calls)).then (then_ended l.change x.fact me (has_calls l.leader.table.calls)) (lit< tt)) (lit< tt)
 
 -- ## Each part of a step
 
@@ -395,14 +386,14 @@ Lowers k x next = (ts : List Task) (y : State) (o : Out) → turns ts + owed y.p
 none_then : (k u : ℕ) → 0 < k → 0 + u < k + u
 none_then k u some = omega (arith, some)
 
-fourteen_then : (k u : ℕ) → 1 < k → 1 + 0 + 0 < k + u
-fourteen_then k u some = omega (arith, some)
+accepted_then : (k u : ℕ) → 1 < k → 1 + 0 + 0 < k + u
+accepted_then k u some = omega (arith, some)
 
 some_then : (t k : ℕ) → t < k → 0 < k
 some_then t k less = omega (arith, less)
 
 accepted_own_lowers : (me k : ℕ) → 1 < k → (e : Election) (x : State) (out : Out) (next : Rest State (List Task)) → Lowers k x next → StepsAlone (accepted_own me e x out next)
-accepted_own_lowers me k some (Starting new accepts age) x out next go = go (tasks.Phase 14 ∷ []) (electing (Starting new (joined me accepts) age) x) out (fourteen_then k (owed x.phase) some)
+accepted_own_lowers me k some (Starting new accepts age) x out next go = go (tasks.Phase phase_rules.EnoughAccepted ∷ []) (electing (Starting new (joined me accepts) age) x) out (accepted_then k (owed x.phase) some)
 accepted_own_lowers me k some (Preparing base promises sent age) x out next go = go [] x out (none_then k (owed x.phase) (some_then 1 k some))
 
 accepted_in_lowers : (me k : ℕ) → 1 < k → (fact : Fact) (phase : Phase) (x : State) (out : Out) (next : Rest State (List Task)) → Lowers k x next → StepsAlone (accepted_in me fact phase x out next)
@@ -414,19 +405,19 @@ accepted_in_lowers me k some fact (phases.Leading l) x out next go = go [] x out
 in_phase : (a k u v : ℕ) → a < k + u → u ≡ v → a < k + v
 in_phase a k u v less same = omega (arith, less, same)
 
-ended_with_lowers : (me k : ℕ) → 1 < k → (r : Running) (outcome : Outcome) (x : State) (out : Out) (next : Rest State (List Task)) → Lowers k x next → StepsAlone (ended_with me r outcome x out next)
-ended_with_lowers me k some r RunsOn x out next go = go [] (with_sync r x) out (none_then k (owed x.phase) (some_then 1 k some))
-ended_with_lowers me k some r (Trusted entries) x out next go =
+by_outcome_lowers : (me k : ℕ) → 1 < k → (r : Running) (outcome : Outcome) (x : State) (out : Out) (next : Rest State (List Task)) → Lowers k x next → StepsAlone (by_outcome me r outcome x out next)
+by_outcome_lowers me k some r RunsOn x out next go = go [] (with_sync r x) out (none_then k (owed x.phase) (some_then 1 k some))
+by_outcome_lowers me k some r (Trusted entries) x out next go =
     installed_asks P (needs_build r.sync.scan entries) entries (without_sync x) out
     (λ u y o. saved (Some r.fact) y o (λ v z p. accepted_in me r.fact z.phase (record z { trusted = true }) p next))
     (λ u. saved_fine (Some r.fact) (without_sync x) out (λ v z p. accepted_in me r.fact z.phase (record z { trusted = true }) p next)
     (λ z p same. accepted_in_lowers me k some r.fact z.phase (record z { trusted = true }) p next
     (λ ts y o less. go ts y o (in_phase (turns ts + owed y.phase) k (owed z.phase) (owed x.phase) less (ap owed same)))))
 
-gone_on_lowers : (me k : ℕ) → 1 < k → (r : Running × List Outgoing) (x : State) (out : Out) (next : Rest State (List Task)) → Lowers k x next → StepsAlone (gone_on me r x out next)
-gone_on_lowers me k some r x out next go = ended_with_lowers me k some r.0 (outcome_of r.0.sync) x (and_sends out r.1) next go
+go_on_lowers : (me k : ℕ) → 1 < k → (r : Running × List Outgoing) (x : State) (out : Out) (next : Rest State (List Task)) → Lowers k x next → StepsAlone (go_on me r x out next)
+go_on_lowers me k some r x out next go = by_outcome_lowers me k some r.0 (outcome_of r.0.sync) x (and_sends out r.1) next go
 
-resumed_lowers : (k : ℕ) → 0 < k → (running : Option Running) (x : State) (out : Out) (next : Rest State (List Task)) → Lowers k x next → StepsAlone (resumed_sync running x out next)
+resumed_lowers : (k : ℕ) → 0 < k → (running : Option Running) (x : State) (out : Out) (next : Rest State (List Task)) → Lowers k x next → StepsAlone (resume_sync running x out next)
 resumed_lowers k some None x out next go = go [] x out (none_then k (owed x.phase) some)
 resumed_lowers k some (Some r) x out next go = go [] (with_sync (row_resume r).0 x) (and_sends out (row_resume r).1) (none_then k (owed x.phase) some)
 
@@ -435,9 +426,10 @@ rule_then t k u less = omega (arith, less)
 
 followed_on_lowers : (me k : ℕ) (t : Then) → then_turns t < k → (x : State) (out : Out) (next : Rest State (List Task)) → Lowers k x next → StepsAlone (followed_on me t x out next)
 followed_on_lowers me k (thens.SyncOn fact) few x out next go =
-    asked_asks P ScanTree tt x out (λ scan y o. gone_on me (row_start fact me y.trusted scan) y o next) (λ scan. gone_on_lowers me k few (row_start fact me x.trusted scan) x out next go)
+    asked_asks P ScanTree tt x out (λ scan y o. go_on me (row_start fact me y.trusted scan) y o next) (λ scan. go_on_lowers me k few (row_start fact me x.trusted scan) x out next go)
 followed_on_lowers me k thens.Resume few x out next go = resumed_lowers k few x.sync x out next go
 followed_on_lowers me k (thens.Rule n) few x out next go = go (named (thens.Rule n)) x out (rule_then (phase_turns n + 0) k (owed x.phase) few)
+followed_on_lowers me k (thens.OnKeys n) few x out next go = go [] x out (none_then k (owed x.phase) few)
 followed_on_lowers me k thens.Stay few x out next go = go [] x out (none_then k (owed x.phase) few)
 followed_on_lowers me k thens.Follow few x out next go = go [] x out (none_then k (owed x.phase) few)
 followed_on_lowers me k (thens.Lead fact) few x out next go = go [] x out (none_then k (owed x.phase) few)
@@ -483,37 +475,38 @@ written_sees o x out next go =
     asked_asks P (Hash bytes) tt x out (λ digest y p. asked (Enter (entry_of o digest)) y p (λ end z q. entered o bytes digest end z q next))
     (λ digest. asked_asks P (Enter (entry_of o digest)) tt x out (λ end z q. entered o bytes digest end z q next) (λ end. entered_sees o bytes digest end x out next go))
 
-owned_sees : (n : ℕ) (own : Own) → Sees (owned n own)
-owned_sees n (owns.Look key) x out next go = if_follows P (n == 28) _ _ (fetched_sees key x out next go) (looked_sees key x out next go)
-owned_sees n (owns.Put o) x out next go = written_sees o x out next go
+owned_sees : (own : Own) → Sees (owned own)
+owned_sees (owns.Fetch key) x out next go = fetched_sees key x out next go
+owned_sees (owns.Look key) x out next go = looked_sees key x out next go
+owned_sees (owns.Put o) x out next go = written_sees o x out next go
 
-seen_again : (n : ℕ) (seen : Seen) (w : ℕ) → IsSeen seen → turns_seen n seen + 0 + w ≤ turns_again n + w
-seen_again n seen w is = let same = seen_turns n seen is in omega (arith, same)
+seen_again : (rule : KeyRule) (seen : Seen) (w : ℕ) → IsSeen seen → turns_seen rule seen + 0 + w ≤ turns_again rule + w
+seen_again rule seen w is = let same = seen_turns rule seen is in omega (arith, same)
 
 keyed_after : (a b u v : ℕ) → a ≡ b → u ≤ v → a + u ≤ b + v
 keyed_after a b u v same less = omega (arith, same, less)
 
-followed_lowers : (me n : ℕ) (own : Option Own) (turn : Then) (keys : List (List ℕ)) (x : State) (out : Out) (next : Rest State (List Task))
-    → ((ts : List Task) (y : State) (o : Out) → turns ts + owed y.phase ≤ turns_next n own turn keys + owed x.phase → StepsAlone (next ts y o)) → StepsAlone (followed_up me n own turn keys x out next)
-followed_lowers me n None turn keys x out next go =
+followed_lowers : (me : ℕ) (own : Option Own) (turn : Then) (keys : List (List ℕ)) (x : State) (out : Out) (next : Rest State (List Task))
+    → ((ts : List Task) (y : State) (o : Out) → turns ts + owed y.phase ≤ turns_next own turn keys + owed x.phase → StepsAlone (next ts y o)) → StepsAlone (followed_up me own turn keys x out next)
+followed_lowers me None turn keys x out next go =
     go (keyed turn keys) (turned me turn x) (turned_answers turn x out)
-    (keyed_after (turns (keyed turn keys)) (turns_next n None turn keys) (owed (turned me turn x).phase) (owed x.phase) (turns_keyed n turn keys) (turned_owed me turn x))
-followed_lowers me n (Some own) turn keys x out next go =
-    owned_sees n own x out (λ seen y o. next (tasks.Again n (own_key own) seen ∷ []) y o) (λ seen is. go (tasks.Again n (own_key own) seen ∷ []) x out (seen_again n seen (owed x.phase) is))
+    (keyed_after (turns (keyed turn keys)) (turns_next None turn keys) (owed (turned me turn x).phase) (owed x.phase) (turns_keyed turn keys) (turned_owed me turn x))
+followed_lowers me (Some own) turn keys x out next go =
+    owned_sees own x out (λ seen y o. next (tasks.Again (asked_by own) (own_key own) seen ∷ []) y o) (λ seen is. go (tasks.Again (asked_by own) (own_key own) seen ∷ []) x out (seen_again (asked_by own) seen (owed x.phase) is))
 
 in_order : (a b u v : ℕ) → a ≤ b + u → u ≤ v → a ≤ b + v
 in_order a b u v first less = omega (arith, first, less)
 
-lead_lowers : (me n : ℕ) (row : LeadOut) (x : State) (out : Out) (next : Rest State (List Task))
-    → ((ts : List Task) (y : State) (o : Out) → turns ts + owed y.phase ≤ turns_after n row + owed x.phase → StepsAlone (next ts y o)) → StepsAlone (lead_done me n row x out next)
-lead_lowers me n row x out next go =
-    noted_follows P row.notes (followed_up me n row.own row.then row.keys (left row.leave x) (and_row row x out) next)
-    (followed_lowers me n row.own row.then row.keys (left row.leave x) (and_row row x out) next
-    (λ ts y o less. go ts y o (in_order (turns ts + owed y.phase) (turns_after n row) (owed (left row.leave x).phase) (owed x.phase) less (left_owed row.leave x))))
+lead_lowers : (me : ℕ) (row : LeadOut) (x : State) (out : Out) (next : Rest State (List Task))
+    → ((ts : List Task) (y : State) (o : Out) → turns ts + owed y.phase ≤ turns_after row + owed x.phase → StepsAlone (next ts y o)) → StepsAlone (lead_done me row x out next)
+lead_lowers me row x out next go =
+    noted_follows P row.notes (followed_up me row.own row.then row.keys (left row.leave x) (and_row row x out) next)
+    (followed_lowers me row.own row.then row.keys (left row.leave x) (and_row row x out) next
+    (λ ts y o less. go ts y o (in_order (turns ts + owed y.phase) (turns_after row) (owed (left row.leave x).phase) (owed x.phase) less (left_owed row.leave x))))
 
 -- the row of a leader lowers the number of tasks that can still run, if this many can run for the event
-abbrev LowersFrom : ℕ → ℕ → (Leader → Leader × LeadOut) → Type 0
-LowersFrom n k row = (l : Leader) → turns_after n (row l).1 + weight (row l).0 < k + weight l
+abbrev LowersFrom : ℕ → (Leader → Leader × LeadOut) → Type 0
+LowersFrom k row = (l : Leader) → turns_after (row l).1 + weight (row l).0 < k + weight l
 
 less_then : (a b c d : ℕ) → a ≤ b → b < c → c ≤ d → a < d
 less_then a b c d first less last = omega (arith, first, less, last)
@@ -521,14 +514,14 @@ less_then a b c d first less last = omega (arith, first, less, last)
 none_led : (k u v : ℕ) → 0 < k → u < k + u
 none_led k u v some = omega (arith, some)
 
-led_lowers : (me n k : ℕ) (row : Leader → Leader × LeadOut) → 0 < k → LowersFrom n k row → (phase : Phase) (x : State) (out : Out) (next : Rest State (List Task)) → owed phase ≤ owed x.phase
-    → ((ts : List Task) (y : State) (o : Out) → turns ts + owed y.phase < k + owed x.phase → StepsAlone (next ts y o)) → StepsAlone (lead row me n phase x out next)
-led_lowers me n k row some lowers (phases.Leading l) x out next less go =
-    lead_lowers me n (row l.leader).1 (leading (with_leader (row l.leader).0 l) x) out next
-    (λ ts y o few. go ts y o (less_then (turns ts + owed y.phase) (turns_after n (row l.leader).1 + weight (row l.leader).0) (k + weight l.leader) (k + owed x.phase) few (lowers l.leader) (omega (arith, less))))
-led_lowers me n k row some lowers (phases.Following f) x out next less go = go [] x out (omega (arith, some))
-led_lowers me n k row some lowers (phases.Probing p) x out next less go = go [] x out (omega (arith, some))
-led_lowers me n k row some lowers (phases.Electing e) x out next less go = go [] x out (omega (arith, some))
+led_lowers : (me k : ℕ) (row : Leader → Leader × LeadOut) → 0 < k → LowersFrom k row → (phase : Phase) (x : State) (out : Out) (next : Rest State (List Task)) → owed phase ≤ owed x.phase
+    → ((ts : List Task) (y : State) (o : Out) → turns ts + owed y.phase < k + owed x.phase → StepsAlone (next ts y o)) → StepsAlone (lead row me phase x out next)
+led_lowers me k row some lowers (phases.Leading l) x out next less go =
+    lead_lowers me (row l.leader).1 (leading (with_leader (row l.leader).0 l) x) out next
+    (λ ts y o few. go ts y o (less_then (turns ts + owed y.phase) (turns_after (row l.leader).1 + weight (row l.leader).0) (k + weight l.leader) (k + owed x.phase) few (lowers l.leader) (omega (arith, less))))
+led_lowers me k row some lowers (phases.Following f) x out next less go = go [] x out (omega (arith, some))
+led_lowers me k row some lowers (phases.Probing p) x out next less go = go [] x out (omega (arith, some))
+led_lowers me k row some lowers (phases.Electing e) x out next less go = go [] x out (omega (arith, some))
 
 begins_few : (change : ChangeState) → turns (named (begins change)) < 2
 begins_few (Wanted change) = lit< tt
@@ -545,21 +538,16 @@ reminded_lowers k (phases.Electing e) x out next two less go = go [] x out (omeg
 owes_less : (a k u v : ℕ) → a < k + u → u ≤ v → a < k + v
 owes_less a k u v less owes = omega (arith, less, owes)
 
-phase_lowers : (me n : ℕ) (t : Bool) → (n == 5) ≡ t → (x : State) (out : Out) (next : Rest State (List Task))
-    → ((ts : List Task) (y : State) (o : Out) → turns ts + owed y.phase < phase_turns n + owed x.phase → StepsAlone (next ts y o))
-    → StepsAlone (if t then reminded x.phase x out next else row_done me (phase_row n me x).1 (phase_row n me x).0 out next)
-phase_lowers me n true e x out next go = reminded_lowers (phase_turns n) x.phase x out next (five_turns n e) (same_owed x) go
-phase_lowers me n false e x out next go =
-    row_lowers me (phase_turns n) (phase_row n me x).1 (phase_row n me x).0 out next (phase_row_names n me x e)
-    (λ ts y o less. go ts y o (owes_less (turns ts + owed y.phase) (phase_turns n) (owed (phase_row n me x).0.phase) (owed x.phase) less (phase_row_owes n me x)))
-
 task_lowers : (me : ℕ) (t : Task) (x : State) (out : Out) (next : Rest State (List Task))
     → ((ts : List Task) (y : State) (o : Out) → turns ts + owed y.phase < turns_for t + owed x.phase → StepsAlone (next ts y o)) → StepsAlone (task_done me t x out next)
-task_lowers me (tasks.Phase n) x out next go = phase_lowers me n (n == 5) refl x out next go
+task_lowers me (tasks.Phase n) x out next go =
+    row_lowers me (phase_turns n) (phase_row n me x).1 (phase_row n me x).0 out next (phase_row_names n me x)
+    (λ ts y o less. go ts y o (owes_less (turns ts + owed y.phase) (phase_turns n) (owed (phase_row n me x).0.phase) (owed x.phase) less (phase_row_owes n me x)))
+task_lowers me tasks.Remind x out next go = reminded_lowers 2 x.phase x out next refl (same_owed x) go
 task_lowers me (tasks.Key n key) x out next go =
-    led_lowers me n (turns_of n) (lead_row n key seens.Nothing) (some_of n) (λ l. (lead_step n key seens.Nothing l).lowers) x.phase x out next (same_owed x) go
+    led_lowers me (turns_of n) (lead_row n key seens.Nothing) (some_key_turns n seens.Nothing) (λ l. (lead_step n key seens.Nothing l).lowers) x.phase x out next (same_owed x) go
 task_lowers me (tasks.Again n key seen) x out next go =
-    led_lowers me n (turns_seen n seen) (lead_row n key seen) (some_seen n seen) (λ l. (lead_step n key seen l).lowers) x.phase x out next (same_owed x) go
+    led_lowers me (turns_seen n seen) (lead_row n key seen) (some_key_turns n seen) (λ l. (lead_step n key seen l).lowers) x.phase x out next (same_owed x) go
 
 -- ## The loop
 
@@ -591,9 +579,9 @@ event_row_few me row x z out next owes go =
 more_few : (a j k u : ℕ) → a < j + u → j ≤ k → a < k + u
 more_few a j k u less le = omega (arith, less, le)
 
-event_led_few : (me n k : ℕ) (row : Leader → Leader × LeadOut) → 0 < k → k ≤ 26 → LowersFrom n k row → (x : State) (out : Out) (next : Rest State (List Task)) → Few x next → StepsAlone (lead row me n x.phase x out next)
-event_led_few me n k row some le lowers x out next go =
-    led_lowers me n k row some lowers x.phase x out next (same_owed x) (λ ts y o less. go ts y o (more_few (turns ts + owed y.phase) k 26 (owed x.phase) less le))
+event_led_few : (me k : ℕ) (row : Leader → Leader × LeadOut) → 0 < k → k ≤ 26 → LowersFrom k row → (x : State) (out : Out) (next : Rest State (List Task)) → Few x next → StepsAlone (lead row me x.phase x out next)
+event_led_few me k row some le lowers x out next go =
+    led_lowers me k row some lowers x.phase x out next (same_owed x) (λ ts y o less. go ts y o (more_few (turns ts + owed y.phase) k 26 (owed x.phase) less le))
 
 put_done_few : (me : ℕ) (turn : Then) (from : ℕ) (ballot : Epoch) (object : Object) (row : PhaseOut) (x : State) (out : Out) (next : Rest State (List Task)) → Few x next → StepsAlone (put_done turn me from ballot object row x out next)
 put_done_few me thens.Put from ballot object row x out next go =
@@ -605,13 +593,14 @@ put_done_few me thens.Untrust from ballot object row x out next go = event_row_f
 put_done_few me thens.Resume from ballot object row x out next go = event_row_few me row x x out next (same_owed x) go
 put_done_few me (thens.SyncOn fact) from ballot object row x out next go = event_row_few me row x x out next (same_owed x) go
 put_done_few me (thens.Rule n) from ballot object row x out next go = event_row_few me row x x out next (same_owed x) go
+put_done_few me (thens.OnKeys n) from ballot object row x out next go = event_row_few me row x x out next (same_owed x) go
 
 nothing_few : (x : State) (out : Out) (next : Rest State (List Task)) → Few x next → StepsAlone (next [] x out)
 nothing_few x out next go = go [] x out (omega arith)
 
-taken_few : (me from : ℕ) (give : Give) (own : Option (List ℕ)) (running : Option Running) (x : State) (out : Out) (next : Rest State (List Task)) → Few x next → StepsAlone (taken_give me from give own running x out next)
+taken_few : (me from : ℕ) (give : Give) (own : Option (List ℕ)) (running : Option Running) (x : State) (out : Out) (next : Rest State (List Task)) → Few x next → StepsAlone (take_give me from give own running x out next)
 taken_few me from give own None x out next go = nothing_few x out next go
-taken_few me from give own (Some r) x out next go = gone_on_lowers me 26 (lit< tt) (row_take from give own r) x out next go
+taken_few me from give own (Some r) x out next go = go_on_lowers me 26 (lit< tt) (row_take from give own r) x out next go
 
 delivered_few : (me from : ℕ) (message : Message) (x : State) (out : Out) (next : Rest State (List Task)) → Few x next → StepsAlone (delivered me from message x out next)
 delivered_few me from (messages.Get ballot round key) x out next go =
@@ -623,20 +612,20 @@ delivered_few me from (messages.Put ballot object) x out next go =
     (λ seen. put_done_few me (row_22 x.fact x.trusted from ballot object seen).then from ballot object (row_22 x.fact x.trusted from ballot object seen) x out next go)
 delivered_few me from (messages.GetReply ballot round key entry object) x out next go =
     if_follows P (leads x.phase) _ _
-    (confirmed_asks P entry object x out (λ confirmed y o. lead (row_29_reply from ballot round key entry confirmed) me 29 y.phase y o next)
-    (λ confirmed. event_led_few me 29 9 (row_29_reply from ballot round key entry confirmed) (lit< tt) (lit≤ tt) (λ l. (row_29_reply_step from ballot round key entry confirmed l).lowers) x out next go))
+    (confirmed_asks P entry object x out (λ confirmed y o. lead (row_29_reply from ballot round key entry confirmed) me y.phase y o next)
+    (λ confirmed. event_led_few me 9 (row_29_reply from ballot round key entry confirmed) (lit< tt) (lit≤ tt) (λ l. (row_29_reply_step from ballot round key entry confirmed l).lowers) x out next go))
     (nothing_few x out next go)
 delivered_few me from (messages.PutReply ballot key version) x out next go =
-    event_led_few me 35 5 (row_35_reply from ballot key version) (lit< tt) (lit≤ tt) (λ l. (row_35_reply_step from ballot key version l).lowers) x out next go
+    event_led_few me 5 (row_35_reply from ballot key version) (lit< tt) (lit≤ tt) (λ l. (row_35_reply_step from ballot key version l).lowers) x out next go
 delivered_few me from (messages.CheckReply ballot round) x out next go =
-    event_led_few me 33 1 (row_33_reply from ballot round) (lit< tt) (lit≤ tt) (λ l. (row_33_reply_step from ballot round l).1.lowers) x out next go
+    event_led_few me 1 (row_33_reply from ballot round) (lit< tt) (lit≤ tt) (λ l. (row_33_reply_step from ballot round l).1.lowers) x out next go
 delivered_few me from (messages.TreeAsk ballot at after) x out next go =
     let q : Question = record { position = at; after = after } in
     shown_node_asks P (is_same ballot x.fact.ballot) q x out (λ body y o. row_done me (row_23 y.fact y.trusted from ballot q.position q.after body) y o next)
     (λ body. event_row_few me (row_23 x.fact x.trusted from ballot at after body) x x out next (same_owed x) go)
 delivered_few me from (messages.TreeGive ballot at after trusted body) x out next go =
     let give : Give = record { ballot = ballot; question = record { position = at; after = after }; trusted = trusted; body = body } in
-    own_node_asks P (needs_node from give x.sync) at x out (λ own y o. taken_give me from give own y.sync y o next)
+    own_node_asks P (needs_node from give x.sync) at x out (λ own y o. take_give me from give own y.sync y o next)
     (λ own. taken_few me from give own x.sync x out next go)
 delivered_few me from message x out next go = event_row_few me (received me from message x).1 x (received me from message x).0 out next (received_owes me from message x) go
 
@@ -646,9 +635,9 @@ in_tick more ts u w b v z same few lowers less = omega (arith, same, few, lowers
 led_in_few : (me : ℕ) (phase : Phase) (x : State) (out : Out) (next : Rest State (List Task)) → owed phase ≤ owed x.phase → Few x next → StepsAlone (led_in me phase x out next)
 led_in_few me (phases.Leading l) x out next less go =
     let tick = row_5_ticks (end_of (older l.change)) l.leader in
-    lead_lowers me 5 (row_5_calls x.fact l).1 (leading (row_5_calls x.fact l).0 x) out (λ ts y o. next (ts ++ tasks.Phase 5 ∷ []) y o)
-    (λ ts y o few. go (ts ++ tasks.Phase 5 ∷ []) y o
-    (in_tick (turns (ts ++ tasks.Phase 5 ∷ [])) (turns ts) (owed y.phase) (weight (row_5_calls x.fact l).0.leader) (turns_after 5 (row_5_calls x.fact l).1) (weight l.leader) (owed x.phase) (turns_more ts (tasks.Phase 5 ∷ [])) few tick.lowers less))
+    lead_lowers me (row_5_calls x.fact l).1 (leading (row_5_calls x.fact l).0 x) out (λ ts y o. next (ts ++ tasks.Remind ∷ []) y o)
+    (λ ts y o few. go (ts ++ tasks.Remind ∷ []) y o
+    (in_tick (turns (ts ++ tasks.Remind ∷ [])) (turns ts) (owed y.phase) (weight (row_5_calls x.fact l).0.leader) (turns_after (row_5_calls x.fact l).1) (weight l.leader) (owed x.phase) (turns_more ts (tasks.Remind ∷ [])) few tick.lowers less))
 led_in_few me (phases.Following f) x out next less go = nothing_few x out next go
 led_in_few me (phases.Probing p) x out next less go = nothing_few x out next go
 led_in_few me (phases.Electing e) x out next less go = nothing_few x out next go
@@ -656,7 +645,7 @@ led_in_few me (phases.Electing e) x out next less go = nothing_few x out next go
 join_less : (a w : ℕ) → a ≤ 25 + w → a < 26 + w
 join_less a w le = omega (arith, le)
 
-joined_lowers : (from id : ℕ) (key : List ℕ) (command : _) (ends : Bool) → LowersFrom 27 26 (row_27 from id key command ends)
+joined_lowers : (from id : ℕ) (key : List ℕ) (command : _) (ends : Bool) → LowersFrom 26 (row_27 from id key command ends)
 joined_lowers from id key command ends l = join_less _ (weight l) (row_27_joins from id key command ends l).lowers
 
 first_few : (me : ℕ) (event : Event) (x : State) (out : Out) (next : Rest State (List Task)) → Few x next → StepsAlone (first me event x out next)
@@ -665,7 +654,7 @@ first_few me events.Tick x out next go =
     if_follows P (leads x.phase) _ _ (led_in_few me x.phase x out next (same_owed x) go) (event_row_few me (aged x.phase me x).1 x (aged x.phase me x).0 out next (aged_owes x.phase me x) go)
 first_few me (events.Call call) x out next go =
     if_follows P (leads x.phase) _ _
-    (event_led_few me 27 26 (row_27 call.from call.id call.key call.command (changes x.phase)) (lit< tt) (lit≤ tt) (joined_lowers call.from call.id call.key call.command (changes x.phase)) x out next go)
+    (event_led_few me 26 (row_27 call.from call.id call.key call.command (changes x.phase)) (lit< tt) (lit≤ tt) (joined_lowers call.from call.id call.key call.command (changes x.phase)) x out next go)
     (go [] x (and_answers out (unavailable call ∷ [])) (omega arith))
 first_few me (events.Change view) x out next go =
     event_row_few me (asked_change view x).1.0 x (asked_change view x).0 (and_change out (asked_change view x).1.1) next (asked_owes view x) go
@@ -701,7 +690,7 @@ responded_left me event x out next few go =
     (λ ts y o less. cleared me most_turns ts y o next (below (turns ts + owed y.phase) (26 + owed x.phase) most_turns less (enough x.phase few)) go)
 
 -- and after rule 26 at the end of the step
-pub concluded_left : (me : ℕ) (x : State) (out : Out) (next : Rest State (List Task)) → HasFewCalls x.phase → IsFineAtNone next → StepsAlone (task_done me (tasks.Phase 26) x out (λ ts y o. driven me most_turns ts y o next))
+pub concluded_left : (me : ℕ) (x : State) (out : Out) (next : Rest State (List Task)) → HasFewCalls x.phase → IsFineAtNone next → StepsAlone (task_done me (tasks.Phase phase_rules.EndEpoch) x out (λ ts y o. driven me most_turns ts y o next))
 concluded_left me x out next few go =
-    task_lowers me (tasks.Phase 26) x out (λ ts y o. driven me most_turns ts y o next)
+    task_lowers me (tasks.Phase phase_rules.EndEpoch) x out (λ ts y o. driven me most_turns ts y o next)
     (λ ts y o less. cleared me most_turns ts y o next (below (turns ts + owed y.phase) (26 + owed x.phase) most_turns (more_few (turns ts + owed y.phase) 4 26 (owed x.phase) less (lit≤ tt)) (enough x.phase few)) go)

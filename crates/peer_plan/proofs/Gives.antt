@@ -9,6 +9,7 @@ use Rattle.ens_fields.specs.declared.field_error.FieldError.TheVariants as field
 use Rattle.ens_fields.specs.Numbers.{byte_at, number_at, run_at}
 use Rattle.ens_fields.specs.Strings.{key_at}
 use Rattle.ens_fields.specs.Versions.{version_at}
+use Rattle.tree_node.specs.declared.version.TreeVersion.TheVariants.{One}
 use Rattle.tree_node.specs.declared.body.TreeBody.TheVariants.{Inner, Page}
 use Rattle.tree_node.specs.declared.error.NodeError.{NodeError}
 use Rattle.tree_node.specs.declared.error.NodeError.TheVariants.{Trailing}
@@ -74,7 +75,7 @@ list_length {A = A} item after (suc n) before bytes at =
     (λ first. then_holds (λ (x : List A × ℕ). length x.0 ≡ n) (λ (x : List A × ℕ). length x.0 ≡ suc n) (list_at item after n (after first.0) bytes first.1) _ (list_length item after n (after first.0) bytes first.1)
     (λ others h. ap suc h))
 
-inner_fields_each : (asked : Position) (bytes : List ℕ) (at : ℕ) → IfOk (inner_fields_at asked bytes at) (λ x. length x.0.digests ≡ count_ones x.0.mask)
+inner_fields_each : (asked : Position) (bytes : List ℕ) (at : ℕ) → IfOk (inner_fields_at One asked bytes at) (λ x. length x.0.digests ≡ count_ones x.0.mask)
 unfolding inner_fields_at
 inner_fields_each asked bytes at =
     after_holds (λ (x : InnerNode × ℕ). length x.0.digests ≡ count_ones x.0.mask) (asked_at asked bytes at) _
@@ -83,12 +84,12 @@ inner_fields_each asked bytes at =
     (ended_holds (λ (x : List (List ℕ) × ℕ). length x.0 ≡ count_ones mask.0) (digests_at (count_ones mask.0) bytes mask.1) (list_length {B = Unit {0}} (λ _. run_at 16) (λ _. tt) (count_ones mask.0) tt bytes mask.1))
     (λ digests h. h)))
 
-inner_each : (asked : Position) (bytes : List ℕ) → IfOk (inner_of asked bytes) (λ n. length n.digests ≡ count_ones n.mask)
+inner_each : (asked : Position) (bytes : List ℕ) → IfOk (inner_of One asked bytes) (λ n. length n.digests ≡ count_ones n.mask)
 unfolding inner_at
 inner_each asked bytes =
-    all_holds (λ (n : InnerNode). length n.digests ≡ count_ones n.mask) (inner_at asked bytes 0) (length bytes)
+    all_holds (λ (n : InnerNode). length n.digests ≡ count_ones n.mask) (inner_at One asked bytes 0) (length bytes)
     (after_holds (λ (x : InnerNode × ℕ). length x.0.digests ≡ count_ones x.0.mask) (ended (byte_at bytes 0)) _
-    (λ tag. test_holds (λ (x : InnerNode × ℕ). length x.0.digests ≡ count_ones x.0.mask) (tag.0 == 1) (inner_fields_at asked bytes tag.1) _ (λ _. inner_fields_each asked bytes tag.1)))
+    (λ tag. test_holds (λ (x : InnerNode × ℕ). length x.0.digests ≡ count_ones x.0.mask) (tag.0 == 1) (inner_fields_at One asked bytes tag.1) _ (λ _. inner_fields_each asked bytes tag.1)))
 
 -- ## The keys of a segment ascend
 
@@ -110,7 +111,7 @@ entries_above (suc n) low bytes at =
     (λ first up. then_holds (λ (x : List Entry × ℕ). AreAbove first.0.key x.0) (λ (x : List Entry × ℕ). AreAbove low x.0) (list_at next_at (λ e. e.key) n first.0.key bytes first.1) _ (entries_above n first.0.key bytes first.1)
     (λ others rest. (up, rest)))
 
-segment_fields_above : (asked : Position) (bytes : List ℕ) (at : ℕ) → IfOk (segment_fields_at asked bytes at) (λ x. AreAbove [] x.0.entries)
+segment_fields_above : (asked : Position) (bytes : List ℕ) (at : ℕ) → IfOk (segment_fields_at One asked bytes at) (λ x. AreAbove [] x.0.entries)
 unfolding segment_fields_at
 segment_fields_above asked bytes at =
     after_holds (λ (x : Segment × ℕ). AreAbove [] x.0.entries) (asked_at asked bytes at) _
@@ -119,12 +120,12 @@ segment_fields_above asked bytes at =
     (ordered_holds (λ (x : List Entry × ℕ). AreAbove [] x.0) (entries_at count.0 bytes count.1) (entries_above count.0 [] bytes count.1))
     (λ entries h. h)))
 
-segment_above : (asked : Position) (bytes : List ℕ) → IfOk (segment_of asked bytes) (λ s. AreAbove [] s.entries)
+segment_above : (asked : Position) (bytes : List ℕ) → IfOk (segment_of One asked bytes) (λ s. AreAbove [] s.entries)
 unfolding segment_at
 segment_above asked bytes =
-    all_holds (λ (s : Segment). AreAbove [] s.entries) (segment_at asked bytes 0) (length bytes)
+    all_holds (λ (s : Segment). AreAbove [] s.entries) (segment_at One asked bytes 0) (length bytes)
     (after_holds (λ (x : Segment × ℕ). AreAbove [] x.0.entries) (ended (byte_at bytes 0)) _
-    (λ tag. test_holds (λ (x : Segment × ℕ). AreAbove [] x.0.entries) (tag.0 == 2) (segment_fields_at asked bytes tag.1) _ (λ _. segment_fields_above asked bytes tag.1)))
+    (λ tag. test_holds (λ (x : Segment × ℕ). AreAbove [] x.0.entries) (tag.0 == 2) (segment_fields_at One asked bytes tag.1) _ (λ _. segment_fields_above asked bytes tag.1)))
 
 -- ## A page of it
 
@@ -146,16 +147,16 @@ page_obeys after es a = (take_few 32 (beyond after es), take_above 32 [] (beyond
 
 -- ## What is given
 
-segment_obeys : (at : Position) (after : Option (List ℕ)) (r : Result Segment NodeError) → IsPosition at → IfOk r (λ s. AreAbove [] s.entries) → ObeysBody (segment_body at after r)
+segment_obeys : (at : Position) (after : Option (List ℕ)) (r : Result Segment NodeError) → IsPosition One at → IfOk r (λ s. AreAbove [] s.entries) → ObeysBody (segment_body at after r)
 segment_obeys at after (Ok s) is h = page_obeys after s.entries h
 segment_obeys at after (Err e) is h = is
 
-inner_obeys : (at : Position) (r : Result InnerNode NodeError) → IsPosition at → IfOk r (λ n. length n.digests ≡ count_ones n.mask) → ObeysBody (inner_body at r)
+inner_obeys : (at : Position) (r : Result InnerNode NodeError) → IsPosition One at → IfOk r (λ n. length n.digests ≡ count_ones n.mask) → ObeysBody (inner_body at r)
 inner_obeys at (Ok n) is h = h
 inner_obeys at (Err e) is h = is
 
 -- what is given obeys the grammar of frames: a node that is damaged, or none, is no exception
-pub given_obeys : (node : Option (List ℕ)) (q : Question) → IsPosition q.position → ObeysBody (given node q)
+pub given_obeys : (node : Option (List ℕ)) (q : Question) → IsPosition One q.position → ObeysBody (given One node q)
 given_obeys None q is = by (q.position.level == 3)
   where
     by : (b : Bool) → ObeysBody (cond b (Page [] false) (Inner 0 []))
@@ -163,11 +164,11 @@ given_obeys None q is = by (q.position.level == 3)
     by false = omega (arith, ones_le_self 0)
 given_obeys (Some bytes) q is = by (q.position.level == 3)
   where
-    by : (b : Bool) → ObeysBody (cond b (segment_body q.position q.after (segment_of q.position bytes)) (inner_body q.position (inner_of q.position bytes)))
-    by true = segment_obeys q.position q.after (segment_of q.position bytes) is (segment_above q.position bytes)
-    by false = inner_obeys q.position (inner_of q.position bytes) is (inner_each q.position bytes)
+    by : (b : Bool) → ObeysBody (cond b (segment_body q.position q.after (segment_of One q.position bytes)) (inner_body q.position (inner_of One q.position bytes)))
+    by true = segment_obeys q.position q.after (segment_of One q.position bytes) is (segment_above q.position bytes)
+    by false = inner_obeys q.position (inner_of One q.position bytes) is (inner_each q.position bytes)
 
 -- what is sent after a walk obeys it too
-pub body_obeys : (q : Question) (walked : Walked (Option (List ℕ))) → IsPosition q.position → IsInTree walked → ObeysBody (body_of q walked)
+pub body_obeys : (q : Question) (walked : Walked (Option (List ℕ))) → IsPosition One q.position → IsInTree walked → ObeysBody (body_of q walked)
 body_obeys q (Reached node) is inside = given_obeys node q is
 body_obeys q (Broken at) is inside = inside

@@ -23,6 +23,8 @@ use Rattle.wire_frames.specs.declared.message.Message.TheVariants as messages
 use Rattle.phase_rows.specs.declared.phase.PhaseOut.{PhaseOut}
 use Rattle.phase_rows.specs.declared.phase.Then.{Then}
 use Rattle.phase_rows.specs.declared.phase.Then.TheVariants as thens
+use Rattle.phase_rows.specs.declared.rules.PhaseRule.{PhaseRule}
+use Rattle.phase_rows.specs.declared.rules.PhaseRule.TheVariants as phase_rules
 use Rattle.peer_plan.specs.Kept.{LeadsAs}
 use Rattle.peer_state.specs.Moves.{stopped_leading, without_candidacy, left, turned, stood, waiting_phase, waiting_for}
 use Rattle.peer_state.specs.Rows.{runs_sync, aged, aged_election, prepared, accepted_by, leads, changes, wanting, asked_change, finishing, begun_change, ended, phase_row, received}
@@ -80,6 +82,7 @@ module _ (me : ℕ) where
   turned_as thens.Resume x own = own
   turned_as (thens.SyncOn fact) x own = own
   turned_as (thens.Rule n) x own = own
+  turned_as (thens.OnKeys n) x own = own
 
   waiting_phase_as : (phase : Phase) → LeadsAs me phase → LeadsAs me (waiting_phase phase)
   waiting_phase_as (phases.Leading l) own = own
@@ -96,6 +99,7 @@ module _ (me : ℕ) where
   waiting_as thens.Untrust x own = own
   waiting_as thens.Put x own = own
   waiting_as (thens.Rule n) x own = own
+  waiting_as (thens.OnKeys n) x own = own
 
   stood_as : (election : Option Election) (x : State) → LeadsAs me x.phase → LeadsAs me (stood election x).phase
   stood_as None x own = own
@@ -141,16 +145,14 @@ module _ (me : ℕ) where
     prepared_goes best count x own = (stood_as (row_10 x.fact me best count).1 x own, (row_10_obeys x.fact me best count, row_10_elsewhere me peer x.fact best count))
 
     -- the row of a rule of a phase
-    pub phase_row_goes : (n : ℕ) (x : State) → LeadsAs me x.phase → IsGoing me (phase_row n me x)
-    phase_row_goes n x own =
-        let still : LeadsAs me x.phase × MayGo me (silent thens.Stay) = (own, quiet) in
-        either (IsGoing me) (n == 7) _ _ (tt, (tt, others_me me (members x.fact.views) peer))
-        (either (IsGoing me) (n == 9) _ _ (by_probing (IsGoing me) x.phase (λ p is. (tt, (tt, none_me me peer))) still)
-        (either (IsGoing me) (n == 10) _ _ (by_probing (IsGoing me) x.phase (λ p is. prepared_goes p.best p.count x own) (by_leading (IsGoing me) x.phase (λ l is. prepared_goes x.fact x.fact.ballot.count x own) still))
-        (either (IsGoing me) (n == 13) _ _ (by_electing (IsGoing me) x.phase (λ e is. (tt, (row_13_obeys e x.fact me x.trusted, row_13_elsewhere me peer e x.fact x.trusted))) still)
-        (either (IsGoing me) (n == 14) _ _ (by_electing (IsGoing me) x.phase (λ e is. (tt, (row_14_obeys e me, row_14_elsewhere me peer e))) still)
-        (either (IsGoing me) (n == 25) _ _ (by_leading (IsGoing me) x.phase (λ l is. (begun_change_as l.change l x.fact (subst (LeadsAs me) is own), (begun_change_obeys l.change l x.fact me, changed_elsewhere l.change l x.fact))) still)
-        (either (IsGoing me) (n == 26) _ _ (by_leading (IsGoing me) x.phase (λ l is. (own, (ended_obeys l.change x.fact me (has_calls l.leader.table.calls), ended_elsewhere l.change x.fact (has_calls l.leader.table.calls)))) still) still))))))
+    pub phase_row_goes : (rule : PhaseRule) (x : State) → LeadsAs me x.phase → IsGoing me (phase_row rule me x)
+    phase_row_goes phase_rules.BeginProbing x own = (tt, (tt, others_me me (members x.fact.views) peer))
+    phase_row_goes phase_rules.EnoughHeard x own = by_probing (IsGoing me) x.phase (λ p is. (tt, (tt, none_me me peer))) (own, quiet)
+    phase_row_goes phase_rules.Prepare x own = by_probing (IsGoing me) x.phase (λ p is. prepared_goes p.best p.count x own) (by_leading (IsGoing me) x.phase (λ l is. prepared_goes x.fact x.fact.ballot.count x own) (own, quiet))
+    phase_row_goes phase_rules.EnoughPromised x own = by_electing (IsGoing me) x.phase (λ e is. (tt, (row_13_obeys e x.fact me x.trusted, row_13_elsewhere me peer e x.fact x.trusted))) (own, quiet)
+    phase_row_goes phase_rules.EnoughAccepted x own = by_electing (IsGoing me) x.phase (λ e is. (tt, (row_14_obeys e me, row_14_elsewhere me peer e))) (own, quiet)
+    phase_row_goes phase_rules.BeginChange x own = by_leading (IsGoing me) x.phase (λ l is. (begun_change_as l.change l x.fact (subst (LeadsAs me) is own), (begun_change_obeys l.change l x.fact me, changed_elsewhere l.change l x.fact))) (own, quiet)
+    phase_row_goes phase_rules.EndEpoch x own = by_leading (IsGoing me) x.phase (λ l is. (own, (ended_obeys l.change x.fact me (has_calls l.leader.table.calls), ended_elsewhere l.change x.fact (has_calls l.leader.table.calls)))) (own, quiet)
 
     aged_election_goes : (e : Election) (x : State) → IsGoing me (aged_election e me x)
     aged_election_goes (Preparing base promises asked age) x = (tt, (tt, none_me me peer))

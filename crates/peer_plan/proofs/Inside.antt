@@ -5,6 +5,7 @@ use Rattle.std.specs.Prelude.{get_or, set, replicate}
 use Rattle.ens_base.specs.Lists.{same_bytes}
 use Rattle.ens_base.specs.declared.entry.Entry.{Entry}
 use Rattle.md5.specs.Md5.{md5}
+use Rattle.tree_node.specs.declared.version.TreeVersion.TheVariants.{One}
 use Rattle.synctree.specs.Plans.{Plan, Done, Broken, Ask, ◌>>=◌, Ends, Call as TreeCall, AnswerOf as TreeAnswer}
 use Rattle.synctree.specs.Nodes.{child_name, name_at, is_node, node_bytes, node_under, node_plan}
 use Rattle.synctree.specs.Trees.{get_plan, insert_plan, publish_plan}
@@ -12,8 +13,8 @@ use Rattle.synctree.specs.Walks.{verified, fetch, spelled, open_node, onward, fi
 use Rattle.synctree.proofs.Places.{position_of}
 use Rattle.tree_maps.specs.Entries.{put}
 use Rattle.tree_maps.specs.Forms.{IsPlace, child, root}
-use Rattle.tree_maps.specs.Sixteen.{sixteen}
-use Rattle.tree_maps.proofs.Formats.{sixteen_laws}
+use Rattle.tree_maps.specs.Sixteen.{form_of}
+use Rattle.tree_maps.proofs.Formats.{form_laws}
 use Rattle.tree_maps.proofs.Unique.{child_place, root_place}
 use Rattle.tree_node.specs.declared.position.Position.{Position}
 use Rattle.tree_node.specs.Positions.{IsPosition}
@@ -21,7 +22,7 @@ use Rattle.tree_node.specs.Positions.{IsPosition}
 -- each position that the plan may report is one of the tree
 abbrev pub IsInside : {A : Type 0} → Plan A → Type 0
 IsInside (Done x) = Unit {0}
-IsInside (Broken at) = IsPosition at
+IsInside (Broken at) = IsPosition One at
 IsInside (Ask call next) = (a : TreeAnswer call) → IsInside (next a)
 
 then_inside : {A B : Type 0} (p : Plan A) (f : A → Plan B) → IsInside p → ((x : A) → IsInside (f x)) → IsInside (p >>= f)
@@ -31,81 +32,81 @@ then_inside (Ask call next) f inside after = λ a. then_inside (next a) f (insid
 
 -- a plan that ended at a position reported it
 ended_inside : {A S : Type 0} (does : S → (call : TreeCall) → TreeAnswer call → S → Type 0) (p : Plan A) (s : S) (strings : List (List ℕ)) (at : Position) (t : S)
-    → IsInside p → Ends does p s strings (Err at) t → IsPosition at
+    → IsInside p → Ends does p s strings (Err at) t → IsPosition One at
 ended_inside does (Done x) s strings at t inside ends = let none : ⊥ = grind (arith, ends.1) in absurd none
-ended_inside does (Broken here) s strings at t inside ends = let same : here ≡ at = grind (arith, ends.1) in subst (λ k. IsPosition k) same inside
+ended_inside does (Broken here) s strings at t inside ends = let same : here ≡ at = grind (arith, ends.1) in subst (λ k. IsPosition One k) same inside
 ended_inside does (Ask call next) s strings at t inside ends = ended_inside does (next ends.0) ends.1 ends.2 at t (inside ends.0) ends.5
 
 pub walked_inside : {A S : Type 0} (does : S → (call : TreeCall) → TreeAnswer call → S → Type 0) (p : Plan A) (s : S) (at : Position) (t : S)
-    → IsInside p → ((strings : List (List ℕ)) × Ends does p s strings (Err at) t) → IsPosition at
+    → IsInside p → ((strings : List (List ℕ)) × Ends does p s strings (Err at) t) → IsPosition One at
 walked_inside does p s at t inside walk = ended_inside does p s walk.0 at t inside walk.1
 
 choice_inside : {A : Type 0} (test : Bool) (p q : Plan A) → IsInside p → IsInside q → IsInside (if test then p else q)
 choice_inside true p q first second = first
 choice_inside false p q first second = second
 
-verified_inside : (at : Position) (digest : List ℕ) (bytes : Option (List ℕ)) → IsPosition at → IsInside (verified at digest bytes)
+verified_inside : (at : Position) (digest : List ℕ) (bytes : Option (List ℕ)) → IsPosition One at → IsInside (verified at digest bytes)
 verified_inside at digest None is = is
 verified_inside at digest (Some bytes) is = λ u. choice_inside (same_bytes (md5 bytes) digest) (Done bytes) (Broken at) tt is
 
-fetch_inside : (at : Position) (digest : List ℕ) → IsPosition at → IsInside (fetch at digest)
+fetch_inside : (at : Position) (digest : List ℕ) → IsPosition One at → IsInside (fetch at digest)
 fetch_inside at digest is = λ bytes. verified_inside at digest bytes is
 
-spelled_inside : {A : Type 0} (at : Position) (node : Option A) → IsPosition at → IsInside (spelled at node)
+spelled_inside : {A : Type 0} (at : Position) (node : Option A) → IsPosition One at → IsInside (spelled at node)
 spelled_inside at None is = is
 spelled_inside at (Some node) is = tt
 
-open_inside : {A : Type 0} (node_at : List ℕ → Option A) (at : Position) (digest : List ℕ) → IsPosition at → IsInside (open_node node_at at digest)
+open_inside : {A : Type 0} (node_at : List ℕ → Option A) (at : Position) (digest : List ℕ) → IsPosition One at → IsInside (open_node node_at at digest)
 open_inside node_at at digest is = then_inside (fetch at digest) (λ bytes. spelled at (node_at bytes)) (fetch_inside at digest is) (λ bytes. spelled_inside at (node_at bytes) is)
 
 onward_inside : {A : Type 0} (nothing : A) (next : List ℕ → Plan A) (named : Option (List ℕ)) → ((digest : List ℕ) → IsInside (next digest)) → IsInside (onward nothing next named)
 onward_inside nothing next None inside = tt
 onward_inside nothing next (Some digest) inside = inside digest
 
-digit_in : (key : List ℕ) (level : ℕ) → sixteen.digit key level < sixteen.width
-digit_in key level = sixteen_laws.in_width key level
+digit_in : (key : List ℕ) (level : ℕ) → (form_of One).digit key level < (form_of One).width
+digit_in key level = (form_laws One).in_width key level
 
-below_place : (h : ℕ) (at : Position) (key : List ℕ) → IsPlace sixteen (suc h) at → IsPlace sixteen h (child sixteen at (sixteen.digit key at.level))
-below_place h at key place = child_place sixteen h at (sixteen.digit key at.level) (digit_in key at.level) place
+below_place : (h : ℕ) (at : Position) (key : List ℕ) → IsPlace (form_of One) (suc h) at → IsPlace (form_of One) h (child (form_of One) at ((form_of One).digit key at.level))
+below_place h at key place = child_place (form_of One) h at ((form_of One).digit key at.level) (digit_in key at.level) place
 
-find_inside : (h : ℕ) (at : Position) (digest key : List ℕ) → IsPlace sixteen h at → IsInside (find sixteen h at digest key)
-find_inside zero at digest key place = then_inside (open_node (sixteen.segment_at at) at digest) _ (open_inside (sixteen.segment_at at) at digest (position_of zero at place)) (λ entries. tt)
+find_inside : (h : ℕ) (at : Position) (digest key : List ℕ) → IsPlace (form_of One) h at → IsInside (find (form_of One) h at digest key)
+find_inside zero at digest key place = then_inside (open_node ((form_of One).segment_at at) at digest) _ (open_inside ((form_of One).segment_at at) at digest (position_of One zero at place)) (λ entries. tt)
 find_inside (suc h) at digest key place =
-    then_inside (open_node (sixteen.inner_at at) at digest) _ (open_inside (sixteen.inner_at at) at digest (position_of (suc h) at place))
-    (λ names. onward_inside None (λ below. find sixteen h (child sixteen at (sixteen.digit key at.level)) below key) (get_or names (sixteen.digit key at.level) None)
-    (λ below. find_inside h (child sixteen at (sixteen.digit key at.level)) below key (below_place h at key place)))
+    then_inside (open_node ((form_of One).inner_at at) at digest) _ (open_inside ((form_of One).inner_at at) at digest (position_of One (suc h) at place))
+    (λ names. onward_inside None (λ below. find (form_of One) h (child (form_of One) at ((form_of One).digit key at.level)) below key) (get_or names ((form_of One).digit key at.level) None)
+    (λ below. find_inside h (child (form_of One) at ((form_of One).digit key at.level)) below key (below_place h at key place)))
 
 store_inside : (bytes : List ℕ) → IsInside (store bytes)
 store_inside bytes = λ u v. tt
 
-reach_inside : {A : Type 0} (node_at : List ℕ → Option A) (empty : A) (at : Position) (named : Option (List ℕ)) → IsPosition at → IsInside (reach node_at empty at named)
+reach_inside : {A : Type 0} (node_at : List ℕ → Option A) (empty : A) (at : Position) (named : Option (List ℕ)) → IsPosition One at → IsInside (reach node_at empty at named)
 reach_inside node_at empty at named is = onward_inside empty (open_node node_at at) named (λ digest. open_inside node_at at digest is)
 
-enter_inside : (h : ℕ) (at : Position) (named : Option (List ℕ)) (e : Entry) → IsPlace sixteen h at → IsInside (enter sixteen h at named e)
+enter_inside : (h : ℕ) (at : Position) (named : Option (List ℕ)) (e : Entry) → IsPlace (form_of One) h at → IsInside (enter (form_of One) h at named e)
 enter_inside zero at named e place =
-    then_inside (reach (sixteen.segment_at at) [] at named) _ (reach_inside (sixteen.segment_at at) [] at named (position_of zero at place)) (λ entries. store_inside (sixteen.segment_text at (put e entries)))
+    then_inside (reach ((form_of One).segment_at at) [] at named) _ (reach_inside ((form_of One).segment_at at) [] at named (position_of One zero at place)) (λ entries. store_inside ((form_of One).segment_text at (put e entries)))
 enter_inside (suc h) at named e place =
-    then_inside (reach (sixteen.inner_at at) (replicate sixteen.width None) at named) _ (reach_inside (sixteen.inner_at at) (replicate sixteen.width None) at named (position_of (suc h) at place))
-    (λ names. then_inside (enter sixteen h (child sixteen at (sixteen.digit e.key at.level)) (get_or names (sixteen.digit e.key at.level) None) e) _
-    (enter_inside h (child sixteen at (sixteen.digit e.key at.level)) (get_or names (sixteen.digit e.key at.level) None) e (below_place h at e.key place)) (λ below. store_inside (sixteen.inner_text at (set names (sixteen.digit e.key at.level) (Some below)))))
+    then_inside (reach ((form_of One).inner_at at) (replicate (form_of One).width None) at named) _ (reach_inside ((form_of One).inner_at at) (replicate (form_of One).width None) at named (position_of One (suc h) at place))
+    (λ names. then_inside (enter (form_of One) h (child (form_of One) at ((form_of One).digit e.key at.level)) (get_or names ((form_of One).digit e.key at.level) None) e) _
+    (enter_inside h (child (form_of One) at ((form_of One).digit e.key at.level)) (get_or names ((form_of One).digit e.key at.level) None) e (below_place h at e.key place)) (λ below. store_inside ((form_of One).inner_text at (set names ((form_of One).digit e.key at.level) (Some below)))))
 
-root_inside : IsPosition root
-root_inside = position_of sixteen.depth root (root_place sixteen)
+root_inside : IsPosition One root
+root_inside = position_of One (form_of One).depth root (root_place (form_of One))
 
 from_top_inside : {A : Type 0} (top : Option (List ℕ)) (next : List ℕ → Plan A) → ((digest : List ℕ) → IsInside (next digest)) → IsInside (from_top top next)
 from_top_inside None next inside = root_inside
 from_top_inside (Some digest) next inside = inside digest
 
-pub get_inside : (top : Option (List ℕ)) (key : List ℕ) → IsInside (get_plan sixteen top key)
-get_inside top key = λ u. from_top_inside top (λ digest. find sixteen sixteen.depth root digest key) (λ digest. find_inside sixteen.depth root digest key (root_place sixteen))
+pub get_inside : (top : Option (List ℕ)) (key : List ℕ) → IsInside (get_plan (form_of One) top key)
+get_inside top key = λ u. from_top_inside top (λ digest. find (form_of One) (form_of One).depth root digest key) (λ digest. find_inside (form_of One).depth root digest key (root_place (form_of One)))
 
 set_top_inside : (digest : List ℕ) → IsInside (set_top digest)
 set_top_inside digest = λ u. tt
 
-pub insert_inside : (top : Option (List ℕ)) (e : Entry) → IsInside (insert_plan sixteen top e)
+pub insert_inside : (top : Option (List ℕ)) (e : Entry) → IsInside (insert_plan (form_of One) top e)
 insert_inside top e = λ u.
-    from_top_inside top (λ digest. publish_plan sixteen digest e)
-    (λ digest. then_inside (enter sixteen sixteen.depth root (Some digest) e) set_top (enter_inside sixteen.depth root (Some digest) e (root_place sixteen)) (λ below. set_top_inside below))
+    from_top_inside top (λ digest. publish_plan (form_of One) digest e)
+    (λ digest. then_inside (enter (form_of One) (form_of One).depth root (Some digest) e) set_top (enter_inside (form_of One).depth root (Some digest) e (root_place (form_of One))) (λ below. set_top_inside below))
 
 -- ## The node at a position
 
@@ -116,26 +117,26 @@ above_lower : (l : ℕ) → suc l ≤ 3 → l ≤ 3
 above_lower l le = omega (arith, le)
 
 -- the node above a node of the tree is in the tree
-above_place : (l i : ℕ) → IsPosition (record { level = suc l; index = i }) → IsPosition (record { level = l; index = i / 16 })
+above_place : (l i : ℕ) → IsPosition One (record { level = suc l; index = i }) → IsPosition One (record { level = l; index = i / 16 })
 above_place l i is = record { level = above_lower l is.level; index = (div-lt_iff_lt-mul {k = 16} {x = i} {y = 16 ^ l} (lit< tt)).1 (wide l i is.index) }
 
-name_inside : (digest : List ℕ) (level index : ℕ) → IsPosition (record { level = level; index = index }) → IsInside (name_at sixteen digest level index)
-unfolding sixteen
+name_inside : (digest : List ℕ) (level index : ℕ) → IsPosition One (record { level = level; index = index }) → IsInside (name_at (form_of One) digest level index)
+unfolding form_of
 name_inside digest zero index is = tt
 name_inside digest (suc level) index is =
     let up = above_place level index is in
     let at : Position = record { level = level; index = index / 16 } in
-    then_inside (name_at sixteen digest level (index / 16)) _ (name_inside digest level (index / 16) up)
-    (λ named. onward_inside None (child_name sixteen at (index % 16)) named
-    (λ below. then_inside (open_node (sixteen.inner_at at) at below) _ (open_inside (sixteen.inner_at at) at below up) (λ names. tt)))
+    then_inside (name_at (form_of One) digest level (index / 16)) _ (name_inside digest level (index / 16) up)
+    (λ named. onward_inside None (child_name (form_of One) at (index % 16)) named
+    (λ below. then_inside (open_node ((form_of One).inner_at at) at below) _ (open_inside ((form_of One).inner_at at) at below up) (λ names. tt)))
 
-bytes_inside : (at : Position) (digest : List ℕ) → IsPosition at → IsInside (node_bytes sixteen at digest)
+bytes_inside : (at : Position) (digest : List ℕ) → IsPosition One at → IsInside (node_bytes (form_of One) at digest)
 bytes_inside at digest is =
-    then_inside (fetch at digest) _ (fetch_inside at digest is) (λ bytes. choice_inside (is_node sixteen (sixteen.depth - at.level) at bytes) (Done (Some bytes)) (Broken at) tt is)
+    then_inside (fetch at digest) _ (fetch_inside at digest is) (λ bytes. choice_inside (is_node (form_of One) ((form_of One).depth - at.level) at bytes) (Done (Some bytes)) (Broken at) tt is)
 
-under_inside : (at : Position) (digest : List ℕ) → IsPosition at → IsInside (node_under sixteen at digest)
+under_inside : (at : Position) (digest : List ℕ) → IsPosition One at → IsInside (node_under (form_of One) at digest)
 under_inside at digest is =
-    then_inside (name_at sixteen digest at.level at.index) _ (name_inside digest at.level at.index is) (λ named. onward_inside None (node_bytes sixteen at) named (λ below. bytes_inside at below is))
+    then_inside (name_at (form_of One) digest at.level at.index) _ (name_inside digest at.level at.index is) (λ named. onward_inside None (node_bytes (form_of One) at) named (λ below. bytes_inside at below is))
 
-pub node_inside : (top : Option (List ℕ)) (at : Position) → IsPosition at → IsInside (node_plan sixteen top at)
-node_inside top at is = from_top_inside top (node_under sixteen at) (λ digest. under_inside at digest is)
+pub node_inside : (top : Option (List ℕ)) (at : Position) → IsPosition One at → IsInside (node_plan (form_of One) top at)
+node_inside top at is = from_top_inside top (node_under (form_of One) at) (λ digest. under_inside at digest is)

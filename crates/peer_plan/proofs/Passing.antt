@@ -12,6 +12,7 @@ use Rattle.ens_object.specs.declared.object.Object.{Object}
 use Rattle.following.specs.Refusals.{is_served}
 use Rattle.following.specs.Requests.{row_21, row_22, row_23}
 use Rattle.kept_objects.specs.Kept.{entry_of, matching, object_in}
+use Rattle.leader_words.specs.Outs.{asked_by}
 use Rattle.leader_words.specs.declared.out.LeadOut.{LeadOut}
 use Rattle.leader_words.specs.declared.out.Outgoing.{Outgoing}
 use Rattle.leader_words.specs.declared.out.Own.{Own}
@@ -28,6 +29,7 @@ use Rattle.leading.proofs.TimeOuts.{row_5_ticks}
 use Rattle.peer_fact.specs.declared.fact.Fact.{Fact}
 use Rattle.election.specs.declared.election.Election.{Election}
 use Rattle.election.specs.declared.election.Election.TheVariants.{Preparing, Starting}
+use Rattle.tree_node.specs.declared.version.TreeVersion.TheVariants.{One}
 use Rattle.exchange.specs.declared.question.Question.{Question}
 use Rattle.phase_rows.specs.Orders.{is_same}
 use Rattle.phase_rows.specs.Peers.{joined}
@@ -47,6 +49,7 @@ use Rattle.register_model.specs.declared.note.Note.{Note}
 use Rattle.step_plans.specs.Calls.{Call, Save, Find, Enter, ScanTree, ReadNode, Install, Fetch, Put, Hash, AnswerOf}
 use Rattle.step_plans.specs.Outboxes.{out_of}
 use Rattle.step_plans.specs.Plans.{Plan, Done, Say, Ask, Out, nothing, Rest, Part, Finished, Runs, asked, noted}
+use Rattle.step_plans.specs.Saved.{with_seal}
 use Rattle.step_plans.specs.Sends.{posted_to}
 use Rattle.step_plans.specs.Steps.{Steps}
 use Rattle.step_plans.specs.Tasks.{named, keyed}
@@ -63,8 +66,10 @@ use Rattle.phase_rows.specs.declared.phase.Seen.{Seen}
 use Rattle.phase_rows.specs.declared.phase.Seen.TheVariants as seens
 use Rattle.phase_rows.specs.declared.phase.Then.{Then}
 use Rattle.phase_rows.specs.declared.phase.Then.TheVariants as thens
+use Rattle.phase_rows.specs.declared.rules.PhaseRule.TheVariants as phase_rules
+use Rattle.phase_rows.specs.declared.rules.KeyRule.{KeyRule}
 use Rattle.peer_plan.specs.Drives.{row_done, owned, own_key, followed_up, and_row, lead_done, lead, reminded, task_done, driven, led_in, ticked, shown, after_put, put_done, delivered, unavailable, first, most_turns, responded, concluded, step_of, MayCome}
-use Rattle.peer_plan.specs.Syncs.{saved, and_sends, with_sync, installed, accepted, accepted_own, accepted_in, synced, ended_with, gone_on, resumed_sync, followed_on, reached, own_node, body_of, shown_node, needs_node, taken_give}
+use Rattle.peer_plan.specs.Syncs.{saved, and_sends, with_sync, installed, accepted, accepted_own, accepted_in, end_sync, by_outcome, go_on, resume_sync, followed_on, reached, own_node, body_of, shown_node, needs_node, take_give}
 use Rattle.peer_plan.specs.Kept.{MaySend, AllMayGo, LeadsAs, SyncsAs, IsOwn, IsInTree, IsSound, Reaches}
 use Rattle.peer_state.specs.Leading.{older, end_of, ticks, row_5_calls}
 use Rattle.peer_state.specs.Moves.{left, left_answers, turned, turned_answers, ends_leading, leading, with_leader, and_answers, electing, without_sync}
@@ -104,8 +109,8 @@ apart a b test = λ same. grind (arith, nat_tests, test, same)
 same_me : (a b me : ℕ) → a ≡ b → b ≡ me → a ≡ me
 same_me a b me same is = same ∙ is
 
-key_led : (me n : ℕ) (key : List ℕ) (seen : Seen) → IsLedAs me (lead_row n key seen)
-key_led me n key seen l is = let step = lead_step n key seen l in (same_me _ _ me step.me is, may_as l.me me _ is step.sends)
+key_led : (me : ℕ) (rule : KeyRule) (key : List ℕ) (seen : Seen) → IsLedAs me (lead_row rule key seen)
+key_led me rule key seen l is = let step = lead_step rule key seen l in (same_me _ _ me step.me is, may_as l.me me _ is step.sends)
 
 got_led : (me from : ℕ) (ballot : Epoch) (round : ℕ) (key : List ℕ) (entry : Option Entry) (object : Option Object) → IsLedAs me (row_29_reply from ballot round key entry object)
 got_led me from ballot round key entry object l is = let step = row_29_reply_step from ballot round key entry object l in (same_me _ _ me step.me is, may_as l.me me _ is step.sends)
@@ -197,9 +202,10 @@ module _ (me : ℕ) (peer : IsPeer me) (P : State → Out → Type 0) where
   confirmed_reads (Some entry) (Some o) x out next go =
       asked_reaches (Hash (object_spelling o)) x out (λ digest y p. next (matching entry (Some (o, digest))) y p) (λ digest sound. go (matching entry (Some (o, digest))))
 
-  owned_sees : (n : ℕ) (own : Own) → Sees (owned n own)
-  owned_sees n (owns.Look key) x out next go = if_reaches (n == 28) _ _ (fetched_sees key x out next go) (looked_sees key x out next go)
-  owned_sees n (owns.Put o) x out next go = written_sees o x out next go
+  owned_sees : (own : Own) → Sees (owned own)
+  owned_sees (owns.Fetch key) x out next go = fetched_sees key x out next go
+  owned_sees (owns.Look key) x out next go = looked_sees key x out next go
+  owned_sees (owns.Put o) x out next go = written_sees o x out next go
 
   noted_reaches : (notes : List Note) (p : Plan State) → Reaches P p → Reaches P (noted notes p)
   noted_reaches [] p reaches = reaches
@@ -217,7 +223,7 @@ module _ (me : ℕ) (peer : IsPeer me) (P : State → Out → Type 0) where
   saved_passes : (save : Option Fact) → Passes (saved save)
   saved_passes None x out next good go = go tt x out good
   saved_passes (Some fact) x out next good go =
-      asked_reaches (Save fact) x out (λ u y o. next tt (record y { fact = fact }) o) (λ u sound. go tt (record x { fact = fact }) out good)
+      asked_reaches (Save (with_seal x.seal fact)) x out (λ u y o. next tt (record y { fact = fact }) o) (λ u sound. go tt (record x { fact = fact }) out good)
 
   -- ## Syncs
 
@@ -233,7 +239,7 @@ module _ (me : ℕ) (peer : IsPeer me) (P : State → Out → Type 0) where
   own_node_reads true at x out next go = asked_reaches (ReadNode at) x out (λ walked y o. next (reached walked) y o) (λ walked sound. go (reached walked))
   own_node_reads false at x out next go = go None
 
-  shown_node_shows : (answered : Bool) (q : Question) → IsPosition q.position → Shows IsShown (shown_node answered q)
+  shown_node_shows : (answered : Bool) (q : Question) → IsPosition One q.position → Shows IsShown (shown_node answered q)
   shown_node_shows true q at x out next go =
       asked_reaches (ReadNode q.position) x out (λ walked y o. next (Some (body_of q walked)) y o) (λ walked sound. go (Some (body_of q walked)) (body_obeys q walked at (sound at)))
   shown_node_shows false q at x out next go = go None tt
@@ -249,7 +255,7 @@ module _ (me : ℕ) (peer : IsPeer me) (P : State → Out → Type 0) where
       by_tests true low true high false other = one_may me _ ((at_most 1 fact.leader low, at_most fact.leader 31 high), apart fact.leader me other, tt)
 
   accepted_own_passes : (e : Election) → Passes (accepted_own me e)
-  accepted_own_passes (Starting new accepts age) x out next good go = go (tasks.Phase 14 ∷ []) (electing (Starting new (joined me accepts) age) x) out ((tt, good.0.1), good.1)
+  accepted_own_passes (Starting new accepts age) x out next good go = go (tasks.Phase phase_rules.EnoughAccepted ∷ []) (electing (Starting new (joined me accepts) age) x) out ((tt, good.0.1), good.1)
   accepted_own_passes (Preparing base promises asked age) x out next good go = go [] x out good
 
   accepted_in_passes : (fact : Fact) (phase : Phase) → Passes (accepted_in me fact phase)
@@ -258,40 +264,41 @@ module _ (me : ℕ) (peer : IsPeer me) (P : State → Out → Type 0) where
   accepted_in_passes fact (phases.Probing p) x out next good go = go [] x out good
   accepted_in_passes fact (phases.Leading l) x out next good go = go [] x out good
 
-  synced_passes : (r : Running) (entries : List Entry) → Passes (synced me r entries)
-  synced_passes r entries x out next good go =
+  end_sync_passes : (r : Running) (entries : List Entry) → Passes (end_sync me r entries)
+  end_sync_passes r entries x out next good go =
       installed_reads (needs_build r.sync.scan entries) entries (without_sync x) out
       (λ u y o. saved (Some r.fact) y o (λ v z p. accepted_in me r.fact z.phase (record z { trusted = true }) p next))
       (λ u. saved_passes (Some r.fact) (without_sync x) out (λ v z p. accepted_in me r.fact z.phase (record z { trusted = true }) p next) ((good.0.0, tt), good.1)
       (λ v z p fine. accepted_in_passes r.fact z.phase (record z { trusted = true }) p next fine go))
 
-  ended_with_passes : (r : Running) → AsksOthers me r → (outcome : Outcome) → Passes (ended_with me r outcome)
-  ended_with_passes r asks Pending x out next good go = go [] (with_sync r x) out ((good.0.0, asks), good.1)
-  ended_with_passes r asks (Trusted entries) x out next good go = synced_passes r entries x out next good go
+  by_outcome_passes : (r : Running) → AsksOthers me r → (outcome : Outcome) → Passes (by_outcome me r outcome)
+  by_outcome_passes r asks Pending x out next good go = go [] (with_sync r x) out ((good.0.0, asks), good.1)
+  by_outcome_passes r asks (Trusted entries) x out next good go = end_sync_passes r entries x out next good go
 
-  gone_on_passes : (r : Running × List Outgoing) → AsksOthers me r.0 → All (MaySend me) r.1 → Passes (gone_on me r)
-  gone_on_passes r asks may x out next good go = ended_with_passes r.0 asks (outcome_of r.0.sync) x (and_sends out r.1) next (good.0, and_sends_may me out r.1 good.1 may) go
+  go_on_passes : (r : Running × List Outgoing) → AsksOthers me r.0 → All (MaySend me) r.1 → Passes (go_on me r)
+  go_on_passes r asks may x out next good go = by_outcome_passes r.0 asks (outcome_of r.0.sync) x (and_sends out r.1) next (good.0, and_sends_may me out r.1 good.1 may) go
 
-  resumed_passes : (running : Option Running) → SyncsAs me running → Passes (resumed_sync running)
+  resumed_passes : (running : Option Running) → SyncsAs me running → Passes (resume_sync running)
   resumed_passes None is x out next good go = go [] x out good
   resumed_passes (Some r) is x out next good go =
       go [] (with_sync (row_resume r).0 x) (and_sends out (row_resume r).1) ((good.0.0, resumed_are me r is), and_sends_may me out (row_resume r).1 good.1 (resume_go me r is))
 
   followed_on_passes : (t : Then) → Passes (followed_on me t)
   followed_on_passes (thens.SyncOn fact) x out next good go =
-      asked_reaches ScanTree x out (λ scan y o. gone_on me (row_start fact me y.trusted scan) y o next)
-      (λ scan sound. gone_on_passes (row_start fact me x.trusted scan) (asks_are me (last_view fact.views)) (start_go fact me x.trusted scan) x out next good go)
+      asked_reaches ScanTree x out (λ scan y o. go_on me (row_start fact me y.trusted scan) y o next)
+      (λ scan sound. go_on_passes (row_start fact me x.trusted scan) (asks_are me (last_view fact.views)) (start_go fact me x.trusted scan) x out next good go)
   followed_on_passes thens.Resume x out next good go = resumed_passes x.sync good.0.1 x out next good go
   followed_on_passes (thens.Rule n) x out next good go = go (named (thens.Rule n)) x out good
+  followed_on_passes (thens.OnKeys n) x out next good go = go [] x out good
   followed_on_passes thens.Stay x out next good go = go [] x out good
   followed_on_passes thens.Follow x out next good go = go [] x out good
   followed_on_passes (thens.Lead fact) x out next good go = go [] x out good
   followed_on_passes thens.Untrust x out next good go = go [] x out good
   followed_on_passes thens.Put x out next good go = go [] x out good
 
-  taken_give_passes : (from : ℕ) (give : Give) (own : Option (List ℕ)) (running : Option Running) → SyncsAs me running → Passes (taken_give me from give own running)
-  taken_give_passes from give own None is x out next good go = go [] x out good
-  taken_give_passes from give own (Some r) is x out next good go = gone_on_passes (row_take from give own r) (taken_are me from give own r is) (take_go me from give own r is) x out next good go
+  take_give_passes : (from : ℕ) (give : Give) (own : Option (List ℕ)) (running : Option Running) → SyncsAs me running → Passes (take_give me from give own running)
+  take_give_passes from give own None is x out next good go = go [] x out good
+  take_give_passes from give own (Some r) is x out next good go = go_on_passes (row_take from give own r) (taken_are me from give own r is) (take_go me from give own r is) x out next good go
 
   row_done_passes : (row : PhaseOut) → MayGo me row → Passes (row_done me row)
   row_done_passes row may x out next good go =
@@ -303,24 +310,24 @@ module _ (me : ℕ) (peer : IsPeer me) (P : State → Out → Type 0) where
         answered_may (ends_leading row.then) y (and_sends o (posted_to row.to row.message)) (and_sends_may me o (posted_to row.to row.message) fine.1 (posted_to_may me row.to row.message may.1 may.0)),
       ) go)
 
-  followed_up_passes : (n : ℕ) (own : Option Own) (turn : Then) (keys : List (List ℕ)) → Passes (followed_up me n own turn keys)
-  followed_up_passes n None turn keys x out next good go =
+  followed_up_passes : (own : Option Own) (turn : Then) (keys : List (List ℕ)) → Passes (followed_up me own turn keys)
+  followed_up_passes None turn keys x out next good go =
       go (keyed turn keys) (turned me turn x) (turned_answers turn x out) (turned_own me turn x good.0, answered_may (ends_leading turn) x out good.1)
-  followed_up_passes n (Some own) turn keys x out next good go =
-      owned_sees n own x out (λ seen y o. next (tasks.Again n (own_key own) seen ∷ []) y o) (λ seen is. go (tasks.Again n (own_key own) seen ∷ []) x out good)
+  followed_up_passes (Some own) turn keys x out next good go =
+      owned_sees own x out (λ seen y o. next (tasks.Again (asked_by own) (own_key own) seen ∷ []) y o) (λ seen is. go (tasks.Again (asked_by own) (own_key own) seen ∷ []) x out good)
 
-  lead_done_passes : (n : ℕ) (row : LeadOut) → All (MaySend me) row.sends → Passes (lead_done me n row)
-  lead_done_passes n row may x out next good go =
-      noted_reaches row.notes (followed_up me n row.own row.then row.keys (left row.leave x) (and_row row x out) next)
-      (followed_up_passes n row.own row.then row.keys (left row.leave x) (and_row row x out) next
+  lead_done_passes : (row : LeadOut) → All (MaySend me) row.sends → Passes (lead_done me row)
+  lead_done_passes row may x out next good go =
+      noted_reaches row.notes (followed_up me row.own row.then row.keys (left row.leave x) (and_row row x out) next)
+      (followed_up_passes row.own row.then row.keys (left row.leave x) (and_row row x out) next
       (left_own me row.leave x good.0, and_sends_may me (and_answers (left_answers row.leave x out) row.answers) row.sends (answered_may row.leave x out good.1) may) go)
 
-  lead_passes : (row : Leader → Leader × LeadOut) → IsLedAs me row → (n : ℕ) (phase : Phase) → LeadsAs me phase → Passes (lead row me n phase)
-  lead_passes row led n (phases.Leading l) is x out next good go =
-      let step = led l.leader is in lead_done_passes n (row l.leader).1 step.1 (leading (with_leader (row l.leader).0 l) x) out next ((step.0, good.0.1), good.1) go
-  lead_passes row led n (phases.Following f) is x out next good go = go [] x out good
-  lead_passes row led n (phases.Probing p) is x out next good go = go [] x out good
-  lead_passes row led n (phases.Electing e) is x out next good go = go [] x out good
+  lead_passes : (row : Leader → Leader × LeadOut) → IsLedAs me row → (phase : Phase) → LeadsAs me phase → Passes (lead row me phase)
+  lead_passes row led (phases.Leading l) is x out next good go =
+      let step = led l.leader is in lead_done_passes (row l.leader).1 step.1 (leading (with_leader (row l.leader).0 l) x) out next ((step.0, good.0.1), good.1) go
+  lead_passes row led (phases.Following f) is x out next good go = go [] x out good
+  lead_passes row led (phases.Probing p) is x out next good go = go [] x out good
+  lead_passes row led (phases.Electing e) is x out next good go = go [] x out good
 
   reminded_passes : (phase : Phase) → LeadsAs me phase → Passes (reminded phase)
   reminded_passes (phases.Leading l) is x out next good go =
@@ -332,10 +339,10 @@ module _ (me : ℕ) (peer : IsPeer me) (P : State → Out → Type 0) where
   task_done_passes : (t : Task) → Passes (task_done me t)
   task_done_passes (tasks.Phase n) x out next good go =
       let row = phase_row_goes me peer n x good.0.0 in
-      if_reaches (n == 5) _ _ (reminded_passes x.phase good.0.0 x out next good go)
-      (row_done_passes (phase_row n me x).1 row.1 (phase_row n me x).0 out next ((row.0, phase_row_syncs me n x good.0.1), good.1) go)
-  task_done_passes (tasks.Key n key) x out next good go = lead_passes (lead_row n key seens.Nothing) (key_led me n key seens.Nothing) n x.phase good.0.0 x out next good go
-  task_done_passes (tasks.Again n key seen) x out next good go = lead_passes (lead_row n key seen) (key_led me n key seen) n x.phase good.0.0 x out next good go
+      row_done_passes (phase_row n me x).1 row.1 (phase_row n me x).0 out next ((row.0, phase_row_syncs me n x good.0.1), good.1) go
+  task_done_passes tasks.Remind x out next good go = reminded_passes x.phase good.0.0 x out next good go
+  task_done_passes (tasks.Key n key) x out next good go = lead_passes (lead_row n key seens.Nothing) (key_led me n key seens.Nothing) x.phase good.0.0 x out next good go
+  task_done_passes (tasks.Again n key seen) x out next good go = lead_passes (lead_row n key seen) (key_led me n key seen) x.phase good.0.0 x out next good go
 
   driven_passes : (n : ℕ) (ts : List Task) → Passes (driven me n ts)
   unfolding driven
@@ -347,8 +354,8 @@ module _ (me : ℕ) (peer : IsPeer me) (P : State → Out → Type 0) where
   led_in_passes : (phase : Phase) → LeadsAs me phase → Passes (led_in me phase)
   led_in_passes (phases.Leading l) is x out next good go =
       let tick = row_5_ticks (end_of (older l.change)) l.leader in
-      lead_done_passes 5 (row_5_calls x.fact l).1 (none_may me _ tick.sends) (leading (row_5_calls x.fact l).0 x) out (λ ts y o. next (ts ++ tasks.Phase 5 ∷ []) y o) ((same_me _ _ me tick.me is, good.0.1), good.1)
-      (λ ts y o fine. go (ts ++ tasks.Phase 5 ∷ []) y o fine)
+      lead_done_passes (row_5_calls x.fact l).1 (none_may me _ tick.sends) (leading (row_5_calls x.fact l).0 x) out (λ ts y o. next (ts ++ tasks.Remind ∷ []) y o) ((same_me _ _ me tick.me is, good.0.1), good.1)
+      (λ ts y o fine. go (ts ++ tasks.Remind ∷ []) y o fine)
   led_in_passes (phases.Following f) is x out next good go = go [] x out good
   led_in_passes (phases.Probing p) is x out next good go = go [] x out good
   led_in_passes (phases.Electing e) is x out next good go = go [] x out good
@@ -369,6 +376,7 @@ module _ (me : ℕ) (peer : IsPeer me) (P : State → Out → Type 0) where
   put_done_passes thens.Resume from other ballot o row may x out next good go = row_done_passes row may x out next good go
   put_done_passes (thens.SyncOn fact) from other ballot o row may x out next good go = row_done_passes row may x out next good go
   put_done_passes (thens.Rule n) from other ballot o row may x out next good go = row_done_passes row may x out next good go
+  put_done_passes (thens.OnKeys n) from other ballot o row may x out next good go = row_done_passes row may x out next good go
 
   delivered_passes : (from : ℕ) → from ≢ me → (message : Message) → Obeys message → Passes (delivered me from message)
   delivered_passes from other (messages.Get ballot round key) obeys x out next good go =
@@ -380,19 +388,19 @@ module _ (me : ℕ) (peer : IsPeer me) (P : State → Out → Type 0) where
       (λ seen is. put_done_passes (row_22 x.fact x.trusted from ballot o seen).then from other ballot o (row_22 x.fact x.trusted from ballot o seen) (row_22_may me peer from other x.fact x.trusted ballot o seen is) x out next good go)
   delivered_passes from other (messages.GetReply ballot round key entry object) obeys x out next good go =
       if_reaches (leads x.phase) _ _
-      (confirmed_reads entry object x out (λ named y o. lead (row_29_reply from ballot round key entry named) me 29 y.phase y o next)
-      (λ named. lead_passes (row_29_reply from ballot round key entry named) (got_led me from ballot round key entry named) 29 x.phase good.0.0 x out next good go))
+      (confirmed_reads entry object x out (λ named y o. lead (row_29_reply from ballot round key entry named) me y.phase y o next)
+      (λ named. lead_passes (row_29_reply from ballot round key entry named) (got_led me from ballot round key entry named) x.phase good.0.0 x out next good go))
       (go [] x out good)
-  delivered_passes from other (messages.PutReply ballot key version) obeys x out next good go = lead_passes (row_35_reply from ballot key version) (put_led me from ballot key version) 35 x.phase good.0.0 x out next good go
-  delivered_passes from other (messages.CheckReply ballot round) obeys x out next good go = lead_passes (row_33_reply from ballot round) (checked_led me from ballot round) 33 x.phase good.0.0 x out next good go
+  delivered_passes from other (messages.PutReply ballot key version) obeys x out next good go = lead_passes (row_35_reply from ballot key version) (put_led me from ballot key version) x.phase good.0.0 x out next good go
+  delivered_passes from other (messages.CheckReply ballot round) obeys x out next good go = lead_passes (row_33_reply from ballot round) (checked_led me from ballot round) x.phase good.0.0 x out next good go
   delivered_passes from other (messages.TreeAsk ballot at after) obeys x out next good go =
       let q : Question = record { position = at; after = after } in
       shown_node_shows (is_same ballot x.fact.ballot) q obeys x out (λ body y o. row_done me (row_23 y.fact y.trusted from ballot q.position q.after body) y o next)
       (λ body is. row_done_passes (row_23 x.fact x.trusted from ballot at after body) (row_23_may me peer from other x.fact x.trusted ballot at after body obeys is) x out next good go)
   delivered_passes from other (messages.TreeGive ballot at after trusted body) obeys x out next good go =
       let give : Give = record { ballot = ballot; question = record { position = at; after = after }; trusted = trusted; body = body } in
-      own_node_reads (needs_node from give x.sync) at x out (λ own y o. taken_give me from give own y.sync y o next)
-      (λ own. taken_give_passes from give own x.sync good.0.1 x out next good go)
+      own_node_reads (needs_node from give x.sync) at x out (λ own y o. take_give me from give own y.sync y o next)
+      (λ own. take_give_passes from give own x.sync good.0.1 x out next good go)
   delivered_passes from other message obeys x out next good go =
       let row = received_goes me peer from message x other good.0.0 in
       row_done_passes (received me from message x).1 row.1 (received me from message x).0 out next ((row.0, received_syncs me from message x good.0.1), good.1) go
@@ -402,7 +410,7 @@ module _ (me : ℕ) (peer : IsPeer me) (P : State → Out → Type 0) where
   first_passes events.Tick come x out next good go = ticked_passes x.phase good.0.0 x out next good go
   first_passes (events.Call call) come x out next good go =
       if_reaches (leads x.phase) _ _
-      (lead_passes (row_27 call.from call.id call.key call.command (changes x.phase)) (joined_led me call.from call.id call.key call.command (changes x.phase)) 27 x.phase good.0.0 x out next good go)
+      (lead_passes (row_27 call.from call.id call.key call.command (changes x.phase)) (joined_led me call.from call.id call.key call.command (changes x.phase)) x.phase good.0.0 x out next good go)
       (go [] x (and_answers out (unavailable call ∷ [])) good)
   first_passes (events.Change view) come x out next good go =
       row_done_passes (asked_change view x).1.0 (asked_may me peer view x) (asked_change view x).0 _ next ((asked_as me view x good.0.0, asked_syncs me view x good.0.1), good.1) go
@@ -418,7 +426,7 @@ module _ (me : ℕ) (peer : IsPeer me) (P : State → Out → Type 0) where
   responded_passes event come x out next good go = first_passes event come x out (onward next) good (onward_goes next go)
 
   concluded_passes : Passes (concluded me)
-  concluded_passes x out next good go = task_done_passes (tasks.Phase 26) x out (onward next) good (onward_goes next go)
+  concluded_passes x out next good go = task_done_passes (tasks.Phase phase_rules.EndEpoch) x out (onward next) good (onward_goes next go)
 
 -- the messages of a step may be sent, and the peer still sends as itself
 pub steps_keep : (me : ℕ) (event : Event) (x : State) → IsPeer me → MayCome me event → IsOwn me x → Reaches (λ y out. IsOwn me y × AllMayGo me out) (step_of me event x)

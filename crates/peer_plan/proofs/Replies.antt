@@ -12,6 +12,7 @@ use Rattle.following.specs.Requests.{gets, row_21, is_version_below, puts_at, pu
 use Rattle.peer_fact.specs.declared.fact.Fact.{Fact}
 use Rattle.phase_rows.specs.Orders.{is_below, is_same}
 use Rattle.phase_rows.specs.Peers.{alone}
+use Rattle.tree_node.specs.declared.version.TreeVersion.TheVariants.{One}
 use Rattle.tree_node.specs.Positions.{IsPosition}
 use Rattle.tree_node.specs.declared.body.TreeBody.{TreeBody}
 use Rattle.tree_node.specs.declared.body.TreeBody.TheVariants as bodies
@@ -26,7 +27,7 @@ use Rattle.peer_plan.proofs.Grammar.{MayGo, none_me, alone_me}
 
 -- the damage that was seen, if any, is at a position of the tree
 abbrev pub IsSeenInTree : Seen → Type 0
-IsSeenInTree (seens.Damaged at) = IsPosition at
+IsSeenInTree (seens.Damaged at) = IsPosition One at
 IsSeenInTree seens.Nothing = Unit {0}
 IsSeenInTree (seens.Held entry object) = Unit {0}
 IsSeenInTree (seens.Kept object) = Unit {0}
@@ -85,16 +86,16 @@ module _ (me : ℕ) (peer : IsPeer me) (from : ℕ) (other : from ≢ me) where
   after_put_may ballot row (seens.Kept object) is may = may
   after_put_may ballot row (seens.Stored digest) is may = may
 
-  gives_may : (trusted : Bool) (ballot : Epoch) (at : Position) (after : Option (List ℕ)) (body : TreeBody) → IsPosition at → ObeysBody body → MayGo me (gives trusted from ballot at after body)
+  gives_may : (trusted : Bool) (ballot : Epoch) (at : Position) (after : Option (List ℕ)) (body : TreeBody) → IsPosition One at → ObeysBody body → MayGo me (gives trusted from ballot at after body)
   gives_may trusted ballot at after (bodies.Inner mask digests) is obeys = ((is, obeys), to_it)
   gives_may trusted ballot at after (bodies.Page entries more) is obeys = ((is, obeys), to_it)
   gives_may trusted ballot at after (bodies.Damaged place) is obeys = ((is, obeys), to_it)
 
-  gives_read_may : (trusted : Bool) (ballot : Epoch) (at : Position) (after : Option (List ℕ)) (body : Option TreeBody) → IsPosition at → IsShown body → MayGo me (gives_read trusted from ballot at after body)
+  gives_read_may : (trusted : Bool) (ballot : Epoch) (at : Position) (after : Option (List ℕ)) (body : Option TreeBody) → IsPosition One at → IsShown body → MayGo me (gives_read trusted from ballot at after body)
   gives_read_may trusted ballot at after None is shown = (tt, none_me me peer)
   gives_read_may trusted ballot at after (Some body) is shown = gives_may trusted ballot at after body is shown
 
-  pub row_23_may : (fact : Fact) (trusted : Bool) (ballot : Epoch) (at : Position) (after : Option (List ℕ)) (body : Option TreeBody) → IsPosition at → IsShown body → MayGo me (row_23 fact trusted from ballot at after body)
+  pub row_23_may : (fact : Fact) (trusted : Bool) (ballot : Epoch) (at : Position) (after : Option (List ℕ)) (body : Option TreeBody) → IsPosition One at → IsShown body → MayGo me (row_23 fact trusted from ballot at after body)
   row_23_may fact trusted ballot at after body is shown =
       either (MayGo me) (is_below ballot fact.ballot) _ _ (tt, to_it)
       (either (MayGo me) (is_same ballot fact.ballot) _ _ (gives_read_may trusted ballot at after body is shown) (tt, none_me me peer))

@@ -27,9 +27,11 @@ use Rattle.view_change.specs.declared.finishing.Finishing.{Finishing}
 use Rattle.phase_rows.specs.declared.phase.PhaseOut.{PhaseOut}
 use Rattle.phase_rows.specs.declared.phase.Then.{Then}
 use Rattle.phase_rows.specs.declared.phase.Then.TheVariants as thens
+use Rattle.phase_rows.specs.declared.rules.PhaseRule.TheVariants as phase_rules
+use Rattle.phase_rows.specs.declared.rules.PhaseRule.{PhaseRule}
 use Rattle.peer_state.specs.Ages.{IsYoung}
 use Rattle.peer_plan.specs.Drives.{row_done, driven, concluded, most_turns, step_of, MayCome}
-use Rattle.peer_plan.specs.Syncs.{saved, and_sends, with_sync, accepted, accepted_own, accepted_in, ended_with, gone_on, resumed_sync, followed_on}
+use Rattle.peer_plan.specs.Syncs.{saved, and_sends, with_sync, accepted, accepted_own, accepted_in, by_outcome, go_on, resume_sync, followed_on}
 use Rattle.peer_plan.specs.Kept.{IsStepCall}
 use Rattle.peer_state.specs.Moves.{stopped_leading, without_candidacy, left, left_answers, turned, turned_answers, electing, without_sync}
 use Rattle.peer_state.specs.NoAllocation.{is_over, is_over_in, IsSteady}
@@ -97,6 +99,7 @@ turned_none me thens.Put x none = none
 turned_none me thens.Resume x none = none
 turned_none me (thens.SyncOn fact) x none = none
 turned_none me (thens.Rule n) x none = none
+turned_none me (thens.OnKeys n) x none = none
 
 module _ (me : ℕ) (P : State → Out → Type 0) where
   -- from each state in which no change has begun, the end is reached
@@ -117,35 +120,36 @@ module _ (me : ℕ) (P : State → Out → Type 0) where
   GoesWith ts next = (y : State) (o : Out) → HasBegunNone y.phase → Follows IsStepCall P (next ts y o)
 
   -- after a sync, no task follows, or rule 14 does
-  accepted_own_settles : (e : Election) (x : State) (out : Out) (next : Rest State (List Task)) → HasBegunNone x.phase → GoesWith [] next → GoesWith (tasks.Phase 14 ∷ []) next → Follows IsStepCall P (accepted_own me e x out next)
+  accepted_own_settles : (e : Election) (x : State) (out : Out) (next : Rest State (List Task)) → HasBegunNone x.phase → GoesWith [] next → GoesWith (tasks.Phase phase_rules.EnoughAccepted ∷ []) next → Follows IsStepCall P (accepted_own me e x out next)
   accepted_own_settles (Starting new accepts age) x out next none go own = own (electing (Starting new (joined me accepts) age) x) out tt
   accepted_own_settles (Preparing base promises asked age) x out next none go own = go x out none
 
-  accepted_in_settles : (fact : Fact) (phase : Phase) (x : State) (out : Out) (next : Rest State (List Task)) → HasBegunNone x.phase → GoesWith [] next → GoesWith (tasks.Phase 14 ∷ []) next → Follows IsStepCall P (accepted_in me fact phase x out next)
+  accepted_in_settles : (fact : Fact) (phase : Phase) (x : State) (out : Out) (next : Rest State (List Task)) → HasBegunNone x.phase → GoesWith [] next → GoesWith (tasks.Phase phase_rules.EnoughAccepted ∷ []) next → Follows IsStepCall P (accepted_in me fact phase x out next)
   accepted_in_settles fact (phases.Electing e) x out next none go own = accepted_own_settles e x out next none go own
   accepted_in_settles fact (phases.Following f) x out next none go own = go x (and_sends out (accepted me fact)) none
   accepted_in_settles fact (phases.Probing p) x out next none go own = go x out none
   accepted_in_settles fact (phases.Leading l) x out next none go own = go x out none
 
-  ended_with_settles : (r : Running) (outcome : Outcome) (x : State) (out : Out) (next : Rest State (List Task)) → HasBegunNone x.phase → GoesWith [] next → GoesWith (tasks.Phase 14 ∷ []) next → Follows IsStepCall P (ended_with me r outcome x out next)
-  ended_with_settles r Pending x out next none go own = go (with_sync r x) out none
-  ended_with_settles r (Trusted entries) x out next none go own =
+  by_outcome_settles : (r : Running) (outcome : Outcome) (x : State) (out : Out) (next : Rest State (List Task)) → HasBegunNone x.phase → GoesWith [] next → GoesWith (tasks.Phase phase_rules.EnoughAccepted ∷ []) next → Follows IsStepCall P (by_outcome me r outcome x out next)
+  by_outcome_settles r Pending x out next none go own = go (with_sync r x) out none
+  by_outcome_settles r (Trusted entries) x out next none go own =
       installed_asks P (needs_build r.sync.scan entries) entries (without_sync x) out
       (λ u y o. saved (Some r.fact) y o (λ v z p. accepted_in me r.fact z.phase (record z { trusted = true }) p next))
       (λ u. saved_settles (Some r.fact) (without_sync x) out (λ v z p. accepted_in me r.fact z.phase (record z { trusted = true }) p next) none
       (λ v z p still. accepted_in_settles r.fact z.phase (record z { trusted = true }) p next still go own))
 
-  resumed_settles : (running : Option Running) (x : State) (out : Out) (next : Rest State (List Task)) → HasBegunNone x.phase → GoesWith [] next → Follows IsStepCall P (resumed_sync running x out next)
+  resumed_settles : (running : Option Running) (x : State) (out : Out) (next : Rest State (List Task)) → HasBegunNone x.phase → GoesWith [] next → Follows IsStepCall P (resume_sync running x out next)
   resumed_settles None x out next none go = go x out none
   resumed_settles (Some r) x out next none go = go (with_sync (row_resume r).0 x) (and_sends out (row_resume r).1) none
 
-  followed_on_settles : (t : Then) (x : State) (out : Out) (next : Rest State (List Task)) → HasBegunNone x.phase → GoesWith [] next → GoesWith (tasks.Phase 14 ∷ []) next → GoesWith (named t) next
+  followed_on_settles : (t : Then) (x : State) (out : Out) (next : Rest State (List Task)) → HasBegunNone x.phase → GoesWith [] next → GoesWith (tasks.Phase phase_rules.EnoughAccepted ∷ []) next → GoesWith (named t) next
       → Follows IsStepCall P (followed_on me t x out next)
   followed_on_settles (thens.SyncOn fact) x out next none go own goes =
-      asked_asks P ScanTree tt x out (λ scan y o. gone_on me (row_start fact me y.trusted scan) y o next)
-      (λ scan. let r = row_start fact me x.trusted scan in ended_with_settles r.0 (outcome_of r.0.sync) x (and_sends out r.1) next none go own)
+      asked_asks P ScanTree tt x out (λ scan y o. go_on me (row_start fact me y.trusted scan) y o next)
+      (λ scan. let r = row_start fact me x.trusted scan in by_outcome_settles r.0 (outcome_of r.0.sync) x (and_sends out r.1) next none go own)
   followed_on_settles thens.Resume x out next none go own goes = resumed_settles x.sync x out next none go
   followed_on_settles (thens.Rule n) x out next none go own goes = goes x out none
+  followed_on_settles (thens.OnKeys n) x out next none go own goes = go x out none
   followed_on_settles thens.Stay x out next none go own goes = go x out none
   followed_on_settles thens.Follow x out next none go own goes = go x out none
   followed_on_settles (thens.Lead fact) x out next none go own goes = go x out none
@@ -153,7 +157,7 @@ module _ (me : ℕ) (P : State → Out → Type 0) where
   followed_on_settles thens.Put x out next none go own goes = go x out none
 
   -- after a row, no task follows, or rule 14 does, or the rule that it names
-  row_done_settles : (row : PhaseOut) (x : State) (out : Out) (next : Rest State (List Task)) → HasBegunNone x.phase → GoesWith [] next → GoesWith (tasks.Phase 14 ∷ []) next → GoesWith (named row.then) next
+  row_done_settles : (row : PhaseOut) (x : State) (out : Out) (next : Rest State (List Task)) → HasBegunNone x.phase → GoesWith [] next → GoesWith (tasks.Phase phase_rules.EnoughAccepted ∷ []) next → GoesWith (named row.then) next
       → Follows IsStepCall P (row_done me row x out next)
   row_done_settles row x out next none go own goes =
       saved_settles row.save (left row.leave x) (left_answers row.leave x out)
@@ -165,8 +169,9 @@ module _ (me : ℕ) (P : State → Out → Type 0) where
   nothing_settles zero x out next none go = go [] x out none
   nothing_settles (suc n) x out next none go = go [] x out none
 
-  only_settles : (n k : ℕ) (t : Then) → NamesOnly k t → Settles (driven me n (tasks.Phase k ∷ [])) → Settles (driven me n (named t ++ []))
+  only_settles : (n : ℕ) (k : PhaseRule) (t : Then) → NamesOnly k t → Settles (driven me n (tasks.Phase k ∷ [])) → Settles (driven me n (named t ++ []))
   only_settles n k (thens.Rule r) is settles = rw is settles
+  only_settles n k (thens.OnKeys r) is settles = nothing_settles n
   only_settles n k thens.Stay is settles = nothing_settles n
   only_settles n k thens.Follow is settles = nothing_settles n
   only_settles n k (thens.Lead fact) is settles = nothing_settles n
@@ -177,6 +182,7 @@ module _ (me : ℕ) (P : State → Out → Type 0) where
 
   none_settles : (n : ℕ) (t : Then) → NamesNone t → Settles (driven me n (named t ++ []))
   none_settles n (thens.Rule r) is = absurd is
+  none_settles n (thens.OnKeys r) is = nothing_settles n
   none_settles n thens.Stay is = nothing_settles n
   none_settles n thens.Follow is = nothing_settles n
   none_settles n (thens.Lead fact) is = nothing_settles n
@@ -185,21 +191,21 @@ module _ (me : ℕ) (P : State → Out → Type 0) where
   none_settles n thens.Resume is = nothing_settles n
   none_settles n (thens.SyncOn fact) is = absurd is
 
-  settles_14 : (n : ℕ) → Settles (driven me n (tasks.Phase 14 ∷ []))
+  accepted_settles : (n : ℕ) → Settles (driven me n (tasks.Phase phase_rules.EnoughAccepted ∷ []))
   unfolding driven
-  settles_14 zero x out next none go = go _ x out none
-  settles_14 (suc n) x out next none go =
+  accepted_settles zero x out next none go = go _ x out none
+  accepted_settles (suc n) x out next none go =
       row_done_settles (while_14 x.phase me x).1 (while_14 x.phase me x).0 out (λ ts y o. driven me n (ts ++ []) y o next) (by_electing (λ r. HasBegunNone r.0.phase) x.phase (λ e is. tt) none)
-      (λ y o still. nothing_settles n y o next still go) (λ y o still. settles_14 n y o next still go)
+      (λ y o still. nothing_settles n y o next still go) (λ y o still. accepted_settles n y o next still go)
       (λ y o still. none_settles n (while_14 x.phase me x).1.then (by_electing (λ r. NamesNone r.1.then) x.phase (λ e is. then_14 e me) tt) y o next still go)
 
-  settles_13 : (n : ℕ) → Settles (driven me n (tasks.Phase 13 ∷ []))
+  promised_settles : (n : ℕ) → Settles (driven me n (tasks.Phase phase_rules.EnoughPromised ∷ []))
   unfolding driven
-  settles_13 zero x out next none go = go _ x out none
-  settles_13 (suc n) x out next none go =
+  promised_settles zero x out next none go = go _ x out none
+  promised_settles (suc n) x out next none go =
       row_done_settles (while_13 x.phase me x).1 (while_13 x.phase me x).0 out (λ ts y o. driven me n (ts ++ []) y o next) (by_electing (λ r. HasBegunNone r.0.phase) x.phase (λ e is. tt) none)
-      (λ y o still. nothing_settles n y o next still go) (λ y o still. settles_14 n y o next still go)
-      (λ y o still. only_settles n 14 (while_13 x.phase me x).1.then (by_electing (λ r. NamesOnly 14 r.1.then) x.phase (λ e is. then_13 e x.fact me x.trusted) tt) (settles_14 n) y o next still go)
+      (λ y o still. nothing_settles n y o next still go) (λ y o still. accepted_settles n y o next still go)
+      (λ y o still. only_settles n phase_rules.EnoughAccepted (while_13 x.phase me x).1.then (by_electing (λ r. NamesOnly phase_rules.EnoughAccepted r.1.then) x.phase (λ e is. then_13 e x.fact me x.trusted) tt) (accepted_settles n) y o next still go)
 
   -- what comes next reaches the end from each steady state
   abbrev GoesOn : Rest State (Unit {0}) → Type 0
@@ -225,14 +231,14 @@ module _ (me : ℕ) (P : State → Out → Type 0) where
       by_test false e = rw e (
           row_done_settles (prepares x.fact me x.fact (next_ballot x.fact.ballot.count me)).0 _ out (λ ts y o. driven me n (ts ++ []) y o (λ rest z q. next tt z q)) tt
           (λ y o still. nothing_settles n y o (λ rest z q. next tt z q) still (λ rest z q none. go z q (none_steady z.phase z.fact none)))
-          (λ y o still. settles_14 n y o (λ rest z q. next tt z q) still (λ rest z q none. go z q (none_steady z.phase z.fact none)))
-          (λ y o still. settles_13 n y o (λ rest z q. next tt z q) still (λ rest z q none. go z q (none_steady z.phase z.fact none)))
+          (λ y o still. accepted_settles n y o (λ rest z q. next tt z q) still (λ rest z q none. go z q (none_steady z.phase z.fact none)))
+          (λ y o still. promised_settles n y o (λ rest z q. next tt z q) still (λ rest z q none. go z q (none_steady z.phase z.fact none)))
           )
 
-  driven_10 : (n : ℕ) (l : Leadership) (x : State) (out : Out) (next : Rest State (Unit {0})) → x.phase ≡ phases.Leading l → GoesOn next
-      → Follows IsStepCall P (driven me (suc n) (tasks.Phase 10 ∷ []) x out (λ rest z q. next tt z q))
+  prepare_driven : (n : ℕ) (l : Leadership) (x : State) (out : Out) (next : Rest State (Unit {0})) → x.phase ≡ phases.Leading l → GoesOn next
+      → Follows IsStepCall P (driven me (suc n) (tasks.Phase phase_rules.Prepare ∷ []) x out (λ rest z q. next tt z q))
   unfolding driven
-  driven_10 n l x out next is go =
+  prepare_driven n l x out next is go =
       subst (λ k. Follows IsStepCall P (row_done me (while_10 k me x).1 (while_10 k me x).0 out (λ ts y o. driven me n (ts ++ []) y o (λ rest z q. next tt z q)))) (sym is)
       (prepares_or_follows n l x out next go)
 
@@ -245,8 +251,8 @@ module _ (me : ℕ) (P : State → Out → Type 0) where
           let Q : Phase → Type 0 = λ phase. is_over_in phase x.fact ≡ false in let R : ChangeState → Type 0 = λ c. is_over c x.fact (has_calls l.leader.table.calls) ≡ false in subst Q (sym is) (subst R (sym e) over)
 
       by_end : (f : Finishing) → l.change ≡ Finishes f → (t : Bool) → may_end f x.fact (has_calls l.leader.table.calls) ≡ t → (m : Bool)
-          → Follows IsStepCall P (row_done me (silent (if t then (if m then thens.Rule 10 else thens.Follow) else thens.Stay)) x out (onward next))
-      by_end f e true may true = rw most_is_some (driven_10 (2 ^ 64 - 2) l x _ next is go)
+          → Follows IsStepCall P (row_done me (silent (if t then (if m then thens.Rule phase_rules.Prepare else thens.Follow) else thens.Stay)) x out (onward next))
+      by_end f e true may true = rw most_is_some (prepare_driven (2 ^ 64 - 2) l x _ next is go)
       by_end f e true may false = no_task most_turns _ _ (λ rest z q. next tt z q) (go _ _ refl)
       by_end f e false may m = no_task most_turns _ _ (λ rest z q. next tt z q) (go x _ (steady (Finishes f) e may))
 

@@ -8,12 +8,12 @@ use Rattle.sync_rule.specs.declared.sync.Outcome.{Outcome}
 use Rattle.sync_rule.specs.declared.sync.Outcome.TheVariants.{Pending, Trusted}
 use Rattle.sync_rule.specs.Syncs.{outcome_of}
 use Rattle.peer_state.specs.Moves.{without_sync}
-use Rattle.peer_plan.specs.Syncs.{and_sends, ended_with, gone_on}
+use Rattle.peer_plan.specs.Syncs.{and_sends, by_outcome, go_on}
 use Rattle.peer_state.specs.declared.state.State.{State}
 
-ended_without : (me : ℕ) (r : Running) (outcome : Outcome) (x : State) (out : Out) (next : Rest State (List Task)) → ended_with me r outcome (without_sync x) out next ≡ ended_with me r outcome x out next
-ended_without me r Pending x out next = refl
-ended_without me r (Trusted entries) x out next = refl
+by_outcomeout : (me : ℕ) (r : Running) (outcome : Outcome) (x : State) (out : Out) (next : Rest State (List Task)) → by_outcome me r outcome (without_sync x) out next ≡ by_outcome me r outcome x out next
+by_outcomeout me r Pending x out next = refl
+by_outcomeout me r (Trusted entries) x out next = refl
 
-pub gone_on_without : (me : ℕ) (r : Running × List Outgoing) (x : State) (out : Out) (next : Rest State (List Task)) → gone_on me r (without_sync x) out next ≡ gone_on me r x out next
-gone_on_without me r x out next = ended_without me r.0 (outcome_of r.0.sync) x (and_sends out r.1) next
+pub go_on_without : (me : ℕ) (r : Running × List Outgoing) (x : State) (out : Out) (next : Rest State (List Task)) → go_on me r (without_sync x) out next ≡ go_on me r x out next
+go_on_without me r x out next = by_outcomeout me r.0 (outcome_of r.0.sync) x (and_sends out r.1) next

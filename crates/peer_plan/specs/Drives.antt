@@ -1,6 +1,6 @@
 -- A step as a loop: each task is run, and the rules that its row names go in front of the tasks
 -- that are left.
-use Rattle.std.specs.Prelude.{◌≢◌, ℕ, zero, suc, ◌-◌, ◌^◌, ◌==◌, Bool, true, false, if◌then◌else◌, List, [], ◌∷◌, ◌++◌, Option, Some, None}
+use Rattle.std.specs.Prelude.{◌≢◌, ℕ, zero, suc, ◌-◌, ◌^◌, Bool, true, false, if◌then◌else◌, List, [], ◌∷◌, ◌++◌, Option, Some, None}
 use Rattle.ens_base.specs.View.{IsPeer}
 use Rattle.ens_base.specs.declared.entry.Entry.{Entry}
 use Rattle.ens_base.specs.declared.epoch.Epoch.{Epoch}
@@ -9,6 +9,7 @@ use Rattle.ens_object.specs.declared.object.Object.{Object}
 use Rattle.following.specs.Refusals.{is_served, tells_damage}
 use Rattle.exchange.specs.declared.question.Question.{Question}
 use Rattle.following.specs.Requests.{row_21, row_22, row_23}
+use Rattle.leader_words.specs.Outs.{asked_by}
 use Rattle.leader_words.specs.declared.out.AnswerOut.{AnswerOut}
 use Rattle.leader_words.specs.declared.out.LeadOut.{LeadOut}
 use Rattle.leader_words.specs.declared.out.Own.{Own}
@@ -33,10 +34,11 @@ use Rattle.phase_rows.specs.declared.phase.Seen.{Seen}
 use Rattle.phase_rows.specs.declared.phase.Seen.TheVariants as seens
 use Rattle.phase_rows.specs.declared.phase.Then.{Then}
 use Rattle.phase_rows.specs.declared.phase.Then.TheVariants as thens
+use Rattle.phase_rows.specs.declared.rules.PhaseRule.TheVariants as phase_rules
 use Rattle.peer_state.specs.Leading.{row_5_calls, ticks, wished, begins}
 use Rattle.peer_state.specs.Moves.{left, left_answers, and_answers, leading, with_leader, turned, turned_answers}
 use Rattle.peer_plan.specs.Owns.{looked, fetched, found, written, confirmed}
-use Rattle.peer_plan.specs.Syncs.{saved, and_sends, followed_on, shown_node, got_give}
+use Rattle.peer_plan.specs.Syncs.{saved, and_sends, followed_on, shown_node, tree_give}
 use Rattle.peer_state.specs.Rows.{aged, asked_change, changes, leads, phase_row, received}
 use Rattle.peer_state.specs.declared.event.CallIn.{CallIn}
 use Rattle.peer_state.specs.declared.event.Event.{Event}
@@ -55,35 +57,37 @@ performed row x out next =
 abbrev pub row_done : ℕ → PhaseOut → Part State (List Task)
 row_done me row x out next = performed row x out (λ u y o. followed_on me row.then (turned me row.then y) (turned_answers row.then y o) next)
 
--- what a rule of a leader asks of the peer's own tree and backend; rule 28 asks for the object alone
-abbrev pub owned : ℕ → Own → Part State Seen
-owned n (owns.Look key) x out next = if n == 28 then fetched key x out next else looked key x out next
-owned n (owns.Put o) x out next = written o x out next
+-- what a rule of a leader asks of the peer's own tree and backend
+abbrev pub owned : Own → Part State Seen
+owned (owns.Fetch key) x out next = fetched key x out next
+owned (owns.Look key) x out next = looked key x out next
+owned (owns.Put o) x out next = written o x out next
 
 -- the key that this is about
 abbrev pub own_key : Own → List ℕ
+own_key (owns.Fetch key) = key
 own_key (owns.Look key) = key
 own_key (owns.Put o) = o.key
 
--- what follows the messages and notes of rule n of a leader: the peer's own tree and backend are
--- asked, and the rule runs again with what they returned; or the rule that is named runs on each of
--- the keys
-abbrev pub followed_up : ℕ → ℕ → Option Own → Then → List (List ℕ) → Part State (List Task)
-followed_up me n None turn keys x out next = next (keyed turn keys) (turned me turn x) (turned_answers turn x out)
-followed_up me n (Some own) turn keys x out next = owned n own x out (λ seen y o. next (tasks.Again n (own_key own) seen ∷ []) y o)
+-- what follows the messages and notes of a rule of a leader: the peer's own tree and backend are
+-- asked, and the rule that asks runs again with what they returned; or the rule that is named runs on
+-- each of the keys
+abbrev pub followed_up : ℕ → Option Own → Then → List (List ℕ) → Part State (List Task)
+followed_up me None turn keys x out next = next (keyed turn keys) (turned me turn x) (turned_answers turn x out)
+followed_up me (Some own) turn keys x out next = owned own x out (λ seen y o. next (tasks.Again (asked_by own) (own_key own) seen ∷ []) y o)
 
 -- the output of a row of a leader: if it steps down, its unanswered calls are answered first
 abbrev pub and_row : LeadOut → State → Out → Out
 and_row row x out = and_sends (and_answers (left_answers row.leave x out) row.answers) row.sends
 
--- the whole row of rule n of a leader, which returns the tasks that follow
-abbrev pub lead_done : ℕ → ℕ → LeadOut → Part State (List Task)
-lead_done me n row x out next = noted row.notes (followed_up me n row.own row.then row.keys (left row.leave x) (and_row row x out) next)
+-- the whole row of a rule of a leader, which returns the tasks that follow
+abbrev pub lead_done : ℕ → LeadOut → Part State (List Task)
+lead_done me row x out next = noted row.notes (followed_up me row.own row.then row.keys (left row.leave x) (and_row row x out) next)
 
--- rule n of a leader, by its row; nothing happens in a peer that does not lead
-abbrev pub lead : (Leader → Leader × LeadOut) → ℕ → ℕ → Phase → Part State (List Task)
-lead row me n (phases.Leading l) x out next = lead_done me n (row l.leader).1 (leading (with_leader (row l.leader).0 l) x) out next
-lead row me n other x out next = next [] x out
+-- a rule of a leader, by its row; nothing happens in a peer that does not lead
+abbrev pub lead : (Leader → Leader × LeadOut) → ℕ → Phase → Part State (List Task)
+lead row me (phases.Leading l) x out next = lead_done me (row l.leader).1 (leading (with_leader (row l.leader).0 l) x) out next
+lead row me other x out next = next [] x out
 
 -- rule 5 (d) and (e), in a leader: each other member is sent one message, and a change that is
 -- wanted begins
@@ -94,10 +98,10 @@ reminded other x out next = next [] x out
 
 -- one task is run
 abbrev pub task_done : ℕ → Task → Part State (List Task)
-task_done me (tasks.Phase n) x out next =
-    if n == 5 then reminded x.phase x out next else row_done me (phase_row n me x).1 (phase_row n me x).0 out next
-task_done me (tasks.Key n key) x out next = lead (lead_row n key seens.Nothing) me n x.phase x out next
-task_done me (tasks.Again n key seen) x out next = lead (lead_row n key seen) me n x.phase x out next
+task_done me (tasks.Phase rule) x out next = row_done me (phase_row rule me x).1 (phase_row rule me x).0 out next
+task_done me tasks.Remind x out next = reminded x.phase x out next
+task_done me (tasks.Key rule key) x out next = lead (lead_row rule key seens.Nothing) me x.phase x out next
+task_done me (tasks.Again rule key seen) x out next = lead (lead_row rule key seen) me x.phase x out next
 
 -- At most this many tasks are run. The rules that a row names run before the tasks that were left.
 -- The tasks that are left at the end are returned.
@@ -109,7 +113,7 @@ driven me (suc n) (t ∷ ts) x out next = task_done me t x out (λ more y o. dri
 -- rule 5 in a leader: the calls first; the rest follows once the keys have started their next calls
 abbrev pub led_in : ℕ → Phase → Part State (List Task)
 led_in me (phases.Leading l) x out next =
-    lead_done me 5 (row_5_calls x.fact l).1 (leading (row_5_calls x.fact l).0 x) out (λ ts y o. next (ts ++ tasks.Phase 5 ∷ []) y o)
+    lead_done me (row_5_calls x.fact l).1 (leading (row_5_calls x.fact l).0 x) out (λ ts y o. next (ts ++ tasks.Remind ∷ []) y o)
 led_in me other x out next = next [] x out
 
 -- rules 2 to 5, a tick, in any phase
@@ -145,7 +149,7 @@ put_in me from ballot o x out next =
 -- rule 29, GetReply, at a leader: an object that the entry does not name counts as none
 abbrev pub get_replied : ℕ → ℕ → Epoch → ℕ → List ℕ → Option Entry → Option Object → Part State (List Task)
 get_replied me from ballot round key entry object x out next =
-    confirmed entry object x out (λ named y o. lead (row_29_reply from ballot round key entry named) me 29 y.phase y o next)
+    confirmed entry object x out (λ named y o. lead (row_29_reply from ballot round key entry named) me y.phase y o next)
 
 -- rule 23, TreeAsk: a node is read if the ballot is the promised one
 abbrev pub got_ask : ℕ → ℕ → Epoch → Question → Part State (List Task)
@@ -158,11 +162,11 @@ delivered me from (messages.Get ballot round key) x out next = got me from ballo
 delivered me from (messages.Put ballot o) x out next = put_in me from ballot o x out next
 delivered me from (messages.GetReply ballot round key entry object) x out next =
     if leads x.phase then get_replied me from ballot round key entry object x out next else next [] x out
-delivered me from (messages.PutReply ballot key version) x out next = lead (row_35_reply from ballot key version) me 35 x.phase x out next
-delivered me from (messages.CheckReply ballot round) x out next = lead (row_33_reply from ballot round) me 33 x.phase x out next
+delivered me from (messages.PutReply ballot key version) x out next = lead (row_35_reply from ballot key version) me x.phase x out next
+delivered me from (messages.CheckReply ballot round) x out next = lead (row_33_reply from ballot round) me x.phase x out next
 delivered me from (messages.TreeAsk ballot at after) x out next = got_ask me from ballot (record { position = at; after = after }) x out next
 delivered me from (messages.TreeGive ballot at after trusted body) x out next =
-    got_give me from (record { ballot = ballot; question = record { position = at; after = after }; trusted = trusted; body = body }) x out next
+    tree_give me from (record { ballot = ballot; question = record { position = at; after = after }; trusted = trusted; body = body }) x out next
 delivered me from message x out next = row_done me (received me from message x).1 (received me from message x).0 out next
 
 -- the answer to a call that the peer does not take
@@ -172,7 +176,7 @@ unavailable call = record { from = call.from; id = call.id; reply = Unavailable 
 -- rule 27, a call
 abbrev pub called : ℕ → CallIn → Part State (List Task)
 called me call x out next =
-    if leads x.phase then lead (row_27 call.from call.id call.key call.command (changes x.phase)) me 27 x.phase x out next
+    if leads x.phase then lead (row_27 call.from call.id call.key call.command (changes x.phase)) me x.phase x out next
     else next [] x (and_answers out (unavailable call ∷ []))
 
 -- the reply to a request to change the view: whether it is taken
@@ -196,7 +200,7 @@ responded me event x out next = first me event x out (λ ts y o. driven me most_
 
 -- rule 6: at the end of each step rule 26 runs, and the rules that follow from it
 abbrev pub concluded : ℕ → Part State (Unit {0})
-concluded me x out next = task_done me (tasks.Phase 26) x out (λ ts y o. driven me most_turns ts y o (λ rest z q. next tt z q))
+concluded me x out next = task_done me (tasks.Phase phase_rules.EndEpoch) x out (λ ts y o. driven me most_turns ts y o (λ rest z q. next tt z q))
 
 -- a whole step
 abbrev pub whole : ℕ → Event → Part State (Unit {0})

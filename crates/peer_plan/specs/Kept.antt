@@ -10,6 +10,7 @@ use Rattle.step_plans.specs.declared.error.PeerError.TheVariants as errors
 use Rattle.step_plans.specs.declared.walked.Walked.{Walked}
 use Rattle.step_plans.specs.declared.walked.Walked.TheVariants.{Reached, Broken}
 use Rattle.leader_words.specs.declared.out.Outgoing.{Outgoing}
+use Rattle.tree_node.specs.declared.version.TreeVersion.TheVariants.{One}
 use Rattle.tree_node.specs.Positions.{IsPosition}
 use Rattle.wire_frames.specs.Messages.{Obeys}
 use Rattle.peer_state.specs.declared.state.Phase.{Phase}
@@ -68,13 +69,13 @@ IsOwn me x = LeadsAs me x.phase × SyncsAs me x.sync
 -- if a walk in the tree found damage, it was at a position of the tree
 abbrev pub IsInTree : {A : Type 0} → Walked A → Type 0
 IsInTree (Reached found) = Unit {0}
-IsInTree (Broken at) = IsPosition at
+IsInTree (Broken at) = IsPosition One at
 
 -- an answer that tells of no damage outside the tree
 abbrev pub IsSound : (call : Call) → AnswerOf call → Type 0
 IsSound (Find key) found = IsInTree found
 IsSound (Enter entry) end = IsInTree end
-IsSound (ReadNode at) node = IsPosition at → IsInTree node
+IsSound (ReadNode at) node = IsPosition One at → IsInTree node
 IsSound other answer = Unit {0}
 
 -- each end that the plan may reach satisfies P, as long as the answers of the stores are sound

@@ -3,6 +3,7 @@ use Rattle.std.specs.Prelude.{ℕ, Bool, true, false, ◌&&◌, not, nat_le, ◌
 use Rattle.election.specs.declared.election.Election.{Election}
 use Rattle.election.specs.declared.election.Election.TheVariants.{Preparing, Starting}
 use Rattle.ens_base.specs.declared.entry.Entry.{Entry}
+use Rattle.tree_node.specs.declared.version.TreeVersion.TheVariants.{One}
 use Rattle.exchange.specs.Gives.{given}
 use Rattle.exchange.specs.declared.question.Question.{Question}
 use Rattle.leader_words.specs.declared.out.Outgoing.{Outgoing}
@@ -13,6 +14,7 @@ use Rattle.running_sync.specs.Running.{Running}
 use Rattle.running_sync.specs.declared.asking.Give.{Give}
 use Rattle.step_plans.specs.Calls.{ScanTree, ReadNode, Install, Save}
 use Rattle.step_plans.specs.Plans.{Out, Part, asked}
+use Rattle.step_plans.specs.Saved.{with_seal}
 use Rattle.step_plans.specs.declared.tasks.Task.{Task}
 use Rattle.step_plans.specs.declared.tasks.Task.TheVariants as tasks
 use Rattle.step_plans.specs.declared.walked.Walked.{Walked}
@@ -26,16 +28,17 @@ use Rattle.tree_node.specs.declared.position.Position.{Position}
 use Rattle.wire_frames.specs.declared.message.Message.TheVariants.{Accepted}
 use Rattle.phase_rows.specs.declared.phase.Then.{Then}
 use Rattle.phase_rows.specs.declared.phase.Then.TheVariants as thens
+use Rattle.phase_rows.specs.declared.rules.PhaseRule.TheVariants as phase_rules
 use Rattle.step_plans.specs.Tasks.{named}
 use Rattle.peer_state.specs.Moves.{electing, without_sync}
 use Rattle.peer_state.specs.declared.state.Phase.{Phase}
 use Rattle.peer_state.specs.declared.state.Phase.TheVariants as phases
 use Rattle.peer_state.specs.declared.state.State.{State}
 
--- the fact, if there is one, is saved, and becomes the saved fact
+-- the fact, if there is one, is saved with the peer's seal, and becomes the saved fact
 abbrev pub saved : Option Fact → Part State (Unit {0})
 saved None x out next = next tt x out
-saved (Some fact) x out next = asked (Save fact) x out (λ u y o. next tt (record y { fact = fact }) o)
+saved (Some fact) x out next = asked (Save (with_seal x.seal fact)) x out (λ u y o. next tt (record y { fact = fact }) o)
 
 -- these messages are added to the output
 abbrev pub and_sends : Out → List Outgoing → Out
@@ -60,7 +63,7 @@ accepted me fact =
 
 -- a peer that is starting an epoch counts itself among those that accepted it, and rule 14 runs
 abbrev pub accepted_own : ℕ → Election → Part State (List Task)
-accepted_own me (Starting new accepts age) x out next = next (tasks.Phase 14 ∷ []) (electing (Starting new (joined me accepts) age) x) out
+accepted_own me (Starting new accepts age) x out next = next (tasks.Phase phase_rules.EnoughAccepted ∷ []) (electing (Starting new (joined me accepts) age) x) out
 accepted_own me (Preparing base promises asked age) x out next = next [] x out
 
 -- the fact of a sync was accepted: a starting peer counts itself, and a follower sends its acceptance
@@ -72,36 +75,37 @@ accepted_in me fact (phases.Leading l) x out next = next [] x out
 
 -- A sync ends with these merged entries: the tree is built from them if needed, the fact of the sync is
 -- saved and accepted, and the tree is trusted.
-abbrev pub synced : ℕ → Running → List Entry → Part State (List Task)
-synced me r entries x out next =
+abbrev pub end_sync : ℕ → Running → List Entry → Part State (List Task)
+end_sync me r entries x out next =
     installed (needs_build r.sync.scan entries) entries (without_sync x) out
     (λ u y o. saved (Some r.fact) y o (λ v z p. accepted_in me r.fact z.phase (record z { trusted = true }) p next))
 
 -- a sync runs on, or ends if its sources suffice
-abbrev pub ended_with : ℕ → Running → Outcome → Part State (List Task)
-ended_with me r Pending x out next = next [] (with_sync r x) out
-ended_with me r (Trusted entries) x out next = synced me r entries x out next
+abbrev pub by_outcome : ℕ → Running → Outcome → Part State (List Task)
+by_outcome me r Pending x out next = next [] (with_sync r x) out
+by_outcome me r (Trusted entries) x out next = end_sync me r entries x out next
 
 -- ## What a sync does
 
 -- a sync sends these messages; it runs on, or ends if its sources suffice
-abbrev pub gone_on : ℕ → Running × List Outgoing → Part State (List Task)
-gone_on me r x out next = ended_with me r.0 (outcome_of r.0.sync) x (and_sends out r.1) next
+abbrev pub go_on : ℕ → Running × List Outgoing → Part State (List Task)
+go_on me r x out next = by_outcome me r.0 (outcome_of r.0.sync) x (and_sends out r.1) next
 
 -- a sync on this fact begins, after a scan of the own tree
-abbrev pub begun_sync : ℕ → Fact → Part State (List Task)
-begun_sync me fact x out next = asked ScanTree x out (λ scan y o. gone_on me (row_start fact me y.trusted scan) y o next)
+abbrev pub start_sync : ℕ → Fact → Part State (List Task)
+start_sync me fact x out next = asked ScanTree x out (λ scan y o. go_on me (row_start fact me y.trusted scan) y o next)
 
 -- the sync that runs, if one does, asks again
-abbrev pub resumed_sync : Option Running → Part State (List Task)
-resumed_sync None x out next = next [] x out
-resumed_sync (Some r) x out next = next [] (with_sync (row_resume r).0 x) (and_sends out (row_resume r).1)
+abbrev pub resume_sync : Option Running → Part State (List Task)
+resume_sync None x out next = next [] x out
+resume_sync (Some r) x out next = next [] (with_sync (row_resume r).0 x) (and_sends out (row_resume r).1)
 
 -- what follows the message of a row: a sync begins or resumes, or the named rule runs next
 abbrev pub followed_on : ℕ → Then → Part State (List Task)
-followed_on me (thens.SyncOn fact) x out next = begun_sync me fact x out next
-followed_on me thens.Resume x out next = resumed_sync x.sync x out next
+followed_on me (thens.SyncOn fact) x out next = start_sync me fact x out next
+followed_on me thens.Resume x out next = resume_sync x.sync x out next
 followed_on me (thens.Rule n) x out next = next (named (thens.Rule n)) x out
+followed_on me (thens.OnKeys n) x out next = next [] x out
 followed_on me thens.Stay x out next = next [] x out
 followed_on me thens.Follow x out next = next [] x out
 followed_on me (thens.Lead fact) x out next = next [] x out
@@ -123,7 +127,7 @@ own_node false at x out next = next None x out
 -- what a peer sends of a node that it was asked for: damage on its path, or the node
 abbrev pub body_of : Question → Walked (Option (List ℕ)) → TreeBody
 body_of q (Broken at) = Damaged at
-body_of q (Reached node) = given node q
+body_of q (Reached node) = given One node q
 
 -- what a peer sends for a question, if it is answered
 abbrev pub shown_node : Bool → Question → Part State (Option TreeBody)
@@ -138,11 +142,11 @@ needs_node from give None = false
 needs_node from give (Some r) = needs_own_node from give r
 
 -- the sync that runs, if one does, takes an answer, and may end
-abbrev pub taken_give : ℕ → ℕ → Give → Option (List ℕ) → Option Running → Part State (List Task)
-taken_give me from give own None x out next = next [] x out
-taken_give me from give own (Some r) x out next = gone_on me (row_take from give own r) x out next
+abbrev pub take_give : ℕ → ℕ → Give → Option (List ℕ) → Option Running → Part State (List Task)
+take_give me from give own None x out next = next [] x out
+take_give me from give own (Some r) x out next = go_on me (row_take from give own r) x out next
 
 -- a source sends a part of its tree
-abbrev pub got_give : ℕ → ℕ → Give → Part State (List Task)
-got_give me from give x out next =
-    own_node (needs_node from give x.sync) give.question.position x out (λ own y o. taken_give me from give own y.sync y o next)
+abbrev pub tree_give : ℕ → ℕ → Give → Part State (List Task)
+tree_give me from give x out next =
+    own_node (needs_node from give x.sync) give.question.position x out (λ own y o. take_give me from give own y.sync y o next)

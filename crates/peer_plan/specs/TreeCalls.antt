@@ -6,13 +6,15 @@ use Rattle.step_plans.specs.declared.walked.Walked.{Walked}
 use Rattle.step_plans.specs.declared.walked.Walked.TheVariants.{Reached, Broken}
 use Rattle.step_plans.specs.declared.error.PeerError.{PeerError}
 use Rattle.step_plans.specs.declared.error.PeerError.TheVariants as errors
+use Rattle.tree_node.specs.declared.version.TreeVersion.TheVariants.{One}
 use Rattle.synctree.specs.Nodes.{node_plan}
 use Rattle.synctree.specs.Plans.{Plan, Ends, Stops, Call as TreeCall, AnswerOf as TreeAnswer}
+use Rattle.synctree.specs.Seals.{root_under}
 use Rattle.synctree.specs.Trees.{open_plan, fresh_plan, get_plan, insert_plan}
 use Rattle.synctree.specs.declared.error.TreeError.{TreeError}
 use Rattle.synctree.specs.declared.error.TreeError.TheVariants as trees
 use Rattle.synctree.specs.declared.tree.Tree.{Tree}
-use Rattle.tree_maps.specs.Sixteen.{sixteen}
+use Rattle.tree_maps.specs.Sixteen.{form_of}
 use Rattle.tree_node.specs.declared.position.Position.{Position}
 use Rattle.tree_repair.specs.Rebuilds.{rebuild_plan}
 use Rattle.tree_verify.specs.Levels.{scan_plan}
@@ -53,24 +55,24 @@ Halts does refuses plan s e t = (error : TreeError) × (e ≡ peer_error error) 
 
 -- A call of the tree was answered. Calls that do not change the map leave the root as it was.
 abbrev pub TreeDoes : {N H : Type 0} → (N × H → (call : TreeCall) → TreeAnswer call → N × H → Type 0) → Tree N × H → (call : Call) → AnswerOf call → Tree N × H → Type 0
-TreeDoes does s FreshTree a t = IsSomeAnd t.0.top (λ root. Walks does (fresh_plan sixteen) s (Ok root) t)
-TreeDoes does s OpenTree a t = Walks does open_plan s (Ok t.0.top) t
-TreeDoes does s (Find key) a t = Walks does (get_plan sixteen s.0.top key) s (end_of a) t × (t.0.top ≡ s.0.top)
-TreeDoes does s (Enter entry) a t = Changes (λ end. Walks does (insert_plan sixteen s.0.top entry) s end t) s.0.top a t.0.top
-TreeDoes does s ScanTree a t = Walks does (scan_plan sixteen s.0.top) s (Ok a) t × (t.0.top ≡ s.0.top)
-TreeDoes does s (ReadNode at) a t = Walks does (node_plan sixteen s.0.top at) s (end_of a) t × (t.0.top ≡ s.0.top)
-TreeDoes does s (Install entries) a t = IsSomeAnd t.0.top (λ root. Walks does (rebuild_plan sixteen entries) s (Ok root) t)
+TreeDoes does s FreshTree a t = IsSomeAnd t.0.top (λ root. Walks does (fresh_plan (form_of One)) s (Ok root) t)
+TreeDoes does s (OpenTree seal) a t = (top : Option (List ℕ)) × Walks does open_plan s (Ok top) t × (t.0.top ≡ root_under seal top)
+TreeDoes does s (Find key) a t = Walks does (get_plan (form_of One) s.0.top key) s (end_of a) t × (t.0.top ≡ s.0.top)
+TreeDoes does s (Enter entry) a t = Changes (λ end. Walks does (insert_plan (form_of One) s.0.top entry) s end t) s.0.top a t.0.top
+TreeDoes does s ScanTree a t = Walks does (scan_plan (form_of One) s.0.top) s (Ok a) t × (t.0.top ≡ s.0.top)
+TreeDoes does s (ReadNode at) a t = Walks does (node_plan (form_of One) s.0.top at) s (end_of a) t × (t.0.top ≡ s.0.top)
+TreeDoes does s (Install entries) a t = IsSomeAnd t.0.top (λ root. Walks does (rebuild_plan (form_of One) entries) s (Ok root) t)
 TreeDoes does s call a t = ⊥
 
 -- A call of the tree was refused: its plan was stopped. It may have written nodes, and the stored
 -- top record may be the new one.
 abbrev pub TreeRefuses : {N H : Type 0} → (N × H → (call : TreeCall) → TreeAnswer call → N × H → Type 0) → (N × H → TreeCall → TreeError → N × H → Type 0)
     → Tree N × H → Call → PeerError → Tree N × H → Type 0
-TreeRefuses does refuses s FreshTree e t = Halts does refuses (fresh_plan sixteen) s e t
-TreeRefuses does refuses s OpenTree e t = Halts does refuses open_plan s e t
-TreeRefuses does refuses s (Find key) e t = Halts does refuses (get_plan sixteen s.0.top key) s e t
-TreeRefuses does refuses s (Enter entry) e t = Halts does refuses (insert_plan sixteen s.0.top entry) s e t
-TreeRefuses does refuses s ScanTree e t = Halts does refuses (scan_plan sixteen s.0.top) s e t
-TreeRefuses does refuses s (ReadNode at) e t = Halts does refuses (node_plan sixteen s.0.top at) s e t
-TreeRefuses does refuses s (Install entries) e t = Halts does refuses (rebuild_plan sixteen entries) s e t
+TreeRefuses does refuses s FreshTree e t = Halts does refuses (fresh_plan (form_of One)) s e t
+TreeRefuses does refuses s (OpenTree seal) e t = Halts does refuses open_plan s e t
+TreeRefuses does refuses s (Find key) e t = Halts does refuses (get_plan (form_of One) s.0.top key) s e t
+TreeRefuses does refuses s (Enter entry) e t = Halts does refuses (insert_plan (form_of One) s.0.top entry) s e t
+TreeRefuses does refuses s ScanTree e t = Halts does refuses (scan_plan (form_of One) s.0.top) s e t
+TreeRefuses does refuses s (ReadNode at) e t = Halts does refuses (node_plan (form_of One) s.0.top at) s e t
+TreeRefuses does refuses s (Install entries) e t = Halts does refuses (rebuild_plan (form_of One) entries) s e t
 TreeRefuses does refuses s call e t = ⊥

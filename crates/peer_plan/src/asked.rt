@@ -16,7 +16,7 @@ pub fn own_key(own: &Own) -> &Key
     ensures { result.now ≡ own_key own.now }
 {
     match own {
-        Own::Look(key) => key,
+        Own::Fetch(key) | Own::Look(key) => key,
         Own::Put(object) => &object.key,
     }
 }

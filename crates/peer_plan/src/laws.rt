@@ -1,5 +1,6 @@
 ghost use Rattle.std.specs.Prelude.{ℕ, List};
 ghost use Rattle.ens_base.specs.View.{IsPeer};
+ghost use Rattle.phase_rows.specs.declared.rules.PhaseRule.TheVariants.{EndEpoch};
 ghost use Rattle.step_plans.specs.Plans.{Out, Rest};
 ghost use Rattle.step_plans.specs.declared.tasks.Task.{Task};
 ghost use Rattle.step_plans.specs.declared.tasks.Task.TheVariants.{Phase};
@@ -15,7 +16,7 @@ pub fn nothing_is_left()
     // After the row of the event.
     ensures responded { (me : ℕ) (event : Event) (x : State) (out : Out) (next : Rest State (List Task)) → HasFewCalls x.phase → IsFineAtNone next → StepsAlone (first me event x out (λ ts y o. driven me most_turns ts y o next)) }
     // After rule 26, at the end of the step.
-    ensures concluded { (me : ℕ) (x : State) (out : Out) (next : Rest State (List Task)) → HasFewCalls x.phase → IsFineAtNone next → StepsAlone (task_done me (Phase 26) x out (λ ts y o. driven me most_turns ts y o next)) }
+    ensures concluded { (me : ℕ) (x : State) (out : Out) (next : Rest State (List Task)) → HasFewCalls x.phase → IsFineAtNone next → StepsAlone (task_done me (Phase EndEpoch) x out (λ ts y o. driven me most_turns ts y o next)) }
 {}
 
 /// As long as the damage that the stores report is at positions of the tree, the messages of a step

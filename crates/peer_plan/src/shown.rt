@@ -1,5 +1,6 @@
 ghost use Rattle.std.specs.Prelude.{◌≡◌, IfOk, IfErr};
 ghost use Rattle.ens_base.specs.View.{IsPeer};
+ghost use Rattle.tree_node.specs.declared.version.TreeVersion.TheVariants.{One};
 ghost use Rattle.tree_node.specs.Positions.{IsPosition};
 ghost use Rattle.peer_plan.specs.Drives.{after_put};
 ghost use Rattle.peer_plan.specs.Owns.{found_at};
@@ -11,7 +12,7 @@ use following::tell_damage;
 use phase_rows::{PhaseOut, Seen};
 use std::alloc::Global;
 use step_plans::{PeerError, Walked};
-use tree_node::TreeBody;
+use tree_node::{TreeBody, TreeVersion};
 use wire_frames::{Message, NackCause};
 
 /// What rule 22 is shown of the entry of a key.
@@ -54,13 +55,13 @@ pub fn body_given(
     question: &Question,
     walked: Walked<Option<Bytes>>,
 ) -> Result<TreeBody, PeerError>
-    requires { IsPosition question.now.position }
+    requires { IsPosition One question.now.position }
     ensures ok { IfOk result (λ b. b ≡ body_of question.now walked) }
     ensures memory { IfErr result (λ e. e ≡ PeerError.Memory) }
 {
     match walked {
         Walked::Broken(at) => Ok(TreeBody::Damaged(at)),
-        Walked::Reached(node) => match given(alloc, &node, question) {
+        Walked::Reached(node) => match given(alloc, TreeVersion::One, &node, question) {
             Ok(body) => Ok(body),
             Err(_) => Err(PeerError::Memory),
         },

@@ -12,9 +12,10 @@ use Rattle.ens_outside.specs.Maps.{Entries}
 use Rattle.ens_outside.specs.MemStores.{Held}
 use Rattle.fact_store.specs.Files.{file_kept}
 use Rattle.fact_store.specs.Keeping.{fact_in, file_fact}
-use Rattle.peer_fact.specs.declared.fact.Fact.{Fact}
+use Rattle.peer_fact.specs.declared.saved.SavedFact.{SavedFact}
 use Rattle.peer_plan.specs.Drives.{step_of}
 use Rattle.peer_plan.specs.Starts.{start_of}
+use Rattle.peer_state.specs.Moves.{saved_by}
 use Rattle.peer_state.specs.declared.event.Event.{Event}
 use Rattle.peer_state.specs.declared.event.Event.TheVariants as happenings
 use Rattle.slot_disk.proofs.Runs.{weaker}
@@ -76,7 +77,7 @@ module _ {D : Type 0} (seen : D → Option (List ℕ)) (may_leave : D → List �
   Refuses s call e t = disks_refuse seen may_leave moment left_since faults s call e t
 
   -- what a crash leaves of a file that keeps this fact
-  crash_leaves : (s : OnDisks D) (fact : Fact) → Keeps seen may_leave s fact → (c : List ℕ) → may_leave s.0.facts.slots.disk c → file_fact c ≡ Some (Ok fact)
+  crash_leaves : (s : OnDisks D) (fact : SavedFact) → Keeps seen may_leave s fact → (c : List ℕ) → may_leave s.0.facts.slots.disk c → file_fact c ≡ Some (Ok fact)
   crash_leaves s fact keeps c left = ap file_fact (keeps.at_rest.on.only c left) ∙ ap (λ (m : Option (Slot × (ℕ × List ℕ))). fact_in (record_in m)) (sym keeps.at_rest.now) ∙ keeps.kept
 
   on_later : (first s t : OnDisks D) (call : Call) (a : AnswerOf call) → Does s call a t → Later faults first s → Later faults first t
@@ -173,9 +174,9 @@ module _ {D : Type 0} (seen : D → Option (List ℕ)) (may_leave : D → List �
         did_keeps Does Refuses I keeps w.me took.deeds a.state b.state a.stores b.stores took.went.did (run_keeps Does Refuses I keeps (start_of w.view) began.first [] a.state nothing a.stores [] began.starts holds)
 
     facts_left : (a b : Point (OnDisks D) L) (looks : List (Option (List ℕ))) (events : List Event) → (began : Began seen may_leave moment left_since faults w disks a.state a.stores) → Took Does Refuses sent given w.me looks events a b
-        → IsAtRest seen may_leave began.first.0.facts.slots → (c : List ℕ) → may_leave b.stores.0.facts.slots.disk c → file_fact c ≡ Some (Ok b.state.fact)
+        → IsAtRest seen may_leave began.first.0.facts.slots → (c : List ℕ) → may_leave b.stores.0.facts.slots.disk c → file_fact c ≡ Some (Ok (saved_by b.state))
     facts_left a b looks events began took at_rest =
-        crash_leaves b.stores b.state.fact
+        crash_leaves b.stores (saved_by b.state)
         (steps_keep seen may_leave moment left_since faults w.me took.deeds a.state b.state a.stores b.stores took.went.did (start_keeps seen may_leave moment left_since faults w.view began.first a.stores a.state began.starts at_rest))
 
     -- after the steps the file of facts rests
@@ -191,19 +192,19 @@ module _ {D : Type 0} (seen : D → Option (List ℕ)) (may_leave : D → List �
         → Rests seen may_leave moment left_since faults counts_now d file [] began.first
         → LeavesFacts may_leave moment left_since d b.stores.0.facts.slots.disk file (saves_of seen may_leave moment left_since faults sent given w disks a b looks events began took no_saves)
     all_left a b looks events began took d file rests =
-        let started : List Fact = saved_at_start seen may_leave moment left_since faults w disks a.state a.stores began in
-        let stepped : List Fact = saved_in Does Refuses w.me a.state a.stores took.deeds b.state b.stores took.went.did in
-        subst (λ (fs : List Fact). LeavesFacts may_leave moment left_since d b.stores.0.facts.slots.disk file (record { saved = started ++ fs; refused = [] })) (sym (append-nil stepped))
+        let started : List SavedFact = saved_at_start seen may_leave moment left_since faults w disks a.state a.stores began in
+        let stepped : List SavedFact = saved_in Does Refuses w.me a.state a.stores took.deeds b.state b.stores took.went.did in
+        subst (λ (fs : List SavedFact). LeavesFacts may_leave moment left_since d b.stores.0.facts.slots.disk file (record { saved = started ++ fs; refused = [] })) (sym (append-nil stepped))
         (rests_left seen may_leave moment left_since faults counts_now d file (started ++ stepped) b.stores (facts_rest a b looks events began took d file rests))
 
     some_left : (a m b : Point (OnDisks D) L) (looks : List (Option (List ℕ))) (events : List Event) (place : Place) (status : Status) (began : Began seen may_leave moment left_since faults w disks a.state a.stores) (took : Took Does Refuses sent given w.me looks events a m)
         (fell : FellAt Does Refuses sent given w.me w place status m b) (d : D) (file : List ℕ) → Rests seen may_leave moment left_since faults counts_now d file [] began.first
         → LeavesFacts may_leave moment left_since d b.stores.0.facts.slots.disk file (saves_of seen may_leave moment left_since faults sent given w disks a m looks events began took (saves_at Does Refuses sent given w place status m b fell))
     some_left a m b looks events place status began took fell d file rests =
-        let started : List Fact = saved_at_start seen may_leave moment left_since faults w disks a.state a.stores began in
-        let stepped : List Fact = saved_in Does Refuses w.me a.state a.stores took.deeds m.state m.stores took.went.did in
+        let started : List SavedFact = saved_at_start seen may_leave moment left_since faults w disks a.state a.stores began in
+        let stepped : List SavedFact = saved_in Does Refuses w.me a.state a.stores took.deeds m.state m.stores took.went.did in
         let last : Saves = saves_at Does Refuses sent given w place status m b fell in
-        subst (λ (fs : List Fact). LeavesFacts may_leave moment left_since d b.stores.0.facts.slots.disk file (record { saved = fs; refused = last.refused })) (append_assoc started stepped last.saved)
+        subst (λ (fs : List SavedFact). LeavesFacts may_leave moment left_since d b.stores.0.facts.slots.disk file (record { saved = fs; refused = last.refused })) (append_assoc started stepped last.saved)
         (stopped_left seen may_leave moment left_since faults counts_now d file sent given w place status m b fell (started ++ stepped) (facts_rest a m looks events began took d file rests))
 
     nodes_left : (a b : Point (OnDisks D) L) (looks : List (Option (List ℕ))) (events : List Event) → (began : Began seen may_leave moment left_since faults w disks a.state a.stores) → Took Does Refuses sent given w.me looks events a b
@@ -237,7 +238,7 @@ module _ {D : Type 0} (seen : D → Option (List ℕ)) (may_leave : D → List �
         disks_end = closed;
         facts =
             of_told disks.facts (FactsOpened began.first) (λ (file : List ℕ). IsAtRest seen may_leave began.first.0.facts.slots × (file_kept began.first.0.facts ≡ file_fact file))
-            (λ (d : D) (file : List ℕ). (c : List ℕ) → may_leave b.stores.0.facts.slots.disk c → file_fact c ≡ Some (Ok b.state.fact)) (λ d known. known.0)
+            (λ (d : D) (file : List ℕ). (c : List ℕ) → may_leave b.stores.0.facts.slots.disk c → file_fact c ≡ Some (Ok (saved_by b.state))) (λ d known. known.0)
             (λ d file rest. facts_left a b (looks_of turns) (events_of w turns) began made.took rest.0) began.opened.facts;
         moments =
             facts_told disks began.first

@@ -1,4 +1,4 @@
--- The fact that is kept is that of the state.
+-- The fact that is kept is that of the state, with its seal.
 use Rattle.std.specs.Prelude.{Option, None, Some}
 use Rattle.std.proofs.Common.{◌≡◌, ◌∙◌, ap, sym, subst, refl, ℕ, List, [], ◌∷◌, Bool, true, false, Ok, inl, inr, arith}
 use Rattle.std.proofs.lemmas.List.Elements.{All-nil}
@@ -8,9 +8,9 @@ use Rattle.disk_stores.specs.declared.nodes.DiskNodes.{DiskNodes}
 use Rattle.fact_store.specs.Files.{file_kept}
 use Rattle.fact_store.specs.declared.file.FactFile.{FactFile}
 use Rattle.peer_core.specs.declared.stores.Stores.{Stores}
-use Rattle.peer_fact.specs.Facts.{opening_fact}
-use Rattle.peer_fact.specs.declared.fact.Fact.{Fact}
-use Rattle.peer_plan.specs.Starts.{first_state, opened, saves_opening, start_of}
+use Rattle.peer_fact.specs.declared.saved.SavedFact.{SavedFact}
+use Rattle.peer_plan.specs.Starts.{first_state, opened, opening_saved, saves_opening, start_of}
+use Rattle.peer_state.specs.Moves.{saved_by}
 use Rattle.peer_state.specs.declared.state.State.{State}
 use Rattle.slot_disk.specs.SlotFiles.{IsAtRest}
 use Rattle.step_plans.specs.Calls.{Call, Load, Save, Fetch, Put, Hash, AnswerOf}
@@ -22,7 +22,7 @@ use Rattle.turn_spec.specs.Deeds.{Deed, Did}
 use Rattle.peer_serve.specs.DiskPeers.{OnDisks, disks_do, disks_refuse}
 
 -- the file of facts is at rest and keeps this fact
-pub record Keeps {D : Type 0} (seen : D → Option (List ℕ)) (may_leave : D → List ℕ → Type 0) (s : OnDisks D) (fact : Fact) : Type 0 where
+pub record Keeps {D : Type 0} (seen : D → Option (List ℕ)) (may_leave : D → List ℕ → Type 0) (s : OnDisks D) (fact : SavedFact) : Type 0 where
   pub at_rest : IsAtRest seen may_leave s.0.facts.slots
   pub kept : file_kept s.0.facts ≡ Some (Ok fact)
 
@@ -39,14 +39,14 @@ module _ {D : Type 0} (seen : D → Option (List ℕ)) (may_leave : D → List �
   abbrev Refuses : OnDisks D → Call → PeerError → OnDisks D → Type 0
   Refuses s call e t = disks_refuse seen may_leave moment left_since faults s call e t
 
-  still : (s t : OnDisks D) (f : Fact) → t.0.facts ≡ s.0.facts → Keeps seen may_leave s f → Keeps seen may_leave t f
+  still : (s t : OnDisks D) (f : SavedFact) → t.0.facts ≡ s.0.facts → Keeps seen may_leave s f → Keeps seen may_leave t f
   still s t f same keeps = record {
     at_rest = subst (λ (k : FactFile D). IsAtRest seen may_leave k.slots) (sym same) keeps.at_rest;
     kept = ap file_kept same ∙ keeps.kept;
   }
 
   -- after a call the file keeps the fact that was saved last
-  pub call_keeps : (s t : OnDisks D) (call : Call) (a : AnswerOf call) (f : Fact) → Does s call a t → Keeps seen may_leave s f → Keeps seen may_leave t (last_saved call f)
+  pub call_keeps : (s t : OnDisks D) (call : Call) (a : AnswerOf call) (f : SavedFact) → Does s call a t → Keeps seen may_leave s f → Keeps seen may_leave t (last_saved call f)
   call_keeps s t Load a f did keeps = still s t f did.4 keeps
   call_keeps s t (Save fact) a f did keeps = record { at_rest = did.3.0.at_rest keeps.at_rest; kept = did.3.0.kept }
   call_keeps s t (Fetch key) a f did keeps = still s t f did.2.1 keeps
@@ -55,32 +55,32 @@ module _ {D : Type 0} (seen : D → Option (List ℕ)) (may_leave : D → List �
   call_keeps s t call a f did keeps = still s t f did.1.3.1 keeps
 
   -- and so do steps
-  pub steps_keep : (me : ℕ) (ds : List Deed) (x y : State) (s t : OnDisks D) → Did Does Refuses me x s ds y t → Keeps seen may_leave s x.fact → Keeps seen may_leave t y.fact
-  steps_keep me [] x y s t did keeps = subst (λ (z : State). Keeps seen may_leave t z.fact) (sym did.0) (subst (λ (u : OnDisks D). Keeps seen may_leave u x.fact) (sym did.1) keeps)
+  pub steps_keep : (me : ℕ) (ds : List Deed) (x y : State) (s t : OnDisks D) → Did Does Refuses me x s ds y t → Keeps seen may_leave s (saved_by x) → Keeps seen may_leave t (saved_by y)
+  steps_keep me [] x y s t did keeps = subst (λ (z : State). Keeps seen may_leave t (saved_by z)) (sym did.0) (subst (λ (u : OnDisks D). Keeps seen may_leave u (saved_by x)) (sym did.1) keeps)
   steps_keep me (d ∷ ds) x y s t did keeps =
       steps_keep me ds did.0 y did.1 t did.3 (kept_fact Does Refuses me d.event x did.0 s did.1 [] d.notes d.out did.2 (Keeps seen may_leave) call_keeps keeps)
 
-  loaded : (x : State) (f : Fact) (trusted : Bool) (s t : OnDisks D) → finish x nothing ≡ finish (first_state f trusted) nothing → t ≡ s → Keeps seen may_leave s f → Keeps seen may_leave t x.fact
+  loaded : (x : State) (f : SavedFact) (trusted : Bool) (s t : OnDisks D) → finish x nothing ≡ finish (first_state f trusted) nothing → t ≡ s → Keeps seen may_leave s f → Keeps seen may_leave t (saved_by x)
   loaded x f trusted s t same stay keeps =
       let state : first_state f trusted ≡ x = state_is x (first_state f trusted) nothing nothing same in
-      subst (λ (z : State). Keeps seen may_leave t z.fact) state (subst (λ (u : OnDisks D). Keeps seen may_leave u f) (sym stay) keeps)
+      subst (λ (z : State). Keeps seen may_leave t (saved_by z)) state (subst (λ (u : OnDisks D). Keeps seen may_leave u f) (sym stay) keeps)
 
   rests : (s t : OnDisks D) → t.0.facts ≡ s.0.facts → IsAtRest seen may_leave s.0.facts.slots → IsAtRest seen may_leave t.0.facts.slots
   rests s t same at_rest = subst (λ (k : FactFile D). IsAtRest seen may_leave k.slots) (sym same) at_rest
 
-  saved_opening : (view : List ℕ) (s t : OnDisks D) (x : State) → Runs Does Refuses (saves_opening view) s [] (Finished x nothing) t [] → IsAtRest seen may_leave s.0.facts.slots → Keeps seen may_leave t x.fact
+  saved_opening : (view : List ℕ) (s t : OnDisks D) (x : State) → Runs Does Refuses (saves_opening view) s [] (Finished x nothing) t [] → IsAtRest seen may_leave s.0.facts.slots → Keeps seen may_leave t (saved_by x)
   saved_opening view s t x ran at_rest = elim ran [
     | inl cut ↦ let none : ⊥ = grind (arith, cut.0) in absurd none
     | inr (inl off) ↦ let none : ⊥ = grind (arith, off.2) in absurd none
     | inr (inr on) ↦ elim on.3 [
       | inl cut ↦ let none : ⊥ = grind (arith, cut.0) in absurd none
-      | inr end ↦ loaded x (opening_fact view) true on.1 t end.0 end.1 (record { at_rest = on.2.3.0.at_rest at_rest; kept = on.2.3.0.kept })
+      | inr end ↦ loaded x (opening_saved view) true on.1 t end.0 end.1 (record { at_rest = on.2.3.0.at_rest at_rest; kept = on.2.3.0.kept })
     ]
   ]
 
   -- at its start the peer has the fact that it keeps
-  from_kept : (view : List ℕ) (found : Option Fact) (s t : OnDisks D) (x : State) → Runs Does Refuses (opened view found) s [] (Finished x nothing) t [] → IsAtRest seen may_leave s.0.facts.slots
-      → ((f : Fact) → found ≡ Some f → file_kept s.0.facts ≡ Some (Ok f)) → Keeps seen may_leave t x.fact
+  from_kept : (view : List ℕ) (found : Option SavedFact) (s t : OnDisks D) (x : State) → Runs Does Refuses (opened view found) s [] (Finished x nothing) t [] → IsAtRest seen may_leave s.0.facts.slots
+      → ((f : SavedFact) → found ≡ Some f → file_kept s.0.facts ≡ Some (Ok f)) → Keeps seen may_leave t (saved_by x)
   from_kept view None s t x ran at_rest kept = elim ran [
     | inl cut ↦ let none : ⊥ = grind (arith, cut.0) in absurd none
     | inr (inl off) ↦ let none : ⊥ = grind (arith, off.2) in absurd none
@@ -95,11 +95,11 @@ module _ {D : Type 0} (seen : D → Option (List ℕ)) (may_leave : D → List �
     ]
   ]
 
-  found_kept : (s t : OnDisks D) (a : Option Fact) → Does s Load a t → (f : Fact) → a ≡ Some f → file_kept t.0.facts ≡ Some (Ok f)
+  found_kept : (s t : OnDisks D) (a : Option SavedFact) → Does s Load a t → (f : SavedFact) → a ≡ Some f → file_kept t.0.facts ≡ Some (Ok f)
   found_kept s t None did f is = absurd cc
-  found_kept s t (Some g) did f is = let same : g ≡ f = cc in did.1 ∙ did.0 ∙ ap (λ (h : Fact). Some (Ok h)) same
+  found_kept s t (Some g) did f is = let same : g ≡ f = cc in did.1 ∙ did.0 ∙ ap (λ (h : SavedFact). Some (Ok h)) same
 
-  pub start_keeps : (view : List ℕ) (s t : OnDisks D) (x : State) → Runs Does Refuses (start_of view) s [] (Finished x nothing) t [] → IsAtRest seen may_leave s.0.facts.slots → Keeps seen may_leave t x.fact
+  pub start_keeps : (view : List ℕ) (s t : OnDisks D) (x : State) → Runs Does Refuses (start_of view) s [] (Finished x nothing) t [] → IsAtRest seen may_leave s.0.facts.slots → Keeps seen may_leave t (saved_by x)
   start_keeps view s t x ran at_rest = elim ran [
     | inl cut ↦ let none : ⊥ = grind (arith, cut.0) in absurd none
     | inr (inl off) ↦ let none : ⊥ = grind (arith, off.2) in absurd none
@@ -108,7 +108,7 @@ module _ {D : Type 0} (seen : D → Option (List ℕ)) (may_leave : D → List �
 
 -- a peer that has started has no call to answer
 module _ {S : Type 0} (does : S → (call : Call) → AnswerOf call → S → Type 0) (refuses : S → Call → PeerError → S → Type 0) (test : ℕ → Bool) where
-  no_calls : (x : State) (f : Fact) (trusted : Bool) → finish x nothing ≡ finish (first_state f trusted) nothing → AllFrom test (calls_in x.phase)
+  no_calls : (x : State) (f : SavedFact) (trusted : Bool) → finish x nothing ≡ finish (first_state f trusted) nothing → AllFrom test (calls_in x.phase)
   no_calls x f trusted same =
       let state : first_state f trusted ≡ x = state_is x (first_state f trusted) nothing nothing same in
       subst (λ (z : State). AllFrom test (calls_in z.phase)) state (All-nil (λ (w : Waiting). test w.from ≡ true))
@@ -119,11 +119,11 @@ module _ {S : Type 0} (does : S → (call : Call) → AnswerOf call → S → Ty
     | inr (inl off) ↦ let none : ⊥ = grind (arith, off.2) in absurd none
     | inr (inr on) ↦ elim on.3 [
       | inl cut ↦ let none : ⊥ = grind (arith, cut.0) in absurd none
-      | inr end ↦ no_calls x (opening_fact view) true end.0
+      | inr end ↦ no_calls x (opening_saved view) true end.0
     ]
   ]
 
-  from_found : (view : List ℕ) (found : Option Fact) (s t : S) (x : State) → Runs does refuses (opened view found) s [] (Finished x nothing) t [] → AllFrom test (calls_in x.phase)
+  from_found : (view : List ℕ) (found : Option SavedFact) (s t : S) (x : State) → Runs does refuses (opened view found) s [] (Finished x nothing) t [] → AllFrom test (calls_in x.phase)
   from_found view None s t x ran = elim ran [
     | inl cut ↦ let none : ⊥ = grind (arith, cut.0) in absurd none
     | inr (inl off) ↦ let none : ⊥ = grind (arith, off.2) in absurd none

@@ -6,7 +6,7 @@ use Rattle.ens_base.specs.declared.status.Status.{Status}
 use Rattle.ens_base.specs.declared.status.Status.TheVariants as statuses
 use Rattle.fact_store.specs.Keeping.{file_fact}
 use Rattle.peer_fact.specs.declared.error.FactError.{FactError}
-use Rattle.peer_fact.specs.declared.fact.Fact.{Fact}
+use Rattle.peer_fact.specs.declared.saved.SavedFact.{SavedFact}
 use Rattle.peer_plan.specs.Drives.{step_of}
 use Rattle.peer_state.specs.declared.event.Event.{Event}
 use Rattle.peer_state.specs.declared.event.Event.TheVariants as happenings
@@ -21,20 +21,21 @@ use Rattle.turn_spec.specs.Going.{Point}
 use Rattle.turn_spec.specs.Turns.{event_of}
 use Rattle.peer_serve.specs.Turning.{Fell, FellAt, Place, Looking, Looked, Ticked}
 
--- the facts that were saved, in their order, and the one whose save was refused, if one was
+-- the facts that were saved, each with its seal, in their order, and the one whose save was refused, if
+-- one was
 pub record Saves : Type 0 where
-  pub saved : List Fact
-  pub refused : List Fact
+  pub saved : List SavedFact
+  pub refused : List SavedFact
 
 abbrev pub no_saves : Saves
 no_saves = record { saved = []; refused = [] }
 
 -- the same after these facts were saved
-abbrev pub saved_first : List Fact → Saves → Saves
+abbrev pub saved_first : List SavedFact → Saves → Saves
 saved_first facts later = record { saved = facts ++ later.saved; refused = later.refused }
 
 -- the fact that a call saves
-abbrev pub fact_of_call : Call → List Fact
+abbrev pub fact_of_call : Call → List SavedFact
 fact_of_call (Save fact) = fact ∷ []
 fact_of_call call = []
 
@@ -49,7 +50,7 @@ module _ {P : Type 0} (does : P → (call : Call) → AnswerOf call → P → Ty
   saves_in (Ask call next) s ns e t ms (inr (inr on)) = saved_first (fact_of_call call) (saves_in (next on.0) on.1 ns e t ms on.3)
 
   -- the facts that steps saved
-  abbrev pub saved_in : (me : ℕ) (x : State) (s : P) (deeds : List Deed) (y : State) (t : P) → Did does refuses me x s deeds y t → List Fact
+  abbrev pub saved_in : (me : ℕ) (x : State) (s : P) (deeds : List Deed) (y : State) (t : P) → Did does refuses me x s deeds y t → List SavedFact
   saved_in me x s [] y t did = []
   saved_in me x s (d ∷ ds) y t did = (saves_in (step_of me d.event x) s [] (Finished did.0 d.out) did.1 d.notes did.2).saved ++ saved_in me did.0 did.1 ds y t did.3
 
@@ -70,12 +71,12 @@ module _ {P : Type 0} (does : P → (call : Call) → AnswerOf call → P → Ty
     saves_at w (Ticked look) status a b fell = saves_on w.me status (Some happenings.Tick) a b fell
 
 -- what a file keeps after these facts were saved in it, one after another
-abbrev pub last_of : Option (Result Fact FactError) → List Fact → Option (Result Fact FactError)
+abbrev pub last_of : Option (Result SavedFact FactError) → List SavedFact → Option (Result SavedFact FactError)
 last_of kept [] = kept
 last_of kept (fact ∷ facts) = last_of (Some (Ok fact)) facts
 
 -- this is what was kept at first, or one of these facts
-abbrev pub IsOneOf : Option (Result Fact FactError) → List Fact → Option (Result Fact FactError) → Type 0
+abbrev pub IsOneOf : Option (Result SavedFact FactError) → List SavedFact → Option (Result SavedFact FactError) → Type 0
 IsOneOf kept [] now = now ≡ kept
 IsOneOf kept (fact ∷ facts) now = (now ≡ Some (Ok fact)) ⊎ IsOneOf kept facts now
 

@@ -9,6 +9,7 @@ use Rattle.ens_base.specs.declared.status.Status.{Status}
 use Rattle.ens_base.specs.declared.status.Status.TheVariants as statuses
 use Rattle.ens_outside.specs.Written.{AppendsFront}
 use Rattle.fact_store.specs.Keeping.{file_fact}
+use Rattle.peer_state.specs.Moves.{saved_by}
 use Rattle.peer_state.specs.declared.event.Event.{Event}
 use Rattle.slot_disk.specs.Crash.{Told}
 use Rattle.turn_spec.specs.Going.{Point}
@@ -56,8 +57,8 @@ module _ {D L : Type 0} (seen : D → Option (List ℕ)) (may_leave : D → List
 module _ {D L T : Type 0} (seen : D → Option (List ℕ)) (may_leave : D → List ℕ → Type 0) (moment : D → ℕ) (left_since : D → ℕ → List ℕ → Type 0) (faults : D → ℕ)
     (sent : L → Option (List (ℕ × List ℕ))) (given : L → Option (List (Option (List ℕ)))) (link_faults : L → ℕ) (coming : T → Option (ℕ → Bool)) (w : PeerWords) where
   -- The peer started and made all its turns. At its end a crash of the disk of the facts leaves the
-  -- fact of its state, and the other two disks hold what its stores hold. At any moment until then a
-  -- crash left the fact that the peer found, or one that it saved.
+  -- fact of its state with its seal, and the other two disks hold what its stores hold. At any moment
+  -- until then a crash left the fact that the peer found, or one that it saved.
   pub record Served (disks disks_after : Disks D) (link link_after : L) (ticker ticker_after : T) (turns : List Turn) : Type 0 where
     pub all : length turns ≡ w.turns
     pub first : Point (OnDisks D) L
@@ -67,7 +68,7 @@ module _ {D L T : Type 0} (seen : D → Option (List ℕ)) (may_leave : D → Li
     pub made : TurnsMade (disks_do seen may_leave moment left_since faults) (disks_refuse seen may_leave moment left_since faults) sent given coming w first end ticker ticker_after turns
     pub link_end : end.link ≡ link_after
     pub disks_end : disks_after ≡ disks_under end.stores.0
-    pub facts : Of disks.facts (λ d. Told (seen d) (λ file. (c : List ℕ) → may_leave end.stores.0.facts.slots.disk c → file_fact c ≡ Some (Ok end.state.fact)))
+    pub facts : Of disks.facts (λ d. Told (seen d) (λ file. (c : List ℕ) → may_leave end.stores.0.facts.slots.disk c → file_fact c ≡ Some (Ok (saved_by end.state))))
     pub moments : FactsLeft seen may_leave moment left_since faults disks end.stores (saves_of seen may_leave moment left_since faults sent given w disks first end (looks_of turns) (events_of w turns) began made.took no_saves)
     pub nodes : Of disks.nodes (λ d. Told (seen d) (λ file. KeepsNodes seen end.stores.0.tree.store))
     pub objects : Of disks.objects (λ d. Told (seen d) (λ file. KeepsObjects seen end.stores.0.backend))

@@ -9,7 +9,7 @@ use Rattle.ens_base.specs.declared.peer_words.PeerWords.{PeerWords}
 use Rattle.ens_base.specs.declared.status.Status.{Status}
 use Rattle.fact_store.specs.Files.{file_kept}
 use Rattle.fact_store.specs.Keeping.{file_fact}
-use Rattle.peer_fact.specs.declared.fact.Fact.{Fact}
+use Rattle.peer_fact.specs.declared.saved.SavedFact.{SavedFact}
 use Rattle.peer_plan.specs.Starts.{start_of}
 use Rattle.peer_state.specs.declared.state.State.{State}
 use Rattle.slot_disk.specs.Crash.{LeavesOnly, SeenIn, Told}
@@ -72,7 +72,7 @@ module _ {D : Type 0} (seen : D → Option (List ℕ)) (may_leave : D → List �
   FactsLeft disks s saves = Of disks.facts (λ d. Told (seen d) (λ file. LeavesFacts may_leave moment left_since d s.0.facts.slots.disk file saves))
 
   -- the facts that the start saved
-  abbrev pub saved_at_start : (w : PeerWords) (disks : Disks D) (x : State) (s : OnDisks D) → Began w disks x s → List Fact
+  abbrev pub saved_at_start : (w : PeerWords) (disks : Disks D) (x : State) (s : OnDisks D) → Began w disks x s → List SavedFact
   saved_at_start w disks x s began =
       (saves_in (disks_do seen may_leave moment left_since faults) (disks_refuse seen may_leave moment left_since faults) (start_of w.view) began.first [] (Finished x nothing) s [] began.starts).saved
 

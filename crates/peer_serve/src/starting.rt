@@ -15,6 +15,7 @@ use peer_core::{Peer, Stores};
 use slot_disk::Disk;
 use std::alloc::Global;
 use synctree::Tree;
+use tree_node::TreeVersion;
 
 /// Opens the stores of nodes and of objects, beside the file of facts.
 fn open_logs<D: Disk>(
@@ -44,7 +45,7 @@ fn open_logs<D: Disk>(
     match DiskBackend::open(alloc, objects) {
         Ok(backend) => Ok(Stores {
             backend,
-            tree: Tree::unopened(nodes),
+            tree: Tree::unopened(nodes, TreeVersion::One),
             facts,
         }),
         Err(refused) => Err(Refused {

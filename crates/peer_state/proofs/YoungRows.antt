@@ -23,6 +23,8 @@ use Rattle.wire_frames.specs.declared.message.Message.TheVariants as messages
 use Rattle.phase_rows.specs.declared.phase.PhaseOut.{PhaseOut}
 use Rattle.phase_rows.specs.declared.phase.Then.{Then}
 use Rattle.phase_rows.specs.declared.phase.Then.TheVariants as thens
+use Rattle.phase_rows.specs.declared.rules.PhaseRule.{PhaseRule}
+use Rattle.phase_rows.specs.declared.rules.PhaseRule.TheVariants as phase_rules
 use Rattle.peer_state.specs.Ages.{IsYoung, IsYoungChange, IsYoungElection}
 use Rattle.peer_state.specs.Moves.{stopped_leading, without_candidacy, left, turned, waiting_phase, waiting_for}
 use Rattle.peer_state.specs.Rows.{runs_sync, prepared, change_heard, leads, changes, wanting, asked_change, begun_change, phase_row, received}
@@ -69,6 +71,7 @@ turned_young me thens.Put x young = young
 turned_young me thens.Resume x young = young
 turned_young me (thens.SyncOn fact) x young = young
 turned_young me (thens.Rule n) x young = young
+turned_young me (thens.OnKeys n) x young = young
 
 waiting_phase_young : (phase : Phase) → IsYoung phase → IsYoung (waiting_phase phase)
 waiting_phase_young (phases.Leading l) young = young
@@ -85,6 +88,7 @@ waiting_young (thens.Lead fact) x young = young
 waiting_young thens.Untrust x young = young
 waiting_young thens.Put x young = young
 waiting_young (thens.Rule n) x young = young
+waiting_young (thens.OnKeys n) x young = young
 
 -- the ages of the rules
 row_8_age : (p : Probing) (me from : ℕ) (reply : Fact) → p.age < 6 → (row_8 p me from reply).0.age < 6
@@ -142,15 +146,14 @@ wanting_young change (phases.Electing e) x young = young
 pub asked_young : (view : List ℕ) (x : State) → IsYoung x.phase → IsYoung (asked_change view x).0.phase
 asked_young view x young = either (λ (y : State). IsYoung y.phase) (row_24 x.fact (leads x.phase) (changes x.phase) view).1 _ _ (wanting_young (Add view) x.phase x young) young
 
-pub phase_row_young : (n me : ℕ) (x : State) → IsYoung x.phase → LeavesYoung (phase_row n me x)
-phase_row_young n me x young =
-    either LeavesYoung (n == 7) _ _ (lit< tt)
-    (either LeavesYoung (n == 9) _ _ (by_probing LeavesYoung x.phase (λ p is. subst IsYoung is young) young)
-    (either LeavesYoung (n == 10) _ _ (by_probing LeavesYoung x.phase (λ p is. prepared_young me p.best p.count x young) (by_leading LeavesYoung x.phase (λ l is. prepared_young me x.fact x.fact.ballot.count x young) young))
-    (either LeavesYoung (n == 13) _ _ (by_electing LeavesYoung x.phase (λ e is. row_13_young e x.fact me x.trusted (subst IsYoung is young)) young)
-    (either LeavesYoung (n == 14) _ _ (by_electing LeavesYoung x.phase (λ e is. row_14_young e me (subst IsYoung is young)) young)
-    (either LeavesYoung (n == 25) _ _ (by_leading LeavesYoung x.phase (λ l is. begun_change_young l.change l x.fact me (subst IsYoung is young)) young)
-    (either LeavesYoung (n == 26) _ _ (by_leading LeavesYoung x.phase (λ l is. young) young) young))))))
+pub phase_row_young : (rule : PhaseRule) (me : ℕ) (x : State) → IsYoung x.phase → LeavesYoung (phase_row rule me x)
+phase_row_young phase_rules.BeginProbing me x young = lit< tt
+phase_row_young phase_rules.EnoughHeard me x young = by_probing LeavesYoung x.phase (λ p is. subst IsYoung is young) young
+phase_row_young phase_rules.Prepare me x young = by_probing LeavesYoung x.phase (λ p is. prepared_young me p.best p.count x young) (by_leading LeavesYoung x.phase (λ l is. prepared_young me x.fact x.fact.ballot.count x young) young)
+phase_row_young phase_rules.EnoughPromised me x young = by_electing LeavesYoung x.phase (λ e is. row_13_young e x.fact me x.trusted (subst IsYoung is young)) young
+phase_row_young phase_rules.EnoughAccepted me x young = by_electing LeavesYoung x.phase (λ e is. row_14_young e me (subst IsYoung is young)) young
+phase_row_young phase_rules.BeginChange me x young = by_leading LeavesYoung x.phase (λ l is. begun_change_young l.change l x.fact me (subst IsYoung is young)) young
+phase_row_young phase_rules.EndEpoch me x young = by_leading LeavesYoung x.phase (λ l is. young) young
 
 pub received_young : (me from : ℕ) (message : Message) (x : State) → IsYoung x.phase → LeavesYoung (received me from message x)
 received_young me from (messages.ProbeReply fact) x young = by_probing LeavesYoung x.phase (λ p is. row_8_age p me from fact (subst IsYoung is young)) young

@@ -7,6 +7,7 @@ use Rattle.leader_words.specs.declared.out.Outgoing.{Outgoing}
 use Rattle.leading.specs.Ticks.{is_to_end, row_5}
 use Rattle.phase_rows.specs.declared.phase.Then.{Then}
 use Rattle.phase_rows.specs.declared.phase.Then.TheVariants as thens
+use Rattle.phase_rows.specs.declared.rules.PhaseRule.TheVariants as phase_rules
 use Rattle.peer_state.specs.Moves.{with_leader}
 use Rattle.peer_state.specs.declared.state.ChangeState.{ChangeState}
 use Rattle.peer_state.specs.declared.state.ChangeState.TheVariants.{Settled, Wanted, Finishing}
@@ -45,6 +46,6 @@ wished first (Finishing f) = Finishing f
 
 -- rule 25, if a change is wanted
 abbrev pub begins : ChangeState → Then
-begins (Wanted change) = thens.Rule 25
+begins (Wanted change) = thens.Rule phase_rules.BeginChange
 begins Settled = thens.Stay
 begins (Finishing f) = thens.Stay

@@ -9,9 +9,11 @@ use Rattle.leading.specs.Leaders.{new_leader}
 use Rattle.leading.specs.Ticks.{left_answer}
 use Rattle.leading.specs.declared.leader.Leader.{Leader}
 use Rattle.peer_fact.specs.declared.fact.Fact.{Fact}
+use Rattle.peer_fact.specs.declared.saved.SavedFact.{SavedFact}
 use Rattle.phase_rows.specs.Peers.{nobody}
 use Rattle.probe.specs.declared.probing.Probing.{Probing}
 use Rattle.step_plans.specs.Plans.{Out}
+use Rattle.step_plans.specs.Saved.{with_seal}
 use Rattle.phase_rows.specs.declared.phase.Then.{Then}
 use Rattle.phase_rows.specs.declared.phase.Then.TheVariants as thens
 use Rattle.peer_state.specs.declared.state.ChangeState.TheVariants.{Settled}
@@ -19,6 +21,10 @@ use Rattle.peer_state.specs.declared.state.Leadership.{Leadership}
 use Rattle.peer_state.specs.declared.state.Phase.{Phase}
 use Rattle.peer_state.specs.declared.state.Phase.TheVariants as phases
 use Rattle.peer_state.specs.declared.state.State.{State}
+
+-- what the peer saved last: its fact, with its seal
+abbrev pub saved_by : State → SavedFact
+saved_by x = with_seal x.seal x.fact
 
 -- following, with no quiet tick so far
 abbrev pub follower : Phase
@@ -147,6 +153,7 @@ waiting_for (thens.Lead fact) x = x
 waiting_for thens.Untrust x = x
 waiting_for thens.Put x = x
 waiting_for (thens.Rule n) x = x
+waiting_for (thens.OnKeys n) x = x
 
 -- How the phase and the trust change after the message of a rule, at peer `me`. The object of a put
 -- is written by the rule that asks for it; a sync that begins or resumes, and a rule that is named,
@@ -160,6 +167,7 @@ turned me thens.Put x = x
 turned me thens.Resume x = x
 turned me (thens.SyncOn fact) x = x
 turned me (thens.Rule n) x = x
+turned me (thens.OnKeys n) x = x
 
 -- whether the peer no longer leads as it did, after what follows the message of a rule
 abbrev pub ends_leading : Then → Bool
@@ -171,6 +179,7 @@ ends_leading thens.Put = false
 ends_leading thens.Resume = false
 ends_leading (thens.SyncOn fact) = false
 ends_leading (thens.Rule n) = false
+ends_leading (thens.OnKeys n) = false
 
 -- and the unanswered calls are answered if leading ends
 abbrev pub turned_answers : Then → State → Out → Out

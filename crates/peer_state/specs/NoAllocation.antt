@@ -1,6 +1,6 @@
 -- The messages that a peer answers without allocating, with at most one message, to the sender, if no
 -- call is unanswered.
-use Rattle.std.specs.Prelude.{◌≡◌, ◌≢◌, ℕ, Bool, true, false}
+use Rattle.std.specs.Prelude.{◌≡◌, ℕ, Bool, true, false}
 use Rattle.call_table.specs.Calls.{has_calls}
 use Rattle.peer_fact.specs.declared.fact.Fact.{Fact}
 use Rattle.step_plans.specs.Outboxes.{FitsIn}
@@ -70,6 +70,7 @@ ends_step thens.Put = true
 ends_step thens.Resume = false
 ends_step (thens.SyncOn fact) = false
 ends_step (thens.Rule n) = false
+ends_step (thens.OnKeys n) = true
 
 -- nothing runs after the row, the outbox has room for its message, if there is one, which has one
 -- receiver, and no call is unanswered if it ends leading
@@ -81,6 +82,7 @@ pub record IsFreeRow (o : Outbox) (phase : Phase) (row : PhaseOut) : Type 0 wher
 
 -- the row of the task is such a row
 abbrev pub IsFreeTask : Outbox → ℕ → Task → State → Type 0
-IsFreeTask o me (tasks.Phase n) x = (n ≢ 5) × IsFreeRow o (phase_row n me x).0.phase (phase_row n me x).1
+IsFreeTask o me (tasks.Phase rule) x = IsFreeRow o (phase_row rule me x).0.phase (phase_row rule me x).1
+IsFreeTask o me tasks.Remind x = ⊥
 IsFreeTask o me (tasks.Key n key) x = ⊥
 IsFreeTask o me (tasks.Again n key seen) x = ⊥

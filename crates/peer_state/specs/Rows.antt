@@ -29,6 +29,8 @@ use Rattle.wire_frames.specs.declared.message.Message.TheVariants as messages
 use Rattle.wire_frames.specs.declared.message.NackCause.{NackCause}
 use Rattle.phase_rows.specs.declared.phase.PhaseOut.{PhaseOut}
 use Rattle.phase_rows.specs.declared.phase.Then.TheVariants as thens
+use Rattle.phase_rows.specs.declared.rules.PhaseRule.{PhaseRule}
+use Rattle.phase_rows.specs.declared.rules.PhaseRule.TheVariants as phase_rules
 use Rattle.peer_state.specs.Moves.{electing, following, leading, probing, sought, stood, waiting_for}
 use Rattle.peer_state.specs.declared.state.ChangeState.{ChangeState}
 use Rattle.peer_state.specs.declared.state.ChangeState.TheVariants.{Settled, Wanted, Finishing as Finishes}
@@ -188,17 +190,15 @@ ended (Wanted change) fact me unanswered = silent thens.Stay
 abbrev pub while_26 : Phase → ℕ → State → State × PhaseOut
 while_26 phase me x = while_leading (λ l. (x, ended l.change x.fact me (has_calls l.leader.table.calls))) phase (calm x)
 
--- the row of the rule with this number, which a row may name
-abbrev pub phase_row : ℕ → ℕ → State → State × PhaseOut
-phase_row n me x =
-    if n == 7 then begun me x
-    else (if n == 9 then while_9 x.phase x
-    else (if n == 10 then while_10 x.phase me x
-    else (if n == 13 then while_13 x.phase me x
-    else (if n == 14 then while_14 x.phase me x
-    else (if n == 25 then while_25 x.phase me x
-    else (if n == 26 then while_26 x.phase me x
-    else calm x))))))
+-- the row of a rule that a row may name
+abbrev pub phase_row : PhaseRule → ℕ → State → State × PhaseOut
+phase_row phase_rules.BeginProbing me x = begun me x
+phase_row phase_rules.EnoughHeard me x = while_9 x.phase x
+phase_row phase_rules.Prepare me x = while_10 x.phase me x
+phase_row phase_rules.EnoughPromised me x = while_13 x.phase me x
+phase_row phase_rules.EnoughAccepted me x = while_14 x.phase me x
+phase_row phase_rules.BeginChange me x = while_25 x.phase me x
+phase_row phase_rules.EndEpoch me x = while_26 x.phase me x
 
 -- a message from a peer whose rule asks neither the tree nor the backend, and which no leader counts
 -- for its calls; a message that does not fit the phase is ignored, and so is one that no rule counts

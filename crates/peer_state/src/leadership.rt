@@ -9,7 +9,7 @@ use ens_base::{Epoch, PeerId, PeerSet};
 use leader_words::{LeadError, LeadOut, Outgoing};
 use leading::Leader;
 use peer_fact::{Change, Fact};
-use phase_rows::{PhaseOut, Then, silent};
+use phase_rows::{PhaseOut, PhaseRule, Then, silent};
 use std::alloc::Global;
 use view_change::{Finishing, rule_25};
 use wire_frames::Message;
@@ -74,7 +74,7 @@ impl ChangeState {
         ensures { result ≡ begins_by self.now }
     {
         match self {
-            ChangeState::Wanted(_) => Then::Rule(25),
+            ChangeState::Wanted(_) => Then::Rule(PhaseRule::BeginChange),
             ChangeState::Settled | ChangeState::Finishing(_) => Then::Stay,
         }
     }

@@ -16,4 +16,4 @@ mod syncs;
 
 pub use event::{CallIn, Event};
 pub use state::{ChangeState, Leadership, Phase, State};
-pub use syncs::{ask_again, start_sync, sync_outcome, take_answer};
+pub use syncs::{resume_sync, start_sync, sync_outcome, take_give};

@@ -9,7 +9,7 @@ use ens_object::Object;
 use exchange::Question;
 use following::{rule_16, rule_18, rule_19, rule_20, rule_21, rule_22, rule_23};
 use peer_fact::{Change, Fact};
-use phase_rows::{PhaseOut, Seen, Then, silent};
+use phase_rows::{PhaseOut, PhaseRule, Seen, Then, silent};
 use probe::{rule_7, rule_8_probe};
 use std::alloc::Global;
 use step_plans::PeerError;
@@ -195,21 +195,19 @@ impl State {
         }
     }
 
-    /// The row of the rule with this number, one of 7, 9, 10, 13, 14, 25 and 26. For any other
-    /// number nothing happens.
-    pub fn phase_row(&mut self, rule: u8, me: PeerId) -> PhaseOut
+    /// The row of the rule.
+    pub fn phase_row(&mut self, rule: PhaseRule, me: PeerId) -> PhaseOut
         requires { IsPeer me }
         ensures { (self.new, result) ≡ phase_row rule me self.old }
     {
         match rule {
-            7 => self.rule_7(me),
-            9 => self.rule_9(),
-            10 => self.rule_10(me),
-            13 => self.rule_13(me),
-            14 => self.rule_14(me),
-            25 => self.rule_25(me),
-            26 => self.rule_26(me),
-            _ => silent(Then::Stay),
+            PhaseRule::BeginProbing => self.rule_7(me),
+            PhaseRule::EnoughHeard => self.rule_9(),
+            PhaseRule::Prepare => self.rule_10(me),
+            PhaseRule::EnoughPromised => self.rule_13(me),
+            PhaseRule::EnoughAccepted => self.rule_14(me),
+            PhaseRule::BeginChange => self.rule_25(me),
+            PhaseRule::EndEpoch => self.rule_26(me),
         }
     }
 

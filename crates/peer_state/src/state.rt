@@ -6,7 +6,7 @@ ghost use Rattle.peer_state.specs.NoAllocation.{EndsQuietly};
 ghost use Rattle.peer_state.specs.declared.state.ChangeState.TheVariants.{Settled};
 
 use election::Election;
-use ens_base::{PeerId, PeerSet};
+use ens_base::{Digest, PeerId, PeerSet};
 use following::Follower;
 use leading::Leader;
 use peer_fact::{Change, Fact};
@@ -45,11 +45,13 @@ pub enum Phase {
     Leading(Leadership),
 }
 
-/// A peer without its number and its stores: the last saved fact, whether the peer trusts its tree,
-/// its phase, and the sync that runs, if one does.
+/// A peer without its number and its stores: the last saved fact and the seal that it was saved with,
+/// whether the peer trusts its tree, its phase, and the sync that runs, if one does. No peer makes a
+/// seal yet.
 #[derive(Drop)]
 pub struct State {
     pub fact: Fact,
+    pub seal: Option<Digest>,
     pub trusted: bool,
     pub phase: Phase,
     pub sync: Option<RunningSync>,
@@ -139,7 +141,8 @@ fn ends_the_lead(then: &Then) -> bool
 {
     match then {
         Then::Follow | Then::Lead(_) | Then::Untrust => true,
-        Then::Stay | Then::Put | Then::Resume | Then::SyncOn(_) | Then::Rule(_) => false,
+        Then::Stay | Then::Put | Then::Resume | Then::SyncOn(_) | Then::Rule(_) | Then::OnKeys(_) =>
+            false,
     }
 }
 
@@ -205,7 +208,12 @@ impl State {
                 self.phase.leave_starting();
                 Ok(())
             }
-            Then::Stay | Then::Put | Then::Resume | Then::SyncOn(_) | Then::Rule(_) => Ok(()),
+            Then::Stay
+            | Then::Put
+            | Then::Resume
+            | Then::SyncOn(_)
+            | Then::Rule(_)
+            | Then::OnKeys(_) => Ok(()),
         }
     }
 
@@ -236,8 +244,13 @@ impl State {
     {
         match then {
             Then::SyncOn(_) | Then::Resume => self.phase.wait(),
-            Then::Stay | Then::Follow | Then::Lead(_) | Then::Untrust | Then::Put | Then::Rule(_) =>
-                {}
+            Then::Stay
+            | Then::Follow
+            | Then::Lead(_)
+            | Then::Untrust
+            | Then::Put
+            | Then::Rule(_)
+            | Then::OnKeys(_) => {}
         }
     }
 }

@@ -1,4 +1,5 @@
 ghost use Rattle.std.specs.Prelude.{◌≡◌, IfOk, IfErr};
+ghost use Rattle.tree_node.specs.declared.version.TreeVersion.TheVariants.{One};
 ghost use Rattle.tree_node.specs.Positions.{IsPosition};
 ghost use Rattle.running_sync.specs.Rows.{row_start, row_resume, row_take};
 ghost use Rattle.sync_rule.specs.Syncs.{outcome_of, MayBeBuilt};
@@ -42,7 +43,7 @@ pub fn start_sync(
 }
 
 /// Resumes a sync, and returns its messages. Fails only when out of memory.
-pub fn ask_again(alloc: Global, running: &mut RunningSync) -> Result<Seq<Outgoing>, PeerError>
+pub fn resume_sync(alloc: Global, running: &mut RunningSync) -> Result<Seq<Outgoing>, PeerError>
     ensures ok { IfOk result (λ sends. (running.new, sends) ≡ row_resume running.old) }
     ensures memory { IfErr result (λ e. e ≡ PeerError.Memory) }
 {
@@ -53,14 +54,14 @@ pub fn ask_again(alloc: Global, running: &mut RunningSync) -> Result<Seq<Outgoin
 }
 
 /// Lets a sync take an answer, and returns its messages. Fails only when out of memory.
-pub fn take_answer(
+pub fn take_give(
     alloc: Global,
     running: &mut RunningSync,
     from: PeerId,
     give: &Give,
     own: &Option<Bytes>,
 ) -> Result<Seq<Outgoing>, PeerError>
-    requires { IsPosition give.now.question.position }
+    requires { IsPosition One give.now.question.position }
     ensures ok { IfOk result (λ sends. (running.new, sends) ≡ row_take from give.now own.now running.old) }
     ensures memory { IfErr result (λ e. e ≡ PeerError.Memory) }
 {

@@ -1,6 +1,7 @@
 -- A peer that started, step by step.
-use Rattle.std.proofs.Common.{◌≤◌, ◌<◌, ◌+◌, ◌^◌, arith, sym, subst, length, ℕ, Bool, List, [], ◌∷◌}
-use Rattle.peer_fact.specs.declared.fact.Fact.{Fact}
+use Rattle.std.proofs.Common.{◌≤◌, ◌<◌, ◌+◌, ◌^◌, arith, sym, subst, length, ℕ, Bool, List, [], ◌∷◌, None}
+use Rattle.peer_fact.specs.declared.saved.SavedFact.{SavedFact}
+use Rattle.phase_rows.specs.declared.rules.PhaseRule.TheVariants as phase_rules
 use Rattle.peer_plan.specs.Drives.{first, task_done, driven, most_turns, concluded, step_of}
 use Rattle.peer_plan.specs.Kept.{IsStepCall}
 use Rattle.peer_plan.specs.Turns.{StepsAlone, HasFewCalls}
@@ -36,12 +37,12 @@ ended R (Ask call next) y follows (a, end) = ended R (next a) y (follows.1 a) en
 room_for : (a b c : ℕ) → a ≤ b → a + c ≤ c + b
 room_for a b c less = omega (arith, less)
 
-pub reached_few : (me : ℕ) (fact : Fact) (trusted : Bool) (events : List Event) (x : State) → Reached me fact trusted events x → length (unanswered x.phase) ≤ calls_among events
-reached_few me fact trusted [] x is = subst (λ (y : State). length (unanswered y.phase) ≤ 0) (sym is) (least 0)
-reached_few me fact trusted (event ∷ events) x (y, before, end) =
+pub reached_few : (me : ℕ) (saved : SavedFact) (trusted : Bool) (events : List Event) (x : State) → Reached me saved trusted events x → length (unanswered x.phase) ≤ calls_among events
+reached_few me saved trusted [] x is = subst (λ (y : State). length (unanswered y.phase) ≤ 0) (sym is) (least 0)
+reached_few me saved trusted (event ∷ events) x (y, before, end) =
     let k : ℕ = calls_of event + calls_among events in
     ended (λ z. count z.phase ≤ k) (step_of me event y) x
-    (step_few me k event y (room_for (count y.phase) (calls_among events) (calls_of event) (reached_few me fact trusted events y before))) end
+    (step_few me k event y (room_for (count y.phase) (calls_among events) (calls_of event) (reached_few me saved trusted events y before))) end
 
 few_calls : (phase : Phase) (n : ℕ) → count phase ≤ n → n < 2 ^ 60 → HasFewCalls phase
 few_calls (phases.Leading l) n less few = omega (arith, less, few)
@@ -54,7 +55,7 @@ few_calls (phases.Electing e) n less few = tt
 -- at the limit on tasks none is left
 abbrev stop : Rest State (List Task)
 stop [] y o = Done y o
-stop (t ∷ ts) y o = Ask OpenTree (λ u. Done y o)
+stop (t ∷ ts) y o = Ask (OpenTree None) (λ u. Done y o)
 
 stop_some : (t : Task) (ts : List Task) (y : State) (o : Out) → StepsAlone (stop (t ∷ ts) y o) → ⊥
 stop_some t ts y o alone = alone.0
@@ -74,8 +75,8 @@ module _ (me k : ℕ) (less : k < 2 ^ 60) (P : State → Out → Type 0) (next :
       (responded_left me event x nothing stop (few_calls x.phase k (at_most (count x.phase) (calls_of event) k room) less) (λ z q. tt))
 
   -- from rule 26 on
-  after_26 : (y : State) (o : Out) → count y.phase ≤ k → IsResting y.phase → Ends next → Follows IsStepCall P (task_done me (tasks.Phase 26) y o (λ ts z q. driven me most_turns ts z q next))
-  after_26 y o few rests ends =
+  after_end : (y : State) (o : Out) → count y.phase ≤ k → IsResting y.phase → Ends next → Follows IsStepCall P (task_done me (tasks.Phase phase_rules.EndEpoch) y o (λ ts z q. driven me most_turns ts z q next))
+  after_end y o few rests ends =
       concluded_safe k me P y o next stop few rests (λ z q fine still alone. ends z q fine still) stop_some
       (concluded_left me y o stop (few_calls y.phase k few less) (λ z q. tt))
 
@@ -84,24 +85,24 @@ step_rests : (me k : ℕ) (event : Event) (x : State) → k < 2 ^ 60 → count x
 step_rests me k event x less room rests =
     let P : State → Out → Type 0 = λ y o. IsResting y.phase in
     after_event me k less P (λ ts y o. concluded me y o (λ v z q. Done z q)) event x room rests
-    (λ y o few still. after_26 me k less P (λ ts z q. Done z q) y o few still (λ z q fine end. end))
+    (λ y o few still. after_end me k less P (λ ts z q. Done z q) y o few still (λ z q fine end. end))
 
 fewer : (a b c : ℕ) → c + b < a → b < a
 fewer a b c less = omega (arith, less)
 
-pub reached_rests : (me : ℕ) (fact : Fact) (trusted : Bool) (events : List Event) (x : State) → Reached me fact trusted events x → calls_among events < 2 ^ 60 → IsResting x.phase
-reached_rests me fact trusted [] x is less = subst (λ (y : State). IsResting y.phase) (sym is) tt
-reached_rests me fact trusted (event ∷ events) x (y, before, end) less =
+pub reached_rests : (me : ℕ) (saved : SavedFact) (trusted : Bool) (events : List Event) (x : State) → Reached me saved trusted events x → calls_among events < 2 ^ 60 → IsResting x.phase
+reached_rests me saved trusted [] x is less = subst (λ (y : State). IsResting y.phase) (sym is) tt
+reached_rests me saved trusted (event ∷ events) x (y, before, end) less =
     let k : ℕ = calls_of event + calls_among events in
     ended (λ z. IsResting z.phase) (step_of me event y) x
-    (step_rests me k event y less (room_for (count y.phase) (calls_among events) (calls_of event) (reached_few me fact trusted events y before))
-    (reached_rests me fact trusted events y before (fewer (2 ^ 60) (calls_among events) (calls_of event) less))) end
+    (step_rests me k event y less (room_for (count y.phase) (calls_among events) (calls_of event) (reached_few me saved trusted events y before))
+    (reached_rests me saved trusted events y before (fewer (2 ^ 60) (calls_among events) (calls_of event) less))) end
 
-module _ (other : Rest State (List Task)) (me : ℕ) (fact : Fact) (trusted : Bool) (event : Event) (events : List Event) (x : State) where
-  pub none_left : Reached me fact trusted events x → calls_among (event ∷ events) < 2 ^ 60 → StepsAlone (step_or other me event x)
+module _ (other : Rest State (List Task)) (me : ℕ) (saved : SavedFact) (trusted : Bool) (event : Event) (events : List Event) (x : State) where
+  pub none_left : Reached me saved trusted events x → calls_among (event ∷ events) < 2 ^ 60 → StepsAlone (step_or other me event x)
   none_left reached less =
       let k : ℕ = calls_among (event ∷ events) in
       let P : State → Out → Type 0 = λ y o. Unit {0} in
-      after_event me k less P (or_else other (end_or other me)) event x (room_for (count x.phase) (calls_among events) (calls_of event) (reached_few me fact trusted events x reached))
-      (reached_rests me fact trusted events x reached (fewer (2 ^ 60) (calls_among events) (calls_of event) less))
-      (λ y o few still. after_26 me k less P (or_else other (λ v w q. Done w q)) y o few still (λ z q fine end. tt))
+      after_event me k less P (or_else other (end_or other me)) event x (room_for (count x.phase) (calls_among events) (calls_of event) (reached_few me saved trusted events x reached))
+      (reached_rests me saved trusted events x reached (fewer (2 ^ 60) (calls_among events) (calls_of event) less))
+      (λ y o few still. after_end me k less P (or_else other (λ v w q. Done w q)) y o few still (λ z q fine end. tt))

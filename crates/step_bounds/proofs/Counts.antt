@@ -44,6 +44,9 @@ use Rattle.phase_rows.specs.declared.phase.PhaseOut.{PhaseOut}
 use Rattle.phase_rows.specs.declared.phase.Seen.{Seen}
 use Rattle.phase_rows.specs.declared.phase.Then.{Then}
 use Rattle.phase_rows.specs.declared.phase.Then.TheVariants as thens
+use Rattle.phase_rows.specs.declared.rules.KeyRule.{KeyRule}
+use Rattle.phase_rows.specs.declared.rules.PhaseRule.{PhaseRule}
+use Rattle.phase_rows.specs.declared.rules.PhaseRule.TheVariants as phase_rules
 use Rattle.register_model.specs.declared.note.Note.{Note}
 use Rattle.view_change.specs.Changes.{row_24, row_25}
 use Rattle.view_change.specs.declared.finishing.Finishing.{Finishing}
@@ -101,6 +104,7 @@ turned_few me thens.Put x = itself (count x.phase)
 turned_few me thens.Resume x = itself (count x.phase)
 turned_few me (thens.SyncOn fact) x = itself (count x.phase)
 turned_few me (thens.Rule n) x = itself (count x.phase)
+turned_few me (thens.OnKeys n) x = itself (count x.phase)
 
 waiting_phase_few : (phase : Phase) → count (waiting_phase phase) ≤ count phase
 waiting_phase_few (phases.Leading l) = itself (length l.leader.table.calls)
@@ -117,6 +121,7 @@ waiting_few (thens.Lead fact) x = itself (count x.phase)
 waiting_few thens.Untrust x = itself (count x.phase)
 waiting_few thens.Put x = itself (count x.phase)
 waiting_few (thens.Rule n) x = itself (count x.phase)
+waiting_few (thens.OnKeys n) x = itself (count x.phase)
 
 -- the row leaves no more calls than there were before
 abbrev HasNoMore : State → State × PhaseOut → Type 0
@@ -141,15 +146,14 @@ begun_change_few (Finishes f) l fact me = itself (length l.leader.table.calls)
 led_less : (l : Leadership) (x : State) → x.phase ≡ phases.Leading l → length l.leader.table.calls ≤ count x.phase
 led_less l x is = rw is (itself (length l.leader.table.calls))
 
-pub phase_row_few : (n me : ℕ) (x : State) → HasNoMore x (phase_row n me x)
-phase_row_few n me x =
-    either (HasNoMore x) (n == 7) _ _ (least (count x.phase))
-    (either (HasNoMore x) (n == 9) _ _ (by_probing (HasNoMore x) x.phase (λ p is. least (count x.phase)) (same_few x))
-    (either (HasNoMore x) (n == 10) _ _ (by_probing (HasNoMore x) x.phase (λ p is. stood_few (row_10 x.fact me p.best p.count).1 x) (by_leading (HasNoMore x) x.phase (λ l is. stood_few (row_10 x.fact me x.fact x.fact.ballot.count).1 x) (same_few x)))
-    (either (HasNoMore x) (n == 13) _ _ (by_electing (HasNoMore x) x.phase (λ e is. least (count x.phase)) (same_few x))
-    (either (HasNoMore x) (n == 14) _ _ (by_electing (HasNoMore x) x.phase (λ e is. least (count x.phase)) (same_few x))
-    (either (HasNoMore x) (n == 25) _ _ (by_leading (HasNoMore x) x.phase (λ l is. let still = begun_change_few l.change l x.fact me in let leads = led_less l x is in omega (arith, leads, still)) (same_few x))
-    (either (HasNoMore x) (n == 26) _ _ (by_leading (HasNoMore x) x.phase (λ l is. same_few x) (same_few x)) (same_few x)))))))
+pub phase_row_few : (rule : PhaseRule) (me : ℕ) (x : State) → HasNoMore x (phase_row rule me x)
+phase_row_few phase_rules.BeginProbing me x = least (count x.phase)
+phase_row_few phase_rules.EnoughHeard me x = by_probing (HasNoMore x) x.phase (λ p is. least (count x.phase)) (same_few x)
+phase_row_few phase_rules.Prepare me x = by_probing (HasNoMore x) x.phase (λ p is. stood_few (row_10 x.fact me p.best p.count).1 x) (by_leading (HasNoMore x) x.phase (λ l is. stood_few (row_10 x.fact me x.fact x.fact.ballot.count).1 x) (same_few x))
+phase_row_few phase_rules.EnoughPromised me x = by_electing (HasNoMore x) x.phase (λ e is. least (count x.phase)) (same_few x)
+phase_row_few phase_rules.EnoughAccepted me x = by_electing (HasNoMore x) x.phase (λ e is. least (count x.phase)) (same_few x)
+phase_row_few phase_rules.BeginChange me x = by_leading (HasNoMore x) x.phase (λ l is. let still = begun_change_few l.change l x.fact me in let leads = led_less l x is in omega (arith, leads, still)) (same_few x)
+phase_row_few phase_rules.EndEpoch me x = by_leading (HasNoMore x) x.phase (λ l is. same_few x) (same_few x)
 
 pub received_few : (me from : ℕ) (message : Message) (x : State) → HasNoMore x (received me from message x)
 received_few me from messages.Probe x = same_few x
@@ -223,8 +227,8 @@ served_few key old new [] notes serves = same_calls old.calls new.calls serves.0
 served_few key old new (a ∷ []) notes serves = trans (length new.calls) (length (without_running key old.calls)) (length old.calls) (same_calls (without_running key old.calls) new.calls serves.1.calls) (without_few key old.calls)
 served_few key old new (a ∷ (b ∷ more)) notes serves = absurd serves
 
-pub key_few : (n : ℕ) (key : List ℕ) (seen : Seen) → LeavesNoMore (lead_row n key seen)
-key_few n key seen l = served_few key l.table _ _ _ (lead_step n key seen l).serves
+pub key_few : (rule : KeyRule) (key : List ℕ) (seen : Seen) → LeavesNoMore (lead_row rule key seen)
+key_few rule key seen l = served_few key l.table _ _ _ (lead_step rule key seen l).serves
 
 pub got_few : (from : ℕ) (ballot : Epoch) (round : ℕ) (key : List ℕ) (entry : Option Entry) (object : Option Object) → LeavesNoMore (row_29_reply from ballot round key entry object)
 got_few from ballot round key entry object l = served_few key l.table _ _ _ (row_29_reply_step from ballot round key entry object l).serves

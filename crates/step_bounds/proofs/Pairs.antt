@@ -1,5 +1,5 @@
 -- A step beside the same step with a mark where a task is left: it leaves the peer at rest.
-use Rattle.std.proofs.Common.{◌≡◌, ◌≤◌, ◌+◌, ◌==◌, ◌||◌, arith, refl, sym, subst, ◌∙◌, length, map, ℕ, zero, suc, Bool, true, false, if◌then◌else◌, List, [], ◌∷◌, ◌++◌, Option, Some, None}
+use Rattle.std.proofs.Common.{◌≡◌, ◌≤◌, ◌+◌, ◌||◌, arith, refl, sym, subst, ◌∙◌, length, map, ℕ, zero, suc, Bool, true, false, if◌then◌else◌, List, [], ◌∷◌, ◌++◌, Option, Some, None}
 use Rattle.election.specs.declared.election.Election.{Election}
 use Rattle.election.specs.declared.election.Election.TheVariants.{Preparing, Starting}
 use Rattle.ens_base.specs.declared.epoch.Epoch.{Epoch}
@@ -17,6 +17,7 @@ use Rattle.tree_node.specs.declared.position.Position.{Position}
 use Rattle.exchange.specs.declared.question.Question.{Question}
 use Rattle.following.specs.Refusals.{is_served}
 use Rattle.following.specs.Requests.{row_21, row_22, row_23}
+use Rattle.leader_words.specs.Outs.{asked_by}
 use Rattle.leader_words.specs.declared.out.LeadOut.{LeadOut}
 use Rattle.leader_words.specs.declared.out.Outgoing.{Outgoing}
 use Rattle.leader_words.specs.declared.out.Own.{Own}
@@ -38,7 +39,7 @@ use Rattle.peer_fact.specs.declared.fact.Fact.{Fact}
 use Rattle.peer_plan.specs.Drives.{row_done, owned, own_key, followed_up, and_row, lead_done, lead, reminded, task_done, driven, led_in, shown, after_put, put_done, delivered, unavailable, first, and_change, most_turns}
 use Rattle.peer_plan.specs.Kept.{IsStepCall}
 use Rattle.peer_plan.specs.Owns.{digested, read, kept, fetched, held, looked_at, looked, found_at, found, entered, written, confirmed}
-use Rattle.peer_plan.specs.Syncs.{saved, and_sends, with_sync, accepted, accepted_own, accepted_in, ended_with, gone_on, resumed_sync, followed_on, needs_node, taken_give, installed, reached, own_node, body_of, shown_node}
+use Rattle.peer_plan.specs.Syncs.{saved, and_sends, with_sync, accepted, accepted_own, accepted_in, by_outcome, go_on, resume_sync, followed_on, needs_node, take_give, installed, reached, own_node, body_of, shown_node}
 use Rattle.peer_plan.specs.Turns.{StepsAlone}
 use Rattle.peer_state.specs.Leading.{older, end_of, ticks, row_5_calls, wished, begins}
 use Rattle.peer_state.specs.Moves.{left, left_answers, turned, turned_answers, leading, with_leader, and_answers, electing, without_sync}
@@ -55,6 +56,10 @@ use Rattle.phase_rows.specs.declared.phase.Seen.{Seen}
 use Rattle.phase_rows.specs.declared.phase.Seen.TheVariants as seens
 use Rattle.phase_rows.specs.declared.phase.Then.{Then}
 use Rattle.phase_rows.specs.declared.phase.Then.TheVariants as thens
+use Rattle.phase_rows.specs.declared.rules.KeyRule.{KeyRule}
+use Rattle.phase_rows.specs.declared.rules.KeyRule.TheVariants as key_rules
+use Rattle.phase_rows.specs.declared.rules.PhaseRule.{PhaseRule}
+use Rattle.phase_rows.specs.declared.rules.PhaseRule.TheVariants as phase_rules
 use Rattle.running_sync.specs.Rows.{row_start, row_resume, row_take}
 use Rattle.running_sync.specs.Running.{Running}
 use Rattle.running_sync.specs.declared.asking.Give.{Give}
@@ -79,6 +84,7 @@ use Rattle.step_bounds.proofs.Rested.{left_rests, untrusted_rests, turned_rests,
 -- the leader is ready for the task
 abbrev FitsLed : Task → Leader → Type 0
 FitsLed (tasks.Phase n) l = IsAtRest l
+FitsLed tasks.Remind l = IsAtRest l
 FitsLed (tasks.Key n key) l = IsReady n key l × IsCalm l.table
 FitsLed (tasks.Again n key seen) l = IsReady n key l × IsCalm l.table
 
@@ -92,6 +98,7 @@ FitsTask t (phases.Electing e) = Unit {0}
 -- the task begins at rest
 abbrev Starts : Task → Type 0
 Starts (tasks.Phase n) = Unit {0}
+Starts tasks.Remind = Unit {0}
 Starts (tasks.Key n key) = is_start n ≡ true
 Starts (tasks.Again n key seen) = ⊥
 
@@ -106,6 +113,7 @@ Ready (t ∷ ts) phase = FitsTask t phase × AllStart ts
 
 start_led : (t : Task) (l : Leader) → Starts t → IsAtRest l → FitsLed t l
 start_led (tasks.Phase n) l start rests = rests
+start_led tasks.Remind l start rests = rests
 start_led (tasks.Key n key) l start rests = (subst (λ (task : LeadTask). Fits n key l task) (sym rests.task) start, rests.calm)
 start_led (tasks.Again n key seen) l start rests = absurd start
 
@@ -129,6 +137,7 @@ ready_more (t ∷ more) ts phase ready start = (ready.0, starts_more more ts rea
 
 named_starts : (turn : Then) → AllStart (named turn)
 named_starts (thens.Rule n) = (tt, tt)
+named_starts (thens.OnKeys n) = tt
 named_starts thens.Stay = tt
 named_starts thens.Follow = tt
 named_starts (thens.Lead fact) = tt
@@ -139,67 +148,69 @@ named_starts (thens.SyncOn fact) = tt
 
 -- ## After a row of a leader
 
--- after rule n on the key a leader in the phase is ready for what comes next
-abbrev After : ℕ → List ℕ → Option Own → Then → Phase → Type 0
-After n key own turn (phases.Leading l) = IsReadyFor n key own turn l.leader × IsCalm l.leader.table
-After n key own turn (phases.Following f) = Unit {0}
-After n key own turn (phases.Probing p) = Unit {0}
-After n key own turn (phases.Electing e) = Unit {0}
+-- after a rule on the key a leader in the phase is ready for what comes next
+abbrev After : List ℕ → Option Own → Then → Phase → Type 0
+After key own turn (phases.Leading l) = IsReadyFor key own turn l.leader × IsCalm l.leader.table
+After key own turn (phases.Following f) = Unit {0}
+After key own turn (phases.Probing p) = Unit {0}
+After key own turn (phases.Electing e) = Unit {0}
 
-stopped_after : (n : ℕ) (key : List ℕ) (own : Option Own) (turn : Then) (x : State) → After n key own turn (left true x).phase
-stopped_after n key own turn x = by x.phase
+stopped_after : (key : List ℕ) (own : Option Own) (turn : Then) (x : State) → After key own turn (left true x).phase
+stopped_after key own turn x = by x.phase
   where
-    by : (phase : Phase) → After n key own turn (left true (record x { phase = phase })).phase
+    by : (phase : Phase) → After key own turn (left true (record x { phase = phase })).phase
     by (phases.Leading l) = tt
     by (phases.Following f) = tt
     by (phases.Probing p) = tt
     by (phases.Electing e) = tt
 
-left_after : (n : ℕ) (key : List ℕ) (own : Option Own) (turn : Then) (leave : Bool) (x : State) → After n key own turn x.phase → After n key own turn (left leave x).phase
-left_after n key own turn true x after = stopped_after n key own turn x
-left_after n key own turn false x after = after
+left_after : (key : List ℕ) (own : Option Own) (turn : Then) (leave : Bool) (x : State) → After key own turn x.phase → After key own turn (left leave x).phase
+left_after key own turn true x after = stopped_after key own turn x
+left_after key own turn false x after = after
 
-stay_rests : (n : ℕ) (key : List ℕ) (phase : Phase) → After n key None thens.Stay phase → IsResting phase
-stay_rests n key (phases.Leading l) after = record { task = after.0; calm = after.1 }
-stay_rests n key (phases.Following f) after = tt
-stay_rests n key (phases.Probing p) after = tt
-stay_rests n key (phases.Electing e) after = tt
+stay_rests : (key : List ℕ) (phase : Phase) → After key None thens.Stay phase → IsResting phase
+stay_rests key (phases.Leading l) after = record { task = after.0; calm = after.1 }
+stay_rests key (phases.Following f) after = tt
+stay_rests key (phases.Probing p) after = tt
+stay_rests key (phases.Electing e) after = tt
 
-rule_fits : (n m : ℕ) (key : List ℕ) (phase : Phase) → After n key None (thens.Rule m) phase → FitsTask (tasks.Key m key) phase
-rule_fits n m key (phases.Leading l) after = after
-rule_fits n m key (phases.Following f) after = tt
-rule_fits n m key (phases.Probing p) after = tt
-rule_fits n m key (phases.Electing e) after = tt
+rule_fits : (m : KeyRule) (key : List ℕ) (phase : Phase) → After key None (thens.OnKeys m) phase → FitsTask (tasks.Key m key) phase
+rule_fits m key (phases.Leading l) after = after
+rule_fits m key (phases.Following f) after = tt
+rule_fits m key (phases.Probing p) after = tt
+rule_fits m key (phases.Electing e) after = tt
 
-turned_ready : (me n : ℕ) (key : List ℕ) (turn : Then) (keys : List (List ℕ)) (x : State) → NamesOn key turn keys → After n key None turn x.phase → Ready (keyed turn keys) (turned me turn x).phase
-turned_ready me n key thens.Stay keys x names after = stay_rests n key x.phase after
-turned_ready me n key thens.Untrust keys x names after = untrusted_rests x.phase
-turned_ready me n key (thens.Rule m) keys x names after = subst (λ (ks : List (List ℕ)). Ready (keyed (thens.Rule m) ks) x.phase) (sym names.2) (rule_fits n m key x.phase after, tt)
-turned_ready me n key thens.Follow keys x names after = absurd names
-turned_ready me n key (thens.Lead fact) keys x names after = absurd names
-turned_ready me n key thens.Put keys x names after = absurd names
-turned_ready me n key thens.Resume keys x names after = absurd names
-turned_ready me n key (thens.SyncOn fact) keys x names after = absurd names
+turned_ready : (me : ℕ) (key : List ℕ) (turn : Then) (keys : List (List ℕ)) (x : State) → NamesOn key turn keys → After key None turn x.phase → Ready (keyed turn keys) (turned me turn x).phase
+turned_ready me key thens.Stay keys x names after = stay_rests key x.phase after
+turned_ready me key thens.Untrust keys x names after = untrusted_rests x.phase
+turned_ready me key (thens.OnKeys m) keys x names after = subst (λ (ks : List (List ℕ)). Ready (keyed (thens.OnKeys m) ks) x.phase) (sym names) (rule_fits m key x.phase after, tt)
+turned_ready me key (thens.Rule r) keys x names after = absurd names
+turned_ready me key thens.Follow keys x names after = absurd names
+turned_ready me key (thens.Lead fact) keys x names after = absurd names
+turned_ready me key thens.Put keys x names after = absurd names
+turned_ready me key thens.Resume keys x names after = absurd names
+turned_ready me key (thens.SyncOn fact) keys x names after = absurd names
 
-again_fits : (n : ℕ) (key k : List ℕ) (own : Own) (turn : Then) (seen : Seen) (phase : Phase) → k ≡ key → After n key (Some own) turn phase → FitsTask (tasks.Again n k seen) phase
-again_fits n key k own turn seen (phases.Leading l) same after = (subst (λ (z : List ℕ). IsReady n z l.leader) (sym same) after.0, after.1)
-again_fits n key k own turn seen (phases.Following f) same after = tt
-again_fits n key k own turn seen (phases.Probing p) same after = tt
-again_fits n key k own turn seen (phases.Electing e) same after = tt
+again_fits : (key k : List ℕ) (own : Own) (turn : Then) (seen : Seen) (phase : Phase) → k ≡ key → After key (Some own) turn phase → FitsTask (tasks.Again (asked_by own) k seen) phase
+again_fits key k own turn seen (phases.Leading l) same after = (subst (λ (z : List ℕ). IsReady (asked_by own) z l.leader) (sym same) after.0, after.1)
+again_fits key k own turn seen (phases.Following f) same after = tt
+again_fits key k own turn seen (phases.Probing p) same after = tt
+again_fits key k own turn seen (phases.Electing e) same after = tt
 
 -- after a tick the next calls start, if any do
 abbrev TurnStarts : Then → Type 0
 TurnStarts thens.Stay = Unit {0}
-TurnStarts (thens.Rule m) = is_start m ≡ true
+TurnStarts (thens.OnKeys m) = is_start m ≡ true
 TurnStarts turn = ⊥
 
-keys_start : (m : ℕ) (keys : List (List ℕ)) → is_start m ≡ true → AllStart (map (tasks.Key m) keys)
+keys_start : (m : KeyRule) (keys : List (List ℕ)) → is_start m ≡ true → AllStart (map (tasks.Key m) keys)
 keys_start m [] start = tt
 keys_start m (key ∷ keys) start = (start, keys_start m keys start)
 
 turn_starts : (turn : Then) (keys : List (List ℕ)) → TurnStarts turn → AllStart (keyed turn keys)
 turn_starts thens.Stay keys start = tt
-turn_starts (thens.Rule m) keys start = keys_start m keys start
+turn_starts (thens.OnKeys m) keys start = keys_start m keys start
+turn_starts (thens.Rule r) keys start = absurd start
 turn_starts thens.Follow keys start = absurd start
 turn_starts (thens.Lead fact) keys start = absurd start
 turn_starts thens.Untrust keys start = absurd start
@@ -207,7 +218,7 @@ turn_starts thens.Put keys start = absurd start
 turn_starts thens.Resume keys start = absurd start
 turn_starts (thens.SyncOn fact) keys start = absurd start
 
-late_starts : (late : Bool) → TurnStarts (if late then thens.Stay else thens.Rule 36)
+late_starts : (late : Bool) → TurnStarts (if late then thens.Stay else thens.OnKeys key_rules.StartNextCall)
 late_starts true = tt
 late_starts false = refl
 
@@ -220,11 +231,11 @@ joined_room a b k first second = omega (arith, first, second)
 some_room : (b k : ℕ) → b + 1 ≤ k → b ≤ k
 some_room b k less = omega (arith, less)
 
-other_29 : ◌≡◌ {A = ℕ} 29 35 → ⊥
-other_29 is = omega (arith, is)
+read_is_no_put : key_rules.Read ≡ key_rules.Put → ⊥
+read_is_no_put is = absurd cc
 
-other_33 : ◌≡◌ {A = ℕ} 33 35 → ⊥
-other_33 is = omega (arith, is)
+check_is_no_put : key_rules.Check ≡ key_rules.Put → ⊥
+check_is_no_put is = absurd cc
 
 -- ## Two plans side by side
 
@@ -290,9 +301,10 @@ module _ (k me : ℕ) (P : State → Out → Type 0) where
   if_safe true p q p' q' first second = first
   if_safe false p q p' q' first second = second
 
-  owned_asks : (n : ℕ) (own : Own) → Asks (owned n own)
-  owned_asks n (owns.Look key) x out next mark go = if_safe (n == 28) _ _ _ _ (fetched_asks key x out next mark go) (looked_asks key x out next mark go)
-  owned_asks n (owns.Put o) x out next mark go = written_asks o x out next mark go
+  owned_asks : (own : Own) → Asks (owned own)
+  owned_asks (owns.Fetch key) x out next mark go = fetched_asks key x out next mark go
+  owned_asks (owns.Look key) x out next mark go = looked_asks key x out next mark go
+  owned_asks (owns.Put o) x out next mark go = written_asks o x out next mark go
 
   noted_safe : (notes : List Note) (p q : Plan State) → Safe p q → Safe (noted notes p) (noted notes q)
   noted_safe [] p q safe = safe
@@ -330,7 +342,7 @@ module _ (k me : ℕ) (P : State → Out → Type 0) where
   saved_safe (Some fact) x out next mark few rests go = λ alone. (tt, λ u. go (record x { fact = fact }) out few rests (alone.1 u))
 
   accepted_own_safe : (e : Election) → Passes (accepted_own me e)
-  accepted_own_safe (Starting new accepts age) x out next mark few rests go = go (tasks.Phase 14 ∷ []) (electing (Starting new (joined me accepts) age) x) out (least k) (tt, tt)
+  accepted_own_safe (Starting new accepts age) x out next mark few rests go = go (tasks.Phase phase_rules.EnoughAccepted ∷ []) (electing (Starting new (joined me accepts) age) x) out (least k) (tt, tt)
   accepted_own_safe (Preparing base promises sent age) x out next mark few rests go = go [] x out few rests
 
   accepted_in_safe : (fact : Fact) (phase : Phase) → Passes (accepted_in me fact phase)
@@ -339,36 +351,37 @@ module _ (k me : ℕ) (P : State → Out → Type 0) where
   accepted_in_safe fact (phases.Probing p) x out next mark few rests go = go [] x out few rests
   accepted_in_safe fact (phases.Leading l) x out next mark few rests go = go [] x out few rests
 
-  ended_with_safe : (r : Running) (outcome : Outcome) → Passes (ended_with me r outcome)
-  ended_with_safe r Pending x out next mark few rests go = go [] (with_sync r x) out few rests
-  ended_with_safe r (Trusted entries) x out next mark few rests go =
+  by_outcome_safe : (r : Running) (outcome : Outcome) → Passes (by_outcome me r outcome)
+  by_outcome_safe r Pending x out next mark few rests go = go [] (with_sync r x) out few rests
+  by_outcome_safe r (Trusted entries) x out next mark few rests go =
       installed_asks (needs_build r.sync.scan entries) entries (without_sync x) out
       (λ u y o. saved (Some r.fact) y o (λ v z p. accepted_in me r.fact z.phase (record z { trusted = true }) p next))
       (λ u y o. saved (Some r.fact) y o (λ v z p. accepted_in me r.fact z.phase (record z { trusted = true }) p mark))
       (λ u. saved_safe (Some r.fact) (without_sync x) out (λ v z p. accepted_in me r.fact z.phase (record z { trusted = true }) p next) (λ v z p. accepted_in me r.fact z.phase (record z { trusted = true }) p mark) few rests
       (λ z p less still. accepted_in_safe r.fact z.phase (record z { trusted = true }) p next mark less still go))
 
-  gone_on_safe : (r : Running × List Outgoing) → Passes (gone_on me r)
-  gone_on_safe r x out next mark few rests go = ended_with_safe r.0 (outcome_of r.0.sync) x (and_sends out r.1) next mark few rests go
+  go_on_safe : (r : Running × List Outgoing) → Passes (go_on me r)
+  go_on_safe r x out next mark few rests go = by_outcome_safe r.0 (outcome_of r.0.sync) x (and_sends out r.1) next mark few rests go
 
-  resumed_safe : (running : Option Running) → Passes (resumed_sync running)
+  resumed_safe : (running : Option Running) → Passes (resume_sync running)
   resumed_safe None x out next mark few rests go = go [] x out few rests
   resumed_safe (Some r) x out next mark few rests go = go [] (with_sync (row_resume r).0 x) (and_sends out (row_resume r).1) few rests
 
   followed_on_safe : (t : Then) → Passes (followed_on me t)
   followed_on_safe (thens.SyncOn fact) x out next mark few rests go =
-      asked_asks ScanTree x out (λ scan y o. gone_on me (row_start fact me y.trusted scan) y o next) (λ scan y o. gone_on me (row_start fact me y.trusted scan) y o mark) (λ scan. gone_on_safe (row_start fact me x.trusted scan) x out next mark few rests go)
+      asked_asks ScanTree x out (λ scan y o. go_on me (row_start fact me y.trusted scan) y o next) (λ scan y o. go_on me (row_start fact me y.trusted scan) y o mark) (λ scan. go_on_safe (row_start fact me x.trusted scan) x out next mark few rests go)
   followed_on_safe thens.Resume x out next mark few rests go = resumed_safe x.sync x out next mark few rests go
   followed_on_safe (thens.Rule n) x out next mark few rests go = go (named (thens.Rule n)) x out few (starts_ready (named (thens.Rule n)) x.phase (tt, tt) rests)
+  followed_on_safe (thens.OnKeys n) x out next mark few rests go = go [] x out few rests
   followed_on_safe thens.Stay x out next mark few rests go = go [] x out few rests
   followed_on_safe thens.Follow x out next mark few rests go = go [] x out few rests
   followed_on_safe (thens.Lead fact) x out next mark few rests go = go [] x out few rests
   followed_on_safe thens.Untrust x out next mark few rests go = go [] x out few rests
   followed_on_safe thens.Put x out next mark few rests go = go [] x out few rests
 
-  taken_give_safe : (from : ℕ) (give : Give) (own : Option (List ℕ)) (running : Option Running) → Passes (taken_give me from give own running)
-  taken_give_safe from give own None x out next mark few rests go = go [] x out few rests
-  taken_give_safe from give own (Some r) x out next mark few rests go = gone_on_safe (row_take from give own r) x out next mark few rests go
+  take_give_safe : (from : ℕ) (give : Give) (own : Option (List ℕ)) (running : Option Running) → Passes (take_give me from give own running)
+  take_give_safe from give own None x out next mark few rests go = go [] x out few rests
+  take_give_safe from give own (Some r) x out next mark few rests go = go_on_safe (row_take from give own r) x out next mark few rests go
 
   -- ## Rows of phases
 
@@ -386,101 +399,101 @@ module _ (k me : ℕ) (P : State → Out → Type 0) where
 
   -- ## Rows of a leader
 
-  followed_up_safe : (n : ℕ) (key : List ℕ) (own : Option Own) (turn : Then) (keys : List (List ℕ)) (x : State) (out : Out) (next mark : Rest State (List Task)) → count x.phase ≤ k
-      → NamesOn key turn keys → OwnOn key own → After n key own turn x.phase → Goes next mark → Safe (followed_up me n own turn keys x out next) (followed_up me n own turn keys x out mark)
-  followed_up_safe n key None turn keys x out next mark few names on after go =
-      go (keyed turn keys) (turned me turn x) (turned_answers turn x out) (trans (count (turned me turn x).phase) (count x.phase) k (turned_few me turn x) few) (turned_ready me n key turn keys x names after)
-  followed_up_safe n key (Some own) turn keys x out next mark few names on after go =
-      owned_asks n own x out (λ seen y o. next (tasks.Again n (own_key own) seen ∷ []) y o) (λ seen y o. mark (tasks.Again n (own_key own) seen ∷ []) y o)
-      (λ seen. go (tasks.Again n (own_key own) seen ∷ []) x out few (again_fits n key (own_key own) own turn seen x.phase on after, tt))
+  followed_up_safe : (key : List ℕ) (own : Option Own) (turn : Then) (keys : List (List ℕ)) (x : State) (out : Out) (next mark : Rest State (List Task)) → count x.phase ≤ k
+      → NamesOn key turn keys → OwnOn key own → After key own turn x.phase → Goes next mark → Safe (followed_up me own turn keys x out next) (followed_up me own turn keys x out mark)
+  followed_up_safe key None turn keys x out next mark few names on after go =
+      go (keyed turn keys) (turned me turn x) (turned_answers turn x out) (trans (count (turned me turn x).phase) (count x.phase) k (turned_few me turn x) few) (turned_ready me key turn keys x names after)
+  followed_up_safe key (Some own) turn keys x out next mark few names on after go =
+      owned_asks own x out (λ seen y o. next (tasks.Again (asked_by own) (own_key own) seen ∷ []) y o) (λ seen y o. mark (tasks.Again (asked_by own) (own_key own) seen ∷ []) y o)
+      (λ seen. go (tasks.Again (asked_by own) (own_key own) seen ∷ []) x out few (again_fits key (own_key own) own turn seen x.phase on after, tt))
 
-  lead_done_safe : (n : ℕ) (key : List ℕ) (row : LeadOut) (x : State) (out : Out) (next mark : Rest State (List Task)) → count x.phase ≤ k
-      → NamesOn key row.then row.keys → OwnOn key row.own → After n key row.own row.then x.phase → Goes next mark → Safe (lead_done me n row x out next) (lead_done me n row x out mark)
-  lead_done_safe n key row x out next mark few names on after go =
-      noted_safe row.notes (followed_up me n row.own row.then row.keys (left row.leave x) (and_row row x out) next) (followed_up me n row.own row.then row.keys (left row.leave x) (and_row row x out) mark)
-      (followed_up_safe n key row.own row.then row.keys (left row.leave x) (and_row row x out) next mark (trans (count (left row.leave x).phase) (count x.phase) k (left_few row.leave x) few) names on
-      (left_after n key row.own row.then row.leave x after) go)
+  lead_done_safe : (key : List ℕ) (row : LeadOut) (x : State) (out : Out) (next mark : Rest State (List Task)) → count x.phase ≤ k
+      → NamesOn key row.then row.keys → OwnOn key row.own → After key row.own row.then x.phase → Goes next mark → Safe (lead_done me row x out next) (lead_done me row x out mark)
+  lead_done_safe key row x out next mark few names on after go =
+      noted_safe row.notes (followed_up me row.own row.then row.keys (left row.leave x) (and_row row x out) next) (followed_up me row.own row.then row.keys (left row.leave x) (and_row row x out) mark)
+      (followed_up_safe key row.own row.then row.keys (left row.leave x) (and_row row x out) next mark (trans (count (left row.leave x).phase) (count x.phase) k (left_few row.leave x) few) names on
+      (left_after key row.own row.then row.leave x after) go)
 
-  -- what a row of rule n on the key does
-  record Led (n : ℕ) (key : List ℕ) (r : Leader × LeadOut) : Type 0 where
+  -- what a row of a rule on the key does
+  record Led (key : List ℕ) (r : Leader × LeadOut) : Type 0 where
     few : length r.0.table.calls ≤ k
-    ready : IsReadyFor n key r.1.own r.1.then r.0
+    ready : IsReadyFor key r.1.own r.1.then r.0
     calm : IsCalm r.0.table
     names : NamesOn key r.1.then r.1.keys
     on : OwnOn key r.1.own
 
-  abbrev LedIn : ℕ → (Leader → Leader × LeadOut) → Phase → Type 0
-  LedIn n row (phases.Leading l) = (key : List ℕ) × Led n key (row l.leader)
-  LedIn n row (phases.Following f) = Unit {0}
-  LedIn n row (phases.Probing p) = Unit {0}
-  LedIn n row (phases.Electing e) = Unit {0}
+  abbrev LedIn : (Leader → Leader × LeadOut) → Phase → Type 0
+  LedIn row (phases.Leading l) = (key : List ℕ) × Led key (row l.leader)
+  LedIn row (phases.Following f) = Unit {0}
+  LedIn row (phases.Probing p) = Unit {0}
+  LedIn row (phases.Electing e) = Unit {0}
 
-  lead_safe : (row : Leader → Leader × LeadOut) (n : ℕ) (phase : Phase) (x : State) (out : Out) (next mark : Rest State (List Task)) → x.phase ≡ phase → LedIn n row phase → count x.phase ≤ k → Goes next mark
-      → Safe (lead row me n phase x out next) (lead row me n phase x out mark)
-  lead_safe row n (phases.Leading l) x out next mark is (key, led) few go = lead_done_safe n key (row l.leader).1 (leading (with_leader (row l.leader).0 l) x) out next mark led.few led.names led.on (led.ready, led.calm) go
-  lead_safe row n (phases.Following f) x out next mark is led few go = go [] x out few (subst IsResting (sym is) tt)
-  lead_safe row n (phases.Probing p) x out next mark is led few go = go [] x out few (subst IsResting (sym is) tt)
-  lead_safe row n (phases.Electing e) x out next mark is led few go = go [] x out few (subst IsResting (sym is) tt)
+  lead_safe : (row : Leader → Leader × LeadOut) (phase : Phase) (x : State) (out : Out) (next mark : Rest State (List Task)) → x.phase ≡ phase → LedIn row phase → count x.phase ≤ k → Goes next mark
+      → Safe (lead row me phase x out next) (lead row me phase x out mark)
+  lead_safe row (phases.Leading l) x out next mark is (key, led) few go = lead_done_safe key (row l.leader).1 (leading (with_leader (row l.leader).0 l) x) out next mark led.few led.names led.on (led.ready, led.calm) go
+  lead_safe row (phases.Following f) x out next mark is led few go = go [] x out few (subst IsResting (sym is) tt)
+  lead_safe row (phases.Probing p) x out next mark is led few go = go [] x out few (subst IsResting (sym is) tt)
+  lead_safe row (phases.Electing e) x out next mark is led few go = go [] x out few (subst IsResting (sym is) tt)
 
   less_of : (row : Leader → Leader × LeadOut) (l : Leader) → LeavesNoMore row → length l.table.calls ≤ k → length (row l).0.table.calls ≤ k
   less_of row l less few = trans (length (row l).0.table.calls) (length l.table.calls) k (less l) few
 
-  key_led : (n : ℕ) (key : List ℕ) (seen : Seen) (phase : Phase) → FitsTask (tasks.Again n key seen) phase → count phase ≤ k → LedIn n (lead_row n key seen) phase
-  key_led n key seen (phases.Leading l) fits few =
-      let step = lead_step n key seen l.leader in (
+  key_led : (rule : KeyRule) (key : List ℕ) (seen : Seen) (phase : Phase) → FitsTask (tasks.Again rule key seen) phase → count phase ≤ k → LedIn (lead_row rule key seen) phase
+  key_led rule key seen (phases.Leading l) fits few =
+      let step = lead_step rule key seen l.leader in (
         key,
         record {
-          few = less_of (lead_row n key seen) l.leader (key_few n key seen) few;
+          few = less_of (lead_row rule key seen) l.leader (key_few rule key seen) few;
           ready = step.ready fits.0;
-          calm = calm_kept n key (turns_seen n seen) (IsReady n key l.leader) l.leader (lead_row n key seen l.leader) step fits.0 fits.1;
+          calm = calm_kept rule key (turns_seen rule seen) (IsReady rule key l.leader) l.leader (lead_row rule key seen l.leader) step fits.0 fits.1;
           names = step.names;
-          on = lead_own n key seen l.leader fits.0;
+          on = lead_own rule key seen l.leader fits.0;
         },
       )
-  key_led n key seen (phases.Following f) fits few = tt
-  key_led n key seen (phases.Probing p) fits few = tt
-  key_led n key seen (phases.Electing e) fits few = tt
+  key_led rule key seen (phases.Following f) fits few = tt
+  key_led rule key seen (phases.Probing p) fits few = tt
+  key_led rule key seen (phases.Electing e) fits few = tt
 
-  got_led : (from : ℕ) (ballot : Epoch) (round : ℕ) (key : List ℕ) (entry : Option Entry) (object : Option Object) (phase : Phase) → IsResting phase → count phase ≤ k → LedIn 29 (row_29_reply from ballot round key entry object) phase
+  got_led : (from : ℕ) (ballot : Epoch) (round : ℕ) (key : List ℕ) (entry : Option Entry) (object : Option Object) (phase : Phase) → IsResting phase → count phase ≤ k → LedIn (row_29_reply from ballot round key entry object) phase
   got_led from ballot round key entry object (phases.Leading l) rests few =
       let step = row_29_reply_step from ballot round key entry object l.leader in (
         key,
         record {
           few = less_of (row_29_reply from ballot round key entry object) l.leader (got_few from ballot round key entry object) few;
           ready = step.ready rests;
-          calm = calm_kept 29 key 9 (IsAtRest l.leader) l.leader (row_29_reply from ballot round key entry object l.leader) step rests rests.calm;
+          calm = calm_kept key_rules.Read key 9 (IsAtRest l.leader) l.leader (row_29_reply from ballot round key entry object l.leader) step rests rests.calm;
           names = step.names;
-          on = look_own 29 key (row_29_reply from ballot round key entry object l.leader).1.own other_29 step.asks;
+          on = look_own key_rules.Read key (row_29_reply from ballot round key entry object l.leader).1.own read_is_no_put step.asks;
         },
       )
   got_led from ballot round key entry object (phases.Following f) rests few = tt
   got_led from ballot round key entry object (phases.Probing p) rests few = tt
   got_led from ballot round key entry object (phases.Electing e) rests few = tt
 
-  checked_led : (from : ℕ) (ballot : Epoch) (round : ℕ) (phase : Phase) → IsResting phase → count phase ≤ k → LedIn 33 (row_33_reply from ballot round) phase
+  checked_led : (from : ℕ) (ballot : Epoch) (round : ℕ) (phase : Phase) → IsResting phase → count phase ≤ k → LedIn (row_33_reply from ballot round) phase
   checked_led from ballot round (phases.Leading l) rests few =
       let step = row_33_reply_step from ballot round l.leader in (
         step.0,
         record {
           few = less_of (row_33_reply from ballot round) l.leader (checked_few from ballot round) few;
           ready = step.1.ready rests;
-          calm = calm_kept 33 step.0 1 (IsAtRest l.leader) l.leader (row_33_reply from ballot round l.leader) step.1 rests rests.calm;
+          calm = calm_kept key_rules.Check step.0 1 (IsAtRest l.leader) l.leader (row_33_reply from ballot round l.leader) step.1 rests rests.calm;
           names = step.1.names;
-          on = look_own 33 step.0 (row_33_reply from ballot round l.leader).1.own other_33 step.1.asks;
+          on = look_own key_rules.Check step.0 (row_33_reply from ballot round l.leader).1.own check_is_no_put step.1.asks;
         },
       )
   checked_led from ballot round (phases.Following f) rests few = tt
   checked_led from ballot round (phases.Probing p) rests few = tt
   checked_led from ballot round (phases.Electing e) rests few = tt
 
-  put_led : (from : ℕ) (ballot : Epoch) (key : List ℕ) (version : Version) (phase : Phase) → IsResting phase → count phase ≤ k → LedIn 35 (row_35_reply from ballot key version) phase
+  put_led : (from : ℕ) (ballot : Epoch) (key : List ℕ) (version : Version) (phase : Phase) → IsResting phase → count phase ≤ k → LedIn (row_35_reply from ballot key version) phase
   put_led from ballot key version (phases.Leading l) rests few =
       let step = row_35_reply_step from ballot key version l.leader in (
         key,
         record {
           few = less_of (row_35_reply from ballot key version) l.leader (put_few from ballot key version) few;
           ready = step.ready rests;
-          calm = calm_kept 35 key 5 (IsAtRest l.leader) l.leader (row_35_reply from ballot key version l.leader) step rests rests.calm;
+          calm = calm_kept key_rules.Put key 5 (IsAtRest l.leader) l.leader (row_35_reply from ballot key version l.leader) step rests rests.calm;
           names = step.names;
           on = reply_own from ballot key version l.leader;
         },
@@ -489,14 +502,14 @@ module _ (k me : ℕ) (P : State → Out → Type 0) where
   put_led from ballot key version (phases.Probing p) rests few = tt
   put_led from ballot key version (phases.Electing e) rests few = tt
 
-  joined_led : (from id : ℕ) (key : List ℕ) (command : Command) (ends : Bool) (phase : Phase) → IsResting phase → count phase + 1 ≤ k → LedIn 27 (row_27 from id key command ends) phase
+  joined_led : (from id : ℕ) (key : List ℕ) (command : Command) (ends : Bool) (phase : Phase) → IsResting phase → count phase + 1 ≤ k → LedIn (row_27 from id key command ends) phase
   joined_led from id key command ends (phases.Leading l) rests room =
       let joins = row_27_joins from id key command ends l.leader in
       let r = row_27 from id key command ends l.leader in (
         key,
         record {
           few = joined_room (length r.0.table.calls) (length l.leader.table.calls) k (joined_few from id key command ends l.leader) room;
-          ready = subst (λ (own : Option Own). IsReadyFor 27 key own r.1.then r.0) (sym joins.own) (joins.ready rests);
+          ready = subst (λ (own : Option Own). IsReadyFor key own r.1.then r.0) (sym joins.own) (joins.ready rests);
           calm = joins.calm rests.calm;
           names = joins.names;
           on = subst (OwnOn key) (sym joins.own) tt;
@@ -514,25 +527,30 @@ module _ (k me : ℕ) (P : State → Out → Type 0) where
   reminded_safe (phases.Probing p) led still x out next mark few rests go = go [] x out few rests
   reminded_safe (phases.Electing e) led still x out next mark few rests go = go [] x out few rests
 
-  phase_rests : (n : ℕ) (phase : Phase) → FitsTask (tasks.Phase n) phase → IsResting phase
-  phase_rests n (phases.Leading l) fits = fits
-  phase_rests n (phases.Following f) fits = tt
-  phase_rests n (phases.Probing p) fits = tt
-  phase_rests n (phases.Electing e) fits = tt
+  phase_rests : (rule : PhaseRule) (phase : Phase) → FitsTask (tasks.Phase rule) phase → IsResting phase
+  phase_rests rule (phases.Leading l) fits = fits
+  phase_rests rule (phases.Following f) fits = tt
+  phase_rests rule (phases.Probing p) fits = tt
+  phase_rests rule (phases.Electing e) fits = tt
+
+  remind_rests : (phase : Phase) → FitsTask tasks.Remind phase → IsResting phase
+  remind_rests (phases.Leading l) fits = fits
+  remind_rests (phases.Following f) fits = tt
+  remind_rests (phases.Probing p) fits = tt
+  remind_rests (phases.Electing e) fits = tt
 
   task_done_safe : (t : Task) (x : State) (out : Out) (next mark : Rest State (List Task)) → count x.phase ≤ k → FitsTask t x.phase → Goes next mark → Safe (task_done me t x out next) (task_done me t x out mark)
   task_done_safe (tasks.Phase n) x out next mark few fits go =
-      let rests : IsResting x.phase = phase_rests n x.phase fits in
-      if_safe (n == 5) _ _ _ _ (reminded_safe x.phase rests few x out next mark few rests go)
-      (moved_safe x (phase_row n me x).0 (phase_row n me x).1 out next mark (phase_row_few n me x) few (phase_row_rests n me x rests) go)
-  task_done_safe (tasks.Key n key) x out next mark few fits go = lead_safe (lead_row n key seens.Nothing) n x.phase x out next mark refl (key_led n key seens.Nothing x.phase (key_fits n key x.phase fits) few) few go
+      moved_safe x (phase_row n me x).0 (phase_row n me x).1 out next mark (phase_row_few n me x) few (phase_row_rests n me x (phase_rests n x.phase fits)) go
+  task_done_safe tasks.Remind x out next mark few fits go = let rests : IsResting x.phase = remind_rests x.phase fits in reminded_safe x.phase rests few x out next mark few rests go
+  task_done_safe (tasks.Key n key) x out next mark few fits go = lead_safe (lead_row n key seens.Nothing) x.phase x out next mark refl (key_led n key seens.Nothing x.phase (key_fits n key x.phase fits) few) few go
     where
-      key_fits : (m : ℕ) (key' : List ℕ) (phase : Phase) → FitsTask (tasks.Key m key') phase → FitsTask (tasks.Again m key' seens.Nothing) phase
+      key_fits : (m : KeyRule) (key' : List ℕ) (phase : Phase) → FitsTask (tasks.Key m key') phase → FitsTask (tasks.Again m key' seens.Nothing) phase
       key_fits m key' (phases.Leading l) same = same
       key_fits m key' (phases.Following f) same = tt
       key_fits m key' (phases.Probing p) same = tt
       key_fits m key' (phases.Electing e) same = tt
-  task_done_safe (tasks.Again n key seen) x out next mark few fits go = lead_safe (lead_row n key seen) n x.phase x out next mark refl (key_led n key seen x.phase fits few) few go
+  task_done_safe (tasks.Again n key seen) x out next mark few fits go = lead_safe (lead_row n key seen) x.phase x out next mark refl (key_led n key seen x.phase fits few) few go
 
   -- what follows the tasks: nothing is known of a task that is left, but that the mark makes another call
   record Marks (next mark : Rest State (List Task)) : Type 0 where
@@ -551,7 +569,7 @@ module _ (k me : ℕ) (P : State → Out → Type 0) where
   -- ## Events
 
   ticked_up : (own : Option Own) (turn : Then) (keys : List (List ℕ)) (x : State) (out : Out) (next mark : Rest State (List Task)) → own ≡ None → TurnStarts turn → count x.phase ≤ k → IsResting x.phase
-      → ((ts : List Task) (y : State) (o : Out) → count y.phase ≤ k → IsResting y.phase → AllStart ts → Safe (next ts y o) (mark ts y o)) → Safe (followed_up me 5 own turn keys x out next) (followed_up me 5 own turn keys x out mark)
+      → ((ts : List Task) (y : State) (o : Out) → count y.phase ≤ k → IsResting y.phase → AllStart ts → Safe (next ts y o) (mark ts y o)) → Safe (followed_up me own turn keys x out next) (followed_up me own turn keys x out mark)
   ticked_up None turn keys x out next mark is start few rests go =
       go (keyed turn keys) (turned me turn x) (turned_answers turn x out) (trans (count (turned me turn x).phase) (count x.phase) k (turned_few me turn x) few) (turned_rests me turn x rests) (turn_starts turn keys start)
   ticked_up (Some own) turn keys x out next mark is start few rests go = absurd cc
@@ -563,12 +581,12 @@ module _ (k me : ℕ) (P : State → Out → Type 0) where
       let y : State = leading (row_5_calls x.fact l).0 x in
       let less : count y.phase ≤ k = trans (length (row_5_calls x.fact l).0.leader.table.calls) (length l.leader.table.calls) k (ticked_few (end_of (older l.change)) l.leader) still in
       let rest : IsResting y.phase = record { task = tick.task ∙ led.task; calm = tick.calm led.calm } in
-      let more : Rest State (List Task) = λ ts z o. next (ts ++ tasks.Phase 5 ∷ []) z o in
-      let marked : Rest State (List Task) = λ ts z o. mark (ts ++ tasks.Phase 5 ∷ []) z o in
-      noted_safe row.notes (followed_up me 5 row.own row.then row.keys (left row.leave y) (and_row row y out) more) (followed_up me 5 row.own row.then row.keys (left row.leave y) (and_row row y out) marked)
+      let more : Rest State (List Task) = λ ts z o. next (ts ++ tasks.Remind ∷ []) z o in
+      let marked : Rest State (List Task) = λ ts z o. mark (ts ++ tasks.Remind ∷ []) z o in
+      noted_safe row.notes (followed_up me row.own row.then row.keys (left row.leave y) (and_row row y out) more) (followed_up me row.own row.then row.keys (left row.leave y) (and_row row y out) marked)
       (ticked_up row.own row.then row.keys (left row.leave y) (and_row row y out) more marked tick.own (subst TurnStarts (sym tick.next) (late_starts (late_put (aged_table l.leader.table) || is_late (end_of (older l.change)))))
       (trans (count (left row.leave y).phase) (count y.phase) k (left_few row.leave y) less) (left_rests row.leave y rest)
-      (λ ts z o fine still start. go (ts ++ tasks.Phase 5 ∷ []) z o fine (starts_ready (ts ++ tasks.Phase 5 ∷ []) z.phase (starts_more ts (tasks.Phase 5 ∷ []) start (tt, tt)) still)))
+      (λ ts z o fine still start. go (ts ++ tasks.Remind ∷ []) z o fine (starts_ready (ts ++ tasks.Remind ∷ []) z.phase (starts_more ts (tasks.Remind ∷ []) start (tt, tt)) still)))
   led_in_safe (phases.Following f) led still x out next mark few rests go = go [] x out few rests
   led_in_safe (phases.Probing p) led still x out next mark few rests go = go [] x out few rests
   led_in_safe (phases.Electing e) led still x out next mark few rests go = go [] x out few rests
@@ -583,6 +601,7 @@ module _ (k me : ℕ) (P : State → Out → Type 0) where
   put_done_safe thens.Resume from ballot o row x out next mark few rests go = row_done_safe row x out next mark few rests go
   put_done_safe (thens.SyncOn fact) from ballot o row x out next mark few rests go = row_done_safe row x out next mark few rests go
   put_done_safe (thens.Rule n) from ballot o row x out next mark few rests go = row_done_safe row x out next mark few rests go
+  put_done_safe (thens.OnKeys n) from ballot o row x out next mark few rests go = row_done_safe row x out next mark few rests go
 
   delivered_safe : (from : ℕ) (message : Message) → Passes (delivered me from message)
   delivered_safe from (messages.Get ballot round key) x out next mark few rests go =
@@ -595,19 +614,19 @@ module _ (k me : ℕ) (P : State → Out → Type 0) where
       (λ seen. put_done_safe (row_22 x.fact x.trusted from ballot o seen).then from ballot o (row_22 x.fact x.trusted from ballot o seen) x out next mark few rests go)
   delivered_safe from (messages.GetReply ballot round key entry object) x out next mark few rests go =
       if_safe (leads x.phase) _ _ _ _
-      (confirmed_asks entry object x out (λ named y o. lead (row_29_reply from ballot round key entry named) me 29 y.phase y o next) (λ named y o. lead (row_29_reply from ballot round key entry named) me 29 y.phase y o mark)
-      (λ named. lead_safe (row_29_reply from ballot round key entry named) 29 x.phase x out next mark refl (got_led from ballot round key entry named x.phase rests few) few go))
+      (confirmed_asks entry object x out (λ named y o. lead (row_29_reply from ballot round key entry named) me y.phase y o next) (λ named y o. lead (row_29_reply from ballot round key entry named) me y.phase y o mark)
+      (λ named. lead_safe (row_29_reply from ballot round key entry named) x.phase x out next mark refl (got_led from ballot round key entry named x.phase rests few) few go))
       (go [] x out few rests)
-  delivered_safe from (messages.PutReply ballot key version) x out next mark few rests go = lead_safe (row_35_reply from ballot key version) 35 x.phase x out next mark refl (put_led from ballot key version x.phase rests few) few go
-  delivered_safe from (messages.CheckReply ballot round) x out next mark few rests go = lead_safe (row_33_reply from ballot round) 33 x.phase x out next mark refl (checked_led from ballot round x.phase rests few) few go
+  delivered_safe from (messages.PutReply ballot key version) x out next mark few rests go = lead_safe (row_35_reply from ballot key version) x.phase x out next mark refl (put_led from ballot key version x.phase rests few) few go
+  delivered_safe from (messages.CheckReply ballot round) x out next mark few rests go = lead_safe (row_33_reply from ballot round) x.phase x out next mark refl (checked_led from ballot round x.phase rests few) few go
   delivered_safe from (messages.TreeAsk ballot at after) x out next mark few rests go =
       let q : Question = record { position = at; after = after } in
       shown_node_asks (is_same ballot x.fact.ballot) q x out (λ body y o. row_done me (row_23 y.fact y.trusted from ballot q.position q.after body) y o next) (λ body y o. row_done me (row_23 y.fact y.trusted from ballot q.position q.after body) y o mark)
       (λ body. row_done_safe (row_23 x.fact x.trusted from ballot at after body) x out next mark few rests go)
   delivered_safe from (messages.TreeGive ballot at after trusted body) x out next mark few rests go =
       let give : Give = record { ballot = ballot; question = record { position = at; after = after }; trusted = trusted; body = body } in
-      own_node_asks (needs_node from give x.sync) at x out (λ own y o. taken_give me from give own y.sync y o next) (λ own y o. taken_give me from give own y.sync y o mark)
-      (λ own. taken_give_safe from give own x.sync x out next mark few rests go)
+      own_node_asks (needs_node from give x.sync) at x out (λ own y o. take_give me from give own y.sync y o next) (λ own y o. take_give me from give own y.sync y o mark)
+      (λ own. take_give_safe from give own x.sync x out next mark few rests go)
   delivered_safe from message x out next mark few rests go = moved_safe x (received me from message x).0 (received me from message x).1 out next mark (received_few me from message x) few (received_rests me from message x rests) go
 
   first_safe : (event : Event) (x : State) (out : Out) (next mark : Rest State (List Task)) → count x.phase + calls_of event ≤ k → IsResting x.phase → Goes next mark → Safe (first me event x out next) (first me event x out mark)
@@ -618,7 +637,7 @@ module _ (k me : ℕ) (P : State → Out → Type 0) where
   first_safe (events.Call call) x out next mark room rests go =
       let few : count x.phase ≤ k = some_room (count x.phase) k room in
       if_safe (leads x.phase) _ _ _ _
-      (lead_safe (row_27 call.from call.id call.key call.command (changes x.phase)) 27 x.phase x out next mark refl (joined_led call.from call.id call.key call.command (changes x.phase) x.phase rests room) few go)
+      (lead_safe (row_27 call.from call.id call.key call.command (changes x.phase)) x.phase x out next mark refl (joined_led call.from call.id call.key call.command (changes x.phase) x.phase rests room) few go)
       (go [] x (and_answers out (unavailable call ∷ [])) few rests)
   first_safe (events.Change view) x out next mark room rests go =
       moved_safe x (asked_change view x).0 (asked_change view x).1.0 (and_change out (asked_change view x).1.1) next mark (asked_few view x) (plus_none (count x.phase) k room) (asked_rests view x rests) go
@@ -634,7 +653,7 @@ module _ (k me : ℕ) (P : State → Out → Type 0) where
   -- from rule 26 on
   pub concluded_safe : (x : State) (out : Out) (next mark : Rest State (List Task)) → count x.phase ≤ k → IsResting x.phase
       → ((y : State) (o : Out) → count y.phase ≤ k → IsResting y.phase → Safe (next [] y o) (mark [] y o)) → ((t : Task) (ts : List Task) (y : State) (o : Out) → StepsAlone (mark (t ∷ ts) y o) → ⊥)
-      → Safe (task_done me (tasks.Phase 26) x out (λ ts y o. driven me most_turns ts y o next)) (task_done me (tasks.Phase 26) x out (λ ts y o. driven me most_turns ts y o mark))
+      → Safe (task_done me (tasks.Phase phase_rules.EndEpoch) x out (λ ts y o. driven me most_turns ts y o next)) (task_done me (tasks.Phase phase_rules.EndEpoch) x out (λ ts y o. driven me most_turns ts y o mark))
   concluded_safe x out next mark few rests none some =
-      task_done_safe (tasks.Phase 26) x out (λ ts y o. driven me most_turns ts y o next) (λ ts y o. driven me most_turns ts y o mark) few (start_fits (tasks.Phase 26) x.phase tt rests)
+      task_done_safe (tasks.Phase phase_rules.EndEpoch) x out (λ ts y o. driven me most_turns ts y o next) (λ ts y o. driven me most_turns ts y o mark) few (start_fits (tasks.Phase phase_rules.EndEpoch) x.phase tt rests)
       (λ ts y o less ready. driven_safe most_turns ts y o next mark less ready (record { none = none; some = some }))

@@ -46,6 +46,10 @@ use Rattle.phase_rows.specs.declared.phase.Seen.{Seen}
 use Rattle.phase_rows.specs.declared.phase.Seen.TheVariants as seens
 use Rattle.phase_rows.specs.declared.phase.Then.{Then}
 use Rattle.phase_rows.specs.declared.phase.Then.TheVariants as thens
+use Rattle.phase_rows.specs.declared.rules.KeyRule.{KeyRule}
+use Rattle.phase_rows.specs.declared.rules.KeyRule.TheVariants as key_rules
+use Rattle.phase_rows.specs.declared.rules.PhaseRule.{PhaseRule}
+use Rattle.phase_rows.specs.declared.rules.PhaseRule.TheVariants as phase_rules
 use Rattle.quorum_round.specs.Rounds.{state_of, begun, answered as heard_from}
 use Rattle.quorum_round.specs.declared.round.Round.{Round}
 use Rattle.quorum_round.specs.declared.round.RoundState.{RoundState}
@@ -95,6 +99,7 @@ turned_rests me thens.Put x rests = rests
 turned_rests me thens.Resume x rests = rests
 turned_rests me (thens.SyncOn fact) x rests = rests
 turned_rests me (thens.Rule n) x rests = rests
+turned_rests me (thens.OnKeys n) x rests = rests
 
 waiting_phase_rests : (phase : Phase) → IsResting phase → IsResting (waiting_phase phase)
 waiting_phase_rests (phases.Leading l) rests = rests
@@ -111,6 +116,7 @@ waiting_rests (thens.Lead fact) x rests = rests
 waiting_rests thens.Untrust x rests = rests
 waiting_rests thens.Put x rests = rests
 waiting_rests (thens.Rule n) x rests = rests
+waiting_rests (thens.OnKeys n) x rests = rests
 
 -- the row leaves the peer at rest
 abbrev Rests : State × PhaseOut → Type 0
@@ -129,15 +135,14 @@ begun_change_rests (Wanted change) l fact me rests = finishing_rests (row_25 fac
 begun_change_rests Settled l fact me rests = rests
 begun_change_rests (Finishes f) l fact me rests = rests
 
-pub phase_row_rests : (n me : ℕ) (x : State) → IsResting x.phase → IsResting (phase_row n me x).0.phase
-phase_row_rests n me x rests =
-    either Rests (n == 7) _ _ tt
-    (either Rests (n == 9) _ _ (by_probing Rests x.phase (λ p is. tt) rests)
-    (either Rests (n == 10) _ _ (by_probing Rests x.phase (λ p is. stood_rests (row_10 x.fact me p.best p.count).1 x rests) (by_leading Rests x.phase (λ l is. stood_rests (row_10 x.fact me x.fact x.fact.ballot.count).1 x rests) rests))
-    (either Rests (n == 13) _ _ (by_electing Rests x.phase (λ e is. tt) rests)
-    (either Rests (n == 14) _ _ (by_electing Rests x.phase (λ e is. tt) rests)
-    (either Rests (n == 25) _ _ (by_leading Rests x.phase (λ l is. begun_change_rests l.change l x.fact me (subst IsResting is rests)) rests)
-    (either Rests (n == 26) _ _ (by_leading Rests x.phase (λ l is. rests) rests) rests))))))
+pub phase_row_rests : (rule : PhaseRule) (me : ℕ) (x : State) → IsResting x.phase → IsResting (phase_row rule me x).0.phase
+phase_row_rests phase_rules.BeginProbing me x rests = tt
+phase_row_rests phase_rules.EnoughHeard me x rests = by_probing Rests x.phase (λ p is. tt) rests
+phase_row_rests phase_rules.Prepare me x rests = by_probing Rests x.phase (λ p is. stood_rests (row_10 x.fact me p.best p.count).1 x rests) (by_leading Rests x.phase (λ l is. stood_rests (row_10 x.fact me x.fact x.fact.ballot.count).1 x rests) rests)
+phase_row_rests phase_rules.EnoughPromised me x rests = by_electing Rests x.phase (λ e is. tt) rests
+phase_row_rests phase_rules.EnoughAccepted me x rests = by_electing Rests x.phase (λ e is. tt) rests
+phase_row_rests phase_rules.BeginChange me x rests = by_leading Rests x.phase (λ l is. begun_change_rests l.change l x.fact me (subst IsResting is rests)) rests
+phase_row_rests phase_rules.EndEpoch me x rests = by_leading Rests x.phase (λ l is. rests) rests
 
 accepted_rests : (from : ℕ) (l : Leader) → IsAtRest l → IsAtRest (accepted_by from l)
 accepted_rests from l rests = record { task = rests.task; calm = rests.calm }
@@ -205,7 +210,7 @@ put_own key (seens.Stored digest) o parent call l same = asks_none key _ (acknow
 put_own key (seens.Held entry object) o parent call l same = tt
 put_own key (seens.Kept object) o parent call l same = tt
 
-task_own : (key : List ℕ) (seen : Seen) (l m : Leader) (task : Pending) → Fits 35 key l task → OwnOn key (put_for task seen key m).1.own
+task_own : (key : List ℕ) (seen : Seen) (l m : Leader) (task : Pending) → Fits key_rules.Put key l task → OwnOn key (put_for task seen key m).1.own
 task_own key seen l m (pendings.Propose o parent call) (n, runs, same, version) = put_own key seen o parent call m same
 task_own key seen l m pendings.Nothing fits = tt
 task_own key seen l m (pendings.Write content parent) fits = tt
@@ -213,25 +218,27 @@ task_own key seen l m (pendings.Rewrite o) fits = tt
 task_own key seen l m (pendings.Check reply) fits = tt
 task_own key seen l m (pendings.Apply current) fits = tt
 
-row_35_own : (key : List ℕ) (seen : Seen) (l : Leader) → IsReady 35 key l → OwnOn key (row_35 key seen l).1.own
+row_35_own : (key : List ℕ) (seen : Seen) (l : Leader) → IsReady key_rules.Put key l → OwnOn key (row_35 key seen l).1.own
 row_35_own key seen l ready = task_own key seen l (with_task pendings.Nothing l) l.task ready
 
-pub lead_own : (n : ℕ) (key : List ℕ) (seen : Seen) (l : Leader) → IsReady n key l → OwnOn key (lead_row n key seen l).1.own
-lead_own n key seen l ready = by (lead_row n key seen l).1.own refl (lead_step n key seen l).asks
+pub lead_own : (rule : KeyRule) (key : List ℕ) (seen : Seen) (l : Leader) → IsReady rule key l → OwnOn key (lead_row rule key seen l).1.own
+lead_own rule key seen l ready = by (lead_row rule key seen l).1.own refl (lead_step rule key seen l).asks
   where
-    put : n ≡ 35 → OwnOn key (lead_row n key seen l).1.own
-    put is = subst (λ (m : ℕ). IsReady m key l → OwnOn key (lead_row m key seen l).1.own) (sym is) (row_35_own key seen l) ready
+    put : rule ≡ key_rules.Put → OwnOn key (lead_row rule key seen l).1.own
+    put is = subst (λ (m : KeyRule). IsReady m key l → OwnOn key (lead_row m key seen l).1.own) (sym is) (row_35_own key seen l) ready
 
-    by : (own : Option Own) → (lead_row n key seen l).1.own ≡ own → AsksOn n key own → OwnOn key own
+    by : (own : Option Own) → (lead_row rule key seen l).1.own ≡ own → AsksOn rule key own → OwnOn key own
     by None is asks = tt
+    by (Some (owns.Fetch k)) is asks = asks.0
     by (Some (owns.Look k)) is asks = asks.0
     by (Some (owns.Put o)) is asks = subst (OwnOn key) is (put asks)
 
 -- a rule that puts nothing
-pub look_own : (n : ℕ) (key : List ℕ) (own : Option Own) → (n ≡ 35 → ⊥) → AsksOn n key own → OwnOn key own
-look_own n key None other asks = tt
-look_own n key (Some (owns.Look k)) other asks = asks.0
-look_own n key (Some (owns.Put o)) other asks = absurd (other asks)
+pub look_own : (rule : KeyRule) (key : List ℕ) (own : Option Own) → (rule ≡ key_rules.Put → ⊥) → AsksOn rule key own → OwnOn key own
+look_own rule key None other asks = tt
+look_own rule key (Some (owns.Fetch k)) other asks = asks.0
+look_own rule key (Some (owns.Look k)) other asks = asks.0
+look_own rule key (Some (owns.Put o)) other asks = absurd (other asks)
 
 stage_own : (key : List ℕ) (stage : Stage) (from : ℕ) (ballot : Epoch) (version : Version) (l : Leader) → (acknowledged_by stage from ballot version key l).1.own ≡ None
 stage_own key (stages.Putting o digest acks rewrite) from ballot version l =

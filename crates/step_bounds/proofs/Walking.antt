@@ -1,5 +1,5 @@
 -- How many calls the parts of a step leave unanswered.
-use Rattle.std.proofs.Common.{◌≤◌, ◌+◌, ◌==◌, arith, length, ℕ, zero, suc, Bool, true, List, [], ◌∷◌, ◌++◌, Option, Some, None}
+use Rattle.std.proofs.Common.{◌≤◌, ◌+◌, arith, length, ℕ, zero, suc, Bool, true, List, [], ◌∷◌, ◌++◌, Option, Some, None}
 use Rattle.election.specs.declared.election.Election.{Election}
 use Rattle.election.specs.declared.election.Election.TheVariants.{Preparing, Starting}
 use Rattle.ens_base.specs.declared.epoch.Epoch.{Epoch}
@@ -7,6 +7,7 @@ use Rattle.ens_object.specs.declared.object.Object.{Object}
 use Rattle.exchange.specs.declared.question.Question.{Question}
 use Rattle.following.specs.Refusals.{is_served}
 use Rattle.following.specs.Requests.{row_21, row_22, row_23}
+use Rattle.leader_words.specs.Outs.{asked_by}
 use Rattle.leader_words.specs.declared.out.LeadOut.{LeadOut}
 use Rattle.leader_words.specs.declared.out.Outgoing.{Outgoing}
 use Rattle.leader_words.specs.declared.out.Own.{Own}
@@ -19,7 +20,7 @@ use Rattle.peer_fact.specs.declared.fact.Fact.{Fact}
 use Rattle.peer_plan.specs.Drives.{row_done, own_key, followed_up, and_row, lead_done, lead, reminded, task_done, driven, led_in, after_put, put_done, delivered, unavailable, first, and_change, most_turns, responded, concluded}
 use Rattle.peer_plan.specs.Kept.{IsStepCall}
 use Rattle.peer_plan.specs.Owns.{looked, found}
-use Rattle.peer_plan.specs.Syncs.{saved, and_sends, with_sync, accepted, accepted_own, accepted_in, ended_with, gone_on, resumed_sync, followed_on, needs_node, taken_give}
+use Rattle.peer_plan.specs.Syncs.{saved, and_sends, with_sync, accepted, accepted_own, accepted_in, by_outcome, go_on, resume_sync, followed_on, needs_node, take_give}
 use Rattle.peer_plan.proofs.Aging.{asked_asks, looked_asks, found_asks, written_asks, confirmed_asks, if_follows, owned_asks, noted_follows, installed_asks, own_node_asks, shown_node_asks, shown_asks}
 use Rattle.peer_state.specs.Leading.{older, end_of, ticks, row_5_calls, wished, begins}
 use Rattle.peer_state.specs.Moves.{left, left_answers, turned, turned_answers, leading, with_leader, and_answers, electing, without_sync}
@@ -35,6 +36,7 @@ use Rattle.phase_rows.specs.declared.phase.PhaseOut.{PhaseOut}
 use Rattle.phase_rows.specs.declared.phase.Seen.TheVariants as seens
 use Rattle.phase_rows.specs.declared.phase.Then.{Then}
 use Rattle.phase_rows.specs.declared.phase.Then.TheVariants as thens
+use Rattle.phase_rows.specs.declared.rules.PhaseRule.TheVariants as phase_rules
 use Rattle.running_sync.specs.Rows.{row_start, row_resume, row_take}
 use Rattle.running_sync.specs.Running.{Running}
 use Rattle.running_sync.specs.declared.asking.Give.{Give}
@@ -78,7 +80,7 @@ module _ (k me : ℕ) (P : State → Out → Type 0) where
   -- ## Syncs
 
   accepted_own_passes : (e : Election) → Passes (accepted_own me e)
-  accepted_own_passes (Starting new accepts age) x out next few go = go (tasks.Phase 14 ∷ []) (electing (Starting new (joined me accepts) age) x) out (least k)
+  accepted_own_passes (Starting new accepts age) x out next few go = go (tasks.Phase phase_rules.EnoughAccepted ∷ []) (electing (Starting new (joined me accepts) age) x) out (least k)
   accepted_own_passes (Preparing base promises sent age) x out next few go = go [] x out few
 
   accepted_in_passes : (fact : Fact) (phase : Phase) → Passes (accepted_in me fact phase)
@@ -87,35 +89,36 @@ module _ (k me : ℕ) (P : State → Out → Type 0) where
   accepted_in_passes fact (phases.Probing p) x out next few go = go [] x out few
   accepted_in_passes fact (phases.Leading l) x out next few go = go [] x out few
 
-  ended_with_passes : (r : Running) (outcome : Outcome) → Passes (ended_with me r outcome)
-  ended_with_passes r Pending x out next few go = go [] (with_sync r x) out few
-  ended_with_passes r (Trusted entries) x out next few go =
+  by_outcome_passes : (r : Running) (outcome : Outcome) → Passes (by_outcome me r outcome)
+  by_outcome_passes r Pending x out next few go = go [] (with_sync r x) out few
+  by_outcome_passes r (Trusted entries) x out next few go =
       installed_asks P (needs_build r.sync.scan entries) entries (without_sync x) out
       (λ u y o. saved (Some r.fact) y o (λ v z p. accepted_in me r.fact z.phase (record z { trusted = true }) p next))
       (λ u. saved_passes (Some r.fact) (without_sync x) out (λ v z p. accepted_in me r.fact z.phase (record z { trusted = true }) p next) few
       (λ v z p fine. accepted_in_passes r.fact z.phase (record z { trusted = true }) p next fine go))
 
-  gone_on_passes : (r : Running × List Outgoing) → Passes (gone_on me r)
-  gone_on_passes r x out next few go = ended_with_passes r.0 (outcome_of r.0.sync) x (and_sends out r.1) next few go
+  go_on_passes : (r : Running × List Outgoing) → Passes (go_on me r)
+  go_on_passes r x out next few go = by_outcome_passes r.0 (outcome_of r.0.sync) x (and_sends out r.1) next few go
 
-  resumed_passes : (running : Option Running) → Passes (resumed_sync running)
+  resumed_passes : (running : Option Running) → Passes (resume_sync running)
   resumed_passes None x out next few go = go [] x out few
   resumed_passes (Some r) x out next few go = go [] (with_sync (row_resume r).0 x) (and_sends out (row_resume r).1) few
 
   followed_on_passes : (t : Then) → Passes (followed_on me t)
   followed_on_passes (thens.SyncOn fact) x out next few go =
-      asked_asks P ScanTree tt x out (λ scan y o. gone_on me (row_start fact me y.trusted scan) y o next) (λ scan. gone_on_passes (row_start fact me x.trusted scan) x out next few go)
+      asked_asks P ScanTree tt x out (λ scan y o. go_on me (row_start fact me y.trusted scan) y o next) (λ scan. go_on_passes (row_start fact me x.trusted scan) x out next few go)
   followed_on_passes thens.Resume x out next few go = resumed_passes x.sync x out next few go
   followed_on_passes (thens.Rule n) x out next few go = go (named (thens.Rule n)) x out few
+  followed_on_passes (thens.OnKeys n) x out next few go = go [] x out few
   followed_on_passes thens.Stay x out next few go = go [] x out few
   followed_on_passes thens.Follow x out next few go = go [] x out few
   followed_on_passes (thens.Lead fact) x out next few go = go [] x out few
   followed_on_passes thens.Untrust x out next few go = go [] x out few
   followed_on_passes thens.Put x out next few go = go [] x out few
 
-  taken_give_passes : (from : ℕ) (give : Give) (own : Option (List ℕ)) (running : Option Running) → Passes (taken_give me from give own running)
-  taken_give_passes from give own None x out next few go = go [] x out few
-  taken_give_passes from give own (Some r) x out next few go = gone_on_passes (row_take from give own r) x out next few go
+  take_give_passes : (from : ℕ) (give : Give) (own : Option (List ℕ)) (running : Option Running) → Passes (take_give me from give own running)
+  take_give_passes from give own None x out next few go = go [] x out few
+  take_give_passes from give own (Some r) x out next few go = go_on_passes (row_take from give own r) x out next few go
 
   -- ## Rows
 
@@ -131,16 +134,16 @@ module _ (k me : ℕ) (P : State → Out → Type 0) where
   moved_passes : (x y : State) (row : PhaseOut) (out : Out) (next : Rest State (List Task)) → count y.phase ≤ count x.phase → count x.phase ≤ k → Goes next → Follows IsStepCall P (row_done me row y out next)
   moved_passes x y row out next less few go = row_done_passes row y out next (trans (count y.phase) (count x.phase) k less few) go
 
-  followed_up_passes : (n : ℕ) (own : Option Own) (turn : Then) (keys : List (List ℕ)) → Passes (followed_up me n own turn keys)
-  followed_up_passes n None turn keys x out next few go =
+  followed_up_passes : (own : Option Own) (turn : Then) (keys : List (List ℕ)) → Passes (followed_up me own turn keys)
+  followed_up_passes None turn keys x out next few go =
       go (keyed turn keys) (turned me turn x) (turned_answers turn x out) (trans (count (turned me turn x).phase) (count x.phase) k (turned_few me turn x) few)
-  followed_up_passes n (Some own) turn keys x out next few go =
-      owned_asks P n own x out (λ seen y o. next (tasks.Again n (own_key own) seen ∷ []) y o) (λ seen. go (tasks.Again n (own_key own) seen ∷ []) x out few)
+  followed_up_passes (Some own) turn keys x out next few go =
+      owned_asks P own x out (λ seen y o. next (tasks.Again (asked_by own) (own_key own) seen ∷ []) y o) (λ seen. go (tasks.Again (asked_by own) (own_key own) seen ∷ []) x out few)
 
-  lead_done_passes : (n : ℕ) (row : LeadOut) → Passes (lead_done me n row)
-  lead_done_passes n row x out next few go =
-      noted_follows P row.notes (followed_up me n row.own row.then row.keys (left row.leave x) (and_row row x out) next)
-      (followed_up_passes n row.own row.then row.keys (left row.leave x) (and_row row x out) next (trans (count (left row.leave x).phase) (count x.phase) k (left_few row.leave x) few) go)
+  lead_done_passes : (row : LeadOut) → Passes (lead_done me row)
+  lead_done_passes row x out next few go =
+      noted_follows P row.notes (followed_up me row.own row.then row.keys (left row.leave x) (and_row row x out) next)
+      (followed_up_passes row.own row.then row.keys (left row.leave x) (and_row row x out) next (trans (count (left row.leave x).phase) (count x.phase) k (left_few row.leave x) few) go)
 
   -- the row leaves at most k calls of a leader in this phase
   abbrev Leaves : (Leader → Leader × LeadOut) → Phase → Type 0
@@ -155,15 +158,15 @@ module _ (k me : ℕ) (P : State → Out → Type 0) where
   leaves_of row less (phases.Probing p) few = tt
   leaves_of row less (phases.Electing e) few = tt
 
-  lead_passes : (row : Leader → Leader × LeadOut) (n : ℕ) (phase : Phase) → Leaves row phase → Passes (lead row me n phase)
-  lead_passes row n (phases.Leading l) leaves x out next few go = lead_done_passes n (row l.leader).1 (leading (with_leader (row l.leader).0 l) x) out next leaves go
-  lead_passes row n (phases.Following f) leaves x out next few go = go [] x out few
-  lead_passes row n (phases.Probing p) leaves x out next few go = go [] x out few
-  lead_passes row n (phases.Electing e) leaves x out next few go = go [] x out few
+  lead_passes : (row : Leader → Leader × LeadOut) (phase : Phase) → Leaves row phase → Passes (lead row me phase)
+  lead_passes row (phases.Leading l) leaves x out next few go = lead_done_passes (row l.leader).1 (leading (with_leader (row l.leader).0 l) x) out next leaves go
+  lead_passes row (phases.Following f) leaves x out next few go = go [] x out few
+  lead_passes row (phases.Probing p) leaves x out next few go = go [] x out few
+  lead_passes row (phases.Electing e) leaves x out next few go = go [] x out few
 
   -- a row of a leader in the phase of the state
-  led_passes : (row : Leader → Leader × LeadOut) (n : ℕ) → LeavesNoMore row → (x : State) (out : Out) (next : Rest State (List Task)) → count x.phase ≤ k → Goes next → Follows IsStepCall P (lead row me n x.phase x out next)
-  led_passes row n less x out next few go = lead_passes row n x.phase (leaves_of row less x.phase few) x out next few go
+  led_passes : (row : Leader → Leader × LeadOut) → LeavesNoMore row → (x : State) (out : Out) (next : Rest State (List Task)) → count x.phase ≤ k → Goes next → Follows IsStepCall P (lead row me x.phase x out next)
+  led_passes row less x out next few go = lead_passes row x.phase (leaves_of row less x.phase few) x out next few go
 
   reminded_passes : (phase : Phase) → count phase ≤ k → Passes (reminded phase)
   reminded_passes (phases.Leading l) still x out next few go =
@@ -173,10 +176,10 @@ module _ (k me : ℕ) (P : State → Out → Type 0) where
   reminded_passes (phases.Electing e) still x out next few go = go [] x out few
 
   task_done_passes : (t : Task) → Passes (task_done me t)
-  task_done_passes (tasks.Phase n) x out next few go =
-      if_follows P (n == 5) _ _ (reminded_passes x.phase few x out next few go) (moved_passes x (phase_row n me x).0 (phase_row n me x).1 out next (phase_row_few n me x) few go)
-  task_done_passes (tasks.Key n key) x out next few go = led_passes (lead_row n key seens.Nothing) n (key_few n key seens.Nothing) x out next few go
-  task_done_passes (tasks.Again n key seen) x out next few go = led_passes (lead_row n key seen) n (key_few n key seen) x out next few go
+  task_done_passes (tasks.Phase n) x out next few go = moved_passes x (phase_row n me x).0 (phase_row n me x).1 out next (phase_row_few n me x) few go
+  task_done_passes tasks.Remind x out next few go = reminded_passes x.phase few x out next few go
+  task_done_passes (tasks.Key n key) x out next few go = led_passes (lead_row n key seens.Nothing) (key_few n key seens.Nothing) x out next few go
+  task_done_passes (tasks.Again n key seen) x out next few go = led_passes (lead_row n key seen) (key_few n key seen) x out next few go
 
   driven_passes : (n : ℕ) (ts : List Task) → Passes (driven me n ts)
   unfolding driven
@@ -189,9 +192,9 @@ module _ (k me : ℕ) (P : State → Out → Type 0) where
 
   led_in_passes : (phase : Phase) → count phase ≤ k → Passes (led_in me phase)
   led_in_passes (phases.Leading l) still x out next few go =
-      lead_done_passes 5 (row_5_calls x.fact l).1 (leading (row_5_calls x.fact l).0 x) out (λ ts y o. next (ts ++ tasks.Phase 5 ∷ []) y o)
+      lead_done_passes (row_5_calls x.fact l).1 (leading (row_5_calls x.fact l).0 x) out (λ ts y o. next (ts ++ tasks.Remind ∷ []) y o)
       (trans (length (row_5_calls x.fact l).0.leader.table.calls) (length l.leader.table.calls) k (ticked_few (end_of (older l.change)) l.leader) still)
-      (λ ts y o fine. go (ts ++ tasks.Phase 5 ∷ []) y o fine)
+      (λ ts y o fine. go (ts ++ tasks.Remind ∷ []) y o fine)
   led_in_passes (phases.Following f) still x out next few go = go [] x out few
   led_in_passes (phases.Probing p) still x out next few go = go [] x out few
   led_in_passes (phases.Electing e) still x out next few go = go [] x out few
@@ -206,6 +209,7 @@ module _ (k me : ℕ) (P : State → Out → Type 0) where
   put_done_passes thens.Resume from ballot o row x out next few go = row_done_passes row x out next few go
   put_done_passes (thens.SyncOn fact) from ballot o row x out next few go = row_done_passes row x out next few go
   put_done_passes (thens.Rule n) from ballot o row x out next few go = row_done_passes row x out next few go
+  put_done_passes (thens.OnKeys n) from ballot o row x out next few go = row_done_passes row x out next few go
 
   delivered_passes : (from : ℕ) (message : Message) → Passes (delivered me from message)
   delivered_passes from (messages.Get ballot round key) x out next few go =
@@ -217,19 +221,19 @@ module _ (k me : ℕ) (P : State → Out → Type 0) where
       (λ seen. put_done_passes (row_22 x.fact x.trusted from ballot o seen).then from ballot o (row_22 x.fact x.trusted from ballot o seen) x out next few go)
   delivered_passes from (messages.GetReply ballot round key entry object) x out next few go =
       if_follows P (leads x.phase) _ _
-      (confirmed_asks P entry object x out (λ named y o. lead (row_29_reply from ballot round key entry named) me 29 y.phase y o next)
-      (λ named. led_passes (row_29_reply from ballot round key entry named) 29 (got_few from ballot round key entry named) x out next few go))
+      (confirmed_asks P entry object x out (λ named y o. lead (row_29_reply from ballot round key entry named) me y.phase y o next)
+      (λ named. led_passes (row_29_reply from ballot round key entry named) (got_few from ballot round key entry named) x out next few go))
       (go [] x out few)
-  delivered_passes from (messages.PutReply ballot key version) x out next few go = led_passes (row_35_reply from ballot key version) 35 (put_few from ballot key version) x out next few go
-  delivered_passes from (messages.CheckReply ballot round) x out next few go = led_passes (row_33_reply from ballot round) 33 (checked_few from ballot round) x out next few go
+  delivered_passes from (messages.PutReply ballot key version) x out next few go = led_passes (row_35_reply from ballot key version) (put_few from ballot key version) x out next few go
+  delivered_passes from (messages.CheckReply ballot round) x out next few go = led_passes (row_33_reply from ballot round) (checked_few from ballot round) x out next few go
   delivered_passes from (messages.TreeAsk ballot at after) x out next few go =
       let q : Question = record { position = at; after = after } in
       shown_node_asks P (is_same ballot x.fact.ballot) q x out (λ body y o. row_done me (row_23 y.fact y.trusted from ballot q.position q.after body) y o next)
       (λ body. row_done_passes (row_23 x.fact x.trusted from ballot at after body) x out next few go)
   delivered_passes from (messages.TreeGive ballot at after trusted body) x out next few go =
       let give : Give = record { ballot = ballot; question = record { position = at; after = after }; trusted = trusted; body = body } in
-      own_node_asks P (needs_node from give x.sync) at x out (λ own y o. taken_give me from give own y.sync y o next)
-      (λ own. taken_give_passes from give own x.sync x out next few go)
+      own_node_asks P (needs_node from give x.sync) at x out (λ own y o. take_give me from give own y.sync y o next)
+      (λ own. take_give_passes from give own x.sync x out next few go)
   delivered_passes from message x out next few go = moved_passes x (received me from message x).0 (received me from message x).1 out next (received_few me from message x) few go
 
   -- a call that joins in this phase
@@ -247,7 +251,7 @@ module _ (k me : ℕ) (P : State → Out → Type 0) where
   first_passes (events.Call call) x out next room go =
       let few : count x.phase ≤ k = some_room (count x.phase) k room in
       if_follows P (leads x.phase) _ _
-      (lead_passes (row_27 call.from call.id call.key call.command (changes x.phase)) 27 x.phase (joins call.from call.id call.key call.command (changes x.phase) x.phase room) x out next few go)
+      (lead_passes (row_27 call.from call.id call.key call.command (changes x.phase)) x.phase (joins call.from call.id call.key call.command (changes x.phase) x.phase room) x out next few go)
       (go [] x (and_answers out (unavailable call ∷ [])) few)
   first_passes (events.Change view) x out next room go =
       moved_passes x (asked_change view x).0 (asked_change view x).1.0 (and_change out (asked_change view x).1.1) next (asked_few view x) (plus_none (count x.phase) k room) go
@@ -263,4 +267,4 @@ module _ (k me : ℕ) (P : State → Out → Type 0) where
   responded_passes event x out next room go = first_passes event x out (onward next) room (onward_goes next go)
 
   pub concluded_passes : Passes (concluded me)
-  concluded_passes x out next few go = task_done_passes (tasks.Phase 26) x out (onward next) few (onward_goes next go)
+  concluded_passes x out next few go = task_done_passes (tasks.Phase phase_rules.EndEpoch) x out (onward next) few (onward_goes next go)

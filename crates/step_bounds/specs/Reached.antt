@@ -1,7 +1,7 @@
 -- The states in which a peer may be between its steps, and how many calls came to it.
 use Rattle.std.specs.Prelude.{◌≡◌, ℕ, ◌+◌, Bool, List, [], ◌∷◌}
 use Rattle.call_table.specs.declared.waiting.Waiting.{Waiting}
-use Rattle.peer_fact.specs.declared.fact.Fact.{Fact}
+use Rattle.peer_fact.specs.declared.saved.SavedFact.{SavedFact}
 use Rattle.peer_plan.specs.Drives.{step_of}
 use Rattle.peer_plan.specs.Starts.{first_state}
 use Rattle.peer_state.specs.declared.event.Event.{Event}
@@ -25,11 +25,11 @@ MayEnd (Done x out) y = y ≡ x
 MayEnd (Say note p) y = MayEnd p y
 MayEnd (Ask call next) y = (a : AnswerOf call) × MayEnd (next a) y
 
--- peer `me` may be in this state after it started with this fact and trust, and took a step on each
--- of these events, of which the first is the latest
-abbrev pub Reached : ℕ → Fact → Bool → List Event → State → Type 0
-Reached me fact trusted [] x = x ≡ first_state fact trusted
-Reached me fact trusted (event ∷ events) x = (y : State) × Reached me fact trusted events y × MayEnd (step_of me event y) x
+-- peer `me` may be in this state after it started from this saved fact with this trust, and took a
+-- step on each of these events, of which the first is the latest
+abbrev pub Reached : ℕ → SavedFact → Bool → List Event → State → Type 0
+Reached me saved trusted [] x = x ≡ first_state saved trusted
+Reached me saved trusted (event ∷ events) x = (y : State) × Reached me saved trusted events y × MayEnd (step_of me event y) x
 
 -- how many calls an event brings
 abbrev pub calls_of : Event → ℕ

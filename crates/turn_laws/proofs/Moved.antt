@@ -1,4 +1,4 @@
--- The rows of the phases keep the saved fact, and bring no calls.
+-- The rows of the phases keep the saved fact and its seal, and bring no calls.
 use Rattle.std.proofs.Common.{◌≡◌, sym, refl, subst, ℕ, Bool, true, false, ◌==◌, ◌&&◌, List, [], Option, Some, None}
 use Rattle.std.proofs.lemmas.List.Elements.{All-append}
 use Rattle.election.specs.Preparing.{row_10}
@@ -12,7 +12,7 @@ use Rattle.leading.proofs.Moves.{either}
 use Rattle.peer_fact.specs.declared.fact.Change.{Change}
 use Rattle.peer_fact.specs.declared.fact.Change.TheVariants.{Add}
 use Rattle.peer_fact.specs.declared.fact.Fact.{Fact}
-use Rattle.peer_state.specs.Moves.{stopped_leading, without_candidacy, left, left_answers, timeouts, turned, sought, stood, waiting_phase, waiting_for}
+use Rattle.peer_state.specs.Moves.{stopped_leading, without_candidacy, left, left_answers, timeouts, turned, sought, stood, waiting_phase, waiting_for, saved_by}
 use Rattle.peer_state.specs.Rows.{aged_election, aged, accepted_by, leader_heard, leads, changes, wanting, asked_change, finishing, begun_change, phase_row, received, runs_sync}
 use Rattle.peer_state.specs.declared.state.ChangeState.{ChangeState}
 use Rattle.peer_state.specs.declared.state.ChangeState.TheVariants.{Settled, Wanted, Finishing as Finishes}
@@ -25,6 +25,8 @@ use Rattle.phase_rows.specs.Orders.{is_same}
 use Rattle.phase_rows.specs.declared.phase.PhaseOut.{PhaseOut}
 use Rattle.phase_rows.specs.declared.phase.Then.{Then}
 use Rattle.phase_rows.specs.declared.phase.Then.TheVariants as thens
+use Rattle.phase_rows.specs.declared.rules.PhaseRule.{PhaseRule}
+use Rattle.phase_rows.specs.declared.rules.PhaseRule.TheVariants as phase_rules
 use Rattle.probe.specs.Probing.{row_7}
 use Rattle.probe.specs.declared.probing.Probing.{Probing}
 use Rattle.step_plans.specs.Plans.{Out}
@@ -36,9 +38,9 @@ use Rattle.turn_laws.specs.Ends.{AllFrom, AllTo, calls_in}
 use Rattle.turn_laws.proofs.Served.{no_calls, no_answers, left_to}
 
 module _ (test : ℕ → Bool) (me : ℕ) where
-  -- the fact stays, and the callers of all calls pass the test if they did
+  -- the fact and the seal stay, and the callers of all calls pass the test if they did
   abbrev pub Stays : State → State → Type 0
-  Stays x y = (y.fact ≡ x.fact) × (AllFrom test (calls_in x.phase) → AllFrom test (calls_in y.phase))
+  Stays x y = (saved_by y ≡ saved_by x) × (AllFrom test (calls_in x.phase) → AllFrom test (calls_in y.phase))
 
   same : (x : State) → Stays x x
   same x = (refl, λ all. all)
@@ -85,6 +87,7 @@ module _ (test : ℕ → Bool) (me : ℕ) where
   turned_stays thens.Resume x = same x
   turned_stays (thens.SyncOn fact) x = same x
   turned_stays (thens.Rule n) x = same x
+  turned_stays (thens.OnKeys n) x = same x
 
   sought_stays : (p : Option Probing) (x : State) → Stays x (sought p x)
   sought_stays None x = same x
@@ -109,6 +112,7 @@ module _ (test : ℕ → Bool) (me : ℕ) where
   waiting_stays thens.Untrust x = same x
   waiting_stays thens.Put x = same x
   waiting_stays (thens.Rule n) x = same x
+  waiting_stays (thens.OnKeys n) x = same x
 
   -- the calls of a leader
   abbrev Calls : Leadership → Type 0
@@ -140,15 +144,14 @@ module _ (test : ℕ → Bool) (me : ℕ) where
   led_calls : (x : State) (l : Leadership) → x.phase ≡ phases.Leading l → AllFrom test (calls_in x.phase) → Calls l
   led_calls x l is all = subst (λ (ph : Phase). AllFrom test (calls_in ph)) is all
 
-  pub phase_row_stays : (n : ℕ) (x : State) → Stays x (phase_row n me x).0
-  phase_row_stays n x =
-      either (RowStays x) (n == 7) _ _ (sought_stays (row_7 x.fact me).1 x)
-      (either (RowStays x) (n == 9) _ _ (by_probing (RowStays x) x.phase (λ p is. (refl, λ all. none)) (same x))
-      (either (RowStays x) (n == 10) _ _ (by_probing (RowStays x) x.phase (λ p is. stood_stays (row_10 x.fact me p.best p.count).1 x) (by_leading (RowStays x) x.phase (λ l is. stood_stays (row_10 x.fact me x.fact x.fact.ballot.count).1 x) (same x)))
-      (either (RowStays x) (n == 13) _ _ (by_electing (RowStays x) x.phase (λ e is. (refl, λ all. none)) (same x))
-      (either (RowStays x) (n == 14) _ _ (by_electing (RowStays x) x.phase (λ e is. (refl, λ all. none)) (same x))
-      (either (RowStays x) (n == 25) _ _ (by_leading (RowStays x) x.phase (λ l is. (refl, λ all. begun_calls l.change l x.fact (led_calls x l is all))) (same x))
-      (either (RowStays x) (n == 26) _ _ (by_leading (RowStays x) x.phase (λ l is. same x) (same x)) (same x)))))))
+  pub phase_row_stays : (rule : PhaseRule) (x : State) → Stays x (phase_row rule me x).0
+  phase_row_stays phase_rules.BeginProbing x = sought_stays (row_7 x.fact me).1 x
+  phase_row_stays phase_rules.EnoughHeard x = by_probing (RowStays x) x.phase (λ p is. (refl, λ all. none)) (same x)
+  phase_row_stays phase_rules.Prepare x = by_probing (RowStays x) x.phase (λ p is. stood_stays (row_10 x.fact me p.best p.count).1 x) (by_leading (RowStays x) x.phase (λ l is. stood_stays (row_10 x.fact me x.fact x.fact.ballot.count).1 x) (same x))
+  phase_row_stays phase_rules.EnoughPromised x = by_electing (RowStays x) x.phase (λ e is. (refl, λ all. none)) (same x)
+  phase_row_stays phase_rules.EnoughAccepted x = by_electing (RowStays x) x.phase (λ e is. (refl, λ all. none)) (same x)
+  phase_row_stays phase_rules.BeginChange x = by_leading (RowStays x) x.phase (λ l is. (refl, λ all. begun_calls l.change l x.fact (led_calls x l is all))) (same x)
+  phase_row_stays phase_rules.EndEpoch x = by_leading (RowStays x) x.phase (λ l is. same x) (same x)
 
   aged_election_stays : (e : Election) (x : State) → Stays x (aged_election e me x).0
   aged_election_stays (Preparing base promises asked age) x = (refl, λ all. none)

@@ -1,6 +1,6 @@
 -- Runs over stores.
 use Rattle.std.proofs.Common.{true, List, [], ◌∷◌, ◌++◌, refl, sym, inl, inr, subst, arith}
-use Rattle.peer_fact.specs.declared.fact.Fact.{Fact}
+use Rattle.peer_fact.specs.declared.saved.SavedFact.{SavedFact}
 use Rattle.peer_state.specs.declared.event.Event.{Event}
 use Rattle.peer_state.specs.declared.event.Event.TheVariants as events
 use Rattle.peer_state.specs.declared.state.State.{State}
@@ -12,7 +12,7 @@ use Rattle.step_plans.specs.declared.error.PeerError.{PeerError}
 use Rattle.turn_laws.specs.Ends.{ComesFrom, EndsIn, last_saved}
 
 -- what holds at each end holds there if it follows
-pub ends_less : (P Q : Fact → State → Out → Type 0) → ((f : Fact) (y : State) (o : Out) → P f y o → Q f y o) → (f : Fact) (p : Plan State) → EndsIn P f p → EndsIn Q f p
+pub ends_less : (P Q : SavedFact → State → Out → Type 0) → ((f : SavedFact) (y : State) (o : Out) → P f y o → Q f y o) → (f : SavedFact) (p : Plan State) → EndsIn P f p → EndsIn Q f p
 ends_less P Q less f (Done x out) ends = less f x out ends
 ends_less P Q less f (Say note p) ends = ends_less P Q less f p ends
 ends_less P Q less f (Ask call next) ends = λ a. ends_less P Q less (last_saved call f) (next a) (ends a)
@@ -27,9 +27,9 @@ comes (events.Change view) = tt
 -- A run to an end of the plan, over stores that hold a fact: at its end they hold the fact that was
 -- saved last, and what holds at each end of the plan holds of that fact.
 pub ran_ends : {S : Type 0} (does : S → (call : Call) → AnswerOf call → S → Type 0) (refuses : S → Call → PeerError → S → Type 0)
-    (P : Fact → State → Out → Type 0) (Holds : S → Fact → Type 0) → ((s t : S) (call : Call) (a : AnswerOf call) (f : Fact) → does s call a t → Holds s f → Holds t (last_saved call f))
-    → (p : Plan State) (s : S) (ns : List Note) (f : Fact) (x : State) (out : Out) (t : S) (ms : List Note)
-    → Holds s f → EndsIn P f p → Runs does refuses p s ns (Finished x out) t ms → (last : Fact) × Holds t last × P last x out
+    (P : SavedFact → State → Out → Type 0) (Holds : S → SavedFact → Type 0) → ((s t : S) (call : Call) (a : AnswerOf call) (f : SavedFact) → does s call a t → Holds s f → Holds t (last_saved call f))
+    → (p : Plan State) (s : S) (ns : List Note) (f : SavedFact) (x : State) (out : Out) (t : S) (ms : List Note)
+    → Holds s f → EndsIn P f p → Runs does refuses p s ns (Finished x out) t ms → (last : SavedFact) × Holds t last × P last x out
 ran_ends does refuses P Holds keeps (Done y more) s ns f x out t ms holds ends ran = elim ran [
   | inl cut ↦ let none : ⊥ = grind (arith, cut.0) in absurd none
   | inr end ↦ (f, subst (λ u. Holds u f) (sym end.1) holds, same_end (P f) y x more out end.0 ends)

@@ -27,6 +27,8 @@ use Rattle.leading.proofs.Steps.{lead_step, row_29_reply_step, row_33_reply_step
 use Rattle.leading.proofs.TimeOuts.{row_5_ticks}
 use Rattle.register_model.specs.declared.note.Note.{Note}
 use Rattle.phase_rows.specs.declared.phase.Seen.{Seen}
+use Rattle.phase_rows.specs.declared.rules.KeyRule.{KeyRule}
+use Rattle.phase_rows.specs.declared.rules.KeyRule.TheVariants as key_rules
 use Rattle.turn_laws.specs.Ends.{AllFrom, AllTo}
 
 filtered : {X : Type 0} (P : X → Type 0) (keep : X → Bool) (xs : List X) → All P xs → All P (filter keep xs)
@@ -87,8 +89,8 @@ module _ (test : ℕ → Bool) where
   abbrev pub IsFair : (Leader → Leader × LeadOut) → Type 0
   IsFair row = (l : Leader) → AllFrom test l.table.calls → AllTo test (row l).1.answers × AllFrom test (row l).0.table.calls
 
-  pub key_fair : (n : ℕ) (key : List ℕ) (seen : Seen) → IsFair (lead_row n key seen)
-  key_fair n key seen l all = served key l.table _ _ _ (lead_step n key seen l).serves all
+  pub key_fair : (rule : KeyRule) (key : List ℕ) (seen : Seen) → IsFair (lead_row rule key seen)
+  key_fair rule key seen l all = served key l.table _ _ _ (lead_step rule key seen l).serves all
 
   pub got_fair : (from : ℕ) (ballot : Epoch) (round : ℕ) (key : List ℕ) (entry : Option Entry) (object : Option Object) → IsFair (row_29_reply from ballot round key entry object)
   got_fair from ballot round key entry object l all = served key l.table _ _ _ (row_29_reply_step from ballot round key entry object l).serves all
@@ -109,7 +111,7 @@ module _ (test : ℕ → Bool) where
       let P : Leader × LeadOut → Type 0 = λ r. AllTo test r.1.answers × AllFrom test r.0.table.calls in
       either P finishing _ _ (one_answer _ is, all)
       (either P (nat_le 16 (waiting_on key l.table.calls)) _ _ (one_answer _ is, all)
-      (either (λ (o : LeadOut). AllTo test o.answers) (waiting_on key l.table.calls == 0) (leads_on 28 key) rests no_answers no_answers, All-push Asks l.table.calls w all is))
+      (either (λ (o : LeadOut). AllTo test o.answers) (waiting_on key l.table.calls == 0) (leads_on key_rules.StartCall key) rests no_answers no_answers, All-push Asks l.table.calls w all is))
 
   timely_from : (late : Bool) (l : Leader) (r : Leader × LeadOut) → IsTimely late l r → (late ≡ true → r.0.table.calls ≡ map older l.table.calls) → AllFrom test l.table.calls
       → AllTo test r.1.answers × AllFrom test r.0.table.calls

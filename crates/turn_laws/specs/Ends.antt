@@ -2,7 +2,7 @@
 use Rattle.std.specs.Prelude.{◌≡◌, ℕ, Bool, true, List, [], All}
 use Rattle.call_table.specs.declared.waiting.Waiting.{Waiting}
 use Rattle.leader_words.specs.declared.out.AnswerOut.{AnswerOut}
-use Rattle.peer_fact.specs.declared.fact.Fact.{Fact}
+use Rattle.peer_fact.specs.declared.saved.SavedFact.{SavedFact}
 use Rattle.peer_state.specs.declared.event.Event.{Event}
 use Rattle.peer_state.specs.declared.event.Event.TheVariants as events
 use Rattle.peer_state.specs.declared.state.Phase.{Phase}
@@ -11,14 +11,14 @@ use Rattle.peer_state.specs.declared.state.State.{State}
 use Rattle.step_plans.specs.Calls.{Call, AnswerOf, Save}
 use Rattle.step_plans.specs.Plans.{Plan, Done, Say, Ask, Out}
 
--- the fact that was saved last, after a call
-abbrev pub last_saved : Call → Fact → Fact
-last_saved (Save fact) last = fact
+-- the fact that was saved last, with its seal, after a call
+abbrev pub last_saved : Call → SavedFact → SavedFact
+last_saved (Save saved) last = saved
 last_saved other last = last
 
 -- Each end that the plan may reach satisfies P. P is told the fact that was saved last on the way
--- there; it is this one if none was saved.
-abbrev pub EndsIn : (Fact → State → Out → Type 0) → Fact → Plan State → Type 0
+-- there, with its seal; it is this one if none was saved.
+abbrev pub EndsIn : (SavedFact → State → Out → Type 0) → SavedFact → Plan State → Type 0
 EndsIn P last (Done x out) = P last x out
 EndsIn P last (Say note p) = EndsIn P last p
 EndsIn P last (Ask call next) = (a : AnswerOf call) → EndsIn P (last_saved call last) (next a)

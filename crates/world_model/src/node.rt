@@ -6,6 +6,7 @@ ghost use Rattle.world_model.specs.declared.node.MemNode.TheVariants.{Down};
 use peer_core::{Peer, Stores};
 use std::alloc::Global;
 use synctree::Tree;
+use tree_node::TreeVersion;
 use world_stores::{HeldFact, HeldNodes, HeldObjects};
 
 /// The stores of a peer of a world.
@@ -27,7 +28,7 @@ pub(crate) fn empty_stores(alloc: Global) -> MemStores
 {
     Stores {
         backend: HeldObjects::empty(alloc),
-        tree: Tree::unopened(HeldNodes::empty(alloc)),
+        tree: Tree::unopened(HeldNodes::empty(alloc), TreeVersion::One),
         facts: HeldFact::empty(),
     }
 }

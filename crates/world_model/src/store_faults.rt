@@ -8,6 +8,7 @@ use ens_outside::Leaves;
 use schedule_text::{StoreName, Survivor};
 use std::alloc::Global;
 use synctree::{Tree, TreeMark};
+use tree_node::TreeVersion;
 use world_stores::HeldNodes;
 
 /// Returns what a failed write leaves.
@@ -22,9 +23,10 @@ fn leaves_of(survivor: Survivor) -> Leaves
 
 /// Takes the nodes out of a tree, to be put back under the mark.
 fn take_nodes(alloc: Global, tree: &mut Tree<HeldNodes>) -> (TreeMark, HeldNodes)
-    ensures { (result.0 ≡ tree.old.top) × (result.1 ≡ tree.old.store) }
+    ensures { (result.0.version ≡ tree.old.version) × (result.0.top ≡ tree.old.top) × (result.1 ≡ tree.old.store) }
 {
-    std::mem::replace(tree, Tree::unopened(HeldNodes::empty(alloc))).split()
+    let none = Tree::unopened(HeldNodes::empty(alloc), TreeVersion::One);
+    std::mem::replace(tree, none).split()
 }
 
 /// Makes the next write of a store fail.
@@ -76,7 +78,7 @@ pub(crate) fn damage(
     ensures memory { IfErr result (λ e. e ≡ WorldError.Memory) }
 {
     let (mark, mut nodes) = take_nodes(alloc, &mut stores.tree);
-    let damaged = node_faults::damage(alloc, &mut nodes, key, bytes);
+    let damaged = node_faults::damage(alloc, &mut nodes, TreeVersion::One, key, bytes);
     stores.tree = Tree::join(mark, nodes);
     match damaged {
         Ok(()) => Ok(()),
@@ -98,7 +100,7 @@ pub(crate) fn inner(
     ensures memory { IfErr result (λ e. e ≡ WorldError.Memory) }
 {
     let (mark, mut nodes) = take_nodes(alloc, &mut stores.tree);
-    let damaged = node_faults::inner(alloc, &mut nodes, level, index, bytes);
+    let damaged = node_faults::inner(alloc, &mut nodes, TreeVersion::One, level, index, bytes);
     stores.tree = Tree::join(mark, nodes);
     match damaged {
         Ok(()) => Ok(()),

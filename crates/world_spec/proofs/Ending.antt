@@ -6,11 +6,10 @@ use Rattle.held_stores.specs.Answers.{answered, looked, entered, whole, done}
 use Rattle.held_stores.specs.Held.{Held, HeldStores, unless_failing}
 use Rattle.held_stores.specs.Runs.{Ended, run, either}
 use Rattle.held_stores.specs.Walks.{End, Came, Broke, Failed, Walk, walk, nodes_failed}
-use Rattle.peer_fact.specs.Facts.{opening_fact}
 use Rattle.peer_plan.proofs.Inside.{IsInside, get_inside, insert_inside, node_inside}
 use Rattle.peer_plan.proofs.Whole.{IsWhole, scan_whole, rebuild_whole}
 use Rattle.peer_plan.specs.Kept.{IsStepCall, IsSound, IsInTree, Reaches}
-use Rattle.peer_plan.specs.Starts.{first_state}
+use Rattle.peer_plan.specs.Starts.{first_state, opening_saved}
 use Rattle.peer_state.specs.declared.state.State.{State}
 use Rattle.step_plans.specs.Calls.{Call, Load, Save, FreshTree, OpenTree, Find, Enter, ScanTree, ReadNode, Install, Fetch, Put, Hash, AnswerOf}
 use Rattle.step_plans.specs.Plans.{Plan, Done, Say, Ask, Out, Ending, Finished, Stopped, Follows}
@@ -18,10 +17,11 @@ use Rattle.step_plans.specs.declared.error.PeerError.{PeerError}
 use Rattle.step_plans.specs.declared.walked.Walked.{Walked}
 use Rattle.step_plans.specs.declared.walked.Walked.TheVariants.{Reached, Broken as Damaged}
 use Rattle.register_model.specs.declared.note.Note.{Note}
+use Rattle.tree_node.specs.declared.version.TreeVersion.TheVariants.{One}
 use Rattle.synctree.specs.Nodes.{node_plan}
 use Rattle.synctree.specs.Plans as tree
 use Rattle.synctree.specs.Trees.{get_plan, insert_plan}
-use Rattle.tree_maps.specs.Sixteen.{sixteen}
+use Rattle.tree_maps.specs.Sixteen.{form_of}
 use Rattle.tree_node.specs.Positions.{IsPosition}
 use Rattle.tree_node.specs.declared.position.Position.{Position}
 use Rattle.tree_repair.specs.Rebuilds.{rebuild_plan}
@@ -33,43 +33,43 @@ use Rattle.world_stores.specs.Nodes.{Nodes, refusal, answer, after}
 -- ## Damage is found at positions of the tree alone
 
 -- the position at which a walk broke
-walk_inside : {A : Type 0} (p : tree.Plan A) (s : Nodes) (hashed : List (List ℕ)) (at : Position) → IsInside p → (walk p s hashed).end ≡ Broke at → IsPosition at
+walk_inside : {A : Type 0} (p : tree.Plan A) (s : Nodes) (hashed : List (List ℕ)) (at : Position) → IsInside p → (walk p s hashed).end ≡ Broke at → IsPosition One at
 unfolding walk
 walk_inside (tree.Done x) s hashed at inside is = let none : ⊥ = grind (arith, is) in absurd none
-walk_inside (tree.Broken here) s hashed at inside is = let same : here ≡ at = grind (arith, is) in subst (λ k. IsPosition k) same inside
+walk_inside (tree.Broken here) s hashed at inside is = let same : here ≡ at = grind (arith, is) in subst (λ k. IsPosition One k) same inside
 walk_inside (tree.Ask (tree.Hash bytes) next) s hashed at inside is = walk_inside (next tt) s (hashed ++ bytes ∷ []) at (inside tt) is
 walk_inside (tree.Ask (tree.Node call) next) s hashed at inside is = by_failure (refusal s call) is (λ went. walk_inside (next (answer s call)) (after s call) hashed at (inside (answer s call)) went) where
   by_failure : (o : Option Leaves) → (unless_failing o (walk (next (answer s call)) (after s call) hashed) (λ leaves. record { end = Failed; nodes = nodes_failed s call leaves; hashed = hashed })).end ≡ Broke at
-      → ((walk (next (answer s call)) (after s call) hashed).end ≡ Broke at → IsPosition at) → IsPosition at
+      → ((walk (next (answer s call)) (after s call) hashed).end ≡ Broke at → IsPosition One at) → IsPosition One at
   by_failure None is goes = goes is
   by_failure (Some leaves) is goes = let none : ⊥ = grind (arith, is) in absurd none
 
-looked_inside : {A : Type 0} (end : End A) (a : Walked A) → ((at : Position) → end ≡ Broke at → IsPosition at) → looked end ≡ Ok a → IsInTree a
+looked_inside : {A : Type 0} (end : End A) (a : Walked A) → ((at : Position) → end ≡ Broke at → IsPosition One at) → looked end ≡ Ok a → IsInTree a
 looked_inside end (Reached x) inside is = tt
 looked_inside (Came x) (Damaged at) inside is = let none : ⊥ = grind (arith, is) in absurd none
-looked_inside (Broke here) (Damaged at) inside is = let same : here ≡ at = grind (arith, is) in subst (λ k. IsPosition k) same (inside here refl)
+looked_inside (Broke here) (Damaged at) inside is = let same : here ≡ at = grind (arith, is) in subst (λ k. IsPosition One k) same (inside here refl)
 looked_inside Failed (Damaged at) inside is = let none : ⊥ = grind (arith, is) in absurd none
 
-entered_inside : (end : End (List ℕ)) (a : Walked (Unit {0})) → ((at : Position) → end ≡ Broke at → IsPosition at) → entered end ≡ Ok a → IsInTree a
+entered_inside : (end : End (List ℕ)) (a : Walked (Unit {0})) → ((at : Position) → end ≡ Broke at → IsPosition One at) → entered end ≡ Ok a → IsInTree a
 entered_inside end (Reached x) inside is = tt
 entered_inside (Came x) (Damaged at) inside is = let none : ⊥ = grind (arith, is) in absurd none
-entered_inside (Broke here) (Damaged at) inside is = let same : here ≡ at = grind (arith, is) in subst (λ k. IsPosition k) same (inside here refl)
+entered_inside (Broke here) (Damaged at) inside is = let same : here ≡ at = grind (arith, is) in subst (λ k. IsPosition One k) same (inside here refl)
 entered_inside Failed (Damaged at) inside is = let none : ⊥ = grind (arith, is) in absurd none
 
 answered_sound : (call : Call) (h : Held) (a : AnswerOf call) → (answered call h).result ≡ Ok a → IsSound call a
 answered_sound (Find key) h a is =
-    let plan = get_plan sixteen h.stores.tree.top key in
+    let plan = get_plan (form_of One) h.stores.tree.top key in
     looked_inside (walk plan h.stores.tree.store h.hashed).end a (λ at broke. walk_inside plan h.stores.tree.store h.hashed at (get_inside h.stores.tree.top key) broke) is
 answered_sound (Enter entry) h a is =
-    let plan = insert_plan sixteen h.stores.tree.top entry in
+    let plan = insert_plan (form_of One) h.stores.tree.top entry in
     entered_inside (walk plan h.stores.tree.store h.hashed).end a (λ at broke. walk_inside plan h.stores.tree.store h.hashed at (insert_inside h.stores.tree.top entry) broke) is
 answered_sound Load h a is = tt
 answered_sound (Save fact) h a is = tt
 answered_sound FreshTree h a is = tt
-answered_sound OpenTree h a is = tt
+answered_sound (OpenTree seal) h a is = tt
 answered_sound ScanTree h a is = tt
 answered_sound (ReadNode at) h a is = λ inside.
-    let plan = node_plan sixteen h.stores.tree.top at in
+    let plan = node_plan (form_of One) h.stores.tree.top at in
     looked_inside (walk plan h.stores.tree.store h.hashed).end a (λ place broke. walk_inside plan h.stores.tree.store h.hashed place (node_inside h.stores.tree.top at inside) broke) is
 answered_sound (Install entries) h a is = tt
 answered_sound (Fetch key) h a is = tt
@@ -159,12 +159,12 @@ done_answer Failed goes sound = absurd (goes refl)
 
 is_answered : (call : Call) (h : Held) → IsStepCall call → NoneWaits h.stores → IsAnswered call h
 is_answered (Find key) h one none =
-    let went = walk_unfailing (get_plan sixteen h.stores.tree.top key) h.stores.tree.store h.hashed none.tree in
-    let found = looked_answer (walk (get_plan sixteen h.stores.tree.top key) h.stores.tree.store h.hashed).end went.end in
+    let went = walk_unfailing (get_plan (form_of One) h.stores.tree.top key) h.stores.tree.store h.hashed none.tree in
+    let found = looked_answer (walk (get_plan (form_of One) h.stores.tree.top key) h.stores.tree.store h.hashed).end went.end in
     record { answer = found.0; is = found.1; none = record { facts = none.facts; tree = went.none; backend = none.backend } }
 is_answered (Enter entry) h one none =
-    let went = walk_unfailing (insert_plan sixteen h.stores.tree.top entry) h.stores.tree.store h.hashed none.tree in
-    let came = entered_answer (walk (insert_plan sixteen h.stores.tree.top entry) h.stores.tree.store h.hashed).end went.end in
+    let went = walk_unfailing (insert_plan (form_of One) h.stores.tree.top entry) h.stores.tree.store h.hashed none.tree in
+    let came = entered_answer (walk (insert_plan (form_of One) h.stores.tree.top entry) h.stores.tree.store h.hashed).end went.end in
     record { answer = came.0; is = came.1; none = record { facts = none.facts; tree = went.none; backend = none.backend } }
 is_answered (Save fact) h one none = rw none.facts (record { answer = tt; is = refl; none = record { facts = refl; tree = none.tree; backend = none.backend } })
 is_answered (Put key bytes) h one none = rw none.backend (record { answer = tt; is = refl; none = record { facts = none.facts; tree = none.tree; backend = refl } })
@@ -172,21 +172,21 @@ is_answered (Fetch key) h one none = record { answer = _; is = refl; none = none
 is_answered (Hash bytes) h one none = record { answer = _; is = refl; none = record { facts = none.facts; tree = none.tree; backend = none.backend } }
 is_answered Load h one none = absurd one
 is_answered FreshTree h one none = absurd one
-is_answered OpenTree h one none = absurd one
+is_answered (OpenTree seal) h one none = absurd one
 is_answered ScanTree h one none =
-    let plan = scan_plan sixteen h.stores.tree.top in
+    let plan = scan_plan (form_of One) h.stores.tree.top in
     let went = walk_unfailing plan h.stores.tree.store h.hashed none.tree in
-    let came = whole_answer (walk plan h.stores.tree.store h.hashed).end went.end (λ at broke. walk_whole plan h.stores.tree.store h.hashed at (scan_whole sixteen h.stores.tree.top) broke) in
+    let came = whole_answer (walk plan h.stores.tree.store h.hashed).end went.end (λ at broke. walk_whole plan h.stores.tree.store h.hashed at (scan_whole (form_of One) h.stores.tree.top) broke) in
     record { answer = came.0; is = came.1; none = record { facts = none.facts; tree = went.none; backend = none.backend } }
 is_answered (ReadNode at) h one none =
-    let plan = node_plan sixteen h.stores.tree.top at in
+    let plan = node_plan (form_of One) h.stores.tree.top at in
     let went = walk_unfailing plan h.stores.tree.store h.hashed none.tree in
     let came = looked_answer (walk plan h.stores.tree.store h.hashed).end went.end in
     record { answer = came.0; is = came.1; none = record { facts = none.facts; tree = went.none; backend = none.backend } }
 is_answered (Install entries) h one none =
-    let plan = rebuild_plan sixteen entries in
+    let plan = rebuild_plan (form_of One) entries in
     let went = walk_unfailing plan h.stores.tree.store h.hashed none.tree in
-    let came = done_answer (walk plan h.stores.tree.store h.hashed).end went.end (λ at broke. walk_whole plan h.stores.tree.store h.hashed at (rebuild_whole sixteen entries) broke) in
+    let came = done_answer (walk plan h.stores.tree.store h.hashed).end went.end (λ at broke. walk_whole plan h.stores.tree.store h.hashed at (rebuild_whole (form_of One) entries) broke) in
     record { answer = tt; is = came; none = record { facts = none.facts; tree = went.none; backend = none.backend } }
 
 -- the plan ended well, where P holds, and no write is to fail after it
@@ -208,8 +208,8 @@ run_finishes P (Ask call next) h ns follows none =
 -- the peer runs with the opening fact, which its stores keep, and no write is to fail
 pub record IsOpening (view : List ℕ) (node : Node) : Type 0 where
   pub stores : HeldStores
-  pub is : node ≡ Up (first_state (opening_fact view) true) stores
-  pub kept : stores.facts.kept ≡ Some (opening_fact view)
+  pub is : node ≡ Up (first_state (opening_saved view) true) stores
+  pub kept : stores.facts.kept ≡ Some (opening_saved view)
   pub none : NoneWaits stores
 
 pub opening_is : (view : List ℕ) → IsOpening view (opening_node view)

@@ -9,7 +9,7 @@ use Rattle.held_stores.specs.Laws.{held_with}
 use Rattle.held_stores.specs.Runs.{Ended}
 use Rattle.leader_words.specs.declared.out.Outgoing.{Outgoing}
 use Rattle.network.specs.Mail.{Mail, MayBeSent, posted, settled, goes, is_among, oldest, most_messages}
-use Rattle.peer_fact.specs.declared.fact.Fact.{Fact}
+use Rattle.peer_fact.specs.declared.saved.SavedFact.{SavedFact}
 use Rattle.peer_plan.proofs.Passing.{steps_keep}
 use Rattle.peer_plan.specs.Drives.{step_of, MayCome}
 use Rattle.peer_plan.specs.Kept.{IsOwn, MaySend, AllMayGo, Reaches}
@@ -59,7 +59,7 @@ taken_fine me event (Up x s) peer come own = run_fine me (step_of me event x) s 
 taken_fine me event (Down s) peer come own = record { node = tt; out = All-nil (MaySend me) }
 
 -- a peer that starts leads nobody, and runs no sync
-opened_reaches : (me : ℕ) (view : List ℕ) (kept : Option Fact) → Reaches (λ y out. IsOwn me y × AllMayGo me out) (opened view kept)
+opened_reaches : (me : ℕ) (view : List ℕ) (kept : Option SavedFact) → Reaches (λ y out. IsOwn me y × AllMayGo me out) (opened view kept)
 opened_reaches me view None = λ a sound b kept. ((tt, tt), All-nil (MaySend me))
 opened_reaches me view (Some fact) = λ a sound. ((tt, tt), All-nil (MaySend me))
 

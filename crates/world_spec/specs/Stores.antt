@@ -3,13 +3,14 @@ use Rattle.std.specs.Prelude.{ℕ, List, Option}
 use Rattle.ens_outside.specs.declared.memory.failing_call.Leaves.{Leaves}
 use Rattle.ens_outside.specs.declared.memory.failing_call.Leaves.TheVariants as left
 use Rattle.held_stores.specs.Held.{HeldStores}
+use Rattle.tree_node.specs.declared.version.TreeVersion.TheVariants.{One}
 use Rattle.node_faults.specs.Faults.{place_at, replaced, spoiled_node}
 use Rattle.node_faults.specs.Naming.{segment_place}
 use Rattle.schedule_text.specs.declared.keyword.StoreName.{StoreName}
 use Rattle.schedule_text.specs.declared.keyword.StoreName.TheVariants as names
 use Rattle.schedule_text.specs.declared.keyword.Survivor.{Survivor}
 use Rattle.schedule_text.specs.declared.keyword.Survivor.TheVariants as survivors
-use Rattle.tree_maps.specs.Sixteen.{sixteen}
+use Rattle.tree_maps.specs.Sixteen.{form_of}
 use Rattle.world_stores.specs.Faults.{awaiting}
 use Rattle.world_stores.specs.Nodes.{Nodes, reverted}
 
@@ -34,11 +35,11 @@ spoiled key bytes s = record s { backend = record s.backend { entries = replaced
 
 -- the segment of the key, as the stored nodes name it, has these bytes in place of its own, or is lost
 abbrev pub segment_spoiled : List ℕ → Option (List ℕ) → HeldStores → HeldStores
-segment_spoiled key bytes s = with_nodes (spoiled_node (segment_place sixteen key) bytes s.tree.store) s
+segment_spoiled key bytes s = with_nodes (spoiled_node One (segment_place (form_of One) key) bytes s.tree.store) s
 
 -- the same of the inner node at this level and index
 abbrev pub inner_spoiled : ℕ → ℕ → Option (List ℕ) → HeldStores → HeldStores
-inner_spoiled level index bytes s = with_nodes (spoiled_node (place_at level index) bytes s.tree.store) s
+inner_spoiled level index bytes s = with_nodes (spoiled_node One (place_at level index) bytes s.tree.store) s
 
 -- the last n writes of the top record are taken back, but not the first write
 abbrev pub taken_back : ℕ → HeldStores → HeldStores

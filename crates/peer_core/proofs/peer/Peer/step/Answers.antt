@@ -1,5 +1,5 @@
-use Rattle.std.specs.Prelude.{is_err}
-use Rattle.std.proofs.Common.{◌≡◌, false, sym, ◌∙◌}
+use Rattle.std.specs.Prelude.{is_err, OnOk, OnErr}
+use Rattle.std.proofs.Common.{◌≡◌, Bool, false, true, Result, Ok, Err, sym, ◌∙◌}
 use Rattle.std.proofs.lemmas.Bool.{true≢false}
 use Rattle.peer_core.specs.Stores.{stores_do, stores_refuse}
 use Rattle.peer_core.proofs.Damage.{stores_sound}
@@ -7,6 +7,20 @@ use Rattle.peer_core.proofs.Halts.{causes, only, not_halted}
 use Rattle.peer_plan.proofs.Ends.{on_ok}
 use Rattle.peer_plan.proofs.Passing.{all_may_go, still_own}
 use Rattle.peer_core.proofs.peer.Peer.step.Goals as goal
+
+runs_on : {A E : Type 0} (r : Result A E) (halted : Bool) → halted ≡ is_err r → OnOk r (halted ≡ false)
+runs_on (Ok u) halted is = is
+runs_on (Err e) halted is = tt
+
+is_halted : {A E : Type 0} (r : Result A E) (halted : Bool) → halted ≡ is_err r → OnErr r (halted ≡ true)
+is_halted (Ok u) halted is = tt
+is_halted (Err e) halted is = is
+
+pub returns-clause-goes_on : goal.returns-clause-goes_on
+returns-clause-goes_on g c = runs_on c.step-result.result c.is_err-self.result c.is_err-self.ensures.value
+
+pub returns-clause-halts : goal.returns-clause-halts
+returns-clause-halts g c = is_halted c.step-result.result c.is_err-self.result c.is_err-self.ensures.value
 
 pub returns-clause-causes : goal.returns-clause-causes
 returns-clause-causes g c = λ taken. causes c.args.self.now.me c.args.self.now.is_peer c.args.event c.requires c.args.self.now.machine.state (c.args.self.now.young c.if-self.false)

@@ -3,6 +3,7 @@ use Rattle.std.proofs.lemmas.Option.{slice_get_read}
 use Rattle.held_stores.proofs.Taken.{hashed_none}
 use Rattle.held_stores.specs.Held.{account, HasHashed}
 use Rattle.step_plans.specs.Outboxes.{out_of}
+use Rattle.peer_plan.specs.Kept.{AllMayGo}
 use Rattle.world_spec.proofs.Growth.{further_same}
 use Rattle.world_spec.specs.Nodes.{taken}
 use Rattle.world_spec.specs.Runs.{stepped}
@@ -25,6 +26,13 @@ invariant_of-self g c =
       few = still_few c.args.self.now.peers.items (c.peer.inside.0 - 1) c.step.new.self c.args.self.now.few;
       within = c.args.self.now.within;
     }
+
+pub report-requires-clause-out : goal.report-requires-clause-out
+report-requires-clause-out g c =
+    let at : slice_get c.args.self.now.peers.items (c.peer.inside.0 - 1) ≡ Some c.index_mut.result.now = search (rules, slice_get_read) in
+    let here : slice_get c.args.self.now.peers.items (c.args.peer - 1) ≡ Some c.index_mut.result.now = rw c.peer.view_is at at in
+    let own = has_number c.args.self.now.peers.items c.args.peer c.index_mut.result.now c.requires.peer.0 here c.args.self.now.numbered in
+    subst (λ (m : ℕ). AllMayGo m (out_of c.in_ok-out.out)) own c.in_ok-out.ensures.may_go
 
 pub returns-in_err-out-clause-begins : goal.returns-in_err-out-clause-begins
 returns-in_err-out-clause-begins g c = begins_by c.args.self.now _ refl refl
