@@ -1,6 +1,6 @@
 -- The node of a peer as the peer stops or starts, and as lines of the schedule change its stores.
-use Rattle.std.proofs.Common.{◌≡◌, ◌<◌, ◌≤◌, ℕ, Bool, true, false, if◌then◌else◌, inl, inr, List, [], ◌∷◌, ◌++◌, length, Option, Some, Result, Ok, append-nil, arith, refl, sym, ap, ◌∙◌, subst}
-use Rattle.std.proofs.lemmas.Option.{none-some}
+use Rattle.std.proofs.Common.{◌≡◌, ◌<◌, ◌≤◌, ℕ, Bool, true, false, if◌then◌else◌, inl, inr, List, [], ◌∷◌, ◌++◌, length, Option, None, Some, Result, Ok, append-nil, arith, refl, sym, ap, ◌∙◌, subst}
+use Rattle.std.proofs.lemmas.Option.{none-some, same_Some}
 use Rattle.ens_base.proofs.Lists.{bytes_same}
 use Rattle.ens_base.specs.Lists.{◌∈◌, same_bytes}
 use Rattle.ens_base.specs.declared.entry.Entry.{Entry}
@@ -8,7 +8,8 @@ use Rattle.ens_outside.specs.declared.memory.failing_call.Leaves.{Leaves}
 use Rattle.abstract_protocol.specs.Objects.{epoch_of, IsGenuine}
 use Rattle.abstract_protocol.specs.Protocol.{State, Lose, Revert, happens, MayCome}
 use Rattle.election_refinement.proofs.Listed.{listed_started}
-use Rattle.election_refinement.specs.Refinement.{PeerHolds}
+use Rattle.election_refinement.specs.Listed.{IsListedFact}
+use Rattle.election_refinement.specs.Refinement.{IsSaved, PeerHolds}
 use Rattle.entry_laws.proofs.Later.{stay_step}
 use Rattle.entry_laws.specs.Stays.{EntriesStay}
 use Rattle.held_stores.specs.Answers.{answered}
@@ -19,6 +20,7 @@ use Rattle.leader_refinement.specs.Seen.{rank, entry_rank}
 use Rattle.peer_plan.specs.Starts.{first_state, opened, start_of}
 use Rattle.peer_state.specs.declared.state.State.{State as PeerState}
 use Rattle.peer_fact.specs.declared.fact.Fact.{Fact}
+use Rattle.peer_fact.specs.declared.saved.SavedFact.{SavedFact}
 use Rattle.register_model.specs.declared.note.Note.{Note}
 use Rattle.request_refinement.specs.Naming.{EntrySays}
 use Rattle.schedule_text.specs.declared.keyword.StoreName.{StoreName}
@@ -26,6 +28,7 @@ use Rattle.schedule_text.specs.declared.keyword.StoreName.TheVariants as names
 use Rattle.step_plans.specs.Calls.{OpenTree}
 use Rattle.step_plans.specs.Plans.{Ending, Finished, Stopped, nothing}
 use Rattle.step_plans.specs.declared.error.PeerError.{PeerError}
+use Rattle.step_plans.specs.Saved.{bare}
 use Rattle.sync_laws.specs.Facts.{Lines}
 use Rattle.sync_refinement.proofs.Staying.{stays, tree_says_stay}
 use Rattle.sync_refinement.specs.Seen.{ranks}
@@ -85,7 +88,7 @@ module _ (lines : Lines) (strings : List (List ℕ)) (q : ℕ) where
     -- nor is anything that holds of a node
     pub altered_fits : (node : Node) → NodeFits lines strings hashed s q node → NodeFits lines strings hashed s q (over_stores f node)
     altered_fits (Up x stores) fits = record {
-      holds = subst (PeerHolds s.objects.ledger q x) (sym (spares.kept stores)) fits.holds;
+      holds = subst (PeerHolds s.objects.ledger q x) (sym (ap bare (spares.kept stores))) fits.holds;
       listed = fits.listed;
       trust = fits.trust;
       tree = altered_tree stores fits.tree;
@@ -95,7 +98,7 @@ module _ (lines : Lines) (strings : List (List ℕ)) (q : ℕ) where
     }
     altered_fits (Down stores) down = record {
       fact = down.fact;
-      kept = spares.kept stores ∙ down.kept;
+      kept = ap bare (spares.kept stores) ∙ down.kept;
       saved = down.saved;
       listed = down.listed;
       blind = down.blind;
@@ -142,21 +145,21 @@ taken_behind : (xs : List (List ℕ)) (e : Ending PeerState) (h : Held) (notes :
 taken_behind xs (Finished x out) h notes = refl
 taken_behind xs (Stopped error) h notes = refl
 
-module _ (view : List ℕ) (stores : HeldStores) (hashed : List (List ℕ)) (fact : Fact) (kept : stores.facts.kept ≡ Some fact) (answers : (answered OpenTree (held_with stores hashed)).result ≡ Ok tt) where
+module _ (view : List ℕ) (stores : HeldStores) (hashed : List (List ℕ)) (saved : SavedFact) (kept : stores.facts.kept ≡ Some saved) (answers : (answered (OpenTree None) (held_with stores hashed)).result ≡ Ok tt) where
   -- the stores once the tree was opened
   abbrev opened_held : Held
-  opened_held = (answered OpenTree (held_with stores hashed)).held
+  opened_held = (answered (OpenTree None) (held_with stores hashed)).held
 
   -- the peer continues from the kept fact, and does not trust its tree
-  starts_so : ended_behind hashed (run_over (start_of view) stores) ≡ record { ending = Finished (first_state fact false) nothing; held = opened_held; notes = [] }
+  starts_so : ended_behind hashed (run_over (start_of view) stores) ≡ record { ending = Finished (first_state saved false) nothing; held = opened_held; notes = [] }
   starts_so =
-      sym (run_behind (start_of view) stores hashed) ∙ ap (λ (o : Option Fact). run (opened view o) (held_with stores hashed) []) kept
-      ∙ ap (λ (r : Result (Unit {0}) PeerError). either {R = Ended PeerState} r (λ u. record { ending = Finished (first_state fact false) nothing; held = opened_held; notes = [] }) (λ error. record { ending = Stopped error; held = opened_held; notes = [] })) answers
+      sym (run_behind (start_of view) stores hashed) ∙ ap (λ (o : Option SavedFact). run (opened view o) (held_with stores hashed) []) kept
+      ∙ ap (λ (r : Result (Unit {0}) PeerError). either {R = Ended PeerState} r (λ u. record { ending = Finished (first_state saved false) nothing; held = opened_held; notes = [] }) (λ error. record { ending = Stopped error; held = opened_held; notes = [] })) answers
 
   abbrev ended : Ended PeerState
   ended = run_over (start_of view) stores
 
-  started_node : started view (Down stores) ≡ Up (first_state fact false) opened_held.stores
+  started_node : started view (Down stores) ≡ Up (first_state saved false) opened_held.stores
   started_node = sym (taken_behind hashed ended.ending ended.held ended.notes) ∙ ap (λ (e : Ended PeerState). (taken_of e).node) starts_so
 
   started_strings : hashed ++ hashed_by_start view (Down stores) ≡ opened_held.hashed
@@ -164,41 +167,52 @@ module _ (view : List ℕ) (stores : HeldStores) (hashed : List (List ℕ)) (fac
 
 module _ (lines : Lines) (strings hashed : List (List ℕ)) (s : State) (q : ℕ) where
   -- a tree that was opened shows the map that the top record names
-  opened_fits : (stores : HeldStores) (down : DownHolds lines.voting s strings hashed q stores) → let h : Held = (answered OpenTree (held_with stores hashed)).held in UpFits lines strings h.hashed s q (first_state down.fact false) h.stores
-  opened_fits stores down = record {
-    holds = record { saved = down.saved; kept = down.kept; phase = tt; sync = tt };
-    listed = listed_started lines.voting q down.fact false down.listed;
+  opened_fits : (stores : HeldStores) (down : DownHolds lines.voting s strings hashed q stores) (saved : SavedFact) → stores.facts.kept ≡ Some saved → let h : Held = (answered (OpenTree None) (held_with stores hashed)).held in UpFits lines strings h.hashed s q (first_state saved false) h.stores
+  opened_fits stores down saved kept = record {
+    holds = record { saved = subst (IsSaved s.objects.ledger q) same down.saved; kept = ap bare kept; phase = tt; sync = tt };
+    listed = listed_started lines.voting q saved false (subst (IsListedFact lines.voting) same down.listed);
     trust = down.blind;
     tree = record {
       map = down.map;
       shows = record { digest = has.shows.digest; top = has.shows.top; stands = has.shows.stands; texts = has.shows.texts };
       says = down.says;
       recorded = has.recorded;
-      tops = subst (λ (tops : List (List ℕ)). TopsReturn s strings h.hashed q tops) (sym has.tops) (tops_behind s strings hashed h.hashed q (tops_of stores) (grows OpenTree (held_with stores hashed)) down.tops);
+      tops = subst (λ (tops : List (List ℕ)). TopsReturn s strings h.hashed q tops) (sym has.tops) (tops_behind s strings hashed h.hashed q (tops_of stores) (grows (OpenTree None) (held_with stores hashed)) down.tops);
     };
     sync = tt;
     fits = tt;
     rests = tt;
   }
     where
+      same : down.fact ≡ saved.fact
+      same = same_Some down.fact saved.fact (sym down.kept ∙ ap bare kept)
+
       h : Held
-      h = (answered OpenTree (held_with stores hashed)).held
+      h = (answered (OpenTree None) (held_with stores hashed)).held
 
       has : HasOpened down.map (held_with stores hashed) h
       has = (opens (held_with stores hashed) down.map down.digest down.top down.named).1
+
+  -- what is kept, if its fact is
+  some_saved : (kept : Option SavedFact) (fact : Fact) → bare kept ≡ Some fact → (saved : SavedFact) × (kept ≡ Some saved)
+  some_saved None fact is = absurd (none-some fact is)
+  some_saved (Some saved) fact is = (saved, refl)
 
   -- a peer that starts fits, once the strings of its start were hashed; a running peer goes on
   pub started_fits : (view : List ℕ) (node : Node) → NodeFits lines strings hashed s q node → NodeFits lines strings (hashed ++ hashed_by_start view node) s q (started view node)
   started_fits view (Up x stores) fits = subst (λ (xs : List (List ℕ)). UpFits lines strings xs s q x stores) (sym (append-nil hashed)) fits
   started_fits view (Down stores) down =
-      let answers : (answered OpenTree (held_with stores hashed)).result ≡ Ok tt = (opens (held_with stores hashed) down.map down.digest down.top down.named).0 in
-      subst (λ (xs : List (List ℕ)). NodeFits lines strings xs s q (started view (Down stores))) (sym (started_strings view stores hashed down.fact down.kept answers))
-      (subst (λ (n : Node). NodeFits lines strings (answered OpenTree (held_with stores hashed)).held.hashed s q n) (sym (started_node view stores hashed down.fact down.kept answers)) (opened_fits stores down))
+      let k = some_saved stores.facts.kept down.fact down.kept in
+      let answers : (answered (OpenTree None) (held_with stores hashed)).result ≡ Ok tt = (opens (held_with stores hashed) down.map down.digest down.top down.named).0 in
+      subst (λ (xs : List (List ℕ)). NodeFits lines strings xs s q (started view (Down stores))) (sym (started_strings view stores hashed k.0 k.1 answers))
+      (subst (λ (n : Node). NodeFits lines strings (answered (OpenTree None) (held_with stores hashed)).held.hashed s q n) (sym (started_node view stores hashed k.0 k.1 answers)) (opened_fits stores down k.0 k.1))
 
   -- and follows nobody
   pub started_role : (view : List ℕ) (node : Node) → NodeFits lines strings hashed s q node → role_of (started view node) ≡ role_of node
   started_role view (Up x stores) fits = refl
-  started_role view (Down stores) down = ap role_of (started_node view stores hashed down.fact down.kept (opens (held_with stores hashed) down.map down.digest down.top down.named).0)
+  started_role view (Down stores) down =
+      let k = some_saved stores.facts.kept down.fact down.kept in
+      ap role_of (started_node view stores hashed k.0 k.1 (opens (held_with stores hashed) down.map down.digest down.top down.named).0)
 
 -- ## A tree that is put back
 

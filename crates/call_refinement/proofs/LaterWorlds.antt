@@ -23,6 +23,7 @@ use Rattle.step_refinement.specs.Scenes.{Elsewhere}
 use Rattle.step_refinement.proofs.ShownMaps.{tree_behind, tree_stays, tops_behind, tops_stay}
 use Rattle.call_refinement.specs.Worlds.{NodeFits, MessagesFit}
 use Rattle.step_refinement.proofs.LaterStates.{sync_stays, phase_stays, frames_fit}
+use Rattle.step_plans.specs.Saved.{bare}
 
 -- ## Peers
 
@@ -83,8 +84,8 @@ module _ (lines : Lines) (strings hashed more : List (List ℕ)) (q : ℕ) (s t 
       same_fact : (o : Option Fact) (a b : Fact) → o ≡ Some a → o ≡ Some b → b ≡ a
       same_fact o a b is_a is_b = same_Some b a (sym is_b ∙ is_a)
 
-      saved_stays : (fact : Fact) → stores.facts.kept ≡ Some fact → IsKept t.objects.ledger q stores.facts.kept → IsSaved t.objects.ledger q fact
-      saved_stays fact kept now = subst (IsSaved t.objects.ledger q) (same_fact stores.facts.kept fact now.fact kept now.kept) now.saved
+      saved_stays : (fact : Fact) → bare stores.facts.kept ≡ Some fact → IsKept t.objects.ledger q (bare stores.facts.kept) → IsSaved t.objects.ledger q fact
+      saved_stays fact kept now = subst (IsSaved t.objects.ledger q) (same_fact (bare stores.facts.kept) fact now.fact kept now.kept) now.saved
 
 -- ## Messages
 

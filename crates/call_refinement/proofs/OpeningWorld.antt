@@ -18,9 +18,8 @@ use Rattle.leader_laws.proofs.Roles.{roles_open}
 use Rattle.leader_laws.specs.Roles.{Follows}
 use Rattle.leader_laws.specs.Tables.{Ghosts}
 use Rattle.network.specs.Mail.{MayBeSent}
-use Rattle.peer_plan.specs.Starts.{first_state, saves_opening, start_of}
+use Rattle.peer_plan.specs.Starts.{first_state, opening_saved, saves_opening, start_of}
 use Rattle.peer_state.specs.declared.state.State.{State as PeerState}
-use Rattle.peer_fact.specs.Facts.{opening_fact}
 use Rattle.request_refinement.specs.Naming.{hash_of}
 use Rattle.step_plans.specs.Calls.{FreshTree}
 use Rattle.step_plans.specs.Plans.{Finished, Stopped, nothing}
@@ -59,7 +58,7 @@ module _ (view : List ℕ) where
 
   -- the opening fact is saved
   abbrev kept_first : HeldFact
-  kept_first = record fresh.stores.facts { kept = Some (opening_fact view) }
+  kept_first = record fresh.stores.facts { kept = Some (opening_saved view) }
 
   abbrev saved : Held
   saved = with_facts kept_first fresh
@@ -70,10 +69,10 @@ module _ (view : List ℕ) where
   written : IsWritten [] first fresh
   written = subst (λ (r : Result (Unit {0}) PeerError). HasBuilt [] first r fresh) made (records.makes first)
 
-  started : run_over (start_of view) empty_stores ≡ record { ending = Finished (first_state (opening_fact view) true) nothing; held = saved; notes = [] }
+  started : run_over (start_of view) empty_stores ≡ record { ending = Finished (first_state (opening_saved view) true) nothing; held = saved; notes = [] }
   started = ap (λ (r : Result (Unit {0}) PeerError). either {R = Ended PeerState} r (λ u. run (saves_opening view) fresh []) (λ error. record { ending = Stopped error; held = fresh; notes = [] })) made
 
-  node_is : Up (first_state (opening_fact view) true) saved.stores ≡ opening_node view
+  node_is : Up (first_state (opening_saved view) true) saved.stores ≡ opening_node view
   node_is = sym (ap (λ (e : Ended PeerState). (taken_of e).node) started)
 
   strings_are : opening_strings view ≡ fresh.hashed

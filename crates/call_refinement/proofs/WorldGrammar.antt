@@ -16,7 +16,7 @@ use Rattle.peer_plan.specs.Starts.{start_of, opened}
 use Rattle.peer_state.specs.declared.event.Event.{Event}
 use Rattle.peer_state.specs.declared.event.Event.TheVariants as does
 use Rattle.peer_state.specs.declared.state.State.{State}
-use Rattle.peer_fact.specs.declared.fact.Fact.{Fact}
+use Rattle.peer_fact.specs.declared.saved.SavedFact.{SavedFact}
 use Rattle.register_model.specs.declared.note.Note.{Note}
 use Rattle.schedule_words.specs.Spelling.{IsAmong}
 use Rattle.step_plans.specs.Calls.{AnswerOf}
@@ -88,7 +88,7 @@ while_down_ready f (Up x st) ready = ready
 while_down_ready f (Down st) ready = tt
 
 -- a peer that starts has not waited yet
-opened_ready : (view : List ℕ) (kept : Option Fact) → Reaches (λ y out. IsYoung y.phase) (opened view kept)
+opened_ready : (view : List ℕ) (kept : Option SavedFact) → Reaches (λ y out. IsYoung y.phase) (opened view kept)
 opened_ready view None = λ a sound b kept. lit< tt
 opened_ready view (Some fact) = λ a sound. lit< tt
 

@@ -22,12 +22,13 @@ use Rattle.world_spec.specs.Nodes.{Node, Up, Down}
 use Rattle.world_spec.specs.Runs.{Run}
 use Rattle.step_refinement.specs.Peers.{TreeHolds, DownHolds, AcksSay, AsksFit, EpochsFit, PhaseFits, IsAtRest, FrameFits}
 use Rattle.call_refinement.specs.Roles.{roles_of, said_in}
+use Rattle.step_plans.specs.Saved.{bare}
 
 -- ## Peers
 
 -- a running peer q, over these stores, after these strings were hashed: no task is at hand
 pub record UpFits (lines : Lines) (strings hashed : List (List ℕ)) (s : State) (q : ℕ) (x : PeerState) (stores : HeldStores) : Type 0 where
-  pub holds : PeerHolds s.objects.ledger q x stores.facts.kept
+  pub holds : PeerHolds s.objects.ledger q x (bare stores.facts.kept)
   pub listed : IsListedPeer lines.voting q x
   pub trust : s.objects.trusted q ≡ x.trusted
   pub tree : TreeHolds s strings q (held_with stores hashed)

@@ -26,7 +26,7 @@ pub data Step : Type 0 where
   Led : (accepts : List Bool) → Step
 
 abbrev pub rests : Fact → State
-rests fact = record { fact = fact; trusted = true; phase = follower; sync = None }
+rests fact = record { fact = fact; seal = None; trusted = true; phase = follower; sync = None }
 
 module _ (me : ℕ) (view : List ℕ) where
   abbrev pub candidate : Step → State

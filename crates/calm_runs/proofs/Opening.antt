@@ -10,7 +10,7 @@ use Rattle.held_stores.specs.Held.{Held, empty_stores}
 use Rattle.held_stores.specs.Laws.{held_with}
 use Rattle.held_stores.specs.Runs.{Ended, run, either}
 use Rattle.peer_fact.specs.Facts.{opening_fact}
-use Rattle.peer_plan.specs.Starts.{start_of, first_state, saves_opening}
+use Rattle.peer_plan.specs.Starts.{start_of, first_state, opening_saved, saves_opening}
 use Rattle.peer_state.specs.declared.state.State.{State}
 use Rattle.step_plans.specs.Calls.{FreshTree}
 use Rattle.step_plans.specs.Plans.{Finished, Stopped, nothing}
@@ -48,10 +48,10 @@ module _ (view : List ℕ) where
   no_faults : HasNoFaults empty_stores
   no_faults = record { facts = refl; backend = refl; tree = refl }
 
-  started : run_over (start_of view) empty_stores ≡ record { ending = Finished (first_state (opening_fact view) true) nothing; held = saved; notes = [] }
+  started : run_over (start_of view) empty_stores ≡ record { ending = Finished (first_state (opening_saved view) true) nothing; held = saved; notes = [] }
   started = ap (λ (r : Result (Unit {0}) PeerError). either {R = Ended State} r (λ u. run (saves_opening view) fresh []) (λ error. record { ending = Stopped error; held = fresh; notes = [] })) (makes first no_faults).0
 
-  node_is : opening_node view ≡ Up (first_state (opening_fact view) true) saved.stores
+  node_is : opening_node view ≡ Up (first_state (opening_saved view) true) saved.stores
   node_is = ap (λ (e : Ended State). (taken_of e).node) started
 
   strings_are : opening_strings view ≡ fresh.hashed

@@ -1,6 +1,7 @@
 -- A call comes to a leader whose calls were all answered: then it waits in a round, or is answered.
 use Rattle.std.proofs.Common.{◌≡◌, ◌≤◌, ◌<◌, ◌^◌, ◌+◌, ◌-◌, inl, inr, refl, ap, sym, ◌∙◌, subst, arith, ℕ, suc, true, List, [], ◌∷◌, ◌++◌, map, length, Option, None, Some}
 use Rattle.std.proofs.lemmas.List.{length-append}
+use Rattle.phase_rows.specs.declared.rules.KeyRule.TheVariants as key_rules
 use Rattle.call_table.specs.Rows.{Rows, row_at}
 use Rattle.call_table.specs.declared.row.Known.TheVariants as knowns
 use Rattle.call_table.specs.declared.table.CallTable.{CallTable}
@@ -171,7 +172,7 @@ module _ (me : ℕ) (view : List ℕ) (is_peer : IsPeer me) (peers : (q : ℕ) �
 
     -- what is left of the step once the call joined
     abbrev Started : Type 0
-    Started = RunsRule me (accepted me view) strings Comes free (ending me (accepted me view) strings Comes free) key call (runs_here call) (suc (suc (suc (suc (suc (suc (suc (suc (suc (2 ^ 64 - 10)))))))))) 28 (G served.led.l.seq served.led.l.round t) nothing (held_with served.led.leader.stores w.hashed) []
+    Started = RunsRule me (accepted me view) strings Comes free (ending me (accepted me view) strings Comes free) key call (runs_here call) (suc (suc (suc (suc (suc (suc (suc (suc (suc (2 ^ 64 - 10)))))))))) key_rules.StartCall (G served.led.l.seq served.led.l.round t) nothing (held_with served.led.leader.stores w.hashed) []
 
     own_whole : IsWhole (held_with served.led.leader.stores w.hashed) (served.led.map me)
     own_whole = served.led.leader.whole

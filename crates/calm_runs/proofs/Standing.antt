@@ -1,5 +1,5 @@
 -- Where the peers of a calm run stand, and to whom a message to all other members goes.
-use Rattle.std.proofs.Common.{◌≡◌, ◌≤◌, ◌==◌, ◌&&◌, refl, ap, sym, ◌∙◌, subst, arith, ℕ, zero, suc, Bool, true, false, not, List, [], ◌∷◌, map, Some}
+use Rattle.std.proofs.Common.{◌≡◌, ◌≤◌, ◌==◌, ◌&&◌, refl, ap, sym, ◌∙◌, subst, arith, ℕ, zero, suc, Bool, true, false, not, List, [], ◌∷◌, map, None, Some}
 use Rattle.std.specs.Prelude.{◌≢◌, slice_get}
 use Rattle.std.proofs.lemmas.Bool.{and_parts, eqb-true, eqb-false, false≢true}
 use Rattle.std.proofs.lemmas.List.FromFn.{get_or-map-range_with_len}
@@ -20,6 +20,7 @@ use Rattle.register_model.specs.declared.note.Note.{Note}
 use Rattle.step_plans.specs.Calls.{Save}
 use Rattle.step_plans.specs.Plans.{Out}
 use Rattle.step_plans.specs.Sends.{posted_to}
+use Rattle.step_plans.specs.Saved.{with_seal}
 use Rattle.tree_refinement.specs.Trees.{AreAmong}
 use Rattle.tree_refinement.specs.Whole.{IsWhole}
 use Rattle.wire_frames.specs.declared.frame.Frame.{Frame}
@@ -40,7 +41,7 @@ pub record Stands (w : Run) (q : ℕ) (x : State) (m : List Entry) : Type 0 wher
 
 -- a saved fact leaves the tree whole
 pub whole_saved : (fact : Fact) (h : Held) (m : List Entry) → IsWhole h m → IsWhole (held_saved (Some fact) h) m
-whole_saved fact h m whole = subst (λ g. IsWhole g m) (ap (λ a. a.held) (serves (Save fact) h whole.no_faults)) (keeps (Save fact) h m tt whole)
+whole_saved fact h m whole = subst (λ g. IsWhole g m) (ap (λ a. a.held) (serves (Save (with_seal None fact)) h whole.no_faults)) (keeps (Save (with_seal None fact)) h m tt whole)
 
 module _ (p : ℕ) (y : State) (g : Held) (out : Out) (ms : List Note) (w : Run) where
   -- the peer that took the step

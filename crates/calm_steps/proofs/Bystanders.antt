@@ -28,7 +28,7 @@ tells p m = record nothing { sends = posted_to (alone p) (Some m) }
 
 module _ (q p : ℕ) (strings : List (List ℕ)) (P : Aim) where
   abbrev pub rest : Fact → State
-  rest fact = record { fact = fact; trusted = true; phase = follower; sync = None }
+  rest fact = record { fact = fact; seal = None; trusted = true; phase = follower; sync = None }
 
   pub lands_done : (x : State) (h : Held) (out : Out) (plan : Plan State) → plan ≡ Done x out → P x h out [] → Lands strings P plan h []
   lands_done x h out plan is holds = subst (λ z. Lands strings P z h []) (sym is) (λ among. holds)

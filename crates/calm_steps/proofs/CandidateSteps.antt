@@ -20,6 +20,8 @@ use Rattle.phase_rows.specs.Orders.{is_same}
 use Rattle.phase_rows.specs.Peers.{alone, others_of, joined}
 use Rattle.phase_rows.specs.Rows.{at_ballot, silent}
 use Rattle.phase_rows.specs.declared.phase.Then.TheVariants as thens
+use Rattle.phase_rows.specs.declared.rules.PhaseRule.{PhaseRule}
+use Rattle.phase_rows.specs.declared.rules.PhaseRule.TheVariants as phase_rules
 use Rattle.probe.specs.declared.probing.Probing.{Probing}
 use Rattle.step_plans.specs.Plans.{Done, Out, Rest, nothing}
 use Rattle.step_plans.specs.Sends.{posted_to}
@@ -62,16 +64,16 @@ module _ (me : ℕ) (view : List ℕ) where
 
   -- the states of the candidate
   abbrev pub quiet : ℕ → State
-  quiet ticks = record { fact = opened; trusted = true; phase = phases.Following (record { quiet = ticks }); sync = None }
+  quiet ticks = record { fact = opened; seal = None; trusted = true; phase = phases.Following (record { quiet = ticks }); sync = None }
 
   abbrev pub probing : List Bool → State
-  probing heard = record { fact = opened; trusted = true; phase = phases.Probing (record { best = opened; count = 0; heard = heard; asked = members (view ∷ []); age = 0 }); sync = None }
+  probing heard = record { fact = opened; seal = None; trusted = true; phase = phases.Probing (record { best = opened; count = 0; heard = heard; asked = members (view ∷ []); age = 0 }); sync = None }
 
   abbrev pub preparing : List Bool → State
-  preparing promises = record { fact = promised; trusted = true; phase = phases.Electing (Preparing opened promises (members (view ∷ [])) 0); sync = None }
+  preparing promises = record { fact = promised; seal = None; trusted = true; phase = phases.Electing (Preparing opened promises (members (view ∷ [])) 0); sync = None }
 
   abbrev pub starting : List Bool → State
-  starting accepts = record { fact = accepted; trusted = true; phase = phases.Electing (Starting accepted accepts 0); sync = None }
+  starting accepts = record { fact = accepted; seal = None; trusted = true; phase = phases.Electing (Starting accepted accepts 0); sync = None }
 
   abbrev pub led : List Bool → State
   led accepts = leads accepted (new_leader accepted me accepts)
@@ -110,30 +112,30 @@ module _ (me : ℕ) (view : List ℕ) where
     done : (x : State) (out : Out) (h : Held) → concluded me x out (λ u v e. Done v e) ≡ Done x out → P x h out [] → Lands strings P (ending [] x out) h []
     done x out h is holds = subst (λ z. Lands strings P z h []) (sym is) (λ among. holds)
 
-    from_14 : (n : ℕ) (accepts : List Bool) (out : Out) (h : Held) → HasNoFaults h.stores → StartsEnd accepts out h → Lands strings P (driven me (suc n) (tasks.Phase 14 ∷ []) (starting accepts) out ending) h []
+    from_14 : (n : ℕ) (accepts : List Bool) (out : Out) (h : Held) → HasNoFaults h.stores → StartsEnd accepts out h → Lands strings P (driven me (suc n) (tasks.Phase phase_rules.EnoughAccepted ∷ []) (starting accepts) out ending) h []
     from_14 n accepts out h none ends = by (may_lead accepts) refl ends where
-      by : (b : Bool) → may_lead accepts ≡ b → by_test b (P (led accepts) h out []) (P (starting accepts) h out []) → Lands strings P (driven me (suc n) (tasks.Phase 14 ∷ []) (starting accepts) out ending) h []
+      by : (b : Bool) → may_lead accepts ≡ b → by_test b (P (led accepts) h out []) (P (starting accepts) h out []) → Lands strings P (driven me (suc n) (tasks.Phase phase_rules.EnoughAccepted ∷ []) (starting accepts) out ending) h []
       by true is holds = leads_14 me strings P ending n accepted accepted accepts 0 out h [] none is (done (led accepts) out h (concludes me (led accepts) out (λ u v e. Done v e) refl) holds)
       by false is holds = waits_14 me strings P ending n accepted accepted accepts 0 out h [] none is (done (starting accepts) out h (concludes me (starting accepts) out (λ u v e. Done v e) tt) holds)
 
-    from_13 : (n : ℕ) (promises : List Bool) (out : Out) (h : Held) → HasNoFaults h.stores → PreparesEnd promises out h → Lands strings P (driven me (suc (suc n)) (tasks.Phase 13 ∷ []) (preparing promises) out ending) h []
+    from_13 : (n : ℕ) (promises : List Bool) (out : Out) (h : Held) → HasNoFaults h.stores → PreparesEnd promises out h → Lands strings P (driven me (suc (suc n)) (tasks.Phase phase_rules.EnoughPromised ∷ []) (preparing promises) out ending) h []
     from_13 n promises out h none ends = by (has_quorum promises) refl ends where
-      by : (b : Bool) → has_quorum promises ≡ b → by_test b (StartsEnd (alone me) (and_announces out) (held_saved (Some accepted) h)) (P (preparing promises) h out []) → Lands strings P (driven me (suc (suc n)) (tasks.Phase 13 ∷ []) (preparing promises) out ending) h []
+      by : (b : Bool) → has_quorum promises ≡ b → by_test b (StartsEnd (alone me) (and_announces out) (held_saved (Some accepted) h)) (P (preparing promises) h out []) → Lands strings P (driven me (suc (suc n)) (tasks.Phase phase_rules.EnoughPromised ∷ []) (preparing promises) out ending) h []
       by true is holds = elects_13 me strings P ending (suc n) promised opened promises (members (view ∷ [])) 0 out h [] none is member (refl, from_14 n (alone me) (and_announces out) (held_saved (Some accepted) h) (faults_saved accepted h none) holds)
       by false is holds = waits_13 me strings P ending (suc n) promised opened promises (members (view ∷ [])) 0 out h [] none is (done (preparing promises) out h (concludes me (preparing promises) out (λ u v e. Done v e) tt) holds)
 
-    from_9 : (n : ℕ) (heard : List Bool) (out : Out) (h : Held) → HasNoFaults h.stores → ProbesEnd heard out h → Lands strings P (driven me (suc (suc (suc (suc n)))) (tasks.Phase 9 ∷ []) (probing heard) out ending) h []
+    from_9 : (n : ℕ) (heard : List Bool) (out : Out) (h : Held) → HasNoFaults h.stores → ProbesEnd heard out h → Lands strings P (driven me (suc (suc (suc (suc n)))) (tasks.Phase phase_rules.EnoughHeard ∷ []) (probing heard) out ending) h []
     from_9 n heard out h none ends = by (has_quorum heard) refl ends where
       b : Probing
       b = record { best = opened; count = 0; heard = heard; asked = members (view ∷ []); age = 0 }
 
-      by : (t : Bool) → has_quorum heard ≡ t → by_test t (PreparesEnd (alone me) (and_prepares out) (held_saved (Some promised) h)) (P (probing heard) h out []) → Lands strings P (driven me (suc (suc (suc (suc n)))) (tasks.Phase 9 ∷ []) (probing heard) out ending) h []
+      by : (t : Bool) → has_quorum heard ≡ t → by_test t (PreparesEnd (alone me) (and_prepares out) (held_saved (Some promised) h)) (P (probing heard) h out []) → Lands strings P (driven me (suc (suc (suc (suc n)))) (tasks.Phase phase_rules.EnoughHeard ∷ []) (probing heard) out ending) h []
       by true is holds = goes_9 me strings P ending (suc (suc (suc n))) opened b out h [] none is
           (prepares_10 me strings P ending (suc (suc n)) opened b out h [] none member refl (from_13 n (alone me) (and_prepares out) (held_saved (Some promised) h) (faults_saved promised h none) holds))
       by false is holds = waits_9 me strings P ending (suc (suc (suc n))) opened b out h [] none is (done (probing heard) out h (concludes me (probing heard) out (λ u v e. Done v e) tt) holds)
 
     -- the rules that a row names are run in the loop of the step
-    loops : (k : ℕ) (x : State) (out : Out) (h : Held) → Lands strings P (driven me (suc (suc (suc (suc (suc (2 ^ 64 - 6)))))) (tasks.Phase k ∷ []) x out ending) h [] → Lands strings P (driven me most_turns (tasks.Phase k ∷ []) x out ending) h []
+    loops : (k : PhaseRule) (x : State) (out : Out) (h : Held) → Lands strings P (driven me (suc (suc (suc (suc (suc (2 ^ 64 - 6)))))) (tasks.Phase k ∷ []) x out ending) h [] → Lands strings P (driven me most_turns (tasks.Phase k ∷ []) x out ending) h []
     loops k x out h lands = subst (λ n. Lands strings P (driven me n (tasks.Phase k ∷ []) x out ending) h []) (sym many_turns) lands
 
     -- ## Replies
@@ -144,20 +146,20 @@ module _ (me : ℕ) (view : List ℕ) where
     -- rule 8: a reply to a probe is counted
     pub heard_probe : (q : ℕ) (heard : List Bool) (h : Held) → HasNoFaults h.stores → ProbesEnd (joined q heard) nothing h → Lands strings P (step_of me (events.Deliver q (messages.ProbeReply opened)) (probing heard)) h []
     heard_probe q heard h none ends =
-        lands_row me strings P (silent (thens.Rule 9)) (probing (joined q heard)) nothing (λ ts y o. driven me most_turns ts y o ending) h [] none tt
-        (loops 9 (probing (joined q heard)) nothing h (from_9 (suc (2 ^ 64 - 6)) (joined q heard) nothing h none ends))
+        lands_row me strings P (silent (thens.Rule phase_rules.EnoughHeard)) (probing (joined q heard)) nothing (λ ts y o. driven me most_turns ts y o ending) h [] none tt
+        (loops phase_rules.EnoughHeard (probing (joined q heard)) nothing h (from_9 (suc (2 ^ 64 - 6)) (joined q heard) nothing h none ends))
 
     -- rule 12: a promise is counted
     pub heard_promise : (q : ℕ) (promises : List Bool) (h : Held) → HasNoFaults h.stores → PreparesEnd (joined q promises) nothing h → Lands strings P (step_of me (events.Deliver q (messages.Promise ballot promised)) (preparing promises)) h []
     heard_promise q promises h none ends =
-        rw same_ballot (lands_row me strings P (silent (thens.Rule 13)) (preparing (joined q promises)) nothing (λ ts y o. driven me most_turns ts y o ending) h [] none tt
-        (loops 13 (preparing (joined q promises)) nothing h (from_13 (suc (suc (suc (2 ^ 64 - 6)))) (joined q promises) nothing h none ends)))
+        rw same_ballot (lands_row me strings P (silent (thens.Rule phase_rules.EnoughPromised)) (preparing (joined q promises)) nothing (λ ts y o. driven me most_turns ts y o ending) h [] none tt
+        (loops phase_rules.EnoughPromised (preparing (joined q promises)) nothing h (from_13 (suc (suc (suc (2 ^ 64 - 6)))) (joined q promises) nothing h none ends)))
 
     -- rule 17: an acceptance is counted
     pub heard_acceptance : (q : ℕ) (accepts : List Bool) (h : Held) → HasNoFaults h.stores → StartsEnd (joined q accepts) nothing h → Lands strings P (step_of me (events.Deliver q (messages.Accepted ballot 1)) (starting accepts)) h []
     heard_acceptance q accepts h none ends =
-        rw same_ballot (lands_row me strings P (silent (thens.Rule 14)) (starting (joined q accepts)) nothing (λ ts y o. driven me most_turns ts y o ending) h [] none tt
-        (loops 14 (starting (joined q accepts)) nothing h (from_14 (suc (suc (suc (suc (2 ^ 64 - 6))))) (joined q accepts) nothing h none ends)))
+        rw same_ballot (lands_row me strings P (silent (thens.Rule phase_rules.EnoughAccepted)) (starting (joined q accepts)) nothing (λ ts y o. driven me most_turns ts y o ending) h [] none tt
+        (loops phase_rules.EnoughAccepted (starting (joined q accepts)) nothing h (from_14 (suc (suc (suc (suc (2 ^ 64 - 6))))) (joined q accepts) nothing h none ends)))
 
     -- and by a leader
     pub led_hears : (q : ℕ) (accepts : List Bool) (h : Held) → P (led (joined q accepts)) h nothing [] → Lands strings P (step_of me (events.Deliver q (messages.Accepted ballot 1)) (led accepts)) h []
@@ -173,5 +175,5 @@ module _ (me : ℕ) (view : List ℕ) where
     -- rules 2 and 7: at the sixth the peer begins to probe
     pub ticks_at_last : (h : Held) → HasNoFaults h.stores → ProbesEnd (alone me) (and_probes nothing) h → Lands strings P (step_of me events.Tick (quiet 5)) h []
     ticks_at_last h none ends =
-        rw member (lands_row me strings P (silent (thens.Rule 7)) (quiet 6) nothing (λ ts y o. driven me most_turns ts y o ending) h [] none tt
-        (loops 7 (quiet 6) nothing h (begins_7 me strings P ending (suc (suc (suc (suc (2 ^ 64 - 6))))) (quiet 6) nothing h [] none (from_9 (2 ^ 64 - 6) (alone me) (and_probes nothing) h none ends))))
+        rw member (lands_row me strings P (silent (thens.Rule phase_rules.BeginProbing)) (quiet 6) nothing (λ ts y o. driven me most_turns ts y o ending) h [] none tt
+        (loops phase_rules.BeginProbing (quiet 6) nothing h (begins_7 me strings P ending (suc (suc (suc (suc (2 ^ 64 - 6))))) (quiet 6) nothing h [] none (from_9 (2 ^ 64 - 6) (alone me) (and_probes nothing) h none ends))))

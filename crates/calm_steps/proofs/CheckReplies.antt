@@ -30,6 +30,7 @@ use Rattle.step_plans.specs.declared.tasks.Task.{Task}
 use Rattle.step_plans.specs.declared.tasks.Task.TheVariants as tasks
 use Rattle.wire_frames.specs.declared.message.Message.TheVariants as messages
 use Rattle.phase_rows.specs.declared.phase.Then.TheVariants as thens
+use Rattle.phase_rows.specs.declared.rules.KeyRule.TheVariants as key_rules
 use Rattle.calm_steps.proofs.Ends.{concludes, over}
 use Rattle.calm_steps.proofs.KeyRows.{row_36_ends}
 use Rattle.calm_steps.proofs.Lands.{Aim, Lands}
@@ -70,7 +71,7 @@ module _ (me q : ℕ) (fact : Fact) (d : Epoch) (r : ℕ) (key : List ℕ) (w : 
 
   pub heard_open : (h : Held) → state_of (heard_from q votes) ≡ Open → P (leads fact waiting) h nothing [] → Lands strings P (step_of me (events.Deliver q (messages.CheckReply d r)) (leads fact l)) h []
   heard_open h still holds =
-      row_goes me fact strings P (row_33_reply q d r) 33 l waiting nothing [] [] [] thens.Stay [] following h [] (rw (at, calls, runs, stage, epoch, still) refl) tt
+      row_goes me fact strings P (row_33_reply q d r) l waiting nothing [] [] [] thens.Stay [] following h [] (rw (at, calls, runs, stage, epoch, still) refl) tt
       (subst (λ z. Lands strings P z h []) (sym (over me (leads fact waiting) nothing refl)) (λ among. holds))
 
   abbrev pub answered : Leader
@@ -80,11 +81,11 @@ module _ (me q : ℕ) (fact : Fact) (d : Epoch) (r : ℕ) (key : List ℕ) (w : 
   answer = record { from = w.from; id = w.id; reply = reply }
 
   -- the call is answered, and none is left
-  answers_call : (h : Held) → row_33_reply q d r l ≡ (answered, plain [] (answer ∷ []) (Read w.id key (base key l) ∷ []) (thens.Rule 36) (key ∷ [])) → P (leads fact answered) h (told nothing [] (answer ∷ [])) (Read w.id key (base key l) ∷ []) → Lands strings P (step_of me (events.Deliver q (messages.CheckReply d r)) (leads fact l)) h []
+  answers_call : (h : Held) → row_33_reply q d r l ≡ (answered, plain [] (answer ∷ []) (Read w.id key (base key l) ∷ []) (thens.OnKeys key_rules.StartNextCall) (key ∷ [])) → P (leads fact answered) h (told nothing [] (answer ∷ [])) (Read w.id key (base key l) ∷ []) → Lands strings P (step_of me (events.Deliver q (messages.CheckReply d r)) (leads fact l)) h []
   answers_call h is holds =
-      row_goes me fact strings P (row_33_reply q d r) 33 l answered nothing [] (answer ∷ []) (Read w.id key (base key l) ∷ []) (thens.Rule 36) (key ∷ []) following h [] is tt
-      (subst (λ n. Lands strings P (driven me n (tasks.Key 36 key ∷ []) (leads fact answered) (told nothing [] (answer ∷ [])) (λ left z k. concluded me z k (λ u v e. Done v e))) h (Read w.id key (base key l) ∷ [])) (sym most_is_some)
-      (key_goes me fact strings P (λ left z k. concluded me z k (λ u v e. Done v e)) (2 ^ 64 - 2) 36 key answered answered (told nothing [] (answer ∷ [])) [] [] [] thens.Stay [] h (Read w.id key (base key l) ∷ [])
+      row_goes me fact strings P (row_33_reply q d r) l answered nothing [] (answer ∷ []) (Read w.id key (base key l) ∷ []) (thens.OnKeys key_rules.StartNextCall) (key ∷ []) following h [] is tt
+      (subst (λ n. Lands strings P (driven me n (tasks.Key key_rules.StartNextCall key ∷ []) (leads fact answered) (told nothing [] (answer ∷ [])) (λ left z k. concluded me z k (λ u v e. Done v e))) h (Read w.id key (base key l) ∷ [])) (sym most_is_some)
+      (key_goes me fact strings P (λ left z k. concluded me z k (λ u v e. Done v e)) (2 ^ 64 - 2) key_rules.StartNextCall key answered answered (told nothing [] (answer ∷ [])) [] [] [] thens.Stay [] h (Read w.id key (base key l) ∷ [])
       (row_36_ends key answered (ap (λ cs. running key cs) (ended_calls key l.table ∙ ap (λ cs. without_running key cs) calls) ∙ none_left key w runs)) tt
       (rests_there me fact strings P (λ left z k. concluded me z k (λ u v e. Done v e)) (2 ^ 64 - 2) (leads fact answered) (told nothing [] (answer ∷ [])) h (Read w.id key (base key l) ∷ [])
       (subst (λ z. Lands strings P z h (Read w.id key (base key l) ∷ [])) (sym (concludes me (leads fact answered) (told nothing [] (answer ∷ [])) (λ u v e. Done v e) refl)) (λ among. holds)))))

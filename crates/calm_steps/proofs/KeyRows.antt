@@ -26,13 +26,14 @@ use Rattle.register_model.specs.Registers.{outcome}
 use Rattle.register_model.specs.declared.note.Note.TheVariants.{Proposed}
 use Rattle.register_model.specs.declared.register.Register.TheVariants.{Absent}
 use Rattle.phase_rows.specs.declared.phase.Seen.TheVariants as seens
+use Rattle.phase_rows.specs.declared.rules.KeyRule.TheVariants as key_rules
 
 -- rule 27, in a leader without a call
-pub row_27_first : (from id : ℕ) (key : List ℕ) (command : Command) (l : Leader) → l.table.calls ≡ [] → row_27 from id key command false l ≡ (joined (record { from = from; id = id; key = key; command = command; age = 0 }) l, leads_on 28 key)
+pub row_27_first : (from id : ℕ) (key : List ℕ) (command : Command) (l : Leader) → l.table.calls ≡ [] → row_27 from id key command false l ≡ (joined (record { from = from; id = id; key = key; command = command; age = 0 }) l, leads_on key_rules.StartCall key)
 row_27_first from id key command l none = rw none refl
 
 module _ (key : List ℕ) (w : Waiting) (l : Leader) (runs : running key l.table.calls ≡ Some w) where
-  pub row_28_unknown : (row_at key l.table.rows).known ≡ knowns.Unknown → row_28 key seens.Nothing l ≡ (l, leads_on 29 key)
+  pub row_28_unknown : (row_at key l.table.rows).known ≡ knowns.Unknown → row_28 key seens.Nothing l ≡ (l, leads_on key_rules.Read key)
   row_28_unknown unknown = rw (runs, unknown) refl
 
   pub row_29_begins : is_spent l.round ≡ false → row_29 key seens.Nothing l ≡ (record l { round = l.round + 1 }, and_own (owns.Look key) rests)
@@ -42,13 +43,13 @@ module _ (key : List ℕ) (w : Waiting) (l : Leader) (runs : running key l.table
   pub row_30_waits : (round : ℕ) (votes : Round) → (row_at key l.table.rows).stage ≡ stages.Reading round votes None → state_of votes ≡ Open → row_30 key l ≡ (l, rests)
   row_30_waits round votes stage open_yet = rw (runs, stage, open_yet) refl
 
-  pub row_30_absent : (round : ℕ) (votes : Round) → (row_at key l.table.rows).stage ≡ stages.Reading round votes None → state_of votes ≡ Met → row_30 key l ≡ (with_task (tasks.Apply None) (knows key knowns.Absent l), leads_on 34 key)
+  pub row_30_absent : (round : ℕ) (votes : Round) → (row_at key l.table.rows).stage ≡ stages.Reading round votes None → state_of votes ≡ Met → row_30 key l ≡ (with_task (tasks.Apply None) (knows key knowns.Absent l), leads_on key_rules.Apply key)
   row_30_absent round votes stage met = rw (runs, stage, met) refl
 
-  pub row_30_all : (round : ℕ) (votes : Round) → (row_at key l.table.rows).stage ≡ stages.Reading round votes None → state_of votes ≡ AllAnswered → row_30 key l ≡ (with_task (tasks.Apply None) (knows key knowns.Absent l), leads_on 34 key)
+  pub row_30_all : (round : ℕ) (votes : Round) → (row_at key l.table.rows).stage ≡ stages.Reading round votes None → state_of votes ≡ AllAnswered → row_30 key l ≡ (with_task (tasks.Apply None) (knows key knowns.Absent l), leads_on key_rules.Apply key)
   row_30_all round votes stage met = rw (runs, stage, met) refl
 
-  pub row_34_writes : (content : Option (List ℕ)) → l.task ≡ tasks.Apply None → verdict_of (outcome w.command Absent) ≡ Write content → row_34 key l ≡ (with_task (tasks.Write content (base key l)) l, leads_on 31 key)
+  pub row_34_writes : (content : Option (List ℕ)) → l.task ≡ tasks.Apply None → verdict_of (outcome w.command Absent) ≡ Write content → row_34 key l ≡ (with_task (tasks.Write content (base key l)) l, leads_on key_rules.Write key)
   row_34_writes content task writes = rw (runs, task, writes) refl
 
   pub row_34_reads : (reply : Reply) → l.task ≡ tasks.Apply None → verdict_of (outcome w.command Absent) ≡ Answer reply → row_34 key l ≡ read_answered w reply key rests (with_task tasks.Nothing l)
@@ -57,7 +58,7 @@ module _ (key : List ℕ) (w : Waiting) (l : Leader) (runs : running key l.table
   abbrev pub object_of : Option (List ℕ) → Object
   object_of content = record { version = next_version l; stamp = next_version l; key = key; value = content }
 
-  pub row_31_proposes : (content : Option (List ℕ)) (parent : Option Version) → l.task ≡ tasks.Write content parent → is_spent l.seq ≡ false → row_31 key l ≡ (record l { seq = l.seq + 1; task = tasks.Propose (object_of content) parent (Some w.id) }, leads_on 35 key)
+  pub row_31_proposes : (content : Option (List ℕ)) (parent : Option Version) → l.task ≡ tasks.Write content parent → is_spent l.seq ≡ false → row_31 key l ≡ (record l { seq = l.seq + 1; task = tasks.Propose (object_of content) parent (Some w.id) }, leads_on key_rules.Put key)
   row_31_proposes content parent task fresh = rw (runs, task, fresh) refl
 
   pub row_33_checks : (reply : Reply) → l.task ≡ tasks.Check reply → is_spent l.round ≡ false → row_33 key l ≡ check_now reply w key (record l { round = l.round + 1; task = tasks.Nothing })

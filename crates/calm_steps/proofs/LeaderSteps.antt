@@ -31,6 +31,8 @@ use Rattle.peer_state.specs.declared.state.State.{State}
 use Rattle.peer_fact.specs.declared.fact.Fact.{Fact}
 use Rattle.phase_rows.specs.Orders.{is_same}
 use Rattle.phase_rows.specs.declared.phase.Then.TheVariants as thens
+use Rattle.phase_rows.specs.declared.rules.KeyRule.{KeyRule}
+use Rattle.phase_rows.specs.declared.rules.KeyRule.TheVariants as key_rules
 use Rattle.quorum_round.specs.Rounds.{state_of, begun, answered as heard_from}
 use Rattle.quorum_round.specs.declared.round.Round.{Round}
 use Rattle.quorum_round.specs.declared.round.RoundState.{RoundState}
@@ -71,23 +73,23 @@ module _ (me : ℕ) (fact : Fact) (strings : List (List ℕ)) (P : Aim) (free : 
   ends_here l out h holds ns = subst (λ z. Lands strings P z h ns) (sym (concludes me (leads fact l) out (λ u v e. Done v e) refl)) (λ among. holds ns)
 
   -- a row of a leader by which nothing happens
-  idles : (row : Leader → Leader × LeadOut) (k : ℕ) (l : Leader) (h : Held) (ns : List Note) → row l ≡ (l, rests) → P (leads fact l) h nothing ns → Lands strings P (lead row me k (leads fact l).phase (leads fact l) nothing following) h ns
-  idles row k l h ns is holds =
-      row_goes me fact strings P row k l l nothing [] [] [] thens.Stay [] following h ns is tt (subst (λ z. Lands strings P z h ns) (sym (over me (leads fact l) nothing refl)) (λ among. holds))
+  idles : (row : Leader → Leader × LeadOut) (l : Leader) (h : Held) (ns : List Note) → row l ≡ (l, rests) → P (leads fact l) h nothing ns → Lands strings P (lead row me (leads fact l).phase (leads fact l) nothing following) h ns
+  idles row l h ns is holds =
+      row_goes me fact strings P row l l nothing [] [] [] thens.Stay [] following h ns is tt (subst (λ z. Lands strings P z h ns) (sym (over me (leads fact l) nothing refl)) (λ among. holds))
 
   module _ (key : List ℕ) (w : Waiting) (mine : running key (w ∷ []) ≡ Some w) where
     -- a rule on the key, as the first of the loop
-    first_of_many : (k : ℕ) (l : Leader) (out : Out) (h : Held) (ns : List Note) → Runs me fact strings P free ending key w mine (suc (suc (suc (suc (suc (suc (suc (suc (suc (2 ^ 64 - 10)))))))))) k l out h ns → Lands strings P (following (tasks.Key k key ∷ []) (leads fact l) out) h ns
+    first_of_many : (k : KeyRule) (l : Leader) (out : Out) (h : Held) (ns : List Note) → Runs me fact strings P free ending key w mine (suc (suc (suc (suc (suc (suc (suc (suc (suc (2 ^ 64 - 10)))))))))) k l out h ns → Lands strings P (following (tasks.Key k key ∷ []) (leads fact l) out) h ns
     first_of_many k l out h ns lands = subst (λ n. Lands strings P (driven me n (tasks.Key k key ∷ []) (leads fact l) out ending) h ns) (sym most_is_many) lands
 
     -- rule 27: the call joins, and starts
     pub on_call : (l : Leader) (h : Held) → l.table.calls ≡ [] → w ≡ record { from = w.from; id = w.id; key = key; command = w.command; age = 0 }
-        → Runs me fact strings P free ending key w mine (suc (suc (suc (suc (suc (suc (suc (suc (suc (2 ^ 64 - 10)))))))))) 28 (joined w l) nothing h []
+        → Runs me fact strings P free ending key w mine (suc (suc (suc (suc (suc (suc (suc (suc (suc (2 ^ 64 - 10)))))))))) key_rules.StartCall (joined w l) nothing h []
         → Lands strings P (step_of me (events.Call (record { from = w.from; id = w.id; key = key; command = w.command })) (leads fact l)) h []
     on_call l h none is lands =
-        row_goes me fact strings P (row_27 w.from w.id key w.command false) 27 l (joined w l) nothing [] [] [] (thens.Rule 28) (key ∷ []) following h []
-        (row_27_first w.from w.id key w.command l none ∙ ap (λ (v : Waiting). (joined v l, leads_on 28 key)) (sym is)) tt
-        (first_of_many 28 (joined w l) nothing h [] lands)
+        row_goes me fact strings P (row_27 w.from w.id key w.command false) l (joined w l) nothing [] [] [] (thens.OnKeys key_rules.StartCall) (key ∷ []) following h []
+        (row_27_first w.from w.id key w.command l none ∙ ap (λ (v : Waiting). (joined v l, leads_on key_rules.StartCall key)) (sym is)) tt
+        (first_of_many key_rules.StartCall (joined w l) nothing h [] lands)
 
     -- ## Replies to a read
 
@@ -101,8 +103,8 @@ module _ (me : ℕ) (fact : Fact) (strings : List (List ℕ)) (P : Aim) (free : 
         → ReadsEnd me fact strings P free ending key w mine heard state verdict (reads_on q r votes l) nothing h m
         → Lands strings P (step_of me (events.Deliver q (messages.GetReply d r key None None)) (leads fact l)) h []
     heard_read q d r votes l heard state verdict h m calls stage epoch is decides begins whole ends =
-        row_goes me fact strings P (row_29_reply q d r key None None) 29 l (reads_on q r votes l) nothing [] [] [] (thens.Rule 30) (key ∷ []) following h [] (rw (stage, epoch) refl) tt
-        (first_of_many 30 (reads_on q r votes l) nothing h []
+        row_goes me fact strings P (row_29_reply q d r key None None) l (reads_on q r votes l) nothing [] [] [] (thens.OnKeys key_rules.EnoughReplies) (key ∷ []) following h [] (rw (stage, epoch) refl) tt
+        (first_of_many key_rules.EnoughReplies (reads_on q r votes l) nothing h []
         (reads_30 me fact strings P free ending key w mine (suc (suc (suc (2 ^ 64 - 10)))) (reads_on q r votes l) r (heard_from q votes) heard verdict nothing h m [] state calls
         (stage_here key (stages.Reading r (heard_from q votes) None) l.table.rows) is decides begins whole ends))
 
@@ -118,15 +120,15 @@ module _ (me : ℕ) (fact : Fact) (strings : List (List ℕ)) (P : Aim) (free : 
     -- the put is settled, and its call answered
     settles : (q : ℕ) (d : Epoch) (v : Version) (o : Object) (l : Leader) (h : Held) → HasCall me fact strings P free ending key w mine l
         → (let m : Leader = knows key (settled_as o.version o (digest_of me fact strings P free ending key w mine o)) l in
-        (row_35_reply q d key v l ≡ (replied me fact strings P free ending key w mine m, record { leave = false; sends = []; answers = answer me fact strings P free ending key w mine (replies.Ok o.stamp); notes = Settled key o.version ∷ []; own = None; then = thens.Rule 36; keys = key ∷ [] }))
+        (row_35_reply q d key v l ≡ (replied me fact strings P free ending key w mine m, record { leave = false; sends = []; answers = answer me fact strings P free ending key w mine (replies.Ok o.stamp); notes = Settled key o.version ∷ []; own = None; then = thens.OnKeys key_rules.StartNextCall; keys = key ∷ [] }))
         × ((ns : List Note) → P (leads fact (replied me fact strings P free ending key w mine m)) h (told nothing [] (answer me fact strings P free ending key w mine (replies.Ok o.stamp))) ns))
         → Lands strings P (step_of me (events.Deliver q (messages.PutReply d key v)) (leads fact l)) h []
     settles q d v o l h calls goes =
         let m : Leader = knows key (settled_as o.version o (digest_of me fact strings P free ending key w mine o)) l in
         let k : Leader = replied me fact strings P free ending key w mine m in
         let given = answer me fact strings P free ending key w mine (replies.Ok o.stamp) in
-        row_goes me fact strings P (row_35_reply q d key v) 35 l k nothing [] given (Settled key o.version ∷ []) (thens.Rule 36) (key ∷ []) following h [] goes.0 tt
-        (first_of_many 36 k (told nothing [] given) h (Settled key o.version ∷ [])
+        row_goes me fact strings P (row_35_reply q d key v) l k nothing [] given (Settled key o.version ∷ []) (thens.OnKeys key_rules.StartNextCall) (key ∷ []) following h [] goes.0 tt
+        (first_of_many key_rules.StartNextCall k (told nothing [] given) h (Settled key o.version ∷ [])
         (rests_36 me fact strings P free ending key w mine (suc (suc (suc (suc (suc (suc (suc (suc (2 ^ 64 - 10))))))))) m (told nothing [] given) h (Settled key o.version ∷ []) calls (ends_here k (told nothing [] given) h goes.1)))
 
     -- rule 35: an acknowledgement counts
@@ -134,7 +136,7 @@ module _ (me : ℕ) (fact : Fact) (strings : List (List ℕ)) (P : Aim) (free : 
         → (row_at key l.table.rows).stage ≡ stages.Putting o (digest_of me fact strings P free ending key w mine o) acks false → (is_same d l.fact.epoch && same_version v o.version) ≡ true → state_of (heard_from q acks) ≡ heard
         → PutHeard heard q o acks l h → Lands strings P (step_of me (events.Deliver q (messages.PutReply d key v)) (leads fact l)) h []
     heard_put q d v o acks l Open h calls stage named is ends =
-        row_goes me fact strings P (row_35_reply q d key v) 35 l (puts_on q o acks l) nothing [] [] [] thens.Stay [] following h [] (rw (stage, named, is) refl) tt
+        row_goes me fact strings P (row_35_reply q d key v) l (puts_on q o acks l) nothing [] [] [] thens.Stay [] following h [] (rw (stage, named, is) refl) tt
         (subst (λ z. Lands strings P z h []) (sym (over me (leads fact (puts_on q o acks l)) nothing refl)) (λ among. ends []))
     heard_put q d v o acks l Met h calls stage named is ends = settles q d v o l h calls (rw (stage, named, is, runs me fact strings P free ending key w mine l calls) refl, ends)
     heard_put q d v o acks l AllAnswered h calls stage named is ends = settles q d v o l h calls (rw (stage, named, is, runs me fact strings P free ending key w mine l calls) refl, ends)
@@ -149,20 +151,20 @@ module _ (me : ℕ) (fact : Fact) (strings : List (List ℕ)) (P : Aim) (free : 
     pub late_read : (entry : Option Entry) (object : Option Object) (h : Held) (m : List Entry) → IsIgnored entry → IsWhole h m → ((g : Held) → IsWhole g m → g.stores ≡ h.stores → P (leads fact l) g nothing [])
         → Lands strings P (step_of me (events.Deliver q (messages.GetReply d r key entry object)) (leads fact l)) h []
     unfolding asked
-    late_read None object h m ignored whole holds = idles (row_29_reply q d r key None None) 29 l h [] (ignored None) (holds h whole refl)
-    late_read (Some e) None h m ignored whole holds = idles (row_29_reply q d r key (Some e) None) 29 l h [] (ignored None) (holds h whole refl)
+    late_read None object h m ignored whole holds = idles (row_29_reply q d r key None None) l h [] (ignored None) (holds h whole refl)
+    late_read (Some e) None h m ignored whole holds = idles (row_29_reply q d r key (Some e) None) l h [] (ignored None) (holds h whole refl)
     late_read (Some e) (Some o) h m ignored whole holds =
         let g : Held = (answered (Hash (object_spelling o)) h).held in
-        lands_ask strings P (Hash (object_spelling o)) (λ digest. lead (row_29_reply q d r key (Some e) (matching e (Some (o, digest)))) me 29 (leads fact l).phase (leads fact l) nothing following) h [] (λ among. record {
+        lands_ask strings P (Hash (object_spelling o)) (λ digest. lead (row_29_reply q d r key (Some e) (matching e (Some (o, digest)))) me (leads fact l).phase (leads fact l) nothing following) h [] (λ among. record {
           answer = md5 (object_spelling o);
           is = refl;
-          goes = idles (row_29_reply q d r key (Some e) (matching e (Some (o, md5 (object_spelling o))))) 29 l g [] (ignored (matching e (Some (o, md5 (object_spelling o))))) (holds g (keeps (Hash (object_spelling o)) h m tt whole) refl);
+          goes = idles (row_29_reply q d r key (Some e) (matching e (Some (o, md5 (object_spelling o))))) l g [] (ignored (matching e (Some (o, md5 (object_spelling o))))) (holds g (keeps (Hash (object_spelling o)) h m tt whole) refl);
         })
 
   -- an acknowledgement of no open put
   pub late_put : (q : ℕ) (d : Epoch) (key : List ℕ) (v : Version) (l : Leader) (h : Held) → row_35_reply q d key v l ≡ (l, rests) → P (leads fact l) h nothing [] → Lands strings P (step_of me (events.Deliver q (messages.PutReply d key v)) (leads fact l)) h []
-  late_put q d key v l h ignored holds = idles (row_35_reply q d key v) 35 l h [] ignored holds
+  late_put q d key v l h ignored holds = idles (row_35_reply q d key v) l h [] ignored holds
 
   -- a reply to a check of no open round
   pub late_check : (q : ℕ) (d : Epoch) (r : ℕ) (l : Leader) (h : Held) → row_33_reply q d r l ≡ (l, rests) → P (leads fact l) h nothing [] → Lands strings P (step_of me (events.Deliver q (messages.CheckReply d r)) (leads fact l)) h []
-  late_check q d r l h ignored holds = idles (row_33_reply q d r) 33 l h [] ignored holds
+  late_check q d r l h ignored holds = idles (row_33_reply q d r) l h [] ignored holds

@@ -2,6 +2,7 @@
 use Rattle.std.proofs.Common.{◌≡◌, ap, sym, ◌∙◌, subst, ℕ, suc, true, false, List, [], ◌∷◌, ◌++◌, None, Some}
 use Rattle.std.proofs.lemmas.List.{append-nil}
 use Rattle.held_stores.specs.Held.{Held}
+use Rattle.leader_words.specs.Outs.{asked_by}
 use Rattle.leader_words.specs.declared.out.AnswerOut.{AnswerOut}
 use Rattle.leader_words.specs.declared.out.LeadOut.{LeadOut}
 use Rattle.leader_words.specs.declared.out.Outgoing.{Outgoing}
@@ -22,6 +23,7 @@ use Rattle.phase_rows.specs.declared.phase.Seen.{Seen}
 use Rattle.phase_rows.specs.declared.phase.Seen.TheVariants as seens
 use Rattle.phase_rows.specs.declared.phase.Then.{Then}
 use Rattle.phase_rows.specs.declared.phase.Then.TheVariants as thens
+use Rattle.phase_rows.specs.declared.rules.KeyRule.{KeyRule}
 use Rattle.calm_steps.proofs.Ends.{driven_none}
 use Rattle.calm_steps.proofs.Lands.{Aim, Lands}
 
@@ -35,7 +37,7 @@ asks notes own = record { leave = false; sends = []; answers = []; notes = notes
 
 abbrev pub IsSimple : Then → Type 0
 IsSimple thens.Stay = Unit {0}
-IsSimple (thens.Rule n) = Unit {0}
+IsSimple (thens.OnKeys n) = Unit {0}
 IsSimple other = ⊥
 
 -- the output with these messages and answers
@@ -48,7 +50,7 @@ all_noted ns (n ∷ more) = all_noted (ns ++ n ∷ []) more
 
 -- a leader of the epoch of this fact, with no change
 abbrev pub leads : Fact → Leader → State
-leads fact l = record { fact = fact; trusted = true; phase = phases.Leading (record { leader = l; change = Settled }); sync = None }
+leads fact l = record { fact = fact; seal = None; trusted = true; phase = phases.Leading (record { leader = l; change = Settled }); sync = None }
 
 pub told_nothing : (out : Out) → told out [] [] ≡ out
 told_nothing out = ap (λ s. record out { sends = s; answers = out.answers ++ [] }) (append-nil out.sends) ∙ ap (λ a. record out { answers = a }) (append-nil out.answers)
@@ -58,52 +60,53 @@ module _ (me : ℕ) (fact : Fact) (strings : List (List ℕ)) (P : Aim) where
   lands_noted [] plan h ns lands = lands
   lands_noted (n ∷ notes) plan h ns lands = lands_noted notes plan h (ns ++ n ∷ []) lands
 
-  followed : (then : Then) (k : ℕ) (keys : List (List ℕ)) (x : State) (out : Out) (next : Rest State (List Task)) (h : Held) (ns : List Note) → IsSimple then → Lands strings P (next (keyed then keys) x out) h ns → Lands strings P (followed_up me k None then keys x out next) h ns
-  followed thens.Stay k keys x out next h ns simple lands = lands
-  followed (thens.Rule n) k keys x out next h ns simple lands = lands
-  followed thens.Follow k keys x out next h ns simple lands = absurd simple
-  followed (thens.Lead f) k keys x out next h ns simple lands = absurd simple
-  followed thens.Untrust k keys x out next h ns simple lands = absurd simple
-  followed thens.Put k keys x out next h ns simple lands = absurd simple
-  followed thens.Resume k keys x out next h ns simple lands = absurd simple
-  followed (thens.SyncOn f) k keys x out next h ns simple lands = absurd simple
+  followed : (then : Then) (keys : List (List ℕ)) (x : State) (out : Out) (next : Rest State (List Task)) (h : Held) (ns : List Note) → IsSimple then → Lands strings P (next (keyed then keys) x out) h ns → Lands strings P (followed_up me None then keys x out next) h ns
+  followed thens.Stay keys x out next h ns simple lands = lands
+  followed (thens.OnKeys n) keys x out next h ns simple lands = lands
+  followed (thens.Rule n) keys x out next h ns simple lands = absurd simple
+  followed thens.Follow keys x out next h ns simple lands = absurd simple
+  followed (thens.Lead f) keys x out next h ns simple lands = absurd simple
+  followed thens.Untrust keys x out next h ns simple lands = absurd simple
+  followed thens.Put keys x out next h ns simple lands = absurd simple
+  followed thens.Resume keys x out next h ns simple lands = absurd simple
+  followed (thens.SyncOn f) keys x out next h ns simple lands = absurd simple
 
   -- a row of a leader that goes on with rules on a key, or ends
-  pub row_goes : (row : Leader → Leader × LeadOut) (k : ℕ) (l m : Leader) (out : Out) (sends : List Outgoing) (answers : List AnswerOut) (notes : List Note) (then : Then) (keys : List (List ℕ)) (next : Rest State (List Task)) (h : Held) (ns : List Note)
+  pub row_goes : (row : Leader → Leader × LeadOut) (l m : Leader) (out : Out) (sends : List Outgoing) (answers : List AnswerOut) (notes : List Note) (then : Then) (keys : List (List ℕ)) (next : Rest State (List Task)) (h : Held) (ns : List Note)
       → row l ≡ (m, plain sends answers notes then keys) → IsSimple then → Lands strings P (next (keyed then keys) (leads fact m) (told out sends answers)) h (all_noted ns notes)
-      → Lands strings P (lead row me k (leads fact l).phase (leads fact l) out next) h ns
-  row_goes row k l m out sends answers notes then keys next h ns is simple lands =
-      subst (λ (r : Leader × LeadOut). Lands strings P (lead_done me k r.1 (leads fact r.0) out next) h ns) (sym is)
-      (lands_noted notes (followed_up me k None then keys (leads fact m) (told out sends answers) next) h ns (followed then k keys (leads fact m) (told out sends answers) next h (all_noted ns notes) simple lands))
+      → Lands strings P (lead row me (leads fact l).phase (leads fact l) out next) h ns
+  row_goes row l m out sends answers notes then keys next h ns is simple lands =
+      subst (λ (r : Leader × LeadOut). Lands strings P (lead_done me r.1 (leads fact r.0) out next) h ns) (sym is)
+      (lands_noted notes (followed_up me None then keys (leads fact m) (told out sends answers) next) h ns (followed then keys (leads fact m) (told out sends answers) next h (all_noted ns notes) simple lands))
 
   -- a row of a leader that asks the own stores
-  pub row_asks : (row : Leader → Leader × LeadOut) (k : ℕ) (l m : Leader) (out : Out) (notes : List Note) (own : Own) (next : Rest State (List Task)) (h : Held) (ns : List Note)
-      → row l ≡ (m, asks notes own) → Lands strings P (owned k own (leads fact m) out (λ seen y o. next (tasks.Again k (own_key own) seen ∷ []) y o)) h (all_noted ns notes)
-      → Lands strings P (lead row me k (leads fact l).phase (leads fact l) out next) h ns
-  row_asks row k l m out notes own next h ns is lands =
-      subst (λ (r : Leader × LeadOut). Lands strings P (lead_done me k r.1 (leads fact r.0) out next) h ns) (sym is)
-      (lands_noted notes (followed_up me k (Some own) thens.Stay [] (leads fact m) (told out [] []) next) h ns
-      (subst (λ o. Lands strings P (owned k own (leads fact m) o (λ seen y p. next (tasks.Again k (own_key own) seen ∷ []) y p)) h (all_noted ns notes)) (sym (told_nothing out)) lands))
+  pub row_asks : (row : Leader → Leader × LeadOut) (l m : Leader) (out : Out) (notes : List Note) (own : Own) (next : Rest State (List Task)) (h : Held) (ns : List Note)
+      → row l ≡ (m, asks notes own) → Lands strings P (owned own (leads fact m) out (λ seen y o. next (tasks.Again (asked_by own) (own_key own) seen ∷ []) y o)) h (all_noted ns notes)
+      → Lands strings P (lead row me (leads fact l).phase (leads fact l) out next) h ns
+  row_asks row l m out notes own next h ns is lands =
+      subst (λ (r : Leader × LeadOut). Lands strings P (lead_done me r.1 (leads fact r.0) out next) h ns) (sym is)
+      (lands_noted notes (followed_up me (Some own) thens.Stay [] (leads fact m) (told out [] []) next) h ns
+      (subst (λ o. Lands strings P (owned own (leads fact m) o (λ seen y p. next (tasks.Again (asked_by own) (own_key own) seen ∷ []) y p)) h (all_noted ns notes)) (sym (told_nothing out)) lands))
 
   module _ (next : Rest State (List Task)) where
     -- rules on a key, in the loop of a step
-    pub key_goes : (n k : ℕ) (key : List ℕ) (l m : Leader) (out : Out) (sends : List Outgoing) (answers : List AnswerOut) (notes : List Note) (then : Then) (keys : List (List ℕ)) (h : Held) (ns : List Note)
+    pub key_goes : (n : ℕ) (k : KeyRule) (key : List ℕ) (l m : Leader) (out : Out) (sends : List Outgoing) (answers : List AnswerOut) (notes : List Note) (then : Then) (keys : List (List ℕ)) (h : Held) (ns : List Note)
         → lead_row k key seens.Nothing l ≡ (m, plain sends answers notes then keys) → IsSimple then → Lands strings P (driven me n (keyed then keys ++ []) (leads fact m) (told out sends answers) next) h (all_noted ns notes)
         → Lands strings P (driven me (suc n) (tasks.Key k key ∷ []) (leads fact l) out next) h ns
     unfolding driven
-    key_goes n k key l m out sends answers notes then keys h ns is simple lands = row_goes (lead_row k key seens.Nothing) k l m out sends answers notes then keys (λ more y o. driven me n (more ++ []) y o next) h ns is simple lands
+    key_goes n k key l m out sends answers notes then keys h ns is simple lands = row_goes (lead_row k key seens.Nothing) l m out sends answers notes then keys (λ more y o. driven me n (more ++ []) y o next) h ns is simple lands
 
-    pub key_asks : (n k : ℕ) (key : List ℕ) (l m : Leader) (out : Out) (notes : List Note) (own : Own) (h : Held) (ns : List Note)
-        → lead_row k key seens.Nothing l ≡ (m, asks notes own) → Lands strings P (owned k own (leads fact m) out (λ seen y o. driven me n (tasks.Again k (own_key own) seen ∷ []) y o next)) h (all_noted ns notes)
+    pub key_asks : (n : ℕ) (k : KeyRule) (key : List ℕ) (l m : Leader) (out : Out) (notes : List Note) (own : Own) (h : Held) (ns : List Note)
+        → lead_row k key seens.Nothing l ≡ (m, asks notes own) → Lands strings P (owned own (leads fact m) out (λ seen y o. driven me n (tasks.Again (asked_by own) (own_key own) seen ∷ []) y o next)) h (all_noted ns notes)
         → Lands strings P (driven me (suc n) (tasks.Key k key ∷ []) (leads fact l) out next) h ns
     unfolding driven
-    key_asks n k key l m out notes own h ns is lands = row_asks (lead_row k key seens.Nothing) k l m out notes own (λ more y o. driven me n (more ++ []) y o next) h ns is lands
+    key_asks n k key l m out notes own h ns is lands = row_asks (lead_row k key seens.Nothing) l m out notes own (λ more y o. driven me n (more ++ []) y o next) h ns is lands
 
-    pub again_goes : (n k : ℕ) (key : List ℕ) (seen : Seen) (l m : Leader) (out : Out) (sends : List Outgoing) (answers : List AnswerOut) (notes : List Note) (then : Then) (keys : List (List ℕ)) (h : Held) (ns : List Note)
+    pub again_goes : (n : ℕ) (k : KeyRule) (key : List ℕ) (seen : Seen) (l m : Leader) (out : Out) (sends : List Outgoing) (answers : List AnswerOut) (notes : List Note) (then : Then) (keys : List (List ℕ)) (h : Held) (ns : List Note)
         → lead_row k key seen l ≡ (m, plain sends answers notes then keys) → IsSimple then → Lands strings P (driven me n (keyed then keys ++ []) (leads fact m) (told out sends answers) next) h (all_noted ns notes)
         → Lands strings P (driven me (suc n) (tasks.Again k key seen ∷ []) (leads fact l) out next) h ns
     unfolding driven
-    again_goes n k key seen l m out sends answers notes then keys h ns is simple lands = row_goes (lead_row k key seen) k l m out sends answers notes then keys (λ more y o. driven me n (more ++ []) y o next) h ns is simple lands
+    again_goes n k key seen l m out sends answers notes then keys h ns is simple lands = row_goes (lead_row k key seen) l m out sends answers notes then keys (λ more y o. driven me n (more ++ []) y o next) h ns is simple lands
 
     pub rests_there : (n : ℕ) (x : State) (out : Out) (h : Held) (ns : List Note) → Lands strings P (next [] x out) h ns → Lands strings P (driven me n [] x out next) h ns
     rests_there n x out h ns lands = subst (λ plan. Lands strings P plan h ns) (sym (driven_none me n x out next)) lands

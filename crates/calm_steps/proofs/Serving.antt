@@ -47,6 +47,8 @@ use Rattle.tree_refinement.specs.Whole.{IsWhole}
 use Rattle.wire_frames.specs.declared.message.Message.TheVariants as messages
 use Rattle.phase_rows.specs.declared.phase.Seen.TheVariants as seens
 use Rattle.phase_rows.specs.declared.phase.Then.TheVariants as thens
+use Rattle.phase_rows.specs.declared.rules.KeyRule.{KeyRule}
+use Rattle.phase_rows.specs.declared.rules.KeyRule.TheVariants as key_rules
 use Rattle.calm_steps.proofs.CheckReplies.{ended_calls, none_left}
 use Rattle.calm_steps.proofs.KeyRows.{row_30_waits, row_30_absent, row_30_all, row_33_checks, row_34_writes, row_34_reads, row_31_proposes, row_35_asks, row_35_stored, row_36_ends}
 use Rattle.calm_steps.proofs.Lands.{Aim, Lands}
@@ -65,7 +67,7 @@ module _ (me : ℕ) (fact : Fact) (strings : List (List ℕ)) (P : Aim) (free : 
   Goes l out h = (ns : List Note) → Lands strings P (next [] (leads fact l) out) h ns
 
   -- this rule still runs on the key
-  abbrev pub Runs : ℕ → ℕ → Leader → Out → Held → List Note → Type 0
+  abbrev pub Runs : ℕ → KeyRule → Leader → Out → Held → List Note → Type 0
   Runs n k l out h ns = Lands strings P (driven me n (tasks.Key k key ∷ []) (leads fact l) out next) h ns
 
   -- the call is the only one
@@ -86,9 +88,9 @@ module _ (me : ℕ) (fact : Fact) (strings : List (List ℕ)) (P : Aim) (free : 
   none_runs l calls = ap (λ cs. running key cs) (ended_calls key l.table ∙ ap (λ cs. without_running key cs) calls) ∙ none_left key w mine
 
   -- rule 36: no call is left
-  pub rests_36 : (n : ℕ) (l : Leader) (out : Out) (h : Held) (ns : List Note) → HasCall l → Goes (replied l) out h → Runs (suc n) 36 (replied l) out h ns
+  pub rests_36 : (n : ℕ) (l : Leader) (out : Out) (h : Held) (ns : List Note) → HasCall l → Goes (replied l) out h → Runs (suc n) key_rules.StartNextCall (replied l) out h ns
   rests_36 n l out h ns calls goes =
-      key_goes me fact strings P next n 36 key (replied l) (replied l) out [] [] [] thens.Stay [] h ns (row_36_ends key (replied l) (none_runs l calls)) tt
+      key_goes me fact strings P next n key_rules.StartNextCall key (replied l) (replied l) out [] [] [] thens.Stay [] h ns (row_36_ends key (replied l) (none_runs l calls)) tt
       (rests_there me fact strings P next n (leads fact (replied l)) (told out [] []) h ns (subst (λ o. Lands strings P (next [] (leads fact (replied l)) o) h ns) (sym (told_nothing out)) (goes ns)))
 
   -- ## Checks
@@ -110,15 +112,15 @@ module _ (me : ℕ) (fact : Fact) (strings : List (List ℕ)) (P : Aim) (free : 
 
   -- rule 33: the members are asked whether they are still at the epoch
   pub checks_33 : (n : ℕ) (l : Leader) (reply : Reply) (out : Out) (h : Held) (ns : List Note) (state : RoundState) → HasCall l → l.task ≡ pendings.Check reply → is_spent l.round ≡ false → state_of (begun l.fact.views l.me) ≡ state
-      → ChecksEnd state reply l out h → Runs (suc (suc n)) 33 l out h ns
+      → ChecksEnd state reply l out h → Runs (suc (suc n)) key_rules.Check l out h ns
   checks_33 n l reply out h ns Open calls task fresh is ends =
-      key_goes me fact strings P next (suc n) 33 key l (checking reply l) out (asks_check l) [] [] thens.Stay [] h ns (row_33_checks key w l (runs l calls) reply task fresh ∙ rw is refl) tt
+      key_goes me fact strings P next (suc n) key_rules.Check key l (checking reply l) out (asks_check l) [] [] thens.Stay [] h ns (row_33_checks key w l (runs l calls) reply task fresh ∙ rw is refl) tt
       (rests_there me fact strings P next (suc n) (leads fact (checking reply l)) (told out (asks_check l) []) h ns (ends ns))
   checks_33 n l reply out h ns Met calls task fresh is ends =
-      key_goes me fact strings P next (suc n) 33 key l (replied (rounded l)) out (asks_check l) (answer reply) (Read w.id key (base key l) ∷ []) (thens.Rule 36) (key ∷ []) h ns (row_33_checks key w l (runs l calls) reply task fresh ∙ rw is refl) tt
+      key_goes me fact strings P next (suc n) key_rules.Check key l (replied (rounded l)) out (asks_check l) (answer reply) (Read w.id key (base key l) ∷ []) (thens.OnKeys key_rules.StartNextCall) (key ∷ []) h ns (row_33_checks key w l (runs l calls) reply task fresh ∙ rw is refl) tt
       (rests_36 n (rounded l) (told out (asks_check l) (answer reply)) h (ns ++ Read w.id key (base key l) ∷ []) calls ends)
   checks_33 n l reply out h ns AllAnswered calls task fresh is ends =
-      key_goes me fact strings P next (suc n) 33 key l (replied (rounded l)) out (asks_check l) (answer reply) (Read w.id key (base key l) ∷ []) (thens.Rule 36) (key ∷ []) h ns (row_33_checks key w l (runs l calls) reply task fresh ∙ rw is refl) tt
+      key_goes me fact strings P next (suc n) key_rules.Check key l (replied (rounded l)) out (asks_check l) (answer reply) (Read w.id key (base key l) ∷ []) (thens.OnKeys key_rules.StartNextCall) (key ∷ []) h ns (row_33_checks key w l (runs l calls) reply task fresh ∙ rw is refl) tt
       (rests_36 n (rounded l) (told out (asks_check l) (answer reply)) h (ns ++ Read w.id key (base key l) ∷ []) calls ends)
 
   -- ## Puts
@@ -142,16 +144,16 @@ module _ (me : ℕ) (fact : Fact) (strings : List (List ℕ)) (P : Aim) (free : 
 
   stored_35 : (n : ℕ) (l : Leader) (o : Object) (parent : Option Version) (out : Out) (g : Held) (ns : List Note) (state : RoundState) → HasCall l → l.task ≡ pendings.Propose o parent (Some w.id) → state_of (begun l.fact.views l.me) ≡ state
       → by_round state (Goes (putting o l) (told out (asks_put o l) []) g) (Goes (settled o l) (told out (asks_put o l) (answer (replies.Ok o.stamp))) g)
-      → Lands strings P (driven me (suc (suc n)) (tasks.Again 35 key (seens.Stored (digest_of o)) ∷ []) (leads fact l) out next) g ns
+      → Lands strings P (driven me (suc (suc n)) (tasks.Again key_rules.Put key (seens.Stored (digest_of o)) ∷ []) (leads fact l) out next) g ns
   stored_35 n l o parent out g ns Open calls task is ends =
-      again_goes me fact strings P next (suc n) 35 key (seens.Stored (digest_of o)) l (putting o l) out (asks_put o l) [] [] thens.Stay [] g ns (row_35_stored key l o parent w.id (digest_of o) task ∙ rw is refl) tt
+      again_goes me fact strings P next (suc n) key_rules.Put key (seens.Stored (digest_of o)) l (putting o l) out (asks_put o l) [] [] thens.Stay [] g ns (row_35_stored key l o parent w.id (digest_of o) task ∙ rw is refl) tt
       (rests_there me fact strings P next (suc n) (leads fact (putting o l)) (told out (asks_put o l) []) g ns (ends ns))
   stored_35 n l o parent out g ns Met calls task is ends =
-      again_goes me fact strings P next (suc n) 35 key (seens.Stored (digest_of o)) l (settled o l) out (asks_put o l) (answer (replies.Ok o.stamp)) (Settled key o.version ∷ []) (thens.Rule 36) (key ∷ []) g ns
+      again_goes me fact strings P next (suc n) key_rules.Put key (seens.Stored (digest_of o)) l (settled o l) out (asks_put o l) (answer (replies.Ok o.stamp)) (Settled key o.version ∷ []) (thens.OnKeys key_rules.StartNextCall) (key ∷ []) g ns
       (row_35_stored key l o parent w.id (digest_of o) task ∙ rw (is, runs l calls) refl) tt
       (rests_36 n (knows key (settled_as o.version o (digest_of o)) (with_task pendings.Nothing l)) (told out (asks_put o l) (answer (replies.Ok o.stamp))) g (ns ++ Settled key o.version ∷ []) calls ends)
   stored_35 n l o parent out g ns AllAnswered calls task is ends =
-      again_goes me fact strings P next (suc n) 35 key (seens.Stored (digest_of o)) l (settled o l) out (asks_put o l) (answer (replies.Ok o.stamp)) (Settled key o.version ∷ []) (thens.Rule 36) (key ∷ []) g ns
+      again_goes me fact strings P next (suc n) key_rules.Put key (seens.Stored (digest_of o)) l (settled o l) out (asks_put o l) (answer (replies.Ok o.stamp)) (Settled key o.version ∷ []) (thens.OnKeys key_rules.StartNextCall) (key ∷ []) g ns
       (row_35_stored key l o parent w.id (digest_of o) task ∙ rw (is, runs l calls) refl) tt
       (rests_36 n (knows key (settled_as o.version o (digest_of o)) (with_task pendings.Nothing l)) (told out (asks_put o l) (answer (replies.Ok o.stamp))) g (ns ++ Settled key o.version ∷ []) calls ends)
 
@@ -161,13 +163,13 @@ module _ (me : ℕ) (fact : Fact) (strings : List (List ℕ)) (P : Aim) (free : 
 
   -- rule 35: the object is stored, and goes to the other members
   pub puts_35 : (n : ℕ) (l : Leader) (o : Object) (parent : Option Version) (out : Out) (h : Held) (m : List Entry) (ns : List Note) (state : RoundState) → HasCall l → l.task ≡ pendings.Propose o parent (Some w.id) → o.key ≡ key
-      → state_of (begun l.fact.views l.me) ≡ state → IsWhole h m → Fits o m → PutsEnd state o l out h m → Runs (suc (suc (suc n))) 35 l out h ns
+      → state_of (begun l.fact.views l.me) ≡ state → IsWhole h m → Fits o m → PutsEnd state o l out h m → Runs (suc (suc (suc n))) key_rules.Put l out h ns
   puts_35 n l o parent out h m ns state calls task same is whole fits ends =
       let k : Leader = with_task (pendings.Propose o parent (Some w.id)) l in
       let noted : List Note = ns ++ Proposed key o.version parent (Some w.id) ∷ [] in
-      key_asks me fact strings P next (suc (suc n)) 35 key l k out (Proposed key o.version parent (Some w.id) ∷ []) (owns.Put o) h ns (row_35_asks key l o parent (Some w.id) task)
-      (written_lands strings P free o (leads fact k) out (λ seen y p. driven me (suc (suc n)) (tasks.Again 35 o.key seen ∷ []) y p next) h m noted whole fits.0 fits.1
-      (λ g has. subst (λ (j : List ℕ). Lands strings P (driven me (suc (suc n)) (tasks.Again 35 j (seens.Stored (digest_of o)) ∷ []) (leads fact k) out next) g noted) (sym same)
+      key_asks me fact strings P next (suc (suc n)) key_rules.Put key l k out (Proposed key o.version parent (Some w.id) ∷ []) (owns.Put o) h ns (row_35_asks key l o parent (Some w.id) task)
+      (written_lands strings P free o (leads fact k) out (λ seen y p. driven me (suc (suc n)) (tasks.Again key_rules.Put o.key seen ∷ []) y p next) h m noted whole fits.0 fits.1
+      (λ g has. subst (λ (j : List ℕ). Lands strings P (driven me (suc (suc n)) (tasks.Again key_rules.Put j (seens.Stored (digest_of o)) ∷ []) (leads fact k) out next) g noted) (sym same)
       (stored_35 n k o parent out g noted state calls refl is (ends g has))))
 
   -- the object of a write by a leader
@@ -183,11 +185,11 @@ module _ (me : ℕ) (fact : Fact) (strings : List (List ℕ)) (P : Aim) (free : 
 
   -- rule 31: a write is proposed
   pub writes_31 : (n : ℕ) (l : Leader) (content : Option (List ℕ)) (parent : Option Version) (out : Out) (h : Held) (m : List Entry) (ns : List Note) (state : RoundState) → HasCall l → l.task ≡ pendings.Write content parent → is_spent l.seq ≡ false
-      → state_of (begun l.fact.views l.me) ≡ state → IsWhole h m → WritesEnd state content l out h m → Runs (suc (suc (suc (suc n)))) 31 l out h ns
+      → state_of (begun l.fact.views l.me) ≡ state → IsWhole h m → WritesEnd state content l out h m → Runs (suc (suc (suc (suc n)))) key_rules.Write l out h ns
   writes_31 n l content parent out h m ns state calls task fresh is whole ends =
       let k : Leader = record l { seq = l.seq + 1; task = pendings.Propose (written_by l content) parent (Some w.id) } in
-      key_goes me fact strings P next (suc (suc (suc n))) 31 key l k out [] [] [] (thens.Rule 35) (key ∷ []) h ns (row_31_proposes key w l (runs l calls) content parent task fresh) tt
-      (subst (λ o. Runs (suc (suc (suc n))) 35 k o h ns) (sym (told_nothing out)) (puts_35 n k (written_by l content) parent out h m ns state calls refl refl is whole ends.0 ends.1))
+      key_goes me fact strings P next (suc (suc (suc n))) key_rules.Write key l k out [] [] [] (thens.OnKeys key_rules.Put) (key ∷ []) h ns (row_31_proposes key w l (runs l calls) content parent task fresh) tt
+      (subst (λ o. Runs (suc (suc (suc n))) key_rules.Put k o h ns) (sym (told_nothing out)) (puts_35 n k (written_by l content) parent out h m ns state calls refl refl is whole ends.0 ends.1))
 
   -- ## Commands on an absent register
 
@@ -197,13 +199,13 @@ module _ (me : ℕ) (fact : Fact) (strings : List (List ℕ)) (P : Aim) (free : 
 
   -- rule 34: the command is applied
   pub applies_34 : (n : ℕ) (l : Leader) (verdict : Verdict) (out : Out) (h : Held) (m : List Entry) (ns : List Note) (state : RoundState) → HasCall l → l.task ≡ pendings.Apply None → verdict_of (outcome w.command Absent) ≡ verdict
-      → state_of (begun l.fact.views l.me) ≡ state → IsWhole h m → AppliesEnd state verdict l out h m → Runs (suc (suc (suc (suc (suc n))))) 34 l out h ns
+      → state_of (begun l.fact.views l.me) ≡ state → IsWhole h m → AppliesEnd state verdict l out h m → Runs (suc (suc (suc (suc (suc n))))) key_rules.Apply l out h ns
   applies_34 n l (Write content) out h m ns state calls task is begins whole ends =
       let k : Leader = with_task (pendings.Write content (base key l)) l in
-      key_goes me fact strings P next (suc (suc (suc (suc n)))) 34 key l k out [] [] [] (thens.Rule 31) (key ∷ []) h ns (row_34_writes key w l (runs l calls) content task is) tt
-      (subst (λ o. Runs (suc (suc (suc (suc n)))) 31 k o h ns) (sym (told_nothing out)) (writes_31 n k content (base key l) out h m ns state calls refl ends.0 begins whole ends.1))
+      key_goes me fact strings P next (suc (suc (suc (suc n)))) key_rules.Apply key l k out [] [] [] (thens.OnKeys key_rules.Write) (key ∷ []) h ns (row_34_writes key w l (runs l calls) content task is) tt
+      (subst (λ o. Runs (suc (suc (suc (suc n)))) key_rules.Write k o h ns) (sym (told_nothing out)) (writes_31 n k content (base key l) out h m ns state calls refl ends.0 begins whole ends.1))
   applies_34 n l (Answer reply) out h m ns state calls task is begins whole ends =
-      key_goes me fact strings P next (suc (suc (suc (suc n)))) 34 key l (replied (with_task pendings.Nothing l)) out [] (answer reply) (Read w.id key (base key l) ∷ []) (thens.Rule 36) (key ∷ []) h ns
+      key_goes me fact strings P next (suc (suc (suc (suc n)))) key_rules.Apply key l (replied (with_task pendings.Nothing l)) out [] (answer reply) (Read w.id key (base key l) ∷ []) (thens.OnKeys key_rules.StartNextCall) (key ∷ []) h ns
       (row_34_reads key w l (runs l calls) reply task is) tt
       (rests_36 (suc (suc (suc n))) (with_task pendings.Nothing l) (told out [] (answer reply)) h (ns ++ Read w.id key (base key l) ∷ []) calls ends)
 
@@ -219,13 +221,13 @@ module _ (me : ℕ) (fact : Fact) (strings : List (List ℕ)) (P : Aim) (free : 
   -- rule 30: the replies of a round of reading are evaluated; none of them has an entry
   pub reads_30 : (n : ℕ) (l : Leader) (round : ℕ) (votes : Round) (heard : RoundState) (verdict : Verdict) (out : Out) (h : Held) (m : List Entry) (ns : List Note) (state : RoundState) → HasCall l
       → (row_at key l.table.rows).stage ≡ stages.Reading round votes None → state_of votes ≡ heard → verdict_of (outcome w.command Absent) ≡ verdict → state_of (begun l.fact.views l.me) ≡ state → IsWhole h m
-      → ReadsEnd heard state verdict l out h m → Runs (suc (suc (suc (suc (suc (suc n)))))) 30 l out h ns
+      → ReadsEnd heard state verdict l out h m → Runs (suc (suc (suc (suc (suc (suc n)))))) key_rules.EnoughReplies l out h ns
   reads_30 n l round votes Open verdict out h m ns state calls stage heard is begins whole ends =
-      key_goes me fact strings P next (suc (suc (suc (suc (suc n))))) 30 key l l out [] [] [] thens.Stay [] h ns (row_30_waits key w l (runs l calls) round votes stage heard) tt
+      key_goes me fact strings P next (suc (suc (suc (suc (suc n))))) key_rules.EnoughReplies key l l out [] [] [] thens.Stay [] h ns (row_30_waits key w l (runs l calls) round votes stage heard) tt
       (rests_there me fact strings P next (suc (suc (suc (suc (suc n))))) (leads fact l) (told out [] []) h ns (subst (λ o. Lands strings P (next [] (leads fact l) o) h ns) (sym (told_nothing out)) (ends ns)))
   reads_30 n l round votes Met verdict out h m ns state calls stage heard is begins whole ends =
-      key_goes me fact strings P next (suc (suc (suc (suc (suc n))))) 30 key l (missing l) out [] [] [] (thens.Rule 34) (key ∷ []) h ns (row_30_absent key w l (runs l calls) round votes stage heard) tt
-      (subst (λ o. Runs (suc (suc (suc (suc (suc n))))) 34 (missing l) o h ns) (sym (told_nothing out)) (applies_34 n (missing l) verdict out h m ns state calls refl is begins whole ends))
+      key_goes me fact strings P next (suc (suc (suc (suc (suc n))))) key_rules.EnoughReplies key l (missing l) out [] [] [] (thens.OnKeys key_rules.Apply) (key ∷ []) h ns (row_30_absent key w l (runs l calls) round votes stage heard) tt
+      (subst (λ o. Runs (suc (suc (suc (suc (suc n))))) key_rules.Apply (missing l) o h ns) (sym (told_nothing out)) (applies_34 n (missing l) verdict out h m ns state calls refl is begins whole ends))
   reads_30 n l round votes AllAnswered verdict out h m ns state calls stage heard is begins whole ends =
-      key_goes me fact strings P next (suc (suc (suc (suc (suc n))))) 30 key l (missing l) out [] [] [] (thens.Rule 34) (key ∷ []) h ns (row_30_all key w l (runs l calls) round votes stage heard) tt
-      (subst (λ o. Runs (suc (suc (suc (suc (suc n))))) 34 (missing l) o h ns) (sym (told_nothing out)) (applies_34 n (missing l) verdict out h m ns state calls refl is begins whole ends))
+      key_goes me fact strings P next (suc (suc (suc (suc (suc n))))) key_rules.EnoughReplies key l (missing l) out [] [] [] (thens.OnKeys key_rules.Apply) (key ∷ []) h ns (row_30_all key w l (runs l calls) round votes stage heard) tt
+      (subst (λ o. Runs (suc (suc (suc (suc (suc n))))) key_rules.Apply (missing l) o h ns) (sym (told_nothing out)) (applies_34 n (missing l) verdict out h m ns state calls refl is begins whole ends))

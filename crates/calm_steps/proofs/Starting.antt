@@ -49,6 +49,8 @@ use Rattle.tree_refinement.specs.Whole.{IsWhole}
 use Rattle.phase_rows.specs.declared.phase.Seen.{Seen}
 use Rattle.phase_rows.specs.declared.phase.Seen.TheVariants as seens
 use Rattle.phase_rows.specs.declared.phase.Then.TheVariants as thens
+use Rattle.phase_rows.specs.declared.rules.KeyRule.{KeyRule}
+use Rattle.phase_rows.specs.declared.rules.KeyRule.TheVariants as key_rules
 use Rattle.calm_steps.proofs.Backends.{fetched_lands}
 use Rattle.calm_steps.proofs.KeyRows.{row_28_unknown}
 use Rattle.calm_steps.proofs.Lands.{Aim, Lands}
@@ -93,8 +95,8 @@ module _ (key : List ℕ) (w : Waiting) (l : Leader) (going : running key l.tabl
     row_by_stamp : (row_at key l.table.rows).known ≡ knowns.Present version stamp digest false → (verdict : Verdict) → stamp_verdict w.command stamp ≡ Some verdict → row_28 key seens.Nothing l ≡ decided (base key l) verdict key l
     row_by_stamp is verdict decides = begins seens.Nothing ∙ (ap (λ k. by_known k seens.Nothing w.command key l) is ∙ ap (λ v. by_stamp v seens.Nothing version digest w.command key l) decides)
 
-    row_looks : (row_at key l.table.rows).known ≡ knowns.Present version stamp digest false → stamp_verdict w.command stamp ≡ None → row_28 key seens.Nothing l ≡ (l, and_own (owns.Look key) rests)
-    row_looks is decides = begins seens.Nothing ∙ (ap (λ k. by_known k seens.Nothing w.command key l) is ∙ ap (λ v. by_stamp v seens.Nothing version digest w.command key l) decides)
+    row_fetches : (row_at key l.table.rows).known ≡ knowns.Present version stamp digest false → stamp_verdict w.command stamp ≡ None → row_28 key seens.Nothing l ≡ (l, and_own (owns.Fetch key) rests)
+    row_fetches is decides = begins seens.Nothing ∙ (ap (λ k. by_known k seens.Nothing w.command key l) is ∙ ap (λ v. by_stamp v seens.Nothing version digest w.command key l) decides)
 
   row_sees : (o : Object) → o.key ≡ key → (row_at key l.table.rows).known ≡ knowns.Present o.version o.stamp (md5 (object_spelling o)) false → stamp_verdict w.command o.stamp ≡ None
       → row_28 key (seens.Kept (Some (o, md5 (object_spelling o)))) l ≡ decided (base key l) (verdict_of (outcome w.command (register_of o))) key l
@@ -108,40 +110,40 @@ module _ (me : ℕ) (fact : Fact) (strings : List (List ℕ)) (P : Aim) (free : 
   DecidesEnd state (Write content) l out h m = (is_spent l.seq ≡ false) × WritesEnd me fact strings P free next key w mine state content l out h m
   DecidesEnd state (Answer reply) l out h m = (is_spent l.round ≡ false) × ChecksEnd me fact strings P free next key w mine state reply l out h
 
-  abbrev Step : ℕ → ℕ → Leader → Out → Held → List Note → Type 0
+  abbrev Step : ℕ → KeyRule → Leader → Out → Held → List Note → Type 0
   Step n k l out h ns = Runs me fact strings P free next key w mine n k l out h ns
 
   abbrev Call : Leader → Type 0
   Call l = HasCall me fact strings P free next key w mine l
 
   writes : (n : ℕ) (l : Leader) (parent : Option Version) (content : Option (List ℕ)) (out : Out) (h : Held) (m : List Entry) (ns : List Note) (state : RoundState) → Call l → state_of (begun l.fact.views l.me) ≡ state → IsWhole h m
-      → DecidesEnd state (Write content) l out h m → Step (suc (suc (suc (suc n)))) 31 (with_task (pendings.Write content parent) l) (told out [] []) h ns
+      → DecidesEnd state (Write content) l out h m → Step (suc (suc (suc (suc n)))) key_rules.Write (with_task (pendings.Write content parent) l) (told out [] []) h ns
   writes n l parent content out h m ns state calls begins whole ends =
       let k : Leader = with_task (pendings.Write content parent) l in
-      subst (λ o. Step (suc (suc (suc (suc n)))) 31 k o h ns) (sym (told_nothing out)) (writes_31 me fact strings P free next key w mine n k content parent out h m ns state calls refl ends.0 begins whole ends.1)
+      subst (λ o. Step (suc (suc (suc (suc n)))) key_rules.Write k o h ns) (sym (told_nothing out)) (writes_31 me fact strings P free next key w mine n k content parent out h m ns state calls refl ends.0 begins whole ends.1)
 
   checks : (n : ℕ) (l : Leader) (reply : Reply) (out : Out) (h : Held) (m : List Entry) (ns : List Note) (state : RoundState) → Call l → state_of (begun l.fact.views l.me) ≡ state
-      → DecidesEnd state (Answer reply) l out h m → Step (suc (suc (suc (suc n)))) 33 (with_task (pendings.Check reply) l) (told out [] []) h ns
+      → DecidesEnd state (Answer reply) l out h m → Step (suc (suc (suc (suc n)))) key_rules.Check (with_task (pendings.Check reply) l) (told out [] []) h ns
   checks n l reply out h m ns state calls begins ends =
       let k : Leader = with_task (pendings.Check reply) l in
-      subst (λ o. Step (suc (suc (suc (suc n)))) 33 k o h ns) (sym (told_nothing out)) (checks_33 me fact strings P free next key w mine (suc (suc n)) k reply out h ns state calls refl ends.0 begins ends.1)
+      subst (λ o. Step (suc (suc (suc (suc n)))) key_rules.Check k o h ns) (sym (told_nothing out)) (checks_33 me fact strings P free next key w mine (suc (suc n)) k reply out h ns state calls refl ends.0 begins ends.1)
 
   -- the rule runs, and decides
   decides_28 : (n : ℕ) (l : Leader) (parent : Option Version) (verdict : Verdict) (out : Out) (h : Held) (m : List Entry) (ns : List Note) (state : RoundState) → Call l → state_of (begun l.fact.views l.me) ≡ state → IsWhole h m
-      → row_28 key seens.Nothing l ≡ decided parent verdict key l → DecidesEnd state verdict l out h m → Step (suc (suc (suc (suc (suc n))))) 28 l out h ns
+      → row_28 key seens.Nothing l ≡ decided parent verdict key l → DecidesEnd state verdict l out h m → Step (suc (suc (suc (suc (suc n))))) key_rules.StartCall l out h ns
   decides_28 n l parent (Write content) out h m ns state calls begins whole is ends =
-      key_goes me fact strings P next (suc (suc (suc (suc n)))) 28 key l (with_task (pendings.Write content parent) l) out [] [] [] (thens.Rule 31) (key ∷ []) h ns is tt (writes n l parent content out h m ns state calls begins whole ends)
+      key_goes me fact strings P next (suc (suc (suc (suc n)))) key_rules.StartCall key l (with_task (pendings.Write content parent) l) out [] [] [] (thens.OnKeys key_rules.Write) (key ∷ []) h ns is tt (writes n l parent content out h m ns state calls begins whole ends)
   decides_28 n l parent (Answer reply) out h m ns state calls begins whole is ends =
-      key_goes me fact strings P next (suc (suc (suc (suc n)))) 28 key l (with_task (pendings.Check reply) l) out [] [] [] (thens.Rule 33) (key ∷ []) h ns is tt (checks n l reply out h m ns state calls begins ends)
+      key_goes me fact strings P next (suc (suc (suc (suc n)))) key_rules.StartCall key l (with_task (pendings.Check reply) l) out [] [] [] (thens.OnKeys key_rules.Check) (key ∷ []) h ns is tt (checks n l reply out h m ns state calls begins ends)
 
   -- the rule runs again, after the own backend returned the object
   decides_again : (n : ℕ) (l : Leader) (parent : Option Version) (verdict : Verdict) (o : Object) (out : Out) (h : Held) (m : List Entry) (ns : List Note) (state : RoundState) → Call l → state_of (begun l.fact.views l.me) ≡ state → IsWhole h m
       → row_28 key (seens.Kept (Some (o, md5 (object_spelling o)))) l ≡ decided parent verdict key l → DecidesEnd state verdict l out h m
-      → Lands strings P (driven me (suc (suc (suc (suc (suc n))))) (tasks.Again 28 key (seens.Kept (Some (o, md5 (object_spelling o)))) ∷ []) (leads fact l) out next) h ns
+      → Lands strings P (driven me (suc (suc (suc (suc (suc n))))) (tasks.Again key_rules.StartCall key (seens.Kept (Some (o, md5 (object_spelling o)))) ∷ []) (leads fact l) out next) h ns
   decides_again n l parent (Write content) o out h m ns state calls begins whole is ends =
-      again_goes me fact strings P next (suc (suc (suc (suc n)))) 28 key (seens.Kept (Some (o, md5 (object_spelling o)))) l (with_task (pendings.Write content parent) l) out [] [] [] (thens.Rule 31) (key ∷ []) h ns is tt (writes n l parent content out h m ns state calls begins whole ends)
+      again_goes me fact strings P next (suc (suc (suc (suc n)))) key_rules.StartCall key (seens.Kept (Some (o, md5 (object_spelling o)))) l (with_task (pendings.Write content parent) l) out [] [] [] (thens.OnKeys key_rules.Write) (key ∷ []) h ns is tt (writes n l parent content out h m ns state calls begins whole ends)
   decides_again n l parent (Answer reply) o out h m ns state calls begins whole is ends =
-      again_goes me fact strings P next (suc (suc (suc (suc n)))) 28 key (seens.Kept (Some (o, md5 (object_spelling o)))) l (with_task (pendings.Check reply) l) out [] [] [] (thens.Rule 33) (key ∷ []) h ns is tt (checks n l reply out h m ns state calls begins ends)
+      again_goes me fact strings P next (suc (suc (suc (suc n)))) key_rules.StartCall key (seens.Kept (Some (o, md5 (object_spelling o)))) l (with_task (pendings.Check reply) l) out [] [] [] (thens.OnKeys key_rules.Check) (key ∷ []) h ns is tt (checks n l reply out h m ns state calls begins ends)
 
   -- ## By what is known
 
@@ -149,14 +151,14 @@ module _ (me : ℕ) (fact : Fact) (strings : List (List ℕ)) (P : Aim) (free : 
   pub starts_unknown : (n : ℕ) (l : Leader) (verdict : Verdict) (out : Out) (h : Held) (m : List Entry) (ns : List Note) (state : RoundState) → Call l → (row_at key l.table.rows).known ≡ knowns.Unknown → is_spent l.round ≡ false
       → verdict_of (outcome w.command Absent) ≡ verdict → state_of (begun l.fact.views l.me) ≡ state → IsWhole h m → lookup key m ≡ None
       → ReadsEnd me fact strings P free next key w mine state state verdict (reading me fact strings P free next key w mine l) (told out (asks_get me fact strings P free next key w mine l) []) (answered (Find key) h).held m
-      → Step (suc (suc (suc (suc (suc (suc (suc (suc (suc n))))))))) 28 l out h ns
+      → Step (suc (suc (suc (suc (suc (suc (suc (suc (suc n))))))))) key_rules.StartCall l out h ns
   starts_unknown n l verdict out h m ns state calls unknown fresh is begins whole absent ends =
-      key_goes me fact strings P next (suc (suc (suc (suc (suc (suc (suc (suc n)))))))) 28 key l l out [] [] [] (thens.Rule 29) (key ∷ []) h ns (row_28_unknown key w l (runs me fact strings P free next key w mine l calls) unknown) tt
-      (subst (λ o. Step (suc (suc (suc (suc (suc (suc (suc (suc n)))))))) 29 l o h ns) (sym (told_nothing out)) (reads_29 me fact strings P free next key w mine n l verdict out h m ns state calls fresh is begins whole absent ends))
+      key_goes me fact strings P next (suc (suc (suc (suc (suc (suc (suc (suc n)))))))) key_rules.StartCall key l l out [] [] [] (thens.OnKeys key_rules.Read) (key ∷ []) h ns (row_28_unknown key w l (runs me fact strings P free next key w mine l calls) unknown) tt
+      (subst (λ o. Step (suc (suc (suc (suc (suc (suc (suc (suc n)))))))) key_rules.Read l o h ns) (sym (told_nothing out)) (reads_29 me fact strings P free next key w mine n l verdict out h m ns state calls fresh is begins whole absent ends))
 
   -- a key that is absent
   pub starts_absent : (n : ℕ) (l : Leader) (verdict : Verdict) (out : Out) (h : Held) (m : List Entry) (ns : List Note) (state : RoundState) → Call l → (row_at key l.table.rows).known ≡ knowns.Absent
-      → verdict_of (outcome w.command Absent) ≡ verdict → state_of (begun l.fact.views l.me) ≡ state → IsWhole h m → DecidesEnd state verdict l out h m → Step (suc (suc (suc (suc (suc n))))) 28 l out h ns
+      → verdict_of (outcome w.command Absent) ≡ verdict → state_of (begun l.fact.views l.me) ≡ state → IsWhole h m → DecidesEnd state verdict l out h m → Step (suc (suc (suc (suc (suc n))))) key_rules.StartCall l out h ns
   starts_absent n l verdict out h m ns state calls absent is begins whole ends =
       decides_28 n l (base key l) verdict out h m ns state calls begins whole (row_absent key w l (runs me fact strings P free next key w mine l calls) absent ∙ ap (λ v. decided (base key l) v key l) is) ends
 
@@ -166,18 +168,18 @@ module _ (me : ℕ) (fact : Fact) (strings : List (List ℕ)) (P : Aim) (free : 
 
   -- a settled object, which the own backend has
   module _ (o : Object) (same : o.key ≡ key) (valid : IsObject o) (l : Leader) (calls : Call l) (out : Out) (h : Held) (m : List Entry) (whole : IsWhole h m) (state : RoundState) (begins : state_of (begun l.fact.views l.me) ≡ state) where
-    looks_up : (n : ℕ) (ns : List Note) → (row_at key l.table.rows).known ≡ knowns.Present o.version o.stamp (md5 (object_spelling o)) false → stamp_verdict w.command o.stamp ≡ None → value_at key h.stores.backend.entries ≡ Some (object_spelling o)
-        → KeptEnd state (verdict_of (outcome w.command (register_of o))) l out h m → Step (suc (suc (suc (suc (suc (suc n)))))) 28 l out h ns
-    looks_up n ns known undecided has ends =
+    fetches : (n : ℕ) (ns : List Note) → (row_at key l.table.rows).known ≡ knowns.Present o.version o.stamp (md5 (object_spelling o)) false → stamp_verdict w.command o.stamp ≡ None → value_at key h.stores.backend.entries ≡ Some (object_spelling o)
+        → KeptEnd state (verdict_of (outcome w.command (register_of o))) l out h m → Step (suc (suc (suc (suc (suc (suc n)))))) key_rules.StartCall l out h ns
+    fetches n ns known undecided has ends =
         let g : Held = (answered (Hash (object_spelling o)) h).held in
         let whole_g : IsWhole g m = keeps (Hash (object_spelling o)) h m tt whole in
-        key_asks me fact strings P next (suc (suc (suc (suc (suc n))))) 28 key l l out [] (owns.Look key) h ns (row_looks key w l (runs me fact strings P free next key w mine l calls) o.version o.stamp (md5 (object_spelling o)) known undecided)
-        (fetched_lands strings P o key (leads fact l) out (λ seen y p. driven me (suc (suc (suc (suc (suc n))))) (tasks.Again 28 key seen ∷ []) y p next) h ns valid has
+        key_asks me fact strings P next (suc (suc (suc (suc (suc n))))) key_rules.StartCall key l l out [] (owns.Fetch key) h ns (row_fetches key w l (runs me fact strings P free next key w mine l calls) o.version o.stamp (md5 (object_spelling o)) known undecided)
+        (fetched_lands strings P o key (leads fact l) out (λ seen y p. driven me (suc (suc (suc (suc (suc n))))) (tasks.Again key_rules.StartCall key seen ∷ []) y p next) h ns valid has
         (decides_again n l (base key l) (verdict_of (outcome w.command (register_of o))) o out g m ns state calls begins whole_g
         (row_sees key w l (runs me fact strings P free next key w mine l calls) o same known undecided) (ends g whole_g refl)))
 
     by_content : (n : ℕ) (ns : List Note) (content : Option (List ℕ)) → o.value ≡ content → (row_at key l.table.rows).known ≡ settled_as o.version o (md5 (object_spelling o)) → value_at key h.stores.backend.entries ≡ Some (object_spelling o)
-        → KeptEnd state (verdict_of (outcome w.command (register_of o))) l out h m → Step (suc (suc (suc (suc (suc (suc n)))))) 28 l out h ns
+        → KeptEnd state (verdict_of (outcome w.command (register_of o))) l out h m → Step (suc (suc (suc (suc (suc (suc n)))))) key_rules.StartCall l out h ns
     by_content n ns None is known has ends =
         decides_28 (suc n) l (base key l) (verdict_of (outcome w.command (register_of o))) out h m ns state calls begins whole
         (row_gone key w l (runs me fact strings P free next key w mine l calls) o.version o.stamp (md5 (object_spelling o)) (known ∙ rw is refl) ∙ rw is refl) (ends h whole refl)
@@ -185,12 +187,12 @@ module _ (me : ℕ) (fact : Fact) (strings : List (List ℕ)) (P : Aim) (free : 
       present : (row_at key l.table.rows).known ≡ knowns.Present o.version o.stamp (md5 (object_spelling o)) false
       present = known ∙ rw is refl
 
-      on_stamp : (v : Option Verdict) → stamp_verdict w.command o.stamp ≡ v → Step (suc (suc (suc (suc (suc (suc n)))))) 28 l out h ns
-      on_stamp None undecided = looks_up n ns present undecided has ends
+      on_stamp : (v : Option Verdict) → stamp_verdict w.command o.stamp ≡ v → Step (suc (suc (suc (suc (suc (suc n)))))) key_rules.StartCall l out h ns
+      on_stamp None undecided = fetches n ns present undecided has ends
       on_stamp (Some verdict) decides =
           decides_28 (suc n) l (base key l) (verdict_of (outcome w.command (register_of o))) out h m ns state calls begins whole
           (row_by_stamp key w l (runs me fact strings P free next key w mine l calls) o.version o.stamp (md5 (object_spelling o)) present verdict decides ∙ ap (λ v. decided (base key l) v key l) (stamp_agrees w.command o.stamp bytes verdict decides ∙ rw is refl)) (ends h whole refl)
 
     pub starts_kept : (n : ℕ) (ns : List Note) → (row_at key l.table.rows).known ≡ settled_as o.version o (md5 (object_spelling o)) → value_at key h.stores.backend.entries ≡ Some (object_spelling o)
-        → KeptEnd state (verdict_of (outcome w.command (register_of o))) l out h m → Step (suc (suc (suc (suc (suc (suc n)))))) 28 l out h ns
+        → KeptEnd state (verdict_of (outcome w.command (register_of o))) l out h m → Step (suc (suc (suc (suc (suc (suc n)))))) key_rules.StartCall l out h ns
     starts_kept n ns known has ends = by_content n ns o.value refl known has ends

@@ -53,6 +53,8 @@ use Rattle.phase_rows.specs.declared.phase.Seen.{Seen}
 use Rattle.phase_rows.specs.declared.phase.Seen.TheVariants as seens
 use Rattle.phase_rows.specs.declared.phase.Then.{Then}
 use Rattle.phase_rows.specs.declared.phase.Then.TheVariants as thens
+use Rattle.phase_rows.specs.declared.rules.KeyRule.{KeyRule}
+use Rattle.phase_rows.specs.declared.rules.KeyRule.TheVariants as key_rules
 use Rattle.election_refinement.proofs.Tests.{by_test}
 
 -- a message that a leader sends for a call
@@ -280,17 +282,16 @@ put_heard_stays from ballot key version l = acknowledged_by_stays (row_at key l.
 
 -- ## All rules on a key, and the calls of a tick
 
-pub lead_stays : (n : ℕ) (key : List ℕ) (seen : Seen) (l : Leader) → Stays l (lead_row n key seen l)
-lead_stays n key seen l = let P : Leader × LeadOut → Type 0 = Stays l in
-    by_test P (n == 28) _ _ (λ is. started_stays (running key l.table.calls) seen key l) (λ not.
-    by_test P (n == 29) _ _ (λ is. asked_for_stays (running key l.table.calls) seen key l) (λ not.
-    by_test P (n == 30) _ _ (λ is. gathered_for_stays (running key l.table.calls) key l) (λ not.
-    by_test P (n == 31) _ _ (λ is. written_stays (running key l.table.calls) l.task key (with_task tasks.Nothing l)) (λ not.
-    by_test P (n == 32) _ _ (λ is. rewritten_stays l.task key (with_task tasks.Nothing l)) (λ not.
-    by_test P (n == 33) _ _ (λ is. checked_stays (running key l.table.calls) l.task key (with_task tasks.Nothing l)) (λ not.
-    by_test P (n == 34) _ _ (λ is. applied_stays (running key l.table.calls) l.task key (with_task tasks.Nothing l)) (λ not.
-    by_test P (n == 35) _ _ (λ is. put_stays l.task seen key (with_task tasks.Nothing l)) (λ not.
-    by_test P (n == 36) _ _ (λ is. next_stays (running key l.table.calls) key l) (λ not. silent refl refl refl tt)))))))))
+pub lead_stays : (rule : KeyRule) (key : List ℕ) (seen : Seen) (l : Leader) → Stays l (lead_row rule key seen l)
+lead_stays key_rules.StartCall key seen l = started_stays (running key l.table.calls) seen key l
+lead_stays key_rules.Read key seen l = asked_for_stays (running key l.table.calls) seen key l
+lead_stays key_rules.EnoughReplies key seen l = gathered_for_stays (running key l.table.calls) key l
+lead_stays key_rules.Write key seen l = written_stays (running key l.table.calls) l.task key (with_task tasks.Nothing l)
+lead_stays key_rules.Rewrite key seen l = rewritten_stays l.task key (with_task tasks.Nothing l)
+lead_stays key_rules.Check key seen l = checked_stays (running key l.table.calls) l.task key (with_task tasks.Nothing l)
+lead_stays key_rules.Apply key seen l = applied_stays (running key l.table.calls) l.task key (with_task tasks.Nothing l)
+lead_stays key_rules.Put key seen l = put_stays l.task seen key (with_task tasks.Nothing l)
+lead_stays key_rules.StartNextCall key seen l = next_stays (running key l.table.calls) key l
 
 timed_out_stays : (ds : List DueCall) (o : LeadOut) (l m : Leader) → m.fact ≡ l.fact → m.accepts ≡ l.accepts → o.sends ≡ [] → BeginsNothing o.then → Stays l (m, timed_out ds o)
 timed_out_stays [] o l m fact accepts none next = silent fact accepts none next
@@ -304,4 +305,4 @@ pub tick_stays : (finishing : Finishing) (l : Leader) → Stays l (row_5_calls f
 tick_stays finishing l =
     by_test (Stays l) (late_put (aged l.table) || is_late finishing) _ _
     (λ late. silent refl refl refl tt)
-    (λ on_time. timed_out_stays (due (aged l.table).calls) (comes (thens.Rule 36)) l _ refl refl refl tt)
+    (λ on_time. timed_out_stays (due (aged l.table).calls) (comes (thens.OnKeys key_rules.StartNextCall)) l _ refl refl refl tt)

@@ -34,6 +34,7 @@ use Rattle.wire_frames.specs.declared.message.Message.TheVariants as messages
 use Rattle.phase_rows.specs.declared.phase.PhaseOut.{PhaseOut}
 use Rattle.phase_rows.specs.declared.phase.Then.{Then}
 use Rattle.phase_rows.specs.declared.phase.Then.TheVariants as thens
+use Rattle.phase_rows.specs.declared.rules.PhaseRule.TheVariants as phase_rules
 use Rattle.election_refinement.proofs.Keeps.{keeps_both, commit_keeps, adopt_keeps, started_keeps}
 use Rattle.election_refinement.specs.Keeps.{Keeps}
 use Rattle.election_refinement.proofs.Numbers.{proposer_of-number}
@@ -111,8 +112,8 @@ module _ {c : Course} {l : Ledger} {x : State} {stored : Option Fact} (h : Fits 
       parts false true c may = absurd (true≢false (sym may))
       parts false false c may = (refl, refl)
 
-      takes : (has_begun y.change ≡ false) × (is_joint x.fact.views ≡ false) → Asks (phases.Leading y) view (silent (thens.Rule 25), true)
-      takes may = names h 25 (phases.Leading (record y { change = Wanted (changes.Add view) })) (wants y view old may.0 may.1) runs
+      takes : (has_begun y.change ≡ false) × (is_joint x.fact.views ≡ false) → Asks (phases.Leading y) view (silent (thens.Rule phase_rules.BeginChange), true)
+      takes may = names h phase_rules.BeginChange (phases.Leading (record y { change = Wanted (changes.Add view) })) (wants y view old may.0 may.1) runs
   rule_24 (phases.Following f) view old runs = quiet h
   rule_24 (phases.Probing b) view old runs = quiet h
   rule_24 (phases.Electing e) view old runs = quiet h

@@ -31,6 +31,7 @@ use Rattle.version_laws.proofs.Maps.{put_here, mark_here}
 use Rattle.wire_frames.specs.declared.message.Message.TheVariants as messages
 use Rattle.phase_rows.specs.declared.phase.PhaseOut.{PhaseOut}
 use Rattle.phase_rows.specs.declared.phase.Then.TheVariants as thens
+use Rattle.phase_rows.specs.declared.rules.PhaseRule.TheVariants as phase_rules
 use Rattle.election_refinement.proofs.Keeps.{keeps_both, elect_keeps, accept_keeps, known_keeps, first_keeps, changed_of}
 use Rattle.election_refinement.specs.Keeps.{Keeps}
 use Rattle.election_refinement.proofs.Numbers.{proposer_of-number, same_epochs, newer_place, not_newer_place, place_epoch, place_same, place_trans}
@@ -80,7 +81,7 @@ not_new trusted me new may is_new = by_views new.views is_new (part trusted (not
 
 -- a peer that starts an epoch accepts it at once, or waits for a sync
 pub starts_either : (P : Election × PhaseOut → Type 0) (trusted : Bool) (me : ℕ) (new : Fact)
-    → (may_accept trusted me new ≡ true → P (Starting new (alone me) 0, saves_and_sends new (others_of me (members new.views)) (messages.NewEpoch new) (thens.Rule 14)))
+    → (may_accept trusted me new ≡ true → P (Starting new (alone me) 0, saves_and_sends new (others_of me (members new.views)) (messages.NewEpoch new) (thens.Rule phase_rules.EnoughAccepted)))
     → P (Starting new nobody 0, sends (others_of me (members new.views)) (messages.NewEpoch new) (thens.SyncOn new)) → P (starts trusted me new)
 unfolding starts
 starts_either P trusted me new accepts waits = by_test P (may_accept trusted me new) _ _ accepts (λ may_not. waits)
@@ -187,7 +188,7 @@ module _ {c : Course} {l : Ledger} {x : State} {stored : Option Fact} (h : Fits 
       unchanged = unchanged (l.changed d) refl;
     }
 
-    begun_goes : may_accept x.trusted p new ≡ true → Goes c l stored (electing (Starting new (alone p) 0) x, saves_and_sends new (others_of p (members new.views)) (messages.NewEpoch new) (thens.Rule 14))
+    begun_goes : may_accept x.trusted p new ≡ true → Goes c l stored (electing (Starting new (alone p) 0) x, saves_and_sends new (others_of p (members new.views)) (messages.NewEpoch new) (thens.Rule phase_rules.EnoughAccepted))
     begun_goes may = record {
       ledger = accept chosen p d;
       keeps = keeps_both l chosen (accept chosen p d) p (elect_keeps l p d (fact_place base) proposes preparing.fresh) (accept_keeps chosen p d h.peer.saved.ballot);
@@ -244,7 +245,7 @@ module _ {c : Course} {l : Ledger} {x : State} {stored : Option Fact} (h : Fits 
       by_test (λ (r : Election × PhaseOut). Goes c l stored (electing r.0 x, r.1)) (is_newer promised base) _ _
       (λ newer. unmoved (enters h (phases.Electing now)
       (counted l p from x.fact base promised promised promises old told told.known told.lower (newer_place promised base told.known.epoch old.known.epoch newer) (place_same (fact_place promised))) runs) asks tt)
-      (λ older. names h 13 (phases.Electing (Preparing base (joined from promises) asked age))
+      (λ older. names h phase_rules.EnoughPromised (phases.Electing (Preparing base (joined from promises) asked age))
       (counted l p from x.fact base base promised promises old told old.known old.above (place_same (fact_place base)) (not_newer_place promised base told.known.epoch old.known.epoch older)) runs)
     where
       now : Election

@@ -29,17 +29,18 @@ use Rattle.leading.specs.declared.leader.Leader.{Leader}
 use Rattle.peer_state.specs.Leading.{end_of, older, row_5_calls, ticks, wished}
 use Rattle.peer_state.specs.Moves.{electing, following, leading, left, probing, stood, stopped_leading, untrusted, waiting_for, waiting_phase, with_leader, without_candidacy}
 use Rattle.peer_state.specs.Rows.{aged, announced, asked_change, begun_change, calm, change_heard, changes as has_changes, ended, has_begun, leader_heard, leads, phase_row, prepared, received, runs_sync, wanting, while_8, while_9, while_10, while_12, while_13, while_14, while_15, while_17, while_25, while_26}
-use Rattle.peer_plan.specs.Starts.{first_state}
+use Rattle.peer_plan.specs.Starts.{first_state, opening_saved}
 use Rattle.peer_state.specs.declared.state.ChangeState.{ChangeState}
 use Rattle.peer_state.specs.declared.state.ChangeState.TheVariants.{Settled, Wanted, Finishing as Finishes}
 use Rattle.peer_state.specs.declared.state.Leadership.{Leadership}
 use Rattle.peer_state.specs.declared.state.Phase.{Phase}
 use Rattle.peer_state.specs.declared.state.Phase.TheVariants as phases
 use Rattle.peer_state.specs.declared.state.State.{State}
-use Rattle.peer_fact.specs.Facts.{changed_views, opening_fact, views_after, without_old}
+use Rattle.peer_fact.specs.Facts.{changed_views, views_after, without_old}
 use Rattle.peer_fact.specs.declared.fact.Change.{Change}
 use Rattle.peer_fact.specs.declared.fact.Change.TheVariants as changes
 use Rattle.peer_fact.specs.declared.fact.Fact.{Fact}
+use Rattle.peer_fact.specs.declared.saved.SavedFact.{SavedFact}
 use Rattle.phase_rows.specs.Orders.{is_below, is_joint, is_same, is_newer, may_accept}
 use Rattle.phase_rows.specs.Peers.{joined, others_outside}
 use Rattle.phase_rows.specs.Rows.{at_ballot, leaves_leading, sends, silent}
@@ -54,6 +55,8 @@ use Rattle.wire_frames.specs.declared.message.NackCause.TheVariants as causes
 use Rattle.phase_rows.specs.declared.phase.PhaseOut.{PhaseOut}
 use Rattle.phase_rows.specs.declared.phase.Then.{Then}
 use Rattle.phase_rows.specs.declared.phase.Then.TheVariants as thens
+use Rattle.phase_rows.specs.declared.rules.PhaseRule.{PhaseRule}
+use Rattle.phase_rows.specs.declared.rules.PhaseRule.TheVariants as phase_rules
 use Rattle.election_refinement.proofs.Calls.{tick_stays}
 use Rattle.election_refinement.proofs.Elections.{starts_either}
 use Rattle.election_refinement.proofs.Numbers.{same_epochs}
@@ -407,7 +410,7 @@ module _ {voting : List (List ℕ)} {p : ℕ} {x : State} (h : IsListedPeer voti
   -- ## Ticks
 
   -- a tick that changes only the phase, and may run rule 7
-  anew : (phase : Phase) (test : Bool) → IsListedPhase voting p x.trusted phase → G (record x { phase = phase }, silent (if test then thens.Rule 7 else thens.Stay))
+  anew : (phase : Phase) (test : Bool) → IsListedPhase voting p x.trusted phase → G (record x { phase = phase }, silent (if test then thens.Rule phase_rules.BeginProbing else thens.Stay))
   anew phase test listed =
       by_test (λ (turn : Then). G (record x { phase = phase }, silent turn)) test _ _
       (λ is. goes h.fact listed h.sync tt tt)
@@ -434,15 +437,14 @@ module _ {voting : List (List ℕ)} {p : ℕ} {x : State} (h : IsListedPeer voti
   -- ## All rows
 
   -- the row of a rule that a row names
-  pub listed_phase_row : (n : ℕ) → GoesListed voting p (phase_row n p x)
-  listed_phase_row n =
-      by_test G (n == 7) _ _ (λ is. goes h.fact (record { best = h.fact; count = h.fact.count }) tt tt tt) (λ not.
-      by_test G (n == 9) _ _ (λ is. rule_9 x.phase h.phase) (λ not.
-      by_test G (n == 10) _ _ (λ is. rule_10 x.phase h.phase) (λ not.
-      by_test G (n == 13) _ _ (λ is. rule_13 x.phase h.phase) (λ not.
-      by_test G (n == 14) _ _ (λ is. rule_14 x.phase h.phase) (λ not.
-      by_test G (n == 25) _ _ (λ is. rule_25 x.phase h.phase) (λ not.
-      by_test G (n == 26) _ _ (λ is. rule_26 x.phase) (λ not. quiet)))))))
+  pub listed_phase_row : (rule : PhaseRule) → GoesListed voting p (phase_row rule p x)
+  listed_phase_row phase_rules.BeginProbing = goes h.fact (record { best = h.fact; count = h.fact.count }) tt tt tt
+  listed_phase_row phase_rules.EnoughHeard = rule_9 x.phase h.phase
+  listed_phase_row phase_rules.Prepare = rule_10 x.phase h.phase
+  listed_phase_row phase_rules.EnoughPromised = rule_13 x.phase h.phase
+  listed_phase_row phase_rules.EnoughAccepted = rule_14 x.phase h.phase
+  listed_phase_row phase_rules.BeginChange = rule_25 x.phase h.phase
+  listed_phase_row phase_rules.EndEpoch = rule_26 x.phase
 
   -- the row for a listed message of another peer
   pub listed_received : (from : ℕ) (message : Message) → (from ≡ p → ⊥) → IsListedMessage voting message → GoesListed voting p (received p from message x)
@@ -546,10 +548,10 @@ module _ {voting : List (List ℕ)} {trusted : Bool} {l : Leadership} (h : IsLis
 
 -- ## Starts
 
--- a peer that starts from a listed fact
-pub listed_started : (voting : List (List ℕ)) (p : ℕ) (fact : Fact) (trusted : Bool) → IsListedFact voting fact → IsListedPeer voting p (first_state fact trusted)
-listed_started voting p fact trusted listed = record { fact = listed; phase = tt; sync = tt }
+-- a peer that starts from a listed fact, with any seal
+pub listed_started : (voting : List (List ℕ)) (p : ℕ) (saved : SavedFact) (trusted : Bool) → IsListedFact voting saved.fact → IsListedPeer voting p (first_state saved trusted)
+listed_started voting p saved trusted listed = record { fact = listed; phase = tt; sync = tt }
 
 -- a peer that starts over nothing kept, in a view that may vote
-pub listed_opening : (voting : List (List ℕ)) (p : ℕ) (view : List ℕ) → view ∈ voting → IsListedPeer voting p (first_state (opening_fact view) true)
-listed_opening voting p view votes = listed_started voting p (opening_fact view) true (record { views = one_voting voting view votes; first = votes; change = tt; count = lit< tt; epoch = lit< tt })
+pub listed_opening : (voting : List (List ℕ)) (p : ℕ) (view : List ℕ) → view ∈ voting → IsListedPeer voting p (first_state (opening_saved view) true)
+listed_opening voting p view votes = listed_started voting p (opening_saved view) true (record { views = one_voting voting view votes; first = votes; change = tt; count = lit< tt; epoch = lit< tt })

@@ -1,8 +1,9 @@
 -- A whole step of a peer: each row is performed alike, and the tasks of a step run one after
 -- another.
-use Rattle.std.proofs.Common.{◌≡◌, ℕ, zero, suc, ◌==◌, Bool, true, false, List, [], ◌∷◌, ◌++◌, Option, Some, None, arith, refl, ap, ◌∙◌, sym, subst}
+use Rattle.std.proofs.Common.{◌≡◌, ℕ, zero, suc, Bool, true, false, List, [], ◌∷◌, ◌++◌, Option, Some, None, arith, refl, ap, ◌∙◌, sym, subst}
 use Rattle.std.specs.Prelude.{All}
 use Rattle.std.proofs.lemmas.List.Elements.{All-nil, All-append, All-weaker}
+use Rattle.std.proofs.lemmas.Option.{none-some, same_Some}
 use Rattle.abstract_protocol.specs.Ledger.{Ledger, join, is_established}
 use Rattle.abstract_protocol.specs.Numbers.{epoch_number}
 use Rattle.election.specs.declared.election.Election.TheVariants.{Preparing, Starting}
@@ -26,12 +27,12 @@ use Rattle.leading.specs.Starts.{row_27}
 use Rattle.leading.specs.Ticks.{row_5_calls as calls_of_tick}
 use Rattle.leading.specs.declared.leader.Leader.{Leader}
 use Rattle.peer_plan.specs.Drives.{row_done, owned, followed_up, and_row, lead_done, lead, reminded, task_done, driven, most_turns, led_in, ticked, shown, after_put, put_done, delivered, unavailable, called, and_change, first, concluded, step_of}
-use Rattle.peer_plan.specs.Syncs.{saved, and_sends, with_sync, installed, accepted, accepted_in, synced, ended_with, gone_on, begun_sync, resumed_sync, followed_on, reached, own_node, body_of, shown_node, needs_node, taken_give}
+use Rattle.peer_plan.specs.Syncs.{saved, and_sends, with_sync, installed, accepted, accepted_in, end_sync, by_outcome, go_on, start_sync, resume_sync, followed_on, reached, own_node, body_of, shown_node, needs_node, take_give}
 use Rattle.peer_state.specs.Leading.{begins, end_of, older, row_5_calls, ticks, wished}
 use Rattle.peer_state.specs.Moves.{electing, left, left_answers, and_answers, without_sync, leading, with_leader, turned, ends_leading, turned_answers}
 use Rattle.peer_plan.specs.Owns.{digested, read, kept, fetched, held, looked_at, looked, found_at, found, entered, written, confirmed}
 use Rattle.peer_state.specs.Rows.{aged, asked_change, changes, leads, phase_row, received}
-use Rattle.peer_plan.specs.Starts.{first_state, opened, start_of}
+use Rattle.peer_plan.specs.Starts.{opened, start_of}
 use Rattle.peer_state.specs.declared.event.CallIn.{CallIn}
 use Rattle.peer_state.specs.declared.event.Event.{Event}
 use Rattle.peer_state.specs.declared.event.Event.TheVariants as events
@@ -40,6 +41,7 @@ use Rattle.peer_state.specs.declared.state.Phase.{Phase}
 use Rattle.peer_state.specs.declared.state.Phase.TheVariants as phases
 use Rattle.peer_state.specs.declared.state.State.{State}
 use Rattle.peer_fact.specs.declared.fact.Fact.{Fact}
+use Rattle.peer_fact.specs.declared.saved.SavedFact.{SavedFact}
 use Rattle.phase_rows.specs.Orders.{is_same}
 use Rattle.phase_rows.specs.Peers.{joined}
 use Rattle.register_model.specs.declared.note.Note.{Note}
@@ -57,6 +59,7 @@ use Rattle.step_plans.specs.declared.tasks.Task.{Task}
 use Rattle.step_plans.specs.declared.tasks.Task.TheVariants as tasks
 use Rattle.step_plans.specs.declared.walked.Walked.{Walked}
 use Rattle.step_plans.specs.declared.walked.Walked.TheVariants.{Reached, Broken}
+use Rattle.step_plans.specs.Saved.{bare}
 use Rattle.sync_rule.specs.Syncs.{needs_build, outcome_of}
 use Rattle.sync_rule.specs.declared.sync.Outcome.{Outcome}
 use Rattle.sync_rule.specs.declared.sync.Outcome.TheVariants.{Pending, Trusted}
@@ -68,6 +71,7 @@ use Rattle.phase_rows.specs.declared.phase.Seen.{Seen}
 use Rattle.phase_rows.specs.declared.phase.Seen.TheVariants as seens
 use Rattle.phase_rows.specs.declared.phase.Then.{Then}
 use Rattle.phase_rows.specs.declared.phase.Then.TheVariants as thens
+use Rattle.phase_rows.specs.declared.rules.PhaseRule.TheVariants as phase_rules
 use Rattle.election_refinement.proofs.Calls.{IsOfCalls, AsksPeer, BeginsNothing, StillLeads, joined_stays, got_stays, stands_stays, put_heard_stays, lead_stays, tick_stays}
 use Rattle.election_refinement.proofs.Changes.{rule_24, is_second, older_holds, wished_holds}
 use Rattle.election_refinement.proofs.Keeps.{keeps_both, join_keeps, sends_keep}
@@ -78,10 +82,10 @@ use Rattle.election_refinement.proofs.Rows.{saved_in, stored_in, made_way, settl
 use Rattle.election_refinement.proofs.Rules.{phase_goes, received_goes}
 use Rattle.election_refinement.proofs.Saving.{own_accepted}
 use Rattle.election_refinement.proofs.Sets.{posted_to_hold}
-use Rattle.election_refinement.proofs.Syncing.{questions_hold, acceptance_holds, stands_at, synced_fits, counts_itself}
+use Rattle.election_refinement.proofs.Syncing.{questions_hold, acceptance_holds, stands_at, end_sync_fits, counts_itself}
 use Rattle.election_refinement.proofs.Tests.{by_test}
 use Rattle.election_refinement.proofs.Ticks.{aged_goes, ticks_hold}
-use Rattle.election_refinement.specs.Refinement.{IsKept, IsLeading, IsStarted, MessageHolds, PhaseHolds, may_wait, MaySync, IsSyncing, SyncHolds, SendHolds}
+use Rattle.election_refinement.specs.Refinement.{IsKept, IsSaved, IsLeading, IsStarted, MessageHolds, PhaseHolds, may_wait, MaySync, IsSyncing, SyncHolds, SendHolds}
 
 -- what an event asserts
 abbrev pub EventHolds : Ledger → Event → Type 0
@@ -122,12 +126,12 @@ module _ (c : Course) (before : Ledger) where
 
   -- At its end the plan leaves the peer in agreement with the run, whatever the tree and the backend
   -- return. A plan may end at a call that is refused: the stores then keep the old fact, or the new
-  -- one of a save.
+  -- one of a save. With which seals they keep them does not matter.
   abbrev pub Good : Plan State → Option Fact → Type 0
   Good (Done x out) stored = Here x stored out
   Good (Say n plan) stored = Good plan stored
-  Good (Ask Load next) stored = Rests stored × Good (next stored) stored
-  Good (Ask (Save fact) next) stored = Rests stored × (Rests (Some fact) × Good (next tt) (Some fact))
+  Good (Ask Load next) stored = Rests stored × ((kept : Option SavedFact) → bare kept ≡ stored → Good (next kept) stored)
+  Good (Ask (Save new) next) stored = Rests stored × (Rests (Some new.fact) × Good (next tt) (Some new.fact))
   Good (Ask call next) stored = Rests stored × ((answer : AnswerOf call) → Good (next answer) stored)
 
   rests : (x : State) (stored : Option Fact) (out : Out) → Here x stored out → Rests stored
@@ -184,7 +188,7 @@ module _ (c : Course) (before : Ledger) where
   -- a peer that accepted the epoch of its fact, and runs no sync
   accepted_good : (phase : Phase) (x : State) (stored : Option Fact) (out : Out) (next : Rest State (List Task)) → (h : Here (without_sync x) stored out) → PhaseHolds h.ledger p x.fact phase → x.fact.ballot ≡ x.fact.epoch → Onward next
       → Good (accepted_in p x.fact phase (without_sync x) out next) stored
-  accepted_good (phases.Electing (Starting new accepts age)) x stored out next h old own_ballot go = go (tasks.Phase 14 ∷ []) (electing (Starting new (joined p accepts) age) (without_sync x)) stored out (record {
+  accepted_good (phases.Electing (Starting new accepts age)) x stored out next h old own_ballot go = go (tasks.Phase phase_rules.EnoughAccepted ∷ []) (electing (Starting new (joined p accepts) age) (without_sync x)) stored out (record {
     ledger = h.ledger;
     keeps = h.keeps;
     fits = enters_alone h.fits (phases.Electing (Starting new (joined p accepts) age)) (counts_itself h.ledger p x.fact new accepts own_ballot (own_accepted h.fits) old);
@@ -199,9 +203,9 @@ module _ (c : Course) (before : Ledger) where
   -- syncs may end in the step
   module _ (joins : c.joins) where
     -- at the end of a sync the peer accepts the epoch that it promised
-    synced_good : (r : Running) (entries : List Entry) (x : State) (stored : Option Fact) (out : Out) (next : Rest State (List Task)) → (h : Here (without_sync x) stored out) → MaySync h.ledger x.fact (may_wait x.phase) r.fact → Onward next
-        → Good (synced p r entries x out next) stored
-    synced_good r entries x stored out next h may go =
+    end_sync_good : (r : Running) (entries : List Entry) (x : State) (stored : Option Fact) (out : Out) (next : Rest State (List Task)) → (h : Here (without_sync x) stored out) → MaySync h.ledger x.fact (may_wait x.phase) r.fact → Onward next
+        → Good (end_sync p r entries x out next) stored
+    end_sync_good r entries x stored out next h may go =
         installed_good (needs_build r.sync.scan entries) entries (without_sync x) stored out _ (rests (without_sync x) stored out h)
         (λ u. saved_good (Some r.fact) (without_sync x) stored out (λ v z o. accepted_in p r.fact z.phase (record z { trusted = true }) o next)
         (rests (without_sync x) stored out h)
@@ -215,26 +219,26 @@ module _ (c : Course) (before : Ledger) where
         there =
             let k = join_keeps h.ledger p (epoch_number r.fact.epoch) (stands_at h.fits r.fact may) in
             let m = join h.ledger p (epoch_number r.fact.epoch) in
-            record { ledger = m; keeps = keeps_both before h.ledger m p h.keeps k; fits = synced_fits h.fits r.fact may joins; sends = sends_keep h.ledger m p k p out.sends h.sends }
+            record { ledger = m; keeps = keeps_both before h.ledger m p h.keeps k; fits = end_sync_fits h.fits r.fact may joins; sends = sends_keep h.ledger m p k p out.sends h.sends }
 
     ended_good : (r : Running) (outcome : Outcome) (x : State) (stored : Option Fact) (out : Out) (next : Rest State (List Task)) → (h : Here (without_sync x) stored out) → IsSyncing h.ledger p x.fact (may_wait x.phase) r → Onward next
-        → Good (ended_with p r outcome x out next) stored
+        → Good (by_outcome p r outcome x out next) stored
     ended_good r Pending x stored out next h syncing go = go [] (with_sync r x) stored out (runs r x stored out h syncing)
-    ended_good r (Trusted entries) x stored out next h syncing go = synced_good r entries x stored out next h syncing.may go
+    ended_good r (Trusted entries) x stored out next h syncing go = end_sync_good r entries x stored out next h syncing.may go
 
-    gone_on_good : (r : Running × List Outgoing) (x : State) (stored : Option Fact) (out : Out) (next : Rest State (List Task)) → (h : Here (without_sync x) stored out) → IsSyncing h.ledger p x.fact (may_wait x.phase) r.0 → All (SendHolds h.ledger p) r.1 → Onward next
-        → Good (gone_on p r x out next) stored
-    gone_on_good r x stored out next h syncing hold go = ended_good r.0 (outcome_of r.0.sync) x stored (and_sends out r.1) next (tells (without_sync x) stored out r.1 h hold) syncing go
+    go_on_good : (r : Running × List Outgoing) (x : State) (stored : Option Fact) (out : Out) (next : Rest State (List Task)) → (h : Here (without_sync x) stored out) → IsSyncing h.ledger p x.fact (may_wait x.phase) r.0 → All (SendHolds h.ledger p) r.1 → Onward next
+        → Good (go_on p r x out next) stored
+    go_on_good r x stored out next h syncing hold go = ended_good r.0 (outcome_of r.0.sync) x stored (and_sends out r.1) next (tells (without_sync x) stored out r.1 h hold) syncing go
 
-    begun_good : (new : Fact) (x : State) (stored : Option Fact) (out : Out) (next : Rest State (List Task)) → (h : Here (without_sync x) stored out) → MaySync h.ledger x.fact (may_wait x.phase) new → Onward next → Good (begun_sync p new x out next) stored
+    begun_good : (new : Fact) (x : State) (stored : Option Fact) (out : Out) (next : Rest State (List Task)) → (h : Here (without_sync x) stored out) → MaySync h.ledger x.fact (may_wait x.phase) new → Onward next → Good (start_sync p new x out next) stored
     unfolding asked
     begun_good new x stored out next h may go = (
       rests (without_sync x) stored out h,
-      λ scan. gone_on_good (row_start new p x.trusted scan) x stored out next h (record { may = may; asks = asks_are p (last_view new.views) })
+      λ scan. go_on_good (row_start new p x.trusted scan) x stored out next h (record { may = may; asks = asks_are p (last_view new.views) })
           (questions_hold h.ledger p (row_start new p x.trusted scan).0 (row_start new p x.trusted scan).1 (start_go new p x.trusted scan) (start_ask new p x.trusted scan)) go,
     )
 
-    resumed_good : (sync : Option Running) (x : State) (stored : Option Fact) (out : Out) (next : Rest State (List Task)) → (h : Here x stored out) → SyncHolds h.ledger p x.fact (may_wait x.phase) sync → Onward next → Good (resumed_sync sync x out next) stored
+    resumed_good : (sync : Option Running) (x : State) (stored : Option Fact) (out : Out) (next : Rest State (List Task)) → (h : Here x stored out) → SyncHolds h.ledger p x.fact (may_wait x.phase) sync → Onward next → Good (resume_sync sync x out next) stored
     resumed_good None x stored out next h holds go = go [] x stored out h
     resumed_good (Some r) x stored out next h holds go =
         go [] (with_sync (row_resume r).0 x) stored (and_sends out (row_resume r).1)
@@ -243,10 +247,10 @@ module _ (c : Course) (before : Ledger) where
         (record { may = holds.may; asks = resumed_are p r holds.asks }))
 
     taken_good : (from : ℕ) (give : Give) (own : Option (List ℕ)) (sync : Option Running) (x : State) (stored : Option Fact) (out : Out) (next : Rest State (List Task)) → (h : Here x stored out) → SyncHolds h.ledger p x.fact (may_wait x.phase) sync → Onward next
-        → Good (taken_give p from give own sync x out next) stored
+        → Good (take_give p from give own sync x out next) stored
     taken_good from give own None x stored out next h holds go = go [] x stored out h
     taken_good from give own (Some r) x stored out next h holds go =
-        gone_on_good (row_take from give own r) x stored out next (without x stored out h)
+        go_on_good (row_take from give own r) x stored out next (without x stored out h)
         (record { may = subst (MaySync h.ledger x.fact (may_wait x.phase)) (sym (fact_stays from give own r)) holds.may; asks = taken_are p from give own r holds.asks })
         (questions_hold h.ledger p r (row_take from give own r).1 (take_go p from give own r holds.asks) (take_ask p from give own r holds.asks)) go
 
@@ -255,6 +259,7 @@ module _ (c : Course) (before : Ledger) where
     followed_on_good (thens.SyncOn new) x stored out next h syncs go = begun_good new x stored out next h syncs go
     followed_on_good thens.Resume x stored out next h syncs go = resumed_good x.sync x stored out next h h.fits.peer.sync go
     followed_on_good (thens.Rule n) x stored out next h syncs go = go (named (thens.Rule n)) x stored out h
+    followed_on_good (thens.OnKeys n) x stored out next h syncs go = go [] x stored out h
     followed_on_good thens.Stay x stored out next h syncs go = go [] x stored out h
     followed_on_good thens.Follow x stored out next h syncs go = go [] x stored out h
     followed_on_good (thens.Lead fact) x stored out next h syncs go = go [] x stored out h
@@ -343,10 +348,10 @@ module _ (c : Course) (before : Ledger) where
     confirmed_good (Some entry) (Some o) x stored out next h go =
         asked_good (Hash (object_spelling o)) tt x stored out _ h (λ digest y s q there. go (matching entry (Some (o, digest))) y s q there)
 
-    owned_good : (n : ℕ) (own : Own) → Passes (owned n own)
-    owned_good n (owns.Look key) x stored out next h go =
-        by_test (λ (plan : Plan State). Good plan stored) (n == 28) _ _ (λ is. fetched_good key x stored out next h go) (λ not. looked_good key x stored out next h go)
-    owned_good n (owns.Put o) x stored out next h go = written_good o x stored out next h go
+    owned_good : (own : Own) → Passes (owned own)
+    owned_good (owns.Fetch key) x stored out next h go = fetched_good key x stored out next h go
+    owned_good (owns.Look key) x stored out next h go = looked_good key x stored out next h go
+    owned_good (owns.Put o) x stored out next h go = written_good o x stored out next h go
 
     own_node_good : (needed : Bool) (at : Position) → Passes (own_node needed at)
     own_node_good true at x stored out next h go = asked_good (ReadNode at) tt x stored out _ h (λ walked y s q there. go (reached walked) y s q there)
@@ -358,10 +363,10 @@ module _ (c : Course) (before : Ledger) where
 
     -- ## Rows of leaders
 
-    followed_good : (n : ℕ) (own : Option Own) (then : Then) (keys : List (List ℕ)) → BeginsNothing then → Passes (followed_up p n own then keys)
-    followed_good n None then keys leads x stored out next h go =
+    followed_good : (own : Option Own) (then : Then) (keys : List (List ℕ)) → BeginsNothing then → Passes (followed_up p own then keys)
+    followed_good None then keys leads x stored out next h go =
         go (keyed then keys) (turned p then x) stored (turned_answers then x out) (moved x (turned p then x) stored out (turned_answers then x out) h (turned_fits then x leads h.fits) (answers_send_nothing (ends_leading then) x out))
-    followed_good n (Some own) then keys leads x stored out next h go = owned_good n own x stored out _ h (λ seen y s q there. go _ y s q there)
+    followed_good (Some own) then keys leads x stored out next h go = owned_good own x stored out _ h (λ seen y s q there. go _ y s q there)
 
     asks_hold : (l : Ledger) (sends : List Outgoing) → All AsksPeer sends → All (SendHolds l p) sends
     asks_hold l sends ask = All-weaker AsksPeer (SendHolds l p) (λ o h. (h.0, of_calls o.message h.1)) sends ask
@@ -372,10 +377,10 @@ module _ (c : Course) (before : Ledger) where
         of_calls (messages.Put ballot object) is = tt
         of_calls other is = absurd is
 
-    lead_done_good : (n : ℕ) (row : LeadOut) → All AsksPeer row.sends → BeginsNothing row.then → Passes (lead_done p n row)
-    lead_done_good n row sends leads x stored out next h go =
-        noted_good row.notes (followed_up p n row.own row.then row.keys (left row.leave x) (and_row row x out) next) stored
-        (followed_good n row.own row.then row.keys leads (left row.leave x) stored (and_row row x out) next (record {
+    lead_done_good : (row : LeadOut) → All AsksPeer row.sends → BeginsNothing row.then → Passes (lead_done p row)
+    lead_done_good row sends leads x stored out next h go =
+        noted_good row.notes (followed_up p row.own row.then row.keys (left row.leave x) (and_row row x out) next) stored
+        (followed_good row.own row.then row.keys leads (left row.leave x) stored (and_row row x out) next (record {
           ledger = h.ledger;
           keeps = h.keeps;
           fits = left_fits row.leave x h.fits;
@@ -392,19 +397,19 @@ module _ (c : Course) (before : Ledger) where
     }
 
     -- a rule of a leader, whatever the phase
-    lead_good : (row : Leader → Leader × LeadOut) → ((leader : Leader) → StillLeads leader.fact leader.accepts (row leader)) → (n : ℕ) (phase : Phase) (x : State) (stored : Option Fact) (out : Out) (next : Rest State (List Task))
-        → (h : Here x stored out) → PhaseHolds h.ledger p x.fact phase → SyncHolds h.ledger p x.fact (may_wait phase) x.sync → Onward next → Good (lead row p n phase x out next) stored
-    lead_good row stays n (phases.Leading l) x stored out next h old syncing go =
+    lead_good : (row : Leader → Leader × LeadOut) → ((leader : Leader) → StillLeads leader.fact leader.accepts (row leader)) → (phase : Phase) (x : State) (stored : Option Fact) (out : Out) (next : Rest State (List Task))
+        → (h : Here x stored out) → PhaseHolds h.ledger p x.fact phase → SyncHolds h.ledger p x.fact (may_wait phase) x.sync → Onward next → Good (lead row p phase x out next) stored
+    lead_good row stays (phases.Leading l) x stored out next h old syncing go =
         let led = stays l.leader in
-        lead_done_good n (row l.leader).1 led.sends led.next (leading (with_leader (row l.leader).0 l) x) stored out next (record {
+        lead_done_good (row l.leader).1 led.sends led.next (leading (with_leader (row l.leader).0 l) x) stored out next (record {
           ledger = h.ledger;
           keeps = h.keeps;
           fits = enters h.fits (phases.Leading (with_leader (row l.leader).0 l)) (still_leads h.ledger x.fact l (row l.leader).0 led.fact led.accepts old) syncing;
           sends = h.sends;
         }) go
-    lead_good row stays n (phases.Following f) x stored out next h old syncing go = go [] x stored out h
-    lead_good row stays n (phases.Probing b) x stored out next h old syncing go = go [] x stored out h
-    lead_good row stays n (phases.Electing e) x stored out next h old syncing go = go [] x stored out h
+    lead_good row stays (phases.Following f) x stored out next h old syncing go = go [] x stored out h
+    lead_good row stays (phases.Probing b) x stored out next h old syncing go = go [] x stored out h
+    lead_good row stays (phases.Electing e) x stored out next h old syncing go = go [] x stored out h
 
     -- rule 5 (d) and (e): the other members of the views are sent one message each, and a change that
     -- is wanted begins
@@ -425,12 +430,10 @@ module _ (c : Course) (before : Ledger) where
     -- ## Tasks
 
     task_good : (task : Task) → Passes (task_done p task)
-    task_good (tasks.Phase n) x stored out next h go =
-        by_test (λ (plan : Plan State). Good plan stored) (n == 5) _ _
-        (λ is. reminded_good x.phase x stored out next h h.fits.peer.phase h.fits.peer.sync go)
-        (λ not. row_good (phase_row n p x) x stored out next h (phase_goes h.fits n) go)
-    task_good (tasks.Key n key) x stored out next h go = lead_good (lead_row n key seens.Nothing) (lead_stays n key seens.Nothing) n x.phase x stored out next h h.fits.peer.phase h.fits.peer.sync go
-    task_good (tasks.Again n key seen) x stored out next h go = lead_good (lead_row n key seen) (lead_stays n key seen) n x.phase x stored out next h h.fits.peer.phase h.fits.peer.sync go
+    task_good (tasks.Phase n) x stored out next h go = row_good (phase_row n p x) x stored out next h (phase_goes h.fits n) go
+    task_good tasks.Remind x stored out next h go = reminded_good x.phase x stored out next h h.fits.peer.phase h.fits.peer.sync go
+    task_good (tasks.Key n key) x stored out next h go = lead_good (lead_row n key seens.Nothing) (lead_stays n key seens.Nothing) x.phase x stored out next h h.fits.peer.phase h.fits.peer.sync go
+    task_good (tasks.Again n key seen) x stored out next h go = lead_good (lead_row n key seen) (lead_stays n key seen) x.phase x stored out next h h.fits.peer.phase h.fits.peer.sync go
 
     drive_good : (n : ℕ) (ts : List Task) → Passes (driven p n ts)
     unfolding driven
@@ -444,12 +447,12 @@ module _ (c : Course) (before : Ledger) where
     -- rule 5 (a) to (c), of a leader
     led_good : (l : Leadership) (x : State) (stored : Option Fact) (out : Out) (next : Rest State (List Task)) → (h : Here x stored out) → IsLeading h.ledger p x.fact l → SyncHolds h.ledger p x.fact false x.sync → Onward next → Good (led_in p (phases.Leading l) x out next) stored
     led_good l x stored out next h old syncing go =
-        lead_done_good 5 (row_5_calls x.fact l).1 led.sends led.next (leading (row_5_calls x.fact l).0 x) stored out (λ ts y o. next (ts ++ tasks.Phase 5 ∷ []) y o) (record {
+        lead_done_good (row_5_calls x.fact l).1 led.sends led.next (leading (row_5_calls x.fact l).0 x) stored out (λ ts y o. next (ts ++ tasks.Remind ∷ []) y o) (record {
           ledger = h.ledger;
           keeps = h.keeps;
           fits = enters h.fits (phases.Leading (row_5_calls x.fact l).0) (still_leads h.ledger x.fact (record l { change = older l.change }) (row_5_calls x.fact l).0.leader led.fact led.accepts one_older) syncing;
           sends = h.sends;
-        }) (λ ts y s o there. go (ts ++ tasks.Phase 5 ∷ []) y s o there)
+        }) (λ ts y s o there. go (ts ++ tasks.Remind ∷ []) y s o there)
       where
         led : StillLeads l.leader.fact l.leader.accepts (calls_of_tick (end_of (older l.change)) l.leader)
         led = tick_stays (end_of (older l.change)) l.leader
@@ -480,11 +483,11 @@ module _ (c : Course) (before : Ledger) where
     delivered_good from (messages.GetReply ballot round key entry object) x stored out next h says go =
         by_test (λ (plan : Plan State). Good plan stored) (leads x.phase) _ _
         (λ is. confirmed_good entry object x stored out _ h
-        (λ sent y s q there. lead_good (row_29_reply from ballot round key entry sent) (got_stays from ballot round key entry sent) 29 y.phase y s q next there there.fits.peer.phase there.fits.peer.sync go))
+        (λ sent y s q there. lead_good (row_29_reply from ballot round key entry sent) (got_stays from ballot round key entry sent) y.phase y s q next there there.fits.peer.phase there.fits.peer.sync go))
         (λ not. go [] x stored out h)
     delivered_good from (messages.PutReply ballot key version) x stored out next h says go =
-        lead_good (row_35_reply from ballot key version) (put_heard_stays from ballot key version) 35 x.phase x stored out next h h.fits.peer.phase h.fits.peer.sync go
-    delivered_good from (messages.CheckReply ballot round) x stored out next h says go = lead_good (row_33_reply from ballot round) (stands_stays from ballot round) 33 x.phase x stored out next h h.fits.peer.phase h.fits.peer.sync go
+        lead_good (row_35_reply from ballot key version) (put_heard_stays from ballot key version) x.phase x stored out next h h.fits.peer.phase h.fits.peer.sync go
+    delivered_good from (messages.CheckReply ballot round) x stored out next h says go = lead_good (row_33_reply from ballot round) (stands_stays from ballot round) x.phase x stored out next h h.fits.peer.phase h.fits.peer.sync go
     delivered_good from (messages.TreeAsk ballot at after) x stored out next h says go =
         shown_node_good (is_same ballot x.fact.ballot) (record { position = at; after = after }) x stored out _ h
         (λ body y s q there. harmless_good (row_23 y.fact y.trusted from ballot at after body) (row_23_harmless y.fact y.trusted from ballot at after body) y s q next there go)
@@ -497,7 +500,7 @@ module _ (c : Course) (before : Ledger) where
     called_good : (call : CallIn) → Passes (called p call)
     called_good call x stored out next h go =
         by_test (λ (plan : Plan State). Good plan stored) (leads x.phase) _ _
-        (λ is. lead_good (row_27 call.from call.id call.key call.command (changes x.phase)) (joined_stays call.from call.id call.key call.command (changes x.phase)) 27 x.phase x stored out next h h.fits.peer.phase h.fits.peer.sync go)
+        (λ is. lead_good (row_27 call.from call.id call.key call.command (changes x.phase)) (joined_stays call.from call.id call.key call.command (changes x.phase)) x.phase x stored out next h h.fits.peer.phase h.fits.peer.sync go)
         (λ not. go [] x stored (and_answers out (unavailable call ∷ [])) (moved x x stored out (and_answers out (unavailable call ∷ [])) h h.fits refl))
 
     -- rule 24
@@ -525,19 +528,23 @@ module _ (c : Course) (before : Ledger) where
     step_good event x stored h says =
         event_good event x stored nothing (driving (λ u y o. concluded p y o (λ v z q. Done z q))) h says
         (driving_goes (λ u y o. concluded p y o (λ v z q. Done z q)) (λ u y s o there.
-        task_good (tasks.Phase 26) y s o (driving (λ v z q. Done z q)) there (driving_goes (λ v z q. Done z q) (λ v z t q end. end))))
+        task_good (tasks.Phase phase_rules.EndEpoch) y s o (driving (λ v z q. Done z q)) there (driving_goes (λ v z q. Done z q) (λ v z t q end. end))))
 
   -- rule 1, a start from a kept fact: the peer follows, and does not trust its tree
   pub start_good : (view : List ℕ) (stored : Option Fact) → Rests stored → Good (start_of view) stored
-  start_good view stored r = (r, subst (λ s. Good (opened view s) s) (sym r.kept.kept) (opens, λ u. follows_on))
+  start_good view stored r = (r, opens)
     where
-      opens : Rests (Some r.kept.fact)
-      opens = record { ledger = r.ledger; keeps = r.keeps; reaches = r.reaches; kept = record { fact = r.kept.fact; kept = refl; saved = r.kept.saved } }
-
-      follows_on : Here (first_state r.kept.fact false) (Some r.kept.fact) nothing
-      follows_on = record {
-        ledger = r.ledger;
-        keeps = r.keeps;
-        fits = record { reaches = r.reaches; peer = record { saved = r.kept.saved; kept = refl; phase = tt; sync = tt } };
-        sends = All-nil (SendHolds r.ledger p);
-      }
+      opens : (kept : Option SavedFact) → bare kept ≡ stored → Good (opened view kept) stored
+      opens None is = absurd (none-some r.kept.fact (is ∙ r.kept.kept))
+      opens (Some k) is = (
+        r,
+        λ u. record {
+          ledger = r.ledger;
+          keeps = r.keeps;
+          fits = record {
+            reaches = r.reaches;
+            peer = record { saved = subst (IsSaved r.ledger p) (sym (same_Some k.fact r.kept.fact (is ∙ r.kept.kept))) r.kept.saved; kept = sym is; phase = tt; sync = tt };
+          };
+          sends = All-nil (SendHolds r.ledger p);
+        },
+      )

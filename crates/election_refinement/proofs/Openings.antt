@@ -1,5 +1,5 @@
 -- The world of a schedule before its first event and after its last.
-use Rattle.std.proofs.Common.{◌≡◌, ℕ, zero, suc, ◌<◌, ◌≤◌, true, List, [], ◌∷◌, inl, Some, slice_get, replicate, arith, lit<, refl, sym, subst}
+use Rattle.std.proofs.Common.{◌≡◌, ℕ, zero, suc, ◌<◌, ◌≤◌, true, List, [], ◌∷◌, inl, Some, slice_get, replicate, arith, lit<, refl, ap, sym, subst}
 use Rattle.std.proofs.lemmas.Bool.{false≢true}
 use Rattle.std.proofs.lemmas.Bool.Decides.{nat_tests}
 use Rattle.std.proofs.lemmas.List.Elements.{All-nil}
@@ -9,6 +9,7 @@ use Rattle.ens_base.specs.View.{IsView}
 use Rattle.peer_fact.specs.Facts.{opening_fact}
 use Rattle.schedule_text.specs.Spelling.{MayStand, AllMayStand}
 use Rattle.schedule_text.specs.declared.event.ScheduleEvent.{ScheduleEvent}
+use Rattle.step_plans.specs.Saved.{bare}
 use Rattle.world_spec.proofs.Ending.{opening_is}
 use Rattle.world_spec.proofs.Obeying.{IsFine, opening_fine}
 use Rattle.world_spec.specs.Lines.{applied, run_from, run_of_schedule}
@@ -44,7 +45,7 @@ module _ (view : List ℕ) where
   started : (p : ℕ) → NodeHolds (opening_ledger view) p (opening_node view)
   started p =
       let o = opening_is view in
-      subst (NodeHolds (opening_ledger view) p) (sym o.is) (record { saved = saved_first p; kept = o.kept; phase = tt; sync = tt })
+      subst (NodeHolds (opening_ledger view) p) (sym o.is) (record { saved = saved_first p; kept = ap bare o.kept; phase = tt; sync = tt })
 
   pub orderly_first : IsOrderly (opening_ledger view)
   orderly_first = record { reached = λ d h. zero_only d h; fits = λ d h. absurd (false≢true h); adopted = λ q d h. absurd (false≢true h); left = λ d h later. absurd (none d (zero_only d h) later) }

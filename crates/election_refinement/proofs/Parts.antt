@@ -43,6 +43,8 @@ use Rattle.wire_frames.specs.declared.message.NackCause.TheVariants as causes
 use Rattle.phase_rows.specs.declared.phase.PhaseOut.{PhaseOut}
 use Rattle.phase_rows.specs.declared.phase.Then.{Then}
 use Rattle.phase_rows.specs.declared.phase.Then.TheVariants as thens
+use Rattle.phase_rows.specs.declared.rules.PhaseRule.{PhaseRule}
+use Rattle.phase_rows.specs.declared.rules.PhaseRule.TheVariants as phase_rules
 use Rattle.election_refinement.proofs.Elections.{starts_either}
 use Rattle.election_refinement.proofs.Tests.{by_test}
 use Rattle.election_refinement.specs.Refinement.{PhaseHolds, PeerHolds}
@@ -276,7 +278,7 @@ module _ (l : Ledger) (p : ℕ) (x : State) where
   ends_epoch (Finishes f) unanswered = answers (silent next) (by_test LeadsNot (may_end f x.fact unanswered) _ _ (λ may. by_test LeadsNot (is_member (views_after x.fact) p) _ _ (λ member. tt) (λ stranger. tt)) (λ may_not. tt))
     where
       next : Then
-      next = if may_end f x.fact unanswered then (if is_member (views_after x.fact) p then thens.Rule 10 else thens.Follow) else thens.Stay
+      next = if may_end f x.fact unanswered then (if is_member (views_after x.fact) p then thens.Rule phase_rules.Prepare else thens.Follow) else thens.Stay
 
   rule_26 : (phase : Phase) → PartGoes l x (while_26 phase p x)
   rule_26 (phases.Leading leadership) = ends_epoch leadership.change (has_calls leadership.leader.table.calls)
@@ -287,13 +289,13 @@ module _ (l : Ledger) (p : ℕ) (x : State) where
   rule_2 : (f : Follower) → PartGoes l x (following (row_2 f x.fact p).0 x, (row_2 f x.fact p).1)
   rule_2 f =
       by_test (λ (r : Follower × PhaseOut). PartGoes l x (following r.0 x, r.1)) (is_member x.fact.views p) _ _
-      (λ member. ends refl (neither (f.quiet + 1 == 6) (thens.Rule 7) thens.Stay tt tt))
+      (λ member. ends refl (neither (f.quiet + 1 == 6) (thens.Rule phase_rules.BeginProbing) thens.Stay tt tt))
       (λ stranger. ends refl tt)
 
   rules_2_to_4 : (phase : Phase) → part phase ≡ part x.phase → PartGoes l x (aged phase p x)
   rules_2_to_4 (phases.Following f) same = rule_2 f
-  rules_2_to_4 (phases.Probing b) same = ends refl (neither (b.age + 1 == 6) (thens.Rule 7) thens.Stay tt tt)
-  rules_2_to_4 (phases.Electing (Preparing base promises asked age)) same = ends refl (neither (age + 1 == 6) (thens.Rule 7) thens.Stay tt tt)
+  rules_2_to_4 (phases.Probing b) same = ends refl (neither (b.age + 1 == 6) (thens.Rule phase_rules.BeginProbing) thens.Stay tt tt)
+  rules_2_to_4 (phases.Electing (Preparing base promises asked age)) same = ends refl (neither (age + 1 == 6) (thens.Rule phase_rules.BeginProbing) thens.Stay tt tt)
   rules_2_to_4 (phases.Electing (Starting new accepts age)) same =
       by_test (λ (row : PhaseOut). PartGoes l x (electing (Starting new accepts (age + 1)) x, row)) (age + 1 == 8) _ _
       (λ spent. stays same tt)
@@ -304,15 +306,14 @@ module _ (l : Ledger) (p : ℕ) (x : State) where
 
   module _ {stored : Option Fact} (peer : PeerHolds l p x stored) where
     -- the row of a rule that a row names
-    pub phase_row_turns : (n : ℕ) → PartGoes l x (phase_row n p x)
-    phase_row_turns n = let G : State × PhaseOut → Type 0 = PartGoes l x in
-        by_test G (n == 7) _ _ (λ is. ends refl tt) (λ not.
-        by_test G (n == 9) _ _ (λ is. rule_9 x.phase) (λ not.
-        by_test G (n == 10) _ _ (λ is. rule_10 x.phase) (λ not.
-        by_test G (n == 13) _ _ (λ is. rule_13 x.phase refl peer.phase) (λ not.
-        by_test G (n == 14) _ _ (λ is. rule_14 x.phase refl) (λ not.
-        by_test G (n == 25) _ _ (λ is. rule_25 x.phase refl) (λ not.
-        by_test G (n == 26) _ _ (λ is. rule_26 x.phase) (λ not. quiet)))))))
+    pub phase_row_turns : (rule : PhaseRule) → PartGoes l x (phase_row rule p x)
+    phase_row_turns phase_rules.BeginProbing = ends refl tt
+    phase_row_turns phase_rules.EnoughHeard = rule_9 x.phase
+    phase_row_turns phase_rules.Prepare = rule_10 x.phase
+    phase_row_turns phase_rules.EnoughPromised = rule_13 x.phase refl peer.phase
+    phase_row_turns phase_rules.EnoughAccepted = rule_14 x.phase refl
+    phase_row_turns phase_rules.BeginChange = rule_25 x.phase refl
+    phase_row_turns phase_rules.EndEpoch = rule_26 x.phase
 
     -- the row for a message
     pub received_turns : (from : ℕ) (message : Message) → PartGoes l x (received p from message x)

@@ -15,6 +15,7 @@ use Rattle.probe.specs.Probing.{first_probing, heard_from, bettered}
 use Rattle.probe.specs.declared.probing.Probing.{Probing}
 use Rattle.phase_rows.specs.declared.phase.PhaseOut.{PhaseOut}
 use Rattle.phase_rows.specs.declared.phase.Then.{Then}
+use Rattle.phase_rows.specs.declared.rules.PhaseRule.TheVariants as phase_rules
 use Rattle.election_refinement.proofs.Numbers.{newer_place, place_same, place_trans}
 use Rattle.election_refinement.proofs.Reaching.{Course}
 use Rattle.election_refinement.proofs.Rows.{Fits, Goes, unmoved, enters, enters_alone, quiet, rests_in, names}
@@ -54,13 +55,13 @@ module _ {c : Course} {l : Ledger} {x : State} {stored : Option Fact} (h : Fits 
   rule_8 (phases.Probing b) from reply old runs told =
       by_test (λ (r : Probing × PhaseOut). Goes c l stored (probing r.0 x, r.1)) (is_newer reply b.best) _ _
       (λ newer. unmoved (enters h (phases.Probing (bettered (heard_from b from reply) reply)) (bettered_holds l x.fact reply b from old told newer) runs) tt tt)
-      (λ older. names h 9 (phases.Probing (heard_from b from reply)) (heard_holds l x.fact reply b from old) runs)
+      (λ older. names h phase_rules.EnoughHeard (phases.Probing (heard_from b from reply)) (heard_holds l x.fact reply b from old) runs)
   rule_8 other from reply old runs told = quiet h
 
   -- rule 9
   pub rule_9 : (phase : Phase) → PhaseHolds l p x.fact phase → SyncHolds l p x.fact (may_wait phase) x.sync → Goes c l stored (while_9 phase x)
   rule_9 (phases.Probing b) old runs =
       by_test (λ (turn : Then). Goes c l stored (probing b x, silent turn)) (is_quorum (holds b.heard) b.best.views) _ _
-      (λ enough. names h 10 (phases.Probing b) old runs)
+      (λ enough. names h phase_rules.Prepare (phases.Probing b) old runs)
       (λ few. rests_in h (phases.Probing b) old runs)
   rule_9 other old runs = quiet h

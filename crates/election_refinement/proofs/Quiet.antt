@@ -32,6 +32,7 @@ use Rattle.wire_frames.specs.declared.message.NackCause.{NackCause}
 use Rattle.wire_frames.specs.declared.message.NackCause.TheVariants as causes
 use Rattle.phase_rows.specs.declared.phase.PhaseOut.{PhaseOut}
 use Rattle.phase_rows.specs.declared.phase.Then.{Then}
+use Rattle.phase_rows.specs.declared.rules.PhaseRule.TheVariants as phase_rules
 use Rattle.election_refinement.proofs.Numbers.{same_epochs}
 use Rattle.election_refinement.proofs.Reaching.{Course, reaches_safe}
 use Rattle.election_refinement.proofs.Rows.{Fits, Goes, unmoved, enters_alone, quiet, follows, rests_in, names}
@@ -159,7 +160,7 @@ module _ {c : Course} {l : Ledger} {x : State} {stored : Option Fact} (h : Fits 
   pub rule_17 : (phase : Phase) (from : ℕ) (ballot : Epoch) (seq : ℕ) → PhaseHolds l p x.fact phase → SyncHolds l p x.fact (may_wait phase) x.sync → IsAcceptance l from ballot seq → Goes c l stored (while_17 phase from ballot seq x)
   rule_17 (phases.Electing (Starting new accepts age)) from ballot seq old runs told =
       by_test (λ (r : Election × PhaseOut). Goes c l stored (electing r.0 x, r.1)) (is_same ballot x.fact.ballot && seq == 1) _ _
-      (λ own. names h 14 (phases.Electing (Starting new (joined from accepts) age)) (record { started = counted l p from seq ballot x.fact new accepts told own old.started; unchanged = old.unchanged }) runs)
+      (λ own. names h phase_rules.EnoughAccepted (phases.Electing (Starting new (joined from accepts) age)) (record { started = counted l p from seq ballot x.fact new accepts told own old.started; unchanged = old.unchanged }) runs)
       (λ other. rests_in h (phases.Electing (Starting new accepts age)) old runs)
   rule_17 (phases.Electing (Preparing base promises asked age)) from ballot seq old runs told = rests_in h (phases.Electing (Preparing base promises asked age)) old runs
   rule_17 (phases.Leading y) from ballot seq old runs told = rests_in h (phases.Leading (leader_heard y x.fact from ballot seq)) (heard l p from seq ballot x.fact y told old) runs

@@ -73,6 +73,7 @@ module _ {c : Course} {l : Ledger} {stored : Option Fact} where
   turned_fits thens.Resume x nothing h = h
   turned_fits (thens.SyncOn fact) x nothing h = absurd nothing
   turned_fits (thens.Rule n) x nothing h = h
+  turned_fits (thens.OnKeys n) x nothing h = h
 
 -- no sync makes way for another one
 made_no_way : (then : Then) (x : State) → BeginsNothing then → made_way then x ≡ x

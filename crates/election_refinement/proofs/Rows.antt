@@ -14,6 +14,7 @@ use Rattle.running_sync.specs.Running.{Running}
 use Rattle.phase_rows.specs.declared.phase.PhaseOut.{PhaseOut}
 use Rattle.phase_rows.specs.declared.phase.Then.{Then}
 use Rattle.phase_rows.specs.declared.phase.Then.TheVariants as thens
+use Rattle.phase_rows.specs.declared.rules.PhaseRule.{PhaseRule}
 use Rattle.election_refinement.proofs.Keeps.{keeps_none}
 use Rattle.election_refinement.specs.Keeps.{Keeps}
 use Rattle.election_refinement.proofs.Reaching.{Course, Reaches}
@@ -103,5 +104,5 @@ module _ {c : Course} {l : Ledger} {x : State} {stored : Option Fact} (h : Fits 
   rests_in phase holds runs = unmoved (enters phase holds runs) tt tt
 
   -- the peer enters a phase, and then a rule runs
-  pub names : (n : ℕ) (phase : Phase) → PhaseHolds l p x.fact phase → SyncHolds l p x.fact (may_wait phase) x.sync → Goes c l stored (record x { phase = phase }, silent (thens.Rule n))
-  names n phase holds runs = unmoved (enters phase holds runs) tt tt
+  pub names : (rule : PhaseRule) (phase : Phase) → PhaseHolds l p x.fact phase → SyncHolds l p x.fact (may_wait phase) x.sync → Goes c l stored (record x { phase = phase }, silent (thens.Rule rule))
+  names rule phase holds runs = unmoved (enters phase holds runs) tt tt

@@ -1,5 +1,5 @@
 -- The rows of the rules: of those that a row names, and of those for a message.
-use Rattle.std.proofs.Common.{ℕ, ◌==◌, Option}
+use Rattle.std.proofs.Common.{ℕ, Option}
 use Rattle.abstract_protocol.specs.Ledger.{Ledger}
 use Rattle.following.specs.Requests.{row_20}
 use Rattle.peer_state.specs.Rows.{phase_row, received}
@@ -7,7 +7,8 @@ use Rattle.peer_state.specs.declared.state.State.{State}
 use Rattle.peer_fact.specs.declared.fact.Fact.{Fact}
 use Rattle.wire_frames.specs.declared.message.Message.{Message}
 use Rattle.wire_frames.specs.declared.message.Message.TheVariants as messages
-use Rattle.phase_rows.specs.declared.phase.PhaseOut.{PhaseOut}
+use Rattle.phase_rows.specs.declared.rules.PhaseRule.{PhaseRule}
+use Rattle.phase_rows.specs.declared.rules.PhaseRule.TheVariants as phase_rules
 use Rattle.election_refinement.proofs.Announcements.{rule_16, rule_18}
 use Rattle.election_refinement.proofs.Changes.{rule_25, rule_26}
 use Rattle.election_refinement.proofs.Elections.{rule_12, rule_13}
@@ -17,22 +18,20 @@ use Rattle.election_refinement.proofs.Quiet.{rule_8_probe, rule_14, rule_15, rul
 use Rattle.election_refinement.proofs.Reaching.{Course}
 use Rattle.election_refinement.proofs.Requests.{row_20_harmless, harmless_goes}
 use Rattle.election_refinement.proofs.Rows.{Fits, Goes, quiet}
-use Rattle.election_refinement.proofs.Tests.{by_test}
 use Rattle.election_refinement.specs.Refinement.{MessageHolds}
 
 module _ {c : Course} {l : Ledger} {x : State} {stored : Option Fact} (h : Fits c l x stored) where
   open c use {peer as p}
 
   -- a rule that a row names
-  pub phase_goes : (n : ℕ) → Goes c l stored (phase_row n p x)
-  phase_goes n = let G : State × PhaseOut → Type 0 = Goes c l stored in
-      by_test G (n == 7) _ _ (λ is. rule_7 h) (λ not.
-      by_test G (n == 9) _ _ (λ is. rule_9 h x.phase h.peer.phase h.peer.sync) (λ not.
-      by_test G (n == 10) _ _ (λ is. rule_10 h x.phase h.peer.phase) (λ not.
-      by_test G (n == 13) _ _ (λ is. rule_13 h x.phase h.peer.phase h.peer.sync) (λ not.
-      by_test G (n == 14) _ _ (λ is. rule_14 h x.phase h.peer.phase h.peer.sync) (λ not.
-      by_test G (n == 25) _ _ (λ is. rule_25 h x.phase h.peer.phase h.peer.sync) (λ not.
-      by_test G (n == 26) _ _ (λ is. rule_26 h x.phase) (λ not. quiet h)))))))
+  pub phase_goes : (rule : PhaseRule) → Goes c l stored (phase_row rule p x)
+  phase_goes phase_rules.BeginProbing = rule_7 h
+  phase_goes phase_rules.EnoughHeard = rule_9 h x.phase h.peer.phase h.peer.sync
+  phase_goes phase_rules.Prepare = rule_10 h x.phase h.peer.phase
+  phase_goes phase_rules.EnoughPromised = rule_13 h x.phase h.peer.phase h.peer.sync
+  phase_goes phase_rules.EnoughAccepted = rule_14 h x.phase h.peer.phase h.peer.sync
+  phase_goes phase_rules.BeginChange = rule_25 h x.phase h.peer.phase h.peer.sync
+  phase_goes phase_rules.EndEpoch = rule_26 h x.phase
 
   -- the rule for a message
   pub received_goes : (from : ℕ) (message : Message) → MessageHolds l from message → Goes c l stored (received p from message x)

@@ -81,8 +81,8 @@ module _ {c : Course} {l : Ledger} {x : State} {stored : Option Fact} (h : Fits 
   stands_at = h.peer.saved.ballot ∙ ap epoch_number (sym may.promised)
 
   -- the peer accepts the fact of the sync, where syncs may end, and trusts its tree
-  abbrev pub synced_fits : c.joins → Fits c (join l p (epoch_number new.epoch)) (record x { fact = new; trusted = true; sync = None }) (Some new)
-  synced_fits joins = joined_fits (trusts h) joins new may.first stands_at (rw (ap (λ (place : Place). place.epoch) h.peer.saved.place) may.newer) x.phase
+  abbrev pub end_sync_fits : c.joins → Fits c (join l p (epoch_number new.epoch)) (record x { fact = new; trusted = true; sync = None }) (Some new)
+  end_sync_fits joins = joined_fits (trusts h) joins new may.first stands_at (rw (ap (λ (place : Place). place.epoch) h.peer.saved.place) may.newer) x.phase
       (phase_joins l p x.fact new x.phase stands_at may h.peer.phase)
 
 -- a starting peer counts itself once it accepted its epoch

@@ -26,6 +26,7 @@ use Rattle.wire_frames.specs.declared.message.Message.TheVariants as messages
 use Rattle.phase_rows.specs.declared.phase.PhaseOut.{PhaseOut}
 use Rattle.phase_rows.specs.declared.phase.Then.{Then}
 use Rattle.phase_rows.specs.declared.phase.Then.TheVariants as thens
+use Rattle.phase_rows.specs.declared.rules.PhaseRule.TheVariants as phase_rules
 use Rattle.election_refinement.proofs.Reaching.{Course}
 use Rattle.election_refinement.proofs.Rows.{Fits, Goes, unmoved, enters, quiet, follows, rests_in, names}
 use Rattle.election_refinement.proofs.Tests.{by_test}
@@ -64,10 +65,10 @@ module _ {c : Course} {l : Ledger} {x : State} {stored : Option Fact} (h : Fits 
   open c use {peer as p}
 
   -- a tick that changes only the phase, and may run rule 7
-  anew : (phase : Phase) (test : Bool) → PhaseHolds l p x.fact phase → SyncHolds l p x.fact (may_wait phase) x.sync → Goes c l stored (record x { phase = phase }, silent (if test then thens.Rule 7 else thens.Stay))
+  anew : (phase : Phase) (test : Bool) → PhaseHolds l p x.fact phase → SyncHolds l p x.fact (may_wait phase) x.sync → Goes c l stored (record x { phase = phase }, silent (if test then thens.Rule phase_rules.BeginProbing else thens.Stay))
   anew phase test holds runs =
       by_test (λ (turn : Then). Goes c l stored (record x { phase = phase }, silent turn)) test _ _
-      (λ is. names h 7 phase holds runs)
+      (λ is. names h phase_rules.BeginProbing phase holds runs)
       (λ not. rests_in h phase holds runs)
 
   -- rules 2 to 4

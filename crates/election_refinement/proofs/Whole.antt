@@ -7,6 +7,7 @@ use Rattle.peer_state.specs.declared.state.State.{State}
 use Rattle.peer_fact.specs.declared.fact.Fact.{Fact}
 use Rattle.wire_frames.specs.declared.message.Message.{Message}
 use Rattle.phase_rows.specs.declared.phase.PhaseOut.{PhaseOut}
+use Rattle.phase_rows.specs.declared.rules.PhaseRule.{PhaseRule}
 use Rattle.election_refinement.proofs.Changes.{rule_24}
 use Rattle.election_refinement.specs.Keeps.{Keeps}
 use Rattle.election_refinement.proofs.Reaching.{AreRowSteps, Course}
@@ -56,8 +57,8 @@ module _ (view : List ℕ) (steps : List Step) (p : ℕ) (is_peer : IsPeer p) (r
       }
 
   -- the row of a rule that a row names
-  pub phase_row_goes : (n : ℕ) → RowGoes view steps p x stored (phase_row n p x)
-  phase_row_goes n = row_goes (phase_row n p x) (phase_goes here n)
+  pub phase_row_goes : (rule : PhaseRule) → RowGoes view steps p x stored (phase_row rule p x)
+  phase_row_goes rule = row_goes (phase_row rule p x) (phase_goes here rule)
 
   -- the row for a message that asserts what holds
   pub received_goes : (from : ℕ) (message : Message) → MessageHolds (ledger_after view steps) from message → RowGoes view steps p x stored (received p from message x)

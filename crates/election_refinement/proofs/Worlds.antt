@@ -29,10 +29,12 @@ use Rattle.schedule_text.specs.declared.event.ScheduleEvent.TheVariants.{Call, T
 use Rattle.schedule_text.specs.declared.keyword.StoreName.{StoreName}
 use Rattle.schedule_text.specs.declared.keyword.StoreName.TheVariants as names
 use Rattle.peer_fact.specs.declared.fact.Fact.{Fact}
+use Rattle.peer_fact.specs.declared.saved.SavedFact.{SavedFact}
 use Rattle.step_plans.specs.Calls.{Call as StoreCall, AnswerOf, Load, Save, FreshTree, OpenTree, Find, Enter, ScanTree, ReadNode, Install, Fetch, Put, Hash}
 use Rattle.step_plans.specs.declared.error.PeerError.{PeerError}
 use Rattle.step_plans.specs.declared.error.PeerError.TheVariants.{StoreFault}
 use Rattle.step_plans.specs.Plans.{Plan, Done, Say, Ask, Ending, Stopped, nothing}
+use Rattle.step_plans.specs.Saved.{bare}
 use Rattle.leader_words.specs.declared.out.Outgoing.{Outgoing}
 use Rattle.wire_frames.specs.declared.frame.Frame.{Frame}
 use Rattle.world_spec.proofs.Ending.{Finishes, run_finishes}
@@ -111,7 +113,7 @@ module _ (c : Course) (before : Ledger) where
   silenced t h = record { ledger = h.ledger; keeps = h.keeps; reaches = h.reaches; node = h.node; sends = All-nil (SendHolds h.ledger c.peer) }
 
   -- the node is down, and its stores keep a fact that agrees with the run
-  down : (st : HeldStores) (ns : List Note) (strings : List (List ℕ)) → Rests c before st.facts.kept → Agrees c before (record { node = Down st; out = nothing; notes = ns; hashed = strings })
+  down : (st : HeldStores) (ns : List Note) (strings : List (List ℕ)) → Rests c before (bare st.facts.kept) → Agrees c before (record { node = Down st; out = nothing; notes = ns; hashed = strings })
   down st ns strings r = record { ledger = r.ledger; keeps = r.keeps; reaches = r.reaches; node = r.kept; sends = All-nil (SendHolds r.ledger c.peer) }
 
   -- a put keeps the fact, whether it fails or not
@@ -125,7 +127,7 @@ module _ (c : Course) (before : Ledger) where
   fact_stays Load h leaves = absurd leaves
   fact_stays (Save fact) h leaves = absurd leaves
   fact_stays FreshTree h leaves = refl
-  fact_stays OpenTree h leaves = refl
+  fact_stays (OpenTree seal) h leaves = refl
   fact_stays (Find key) h leaves = refl
   fact_stays (Enter entry) h leaves = refl
   fact_stays ScanTree h leaves = refl
@@ -135,22 +137,26 @@ module _ (c : Course) (before : Ledger) where
   fact_stays (Put key bytes) h leaves = put_keeps h.stores.backend.faults.pending key bytes _ h
   fact_stays (Hash bytes) h leaves = refl
 
+  -- and so the fact without its seal
+  bare_stays : (call : StoreCall) (h : Held) → LeavesFact call → bare (answered call h).held.stores.facts.kept ≡ bare h.stores.facts.kept
+  bare_stays call h leaves = ap bare (fact_stays call h leaves)
+
   -- what follows the answer to a call
   abbrev goes_on_from : (call : StoreCall) → (AnswerOf call → Plan State) → Held → List Note → Result (AnswerOf call) PeerError → Ended State
   goes_on_from call next held ns r = either r (λ a. run (next a) held ns) (λ error. record { ending = Stopped error; held = held; notes = ns })
 
   -- a call that is no save
-  other_end : (call : StoreCall) (next : AnswerOf call → Plan State) (h : Held) (ns : List Note) (r : Result (AnswerOf call) PeerError) → Rests c before (answered call h).held.stores.facts.kept
+  other_end : (call : StoreCall) (next : AnswerOf call → Plan State) (h : Held) (ns : List Note) (r : Result (AnswerOf call) PeerError) → Rests c before (bare (answered call h).held.stores.facts.kept)
       → ((a : AnswerOf call) → Agrees c before (taken_of (run (next a) (answered call h).held ns))) → Agrees c before (taken_of (goes_on_from call next (answered call h).held ns r))
   other_end call next h ns (Ok a) rests goes = goes a
   other_end call next h ns (Err error) rests goes = down (answered call h).held.stores ns (answered call h).held.hashed rests
 
-  asked_end : (call : StoreCall) (next : AnswerOf call → Plan State) (h : Held) (ns : List Note) → LeavesFact call → Rests c before h.stores.facts.kept
+  asked_end : (call : StoreCall) (next : AnswerOf call → Plan State) (h : Held) (ns : List Note) → LeavesFact call → Rests c before (bare h.stores.facts.kept)
       → ((a : AnswerOf call) → Agrees c before (taken_of (run (next a) (answered call h).held ns))) → Agrees c before (taken_of (run (Ask call next) h ns))
-  asked_end call next h ns leaves rests goes = other_end call next h ns (answered call h).result (subst (Rests c before) (sym (fact_stays call h leaves)) rests) goes
+  asked_end call next h ns leaves rests goes = other_end call next h ns (answered call h).result (subst (Rests c before) (sym (bare_stays call h leaves)) rests) goes
 
   -- a save leaves the fact, or if it fails the old one or the new one
-  saved_end : (o : Option Leaves) (fact : Fact) (next : Unit {0} → Plan State) (h : Held) (ns : List Note) → Rests c before h.stores.facts.kept → Rests c before (Some fact)
+  saved_end : (o : Option Leaves) (fact : SavedFact) (next : Unit {0} → Plan State) (h : Held) (ns : List Note) → Rests c before (bare h.stores.facts.kept) → Rests c before (Some fact.fact)
       → Agrees c before (taken_of (run (next tt) (with_facts (record h.stores.facts { kept = Some fact }) h) ns))
       → Agrees c before (taken_of (let r : Answered (Save fact) = unless_failing o (record { result = Ok tt; held = with_facts (record h.stores.facts { kept = Some fact }) h }) (λ leaves. record { result = Err StoreFault; held = with_facts (facts_failed h.stores.facts (record h.stores.facts { kept = Some fact }) leaves) h }) in goes_on_from (Save fact) next r.held ns r.result))
   saved_end None fact next h ns old new done = done
@@ -158,22 +164,22 @@ module _ (c : Course) (before : Ledger) where
   saved_end (Some left.New) fact next h ns old new done = down _ ns _ new
 
   -- a plan leaves the peer in agreement with the run, however it ends
-  every_end : (plan : Plan State) (h : Held) (ns : List Note) → Good c before plan h.stores.facts.kept → Agrees c before (taken_of (run plan h ns))
+  every_end : (plan : Plan State) (h : Held) (ns : List Note) → Good c before plan (bare h.stores.facts.kept) → Agrees c before (taken_of (run plan h ns))
   every_end (Done x out) h ns good = record { ledger = good.ledger; keeps = good.keeps; reaches = good.fits.reaches; node = good.fits.peer; sends = good.sends }
   every_end (Say n plan) h ns good = every_end plan h (ns ++ n ∷ []) good
-  every_end (Ask Load next) h ns good = every_end (next h.stores.facts.kept) h ns good.1
+  every_end (Ask Load next) h ns good = every_end (next h.stores.facts.kept) h ns (good.1 h.stores.facts.kept refl)
   every_end (Ask (Save fact) next) h ns good =
       saved_end h.stores.facts.faults.pending fact next h ns good.0 good.1.0 (every_end (next tt) (with_facts (record h.stores.facts { kept = Some fact }) h) ns good.1.1)
-  every_end (Ask FreshTree next) h ns good = asked_end FreshTree next h ns tt good.0 (λ a. every_end (next a) (answered FreshTree h).held ns (subst (Good c before (next a)) (sym (fact_stays FreshTree h tt)) (good.1 a)))
-  every_end (Ask OpenTree next) h ns good = asked_end OpenTree next h ns tt good.0 (λ a. every_end (next a) (answered OpenTree h).held ns (subst (Good c before (next a)) (sym (fact_stays OpenTree h tt)) (good.1 a)))
-  every_end (Ask (Find key) next) h ns good = asked_end (Find key) next h ns tt good.0 (λ a. every_end (next a) (answered (Find key) h).held ns (subst (Good c before (next a)) (sym (fact_stays (Find key) h tt)) (good.1 a)))
-  every_end (Ask (Enter entry) next) h ns good = asked_end (Enter entry) next h ns tt good.0 (λ a. every_end (next a) (answered (Enter entry) h).held ns (subst (Good c before (next a)) (sym (fact_stays (Enter entry) h tt)) (good.1 a)))
-  every_end (Ask ScanTree next) h ns good = asked_end ScanTree next h ns tt good.0 (λ a. every_end (next a) (answered ScanTree h).held ns (subst (Good c before (next a)) (sym (fact_stays ScanTree h tt)) (good.1 a)))
-  every_end (Ask (ReadNode at) next) h ns good = asked_end (ReadNode at) next h ns tt good.0 (λ a. every_end (next a) (answered (ReadNode at) h).held ns (subst (Good c before (next a)) (sym (fact_stays (ReadNode at) h tt)) (good.1 a)))
-  every_end (Ask (Install entries) next) h ns good = asked_end (Install entries) next h ns tt good.0 (λ a. every_end (next a) (answered (Install entries) h).held ns (subst (Good c before (next a)) (sym (fact_stays (Install entries) h tt)) (good.1 a)))
-  every_end (Ask (Fetch key) next) h ns good = asked_end (Fetch key) next h ns tt good.0 (λ a. every_end (next a) (answered (Fetch key) h).held ns (subst (Good c before (next a)) (sym (fact_stays (Fetch key) h tt)) (good.1 a)))
-  every_end (Ask (Put key bytes) next) h ns good = asked_end (Put key bytes) next h ns tt good.0 (λ a. every_end (next a) (answered (Put key bytes) h).held ns (subst (Good c before (next a)) (sym (fact_stays (Put key bytes) h tt)) (good.1 a)))
-  every_end (Ask (Hash bytes) next) h ns good = asked_end (Hash bytes) next h ns tt good.0 (λ a. every_end (next a) (answered (Hash bytes) h).held ns (subst (Good c before (next a)) (sym (fact_stays (Hash bytes) h tt)) (good.1 a)))
+  every_end (Ask FreshTree next) h ns good = asked_end FreshTree next h ns tt good.0 (λ a. every_end (next a) (answered FreshTree h).held ns (subst (Good c before (next a)) (sym (bare_stays FreshTree h tt)) (good.1 a)))
+  every_end (Ask (OpenTree seal) next) h ns good = asked_end (OpenTree seal) next h ns tt good.0 (λ a. every_end (next a) (answered (OpenTree seal) h).held ns (subst (Good c before (next a)) (sym (bare_stays (OpenTree seal) h tt)) (good.1 a)))
+  every_end (Ask (Find key) next) h ns good = asked_end (Find key) next h ns tt good.0 (λ a. every_end (next a) (answered (Find key) h).held ns (subst (Good c before (next a)) (sym (bare_stays (Find key) h tt)) (good.1 a)))
+  every_end (Ask (Enter entry) next) h ns good = asked_end (Enter entry) next h ns tt good.0 (λ a. every_end (next a) (answered (Enter entry) h).held ns (subst (Good c before (next a)) (sym (bare_stays (Enter entry) h tt)) (good.1 a)))
+  every_end (Ask ScanTree next) h ns good = asked_end ScanTree next h ns tt good.0 (λ a. every_end (next a) (answered ScanTree h).held ns (subst (Good c before (next a)) (sym (bare_stays ScanTree h tt)) (good.1 a)))
+  every_end (Ask (ReadNode at) next) h ns good = asked_end (ReadNode at) next h ns tt good.0 (λ a. every_end (next a) (answered (ReadNode at) h).held ns (subst (Good c before (next a)) (sym (bare_stays (ReadNode at) h tt)) (good.1 a)))
+  every_end (Ask (Install entries) next) h ns good = asked_end (Install entries) next h ns tt good.0 (λ a. every_end (next a) (answered (Install entries) h).held ns (subst (Good c before (next a)) (sym (bare_stays (Install entries) h tt)) (good.1 a)))
+  every_end (Ask (Fetch key) next) h ns good = asked_end (Fetch key) next h ns tt good.0 (λ a. every_end (next a) (answered (Fetch key) h).held ns (subst (Good c before (next a)) (sym (bare_stays (Fetch key) h tt)) (good.1 a)))
+  every_end (Ask (Put key bytes) next) h ns good = asked_end (Put key bytes) next h ns tt good.0 (λ a. every_end (next a) (answered (Put key bytes) h).held ns (subst (Good c before (next a)) (sym (bare_stays (Put key bytes) h tt)) (good.1 a)))
+  every_end (Ask (Hash bytes) next) h ns good = asked_end (Hash bytes) next h ns tt good.0 (λ a. every_end (next a) (answered (Hash bytes) h).held ns (subst (Good c before (next a)) (sym (bare_stays (Hash bytes) h tt)) (good.1 a)))
 
 module _ (view : List ℕ) (steps : List Step) (spared : ℕ → Type 0) where
   -- the world refines an extension of the run, and the spared peers run
@@ -254,7 +260,7 @@ module _ (view : List ℕ) (steps : List Step) (spared : ℕ → Type 0) where
         }
 
     taken_agrees : (event : Event) (node : Node) → NodeHolds (ledger_of w g) p node → EventHolds (ledger_of w g) event → Agrees (course p peer w g) (ledger_of w g) (taken p event node)
-    taken_agrees event (Up x st) holds event_holds = every_end (course p peer w g) (ledger_of w g) (step_of p event x) (held_with st []) [] (step_is_good event x st.facts.kept holds event_holds)
+    taken_agrees event (Up x st) holds event_holds = every_end (course p peer w g) (ledger_of w g) (step_of p event x) (held_with st []) [] (step_is_good event x (bare st.facts.kept) holds event_holds)
     taken_agrees event (Down st) holds event_holds = still (Down st) holds
 
     -- a spared peer stays one
@@ -270,7 +276,7 @@ module _ (view : List ℕ) (steps : List Step) (spared : ℕ → Type 0) where
     started_agrees opening (Up x st) holds = still (Up x st) holds
     started_agrees opening (Down st) holds =
         silenced (course p peer w g) (ledger_of w g) (taken_of (run_over (start_of opening) st)) (every_end (course p peer w g) (ledger_of w g) (start_of opening) (held_with st []) []
-        (start_good (course p peer w g) (ledger_of w g) opening st.facts.kept (record {
+        (start_good (course p peer w g) (ledger_of w g) opening (bare st.facts.kept) (record {
           ledger = ledger_of w g;
           keeps = keeps_none (ledger_of w g) p;
           reaches = begins;
@@ -284,8 +290,8 @@ module _ (view : List ℕ) (steps : List Step) (spared : ℕ → Type 0) where
 
     -- a change of the stores that keeps the fact
     over_agrees : (f : HeldStores → HeldStores) → ((st : HeldStores) → (f st).facts.kept ≡ st.facts.kept) → (node : Node) → NodeHolds (ledger_of w g) p node → Agrees (course p peer w g) (ledger_of w g) (silent (over_stores f node))
-    over_agrees f kept (Up x st) holds = still (Up x (f st)) (subst (PeerHolds (ledger_of w g) p x) (sym (kept st)) holds)
-    over_agrees f kept (Down st) holds = still (Down (f st)) (subst (IsKept (ledger_of w g) p) (sym (kept st)) holds)
+    over_agrees f kept (Up x st) holds = still (Up x (f st)) (subst (PeerHolds (ledger_of w g) p x) (sym (ap bare (kept st))) holds)
+    over_agrees f kept (Down st) holds = still (Down (f st)) (subst (IsKept (ledger_of w g) p) (sym (ap bare (kept st))) holds)
 
     while_agrees : (f : HeldStores → HeldStores) → ((st : HeldStores) → (f st).facts.kept ≡ st.facts.kept) → (node : Node) → NodeHolds (ledger_of w g) p node → Agrees (course p peer w g) (ledger_of w g) (silent (while_down f node))
     while_agrees f kept (Up x st) holds = still (Up x st) holds

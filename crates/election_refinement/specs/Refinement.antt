@@ -28,6 +28,7 @@ use Rattle.wire_frames.specs.declared.frame.Frame.{Frame}
 use Rattle.wire_frames.specs.declared.message.Message.{Message}
 use Rattle.wire_frames.specs.declared.message.Message.TheVariants as messages
 use Rattle.world_spec.specs.Nodes.{Node, Up, Down}
+use Rattle.step_plans.specs.Saved.{bare}
 
 -- ## Facts
 
@@ -220,10 +221,10 @@ pub record IsKept (l : Ledger) (me : ℕ) (stored : Option Fact) : Type 0 where
   pub kept : stored ≡ Some fact
   pub saved : IsSaved l me fact
 
--- a running peer, or one that is down
+-- a running peer, or one that is down; seals say nothing of an election
 abbrev pub NodeHolds : Ledger → ℕ → Node → Type 0
-NodeHolds l me (Up x stores) = PeerHolds l me x stores.facts.kept
-NodeHolds l me (Down stores) = IsKept l me stores.facts.kept
+NodeHolds l me (Up x stores) = PeerHolds l me x (bare stores.facts.kept)
+NodeHolds l me (Down stores) = IsKept l me (bare stores.facts.kept)
 
 -- ## Messages, from peer `sender`
 

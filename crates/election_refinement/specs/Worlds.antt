@@ -16,6 +16,7 @@ use Rattle.world_spec.specs.Nodes.{Node, Up, Down}
 use Rattle.world_spec.specs.Runs.{Run}
 use Rattle.held_stores.specs.Held.{HeldStores}
 use Rattle.election_refinement.specs.Refinement.{fact_place, IsFactClosed, NodeHolds, FrameHolds, IsOrderly}
+use Rattle.step_plans.specs.Saved.{bare}
 
 -- ## Schedules
 
@@ -64,13 +65,13 @@ pub record IsRunning (w : Run) (place : ℕ) : Type 0 where
   pub state : State
   pub stores : HeldStores
   pub at : slice_get w.nodes place ≡ Some (Up state stores)
-  pub kept : stores.facts.kept ≡ Some state.fact
+  pub kept : bare stores.facts.kept ≡ Some state.fact
 
 -- the stores of a running peer keep the fact of its state, and those of a peer that is down keep a
 -- fact
 abbrev pub KeepsFact : Node → Type 0
-KeepsFact (Up x stores) = stores.facts.kept ≡ Some x.fact
-KeepsFact (Down stores) = (fact : Fact) × (stores.facts.kept ≡ Some fact)
+KeepsFact (Up x stores) = bare stores.facts.kept ≡ Some x.fact
+KeepsFact (Down stores) = (fact : Fact) × (bare stores.facts.kept ≡ Some fact)
 
 -- the peer at this place keeps a fact, whether it runs or is down
 pub record IsKeeping (w : Run) (place : ℕ) : Type 0 where
@@ -78,10 +79,10 @@ pub record IsKeeping (w : Run) (place : ℕ) : Type 0 where
   pub at : slice_get w.nodes place ≡ Some node
   pub keeps : KeepsFact node
 
--- the fact that the stores of a peer keep
+-- the fact that the stores of a peer keep, without its seal
 abbrev pub kept_by : Node → Option Fact
-kept_by (Up x stores) = stores.facts.kept
-kept_by (Down stores) = stores.facts.kept
+kept_by (Up x stores) = bare stores.facts.kept
+kept_by (Down stores) = bare stores.facts.kept
 
 -- the stores of the peer at this place keep the fact
 pub record HasFact (w : Run) (place : ℕ) (f : Fact) : Type 0 where

@@ -7,6 +7,7 @@ use Rattle.ens_base.specs.declared.command.Command.{Command}
 use Rattle.ens_base.specs.declared.reply.Reply.{Reply}
 use Rattle.register_model.specs.declared.register.Register.{Register}
 use Rattle.phase_rows.specs.declared.phase.Then.TheVariants.{Stay}
+use Rattle.phase_rows.specs.declared.rules.KeyRule.TheVariants as key_rules
 use Rattle.ens_base.specs.declared.epoch.Version.{Version}
 use Rattle.ens_object.specs.declared.object.Object.{Object}
 use Rattle.key_commands.specs.Commands.{verdict_of}
@@ -84,7 +85,7 @@ module _ (g h : Ghosts) (s : State) (steps : List Step) (key : List ℕ) (owed :
     notes = noted;
     sends = say;
     ready = λ e. ended_idle key l.table;
-    next = (refl, ready_free 36 key (record l { table = ended key l.table }) refl free);
+    next = (refl, ready_free key_rules.StartNextCall key (record l { table = ended key l.table }) refl free);
   }
 
 -- ## Rule 34
@@ -113,7 +114,7 @@ module _ (g : Ghosts) (s : State) (laws : LeadersMove s) (stay : TablesStay s) (
         (ap (λ (c : Command). outcome c (register_at s.book (settled_rank (row_at key l.table.rows).known))) (agree_running s.book key l.table.calls w work.fits.calls is) ∙ e)
 
     concluded_so : (o : Outcome) → outcome w.command (object_register current) ≡ o → Follows g s key owed l (concluded (verdict_of o) w key (with_task tasks.Nothing l))
-    concluded_so (Writes content) e = tasked_so g s key owed l work w is 31 (tasks.Write content (base key l)) (sure_began g s (record { peer = l.me; owed = owed }) (epoch_number l.fact.epoch) key (known_of (row_at key l.table.rows).known) (waiting_behind key l.table.calls) w.id sure_row) (record {
+    concluded_so (Writes content) e = tasked_so g s key owed l work w is key_rules.Write (tasks.Write content (base key l)) (sure_began g s (record { peer = l.me; owed = owed }) (epoch_number l.fact.epoch) key (known_of (row_at key l.table.rows).known) (waiting_behind key l.table.calls) w.id sure_row) (record {
       parent_holds = subst (λ (u : ℕ). IsParent s (epoch_number l.fact.epoch) key u) (sym (base_rank (row_at key l.table.rows).known)) (settled_parent g s (epoch_number l.fact.epoch) key (known_of (row_at key l.table.rows).known) sure_row.stage.2 (sure_row.known refl));
       applies = ap (λ (u : ℕ). outcome w.command (register_at s.book u)) (base_rank (row_at key l.table.rows).known) ∙ outcome_here (Writes content) e;
       fits = base_fits (row_at key l.table.rows).known (work.fits.rows key).0;

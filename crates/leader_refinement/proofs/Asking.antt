@@ -13,6 +13,7 @@ use Rattle.quorum_round.specs.declared.round.Round.{Round}
 use Rattle.wire_frames.specs.declared.message.Message.TheVariants.{Get}
 use Rattle.phase_rows.specs.declared.phase.Seen.{Seen}
 use Rattle.phase_rows.specs.declared.phase.Seen.TheVariants as seens
+use Rattle.phase_rows.specs.declared.rules.KeyRule.TheVariants as key_rules
 use Rattle.abstract_protocol.specs.Ledger.{put}
 use Rattle.abstract_protocol.specs.Numbers.{epoch_number}
 use Rattle.abstract_protocol.specs.Protocol.{State, Step, IsRun, state_after}
@@ -96,7 +97,7 @@ module _ (g : Ghosts) (s : State) (key : List ℕ) (owed : List Owed) (w : Waiti
       → IsLeaderMove g s [] h (record { epoch = epoch_number m.fact.epoch; seat = record { peer = m.me; owed = owed }; seq = m.seq; round = m.round; rows = rows }) → AreElsewhere key rows m.table
       → RowHolds h s (record { peer = m.me; owed = owed }) (epoch_number m.fact.epoch) key (theory.row_of (known_of (row_at key m.table.rows).known) (theory.Reading w.id round (voters votes) (best_rank best) (best_object best)) (waiting_behind key m.table.calls))
       → TurnsHold h s → LeaderFits h.hash s m → IsOn m.fact.views votes → FoundFits best × FoundNames h.hash key best → (sends : List Outgoing) → All (SentSays h s) sends
-      → Follows g s key owed m (stands key (stages.Reading round votes best) m, record (leads_on 30 key) { sends = sends })
+      → Follows g s key owed m (stands key (stages.Reading round votes best) m, record (leads_on key_rules.EnoughReplies key) { sends = sends })
   reads_on h m rows round votes best free is first others row turns fits on found sends say = record {
     steps = [];
     ghosts = h;
@@ -112,7 +113,7 @@ module _ (g : Ghosts) (s : State) (key : List ℕ) (owed : List Owed) (w : Waiti
     notes = sym (append-nil s.book.notes);
     sends = say;
     ready = λ e. absurd cc;
-    next = (refl, ready_free 30 key (record m { table = t }) refl free);
+    next = (refl, ready_free key_rules.EnoughReplies key (record m { table = t }) refl free);
   }
     where
       stage : Stage
@@ -204,13 +205,13 @@ module _ (g : Ghosts) (s : State) (key : List ℕ) (owed : List Owed) (l : Leade
     fits_here : IsOn l.fact.views votes × (FoundFits best × FoundNames g.hash key best)
     fits_here = subst (λ (st : Stage). StageFits g.hash key l.fact.views st) stage (work.fits.rows key).1
 
-    heard_so : ballot ≡ l.fact.epoch → round ≡ asked_in → Follows g s key owed l (stands key (stages.Reading asked_in (heard_from from votes) (better best entry object)) l, leads_on 30 key)
+    heard_so : ballot ≡ l.fact.epoch → round ≡ asked_in → Follows g s key owed l (stands key (stages.Reading asked_in (heard_from from votes) (better best entry object)) l, leads_on key_rules.EnoughReplies key)
     heard_so same here = reads_on g s key owed w g l (table_of key owed l).rows asked_in (heard_from from votes) (better best entry object) free is (no_move g s (table_of key owed l) work.holds) (off_same key owed l)
         (read_counts g s (record { peer = l.me; owed = owed }) (epoch_number l.fact.epoch) key (known_of (row_at key l.table.rows).known) (waiting_behind key l.table.calls) w.id asked_in (voters votes) (voters (heard_from from votes)) best from entry object (answered_fewer votes from) fits_here.1.0 entry_fits
         (subst (λ (r : ℕ). GetReplySays g s from (epoch_number l.fact.epoch) r key (entry_rank entry) (shown entry object)) here (subst (λ (e : Epoch). GetReplySays g s from (epoch_number e) round key (entry_rank entry) (shown entry object)) same says)) reading_row)
         work.turns work.fits (answered_on votes from ∙ fits_here.0) (better_fits best entry object fits_here.1.0 entry_fits, better_names g.hash key best entry object fits_here.1.0 entry_fits fits_here.1.1 names) [] (All-nil (SentSays g s))
 
-    by_counts : (b : Bool) → counts ballot round asked_in l ≡ b → Follows g s key owed l (if b then (stands key (stages.Reading asked_in (heard_from from votes) (better best entry object)) l, leads_on 30 key) else (l, rests))
+    by_counts : (b : Bool) → counts ballot round asked_in l ≡ b → Follows g s key owed l (if b then (stands key (stages.Reading asked_in (heard_from from votes) (better best entry object)) l, leads_on key_rules.EnoughReplies key) else (l, rests))
     by_counts true own = let parts = and_parts (is_same ballot l.fact.epoch) (round == asked_in) own in heard_so (same_epochs ballot l.fact.epoch parts.0) (eqb-true round asked_in parts.1)
     by_counts false other = rests_so g s key owed l work free
 

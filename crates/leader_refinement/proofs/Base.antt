@@ -24,7 +24,8 @@ use Rattle.leading.specs.declared.pending.Pending.TheVariants as tasks
 use Rattle.leader_words.specs.Outs.{rests, leads_on}
 use Rattle.leading.specs.Leaders.{with_task}
 use Rattle.leading.specs.Steps.{Fits, IsCalm}
-use Rattle.phase_rows.specs.declared.phase.Then.TheVariants.{Rule}
+use Rattle.phase_rows.specs.declared.phase.Then.TheVariants.{OnKeys}
+use Rattle.phase_rows.specs.declared.rules.KeyRule.{KeyRule}
 use Rattle.leader_words.specs.declared.out.AnswerOut.{AnswerOut}
 use Rattle.leader_words.specs.declared.out.LeadOut.{LeadOut}
 use Rattle.leader_words.specs.declared.out.Outgoing.{Outgoing}
@@ -259,11 +260,11 @@ module _ (g : Ghosts) (s : State) (key : List ℕ) (owed : List Owed) (l : Leade
   rests_so free = stays rests refl refl refl tt (refl, free)
 
   -- the leader has a task for the running call of the key, on whose row what leads to it holds
-  pub tasked_so : (w : Waiting) → running key l.table.calls ≡ Some w → (n : ℕ) (task : Pending)
+  pub tasked_so : (w : Waiting) → running key l.table.calls ≡ Some w → (rule : KeyRule) (task : Pending)
       → RowHolds g s (record { peer = l.me; owed = owed }) (epoch_number l.fact.epoch) key (row_parts (row_at key l.table.rows).known (Some w) task (row_at key l.table.rows).stage (waiting_behind key l.table.calls))
-      → TaskHolds s (with_task task l) key (row_at key l.table.rows).known (Some w) task → IsReadyFor (Rule n) key l → (IsSome (running key l.table.calls) → Fits n key (with_task task l) task)
-      → Follows g s key owed l (with_task task l, leads_on n key)
-  tasked_so w is n task row holds ready suits = record {
+      → TaskHolds s (with_task task l) key (row_at key l.table.rows).known (Some w) task → IsReadyFor (OnKeys rule) key l → (IsSome (running key l.table.calls) → Fits rule key (with_task task l) task)
+      → Follows g s key owed l (with_task task l, leads_on rule key)
+  tasked_so w is rule task row holds ready suits = record {
     steps = [];
     ghosts = g;
     move = finish g g s [] (table_of key owed l) key task l.table (no_move g s (table_of key owed l) work.holds) (off_same key owed l)

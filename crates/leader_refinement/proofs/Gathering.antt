@@ -12,6 +12,7 @@ use Rattle.key_commands.specs.Commands.{blind_verdict}
 use Rattle.key_commands.specs.declared.verdict.Verdict.{Verdict}
 use Rattle.key_commands.specs.declared.verdict.Verdict.TheVariants.{Write}
 use Rattle.phase_rows.specs.Orders.{is_same}
+use Rattle.phase_rows.specs.declared.rules.KeyRule.TheVariants as key_rules
 use Rattle.joint_views.specs.Quorums.{is_quorum}
 use Rattle.quorum_round.specs.Rounds.{state_of}
 use Rattle.quorum_round.specs.declared.round.Round.{Round}
@@ -90,7 +91,7 @@ module _ (g : Ghosts) (s : State) (laws : LeadersMove s) (key : List ℕ) (owed 
   K = known_of (row_at key l.table.rows).known
 
   -- the command is applied, now that this is known of the key
-  applies_so : (known : Known) (current : Option Object) → RowHolds g s P D key (theory.row_of (known_of known) (theory.Sure w.id) Rest) → KnownFits known → object_register current ≡ register_at s.book (settled_rank known) → Follows g s key owed l (with_task (tasks.Apply current) (knows key known l), leads_on 34 key)
+  applies_so : (known : Known) (current : Option Object) → RowHolds g s P D key (theory.row_of (known_of known) (theory.Sure w.id) Rest) → KnownFits known → object_register current ≡ register_at s.book (settled_rank known) → Follows g s key owed l (with_task (tasks.Apply current) (knows key known l), leads_on key_rules.Apply key)
   applies_so known current row fits register = record {
     steps = [];
     ghosts = g;
@@ -129,7 +130,7 @@ module _ (g : Ghosts) (s : State) (laws : LeadersMove s) (key : List ℕ) (owed 
     parent : IsClosed (state_of votes) → IsParent s D key (best_rank best)
     parent closed = keys.read_parent K w.id round (voters votes) (best_rank best) (best_object best) work.holds.elected (reading_row.known refl) reading_row.stage (quorum closed)
 
-    nothing_so : best ≡ None → IsClosed (state_of votes) → Follows g s key owed l (with_task (tasks.Apply None) (knows key knowns.Absent l), leads_on 34 key)
+    nothing_so : best ≡ None → IsClosed (state_of votes) → Follows g s key owed l (with_task (tasks.Apply None) (knows key knowns.Absent l), leads_on key_rules.Apply key)
     nothing_so none closed = applies_so knowns.Absent None (rows.finds_nothing w.id round (voters votes) (best_rank best) (best_object best) work.holds.elected (quorum closed) (ap best_rank none) reading_row) tt refl
 
     module _ (u : Found) (some : best ≡ Some u) (closed : IsClosed (state_of votes)) where
@@ -145,7 +146,7 @@ module _ (g : Ghosts) (s : State) (laws : LeadersMove s) (key : List ℕ) (owed 
       blind_so : (verdict : Verdict) → blind_verdict w.command ≡ Some verdict → Follows g s key owed l (decided (Some u.entry.version) verdict key l)
       blind_so verdict e = let is_blind = blind w.command verdict e in
           subst (λ (v : Verdict). Follows g s key owed l (decided (Some u.entry.version) v key l)) is_blind.verdict_is
-          (tasked_so g s key owed l work w is 31 (tasks.Write is_blind.content (Some u.entry.version)) began_row (record { parent_holds = u_parent; applies = is_blind.writes (register_at s.book (rank u.entry.version)); fits = u_fits }) (λ n. absurd cc) (λ runs. (refl, runs)))
+          (tasked_so g s key owed l work w is key_rules.Write (tasks.Write is_blind.content (Some u.entry.version)) began_row (record { parent_holds = u_parent; applies = is_blind.writes (register_at s.book (rank u.entry.version)); fits = u_fits }) (λ n. absurd cc) (λ runs. (refl, runs)))
 
       lost_so : Follows g s key owed l (without_object AllAnswered w key l)
       lost_so = let move = (laws.rows g (table_of key owed l) key K Rest work.holds).is_lost w.id began_row in
@@ -174,7 +175,7 @@ module _ (g : Ghosts) (s : State) (laws : LeadersMove s) (key : List ℕ) (owed 
             parts : (d : List ℕ) (gone : Bool) → d ≡ u.entry.digest → gone ≡ is_none o.value → theory.Held (rank u.entry.version) o.stamp d gone ≡ theory.Held (rank u.entry.version) o.stamp u.entry.digest (is_none o.value)
             parts d gone e f = rw (e, f) refl
 
-        own_so : is_same u.entry.version.epoch l.fact.epoch ≡ true → Follows g s key owed l (with_task (tasks.Apply (Some o)) (knows key (settled_as u.entry.version o u.entry.digest) l), leads_on 34 key)
+        own_so : is_same u.entry.version.epoch l.fact.epoch ≡ true → Follows g s key owed l (with_task (tasks.Apply (Some o)) (knows key (settled_as u.entry.version o u.entry.digest) l), leads_on key_rules.Apply key)
         own_so same = applies_so (settled_as u.entry.version o u.entry.digest) (Some o)
             (subst (λ (known : theory.Known). RowHolds g s P D key (theory.row_of known (theory.Sure w.id) Rest)) held_same (rows.finds_settled w.id round (voters votes) (rank u.entry.version) (content_of o) work.holds.elected (quorum closed) epoch_is o_row))
             u_fits (register_of_object s (rank u.entry.version) (content_of o) o_is)
@@ -182,15 +183,15 @@ module _ (g : Ghosts) (s : State) (laws : LeadersMove s) (key : List ℕ) (owed 
             epoch_is : epoch_of (rank u.entry.version) ≡ D
             epoch_is = version_epoch (epoch_number u.entry.version.epoch) u.entry.version.seq u_fits.1 ∙ ap epoch_number (same_epochs u.entry.version.epoch l.fact.epoch same)
 
-        earlier_so : Follows g s key owed l (with_task (tasks.Rewrite o) l, leads_on 32 key)
-        earlier_so = tasked_so g s key owed l work w is 32 (tasks.Rewrite o) began_row (record {
+        earlier_so : Follows g s key owed l (with_task (tasks.Rewrite o) l, leads_on key_rules.Rewrite key)
+        earlier_so = tasked_so g s key owed l work w is key_rules.Rewrite (tasks.Rewrite o) began_row (record {
           parent_holds = subst (λ (v : Version). IsParent s D key (rank v)) (sym o_says.0) u_parent;
           object = subst (λ (v : Version). IsObjectOf s (rank v) (content_of o)) (sym o_says.0) o_is;
           fresh = fresh_of_replies s D w.id (voters votes) reading_row.stage.stood (quorum closed);
           fits = subst IsVersion (sym o_says.0) u_fits;
         }) (λ n. absurd cc) (λ runs. (refl, runs))
 
-        by_epoch : (b : Bool) → is_same u.entry.version.epoch l.fact.epoch ≡ b → Follows g s key owed l (if b then (with_task (tasks.Apply (Some o)) (knows key (settled_as u.entry.version o u.entry.digest) l), leads_on 34 key) else (with_task (tasks.Rewrite o) l, leads_on 32 key))
+        by_epoch : (b : Bool) → is_same u.entry.version.epoch l.fact.epoch ≡ b → Follows g s key owed l (if b then (with_task (tasks.Apply (Some o)) (knows key (settled_as u.entry.version o u.entry.digest) l), leads_on key_rules.Apply key) else (with_task (tasks.Rewrite o) l, leads_on key_rules.Rewrite key))
         by_epoch true same = own_so same
         by_epoch false other = earlier_so
 

@@ -5,6 +5,7 @@ use Rattle.std.proofs.lemmas.Bool.{false≢true}
 use Rattle.std.proofs.lemmas.Bool.Decides.{nat_tests}
 use Rattle.std.proofs.lemmas.List.{append-nil}
 use Rattle.std.proofs.lemmas.List.Elements.{All-nil}
+use Rattle.phase_rows.specs.declared.rules.KeyRule.TheVariants as key_rules
 use Rattle.ens_base.specs.Lists.{same_bytes}
 use Rattle.ens_base.proofs.Lists.{bytes_itself}
 use Rattle.ens_base.specs.declared.command.Command.{Command}
@@ -201,10 +202,10 @@ module _ (g : Ghosts) (s : State) (laws : LeadersMove s) (tables : TablesStay s)
           (subst (λ (row : theory.KeyRow). RowHolds Home Called (record { peer = l.me; owed = owed }) (epoch_number l.fact.epoch) key row) (set_here (table_of key owed l).rows key new_row) (move.holds.rows key))
 
   by_tests : (finishing busy alone : Bool) → (waiting_on key l.table.calls == 0) ≡ alone
-      → Follows Home Called key owed l (if finishing then (l, and_answer from id replies.Unavailable rests) else (if busy then (l, and_answer from id replies.Busy rests) else (joined Joining l, if alone then leads_on 28 key else rests)))
+      → Follows Home Called key owed l (if finishing then (l, and_answer from id replies.Unavailable rests) else (if busy then (l, and_answer from id replies.Busy rests) else (joined Joining l, if alone then leads_on key_rules.StartCall key else rests)))
   by_tests true busy alone e = refused_so replies.Unavailable tt
   by_tests false true alone e = refused_so replies.Busy tt
-  by_tests false false true e = joined_so (leads_on 28 key) refl refl refl (λ n. work.fits.calm key (nobody_waits key l.table.calls (eqb-true (waiting_on key l.table.calls) 0 e))) (refl, ready_free 28 key (joined Joining l) refl free)
+  by_tests false false true e = joined_so (leads_on key_rules.StartCall key) refl refl refl (λ n. work.fits.calm key (nobody_waits key l.table.calls (eqb-true (waiting_on key l.table.calls) 0 e))) (refl, ready_free key_rules.StartCall key (joined Joining l) refl free)
   by_tests false false false e = joined_so rests refl refl refl tt (refl, free)
 
   -- the call and what follows

@@ -20,6 +20,7 @@ use Rattle.register_model.specs.declared.register.Register.{Register}
 use Rattle.register_model.specs.declared.register.Register.TheVariants.{Absent, Present}
 use Rattle.phase_rows.specs.declared.phase.Seen.{Seen}
 use Rattle.phase_rows.specs.declared.phase.Seen.TheVariants as seens
+use Rattle.phase_rows.specs.declared.rules.KeyRule.TheVariants as key_rules
 use Rattle.abstract_protocol.specs.Book.{register_at, version_of}
 use Rattle.abstract_protocol.specs.Numbers.{epoch_number}
 use Rattle.abstract_protocol.specs.Protocol.{State, Step, IsRun, state_after}
@@ -31,7 +32,7 @@ use Rattle.call_table.specs.declared.row.Stage.{Stage}
 use Rattle.call_table.specs.declared.row.Stage.TheVariants as stages
 use Rattle.call_table.specs.declared.waiting.Waiting.{Waiting}
 use Rattle.leader_words.specs.Outs.{rests, leads_on, and_own}
-use Rattle.leader_words.specs.declared.out.Own.TheVariants.{Look}
+use Rattle.leader_words.specs.declared.out.Own.TheVariants.{Fetch}
 use Rattle.leading.specs.Leaders.{base, decided}
 use Rattle.leading.specs.Starts.{on_object, by_value, by_stamp, on_present, by_known, started, next_call}
 use Rattle.leading.specs.declared.leader.Leader.{Leader}
@@ -65,15 +66,15 @@ module _ (g : Ghosts) (s : State) (key : List ℕ) (owed : List Owed) (l : Leade
 
   -- the outcome of the command on the settled register: a write, or a check
   pub decided_so : IsSettledKey (known_of K) → (o : Outcome) → outcome w.command (register_at s.book (settled_rank K)) ≡ o → Follows g s key owed l (decided (base key l) (verdict_of o) key l)
-  decided_so settled (Writes content) e = tasked_so g s key owed l work w is 31 (tasks.Write content (base key l)) (row_told g s key owed l work.holds (Some w) is tasks.Nothing free stages.Idle idle) (record {
+  decided_so settled (Writes content) e = tasked_so g s key owed l work w is key_rules.Write (tasks.Write content (base key l)) (row_told g s key owed l work.holds (Some w) is tasks.Nothing free stages.Idle idle) (record {
     parent_holds = subst (λ (u : ℕ). IsParent s (epoch_number l.fact.epoch) key u) (sym (base_rank K)) (settled_parent g s (epoch_number l.fact.epoch) key (known_of K) settled known_holds);
     applies = ap (λ (u : ℕ). outcome w.command (register_at s.book u)) (base_rank K) ∙ e;
     fits = base_fits K (work.fits.rows key).0;
   }) (λ n. idle) (λ runs. (refl, runs))
-  decided_so settled (Keeps reply) e = tasked_so g s key owed l work w is 33 (tasks.Check reply) (row_told g s key owed l work.holds (Some w) is tasks.Nothing free stages.Idle idle) (record { settled = settled; keeps = e }) (λ n. idle) (λ runs. (refl, runs))
+  decided_so settled (Keeps reply) e = tasked_so g s key owed l work w is key_rules.Check (tasks.Check reply) (row_told g s key owed l work.holds (Some w) is tasks.Nothing free stages.Idle idle) (record { settled = settled; keeps = e }) (λ n. idle) (λ runs. (refl, runs))
 
-  pub reads_so : Follows g s key owed l (l, leads_on 29 key)
-  reads_so = stays g s key owed l work (leads_on 29 key) refl refl refl (λ e. idle) (refl, ready_free 29 key l refl free)
+  pub reads_so : Follows g s key owed l (l, leads_on key_rules.Read key)
+  reads_so = stays g s key owed l work (leads_on key_rules.Read key) refl refl refl (λ e. idle) (refl, ready_free key_rules.Read key l refl free)
 
 -- ## Commands
 
@@ -158,7 +159,7 @@ module _ (g : Ghosts) (s : State) (key : List ℕ) (owed : List Owed) (l : Leade
         object = subst (λ (x : Object). IsObjectOf s (rank version) (content_of x)) named.object (there holds.newest.settled holds.newest.key (named.digest_is ∙ holds.same_digest))
 
     by_value_so : (seen : Seen) → BackendSays g s key seen → (row_at key l.table.rows).known ≡ knowns.Present version stamp digest false → Follows g s key owed l (by_value seen version digest w.command key l)
-    by_value_so seens.Nothing says k = stays g s key owed l work (and_own (Look key) rests) refl refl refl tt (refl, free)
+    by_value_so seens.Nothing says k = stays g s key owed l work (and_own (Fetch key) rests) refl refl refl tt (refl, free)
     by_value_so (seens.Kept None) says k = reads_so g s key owed l work free idle w is
     by_value_so (seens.Kept (Some kept)) says k = on_kept kept says k (matching (record { key = key; version = version; digest = digest }) (Some kept)) refl
     by_value_so seen says k = rests_so g s key owed l work free
@@ -189,7 +190,7 @@ run_starts view steps run g key owed l seen work free idle says = inr (started_s
 
 next_so : (g : Ghosts) (s : State) (key : List ℕ) (owed : List Owed) (l : Leader) → IsAtWork g s key owed l → l.task ≡ tasks.Nothing → (row_at key l.table.rows).stage ≡ stages.Idle → (call : Option Waiting) → Follows g s key owed l (l, next_call call key)
 next_so g s key owed l work free idle None = rests_so g s key owed l work free
-next_so g s key owed l work free idle (Some w) = stays g s key owed l work (leads_on 28 key) refl refl refl (λ e. idle) (refl, ready_free 28 key l refl free)
+next_so g s key owed l work free idle (Some w) = stays g s key owed l work (leads_on key_rules.StartCall key) refl refl refl (λ e. idle) (refl, ready_free key_rules.StartCall key l refl free)
 
 pub run_next : (view : List ℕ) (steps : List Step) → IsRun view steps → NextIsSought (state_after view steps)
 run_next view steps run g key owed l work free idle = inr (next_so g (state_after view steps) key owed l work free idle (running key l.table.calls))

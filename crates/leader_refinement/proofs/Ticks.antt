@@ -18,7 +18,8 @@ use Rattle.call_table.specs.declared.waiting.Waiting.{Waiting}
 use Rattle.leader_words.specs.Outs.{comes, leaves}
 use Rattle.leader_words.specs.declared.out.AnswerOut.{AnswerOut}
 use Rattle.leader_words.specs.declared.out.LeadOut.{LeadOut}
-use Rattle.phase_rows.specs.declared.phase.Then.TheVariants.{Rule}
+use Rattle.phase_rows.specs.declared.phase.Then.TheVariants.{OnKeys}
+use Rattle.phase_rows.specs.declared.rules.KeyRule.TheVariants as key_rules
 use Rattle.leading.specs.Steps.{IsCalm}
 use Rattle.leading.specs.Ticks.{Finishing, is_late, timed_out, aged, row_5_calls, left_answer}
 use Rattle.leading.specs.declared.leader.Leader.{Leader}
@@ -225,12 +226,12 @@ module _ (g : Ghosts) (s : State) (key : List ℕ) (owed : List Owed) (l : Leade
   Left = record l { table = without_due (aged l.table) }
 
   abbrev Out : LeadOut
-  Out = timed_out (due (map older l.table.calls)) (comes (Rule 36))
+  Out = timed_out (due (map older l.table.calls)) (comes (OnKeys key_rules.StartNextCall))
 
   holds_aged : LeaderHolds g s (table_of key owed (record l { table = aged l.table }))
   holds_aged = leader_same g s (table_of key owed l) (table_of key owed (record l { table = aged l.table })).rows (ages_alike key owed l) work.holds
 
-  times_out : late_put (aged l.table) ≡ false → IsTick false l (record l { table = without_due (aged l.table) }, timed_out (due (map older l.table.calls)) (comes (Rule 36))) → TimesOut g s owed l (record l { table = without_due (aged l.table) }, timed_out (due (map older l.table.calls)) (comes (Rule 36)))
+  times_out : late_put (aged l.table) ≡ false → IsTick false l (record l { table = without_due (aged l.table) }, timed_out (due (map older l.table.calls)) (comes (OnKeys key_rules.StartNextCall))) → TimesOut g s owed l (record l { table = without_due (aged l.table) }, timed_out (due (map older l.table.calls)) (comes (OnKeys key_rules.StartNextCall)))
   times_out early tick = record {
     move = λ k. no_move g s (table_of k (owed_after owed Out.answers) Left) (leader_same g s (table_of key (owed_after owed Out.answers) Left) (table_of k (owed_after owed Out.answers) Left).rows (keys_alike key k (owed_after owed Out.answers) Left free) here);
     fits = left_fits g.hash s l (tick.calm work.fits.calm) work.fits;
@@ -240,7 +241,7 @@ module _ (g : Ghosts) (s : State) (key : List ℕ) (owed : List Owed) (l : Leade
     sends = tick.sends;
     own = tick.own;
     next = tick.next;
-    ready = λ k m. named_idle (comes (Rule 36)) (aged l.table) k (λ n. n) m;
+    ready = λ k m. named_idle (comes (OnKeys key_rules.StartNextCall)) (aged l.table) k (λ n. n) m;
   }
     where
       here : LeaderHolds g s (table_of key (owed_after owed Out.answers) Left)

@@ -2,6 +2,7 @@
 use Rattle.std.proofs.Common.{◌≡◌, inl, inr, ℕ, suc, ◌<◌, ◌+◌, ◌^◌, Bool, true, false, if◌then◌else◌, List, [], ◌∷◌, ◌++◌, Option, Some, None, arith, refl, sym, ap, subst, ◌∙◌}
 use Rattle.std.proofs.lemmas.Bool.Decides.{nat_tests}
 use Rattle.std.proofs.lemmas.List.Elements.{All-nil}
+use Rattle.phase_rows.specs.declared.rules.KeyRule.TheVariants as key_rules
 use Rattle.ens_base.specs.declared.command.Command.{Command}
 use Rattle.ens_base.specs.declared.epoch.Version.{Version}
 use Rattle.ens_object.specs.declared.object.Object.{Object}
@@ -107,7 +108,7 @@ module _ (g : Ghosts) (s : State) (tables : TablesStay s) (key : List ℕ) (owed
         some_same : (i j : ℕ) → Some j ≡ Some i → i ≡ j
         some_same i j e = cc
 
-    by_spent : LeadersMove s → (b : Bool) → is_spent l.seq ≡ b → GoesOn g s key owed l (noted_next key (if b then (with_task tasks.Nothing l, leaves) else (record l { seq = l.seq + 1; task = tasks.Propose (written_at l key content (l.seq + 1)) parent (Some w.id) }, leads_on 35 key)))
+    by_spent : LeadersMove s → (b : Bool) → is_spent l.seq ≡ b → GoesOn g s key owed l (noted_next key (if b then (with_task tasks.Nothing l, leaves) else (record l { seq = l.seq + 1; task = tasks.Propose (written_at l key content (l.seq + 1)) parent (Some w.id) }, leads_on key_rules.Put key)))
     by_spent laws true spent = inl (record { why = inl refl; calls = refl; same = (refl, (refl, refl)) })
     by_spent laws false unspent = inr (subst (λ (n : ℕ). Follows g s key owed l (proposing l key n (written_at l key content n) parent (Some w.id))) (plus_one l.seq) (written_so laws unspent))
 
@@ -122,7 +123,7 @@ module _ (g : Ghosts) (s : State) (tables : TablesStay s) (key : List ℕ) (owed
         ((laws.rows g (table_of key owed l) key (known_of (row_at key l.table.rows).known) (waiting_behind key l.table.calls) work.holds).rewrites w.id (rank o.version) (content_of o) (next_fits l.seq work.fits.seq unspent) (row_told g s key owed l work.holds (Some w) is (tasks.Rewrite o) task _ refl) rewrite_holds.parent_holds rewrite_holds.object rewrite_holds.fresh)
         refl (next_fits l.seq work.fits.seq unspent)
 
-    again_by_spent : LeadersMove s → (b : Bool) → is_spent l.seq ≡ b → GoesOn g s key owed l (noted_next key (if b then (with_task tasks.Nothing l, leaves) else (record l { seq = l.seq + 1; task = tasks.Propose (again_at l key o (l.seq + 1)) (Some o.version) None }, leads_on 35 key)))
+    again_by_spent : LeadersMove s → (b : Bool) → is_spent l.seq ≡ b → GoesOn g s key owed l (noted_next key (if b then (with_task tasks.Nothing l, leaves) else (record l { seq = l.seq + 1; task = tasks.Propose (again_at l key o (l.seq + 1)) (Some o.version) None }, leads_on key_rules.Put key)))
     again_by_spent laws true spent = inl (record { why = inl refl; calls = refl; same = (refl, (refl, refl)) })
     again_by_spent laws false unspent = inr (subst (λ (n : ℕ). Follows g s key owed l (proposing l key n (again_at l key o n) (Some o.version) None)) (plus_one l.seq) (again_so laws unspent))
 

@@ -1,5 +1,5 @@
 -- What the answer of a rule of a leader has to agree with in the theory.
-use Rattle.std.specs.Prelude.{◌≡◌, ◌⊎◌, ◌<◌, ◌^◌, ℕ, ◌==◌, ◌||◌, Bool, true, false, All, List, [], ◌∷◌, ◌++◌, map, Option, None, Some}
+use Rattle.std.specs.Prelude.{◌≡◌, ◌⊎◌, ◌<◌, ◌^◌, ℕ, Bool, true, false, All, List, [], ◌∷◌, ◌++◌, map, Option, None, Some}
 use Rattle.ens_base.specs.Lists.{◌∈◌, AreDistinct}
 use Rattle.ens_base.specs.declared.epoch.Version.{Version}
 use Rattle.ens_base.specs.declared.reply.Reply.{Reply}
@@ -15,7 +15,9 @@ use Rattle.quorum_round.specs.declared.round.Round.{Round}
 use Rattle.wire_frames.specs.declared.message.Message.{Message}
 use Rattle.wire_frames.specs.declared.message.Message.TheVariants as messages
 use Rattle.phase_rows.specs.declared.phase.Then.{Then}
-use Rattle.phase_rows.specs.declared.phase.Then.TheVariants.{Rule, Untrust}
+use Rattle.phase_rows.specs.declared.phase.Then.TheVariants.{OnKeys, Untrust}
+use Rattle.phase_rows.specs.declared.rules.KeyRule.{KeyRule}
+use Rattle.phase_rows.specs.declared.rules.KeyRule.TheVariants as key_rules
 use Rattle.call_table.specs.Calls.{running}
 use Rattle.call_table.specs.Rows.{row_at}
 use Rattle.call_table.specs.declared.row.Found.{Found}
@@ -173,17 +175,24 @@ abbrev pub SentSays : Ghosts → State → Outgoing → Type 0
 SentSays g s o = SendSays g s o.message
 
 -- a start of a call, of a read and of the next call find the key idle
+abbrev pub finds_idle : KeyRule → Bool
+finds_idle key_rules.StartCall = true
+finds_idle key_rules.Read = true
+finds_idle key_rules.StartNextCall = true
+finds_idle rule = false
+
 abbrev pub IsReadyFor : Then → List ℕ → Leader → Type 0
-IsReadyFor (Rule n) key l = ((n == 28) || ((n == 29) || (n == 36))) ≡ true → (row_at key l.table.rows).stage ≡ stages.Idle
+IsReadyFor (OnKeys rule) key l = finds_idle rule ≡ true → (row_at key l.table.rows).stage ≡ stages.Idle
 IsReadyFor next key l = Unit {0}
 
 -- what comes next finds the task that it takes: the stores are asked about the key without a task, or
 -- to take the object that is to be proposed; a rule that is named runs on the key; and without one no
 -- task is left
 abbrev pub NextFits : List ℕ → Leader → Option Own → Then → List (List ℕ) → Type 0
+NextFits key l (Some (owns.Fetch k)) next keys = (k ≡ key) × (l.task ≡ tasks.Nothing)
 NextFits key l (Some (owns.Look k)) next keys = (k ≡ key) × (l.task ≡ tasks.Nothing)
 NextFits key l (Some (owns.Put o)) next keys = (o.key ≡ key) × (parent : Option Version) × (call : Option ℕ) × (l.task ≡ tasks.Propose o parent call)
-NextFits key l None (Rule n) keys = (keys ≡ key ∷ []) × IsReady n key l
+NextFits key l None (OnKeys rule) keys = (keys ≡ key ∷ []) × IsReady rule key l
 NextFits key l None next keys = (keys ≡ []) × (l.task ≡ tasks.Nothing)
 
 -- a leader proposes, settles and notes reads, and its own peer acknowledges what its tree shows; s is
@@ -262,7 +271,7 @@ pub record TimesOut (g : Ghosts) (s : State) (owed : List Owed) (l : Leader) (r 
   pub notes : r.1.notes ≡ []
   pub sends : r.1.sends ≡ []
   pub own : r.1.own ≡ None
-  pub next : r.1.then ≡ Rule 36
+  pub next : r.1.then ≡ OnKeys key_rules.StartNextCall
   pub ready : (key : List ℕ) → key ∈ r.1.keys → (row_at key r.0.table.rows).stage ≡ stages.Idle
 
 -- the leader leaves: its unanswered calls are calls of its table, each once, and for each a timeout

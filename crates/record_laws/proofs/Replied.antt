@@ -1,5 +1,5 @@
 -- A step of a peer replies to the request for a change of view that it is on, and to nothing else.
-use Rattle.std.proofs.Common.{◌≡◌, ℕ, zero, suc, Bool, true, false, ◌==◌, List, [], ◌∷◌, ◌++◌, Option, Some, None, refl, ◌∙◌}
+use Rattle.std.proofs.Common.{◌≡◌, ℕ, zero, suc, Bool, true, false, List, [], ◌∷◌, ◌++◌, Option, Some, None, refl, ◌∙◌}
 use Rattle.election.specs.declared.election.Election.{Election}
 use Rattle.election.specs.declared.election.Election.TheVariants.{Preparing, Starting}
 use Rattle.ens_base.specs.declared.epoch.Epoch.{Epoch}
@@ -7,6 +7,7 @@ use Rattle.ens_object.specs.declared.object.Object.{Object}
 use Rattle.exchange.specs.declared.question.Question.{Question}
 use Rattle.following.specs.Refusals.{is_served}
 use Rattle.following.specs.Requests.{row_21, row_22, row_23}
+use Rattle.leader_words.specs.Outs.{asked_by}
 use Rattle.leader_words.specs.declared.out.LeadOut.{LeadOut}
 use Rattle.leader_words.specs.declared.out.Outgoing.{Outgoing}
 use Rattle.leader_words.specs.declared.out.Own.{Own}
@@ -20,7 +21,7 @@ use Rattle.peer_plan.specs.Drives.{row_done, own_key, followed_up, and_row, lead
 use Rattle.peer_plan.proofs.Aging.{asked_asks, confirmed_asks, found_asks, if_follows, installed_asks, looked_asks, noted_follows, own_node_asks, owned_asks, shown_asks, shown_node_asks, written_asks}
 use Rattle.peer_plan.specs.Kept.{IsStepCall}
 use Rattle.peer_plan.specs.Owns.{looked, found}
-use Rattle.peer_plan.specs.Syncs.{saved, and_sends, with_sync, accepted, accepted_own, accepted_in, ended_with, gone_on, resumed_sync, followed_on, needs_node, taken_give}
+use Rattle.peer_plan.specs.Syncs.{saved, and_sends, with_sync, accepted, accepted_own, accepted_in, by_outcome, go_on, resume_sync, followed_on, needs_node, take_give}
 use Rattle.peer_state.specs.Leading.{ticks, row_5_calls, wished, begins}
 use Rattle.peer_state.specs.Moves.{left, left_answers, turned, turned_answers, ends_leading, leading, with_leader, and_answers, electing, without_sync}
 use Rattle.peer_state.specs.Rows.{aged, phase_row, received, asked_change, leads, changes}
@@ -35,11 +36,13 @@ use Rattle.phase_rows.specs.declared.phase.PhaseOut.{PhaseOut}
 use Rattle.phase_rows.specs.declared.phase.Seen.TheVariants as seens
 use Rattle.phase_rows.specs.declared.phase.Then.{Then}
 use Rattle.phase_rows.specs.declared.phase.Then.TheVariants as thens
+use Rattle.phase_rows.specs.declared.rules.PhaseRule.TheVariants as phase_rules
 use Rattle.running_sync.specs.Rows.{row_start, row_resume, row_take}
 use Rattle.running_sync.specs.Running.{Running}
 use Rattle.running_sync.specs.declared.asking.Give.{Give}
 use Rattle.step_plans.specs.Calls.{Save, ScanTree}
 use Rattle.step_plans.specs.Plans.{Done, Out, Follows, nothing, Rest, Part}
+use Rattle.step_plans.specs.Saved.{with_seal}
 use Rattle.step_plans.specs.Sends.{posted_to}
 use Rattle.step_plans.specs.Tasks.{named, keyed}
 use Rattle.step_plans.specs.declared.tasks.Task.{Task}
@@ -61,12 +64,12 @@ module _ (me : ℕ) (P : State → Out → Type 0) (replies : List Bool) where
 
   saved_passes : (save : Option Fact) → Passes (saved save)
   saved_passes None x out next is go = go tt x out is
-  saved_passes (Some fact) x out next is go = asked_asks P (Save fact) tt x out (λ u y o. next tt (record y { fact = fact }) o) (λ u. go tt (record x { fact = fact }) out is)
+  saved_passes (Some fact) x out next is go = asked_asks P (Save (with_seal x.seal fact)) tt x out (λ u y o. next tt (record y { fact = fact }) o) (λ u. go tt (record x { fact = fact }) out is)
 
   -- ## Syncs
 
   accepted_own_passes : (e : Election) → Passes (accepted_own me e)
-  accepted_own_passes (Starting new accepts age) x out next is go = go (tasks.Phase 14 ∷ []) (electing (Starting new (joined me accepts) age) x) out is
+  accepted_own_passes (Starting new accepts age) x out next is go = go (tasks.Phase phase_rules.EnoughAccepted ∷ []) (electing (Starting new (joined me accepts) age) x) out is
   accepted_own_passes (Preparing base promises sent age) x out next is go = go [] x out is
 
   accepted_in_passes : (fact : Fact) (phase : Phase) → Passes (accepted_in me fact phase)
@@ -75,35 +78,36 @@ module _ (me : ℕ) (P : State → Out → Type 0) (replies : List Bool) where
   accepted_in_passes fact (phases.Probing p) x out next is go = go [] x out is
   accepted_in_passes fact (phases.Leading l) x out next is go = go [] x out is
 
-  ended_with_passes : (r : Running) (outcome : Outcome) → Passes (ended_with me r outcome)
-  ended_with_passes r Pending x out next is go = go [] (with_sync r x) out is
-  ended_with_passes r (Trusted entries) x out next is go =
+  by_outcome_passes : (r : Running) (outcome : Outcome) → Passes (by_outcome me r outcome)
+  by_outcome_passes r Pending x out next is go = go [] (with_sync r x) out is
+  by_outcome_passes r (Trusted entries) x out next is go =
       installed_asks P (needs_build r.sync.scan entries) entries (without_sync x) out
       (λ u y o. saved (Some r.fact) y o (λ v z p. accepted_in me r.fact z.phase (record z { trusted = true }) p next))
       (λ u. saved_passes (Some r.fact) (without_sync x) out (λ v z p. accepted_in me r.fact z.phase (record z { trusted = true }) p next) is
       (λ v z p alike. accepted_in_passes r.fact z.phase (record z { trusted = true }) p next alike go))
 
-  gone_on_passes : (r : Running × List Outgoing) → Passes (gone_on me r)
-  gone_on_passes r x out next is go = ended_with_passes r.0 (outcome_of r.0.sync) x (and_sends out r.1) next is go
+  go_on_passes : (r : Running × List Outgoing) → Passes (go_on me r)
+  go_on_passes r x out next is go = by_outcome_passes r.0 (outcome_of r.0.sync) x (and_sends out r.1) next is go
 
-  resumed_passes : (running : Option Running) → Passes (resumed_sync running)
+  resumed_passes : (running : Option Running) → Passes (resume_sync running)
   resumed_passes None x out next is go = go [] x out is
   resumed_passes (Some r) x out next is go = go [] (with_sync (row_resume r).0 x) (and_sends out (row_resume r).1) is
 
   followed_on_passes : (t : Then) → Passes (followed_on me t)
   followed_on_passes (thens.SyncOn fact) x out next is go =
-      asked_asks P ScanTree tt x out (λ scan y o. gone_on me (row_start fact me y.trusted scan) y o next) (λ scan. gone_on_passes (row_start fact me x.trusted scan) x out next is go)
+      asked_asks P ScanTree tt x out (λ scan y o. go_on me (row_start fact me y.trusted scan) y o next) (λ scan. go_on_passes (row_start fact me x.trusted scan) x out next is go)
   followed_on_passes thens.Resume x out next is go = resumed_passes x.sync x out next is go
   followed_on_passes (thens.Rule n) x out next is go = go (named (thens.Rule n)) x out is
+  followed_on_passes (thens.OnKeys n) x out next is go = go [] x out is
   followed_on_passes thens.Stay x out next is go = go [] x out is
   followed_on_passes thens.Follow x out next is go = go [] x out is
   followed_on_passes (thens.Lead fact) x out next is go = go [] x out is
   followed_on_passes thens.Untrust x out next is go = go [] x out is
   followed_on_passes thens.Put x out next is go = go [] x out is
 
-  taken_give_passes : (from : ℕ) (give : Give) (own : Option (List ℕ)) (running : Option Running) → Passes (taken_give me from give own running)
-  taken_give_passes from give own None x out next is go = go [] x out is
-  taken_give_passes from give own (Some r) x out next is go = gone_on_passes (row_take from give own r) x out next is go
+  take_give_passes : (from : ℕ) (give : Give) (own : Option (List ℕ)) (running : Option Running) → Passes (take_give me from give own running)
+  take_give_passes from give own None x out next is go = go [] x out is
+  take_give_passes from give own (Some r) x out next is go = go_on_passes (row_take from give own r) x out next is go
 
   -- ## Rows
 
@@ -117,21 +121,21 @@ module _ (me : ℕ) (P : State → Out → Type 0) (replies : List Bool) where
       saved_passes row.save (left row.leave x) (left_answers row.leave x out) (λ u y o. followed_on me row.then (turned me row.then y) (turned_answers row.then y (and_sends o (posted_to row.to row.message))) next) (left_same row.leave x out is)
       (λ u y o same. followed_on_passes row.then (turned me row.then y) (turned_answers row.then y (and_sends o (posted_to row.to row.message))) next (left_same (ends_leading row.then) y (and_sends o (posted_to row.to row.message)) same) go)
 
-  followed_up_passes : (n : ℕ) (own : Option Own) (turn : Then) (keys : List (List ℕ)) → Passes (followed_up me n own turn keys)
-  followed_up_passes n None turn keys x out next is go = go (keyed turn keys) (turned me turn x) (turned_answers turn x out) (left_same (ends_leading turn) x out is)
-  followed_up_passes n (Some own) turn keys x out next is go =
-      owned_asks P n own x out (λ seen y o. next (tasks.Again n (own_key own) seen ∷ []) y o) (λ seen. go (tasks.Again n (own_key own) seen ∷ []) x out is)
+  followed_up_passes : (own : Option Own) (turn : Then) (keys : List (List ℕ)) → Passes (followed_up me own turn keys)
+  followed_up_passes None turn keys x out next is go = go (keyed turn keys) (turned me turn x) (turned_answers turn x out) (left_same (ends_leading turn) x out is)
+  followed_up_passes (Some own) turn keys x out next is go =
+      owned_asks P own x out (λ seen y o. next (tasks.Again (asked_by own) (own_key own) seen ∷ []) y o) (λ seen. go (tasks.Again (asked_by own) (own_key own) seen ∷ []) x out is)
 
-  lead_done_passes : (n : ℕ) (row : LeadOut) → Passes (lead_done me n row)
-  lead_done_passes n row x out next is go =
-      noted_follows P row.notes (followed_up me n row.own row.then row.keys (left row.leave x) (and_row row x out) next)
-      (followed_up_passes n row.own row.then row.keys (left row.leave x) (and_row row x out) next (left_same row.leave x out is) go)
+  lead_done_passes : (row : LeadOut) → Passes (lead_done me row)
+  lead_done_passes row x out next is go =
+      noted_follows P row.notes (followed_up me row.own row.then row.keys (left row.leave x) (and_row row x out) next)
+      (followed_up_passes row.own row.then row.keys (left row.leave x) (and_row row x out) next (left_same row.leave x out is) go)
 
-  lead_passes : (row : Leader → Leader × LeadOut) (n : ℕ) (phase : Phase) → Passes (lead row me n phase)
-  lead_passes row n (phases.Leading l) x out next is go = lead_done_passes n (row l.leader).1 (leading (with_leader (row l.leader).0 l) x) out next is go
-  lead_passes row n (phases.Following f) x out next is go = go [] x out is
-  lead_passes row n (phases.Probing p) x out next is go = go [] x out is
-  lead_passes row n (phases.Electing e) x out next is go = go [] x out is
+  lead_passes : (row : Leader → Leader × LeadOut) (phase : Phase) → Passes (lead row me phase)
+  lead_passes row (phases.Leading l) x out next is go = lead_done_passes (row l.leader).1 (leading (with_leader (row l.leader).0 l) x) out next is go
+  lead_passes row (phases.Following f) x out next is go = go [] x out is
+  lead_passes row (phases.Probing p) x out next is go = go [] x out is
+  lead_passes row (phases.Electing e) x out next is go = go [] x out is
 
   reminded_passes : (phase : Phase) → Passes (reminded phase)
   reminded_passes (phases.Leading l) x out next is go =
@@ -141,9 +145,10 @@ module _ (me : ℕ) (P : State → Out → Type 0) (replies : List Bool) where
   reminded_passes (phases.Electing e) x out next is go = go [] x out is
 
   task_done_passes : (t : Task) → Passes (task_done me t)
-  task_done_passes (tasks.Phase n) x out next is go = if_follows P (n == 5) _ _ (reminded_passes x.phase x out next is go) (row_done_passes (phase_row n me x).1 (phase_row n me x).0 out next is go)
-  task_done_passes (tasks.Key n key) x out next is go = lead_passes (lead_row n key seens.Nothing) n x.phase x out next is go
-  task_done_passes (tasks.Again n key seen) x out next is go = lead_passes (lead_row n key seen) n x.phase x out next is go
+  task_done_passes (tasks.Phase n) x out next is go = row_done_passes (phase_row n me x).1 (phase_row n me x).0 out next is go
+  task_done_passes tasks.Remind x out next is go = reminded_passes x.phase x out next is go
+  task_done_passes (tasks.Key n key) x out next is go = lead_passes (lead_row n key seens.Nothing) x.phase x out next is go
+  task_done_passes (tasks.Again n key seen) x out next is go = lead_passes (lead_row n key seen) x.phase x out next is go
 
   driven_passes : (n : ℕ) (ts : List Task) → Passes (driven me n ts)
   unfolding driven
@@ -158,7 +163,7 @@ module _ (me : ℕ) (P : State → Out → Type 0) (replies : List Bool) where
     where
       led_in_passes : (phase : Phase) → Passes (led_in me phase)
       led_in_passes (phases.Leading l) x out next is go =
-          lead_done_passes 5 (row_5_calls x.fact l).1 (leading (row_5_calls x.fact l).0 x) out (λ ts y o. next (ts ++ tasks.Phase 5 ∷ []) y o) is (λ ts y o same. go (ts ++ tasks.Phase 5 ∷ []) y o same)
+          lead_done_passes (row_5_calls x.fact l).1 (leading (row_5_calls x.fact l).0 x) out (λ ts y o. next (ts ++ tasks.Remind ∷ []) y o) is (λ ts y o same. go (ts ++ tasks.Remind ∷ []) y o same)
       led_in_passes (phases.Following f) x out next is go = go [] x out is
       led_in_passes (phases.Probing p) x out next is go = go [] x out is
       led_in_passes (phases.Electing e) x out next is go = go [] x out is
@@ -173,6 +178,7 @@ module _ (me : ℕ) (P : State → Out → Type 0) (replies : List Bool) where
   put_done_passes thens.Resume from ballot o row x out next is go = row_done_passes row x out next is go
   put_done_passes (thens.SyncOn fact) from ballot o row x out next is go = row_done_passes row x out next is go
   put_done_passes (thens.Rule n) from ballot o row x out next is go = row_done_passes row x out next is go
+  put_done_passes (thens.OnKeys n) from ballot o row x out next is go = row_done_passes row x out next is go
 
   delivered_passes : (from : ℕ) (message : Message) → Passes (delivered me from message)
   delivered_passes from (messages.Get ballot round key) x out next is go =
@@ -184,19 +190,19 @@ module _ (me : ℕ) (P : State → Out → Type 0) (replies : List Bool) where
       (λ seen. put_done_passes (row_22 x.fact x.trusted from ballot o seen).then from ballot o (row_22 x.fact x.trusted from ballot o seen) x out next is go)
   delivered_passes from (messages.GetReply ballot round key entry object) x out next is go =
       if_follows P (leads x.phase) _ _
-      (confirmed_asks P entry object x out (λ named y o. lead (row_29_reply from ballot round key entry named) me 29 y.phase y o next)
-      (λ named. lead_passes (row_29_reply from ballot round key entry named) 29 x.phase x out next is go))
+      (confirmed_asks P entry object x out (λ named y o. lead (row_29_reply from ballot round key entry named) me y.phase y o next)
+      (λ named. lead_passes (row_29_reply from ballot round key entry named) x.phase x out next is go))
       (go [] x out is)
-  delivered_passes from (messages.PutReply ballot key version) x out next is go = lead_passes (row_35_reply from ballot key version) 35 x.phase x out next is go
-  delivered_passes from (messages.CheckReply ballot round) x out next is go = lead_passes (row_33_reply from ballot round) 33 x.phase x out next is go
+  delivered_passes from (messages.PutReply ballot key version) x out next is go = lead_passes (row_35_reply from ballot key version) x.phase x out next is go
+  delivered_passes from (messages.CheckReply ballot round) x out next is go = lead_passes (row_33_reply from ballot round) x.phase x out next is go
   delivered_passes from (messages.TreeAsk ballot at after) x out next is go =
       let q : Question = record { position = at; after = after } in
       shown_node_asks P (is_same ballot x.fact.ballot) q x out (λ body y o. row_done me (row_23 y.fact y.trusted from ballot q.position q.after body) y o next)
       (λ body. row_done_passes (row_23 x.fact x.trusted from ballot at after body) x out next is go)
   delivered_passes from (messages.TreeGive ballot at after trusted body) x out next is go =
       let give : Give = record { ballot = ballot; question = record { position = at; after = after }; trusted = trusted; body = body } in
-      own_node_asks P (needs_node from give x.sync) at x out (λ own y o. taken_give me from give own y.sync y o next)
-      (λ own. taken_give_passes from give own x.sync x out next is go)
+      own_node_asks P (needs_node from give x.sync) at x out (λ own y o. take_give me from give own y.sync y o next)
+      (λ own. take_give_passes from give own x.sync x out next is go)
   delivered_passes from message x out next is go = row_done_passes (received me from message x).1 (received me from message x).0 out next is go
 
   -- what follows a row, until no task is left
@@ -207,7 +213,7 @@ module _ (me : ℕ) (P : State → Out → Type 0) (replies : List Bool) where
   onward_goes next go ts y o is = driven_passes most_turns ts y o (λ rest z q. next tt z q) is (λ rest z q same. go tt z q same)
 
   concluded_passes : Passes (concluded me)
-  concluded_passes x out next is go = task_done_passes (tasks.Phase 26) x out (onward next) is (onward_goes next go)
+  concluded_passes x out next is go = task_done_passes (tasks.Phase phase_rules.EndEpoch) x out (onward next) is (onward_goes next go)
 
 -- the replies of a step: one to a request for a change of view, and none on another event
 abbrev pub HasReplies : Event → List Bool → Type 0
@@ -235,7 +241,7 @@ step_replies me events.Tick x = ticked_passes me (Replied me events.Tick) [] x.p
 step_replies me (events.Call call) x =
     let go = ends me (events.Call call) [] refl in
     if_follows (Replied me (events.Call call)) (leads x.phase) _ _
-    (lead_passes me (Replied me (events.Call call)) [] (row_27 call.from call.id call.key call.command (changes x.phase)) 27 x.phase x nothing _ refl go) (go [] x (and_answers nothing (unavailable call ∷ [])) refl)
+    (lead_passes me (Replied me (events.Call call)) [] (row_27 call.from call.id call.key call.command (changes x.phase)) x.phase x nothing _ refl go) (go [] x (and_answers nothing (unavailable call ∷ [])) refl)
 step_replies me (events.Change view) x =
     row_done_passes me (Replied me (events.Change view)) ((asked_change view x).1.1 ∷ []) (asked_change view x).1.0 (asked_change view x).0 (and_change nothing (asked_change view x).1.1) _ refl
     (ends me (events.Change view) ((asked_change view x).1.1 ∷ []) ((asked_change view x).1.1, refl))

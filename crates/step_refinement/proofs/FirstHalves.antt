@@ -45,6 +45,8 @@ use Rattle.step_plans.specs.declared.tasks.Task.{Task}
 use Rattle.step_plans.specs.declared.tasks.Task.TheVariants as tasks
 use Rattle.phase_rows.specs.declared.phase.Seen.{Seen}
 use Rattle.phase_rows.specs.declared.phase.Seen.TheVariants as seens
+use Rattle.phase_rows.specs.declared.rules.KeyRule.{KeyRule}
+use Rattle.phase_rows.specs.declared.rules.KeyRule.TheVariants as key_rules
 use Rattle.step_refinement.proofs.CallByCall.{Ends, Onward}
 use Rattle.step_refinement.specs.Scenes.{Scene, now, Here}
 use Rattle.step_refinement.proofs.LeadersAtWork.{at_work, own_peer, own_ballot, own_trust}
@@ -75,12 +77,12 @@ module _ (c : Scene) where
     same_here : Here c key (leading l x) h same_out notes
     same_here = subst (λ (o : Out). Here c key (leading l x) h o notes) (sym (told_nothing out)) here
 
-    abbrev Plans : ℕ → Leader × LeadOut → Type 0
-    Plans n r = Ends c (lead_done p n r.1 (leading (with_leader r.0 l) x) out next) (lead_done p n r.1 (leading (with_leader r.0 l) x) out mark) h notes
+    abbrev Plans : Leader × LeadOut → Type 0
+    Plans r = Ends c (lead_done p r.1 (leading (with_leader r.0 l) x) out next) (lead_done p r.1 (leading (with_leader r.0 l) x) out mark) h notes
 
     -- no number or no round is left
-    spent_ends : (n : ℕ) (m : Leader) → m.fact ≡ l.leader.fact → m.me ≡ l.leader.me → m.accepts ≡ l.leader.accepts → m.table ≡ l.leader.table → Plans n (m, leaves)
-    spent_ends n m fact me accepts table = leave_ends c l x here (m, leaves) n ts refl (inl (record { why = inl refl; calls = ap (λ (t : CallTable). map left_answer t.calls) table; same = (fact, (me, accepts)) }))
+    spent_ends : (m : Leader) → m.fact ≡ l.leader.fact → m.me ≡ l.leader.me → m.accepts ≡ l.leader.accepts → m.table ≡ l.leader.table → Plans (m, leaves)
+    spent_ends m fact me accepts table = leave_ends c l x here (m, leaves) ts refl (inl (record { why = inl refl; calls = ap (λ (t : CallTable). map left_answer t.calls) table; same = (fact, (me, accepts)) }))
         (idle_kept key l.leader m ts (λ k off. ap (λ (t : CallTable). row_at k t.rows) table) apart idle) next mark go
 
     -- ## Rule 29
@@ -93,8 +95,8 @@ module _ (c : Scene) where
       abbrev looks : Leader × LeadOut
       looks = (in_round, and_own (owns.Look key) rests)
 
-      look_half : row_29 key seens.Nothing l.leader ≡ looks → (seen : Seen) (t : Held) → Over c same_here t → LookSays (now c same_here.reached) p key seen → LookNames same_here.reached.ghosts key seen → Way 29 key l.leader (row_29 key seen in_round)
-          → Half c 29 key seen ts (leading (with_leader in_round l) x) t same_out notes
+      look_half : row_29 key seens.Nothing l.leader ≡ looks → (seen : Seen) (t : Held) → Over c same_here t → LookSays (now c same_here.reached) p key seen → LookNames same_here.reached.ghosts key seen → Way key_rules.Read key l.leader (row_29 key seen in_round)
+          → Half c key_rules.Read key seen ts (leading (with_leader in_round l) x) t same_out notes
       look_half is seen t over says names way = let there = over_here c same_here t over in record {
         before = l;
         leader = in_round;
@@ -108,32 +110,32 @@ module _ (c : Scene) where
         idle = idle_kept key l.leader in_round ts (λ k off. refl) apart idle;
       }
 
-      look_ends : row_29 key seens.Nothing l.leader ≡ looks → Plans 29 looks
+      look_ends : row_29 key seens.Nothing l.leader ≡ looks → Plans looks
       look_ends is = subst (λ (plan : Plan PeerState). Ends c plan (looked key y same_out after_mark) h notes) (sym (looked_apart key (leading l x) y same_out same_out after_look))
           (subst (λ (plan : Plan PeerState). Ends c (looked key (leading l x) same_out (λ seen z q. after_look seen y same_out)) plan h notes) (sym (looked_apart key (leading l x) y same_out same_out after_mark))
           (looked_ends c same_here key (λ seen z q. after_look seen y same_out) (λ seen z q. after_mark seen y same_out) here.listed.phase.sees
-          (λ entry object t over sees. go (tasks.Again 29 key (seens.Held entry object) ∷ []) key y t same_out notes
+          (λ entry object t over sees. go (tasks.Again key_rules.Read key (seens.Held entry object) ∷ []) key y t same_out notes
           (inr (look_half is (seens.Held entry object) t over sees.look sees.names (inl (tame_29 entry object key in_round)))))
-          (λ at t over. go (tasks.Again 29 key (seens.Damaged at) ∷ []) key y t same_out notes
-          (inr (look_half is (seens.Damaged at) t over tt tt (broken_way 29 key l.leader (row_29 key (seens.Damaged at) in_round) (broken_29 at key in_round)))))))
+          (λ at t over. go (tasks.Again key_rules.Read key (seens.Damaged at) ∷ []) key y t same_out notes
+          (inr (look_half is (seens.Damaged at) t over tt tt (broken_way key_rules.Read key l.leader (row_29 key (seens.Damaged at) in_round) (broken_29 at key in_round)))))))
         where
           y : PeerState
           y = leading (with_leader in_round l) x
 
           after_look : Rest PeerState Seen
-          after_look seen z q = next (tasks.Again 29 key seen ∷ []) z q
+          after_look seen z q = next (tasks.Again key_rules.Read key seen ∷ []) z q
 
           after_mark : Rest PeerState Seen
-          after_mark seen z q = mark (tasks.Again 29 key seen ∷ []) z q
+          after_mark seen z q = mark (tasks.Again key_rules.Read key seen ∷ []) z q
 
       -- a key is read in a new round, if it has a call and a round is left
-      pub reads_end : Plans 29 (row_29 key seens.Nothing l.leader)
+      pub reads_end : Plans (row_29 key seens.Nothing l.leader)
       reads_end = by_running (running key l.leader.table.calls) refl
         where
-          by_running : (w : Option Waiting) → running key l.leader.table.calls ≡ w → Plans 29 (asked_for w seens.Nothing key l.leader)
+          by_running : (w : Option Waiting) → running key l.leader.table.calls ≡ w → Plans (asked_for w seens.Nothing key l.leader)
           by_running None is = go [] key (leading l x) h same_out notes (inl ((same_here, free), idle))
-          by_running (Some w) is = by_test (Plans 29) (is_spent l.leader.round) (l.leader, leaves) looks
-              (λ spent. spent_ends 29 l.leader refl refl refl refl)
+          by_running (Some w) is = by_test Plans (is_spent l.leader.round) (l.leader, leaves) looks
+              (λ spent. spent_ends l.leader refl refl refl refl)
               (λ more. look_ends (ap (λ v. asked_for v seens.Nothing key l.leader) is ∙ ap (λ (b : Bool). if b then (l.leader, leaves) else looks) more))
 
     -- ## Rules 31 and 32
@@ -146,11 +148,11 @@ module _ (c : Scene) where
     proposing o parent call = record resting { seq = resting.seq + 1; task = pendings.Propose o parent call }
 
     -- rule 35 notes the proposal next
-    propose_ends : (n : ℕ) (o : Object) (parent : Option Version) (call : Option ℕ) → GoesOn g s key owes l.leader (row_35 key seens.Nothing (proposing o parent call)) → Plans n (proposed o parent call key resting)
-    propose_ends n o parent call goes = go (tasks.Key 35 key ∷ []) key (leading (with_leader (proposing o parent call) l) x) h same_out notes (inr (inl half))
+    propose_ends : (o : Object) (parent : Option Version) (call : Option ℕ) → GoesOn g s key owes l.leader (row_35 key seens.Nothing (proposing o parent call)) → Plans (proposed o parent call key resting)
+    propose_ends o parent call goes = go (tasks.Key key_rules.Put key ∷ []) key (leading (with_leader (proposing o parent call) l) x) h same_out notes (inr (inl half))
       where
-        half : Half c 35 key seens.Nothing ts (leading (with_leader (proposing o parent call) l) x) h same_out notes
-        half = subst (λ (q : Out). Half c 35 key seens.Nothing ts (leading (with_leader (proposing o parent call) l) x) h q notes) (sym (told_nothing out)) (record {
+        half : Half c key_rules.Put key seens.Nothing ts (leading (with_leader (proposing o parent call) l) x) h same_out notes
+        half = subst (λ (q : Out). Half c key_rules.Put key seens.Nothing ts (leading (with_leader (proposing o parent call) l) x) h q notes) (sym (told_nothing out)) (record {
           before = l;
           leader = proposing o parent call;
           is = refl;
@@ -162,25 +164,25 @@ module _ (c : Scene) where
         })
 
     -- a write is proposed, if a number is left
-    pub writes_end : (content : Option (List ℕ)) (parent : Option Version) → l.leader.task ≡ pendings.Write content parent → Runs key l.leader → Plans 31 (row_31 key l.leader)
-    writes_end content parent task runs = subst (λ (t : Pending). Plans 31 (written_for (running key l.leader.table.calls) t key resting)) (sym task) (by_running (running key l.leader.table.calls) refl)
+    pub writes_end : (content : Option (List ℕ)) (parent : Option Version) → l.leader.task ≡ pendings.Write content parent → Runs key l.leader → Plans (row_31 key l.leader)
+    writes_end content parent task runs = subst (λ (t : Pending). Plans (written_for (running key l.leader.table.calls) t key resting)) (sym task) (by_running (running key l.leader.table.calls) refl)
       where
         object : Object
         object = record { version = next_version resting; stamp = next_version resting; key = key; value = content }
 
-        by_running : (w : Option Waiting) → running key l.leader.table.calls ≡ w → Plans 31 (written_for w (pendings.Write content parent) key resting)
+        by_running : (w : Option Waiting) → running key l.leader.table.calls ≡ w → Plans (written_for w (pendings.Write content parent) key resting)
         by_running None is = absurd (false≢true (subst IsSome is runs))
-        by_running (Some w) is = by_test (Plans 31) (is_spent resting.seq) (resting, leaves) (proposed object parent (Some w.id) key resting)
-            (λ spent. spent_ends 31 resting refl refl refl refl)
-            (λ more. propose_ends 31 object parent (Some w.id) (subst (λ (r : Leader × LeadOut). GoesOn g s key owes l.leader (noted_next key r))
+        by_running (Some w) is = by_test Plans (is_spent resting.seq) (resting, leaves) (proposed object parent (Some w.id) key resting)
+            (λ spent. spent_ends resting refl refl refl refl)
+            (λ more. propose_ends object parent (Some w.id) (subst (λ (r : Leader × LeadOut). GoesOn g s key owes l.leader (noted_next key r))
             (ap (λ v. written_for v l.leader.task key resting) is ∙ ap (λ t. written_for (Some w) t key resting) task ∙ ap (λ (b : Bool). if b then (resting, leaves) else proposed object parent (Some w.id) key resting) more)
             (run_writes view here.reached.steps here.reached.run g key owes l.leader content parent (at_work c l x here) task)))
 
     -- a rewrite is proposed, if a number is left
-    pub rewrites_end : (o : Object) → l.leader.task ≡ pendings.Rewrite o → Plans 32 (row_32 key l.leader)
-    rewrites_end o task = subst (λ (t : Pending). Plans 32 (rewritten t key resting)) (sym task) (by_test (Plans 32) (is_spent resting.seq) (resting, leaves) (proposed object (Some o.version) None key resting)
-        (λ spent. spent_ends 32 resting refl refl refl refl)
-        (λ more. propose_ends 32 object (Some o.version) None (subst (λ (r : Leader × LeadOut). GoesOn g s key owes l.leader (noted_next key r))
+    pub rewrites_end : (o : Object) → l.leader.task ≡ pendings.Rewrite o → Plans (row_32 key l.leader)
+    rewrites_end o task = subst (λ (t : Pending). Plans (rewritten t key resting)) (sym task) (by_test Plans (is_spent resting.seq) (resting, leaves) (proposed object (Some o.version) None key resting)
+        (λ spent. spent_ends resting refl refl refl refl)
+        (λ more. propose_ends object (Some o.version) None (subst (λ (r : Leader × LeadOut). GoesOn g s key owes l.leader (noted_next key r))
         (ap (λ t. rewritten t key resting) task ∙ ap (λ (b : Bool). if b then (resting, leaves) else proposed object (Some o.version) None key resting) more)
         (run_rewrites view here.reached.steps here.reached.run g key owes l.leader o (at_work c l x here) task))))
       where
@@ -188,13 +190,13 @@ module _ (c : Scene) where
         object = record { version = next_version resting; stamp = o.stamp; key = key; value = o.value }
 
     -- whichever rule opens
-    pub way_ends : (n : ℕ) → OpensAs n key l.leader → Plans n (lead_row n key seens.Nothing l.leader)
-    way_ends n (inl read) = subst (λ m. Plans m (lead_row m key seens.Nothing l.leader)) (sym read.rule) (reads_end read.free read.idle)
-    way_ends n (inr (inl write)) = subst (λ m. Plans m (lead_row m key seens.Nothing l.leader)) (sym write.rule) (writes_end write.content write.parent write.task write.runs)
-    way_ends n (inr (inr rewrite)) = subst (λ m. Plans m (lead_row m key seens.Nothing l.leader)) (sym rewrite.rule) (rewrites_end rewrite.object rewrite.task)
+    pub way_ends : (rule : KeyRule) → OpensAs rule key l.leader → Plans (lead_row rule key seens.Nothing l.leader)
+    way_ends rule (inl read) = subst (λ m. Plans (lead_row m key seens.Nothing l.leader)) (sym read.rule) (reads_end read.free read.idle)
+    way_ends rule (inr (inl write)) = subst (λ m. Plans (lead_row m key seens.Nothing l.leader)) (sym write.rule) (writes_end write.content write.parent write.task write.runs)
+    way_ends rule (inr (inr rewrite)) = subst (λ m. Plans (lead_row m key seens.Nothing l.leader)) (sym rewrite.rule) (rewrites_end rewrite.object rewrite.task)
 
   -- a task that opens on the key
-  pub opens_ends : (n : ℕ) (key : List ℕ) (ts : List Task) {x : PeerState} {h : Held} {out : Out} {notes : List Note} → Opens c n key ts x h out notes → (next mark : Rest PeerState (List Task)) → Onward c (There c ts) next mark
-      → Ends c (lead (lead_row n key seens.Nothing) p n x.phase x out next) (lead (lead_row n key seens.Nothing) p n x.phase x out mark) h notes
-  opens_ends n key ts {x} {h} {out} {notes} o next mark go = subst (λ (phase : Phase). Ends c (lead (lead_row n key seens.Nothing) p n phase x out next) (lead (lead_row n key seens.Nothing) p n phase x out mark) h notes) (sym o.is)
-      (way_ends key ts o.now_leads x o.here o.apart o.idle next mark go n o.way)
+  pub opens_ends : (rule : KeyRule) (key : List ℕ) (ts : List Task) {x : PeerState} {h : Held} {out : Out} {notes : List Note} → Opens c rule key ts x h out notes → (next mark : Rest PeerState (List Task)) → Onward c (There c ts) next mark
+      → Ends c (lead (lead_row rule key seens.Nothing) p x.phase x out next) (lead (lead_row rule key seens.Nothing) p x.phase x out mark) h notes
+  opens_ends rule key ts {x} {h} {out} {notes} o next mark go = subst (λ (phase : Phase). Ends c (lead (lead_row rule key seens.Nothing) p phase x out next) (lead (lead_row rule key seens.Nothing) p phase x out mark) h notes) (sym o.is)
+      (way_ends key ts o.now_leads x o.here o.apart o.idle next mark go rule o.way)

@@ -1,6 +1,6 @@
 -- A row of a phase leaves the trust of the peer in its tree as it was, unless it finds damage, and it begins no
 -- sync: the sync of the peer runs on, or it ends.
-use Rattle.std.proofs.Common.{◌≡◌, ◌⊎◌, inl, inr, ℕ, ◌==◌, Bool, true, false, if◌then◌else◌, List, Option, None, Some, refl, sym, ap, subst, ◌∙◌}
+use Rattle.std.proofs.Common.{◌≡◌, ◌⊎◌, inl, inr, ℕ, Bool, true, false, if◌then◌else◌, List, Option, None, Some, refl, sym, ap, subst, ◌∙◌}
 use Rattle.ens_base.specs.declared.entry.Entry.{Entry}
 use Rattle.ens_base.specs.declared.epoch.Epoch.{Epoch}
 use Rattle.abstract_protocol.specs.Ledger.{Ledger}
@@ -33,6 +33,8 @@ use Rattle.wire_frames.specs.declared.message.NackCause.{NackCause}
 use Rattle.phase_rows.specs.declared.phase.PhaseOut.{PhaseOut}
 use Rattle.phase_rows.specs.declared.phase.Then.{Then}
 use Rattle.phase_rows.specs.declared.phase.Then.TheVariants as thens
+use Rattle.phase_rows.specs.declared.rules.PhaseRule.{PhaseRule}
+use Rattle.phase_rows.specs.declared.rules.PhaseRule.TheVariants as phase_rules
 
 -- from x to y the trust stays, and the sync runs on or ends
 pub record Spares (x y : State) : Type 0 where
@@ -78,6 +80,7 @@ turned_spares me thens.Put x = inr (spares_same x)
 turned_spares me thens.Resume x = inr (spares_same x)
 turned_spares me (thens.SyncOn fact) x = inr (record { trusted = refl; sync = inr refl })
 turned_spares me (thens.Rule n) x = inr (spares_same x)
+turned_spares me (thens.OnKeys n) x = inr (spares_same x)
 
 -- the whole row, from the state in it
 pub settled_spares : (me : ℕ) (row : PhaseOut) (x y : State) → Spares x y → IsBlind (settled me row y) ⊎ Spares x (settled me row y)
@@ -153,6 +156,7 @@ module _ (p : ℕ) (x : State) where
   waits thens.Untrust = same
   waits thens.Put = same
   waits (thens.Rule n) = same
+  waits (thens.OnKeys n) = same
 
   wants : (change : Change) (phase : Phase) → Spares x (wanting change phase x)
   wants change (phases.Leading l) = record { trusted = refl; sync = inl refl }
@@ -209,15 +213,14 @@ module _ (p : ℕ) (x : State) where
   rules_2_to_4 (phases.Leading l) = same
 
   -- the row of a rule that a row names
-  pub phase_row_spares : (n : ℕ) → G (phase_row n p x)
-  phase_row_spares n =
-      by_test G (n == 7) _ _ (λ is. seeks (row_7 x.fact p).1) (λ not.
-      by_test G (n == 9) _ _ (λ is. rule_9 x.phase) (λ not.
-      by_test G (n == 10) _ _ (λ is. rule_10 x.phase) (λ not.
-      by_test G (n == 13) _ _ (λ is. rule_13 x.phase) (λ not.
-      by_test G (n == 14) _ _ (λ is. rule_14 x.phase) (λ not.
-      by_test G (n == 25) _ _ (λ is. rule_25 x.phase) (λ not.
-      by_test G (n == 26) _ _ (λ is. rule_26 x.phase) (λ not. same)))))))
+  pub phase_row_spares : (rule : PhaseRule) → G (phase_row rule p x)
+  phase_row_spares phase_rules.BeginProbing = seeks (row_7 x.fact p).1
+  phase_row_spares phase_rules.EnoughHeard = rule_9 x.phase
+  phase_row_spares phase_rules.Prepare = rule_10 x.phase
+  phase_row_spares phase_rules.EnoughPromised = rule_13 x.phase
+  phase_row_spares phase_rules.EnoughAccepted = rule_14 x.phase
+  phase_row_spares phase_rules.BeginChange = rule_25 x.phase
+  phase_row_spares phase_rules.EndEpoch = rule_26 x.phase
 
   -- the row for a message
   pub received_spares : (from : ℕ) (message : Message) → G (received p from message x)

@@ -56,6 +56,8 @@ use Rattle.tree_node.specs.declared.position.Position.{Position}
 use Rattle.phase_rows.specs.declared.phase.Seen.{Seen}
 use Rattle.phase_rows.specs.declared.phase.Seen.TheVariants as seens
 use Rattle.phase_rows.specs.declared.phase.Then.TheVariants as thens
+use Rattle.phase_rows.specs.declared.rules.KeyRule.{KeyRule}
+use Rattle.phase_rows.specs.declared.rules.KeyRule.TheVariants as key_rules
 use Rattle.step_refinement.proofs.CallByCall.{Ends, Onward}
 use Rattle.step_refinement.specs.Scenes.{Scene, state_before, now, Here}
 use Rattle.step_refinement.proofs.ObjectGrammar.{objects_obey, epochs_here}
@@ -113,19 +115,19 @@ module _ (c : Scene) (grounds : Grounds c) where
   -- the leader asks its backend, and rule 28 runs again with what it keeps
   fetch_ends : (key : List ℕ) (ts : List Task) (h : Held) (out : Out) (notes : List Note) (l : Leadership) (x : PeerState) (here : Here c key (leading l x) h out notes) → l.leader.task ≡ pendings.Nothing → (row_at key l.leader.table.rows).stage ≡ stages.Idle
       → AreApart key ts → AreIdle l.leader ts → (next mark : Rest PeerState (List Task)) → Onward c (There c ts) next mark
-      → Ends c (fetched key (leading l x) out (λ seen z q. next (tasks.Again 28 key seen ∷ []) z q)) (fetched key (leading l x) out (λ seen z q. mark (tasks.Again 28 key seen ∷ []) z q)) h notes
+      → Ends c (fetched key (leading l x) out (λ seen z q. next (tasks.Again key_rules.StartCall key seen ∷ []) z q)) (fetched key (leading l x) out (λ seen z q. mark (tasks.Again key_rules.StartCall key seen ∷ []) z q)) h notes
   fetch_ends key ts h out notes l x here free rests_idle apart idle next mark go =
-      fetched_ends c here key (λ seen z q. next (tasks.Again 28 key seen ∷ []) z q) (λ seen z q. mark (tasks.Again 28 key seen ∷ []) z q) (λ kept t over says.
-      go (tasks.Again 28 key (seens.Kept kept) ∷ []) key (leading l x) t out notes (inr (half kept t over says)))
+      fetched_ends c here key (λ seen z q. next (tasks.Again key_rules.StartCall key seen ∷ []) z q) (λ seen z q. mark (tasks.Again key_rules.StartCall key seen ∷ []) z q) (λ kept t over says.
+      go (tasks.Again key_rules.StartCall key (seens.Kept kept) ∷ []) key (leading l x) t out notes (inr (half kept t over says)))
     where
-      half : (kept : Option (Object × List ℕ)) (t : Held) → (over : Over c here t) → BackendSays here.reached.ghosts (now c here.reached) key (seens.Kept kept) → Half c 28 key (seens.Kept kept) ts (leading l x) t out notes
+      half : (kept : Option (Object × List ℕ)) (t : Held) → (over : Over c here t) → BackendSays here.reached.ghosts (now c here.reached) key (seens.Kept kept) → Half c key_rules.StartCall key (seens.Kept kept) ts (leading l x) t out notes
       half kept t over says = record {
         before = l;
         leader = l.leader;
         is = refl;
         here = over_here c here t over;
         goes = run_starts view here.reached.steps here.reached.run here.reached.ghosts key (owed_after [] out.answers) l.leader (seens.Kept kept) (at_work c l x here) free rests_idle says;
-        way = looking_way key l.leader (lead_row 28 key (seens.Kept kept) l.leader) (tame_28 key (seens.Kept kept) l.leader) free rests_idle;
+        way = looking_way key l.leader (lead_row key_rules.StartCall key (seens.Kept kept) l.leader) (tame_28 key (seens.Kept kept) l.leader) free rests_idle;
         apart = apart;
         idle = idle;
       }
@@ -190,7 +192,7 @@ module _ (c : Scene) (grounds : Grounds c) where
     shown : (happens s (Write p (rank o.version))).objects.visible l.leader.me key ≡ rank o.version
     shown = subst (λ q. (happens s (Write q (rank o.version))).objects.visible l.leader.me key ≡ rank o.version) (own_peer c l x here) goes_in.shows
 
-    stored_half : (t : Held) → Stored c here o t → Half c 35 key (seens.Stored digest) ts (leading l x) t out notes
+    stored_half : (t : Held) → Stored c here o t → Half c key_rules.Put key (seens.Stored digest) ts (leading l x) t out notes
     stored_half t stored = let now_there = there t stored in record {
       before = l;
       leader = l.leader;
@@ -204,7 +206,7 @@ module _ (c : Scene) (grounds : Grounds c) where
     }
 
     -- the path of its key is damaged
-    damaged_half : (at : Position) (t : Held) → Over c here t → Half c 35 key (seens.Damaged at) ts (leading l x) t out notes
+    damaged_half : (at : Position) (t : Held) → Over c here t → Half c key_rules.Put key (seens.Damaged at) ts (leading l x) t out notes
     damaged_half at t over = let now_there = over_here c here t over in record {
       before = l;
       leader = l.leader;
@@ -218,17 +220,17 @@ module _ (c : Scene) (grounds : Grounds c) where
 
     -- the object is put, and rule 35 runs again
     put_ends : (next mark : Rest PeerState (List Task)) → Onward c (There c ts) next mark
-        → Ends c (written o (leading l x) out (λ seen z q. next (tasks.Again 35 o.key seen ∷ []) z q)) (written o (leading l x) out (λ seen z q. mark (tasks.Again 35 o.key seen ∷ []) z q)) h notes
-    put_ends next mark go = written_ends c here few o (epoch_number l.leader.fact.epoch) store (λ seen z q. next (tasks.Again 35 o.key seen ∷ []) z q) (λ seen z q. mark (tasks.Again 35 o.key seen ∷ []) z q)
+        → Ends c (written o (leading l x) out (λ seen z q. next (tasks.Again key_rules.Put o.key seen ∷ []) z q)) (written o (leading l x) out (λ seen z q. mark (tasks.Again key_rules.Put o.key seen ∷ []) z q)) h notes
+    put_ends next mark go = written_ends c here few o (epoch_number l.leader.fact.epoch) store (λ seen z q. next (tasks.Again key_rules.Put o.key seen ∷ []) z q) (λ seen z q. mark (tasks.Again key_rules.Put o.key seen ∷ []) z q)
         (λ t stored. goes_again (seens.Stored digest) t (stored_half t stored)) (λ at t over. goes_again (seens.Damaged at) t (damaged_half at t over))
       where
-        goes_again : (seen : Seen) (t : Held) → Half c 35 key seen ts (leading l x) t out notes → Ends c (next (tasks.Again 35 o.key seen ∷ []) (leading l x) out) (mark (tasks.Again 35 o.key seen ∷ []) (leading l x) out) t notes
-        goes_again seen t half = go (tasks.Again 35 o.key seen ∷ []) key (leading l x) t out notes (inr (subst (λ k. Half c 35 k seen ts (leading l x) t out notes) (sym on_key) half))
+        goes_again : (seen : Seen) (t : Held) → Half c key_rules.Put key seen ts (leading l x) t out notes → Ends c (next (tasks.Again key_rules.Put o.key seen ∷ []) (leading l x) out) (mark (tasks.Again key_rules.Put o.key seen ∷ []) (leading l x) out) t notes
+        goes_again seen t half = go (tasks.Again key_rules.Put o.key seen ∷ []) key (leading l x) t out notes (inr (subst (λ k. Half c key_rules.Put k seen ts (leading l x) t out notes) (sym on_key) half))
 
   -- ## A task at hand
 
   -- two answers that differ in what they ask
-  module _ (n : ℕ) (key : List ℕ) (seen : Seen) (ts : List Task) {x : PeerState} {h : Held} {out : Out} {notes : List Note} (half : Half c n key seen ts x h out notes) (next mark : Rest PeerState (List Task)) (go : Onward c (There c ts) next mark) where
+  module _ (n : KeyRule) (key : List ℕ) (seen : Seen) (ts : List Task) {x : PeerState} {h : Held} {out : Out} {notes : List Note} (half : Half c n key seen ts x h out notes) (next mark : Rest PeerState (List Task)) (go : Onward c (There c ts) next mark) where
     abbrev l : Leadership
     l = half.before
 
@@ -240,24 +242,23 @@ module _ (c : Scene) (grounds : Grounds c) where
     idle_then = idle_kept key half.leader r.0 ts (lead_step n key seen half.leader).others half.apart half.idle
 
     abbrev Plans : Leader × LeadOut → Type 0
-    Plans r = Ends c (lead_done p n r.1 (leading (with_leader r.0 l) x) out next) (lead_done p n r.1 (leading (with_leader r.0 l) x) out mark) h notes
+    Plans r = Ends c (lead_done p r.1 (leading (with_leader r.0 l) x) out next) (lead_done p r.1 (leading (with_leader r.0 l) x) out mark) h notes
 
     by_fetch : IsFetching n key l.leader r → Plans r
-    by_fetch fetch = subst Plans (sym fetch.same) (subst (λ m. Ends c (lead_done p m (and_own (owns.Look key) rests) (leading l x) out next) (lead_done p m (and_own (owns.Look key) rests) (leading l x) out mark) h notes) (sym fetch.rule)
-        (fetch_ends key ts h (and_sends (and_answers out []) []) notes l x (subst (λ (o : Out). Here c key (leading l x) h o notes) (sym (told_nothing out)) half.here) fetch.free fetch.idle half.apart (subst (λ (q : Leader × LeadOut). AreIdle q.0 ts) fetch.same idle_then) next mark go))
+    by_fetch fetch = subst Plans (sym fetch.same)
+        (fetch_ends key ts h (and_sends (and_answers out []) []) notes l x (subst (λ (o : Out). Here c key (leading l x) h o notes) (sym (told_nothing out)) half.here) fetch.free fetch.idle half.apart (subst (λ (q : Leader × LeadOut). AreIdle q.0 ts) fetch.same idle_then) next mark go)
 
     put_follows : (put : IsPutting n r) → Follows half.here.reached.ghosts (now c half.here.reached) key (owed_after [] out.answers) l.leader r
     put_follows put = stays_follows c l x half.here r (ap (λ (o : LeadOut). o.leave) put.same) (subst (λ (o : LeadOut). NamesNext o.then) (sym put.same) tt) half.goes
 
     by_put : IsPutting n r → Plans r
-    by_put put = subst (λ (o : LeadOut). PlansOut n o) (sym put.same) (subst (λ m. PlansOut m asking) (sym put.rule)
-        (put_ends key ts (with_leader r.0 l) x there put.object fits.1 fits.2 fits.3 fits.0 half.apart idle_then next mark go))
+    by_put put = subst PlansOut (sym put.same) (put_ends key ts (with_leader r.0 l) x there put.object fits.1 fits.2 fits.3 fits.0 half.apart idle_then next mark go)
       where
         asking : LeadOut
         asking = and_own (owns.Put put.object) (and_note put.note rests)
 
-        PlansOut : ℕ → LeadOut → Type 0
-        PlansOut m o = Ends c (lead_done p m o (leading (with_leader r.0 l) x) out next) (lead_done p m o (leading (with_leader r.0 l) x) out mark) h notes
+        PlansOut : LeadOut → Type 0
+        PlansOut o = Ends c (lead_done p o (leading (with_leader r.0 l) x) out next) (lead_done p o (leading (with_leader r.0 l) x) out mark) h notes
 
         f : Follows half.here.reached.ghosts (now c half.here.reached) key (owed_after [] out.answers) l.leader r
         f = put_follows put
@@ -273,11 +274,11 @@ module _ (c : Scene) (grounds : Grounds c) where
     half_row = by_way half.way
       where
         by_way : Way n key l.leader r → Plans r
-        by_way (inl tame) = tame_ends c l x half.here r n ts tame half.goes half.apart idle_then next mark go
+        by_way (inl tame) = tame_ends c l x half.here r ts tame half.goes half.apart idle_then next mark go
         by_way (inr (inl fetch)) = by_fetch fetch
         by_way (inr (inr (inl put))) = by_put put
-        by_way (inr (inr (inr damage))) = damage_ends c l x half.here r n ts damage half.goes idle_then next mark go
+        by_way (inr (inr (inr damage))) = damage_ends c l x half.here r ts damage half.goes idle_then next mark go
 
     -- a task at hand on the key
-    pub half_ends : Ends c (lead (lead_row n key seen) p n x.phase x out next) (lead (lead_row n key seen) p n x.phase x out mark) h notes
-    half_ends = subst (λ (phase : Phase). Ends c (lead (lead_row n key seen) p n phase x out next) (lead (lead_row n key seen) p n phase x out mark) h notes) (sym half.is) half_row
+    pub half_ends : Ends c (lead (lead_row n key seen) p x.phase x out next) (lead (lead_row n key seen) p x.phase x out mark) h notes
+    half_ends = subst (λ (phase : Phase). Ends c (lead (lead_row n key seen) p phase x out next) (lead (lead_row n key seen) p phase x out mark) h notes) (sym half.is) half_row

@@ -77,9 +77,9 @@ module _ (c : Scene) where
   onward_all next mark go more k y g o ns there = go more k y g o ns (subst (λ ts. TasksFit c ts k y g o ns) (append-nil more) there)
 
   -- a leader to whom a row says nothing
-  idle_ends : (n : ℕ) (key : List ℕ) (l : Leadership) (x : PeerState) (h : Held) (out : Out) (notes : List Note) → AtRest c key (leading l x) h out notes → (next mark : Rest PeerState (List Task)) → Onward c (TasksFit c) next mark
-      → Ends c (lead_done p n rests (leading (with_leader l.leader l) x) out next) (lead_done p n rests (leading (with_leader l.leader l) x) out mark) h notes
-  idle_ends n key l x h out notes rest next mark go = go [] key (leading l x) h (and_sends (and_answers out []) []) notes
+  idle_ends : (key : List ℕ) (l : Leadership) (x : PeerState) (h : Held) (out : Out) (notes : List Note) → AtRest c key (leading l x) h out notes → (next mark : Rest PeerState (List Task)) → Onward c (TasksFit c) next mark
+      → Ends c (lead_done p rests (leading (with_leader l.leader l) x) out next) (lead_done p rests (leading (with_leader l.leader l) x) out mark) h notes
+  idle_ends key l x h out notes rest next mark go = go [] key (leading l x) h (and_sends (and_answers out []) []) notes
       (inl ((subst (λ (o : Out). Here c key (leading l x) h o notes) (sym (told_nothing out)) rest.0, rest.1), tt))
 
   -- ## Replies
@@ -89,7 +89,7 @@ module _ (c : Scene) where
       → record { from = from; said = Acks (rank version) } ∈ c.said → (next mark : Rest PeerState (List Task)) → Onward c (TasksFit c) next mark
       → Ends c (delivered p from (messages.PutReply ballot key version) (record x { phase = phase }) out next) (delivered p from (messages.PutReply ballot key version) (record x { phase = phase }) out mark) h notes
   put_heard from ballot key version (phases.Leading l) k x h out notes rest said next mark go = let here = rekeyed_leader c l x rest.0 key rest.1 in
-      tame_ends c l x here (row_35_reply from ballot key version l.leader) 35 [] (tame_put from ballot key version l.leader)
+      tame_ends c l x here (row_35_reply from ballot key version l.leader) [] (tame_put from ballot key version l.leader)
       (run_acknowledged view here.reached.steps here.reached.run here.reached.ghosts key (owed_after [] out.answers) l.leader from ballot version (at_work c l x here) rest.1 (says_here c here from (Acks (rank version)) said))
       tt tt next mark (onward_all next mark go)
   put_heard from ballot key version (phases.Following f) k x h out notes rest said next mark go = go [] k (record x { phase = phases.Following f }) h out notes (inl (rest, tt))
@@ -103,13 +103,13 @@ module _ (c : Scene) where
   check_heard from ballot round (phases.Leading l) k x h out notes rest said next mark go = by_check (check_at round l.leader.table.checks) refl
     where
       Plans : Leader × LeadOut → Type 0
-      Plans r = Ends c (lead_done p 33 r.1 (leading (with_leader r.0 l) x) out next) (lead_done p 33 r.1 (leading (with_leader r.0 l) x) out mark) h notes
+      Plans r = Ends c (lead_done p r.1 (leading (with_leader r.0 l) x) out next) (lead_done p r.1 (leading (with_leader r.0 l) x) out mark) h notes
 
       by_check : (key : Option (List ℕ)) → check_at round l.leader.table.checks ≡ key → Plans (stood_at key from ballot round l.leader)
-      by_check None is = idle_ends 33 k l x h out notes rest next mark go
+      by_check None is = idle_ends k l x h out notes rest next mark go
       by_check (Some key) is = let here = rekeyed_leader c l x rest.0 key rest.1 in
           subst (λ found. Plans (stood_at found from ballot round l.leader)) is
-          (tame_ends c l x here (row_33_reply from ballot round l.leader) 33 [] (tame_stands from ballot round l.leader)
+          (tame_ends c l x here (row_33_reply from ballot round l.leader) [] (tame_stands from ballot round l.leader)
           (run_counts view here.reached.steps here.reached.run here.reached.ghosts key (owed_after [] out.answers) l.leader from ballot round (at_work c l x here) rest.1 is (says_here c here from (StandsThere (epoch_number ballot) round) said))
           tt tt next mark (onward_all next mark go))
   check_heard from ballot round (phases.Following f) k x h out notes rest said next mark go = go [] k (record x { phase = phases.Following f }) h out notes (inl (rest, tt))
@@ -121,15 +121,15 @@ module _ (c : Scene) where
       → record { from = from; said = Entries (epoch_number ballot) round key (entry_rank entry) (shown entry object) } ∈ c.said → EntryMaySay (now c rest.0.reached) strings entry → EntryFits entry → (next mark : Rest PeerState (List Task)) → Onward c (TasksFit c) next mark
       → Ends c (delivered p from (messages.GetReply ballot round key entry object) (record x { phase = phase }) out next) (delivered p from (messages.GetReply ballot round key entry object) (record x { phase = phase }) out mark) h notes
   got_heard from ballot round key entry object (phases.Leading l) k x h out notes rest said entry_says fits next mark go =
-      confirmed_ends c here from (epoch_number ballot) round key entry object (λ named y o. lead (row_29_reply from ballot round key entry named) p 29 y.phase y o next) (λ named y o. lead (row_29_reply from ballot round key entry named) p 29 y.phase y o mark)
+      confirmed_ends c here from (epoch_number ballot) round key entry object (λ named y o. lead (row_29_reply from ballot round key entry named) p y.phase y o next) (λ named y o. lead (row_29_reply from ballot round key entry named) p y.phase y o mark)
       (says_here c here from (Entries (epoch_number ballot) round key (entry_rank entry) (shown entry object)) said) entry_says (λ named t over confirmed. heard named t (over_here c here t over) confirmed)
     where
       here : Here c key (leading l x) h out notes
       here = rekeyed_leader c l x rest.0 key rest.1
 
       heard : (named : Option Object) (t : Held) (there : Here c key (leading l x) t out notes) → Confirmed there.reached.ghosts (now c there.reached) from (epoch_number ballot) round key entry named
-          → Ends c (lead (row_29_reply from ballot round key entry named) p 29 (phases.Leading l) (leading l x) out next) (lead (row_29_reply from ballot round key entry named) p 29 (phases.Leading l) (leading l x) out mark) t notes
-      heard named t there confirmed = tame_ends c l x there (row_29_reply from ballot round key entry named l.leader) 29 [] (tame_got from ballot round key entry named l.leader)
+          → Ends c (lead (row_29_reply from ballot round key entry named) p (phases.Leading l) (leading l x) out next) (lead (row_29_reply from ballot round key entry named) p (phases.Leading l) (leading l x) out mark) t notes
+      heard named t there confirmed = tame_ends c l x there (row_29_reply from ballot round key entry named l.leader) [] (tame_got from ballot round key entry named l.leader)
           (run_got view there.reached.steps there.reached.run there.reached.ghosts key (owed_after [] out.answers) l.leader from ballot round entry named (at_work c l x there) rest.1 confirmed.reply fits confirmed.found_says)
           tt tt next mark (onward_all next mark go)
   got_heard from ballot round key entry object (phases.Following f) k x h out notes rest said entry_says fits next mark go = go [] k (record x { phase = phases.Following f }) h out notes (inl (rest, tt))
@@ -234,8 +234,8 @@ module _ (c : Scene) (call : CallIn) (few : length (state_after c.view (Ask (ask
       standing = steps_stand d l x h nothing [] t (asked_stands (leading l x) h g old) f.steps f.move.may f.kinds row f.same f.notes g old.hash called_map (own_peer c l x here) (calm_27 call.from call.id call.key call.command (has_begun l.change) l.leader).sends;
     })
 
-    taken_ends : (next mark : Rest PeerState (List Task)) → Onward d (TasksFit d) next mark → Ends d (lead_done p 27 row.1 (leading (with_leader row.0 l) x) nothing next) (lead_done p 27 row.1 (leading (with_leader row.0 l) x) nothing mark) h []
-    taken_ends next mark go = calm_plan d call.key l x row h 27 [] nothing [] (calm_27 call.from call.id call.key call.command (has_begun l.change) l.leader) taken f.next f.ready tt tt next mark (onward_all d next mark go)
+    taken_ends : (next mark : Rest PeerState (List Task)) → Onward d (TasksFit d) next mark → Ends d (lead_done p row.1 (leading (with_leader row.0 l) x) nothing next) (lead_done p row.1 (leading (with_leader row.0 l) x) nothing mark) h []
+    taken_ends next mark go = calm_plan d call.key l x row h [] nothing [] (calm_27 call.from call.id call.key call.command (has_begun l.change) l.leader) taken f.next f.ready tt tt next mark (onward_all d next mark go)
 
   called_phase : (phase : Phase) (x : PeerState) (h : Held) (g : Ghosts) → IsRun view c.begun → Stands c [] (record x { phase = phase }) h nothing [] g s → IsAtRest phase → (next mark : Rest PeerState (List Task)) → Onward d (TasksFit d) next mark
       → Ends d (called p call (record x { phase = phase }) nothing next) (called p call (record x { phase = phase }) nothing mark) h []

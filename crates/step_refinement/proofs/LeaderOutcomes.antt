@@ -53,17 +53,20 @@ use Rattle.phase_rows.specs.declared.phase.Seen.{Seen}
 use Rattle.phase_rows.specs.declared.phase.Seen.TheVariants as seens
 use Rattle.phase_rows.specs.declared.phase.Then.{Then}
 use Rattle.phase_rows.specs.declared.phase.Then.TheVariants as thens
+use Rattle.phase_rows.specs.declared.rules.KeyRule.{KeyRule}
+use Rattle.phase_rows.specs.declared.rules.KeyRule.TheVariants as key_rules
 use Rattle.election_refinement.proofs.Tests.{by_test}
 use Rattle.step_refinement.proofs.LeaderMessages.{CallFits, AskFits}
 
 -- a rule that a rule names on its key; rules 31 and 32 alone name rule 35
-abbrev pub IsNamed : ℕ → Type 0
-IsNamed n = (n ≡ 28) ⊎ ((n ≡ 29) ⊎ ((n ≡ 30) ⊎ ((n ≡ 31) ⊎ ((n ≡ 32) ⊎ ((n ≡ 33) ⊎ ((n ≡ 34) ⊎ (n ≡ 36)))))))
+abbrev pub IsNamed : KeyRule → Type 0
+IsNamed key_rules.Put = ⊥
+IsNamed rule = Unit {0}
 
 -- no rule comes next, or one of these
 abbrev pub NamesNext : Then → Type 0
 NamesNext thens.Stay = Unit {0}
-NamesNext (thens.Rule n) = IsNamed n
+NamesNext (thens.OnKeys rule) = IsNamed rule
 NamesNext other = ⊥
 
 -- the leader stays and asks no store
@@ -112,46 +115,22 @@ told test message fits (suc n) within = All-append AskFits (sent_up_to test mess
 tells : (l : Leader) (message : Message) → CallFits message → All AskFits (sent_up_to (is_other l.me l.fact.views) message 31)
 tells l message fits = told (is_other l.me l.fact.views) message fits 31 (omega arith)
 
-to_28 : IsNamed 28
-to_28 = inl refl
-
-to_29 : IsNamed 29
-to_29 = inr (inl refl)
-
-to_30 : IsNamed 30
-to_30 = inr (inr (inl refl))
-
-to_31 : IsNamed 31
-to_31 = inr (inr (inr (inl refl)))
-
-to_32 : IsNamed 32
-to_32 = inr (inr (inr (inr (inl refl))))
-
-to_33 : IsNamed 33
-to_33 = inr (inr (inr (inr (inr (inl refl)))))
-
-to_34 : IsNamed 34
-to_34 = inr (inr (inr (inr (inr (inr (inl refl))))))
-
-to_36 : IsNamed 36
-to_36 = inr (inr (inr (inr (inr (inr (inr refl))))))
-
 -- ## Rules 27, 28 and 36
 
 decided_tame : (parent : Option Version) (verdict : Verdict) (key : List ℕ) (l : Leader) → Tames (decided parent verdict key l)
-decided_tame parent (Write content) key l = calm refl refl to_31 refl
-decided_tame parent (Answer reply) key l = calm refl refl to_33 refl
+decided_tame parent (Write content) key l = calm refl refl tt refl
+decided_tame parent (Answer reply) key l = calm refl refl tt refl
 
 concluded_tame : (verdict : Verdict) (w : Waiting) (key : List ℕ) (l : Leader) → Tames (concluded verdict w key l)
-concluded_tame (Write content) w key l = calm refl refl to_31 refl
-concluded_tame (Answer reply) w key l = calm refl refl to_36 refl
+concluded_tame (Write content) w key l = calm refl refl tt refl
+concluded_tame (Answer reply) w key l = calm refl refl tt refl
 
 -- rule 28 may ask the backend instead
 abbrev pub IsLooking : List ℕ → Leader → Leader × LeadOut → Type 0
-IsLooking key l r = IsTame r.1 ⊎ (r ≡ (l, and_own (owns.Look key) rests))
+IsLooking key l r = IsTame r.1 ⊎ (r ≡ (l, and_own (owns.Fetch key) rests))
 
 on_object_tame : (o : Option Object) (command : Command) (key : List ℕ) (l : Leader) → Tames (on_object o command key l)
-on_object_tame None command key l = calm refl refl to_29 refl
+on_object_tame None command key l = calm refl refl tt refl
 on_object_tame (Some o) command key l = decided_tame (base key l) (verdict_of (outcome command (register_of o))) key l
 
 by_value_looks : (seen : Seen) (version : Version) (digest : List ℕ) (command : Command) (key : List ℕ) (l : Leader) → IsLooking key l (by_value seen version digest command key l)
@@ -168,7 +147,7 @@ on_present_looks true version stamp digest seen command key l = inl (decided_tam
 on_present_looks false version stamp digest seen command key l = by_stamp_looks (stamp_verdict command stamp) seen version digest command key l
 
 by_known_looks : (known : Known) (seen : Seen) (command : Command) (key : List ℕ) (l : Leader) → IsLooking key l (by_known known seen command key l)
-by_known_looks knowns.Unknown seen command key l = inl (calm refl refl to_29 refl)
+by_known_looks knowns.Unknown seen command key l = inl (calm refl refl tt refl)
 by_known_looks knowns.Absent seen command key l = inl (decided_tame (base key l) (verdict_of (outcome command registers.Absent)) key l)
 by_known_looks (knowns.Present version stamp digest tombstone) seen command key l = on_present_looks tombstone version stamp digest seen command key l
 
@@ -182,7 +161,7 @@ tame_28 key seen l = started_looks (running key l.table.calls) seen key l
 
 next_tame : (w : Option Waiting) (key : List ℕ) → IsTame (next_call w key)
 next_tame None key = calm refl refl tt refl
-next_tame (Some w) key = calm refl refl to_28 refl
+next_tame (Some w) key = calm refl refl tt refl
 
 -- rule 36 is tame
 pub tame_36 : (key : List ℕ) (l : Leader) → IsTame (row_36 key l).1
@@ -196,14 +175,14 @@ calm_27 from id key command finishing l =
     (λ goes_on. by_test (λ (r : Leader × LeadOut). IsCalmOut r.1) (nat_le 16 (waiting_on key l.table.calls)) _ _
     (λ busy. calm_out _ refl refl tt refl)
     (λ free. by_test IsCalmOut (waiting_on key l.table.calls == 0) _ _
-    (λ alone. calm_out _ refl refl to_28 refl)
+    (λ alone. calm_out _ refl refl tt refl)
     (λ behind. calm_out _ refl refl tt refl)))
 
 -- ## Rules 29, 30, 33 and 34
 
 -- the second run of rule 29, without damage
 asked_tame : (entry : Option Entry) (object : Option Object) (key : List ℕ) (l : Leader) → Tames (asked (seens.Held entry object) key l)
-asked_tame entry object key l = inr (record { leave = refl; own = refl; next = to_30; sends = tells l (messages.Get l.fact.epoch l.round key) tt })
+asked_tame entry object key l = inr (record { leave = refl; own = refl; next = tt; sends = tells l (messages.Get l.fact.epoch l.round key) tt })
 
 asked_for_tame : (w : Option Waiting) (entry : Option Entry) (object : Option Object) (key : List ℕ) (l : Leader) → Tames (asked_for w (seens.Held entry object) key l)
 asked_for_tame None entry object key l = calm refl refl tt refl
@@ -222,7 +201,7 @@ broken_29 at key l = by_call (running key l.table.calls)
     by_call (Some w) = inr (damaged l)
 
 heard_tame : (stage : Stage) (from : ℕ) (ballot : Epoch) (round : ℕ) (key : List ℕ) (entry : Option Entry) (object : Option Object) (l : Leader) → Tames (heard stage from ballot round key entry object l)
-heard_tame (stages.Reading asked_in votes best) from ballot round key entry object l = by_test Tames (counts ballot round asked_in l) _ _ (λ own. calm refl refl to_30 refl) (λ other. calm refl refl tt refl)
+heard_tame (stages.Reading asked_in votes best) from ballot round key entry object l = by_test Tames (counts ballot round asked_in l) _ _ (λ own. calm refl refl tt refl) (λ other. calm refl refl tt refl)
 heard_tame stage from ballot round key entry object l = calm refl refl tt refl
 
 -- the rule for a reply to a read is tame
@@ -230,19 +209,19 @@ pub tame_got : (from : ℕ) (ballot : Epoch) (round : ℕ) (key : List ℕ) (ent
 tame_got from ballot round key entry object l = heard_tame (row_at key l.table.rows).stage from ballot round key entry object l
 
 without_tame : (state : RoundState) (w : Waiting) (key : List ℕ) (l : Leader) → Tames (without_object state w key l)
-without_tame AllAnswered w key l = calm refl refl to_36 refl
+without_tame AllAnswered w key l = calm refl refl tt refl
 without_tame state w key l = calm refl refl tt refl
 
 on_found_tame : (o : Option Object) (state : RoundState) (u : Entry) (w : Waiting) (key : List ℕ) (l : Leader) → Tames (on_found o state u w key l)
 on_found_tame None state u w key l = without_tame state w key l
-on_found_tame (Some o) state u w key l = by_test Tames (is_same u.version.epoch l.fact.epoch) _ _ (λ own. calm refl refl to_34 refl) (λ earlier. calm refl refl to_32 refl)
+on_found_tame (Some o) state u w key l = by_test Tames (is_same u.version.epoch l.fact.epoch) _ _ (λ own. calm refl refl tt refl) (λ earlier. calm refl refl tt refl)
 
 on_greatest_tame : (verdict : Option Verdict) (state : RoundState) (u : Found) (w : Waiting) (key : List ℕ) (l : Leader) → Tames (on_greatest verdict state u w key l)
 on_greatest_tame (Some verdict) state u w key l = decided_tame (Some u.entry.version) verdict key l
 on_greatest_tame None state u w key l = on_found_tame u.object state u.entry w key l
 
 on_best_tame : (best : Option Found) (state : RoundState) (w : Waiting) (key : List ℕ) (l : Leader) → Tames (on_best best state w key l)
-on_best_tame None state w key l = calm refl refl to_34 refl
+on_best_tame None state w key l = calm refl refl tt refl
 on_best_tame (Some u) state w key l = on_greatest_tame (blind_verdict w.command) state u w key l
 
 by_state_tame : (state : RoundState) (best : Option Found) (w : Waiting) (key : List ℕ) (l : Leader) → Tames (by_state state best w key l)
@@ -264,8 +243,8 @@ tame_30 key l = gathered_for_tame (running key l.table.calls) key l
 
 begins_tame : (state : RoundState) (votes : Round) (reply : Reply) (w : Waiting) (key : List ℕ) (out : LeadOut) (l : Leader) → IsCalmOut out → Tames (begins_check state votes reply w key out l)
 begins_tame Open votes reply w key out l was = inr was
-begins_tame Met votes reply w key out l was = inr (record { leave = was.leave; own = was.own; next = to_36; sends = was.sends })
-begins_tame AllAnswered votes reply w key out l was = inr (record { leave = was.leave; own = was.own; next = to_36; sends = was.sends })
+begins_tame Met votes reply w key out l was = inr (record { leave = was.leave; own = was.own; next = tt; sends = was.sends })
+begins_tame AllAnswered votes reply w key out l was = inr (record { leave = was.leave; own = was.own; next = tt; sends = was.sends })
 
 checked_tame : (w : Option Waiting) (task : Pending) (key : List ℕ) (l : Leader) → Tames (checked_for w task key l)
 checked_tame (Some w) (tasks.Check reply) key l =
@@ -280,8 +259,8 @@ tame_33 key l = checked_tame (running key l.table.calls) l.task key (with_task t
 
 goes_on_tame : (state : RoundState) (round : ℕ) (votes : Round) (reply : Reply) (w : Waiting) (key : List ℕ) (l : Leader) → Tames (goes_on_checking state round votes reply w key l)
 goes_on_tame Open round votes reply w key l = calm refl refl tt refl
-goes_on_tame Met round votes reply w key l = calm refl refl to_36 refl
-goes_on_tame AllAnswered round votes reply w key l = calm refl refl to_36 refl
+goes_on_tame Met round votes reply w key l = calm refl refl tt refl
+goes_on_tame AllAnswered round votes reply w key l = calm refl refl tt refl
 
 stood_tame : (w : Option Waiting) (stage : Stage) (from : ℕ) (ballot : Epoch) (round : ℕ) (key : List ℕ) (l : Leader) → Tames (stood w stage from ballot round key l)
 stood_tame (Some w) (stages.Checking asked_in votes reply) from ballot round key l =
@@ -308,10 +287,10 @@ tame_34 key l = applied_tame (running key l.table.calls) l.task key (with_task t
 
 write_settled_tame : (w : Option Waiting) (o : Object) (key : List ℕ) (out : LeadOut) (l : Leader) → IsCalmOut out → Tames (write_settled w o key out l)
 write_settled_tame None o key out l was = inr was
-write_settled_tame (Some w) o key out l was = inr (record { leave = was.leave; own = was.own; next = to_36; sends = was.sends })
+write_settled_tame (Some w) o key out l was = inr (record { leave = was.leave; own = was.own; next = tt; sends = was.sends })
 
 settled_tame : (rewrite : Bool) (o : Object) (key : List ℕ) (out : LeadOut) (l : Leader) → IsCalmOut out → Tames (settled_for rewrite o key out l)
-settled_tame true o key out l was = inr (record { leave = was.leave; own = was.own; next = to_34; sends = was.sends })
+settled_tame true o key out l was = inr (record { leave = was.leave; own = was.own; next = tt; sends = was.sends })
 settled_tame false o key out l was = write_settled_tame (running key l.table.calls) o key out l was
 
 acknowledged_tame : (state : RoundState) (o : Object) (digest : List ℕ) (acks : Round) (rewrite : Bool) (key : List ℕ) (out : LeadOut) (l : Leader) → IsCalmOut out → Tames (acknowledged state o digest acks rewrite key out l)
@@ -357,4 +336,4 @@ pub tame_5 : (finishing : Finishing) (l : Leader) → IsTame (row_5_calls finish
 tame_5 finishing l =
     by_test Tames (late_put (aged l.table) || is_late finishing) _ _
     (λ late. inl refl)
-    (λ on_time. timed_out_tame (due (aged l.table).calls) (comes (thens.Rule 36)) (record { leave = refl; own = refl; next = to_36; sends = All-nil AskFits }))
+    (λ on_time. timed_out_tame (due (aged l.table).calls) (comes (thens.OnKeys key_rules.StartNextCall)) (record { leave = refl; own = refl; next = tt; sends = All-nil AskFits }))

@@ -71,8 +71,8 @@ module _ (c : Scene) where
         → (next mark : Rest PeerState (List Task)) → Onward c (There ts) next mark
         → Ends c (next (keyed then keys) (turned p then (leading (with_leader r.0 l) x)) (turned_answers then (leading (with_leader r.0 l) x) o)) (mark (keyed then keys) (turned p then (leading (with_leader r.0 l) x)) (turned_answers then (leading (with_leader r.0 l) x) o)) h more
     next_ends ts thens.Stay keys o more there named next_fits ready apart idle next mark go = go [] key (leading (with_leader r.0 l) x) h o more (inl ((there, next_fits.1), idle))
-    next_ends ts (thens.Rule n) keys o more there named next_fits ready apart idle next mark go =
-        subst (λ ks. Ends c (next (keyed (thens.Rule n) ks) (leading (with_leader r.0 l) x) o) (mark (keyed (thens.Rule n) ks) (leading (with_leader r.0 l) x) o) h more) (sym next_fits.0)
+    next_ends ts (thens.OnKeys n) keys o more there named next_fits ready apart idle next mark go =
+        subst (λ ks. Ends c (next (keyed (thens.OnKeys n) ks) (leading (with_leader r.0 l) x) o) (mark (keyed (thens.OnKeys n) ks) (leading (with_leader r.0 l) x) o) h more) (sym next_fits.0)
         (go (tasks.Key n key ∷ []) key (leading (with_leader r.0 l) x) h o more (inr (named_fits c (with_leader r.0 l) x there ts apart idle n named next_fits.1 ready)))
     next_ends ts other keys o more there named next_fits ready apart idle next mark go = absurd named
 
@@ -82,24 +82,24 @@ module _ (c : Scene) where
         (mark (keyed o.then o.keys) (turned p o.then (leading (with_leader r.0 l) x)) (turned_answers o.then (leading (with_leader r.0 l) x) (and_sends (and_answers out o.answers) o.sends))) h (notes ++ o.notes)
 
     -- the plan of a leader that stays and asks no store
-    pub stays_plan : (n : ℕ) (out : Out) (notes : List Note) → IsCalmOut r.1 → (next mark : Rest PeerState (List Task)) → Follow r.1 out notes next mark
-        → Ends c (lead_done p n r.1 (leading (with_leader r.0 l) x) out next) (lead_done p n r.1 (leading (with_leader r.0 l) x) out mark) h notes
-    stays_plan n out notes calm next mark goes =
-        noted_ends r.1.notes (followed_up p n r.1.own r.1.then r.1.keys (left r.1.leave y) (and_row r.1 y out) next) (followed_up p n r.1.own r.1.then r.1.keys (left r.1.leave y) (and_row r.1 y out) mark) h notes
+    pub stays_plan : (out : Out) (notes : List Note) → IsCalmOut r.1 → (next mark : Rest PeerState (List Task)) → Follow r.1 out notes next mark
+        → Ends c (lead_done p r.1 (leading (with_leader r.0 l) x) out next) (lead_done p r.1 (leading (with_leader r.0 l) x) out mark) h notes
+    stays_plan out notes calm next mark goes =
+        noted_ends r.1.notes (followed_up p r.1.own r.1.then r.1.keys (left r.1.leave y) (and_row r.1 y out) next) (followed_up p r.1.own r.1.then r.1.keys (left r.1.leave y) (and_row r.1 y out) mark) h notes
         (subst (Plans r.1.own) (sym calm.leave) (subst (λ own. Plans own false) (sym calm.own) goes))
       where
         y : PeerState
         y = leading (with_leader r.0 l) x
 
         Plans : Option Own → Bool → Type 0
-        Plans own leave = Ends c (followed_up p n own r.1.then r.1.keys (left leave y) (and_sends (and_answers (left_answers leave y out) r.1.answers) r.1.sends) next)
-            (followed_up p n own r.1.then r.1.keys (left leave y) (and_sends (and_answers (left_answers leave y out) r.1.answers) r.1.sends) mark) h (notes ++ r.1.notes)
+        Plans own leave = Ends c (followed_up p own r.1.then r.1.keys (left leave y) (and_sends (and_answers (left_answers leave y out) r.1.answers) r.1.sends) next)
+            (followed_up p own r.1.then r.1.keys (left leave y) (and_sends (and_answers (left_answers leave y out) r.1.answers) r.1.sends) mark) h (notes ++ r.1.notes)
 
     -- a rule whose answer is calm ends well if the next one fits
-    pub calm_plan : (n : ℕ) (ts : List Task) (out : Out) (notes : List Note) → IsCalmOut r.1 → Here c key (leading (with_leader r.0 l) x) h (and_sends (and_answers out r.1.answers) r.1.sends) (notes ++ r.1.notes) → NextFits key r.0 r.1.own r.1.then r.1.keys → IsReadyFor r.1.then key r.0
+    pub calm_plan : (ts : List Task) (out : Out) (notes : List Note) → IsCalmOut r.1 → Here c key (leading (with_leader r.0 l) x) h (and_sends (and_answers out r.1.answers) r.1.sends) (notes ++ r.1.notes) → NextFits key r.0 r.1.own r.1.then r.1.keys → IsReadyFor r.1.then key r.0
         → AreApart key ts → AreIdle r.0 ts → (next mark : Rest PeerState (List Task)) → Onward c (There ts) next mark
-        → Ends c (lead_done p n r.1 (leading (with_leader r.0 l) x) out next) (lead_done p n r.1 (leading (with_leader r.0 l) x) out mark) h notes
-    calm_plan n ts out notes calm there next_fits ready apart idle next mark go = stays_plan n out notes calm next mark
+        → Ends c (lead_done p r.1 (leading (with_leader r.0 l) x) out next) (lead_done p r.1 (leading (with_leader r.0 l) x) out mark) h notes
+    calm_plan ts out notes calm there next_fits ready apart idle next mark go = stays_plan out notes calm next mark
         (next_ends ts r.1.then r.1.keys (and_sends (and_answers out r.1.answers) r.1.sends) (notes ++ r.1.notes) there calm.next (subst (λ own. NextFits key r.0 own r.1.then r.1.keys) calm.own next_fits) ready apart idle next mark go)
 
   -- ## A rule of a leader
@@ -141,9 +141,9 @@ module _ (c : Scene) where
         there = subst (λ (o : Out). Here c key (leading (with_leader r.0 l) x) h o notes) (told_nothing out) (subst (λ ns. Here c key (leading (with_leader r.0 l) x) h (and_sends (and_answers out []) []) ns) (append-nil notes) quiet)
 
     -- the plan of a leader that steps down
-    pub leave_ends : (n : ℕ) (ts : List Task) → r.1 ≡ leaves → GoesOn g s key owes l.leader r → AreIdle r.0 ts → (next mark : Rest PeerState (List Task)) → Onward c (There ts) next mark
-        → Ends c (lead_done p n r.1 (leading (with_leader r.0 l) x) out next) (lead_done p n r.1 (leading (with_leader r.0 l) x) out mark) h notes
-    leave_ends n ts is goes idle next mark go = subst (λ (o : LeadOut). Ends c (lead_done p n o (leading (with_leader r.0 l) x) out next) (lead_done p n o (leading (with_leader r.0 l) x) out mark) h notes) (sym is)
+    pub leave_ends : (ts : List Task) → r.1 ≡ leaves → GoesOn g s key owes l.leader r → AreIdle r.0 ts → (next mark : Rest PeerState (List Task)) → Onward c (There ts) next mark
+        → Ends c (lead_done p r.1 (leading (with_leader r.0 l) x) out next) (lead_done p r.1 (leading (with_leader r.0 l) x) out mark) h notes
+    leave_ends ts is goes idle next mark go = subst (λ (o : LeadOut). Ends c (lead_done p o (leading (with_leader r.0 l) x) out next) (lead_done p o (leading (with_leader r.0 l) x) out mark) h notes) (sym is)
         (go [] [] (record x { phase = follower }) h (and_sends (and_answers (and_answers out (map left_answer r.0.table.calls)) []) []) notes (inl ((there, tt), idle_in_order r.0 ts idle)))
       where
         there : Here c [] (record x { phase = follower }) h (and_sends (and_answers (and_answers out (map left_answer r.0.table.calls)) []) []) notes
@@ -151,9 +151,9 @@ module _ (c : Scene) where
             (left_here (ap (λ (o : LeadOut). o.sends) is) (ap (λ (o : LeadOut). o.answers) is) (ap (λ (o : LeadOut). o.notes) is) goes)
 
     -- the plan of a leader whose rule was shown damage: it steps down, and its peer no longer trusts its tree
-    pub damage_ends : (n : ℕ) (ts : List Task) → IsDamage r → GoesOn g s key owes l.leader r → AreIdle r.0 ts → (next mark : Rest PeerState (List Task)) → Onward c (There ts) next mark
-        → Ends c (lead_done p n r.1 (leading (with_leader r.0 l) x) out next) (lead_done p n r.1 (leading (with_leader r.0 l) x) out mark) h notes
-    damage_ends n ts is goes idle next mark go = subst (λ (o : LeadOut). Ends c (lead_done p n o (leading (with_leader r.0 l) x) out next) (lead_done p n o (leading (with_leader r.0 l) x) out mark) h notes) (sym (damage_is r is))
+    pub damage_ends : (ts : List Task) → IsDamage r → GoesOn g s key owes l.leader r → AreIdle r.0 ts → (next mark : Rest PeerState (List Task)) → Onward c (There ts) next mark
+        → Ends c (lead_done p r.1 (leading (with_leader r.0 l) x) out next) (lead_done p r.1 (leading (with_leader r.0 l) x) out mark) h notes
+    damage_ends ts is goes idle next mark go = subst (λ (o : LeadOut). Ends c (lead_done p o (leading (with_leader r.0 l) x) out next) (lead_done p o (leading (with_leader r.0 l) x) out mark) h notes) (sym (damage_is r is))
         (go [] [] (untrusted (record x { phase = follower })) h (and_answers (and_sends (and_answers out []) []) calls) notes (inl (there, idle_in_order r.0 ts idle)))
       where
         calls : List AnswerOut
@@ -182,7 +182,7 @@ module _ (c : Scene) where
     stays_follows leave next (inr f) = f
 
     -- the plan of a rule whose answer is tame
-    pub tame_ends : (n : ℕ) (ts : List Task) → IsTame r.1 → GoesOn g s key owes l.leader r → AreApart key ts → AreIdle r.0 ts → (next mark : Rest PeerState (List Task)) → Onward c (There ts) next mark
-        → Ends c (lead_done p n r.1 (leading (with_leader r.0 l) x) out next) (lead_done p n r.1 (leading (with_leader r.0 l) x) out mark) h notes
-    tame_ends n ts (inl is) goes apart idle next mark go = leave_ends n ts is goes idle next mark go
-    tame_ends n ts (inr calm) goes apart idle next mark go = let f = stays_follows calm.leave calm.next goes in calm_plan key l x r h n ts out notes calm (followed f calm.sends) f.next f.ready apart idle next mark go
+    pub tame_ends : (ts : List Task) → IsTame r.1 → GoesOn g s key owes l.leader r → AreApart key ts → AreIdle r.0 ts → (next mark : Rest PeerState (List Task)) → Onward c (There ts) next mark
+        → Ends c (lead_done p r.1 (leading (with_leader r.0 l) x) out next) (lead_done p r.1 (leading (with_leader r.0 l) x) out mark) h notes
+    tame_ends ts (inl is) goes apart idle next mark go = leave_ends ts is goes idle next mark go
+    tame_ends ts (inr calm) goes apart idle next mark go = let f = stays_follows calm.leave calm.next goes in calm_plan key l x r h ts out notes calm (followed f calm.sends) f.next f.ready apart idle next mark go

@@ -42,7 +42,8 @@ use Rattle.step_plans.specs.Tasks.{keyed}
 use Rattle.step_plans.specs.declared.tasks.Task.{Task}
 use Rattle.step_plans.specs.declared.tasks.Task.TheVariants as tasks
 use Rattle.phase_rows.specs.declared.phase.Then.{Then}
-use Rattle.phase_rows.specs.declared.phase.Then.TheVariants.{Stay, Rule}
+use Rattle.phase_rows.specs.declared.phase.Then.TheVariants.{Stay, OnKeys}
+use Rattle.phase_rows.specs.declared.rules.KeyRule.TheVariants as key_rules
 use Rattle.step_refinement.proofs.CallByCall.{Ends, Onward}
 use Rattle.step_refinement.specs.Scenes.{Scene, now, Here, AtRest}
 use Rattle.step_refinement.proofs.LeadersAtWork.{at_work, moved_here}
@@ -94,7 +95,7 @@ waits_still key (v ∷ calls) w some = by_key (same_bytes v.key key) some (waits
 
 -- the tasks of these keys
 abbrev pub key_tasks : List (List ℕ) → List Task → List Task
-key_tasks keys ts = keyed (Rule 36) keys ++ ts
+key_tasks keys ts = keyed (OnKeys key_rules.StartNextCall) keys ++ ts
 
 -- a key with a call among those before is none of the keys that follow
 apart_due : (key : List ℕ) (before calls : List Waiting) (ts : List Task) → AreApart key ts → (waiting_on key before == 0) ≡ false → AreApart key (key_tasks (keys_due (due_after before calls)) ts)
@@ -139,19 +140,19 @@ idle_due l before (w ∷ ws) ts are ready = by_age (is_due w) ready (idle_due l 
 
 -- the tasks after the calls of a tick
 abbrev pub IdlesAfter : List Task → Leader × LeadOut → Type 0
-IdlesAfter ts r = r.1.then ≡ Rule 36 → EachIsIdle r.0 r.1.keys → AreIdle r.0 (key_tasks r.1.keys ts)
+IdlesAfter ts r = r.1.then ≡ OnKeys key_rules.StartNextCall → EachIsIdle r.0 r.1.keys → AreIdle r.0 (key_tasks r.1.keys ts)
 
 -- so are those of a tick
 pub ticked_idle : (finishing : Finishing) (l : Leader) (ts : List Task) → ArePhases ts → IdlesAfter ts (row_5_calls finishing l)
-ticked_idle finishing l ts are = by_test (IdlesAfter ts) (late_put (aged l.table) || is_late finishing) (record l { table = aged l.table }, leaves) (now, timed_out (due (aged l.table).calls) (comes (Rule 36)))
+ticked_idle finishing l ts are = by_test (IdlesAfter ts) (late_put (aged l.table) || is_late finishing) (record l { table = aged l.table }, leaves) (now, timed_out (due (aged l.table).calls) (comes (OnKeys key_rules.StartNextCall)))
     (λ late next ready. absurd (not_stay next))
-    (λ on_time next ready. subst (λ keys. AreIdle now (key_tasks keys ts)) (sym (timed_keys (due (aged l.table).calls) (comes (Rule 36))))
-    (idle_due now [] (aged l.table).calls ts are (subst (EachIsIdle now) (timed_keys (due (aged l.table).calls) (comes (Rule 36))) ready)))
+    (λ on_time next ready. subst (λ keys. AreIdle now (key_tasks keys ts)) (sym (timed_keys (due (aged l.table).calls) (comes (OnKeys key_rules.StartNextCall))))
+    (idle_due now [] (aged l.table).calls ts are (subst (EachIsIdle now) (timed_keys (due (aged l.table).calls) (comes (OnKeys key_rules.StartNextCall))) ready)))
   where
     now : Leader
     now = record l { table = without_due (aged l.table) }
 
-    not_stay : Stay ≡ Rule 36 → ⊥
+    not_stay : Stay ≡ OnKeys key_rules.StartNextCall → ⊥
     not_stay e = cc
 
 -- ## A tick
@@ -174,7 +175,7 @@ module _ (c : Scene) where
 
     -- rule 5 (d) and (e) come after the keys
     abbrev later : Rest PeerState (List Task) → Rest PeerState (List Task)
-    later rest ts y o = rest (ts ++ tasks.Phase 5 ∷ []) y o
+    later rest ts y o = rest (ts ++ tasks.Remind ∷ []) y o
 
     timed_here : TimesOut g s owes l.leader r → IsCalmOut r.1 → Here c key (leading (with_leader r.0 l) x) h (and_sends (and_answers out r.1.answers) r.1.sends) (notes ++ r.1.notes)
     timed_here t calm = moved_here c l x here r [] g (t.move key) tt here.roles.turns t.fits t.same
@@ -182,10 +183,10 @@ module _ (c : Scene) where
         (subst (λ ns. s.book.notes ≡ s.book.notes ++ ns) (sym t.notes) (sym (append-nil s.book.notes)))
         (subst (All (SentSays g s)) (sym t.sends) (All-nil (SentSays g s))) calm.sends
 
-    timed_ends : TimesOut g s owes l.leader r → IsCalmOut r.1 → Ends c (lead_done p 5 r.1 (leading (with_leader r.0 l) x) out (later next)) (lead_done p 5 r.1 (leading (with_leader r.0 l) x) out (later mark)) h notes
-    timed_ends t calm = stays_plan c key l x r h 5 out notes calm (later next) (later mark)
+    timed_ends : TimesOut g s owes l.leader r → IsCalmOut r.1 → Ends c (lead_done p r.1 (leading (with_leader r.0 l) x) out (later next)) (lead_done p r.1 (leading (with_leader r.0 l) x) out (later mark)) h notes
+    timed_ends t calm = stays_plan c key l x r h out notes calm (later next) (later mark)
         (subst (λ (turn : Then). Ends c (later next (keyed turn r.1.keys) (turned p turn y) (turned_answers turn y told)) (later mark (keyed turn r.1.keys) (turned p turn y) (turned_answers turn y told)) h (notes ++ r.1.notes)) (sym t.next)
-        (go (key_tasks r.1.keys (tasks.Phase 5 ∷ [])) key y h told (notes ++ r.1.notes) (inl ((timed_here t calm, t.task), ticked_idle finishing l.leader (tasks.Phase 5 ∷ []) tt t.next t.ready))))
+        (go (key_tasks r.1.keys (tasks.Remind ∷ [])) key y h told (notes ++ r.1.notes) (inl ((timed_here t calm, t.task), ticked_idle finishing l.leader (tasks.Remind ∷ []) tt t.next t.ready))))
       where
         y : PeerState
         y = leading (with_leader r.0 l) x
@@ -193,20 +194,20 @@ module _ (c : Scene) where
         told : Out
         told = and_sends (and_answers out r.1.answers) r.1.sends
 
-    calls_end : Ends c (lead_done p 5 r.1 (leading (with_leader r.0 l) x) out (later next)) (lead_done p 5 r.1 (leading (with_leader r.0 l) x) out (later mark)) h notes
+    calls_end : Ends c (lead_done p r.1 (leading (with_leader r.0 l) x) out (later next)) (lead_done p r.1 (leading (with_leader r.0 l) x) out (later mark)) h notes
     calls_end = by_way (run_ticks view here.reached.steps here.reached.run g key owes l.leader finishing (at_work c l x here) free) (tame_5 finishing l.leader)
       where
-        not_both : r.1 ≡ leaves → r.1.then ≡ Rule 36 → ⊥
+        not_both : r.1 ≡ leaves → r.1.then ≡ OnKeys key_rules.StartNextCall → ⊥
         not_both is next = stay_not (sym (ap (λ (o : LeadOut). o.then) is) ∙ next)
           where
-            stay_not : Stay ≡ Rule 36 → ⊥
+            stay_not : Stay ≡ OnKeys key_rules.StartNextCall → ⊥
             stay_not e = cc
 
         untrusts : IsCalmOut r.1 → LeaderEnds l.leader r → ⊥
         untrusts calm ends = stays_on c l x here r calm.leave calm.next ends
 
-        by_way : LeaderEnds l.leader r ⊎ TimesOut g s owes l.leader r → IsTame r.1 → Ends c (lead_done p 5 r.1 (leading (with_leader r.0 l) x) out (later next)) (lead_done p 5 r.1 (leading (with_leader r.0 l) x) out (later mark)) h notes
-        by_way (inl ends) (inl is) = leave_ends c l x here r 5 (tasks.Phase 5 ∷ []) is (inl ends) tt (later next) (later mark) (λ more k y q o ns there. go (more ++ tasks.Phase 5 ∷ []) k y q o ns there)
+        by_way : LeaderEnds l.leader r ⊎ TimesOut g s owes l.leader r → IsTame r.1 → Ends c (lead_done p r.1 (leading (with_leader r.0 l) x) out (later next)) (lead_done p r.1 (leading (with_leader r.0 l) x) out (later mark)) h notes
+        by_way (inl ends) (inl is) = leave_ends c l x here r (tasks.Remind ∷ []) is (inl ends) tt (later next) (later mark) (λ more k y q o ns there. go (more ++ tasks.Remind ∷ []) k y q o ns there)
         by_way (inl ends) (inr calm) = absurd (untrusts calm ends)
         by_way (inr t) (inl is) = absurd (not_both is t.next)
         by_way (inr t) (inr calm) = timed_ends t calm

@@ -48,6 +48,7 @@ use Rattle.request_refinement.specs.Naming.{hash_of}
 use Rattle.request_refinement.specs.Replies.{MapSays, Serves}
 use Rattle.running_sync.specs.Running.{Running}
 use Rattle.step_plans.specs.Plans.{Out}
+use Rattle.step_plans.specs.Saved.{bare}
 use Rattle.sync_refinement.proofs.Gives.{trusted_maps}
 use Rattle.sync_refinement.specs.Syncs.{SyncMaySay}
 use Rattle.version_laws.proofs.Maps.{put_here}
@@ -86,7 +87,7 @@ module _ (c : Scene) where
     pub elsewhere : Elsewhere p (state_before c) t
     pub orderly : IsOrderly t.objects.ledger
     pub acks : AcksSay t strings
-    pub peer : PeerHolds t.objects.ledger p x h.stores.facts.kept
+    pub peer : PeerHolds t.objects.ledger p x (bare h.stores.facts.kept)
     pub listed : IsListedPeer lines.voting p x
     pub trust : t.objects.trusted p ≡ x.trusted
     pub tree : TreeHolds t strings p h
@@ -174,8 +175,8 @@ module _ (c : Scene) where
     abbrev after_rule : Leadership
     after_rule = with_leader r.0 l
 
-    new_peer : PeerHolds later.objects.ledger p (leading after_rule x) h.stores.facts.kept
-    new_peer = subst (λ m. PeerHolds m p (leading after_rule x) h.stores.facts.kept) (sym kept.ledger) (record {
+    new_peer : PeerHolds later.objects.ledger p (leading after_rule x) (bare h.stores.facts.kept)
+    new_peer = subst (λ m. PeerHolds m p (leading after_rule x) (bare h.stores.facts.kept)) (sym kept.ledger) (record {
       saved = old.peer.saved;
       kept = old.peer.kept;
       phase = still_leads s.objects.ledger p x.fact l r.0 same.0 same.1.1 old.peer.phase;

@@ -23,6 +23,7 @@ use Rattle.peer_state.specs.declared.state.State.{State as PeerState}
 use Rattle.register_model.specs.declared.note.Note.{Note}
 use Rattle.running_sync.specs.Running.{Running}
 use Rattle.step_plans.specs.Plans.{Out}
+use Rattle.step_plans.specs.Saved.{bare}
 use Rattle.sync_refinement.proofs.Staying.{version_stays}
 use Rattle.sync_refinement.specs.Syncs.{SyncMaySay}
 use Rattle.version_laws.proofs.Maps.{put_here, put_other}
@@ -71,7 +72,7 @@ module _ (c : Scene) where
   pub record Nearly (key : List ℕ) (x : PeerState) (h : Held) (out : Out) (notes : List Note) : Type 0 where
     pub reached : Reached c
     pub roles : RolesHold reached.ghosts (now c reached) (put c.roles p (role_in key x.phase (owed_after [] out.answers))) (said_in_sends p out.sends ++ c.said)
-    pub peer : PeerHolds (now c reached).objects.ledger p x h.stores.facts.kept
+    pub peer : PeerHolds (now c reached).objects.ledger p x (bare h.stores.facts.kept)
     pub listed : IsListedPeer lines.voting p x
     pub tree : TreeHolds (now c reached) strings p h
     pub fits : PhaseFits reached.ghosts.hash (now c reached) x.phase

@@ -34,6 +34,8 @@ use Rattle.wire_frames.specs.declared.message.Message.TheVariants as messages
 use Rattle.wire_frames.specs.declared.message.NackCause.{NackCause}
 use Rattle.wire_frames.specs.declared.message.NackCause.TheVariants as causes
 use Rattle.phase_rows.specs.declared.phase.PhaseOut.{PhaseOut}
+use Rattle.phase_rows.specs.declared.rules.PhaseRule.{PhaseRule}
+use Rattle.phase_rows.specs.declared.rules.PhaseRule.TheVariants as phase_rules
 use Rattle.step_refinement.specs.Peers.{MessageFits}
 use Rattle.step_refinement.specs.Roles.{said_of}
 
@@ -218,15 +220,14 @@ module _ (p : ℕ) (x : State) where
   -- ## Rows
 
   -- the row of a rule that a row names
-  pub phase_row_mute : (n : ℕ) → IsMute (phase_row n p x).1
-  phase_row_mute n = let G : State × PhaseOut → Type 0 = λ r. IsMute r.1 in
-      by_test G (n == 7) _ _ (λ is. tt) (λ not.
-      by_test G (n == 9) _ _ (λ is. rule_9 x.phase) (λ not.
-      by_test G (n == 10) _ _ (λ is. rule_10 x.phase) (λ not.
-      by_test G (n == 13) _ _ (λ is. rule_13 x.phase) (λ not.
-      by_test G (n == 14) _ _ (λ is. rule_14 x.phase) (λ not.
-      by_test G (n == 25) _ _ (λ is. rule_25 x.phase) (λ not.
-      by_test G (n == 26) _ _ (λ is. rule_26 x.phase) (λ not. tt)))))))
+  pub phase_row_mute : (rule : PhaseRule) → IsMute (phase_row rule p x).1
+  phase_row_mute phase_rules.BeginProbing = tt
+  phase_row_mute phase_rules.EnoughHeard = rule_9 x.phase
+  phase_row_mute phase_rules.Prepare = rule_10 x.phase
+  phase_row_mute phase_rules.EnoughPromised = rule_13 x.phase
+  phase_row_mute phase_rules.EnoughAccepted = rule_14 x.phase
+  phase_row_mute phase_rules.BeginChange = rule_25 x.phase
+  phase_row_mute phase_rules.EndEpoch = rule_26 x.phase
 
   -- the row for a message
   pub received_mute : (from : ℕ) (message : Message) → IsNoCheck message → IsMute (received p from message x).1

@@ -191,3 +191,4 @@ module _ (view : List ℕ) (steps : List Step) (run : IsRun view steps) (g : Gho
   turned_stands thens.Resume x out begun holds stands = phase_stands (state_after view steps).objects.ledger x.fact x.phase (owed_after [] out.answers) holds stands
   turned_stands (thens.SyncOn fact) x out begun holds stands = phase_stands (state_after view steps).objects.ledger x.fact x.phase (owed_after [] out.answers) holds stands
   turned_stands (thens.Rule n) x out begun holds stands = phase_stands (state_after view steps).objects.ledger x.fact x.phase (owed_after [] out.answers) holds stands
+  turned_stands (thens.OnKeys n) x out begun holds stands = phase_stands (state_after view steps).objects.ledger x.fact x.phase (owed_after [] out.answers) holds stands

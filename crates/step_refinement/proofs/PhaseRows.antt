@@ -26,7 +26,7 @@ use Rattle.leader_refinement.specs.Seen.{owed_after}
 use Rattle.leader_words.specs.declared.out.Outgoing.{Outgoing}
 use Rattle.peer_plan.specs.Drives.{row_done}
 use Rattle.peer_state.specs.Moves.{ends_leading, left, left_answers, turned, turned_answers, without_sync}
-use Rattle.peer_plan.specs.Syncs.{saved, and_sends, begun_sync, ended_with, followed_on}
+use Rattle.peer_plan.specs.Syncs.{saved, and_sends, start_sync, by_outcome, followed_on}
 use Rattle.peer_state.specs.declared.state.Phase.{Phase}
 use Rattle.peer_state.specs.declared.state.State.{State as PeerState}
 use Rattle.peer_fact.specs.declared.fact.Fact.{Fact}
@@ -39,6 +39,7 @@ use Rattle.step_plans.specs.Sends.{posted_to}
 use Rattle.step_plans.specs.Tasks.{named}
 use Rattle.step_plans.specs.declared.error.PeerError.TheVariants.{StoreFault}
 use Rattle.step_plans.specs.declared.tasks.Task.{Task}
+use Rattle.step_plans.specs.Saved.{with_seal, bare}
 use Rattle.sync_refinement.specs.Syncs.{SyncMaySay}
 use Rattle.sync_rule.specs.Syncs.{outcome_of}
 use Rattle.sync_rule.specs.declared.sync.Outcome.{Outcome}
@@ -72,23 +73,23 @@ use Rattle.election_refinement.proofs.Loops.{answers_send_nothing}
 
 -- ## The save
 
--- the stores after the fact was saved, if there is one
-abbrev pub held_after : Option Fact → Held → Held
-held_after None h = h
-held_after (Some fact) h = with_facts (record h.stores.facts { kept = Some fact }) h
+-- the stores after the fact was saved with this seal, if there is one
+abbrev pub held_after : Option (List ℕ) → Option Fact → Held → Held
+held_after seal None h = h
+held_after seal (Some fact) h = with_facts (record h.stores.facts { kept = Some (with_seal seal fact) }) h
 
-kept_after : (save : Option Fact) (h : Held) → stored_in save h.stores.facts.kept ≡ (held_after save h).stores.facts.kept
-kept_after None h = refl
-kept_after (Some fact) h = refl
+kept_after : (seal : Option (List ℕ)) (save : Option Fact) (h : Held) → stored_in save (bare h.stores.facts.kept) ≡ bare (held_after seal save h).stores.facts.kept
+kept_after seal None h = refl
+kept_after seal (Some fact) h = refl
 
 -- the tree shows the same map
-abbrev tree_after : (s : State) (strings : List (List ℕ)) (q : ℕ) (save : Option Fact) (h : Held) → TreeHolds s strings q h → TreeHolds s strings q (held_after save h)
-tree_after s strings q None h tree = tree
-tree_after s strings q (Some fact) h tree = tree_saved s strings q (record h.stores.facts { kept = Some fact }) h tree
+abbrev tree_after : (s : State) (strings : List (List ℕ)) (q : ℕ) (seal : Option (List ℕ)) (save : Option Fact) (h : Held) → TreeHolds s strings q h → TreeHolds s strings q (held_after seal save h)
+tree_after s strings q seal None h tree = tree
+tree_after s strings q seal (Some fact) h tree = tree_saved s strings q (record h.stores.facts { kept = Some (with_seal seal fact) }) h tree
 
-map_after : (s : State) (strings : List (List ℕ)) (q : ℕ) (save : Option Fact) (h : Held) (tree : TreeHolds s strings q h) → tree.map ≡ (tree_after s strings q save h tree).map
-map_after s strings q None h tree = refl
-map_after s strings q (Some fact) h tree = refl
+map_after : (s : State) (strings : List (List ℕ)) (q : ℕ) (seal : Option (List ℕ)) (save : Option Fact) (h : Held) (tree : TreeHolds s strings q h) → tree.map ≡ (tree_after s strings q seal save h tree).map
+map_after s strings q seal None h tree = refl
+map_after s strings q seal (Some fact) h tree = refl
 
 -- the stores keep the same fact and the same top records
 record IsOver (h t : Held) : Type 0 where
@@ -99,25 +100,25 @@ record IsOver (h t : Held) : Type 0 where
 module _ (c : Scene) where
   -- a save may be refused: then the step ends, over the fact before it or over the new one
   saved_ends : (save : Option Fact) (x : PeerState) (out : Out) (next mark : Rest PeerState (Unit {0})) (h : Held) (notes : List Note)
-      → ((t : Held) → IsOver h t → Rests c t notes) → ((t : Held) → IsOver (held_after save h) t → Rests c t notes)
-      → Ends c (next tt (saved_in save x) out) (mark tt (saved_in save x) out) (held_after save h) notes → Ends c (saved save x out next) (saved save x out mark) h notes
+      → ((t : Held) → IsOver h t → Rests c t notes) → ((t : Held) → IsOver (held_after x.seal save h) t → Rests c t notes)
+      → Ends c (next tt (saved_in save x) out) (mark tt (saved_in save x) out) (held_after x.seal save h) notes → Ends c (saved save x out next) (saved save x out mark) h notes
   unfolding asked
   saved_ends None x out next mark h notes old new goes = goes
   saved_ends (Some fact) x out next mark h notes old new goes =
-      ask_may_end grows c (Save fact) (λ a. next tt (record x { fact = fact }) out) (λ a. mark tt (record x { fact = fact }) out) h notes (λ among. by_end (save_ends fact h))
+      ask_may_end grows c (Save (with_seal x.seal fact)) (λ a. next tt (record x { fact = fact }) out) (λ a. mark tt (record x { fact = fact }) out) h notes (λ among. by_end (save_ends (with_seal x.seal fact) h))
     where
-      tops : tops_of (answered (Save fact) h).held.stores ≡ tops_of h.stores
-      tops = (records.keeps (Save fact) h tt).0
+      tops : tops_of (answered (Save (with_seal x.seal fact)) h).held.stores ≡ tops_of h.stores
+      tops = (records.keeps (Save (with_seal x.seal fact)) h tt).0
 
-      either_rests : HasEither fact h (answered (Save fact) h).held → Rests c (answered (Save fact) h).held notes
-      either_rests (inl same) = old (answered (Save fact) h).held (record { fact = same; tops = tops; among = grows (Save fact) h })
-      either_rests (inr is) = new (answered (Save fact) h).held (record { fact = is; tops = tops; among = grows (Save fact) h })
+      either_rests : HasEither (with_seal x.seal fact) h (answered (Save (with_seal x.seal fact)) h).held → Rests c (answered (Save (with_seal x.seal fact)) h).held notes
+      either_rests (inl same) = old (answered (Save (with_seal x.seal fact)) h).held (record { fact = same; tops = tops; among = grows (Save (with_seal x.seal fact)) h })
+      either_rests (inr is) = new (answered (Save (with_seal x.seal fact)) h).held (record { fact = is; tops = tops; among = grows (Save (with_seal x.seal fact)) h })
 
-      by_end : SaveEnds fact h (answered (Save fact) h) → Answers c (Save fact) (λ a. next tt (record x { fact = fact }) out) (λ a. mark tt (record x { fact = fact }) out) h notes ⊎ IsRefused c (Save fact) h notes
+      by_end : SaveEnds (with_seal x.seal fact) h (answered (Save (with_seal x.seal fact)) h) → Answers c (Save (with_seal x.seal fact)) (λ a. next tt (record x { fact = fact }) out) (λ a. mark tt (record x { fact = fact }) out) h notes ⊎ IsRefused c (Save (with_seal x.seal fact)) h notes
       by_end (Saves is) = inl (record {
         answer = tt;
-        is = ap (λ (a : Answered (Save fact)). a.result) is;
-        goes = subst (λ (t : Held). Ends c (next tt (record x { fact = fact }) out) (mark tt (record x { fact = fact }) out) t notes) (sym (ap (λ (a : Answered (Save fact)). a.held) is)) goes;
+        is = ap (λ (a : Answered (Save (with_seal x.seal fact))). a.result) is;
+        goes = subst (λ (t : Held). Ends c (next tt (record x { fact = fact }) out) (mark tt (record x { fact = fact }) out) t notes) (sym (ap (λ (a : Answered (Save (with_seal x.seal fact))). a.held) is)) goes;
       })
       by_end (Refuses is left) = inr (record { error = StoreFault; is = is; rests = either_rests left })
 
@@ -161,11 +162,11 @@ way_phase (thens.SyncOn fact) x = refl
 way_phase other x = refl
 
 -- a new sync begins alike, whether or not another one has made way
-way_ended : (p : ℕ) (r : Running) (outcome : Outcome) (x : PeerState) (out : Out) (next : Rest PeerState (List Task)) → ended_with p r outcome (without_sync x) out next ≡ ended_with p r outcome x out next
+way_ended : (p : ℕ) (r : Running) (outcome : Outcome) (x : PeerState) (out : Out) (next : Rest PeerState (List Task)) → by_outcome p r outcome (without_sync x) out next ≡ by_outcome p r outcome x out next
 way_ended p r Pending x out next = refl
 way_ended p r (Trusted entries) x out next = refl
 
-way_begun : (p : ℕ) (fact : Fact) (x : PeerState) (out : Out) (next : Rest PeerState (List Task)) → begun_sync p fact (without_sync x) out next ≡ begun_sync p fact x out next
+way_begun : (p : ℕ) (fact : Fact) (x : PeerState) (out : Out) (next : Rest PeerState (List Task)) → start_sync p fact (without_sync x) out next ≡ start_sync p fact x out next
 unfolding asked
 way_begun p fact x out next = λ i. Ask ScanTree (λ (scan : Scan). way_ended p (row_start fact p x.trusted scan).0 (outcome_of (row_start fact p x.trusted scan).0.sync) x (and_sends out (row_start fact p x.trusted scan).1) next i)
 
@@ -193,18 +194,19 @@ module _ (c : Scene) where
   followed_ends : (then : Then) (key : List ℕ) (x : PeerState) (h : Held) (out : Out) (notes : List Note) (next mark : Rest PeerState (List Task)) → (rest : AtRest c key (made_way then x) h out notes) → ThenHolds (now c rest.0.reached).objects.ledger (made_way then x) then → IsListedThen lines.voting then
       → Onward c (PhasesNext c) next mark → Ends c (followed_on p then x out next) (followed_on p then x out mark) h notes
   followed_ends (thens.SyncOn fact) key x h out notes next mark rest may listed go =
-      subst (λ (plan : Plan PeerState). Ends c plan (begun_sync p fact x out mark) h notes) (way_begun p fact x out next)
-      (subst (λ (plan : Plan PeerState). Ends c (begun_sync p fact (without_sync x) out next) plan h notes) (way_begun p fact x out mark)
+      subst (λ (plan : Plan PeerState). Ends c plan (start_sync p fact x out mark) h notes) (way_begun p fact x out next)
+      (subst (λ (plan : Plan PeerState). Ends c (start_sync p fact (without_sync x) out next) plan h notes) (way_begun p fact x out mark)
       (begun_good c rest next mark go fact listed may))
   followed_ends thens.Resume key x h out notes next mark rest may listed go = resumed_good c rest next mark go
   followed_ends thens.Untrust key x h out notes next mark rest may listed go = go [] key x h out notes (tt, rest)
   followed_ends thens.Put key x h out notes next mark rest may listed go = go [] key x h out notes (tt, rest)
   followed_ends (thens.Rule n) key x h out notes next mark rest may listed go = go (named (thens.Rule n)) key x h out notes (tt, rest)
+  followed_ends (thens.OnKeys n) key x h out notes next mark rest may listed go = go [] key x h out notes (tt, rest)
   followed_ends thens.Stay key x h out notes next mark rest may listed go = go [] key x h out notes (tt, rest)
   followed_ends thens.Follow key x h out notes next mark rest may listed go = go [] key x h out notes (tt, rest)
   followed_ends (thens.Lead fact) key x h out notes next mark rest may listed go = go [] key x h out notes (tt, rest)
 
-  module _ (key : List ℕ) (row : PeerState × PhaseOut) (x : PeerState) (h : Held) (out : Out) (notes : List Note) (at : AtRest c key x h out notes) (good : RowIsGood at.0.reached x h.stores.facts.kept row) where
+  module _ (key : List ℕ) (row : PeerState × PhaseOut) (x : PeerState) (h : Held) (out : Out) (notes : List Note) (at : AtRest c key x h out notes) (good : RowIsGood at.0.reached x (bare h.stores.facts.kept) row) where
     -- the run with the steps of the row
     abbrev es : List Step
     es = good.goes.es
@@ -232,6 +234,10 @@ module _ (c : Scene) where
     abbrev end : PeerState
     end = settled p row.1 row.0
 
+    -- the seal that a save of the row keeps
+    abbrev seal : Option (List ℕ)
+    seal = (left row.1.leave row.0).seal
+
     abbrev owed : List Owed
     owed = owed_after [] out.answers
 
@@ -245,8 +251,8 @@ module _ (c : Scene) where
     roles_on : RolesHold g t (put c.roles p (role_in key x.phase owed)) (said_in_sends p out.sends ++ c.said)
     roles_on = roles_there view es steps g (put c.roles p (role_in key x.phase owed)) (said_in_sends p out.sends ++ c.said) good.goes.run kinds at.0.roles
 
-    peer_there : PeerHolds t.objects.ledger p end (held_after row.1.save h).stores.facts.kept
-    peer_there = subst (λ (stored : Option Fact). PeerHolds t.objects.ledger p end stored) (kept_after row.1.save h) good.goes.peer
+    peer_there : PeerHolds t.objects.ledger p end (bare (held_after seal row.1.save h).stores.facts.kept)
+    peer_there = subst (λ (stored : Option Fact). PeerHolds t.objects.ledger p end stored) (kept_after seal row.1.save h) good.goes.peer
 
     unled : (d : ℕ) → (now c at.0.reached).objects.ledger.elected d ≡ false → IsUnled g t d
     unled d fresh = unled_there view es steps g d good.goes.run kinds ((run_leaders view steps at.0.reached.run).unled g d at.0.roles.turns fresh)
@@ -287,13 +293,13 @@ module _ (c : Scene) where
     tree = tree_there view es steps good.goes.run strings kinds p h at.0.tree
 
     -- all but the trust and the sync of the peer at the end of the row
-    abbrev nearly : Nearly c key end (held_after row.1.save h) (out_after row.1 row.0 out) notes
+    abbrev nearly : Nearly c key end (held_after seal row.1.save h) (out_after row.1 row.0 out) notes
     nearly = record {
       reached = there;
       roles = roles_after;
       peer = peer_there;
       listed = good.listed.peer;
-      tree = tree_after t strings p row.1.save h tree;
+      tree = tree_after t strings p seal row.1.save h tree;
       fits = stands.fits;
       rests = stands.rests;
       noted = (spared_there view es steps kinds).notes ∙ at.0.noted;
@@ -309,10 +315,10 @@ module _ (c : Scene) where
         (sync_stays lines (now c at.0.reached) t strings p x.fact x.trusted at.0.tree.map x.sync (entries_there view es steps good.goes.run) at.0.peer.saved.ballot at.0.sync)
 
     -- the peer agrees with the run at the end of the row
-    row_there : RowEnds key end (held_after row.1.save h) (out_after row.1 row.0 out) notes t.objects.ledger
+    row_there : RowEnds key end (held_after seal row.1.save h) (out_after row.1 row.0 out) notes t.objects.ledger
     row_there = by_sight (settled_spares p row.1 x row.0 good.spares)
       where
-        by_sight : IsBlind end ⊎ Spares x end → RowEnds key end (held_after row.1.save h) (out_after row.1 row.0 out) notes t.objects.ledger
+        by_sight : IsBlind end ⊎ Spares x end → RowEnds key end (held_after seal row.1.save h) (out_after row.1 row.0 out) notes t.objects.ledger
         by_sight (inl blind) = record { rest = loses c nearly blind.0 blind.1; ledger = refl }
         by_sight (inr spares) = record {
           rest = (
@@ -322,8 +328,8 @@ module _ (c : Scene) where
               peer = nearly.peer;
               listed = nearly.listed;
               trust = ap (λ (f : ℕ → Bool). f p) (spared_there view es steps kinds).trusted ∙ (at.0.trust ∙ sym spares.trusted);
-              tree = tree_after t strings p row.1.save h tree;
-              sync = subst (λ (m : List Entry). SyncMaySay lines t strings p end.fact end.trusted m end.sync) (map_after t strings p row.1.save h tree) (sync_there spares);
+              tree = tree_after t strings p seal row.1.save h tree;
+              sync = subst (λ (m : List Entry). SyncMaySay lines t strings p end.fact end.trusted m end.sync) (map_after t strings p seal row.1.save h tree) (sync_there spares);
               fits = nearly.fits;
               task = rest_task t key end.phase nearly.rests;
               noted = nearly.noted;
@@ -343,5 +349,5 @@ module _ (c : Scene) where
         (λ u y o. followed_on p row.1.then (turned p row.1.then y) (turned_answers row.1.then y (and_sends o (posted_to row.1.to row.1.message))) next)
         (λ u y o. followed_on p row.1.then (turned p row.1.then y) (turned_answers row.1.then y (and_sends o (posted_to row.1.to row.1.message))) mark)
         h notes (λ s over. rests_over c at.0 s over.fact over.tops over.among) (λ s over. rests_over c row_there.rest.0 s over.fact over.tops over.among)
-        (followed_ends row.1.then key turning (held_after row.1.save h) (out_after row.1 row.0 out) notes next mark row_there.rest
+        (followed_ends row.1.then key turning (held_after seal row.1.save h) (out_after row.1 row.0 out) notes next mark row_there.rest
         (subst (λ (l : Ledger). ThenHolds l end row.1.then) (sym row_there.ledger) good.goes.syncs) good.listed.next go)

@@ -1,7 +1,7 @@
 -- The rules of phases in the step of a peer: those that a row names, those for a message of elections,
 -- requests to change the view, and ticks, also the reminders of a leader.
 use Rattle.std.specs.Prelude.{All}
-use Rattle.std.proofs.Common.{◌≡◌, ℕ, ◌==◌, Bool, true, false, if◌then◌else◌, List, [], ◌++◌, Option, None, Some, arith, refl, sym, subst}
+use Rattle.std.proofs.Common.{◌≡◌, ℕ, Bool, false, if◌then◌else◌, List, [], ◌∷◌, ◌++◌, Option, None, Some, arith, refl, sym, subst}
 use Rattle.ens_base.specs.Lists.{◌∈◌}
 use Rattle.ens_base.specs.PeerSet.{holds}
 use Rattle.abstract_protocol.specs.Ledger.{Ledger, put}
@@ -38,12 +38,14 @@ use Rattle.step_plans.specs.Plans.{Out, Rest}
 use Rattle.step_plans.specs.Tasks.{named}
 use Rattle.step_plans.specs.declared.tasks.Task.{Task}
 use Rattle.step_plans.specs.declared.tasks.Task.TheVariants as tasks
+use Rattle.step_plans.specs.Saved.{bare}
 use Rattle.sync_laws.specs.Facts.{Lines}
 use Rattle.wire_frames.specs.declared.message.Message.{Message}
 use Rattle.wire_frames.specs.declared.message.Message.TheVariants as messages
 use Rattle.phase_rows.specs.declared.phase.PhaseOut.{PhaseOut}
 use Rattle.phase_rows.specs.declared.phase.Then.{Then}
 use Rattle.phase_rows.specs.declared.phase.Then.TheVariants as thens
+use Rattle.phase_rows.specs.declared.rules.PhaseRule.{PhaseRule}
 use Rattle.step_refinement.proofs.CallByCall.{Ends, Onward, rest_task}
 use Rattle.step_refinement.specs.Scenes.{Scene, now, AtRest}
 use Rattle.step_refinement.proofs.PhaseMessages.{SaysNothing, TellsNothing, IsMute, IsNoCheck, says_nothing_of, mute_fits, phase_row_mute, received_mute, aged_mute, asked_change_mute}
@@ -142,7 +144,7 @@ module _ (c : Scene) where
         wants_so : {d : Ledger} → IsLeading d p x.fact l → IsLeading d p x.fact wants
         wants_so {d} led = record { started = led.started; established = led.established; has = led.has; change = wished_holds d x.fact l.leader.fact l.change led.change }
 
-        peer_wants : {d : Ledger} → PeerHolds d p x h.stores.facts.kept → PeerHolds d p (leading wants x) h.stores.facts.kept
+        peer_wants : {d : Ledger} → PeerHolds d p x (bare h.stores.facts.kept) → PeerHolds d p (leading wants x) (bare h.stores.facts.kept)
         peer_wants {d} holds = record {
           saved = holds.saved;
           kept = holds.kept;
@@ -163,7 +165,7 @@ module _ (c : Scene) where
   -- the row goes on from here
   module _ (key : List ℕ) (x : PeerState) (h : Held) (out : Out) (notes : List Note) (at : AtRest c key x h out notes) (next mark : Rest PeerState (List Task)) (go : Onward c (PhasesNext c) next mark) where
     -- a row whose message is mute ends well
-    pub mute_row : (row : PeerState × PhaseOut) → RowGoes view at.0.reached.steps p x h.stores.facts.kept row → PartGoes (now c at.0.reached).objects.ledger x row → GoesListed lines.voting p row → Spares x row.0 → IsMute row.1
+    pub mute_row : (row : PeerState × PhaseOut) → RowGoes view at.0.reached.steps p x (bare h.stores.facts.kept) row → PartGoes (now c at.0.reached).objects.ledger x row → GoesListed lines.voting p row → Spares x row.0 → IsMute row.1
         → Ends c (row_done p row.1 row.0 out next) (row_done p row.1 row.0 out mark) h notes
     mute_row row goes turns told spares mute =
         row_good c key row x h out notes at (record {
@@ -176,14 +178,10 @@ module _ (c : Scene) where
         }) next mark go
 
     -- a rule that a row names
-    phase_task : (n : ℕ) → Ends c (task_done p (tasks.Phase n) x out next) (task_done p (tasks.Phase n) x out mark) h notes
-    phase_task n = by_five (n == 5)
-      where
-        by_five : (b : Bool) → Ends c (if b then reminded x.phase x out next else row_done p (phase_row n p x).1 (phase_row n p x).0 out next) (if b then reminded x.phase x out mark else row_done p (phase_row n p x).1 (phase_row n p x).0 out mark) h notes
-        by_five true = reminded_good key x.phase x h out notes next mark refl at go
-        by_five false =
-            mute_row (phase_row n p x) (phase_row_goes view at.0.reached.steps p c.is_peer at.0.reached.run at.0.reached.orderly at.0.peer n) (phase_row_turns (now c at.0.reached).objects.ledger p x at.0.peer n) (listed_phase_row at.0.listed n)
-            (phase_row_spares p x n) (phase_row_mute p x n)
+    phase_task : (rule : PhaseRule) → Ends c (task_done p (tasks.Phase rule) x out next) (task_done p (tasks.Phase rule) x out mark) h notes
+    phase_task rule =
+        mute_row (phase_row rule p x) (phase_row_goes view at.0.reached.steps p c.is_peer at.0.reached.run at.0.reached.orderly at.0.peer rule) (phase_row_turns (now c at.0.reached).objects.ledger p x at.0.peer rule) (listed_phase_row at.0.listed rule)
+        (phase_row_spares p x rule) (phase_row_mute p x rule)
 
     -- a message of elections
     received_row : (from : ℕ) (message : Message) → (from ≡ p → ⊥) → MessageHolds (now c at.0.reached).objects.ledger from message → IsListedMessage lines.voting message → IsNoCheck message
@@ -245,6 +243,9 @@ module _ (c : Scene) where
   change_good key x h out notes at next mark go asked votes = let taken : Bool = (asked_change asked x).1.1 in asked_row key x h (and_change out taken) notes (replied key x h out notes taken at) next mark go asked votes
 
   -- the rules of phases end well
-  pub phases_good : (n : ℕ) (key : List ℕ) (x : PeerState) (h : Held) (out : Out) (notes : List Note) → AtRest c key x h out notes → (next mark : Rest PeerState (List Task)) → Onward c (PhasesNext c) next mark
-      → Ends c (task_done p (tasks.Phase n) x out next) (task_done p (tasks.Phase n) x out mark) h notes
-  phases_good n key x h out notes at next mark go = phase_task key x h out notes at next mark go n
+  pub phases_good : (t : Task) → ArePhases (t ∷ []) → (key : List ℕ) (x : PeerState) (h : Held) (out : Out) (notes : List Note) → AtRest c key x h out notes → (next mark : Rest PeerState (List Task)) → Onward c (PhasesNext c) next mark
+      → Ends c (task_done p t x out next) (task_done p t x out mark) h notes
+  phases_good (tasks.Phase n) are key x h out notes at next mark go = phase_task key x h out notes at next mark go n
+  phases_good tasks.Remind are key x h out notes at next mark go = reminded_good key x.phase x h out notes next mark refl at go
+  phases_good (tasks.Key n k) are key x h out notes at next mark go = absurd are
+  phases_good (tasks.Again n k seen) are key x h out notes at next mark go = absurd are

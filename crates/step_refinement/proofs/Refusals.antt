@@ -16,6 +16,7 @@ use Rattle.leader_words.specs.declared.out.Outgoing.{Outgoing}
 use Rattle.peer_state.specs.declared.state.State.{State as PeerState}
 use Rattle.register_model.specs.declared.note.Note.{Note}
 use Rattle.step_plans.specs.Plans.{Out}
+use Rattle.step_plans.specs.Saved.{bare}
 use Rattle.sync_refinement.proofs.Staying.{tree_says_stay}
 use Rattle.sync_refinement.specs.Syncs.{TreeSays}
 use Rattle.tree_refinement.proofs.Tops.{named_behind}
@@ -58,7 +59,7 @@ module _ (c : Scene) where
 
   -- the peer is down over stores that keep this fact, and whose top record names the map that the protocol
   -- has
-  pub rests_down : {x : PeerState} {notes : List Note} → (was : Halts x notes) → (t : Held) (m : List Entry) (digest : List ℕ) → t.stores.facts.kept ≡ Some x.fact → top_of (tops_of t.stores) ≡ Some digest → IsNamed t.hashed digest m
+  pub rests_down : {x : PeerState} {notes : List Note} → (was : Halts x notes) → (t : Held) (m : List Entry) (digest : List ℕ) → bare t.stores.facts.kept ≡ Some x.fact → top_of (tops_of t.stores) ≡ Some digest → IsNamed t.hashed digest m
       → TreeSays (now c was.reached) strings p m → TopsReturn (now c was.reached) strings t.hashed p (tops_of t.stores) → Rests c t notes
   rests_down {x} {notes} was t m digest kept top named says return = record {
     reached = lost c was.reached;
@@ -93,5 +94,5 @@ module _ (c : Scene) where
   -- over stores that keep the same fact and the same top records
   pub rests_over : {key : List ℕ} {x : PeerState} {h : Held} {out : Out} {notes : List Note} → Here c key x h out notes → (t : Held) → t.stores.facts.kept ≡ h.stores.facts.kept → tops_of t.stores ≡ tops_of h.stores → AreAmong h.hashed t.hashed → Rests c t notes
   rests_over {key} {x} {h} {out} {notes} here t same tops among =
-      rests_down (halts_here here) t here.tree.map here.tree.shows.digest (same ∙ here.peer.kept) (ap top_of tops ∙ here.tree.recorded ∙ here.tree.shows.top) (named_behind h.hashed t.hashed here.tree.shows.digest here.tree.map among (record { stands = here.tree.shows.stands; texts = here.tree.shows.texts }))
+      rests_down (halts_here here) t here.tree.map here.tree.shows.digest (ap bare same ∙ here.peer.kept) (ap top_of tops ∙ here.tree.recorded ∙ here.tree.shows.top) (named_behind h.hashed t.hashed here.tree.shows.digest here.tree.map among (record { stands = here.tree.shows.stands; texts = here.tree.shows.texts }))
       here.tree.says (subst (λ (all : List (List ℕ)). TopsReturn (now c here.reached) strings t.hashed p all) (sym tops) (tops_behind (now c here.reached) strings h.hashed t.hashed p (tops_of h.stores) among here.tree.tops))

@@ -9,15 +9,16 @@ use Rattle.ens_outside.specs.declared.memory.failing_call.Leaves.TheVariants.{Ol
 use Rattle.held_stores.specs.Answers.{Answered, answered, entered, root_after, walked, with_facts, with_backend, facts_failed, objects_failed}
 use Rattle.held_stores.specs.Held.{Held, unless_failing}
 use Rattle.held_stores.specs.Walks.{End, Came, Broke, Failed}
-use Rattle.peer_fact.specs.declared.fact.Fact.{Fact}
+use Rattle.peer_fact.specs.declared.saved.SavedFact.{SavedFact}
 use Rattle.step_plans.specs.Calls.{Save, Find, Enter, Put}
 use Rattle.step_plans.specs.declared.error.PeerError.{PeerError}
 use Rattle.step_plans.specs.declared.error.PeerError.TheVariants.{StoreFault}
 use Rattle.step_plans.specs.declared.walked.Walked.{Walked}
 use Rattle.step_plans.specs.declared.walked.Walked.TheVariants.{Reached, Broken}
+use Rattle.tree_node.specs.declared.version.TreeVersion.TheVariants.{One}
 use Rattle.synctree.specs.Trees.{insert_plan}
 use Rattle.tree_maps.specs.Entries.{lookup, put}
-use Rattle.tree_maps.specs.Sixteen.{sixteen}
+use Rattle.tree_maps.specs.Sixteen.{form_of}
 use Rattle.tree_node.specs.declared.position.Position.{Position}
 use Rattle.tree_refinement.proofs.Keeping as keeping
 use Rattle.tree_refinement.proofs.Tops as records
@@ -49,16 +50,16 @@ find_ends strings h m key free among shows = looks (lookup key m) (answered (Fin
 -- ## A save
 
 -- the keeper of facts has the old fact, or the new one
-abbrev pub HasEither : Fact → Held → Held → Type 0
+abbrev pub HasEither : SavedFact → Held → Held → Type 0
 HasEither fact h t = (t.stores.facts.kept ≡ h.stores.facts.kept) ⊎ (t.stores.facts.kept ≡ Some fact)
 
 -- a save takes effect, or it is refused, and leaves the old fact or the new one
-pub data SaveEnds (fact : Fact) (h : Held) (a : Answered (Save fact)) : Type 0 where
+pub data SaveEnds (fact : SavedFact) (h : Held) (a : Answered (Save fact)) : Type 0 where
   Saves : a ≡ record { result = Ok tt; held = with_facts (record h.stores.facts { kept = Some fact }) h } → SaveEnds fact h a
   Refuses : a.result ≡ Err StoreFault → HasEither fact h a.held → SaveEnds fact h a
 
 -- each save ends so
-pub save_ends : (fact : Fact) (h : Held) → SaveEnds fact h (answered (Save fact) h)
+pub save_ends : (fact : SavedFact) (h : Held) → SaveEnds fact h (answered (Save fact) h)
 save_ends fact h = by_pending h.stores.facts.faults.pending
   where
     new : HeldFact
@@ -108,7 +109,7 @@ enter_ends strings h m e free among shows fits few = entered_so e m h (answered 
 
 -- an entering that meets damage leaves the root recorded
 pub broken_recorded : (e : Entry) (h : Held) (at : Position) → (answered (Enter e) h).result ≡ Ok (Broken at) → tops_of (answered (Enter e) h).held.stores ≡ tops_of h.stores → IsRecorded h → IsRecorded (answered (Enter e) h).held
-broken_recorded e h at is tops recorded = ap top_of tops ∙ recorded ∙ sym (by_end (walked (insert_plan sixteen h.stores.tree.top e) h).end is)
+broken_recorded e h at is tops recorded = ap top_of tops ∙ recorded ∙ sym (by_end (walked (insert_plan (form_of One) h.stores.tree.top e) h).end is)
   where
     by_end : (end : End (List ℕ)) → entered end ≡ Ok (Broken at) → root_after h.stores.tree.top end ≡ h.stores.tree.top
     by_end (Came root) is = absurd (cc)

@@ -14,13 +14,14 @@ use Rattle.election_refinement.proofs.Whole.{here, row_goes, RowGoes}
 use Rattle.election_refinement.specs.Listed.{IsListedFact, IsListedPeer, IsListedSync, IsListedThen, SaysListed}
 use Rattle.election_refinement.specs.Refinement as ledgers
 use Rattle.election_refinement.specs.Refinement.{IsSyncing, MaySync, may_wait}
+use Rattle.tree_node.specs.declared.version.TreeVersion.TheVariants.{One}
 use Rattle.exchange.specs.declared.question.Question.{Question}
 use Rattle.following.specs.Requests.{row_23, gives, gives_read}
 use Rattle.held_stores.specs.Answers.{answered}
 use Rattle.held_stores.specs.Held.{Held}
 use Rattle.peer_plan.specs.Drives.{row_done, got_ask}
 use Rattle.peer_state.specs.Moves.{followed, left, turned}
-use Rattle.peer_plan.specs.Syncs.{body_of, got_give, needs_node, own_node, reached, shown_node, taken_give}
+use Rattle.peer_plan.specs.Syncs.{body_of, tree_give, needs_node, own_node, reached, shown_node, take_give}
 use Rattle.peer_state.specs.declared.state.State.{State as PeerState}
 use Rattle.peer_fact.specs.declared.fact.Fact.{Fact}
 use Rattle.phase_rows.specs.Orders.{is_below, is_same}
@@ -37,10 +38,11 @@ use Rattle.step_plans.specs.declared.error.PeerError.{PeerError}
 use Rattle.step_plans.specs.declared.tasks.Task.{Task}
 use Rattle.step_plans.specs.declared.walked.Walked.{Walked}
 use Rattle.step_plans.specs.declared.walked.Walked.TheVariants.{Reached as Came, Broken}
+use Rattle.step_plans.specs.Saved.{bare}
 use Rattle.sync_refinement.specs.Laws.{HasWalked}
 use Rattle.sync_refinement.specs.Syncs.{GiveFits, SyncMaySay}
 use Rattle.tree_maps.specs.Paths.{node_of}
-use Rattle.tree_maps.specs.Sixteen.{sixteen}
+use Rattle.tree_maps.specs.Sixteen.{form_of}
 use Rattle.tree_node.specs.Positions.{IsPosition}
 use Rattle.tree_node.specs.declared.body.TreeBody.{TreeBody}
 use Rattle.tree_node.specs.declared.body.TreeBody.TheVariants as bodies
@@ -115,7 +117,7 @@ module _ (c : Scene) where
       fits = fits_later (state_after view (goes.es ++ at.0.reached.steps)) row.message (λ m. message_stays s (state_after view (goes.es ++ at.0.reached.steps)) strings (entries_there view goes.es at.0.reached.steps goes.run) lines p m) fits;
     }) next mark go
       where
-        goes : RowGoes view at.0.reached.steps p x h.stores.facts.kept (x, row)
+        goes : RowGoes view at.0.reached.steps p x (bare h.stores.facts.kept) (x, row)
         goes = row_goes view at.0.reached.steps p c.is_peer at.0.reached.run at.0.reached.orderly at.0.peer (x, row) (harmless_goes (here view at.0.reached.steps p c.is_peer at.0.reached.run at.0.reached.orderly at.0.peer) row harmless)
 
   -- ## Rule 23: a node is asked for
@@ -153,7 +155,7 @@ module _ (c : Scene) where
         by_test P (is_below ballot fact.ballot) _ _ (λ below. (refl, tt)) (λ above. by_test P (is_same ballot fact.ballot) _ _ (λ same. read_mute body) (λ other. (tt, tt)))
 
   -- a node of the tree is asked for
-  pub ask_good : {key : List ℕ} {x : PeerState} {h : Held} {out : Out} {notes : List Note} (rest : AtRest c key x h out notes) (next mark : Rest PeerState (List Task)) → Onward c (PhasesNext c) next mark → (from : ℕ) (ballot : Epoch) (at : Position) (after : Option (List ℕ)) → IsPosition at
+  pub ask_good : {key : List ℕ} {x : PeerState} {h : Held} {out : Out} {notes : List Note} (rest : AtRest c key x h out notes) (next mark : Rest PeerState (List Task)) → Onward c (PhasesNext c) next mark → (from : ℕ) (ballot : Epoch) (at : Position) (after : Option (List ℕ)) → IsPosition One at
       → Ends c (got_ask p from ballot (record { position = at; after = after }) x out next) (got_ask p from ballot (record { position = at; after = after }) x out mark) h notes
   unfolding asked
   ask_good {key} {x} {h} {out} {notes} rest next mark go from ballot at after position = by_served (is_same ballot x.fact.ballot) refl
@@ -172,11 +174,11 @@ module _ (c : Scene) where
           kept : (answered (ReadNode at) h).held.stores.facts.kept ≡ h.stores.facts.kept
           kept = ap (λ (f : HeldFact). f.kept) (keeping.spares (ReadNode at) h).1
 
-          walked_so : (walked : Walked (Option (List ℕ))) → IsReached (node_of sixteen at rest.0.tree.map) (Ok walked) → HasWalked (node_of sixteen at rest.0.tree.map) walked
+          walked_so : (walked : Walked (Option (List ℕ))) → IsReached (node_of (form_of One) at rest.0.tree.map) (Ok walked) → HasWalked (node_of (form_of One) at rest.0.tree.map) walked
           walked_so (Came found) is = is
           walked_so (Broken place) is = tt
 
-          by_walk : AreAmong (answered (ReadNode at) h).held.hashed strings → (result : Result (Walked (Option (List ℕ))) PeerError) → (answered (ReadNode at) h).result ≡ result → IsReached (node_of sixteen at rest.0.tree.map) result
+          by_walk : AreAmong (answered (ReadNode at) h).held.hashed strings → (result : Result (Walked (Option (List ℕ))) PeerError) → (answered (ReadNode at) h).result ≡ result → IsReached (node_of (form_of One) at rest.0.tree.map) result
               → Answers c (ReadNode at) (λ walked. row_done p (row_23 x.fact x.trusted from ballot at after (Some (body_of question walked))) x out next) (λ walked. row_done p (row_23 x.fact x.trusted from ballot at after (Some (body_of question walked))) x out mark) h notes
           by_walk among (Ok walked) is found = record {
             answer = walked;
@@ -195,11 +197,11 @@ module _ (c : Scene) where
 
   -- the own node at the position, or none
   abbrev IsOwnNode : Position → List Entry → Option (List ℕ) → Type 0
-  IsOwnNode at m own = (own ≡ None) ⊎ (own ≡ node_of sixteen at m)
+  IsOwnNode at m own = (own ≡ None) ⊎ (own ≡ node_of (form_of One) at m)
 
   -- a source sends a node of its tree
-  pub give_good : {key : List ℕ} {x : PeerState} {h : Held} {out : Out} {notes : List Note} (rest : AtRest c key x h out notes) (next mark : Rest PeerState (List Task)) → Onward c (PhasesNext c) next mark → (from : ℕ) (give : Give) → IsPosition give.question.position
-      → GiveFits lines (now c rest.0.reached) strings from give.ballot give.question give.trusted give.body → Ends c (got_give p from give x out next) (got_give p from give x out mark) h notes
+  pub give_good : {key : List ℕ} {x : PeerState} {h : Held} {out : Out} {notes : List Note} (rest : AtRest c key x h out notes) (next mark : Rest PeerState (List Task)) → Onward c (PhasesNext c) next mark → (from : ℕ) (give : Give) → IsPosition One give.question.position
+      → GiveFits lines (now c rest.0.reached) strings from give.ballot give.question give.trusted give.body → Ends c (tree_give p from give x out next) (tree_give p from give x out mark) h notes
   unfolding asked
   give_good {key} {x} {h} {out} {notes} rest next mark go from give position fits = by_need (needs_node from give x.sync)
     where
@@ -207,33 +209,33 @@ module _ (c : Scene) where
       at = give.question.position
 
       takes : (own : Option (List ℕ)) (t : Held) → IsOwnNode at rest.0.tree.map own → (there : AtRest c key x t out notes) → GiveFits lines (now c there.0.reached) strings from give.ballot give.question give.trusted give.body → there.0.tree.map ≡ rest.0.tree.map → (sync : Option Running) → x.sync ≡ sync
-          → Ends c (taken_give p from give own sync x out next) (taken_give p from give own sync x out mark) t notes
+          → Ends c (take_give p from give own sync x out next) (take_give p from give own sync x out mark) t notes
       takes own t is there shows same None none = go [] key x t out notes (tt, there)
       takes own t is there shows same (Some r) runs = gone_good c there next mark go (row_take from give own r) r
           (record { may = subst (MaySync (now c there.0.reached).objects.ledger x.fact (may_wait x.phase)) (sym (fact_stays from give own r)) syncing.may; asks = taken_are p from give own r syncing.asks })
           (subst (IsListedFact lines.voting) (sym (fact_stays from give own r)) (subst (IsListedSync lines.voting) runs there.0.listed.sync))
-          ((laws_here c there.0.reached).takes strings p x.fact x.trusted there.0.tree.map r from give own c.free position syncing.asks shows (subst (λ m. (own ≡ None) ⊎ (own ≡ node_of sixteen at m)) (sym same) is)
+          ((laws_here c there.0.reached).takes strings p x.fact x.trusted there.0.tree.map r from give own c.free position syncing.asks shows (subst (λ m. (own ≡ None) ⊎ (own ≡ node_of (form_of One) at m)) (sym same) is)
           (subst (SyncMaySay lines (now c there.0.reached) strings p x.fact x.trusted there.0.tree.map) runs there.0.sync))
           (take_go p from give own r syncing.asks) (take_ask p from give own r syncing.asks)
         where
           syncing : IsSyncing (now c there.0.reached).objects.ledger p x.fact (may_wait x.phase) r
           syncing = subst (ledgers.SyncHolds (now c there.0.reached).objects.ledger p x.fact (may_wait x.phase)) runs there.0.peer.sync
 
-      read_ends : Ends c (own_node true at x out (λ own y o. taken_give p from give own y.sync y o next)) (own_node true at x out (λ own y o. taken_give p from give own y.sync y o mark)) h notes
+      read_ends : Ends c (own_node true at x out (λ own y o. take_give p from give own y.sync y o next)) (own_node true at x out (λ own y o. take_give p from give own y.sync y o mark)) h notes
       read_ends = ask_ends keeping.grows c (ReadNode at) _ _ h notes (λ among. by_walk (answered (ReadNode at) h).result refl (keeping.reads strings h rest.0.tree.map at c.free among rest.0.tree.shows position))
         where
           kept : (answered (ReadNode at) h).held.stores.facts.kept ≡ h.stores.facts.kept
           kept = ap (λ (f : HeldFact). f.kept) (keeping.spares (ReadNode at) h).1
 
-          own_is : (walked : Walked (Option (List ℕ))) → IsReached (node_of sixteen at rest.0.tree.map) (Ok walked) → IsOwnNode at rest.0.tree.map (reached walked)
+          own_is : (walked : Walked (Option (List ℕ))) → IsReached (node_of (form_of One) at rest.0.tree.map) (Ok walked) → IsOwnNode at rest.0.tree.map (reached walked)
           own_is (Came found) is = inr is
           own_is (Broken place) is = inl refl
 
-          by_walk : (result : Result (Walked (Option (List ℕ))) PeerError) → (answered (ReadNode at) h).result ≡ result → IsReached (node_of sixteen at rest.0.tree.map) result
-              → Answers c (ReadNode at) (λ walked. taken_give p from give (reached walked) x.sync x out next) (λ walked. taken_give p from give (reached walked) x.sync x out mark) h notes
+          by_walk : (result : Result (Walked (Option (List ℕ))) PeerError) → (answered (ReadNode at) h).result ≡ result → IsReached (node_of (form_of One) at rest.0.tree.map) result
+              → Answers c (ReadNode at) (λ walked. take_give p from give (reached walked) x.sync x out next) (λ walked. take_give p from give (reached walked) x.sync x out mark) h notes
           by_walk (Ok walked) is found = record { answer = walked; is = is; goes = takes (reached walked) (answered (ReadNode at) h).held (own_is walked found) (read_here c rest.0 (ReadNode at) tt kept, rest.1) fits refl x.sync refl }
           by_walk (Err e) is none = absurd none
 
-      by_need : (b : Bool) → Ends c (own_node b at x out (λ own y o. taken_give p from give own y.sync y o next)) (own_node b at x out (λ own y o. taken_give p from give own y.sync y o mark)) h notes
+      by_need : (b : Bool) → Ends c (own_node b at x out (λ own y o. take_give p from give own y.sync y o next)) (own_node b at x out (λ own y o. take_give p from give own y.sync y o mark)) h notes
       by_need true = read_ends
       by_need false = takes None h (inl refl) rest fits refl x.sync refl

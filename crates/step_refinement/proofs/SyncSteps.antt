@@ -31,13 +31,14 @@ use Rattle.leader_laws.specs.Roles.{RolesHold}
 use Rattle.leader_refinement.specs.Seen.{rank, owed_after}
 use Rattle.leader_words.specs.declared.out.Outgoing.{Outgoing}
 use Rattle.peer_state.specs.Moves.{electing, without_sync}
-use Rattle.peer_plan.specs.Syncs.{saved, and_sends, with_sync, installed, accepted, accepted_in, synced, ended_with, gone_on, begun_sync, resumed_sync}
+use Rattle.peer_plan.specs.Syncs.{saved, and_sends, with_sync, installed, accepted, accepted_in, end_sync, by_outcome, go_on, start_sync, resume_sync}
 use Rattle.peer_state.specs.declared.state.Phase.{Phase}
 use Rattle.peer_state.specs.declared.state.Phase.TheVariants as phases
 use Rattle.peer_state.specs.declared.state.State.{State as PeerState}
 use Rattle.peer_fact.specs.declared.fact.Change.TheVariants as changes
 use Rattle.peer_fact.specs.declared.fact.Fact.{Fact}
 use Rattle.phase_rows.specs.Peers.{joined}
+use Rattle.phase_rows.specs.declared.rules.PhaseRule.TheVariants as phase_rules
 use Rattle.register_model.specs.declared.call.Call.{Call as BookCall}
 use Rattle.register_model.specs.declared.note.Note.{Note}
 use Rattle.running_sync.proofs.Messages.{start_go, resume_go, start_ask, resume_ask}
@@ -51,6 +52,7 @@ use Rattle.step_plans.specs.declared.error.PeerError.{PeerError}
 use Rattle.step_plans.specs.declared.error.PeerError.TheVariants.{StoreFault}
 use Rattle.step_plans.specs.declared.tasks.Task.{Task}
 use Rattle.step_plans.specs.declared.tasks.Task.TheVariants as tasks
+use Rattle.step_plans.specs.Saved.{with_seal, bare}
 use Rattle.sync_laws.proofs.Gives.{may_end}
 use Rattle.sync_laws.specs.Facts as facts
 use Rattle.sync_laws.specs.Peers as Theory
@@ -263,7 +265,7 @@ module _ (c : Scene) where
     installed_here u kept tree = record {
       reached = reached;
       roles = roles_on;
-      peer = record { saved = at.0.peer.saved; kept = kept ∙ at.0.peer.kept; phase = at.0.peer.phase; sync = at.0.peer.sync };
+      peer = record { saved = at.0.peer.saved; kept = ap bare kept ∙ at.0.peer.kept; phase = at.0.peer.phase; sync = at.0.peer.sync };
       listed = at.0.listed;
       trust = at.0.trust;
       tree = tree;
@@ -295,7 +297,7 @@ module _ (c : Scene) where
       where
         by_tops : (tops_of (answered (InstallTree entries) h).held.stores ≡ tops_of h.stores) ⊎ NamesNext entries h (answered (InstallTree entries) h).held → Rests c (answered (InstallTree entries) h).held notes
         by_tops (inl same) = rests_over c at.0 (answered (InstallTree entries) h).held spared same (keeping.grows (InstallTree entries) h)
-        by_tops (inr next) = rests_down c halted (answered (InstallTree entries) h).held entries next.digest (spared ∙ at.0.peer.kept) (ap (λ tops. top_of tops) next.tops ∙ last_top (tops_of h.stores) next.digest) next.named says_merged
+        by_tops (inr next) = rests_down c halted (answered (InstallTree entries) h).held entries next.digest (ap bare spared ∙ at.0.peer.kept) (ap (λ tops. top_of tops) next.tops ∙ last_top (tops_of h.stores) next.digest) next.named says_merged
             (subst (λ (tops : List (List ℕ)). TopsReturn t strings (answered (InstallTree entries) h).held.hashed p tops) (sym next.tops)
             (tops_next t strings (answered (InstallTree entries) h).held.hashed p (tops_of h.stores) next.digest entries next.named return_merged
             (tops_behind t strings h.hashed (answered (InstallTree entries) h).held.hashed p (tops_of h.stores) (keeping.grows (InstallTree entries) h) (tops_stay s t strings h.hashed p (tops_of h.stores) stay at.0.tree.tops))))
@@ -364,7 +366,7 @@ module _ (c : Scene) where
     joined_state = record x { fact = new; trusted = true; sync = None }
 
     abbrev held : Held
-    held = with_facts (record h.stores.facts { kept = Some new }) h
+    held = with_facts (record h.stores.facts { kept = Some (with_seal x.seal new) }) h
 
     saved_new : IsSaved later.objects.ledger p new
     saved_new = first_saved merged.objects.ledger later.objects.ledger p new (join_keeps merged.objects.ledger p epoch stands) may.first stands (put_here merged.objects.ledger.fact p (record { epoch = epoch; seq = 1 }))
@@ -373,7 +375,7 @@ module _ (c : Scene) where
     listed_new = listed_synced new listed at.0.listed
 
     tree_new : TreeHolds later strings p held
-    tree_new = tree_stays merged later strings p held stay_on refl (tree_saved merged strings p (record h.stores.facts { kept = Some new }) h at.0.tree)
+    tree_new = tree_stays merged later strings p held stay_on refl (tree_saved merged strings p (record h.stores.facts { kept = Some (with_seal x.seal new) }) h at.0.tree)
 
     abbrev joined_here : AtRest c key joined_state held out notes
     joined_here = (
@@ -398,20 +400,20 @@ module _ (c : Scene) where
     -- the fact is saved, or the save is refused
     accepts_ends : (next mark : Rest PeerState (Unit {0})) → Ends c (next tt (record x { fact = new }) out) (mark tt (record x { fact = new }) out) held notes → Ends c (saved (Some new) x out next) (saved (Some new) x out mark) h notes
     unfolding asked
-    accepts_ends next mark goes = ask_may_end keeping.grows c (Save new) (λ u. next u (record x { fact = new }) out) (λ u. mark u (record x { fact = new }) out) h notes (λ among. by_end (save_ends new h))
+    accepts_ends next mark goes = ask_may_end keeping.grows c (Save (with_seal x.seal new)) (λ u. next u (record x { fact = new }) out) (λ u. mark u (record x { fact = new }) out) h notes (λ among. by_end (save_ends (with_seal x.seal new) h))
       where
-        tops_same : tops_of (answered (Save new) h).held.stores ≡ tops_of h.stores
-        tops_same = ap (λ tree. tree.store.tops) (keeping.spares (Save new) h).1
+        tops_same : tops_of (answered (Save (with_seal x.seal new)) h).held.stores ≡ tops_of h.stores
+        tops_same = ap (λ tree. tree.store.tops) (keeping.spares (Save (with_seal x.seal new)) h).1
 
-        rests_either : HasEither new h (answered (Save new) h).held → Rests c (answered (Save new) h).held notes
-        rests_either (inl same) = rests_over c at.0 (answered (Save new) h).held same tops_same (keeping.grows (Save new) h)
-        rests_either (inr is) = rests_over c joined_here.0 (answered (Save new) h).held is tops_same (keeping.grows (Save new) h)
+        rests_either : HasEither (with_seal x.seal new) h (answered (Save (with_seal x.seal new)) h).held → Rests c (answered (Save (with_seal x.seal new)) h).held notes
+        rests_either (inl same) = rests_over c at.0 (answered (Save (with_seal x.seal new)) h).held same tops_same (keeping.grows (Save (with_seal x.seal new)) h)
+        rests_either (inr is) = rests_over c joined_here.0 (answered (Save (with_seal x.seal new)) h).held is tops_same (keeping.grows (Save (with_seal x.seal new)) h)
 
-        by_end : SaveEnds new h (answered (Save new) h) → Answers c (Save new) (λ u. next u (record x { fact = new }) out) (λ u. mark u (record x { fact = new }) out) h notes ⊎ IsRefused c (Save new) h notes
+        by_end : SaveEnds (with_seal x.seal new) h (answered (Save (with_seal x.seal new)) h) → Answers c (Save (with_seal x.seal new)) (λ u. next u (record x { fact = new }) out) (λ u. mark u (record x { fact = new }) out) h notes ⊎ IsRefused c (Save (with_seal x.seal new)) h notes
         by_end (Saves is) = inl (record {
           answer = tt;
-          is = ap (λ (a : Answered (Save new)). a.result) is;
-          goes = subst (λ (u : Held). Ends c (next tt (record x { fact = new }) out) (mark tt (record x { fact = new }) out) u notes) (sym (ap (λ (a : Answered (Save new)). a.held) is)) goes;
+          is = ap (λ (a : Answered (Save (with_seal x.seal new))). a.result) is;
+          goes = subst (λ (u : Held). Ends c (next tt (record x { fact = new }) out) (mark tt (record x { fact = new }) out) u notes) (sym (ap (λ (a : Answered (Save (with_seal x.seal new))). a.held) is)) goes;
         })
         by_end (Refuses is left) = inr (record { error = StoreFault; is = is; rests = rests_either left })
 
@@ -421,7 +423,7 @@ module _ (c : Scene) where
   accepted_good : {key : List ℕ} {h : Held} {out : Out} {notes : List Note} (phase : Phase) (x : PeerState) → x.phase ≡ phase → x.trusted ≡ true → x.sync ≡ None → x.fact.ballot ≡ x.fact.epoch → (at : AtRest c key x h out notes) → (next mark : Rest PeerState (List Task)) → Onward c (PhasesNext c) next mark
       → Ends c (accepted_in p x.fact phase x out next) (accepted_in p x.fact phase x out mark) h notes
   accepted_good {key} {h} {out} {notes} (phases.Electing (Starting new accepts age)) x is trusts alone own_ballot at next mark go =
-      go (tasks.Phase 14 ∷ []) key (electing (Starting new (joined p accepts) age) x) h out notes (
+      go (tasks.Phase phase_rules.EnoughAccepted ∷ []) key (electing (Starting new (joined p accepts) age) x) h out notes (
         tt,
         (
           record {
@@ -478,8 +480,8 @@ module _ (c : Scene) where
     abbrev alone : AtRest c key (without_sync x) h out notes
     alone = (alone_here at.0, at.1)
 
-    synced_good : (r : Running) (entries : List Entry) → IsSyncing (now c at.0.reached).objects.ledger p x.fact (may_wait x.phase) r → IsListedFact lines.voting r.fact → SyncEnds (now c at.0.reached) strings p at.0.tree.map r entries → Ends c (synced p r entries x out next) (synced p r entries x out mark) h notes
-    synced_good r entries syncing listed ends =
+    end_sync_good : (r : Running) (entries : List Entry) → IsSyncing (now c at.0.reached).objects.ledger p x.fact (may_wait x.phase) r → IsListedFact lines.voting r.fact → SyncEnds (now c at.0.reached) strings p at.0.tree.map r entries → Ends c (end_sync p r entries x out next) (end_sync p r entries x out mark) h notes
+    end_sync_good r entries syncing listed ends =
         installed_ends alone r entries refl syncing.may ends (needs_build r.sync.scan entries) refl (saves next) (saves mark) (λ u there may.
         accepts_ends (there, at.1) r.fact listed may.syncs may.finishes (accepts next) (accepts mark)
         (accepted_good x.phase (record x { fact = r.fact; trusted = true; sync = None }) refl refl refl syncing.may.first.own_ballot (joined_here (there, at.1) r.fact listed may.syncs may.finishes) next mark go))
@@ -496,16 +498,16 @@ module _ (c : Scene) where
         subst (λ (views : List (List ℕ)). 0 < length views) (sym syncing.may.first.known.views) (not_empty l (run_sound view at.0.reached.steps at.0.reached.run) (epoch_number r.fact.epoch) syncing.may.first.known.elected)
 
     ended_good : (r : Running) (outcome : Outcome) → outcome_of r.sync ≡ outcome → IsSyncing (now c at.0.reached).objects.ledger p x.fact (may_wait x.phase) r → IsListedFact lines.voting r.fact → SyncSays lines (now c at.0.reached) strings p x.fact x.trusted at.0.tree.map r
-        → Ends c (ended_with p r outcome x out next) (ended_with p r outcome x out mark) h notes
+        → Ends c (by_outcome p r outcome x out next) (by_outcome p r outcome x out mark) h notes
     ended_good r Pending is syncing listed says = go [] key (with_sync r x) h out notes (tt, (runs_here at.0 r syncing listed says, at.1))
-    ended_good r (Trusted entries) is syncing listed says = synced_good r entries syncing listed
+    ended_good r (Trusted entries) is syncing listed says = end_sync_good r entries syncing listed
         ((laws_here at.0.reached).ends strings p x.fact x.trusted at.0.tree.map r entries c.sound (listed.views (last_view r.fact.views) (last_view_in r.fact.views (has_view r syncing))) (few_here at.0.reached) at.0.peer.saved.ballot (ap (λ (place : Place). place.epoch) at.0.peer.saved.place) at.0.tree.says says is)
 
   -- ## What a sync does
 
   -- a sync sends its questions, and goes on, or ends
   pub gone_good : {key : List ℕ} {x : PeerState} {h : Held} {out : Out} {notes : List Note} (at : AtRest c key x h out notes) (next mark : Rest PeerState (List Task)) → Onward c (PhasesNext c) next mark → (r : Running × List Outgoing) (of : Running) → IsSyncing (now c at.0.reached).objects.ledger p x.fact (may_wait x.phase) r.0
-      → IsListedFact lines.voting r.0.fact → SyncSays lines (now c at.0.reached) strings p x.fact x.trusted at.0.tree.map r.0 → All (MayGo p) r.1 → All (IsQuestion of) r.1 → Ends c (gone_on p r x out next) (gone_on p r x out mark) h notes
+      → IsListedFact lines.voting r.0.fact → SyncSays lines (now c at.0.reached) strings p x.fact x.trusted at.0.tree.map r.0 → All (MayGo p) r.1 → All (IsQuestion of) r.1 → Ends c (go_on p r x out next) (go_on p r x out mark) h notes
   gone_good at next mark go r of syncing listed says may ask = ended_good (asks_here at.0 of r.1 may ask, at.1) next mark go r.0 (outcome_of r.0.sync) refl syncing listed says
 
   -- the stores after a call that leaves the root of the tree and the fact
@@ -513,7 +515,7 @@ module _ (c : Scene) where
   read_here {key} {x} {h} {out} {notes} here call root kept = record {
     reached = here.reached;
     roles = here.roles;
-    peer = record { saved = here.peer.saved; kept = kept ∙ here.peer.kept; phase = here.peer.phase; sync = here.peer.sync };
+    peer = record { saved = here.peer.saved; kept = ap bare kept ∙ here.peer.kept; phase = here.peer.phase; sync = here.peer.sync };
     listed = here.listed;
     trust = here.trust;
     tree = tree_kept (now c here.reached) strings p call h root here.tree;
@@ -528,10 +530,10 @@ module _ (c : Scene) where
 
   -- a sync begins, after a scan of the own tree
   pub begun_good : {key : List ℕ} {x : PeerState} {h : Held} {out : Out} {notes : List Note} (at : AtRest c key x h out notes) (next mark : Rest PeerState (List Task)) → Onward c (PhasesNext c) next mark → (new : Fact) → IsListedFact lines.voting new → MaySync (now c at.0.reached).objects.ledger x.fact (may_wait x.phase) new
-      → Ends c (begun_sync p new x out next) (begun_sync p new x out mark) h notes
+      → Ends c (start_sync p new x out next) (start_sync p new x out mark) h notes
   unfolding asked
   begun_good {key} {x} {h} {out} {notes} at next mark go new listed may =
-      ask_ends keeping.grows c ScanTree (λ scan. gone_on p (row_start new p x.trusted scan) x out next) (λ scan. gone_on p (row_start new p x.trusted scan) x out mark) h notes (λ among. by_scan among (answered ScanTree h).result refl (keeping.scans strings h at.0.tree.map c.free among at.0.tree.shows))
+      ask_ends keeping.grows c ScanTree (λ scan. go_on p (row_start new p x.trusted scan) x out next) (λ scan. go_on p (row_start new p x.trusted scan) x out mark) h notes (λ among. by_scan among (answered ScanTree h).result refl (keeping.scans strings h at.0.tree.map c.free among at.0.tree.shows))
     where
       same : (answered ScanTree h).held.stores.facts.kept ≡ h.stores.facts.kept
       same = ap (λ (f : HeldFact). f.kept) (keeping.spares ScanTree h).1
@@ -540,7 +542,7 @@ module _ (c : Scene) where
       starts among scan is entries = (laws_here at.0.reached).starts strings p x.fact new x.trusted at.0.tree.map scan (firm_here at.0.reached) at.0.trust at.0.peer.saved.ballot (first_seen (now c at.0.reached).objects.ledger new may.first) (ap epoch_number may.promised) may.newer
           (λ node within. among node (keeping.grows ScanTree h node (at.0.tree.shows.texts node within))) at.0.tree.says (record { is_map = at.0.tree.shows.stands.is_map; entries = entries; positions = scan_positions h scan is })
 
-      by_scan : AreAmong (answered ScanTree h).held.hashed strings → (result : Result Scan PeerError) → (answered ScanTree h).result ≡ result → IsScanned at.0.tree.map result → Answers c ScanTree (λ scan. gone_on p (row_start new p x.trusted scan) x out next) (λ scan. gone_on p (row_start new p x.trusted scan) x out mark) h notes
+      by_scan : AreAmong (answered ScanTree h).held.hashed strings → (result : Result Scan PeerError) → (answered ScanTree h).result ≡ result → IsScanned at.0.tree.map result → Answers c ScanTree (λ scan. go_on p (row_start new p x.trusted scan) x out next) (λ scan. go_on p (row_start new p x.trusted scan) x out mark) h notes
       by_scan among (Ok scan) is entries = record {
         answer = scan;
         is = is;
@@ -550,7 +552,7 @@ module _ (c : Scene) where
       by_scan among (Err e) is none = absurd none
 
   -- the sync that runs, if one does, asks again
-  pub resumed_good : {key : List ℕ} {x : PeerState} {h : Held} {out : Out} {notes : List Note} (at : AtRest c key x h out notes) (next mark : Rest PeerState (List Task)) → Onward c (PhasesNext c) next mark → Ends c (resumed_sync x.sync x out next) (resumed_sync x.sync x out mark) h notes
+  pub resumed_good : {key : List ℕ} {x : PeerState} {h : Held} {out : Out} {notes : List Note} (at : AtRest c key x h out notes) (next mark : Rest PeerState (List Task)) → Onward c (PhasesNext c) next mark → Ends c (resume_sync x.sync x out next) (resume_sync x.sync x out mark) h notes
   resumed_good {key} {x} {h} {out} {notes} at next mark go = by_sync x.sync refl
     where
       asks_again : (r : Running) → x.sync ≡ Some r → IsSyncing (now c at.0.reached).objects.ledger p x.fact (may_wait x.phase) r → IsListedFact lines.voting r.fact → SyncSays lines (now c at.0.reached) strings p x.fact x.trusted at.0.tree.map r
@@ -563,7 +565,7 @@ module _ (c : Scene) where
         ),
       )
 
-      by_sync : (sync : Option Running) → x.sync ≡ sync → Ends c (resumed_sync sync x out next) (resumed_sync sync x out mark) h notes
+      by_sync : (sync : Option Running) → x.sync ≡ sync → Ends c (resume_sync sync x out next) (resume_sync sync x out mark) h notes
       by_sync None is = go [] key x h out notes (tt, at)
       by_sync (Some r) is = asks_again r is (subst (ledgers.SyncHolds (now c at.0.reached).objects.ledger p x.fact (may_wait x.phase)) is at.0.peer.sync) (subst (IsListedSync lines.voting) is at.0.listed.sync)
           (subst (SyncMaySay lines (now c at.0.reached) strings p x.fact x.trusted at.0.tree.map) is at.0.sync)

@@ -61,6 +61,7 @@ use Rattle.step_plans.specs.Calls.{Call, Find, Enter, Fetch, Put, Hash}
 use Rattle.step_plans.specs.Plans.{Plan, Ask, Out, Rest, asked}
 use Rattle.step_plans.specs.declared.error.PeerError.TheVariants.{StoreFault}
 use Rattle.step_plans.specs.declared.walked.Walked.TheVariants.{Reached as Came, Broken}
+use Rattle.step_plans.specs.Saved.{bare}
 use Rattle.sync_refinement.proofs.Ends.{distinct_keys}
 use Rattle.sync_refinement.proofs.Gives.{trusted_maps, may_return}
 use Rattle.sync_refinement.proofs.Staying.{version_stays}
@@ -401,7 +402,7 @@ module _ (c : Scene) where
     here_over t kept_fact tree sync = record {
       reached = here.reached;
       roles = here.roles;
-      peer = record { saved = here.peer.saved; kept = kept_fact ∙ here.peer.kept; phase = here.peer.phase; sync = here.peer.sync };
+      peer = record { saved = here.peer.saved; kept = ap bare kept_fact ∙ here.peer.kept; phase = here.peer.phase; sync = here.peer.sync };
       listed = here.listed;
       trust = here.trust;
       tree = tree;
@@ -489,7 +490,7 @@ module _ (c : Scene) where
             listed = here.listed.fact;
             noted = here.noted;
           })
-          u map_then next.digest (kept_fact ∙ here.peer.kept) (ap top_of next.tops ∙ last_top (tops_of h.stores) next.digest) next.named (tree_says spelled)
+          u map_then next.digest (ap bare kept_fact ∙ here.peer.kept) (ap top_of next.tops ∙ last_top (tops_of h.stores) next.digest) next.named (tree_says spelled)
           (subst (λ (tops : List (List ℕ)). TopsReturn t strings u.hashed p tops) (sym next.tops)
           (tops_next t strings u.hashed p (tops_of h.stores) next.digest map_then next.named (map_returns spelled next.named.stands.is_map) (tops_behind t strings h.hashed u.hashed p (tops_of h.stores) among tops_then)))
 
@@ -498,7 +499,7 @@ module _ (c : Scene) where
       write_here u stored task = record {
         reached = reached_then;
         roles = roles_then;
-        peer = record { saved = here.peer.saved; kept = stored.kept_fact ∙ here.peer.kept; phase = here.peer.phase; sync = here.peer.sync };
+        peer = record { saved = here.peer.saved; kept = ap bare stored.kept_fact ∙ here.peer.kept; phase = here.peer.phase; sync = here.peer.sync };
         listed = here.listed;
         trust = here.trust;
         tree = tree_written t strings p h u map_then stored.written stored.hashed (tree_says stored.spelled) (map_returns stored.spelled stored.written.next.named.stands.is_map) tops_then;

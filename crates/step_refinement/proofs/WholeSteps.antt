@@ -1,5 +1,6 @@
 -- A whole step of a peer ends well: the event, the tasks that follow from it, and rule 26 at the end.
-use Rattle.std.proofs.Common.{◌≡◌, ◌<◌, ◌≤◌, ◌^◌, inl, ℕ, false, suc, List, [], ◌∷◌, length, arith, refl, ap}
+use Rattle.std.proofs.Common.{◌≡◌, ◌<◌, ◌≤◌, ◌^◌, inl, ℕ, false, suc, List, [], ◌∷◌, None, length, arith, refl, ap}
+use Rattle.phase_rows.specs.declared.rules.PhaseRule.TheVariants as phase_rules
 use Rattle.ens_base.specs.Lists.{◌∈◌}
 use Rattle.abstract_protocol.specs.Book.{MayCall}
 use Rattle.abstract_protocol.specs.Protocol.{Step, Ask, IsRun, state_after}
@@ -25,6 +26,7 @@ use Rattle.register_model.specs.declared.note.Note.{Note}
 use Rattle.step_plans.specs.Calls.{OpenTree}
 use Rattle.step_plans.specs.Plans.{Plan, Done, Ask as Asks, Out, nothing, Rest}
 use Rattle.step_plans.specs.declared.tasks.Task.{Task}
+use Rattle.step_plans.specs.declared.tasks.Task.TheVariants as tasks
 use Rattle.tree_refinement.specs.Trees.{AreAmong}
 use Rattle.wire_frames.specs.declared.message.Message.{Message}
 use Rattle.wire_frames.specs.declared.message.Message.TheVariants as messages
@@ -50,7 +52,7 @@ IsElse message = Unit {0}
 -- at the limit on tasks none is left
 abbrev pub stop : Rest PeerState (List Task)
 stop [] y o = Done y o
-stop (t ∷ ts) y o = Asks OpenTree (λ u. Done y o)
+stop (t ∷ ts) y o = Asks (OpenTree None) (λ u. Done y o)
 
 -- the plan ends in agreement, if all that its run hashes is among the strings
 abbrev pub Well : Scene → Plan PeerState → Held → List Note → Type 0
@@ -106,7 +108,7 @@ module _ (c : Scene) (grounds : Grounds c) (phases_good : PhasesGood c) (ids : (
 
   -- rule 26, and what follows
   conclude : (key : List ℕ) (x : PeerState) (h : Held) (out : Out) (notes : List Note) → AtRest c key x h out notes → Well c (concluded p x out (λ u y o. Done y o)) h notes
-  conclude key x h out notes rest = phases_good 26 key x h out notes rest (λ ts y o. driven p most_turns ts y o (λ left z q. Done z q)) (λ ts y o. driven p most_turns ts y o stop)
+  conclude key x h out notes rest = phases_good (tasks.Phase phase_rules.EndEpoch) tt key x h out notes rest (λ ts y o. driven p most_turns ts y o (λ left z q. Done z q)) (λ ts y o. driven p most_turns ts y o stop)
       (λ ts k y g o ns there. drive_good c grounds phases_good most_turns ts k y g o ns (inl ((there.1, phases_wait y.phase ts there.0))) (λ left z q. Done z q) stop over)
       (concluded_left p x out stop (few_calls c ids x.phase key x h out notes rest.0) (λ y o. tt))
 

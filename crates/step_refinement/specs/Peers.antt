@@ -30,6 +30,7 @@ use Rattle.tree_refinement.specs.Tops.{IsNamed, tops_of}
 use Rattle.tree_refinement.specs.Trees.{Shows}
 use Rattle.tree_refinement.specs.Whole.{IsRecorded}
 use Rattle.world_stores.specs.Nodes.{top_of}
+use Rattle.step_plans.specs.Saved.{bare}
 
 -- ## Trees
 
@@ -56,7 +57,7 @@ pub record TreeHolds (s : State) (strings : List (List ℕ)) (q : ℕ) (h : Held
 -- the protocol, and the peer does not trust its tree
 pub record DownHolds (voting : List (List ℕ)) (s : State) (strings hashed : List (List ℕ)) (q : ℕ) (stores : HeldStores) : Type 0 where
   pub fact : Fact
-  pub kept : stores.facts.kept ≡ Some fact
+  pub kept : bare stores.facts.kept ≡ Some fact
   pub saved : IsSaved s.objects.ledger q fact
   pub listed : IsListedFact voting fact
   pub blind : s.objects.trusted q ≡ false

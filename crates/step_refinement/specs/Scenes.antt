@@ -21,6 +21,7 @@ use Rattle.peer_state.specs.declared.event.Event.TheVariants as events
 use Rattle.peer_state.specs.declared.state.State.{State as PeerState}
 use Rattle.register_model.specs.declared.note.Note.{Note}
 use Rattle.step_plans.specs.Plans.{Ending, Finished, Stopped, Out}
+use Rattle.step_plans.specs.Saved.{bare}
 use Rattle.wire_frames.specs.Messages.{Obeys}
 use Rattle.wire_frames.specs.declared.message.Message.{Message}
 use Rattle.step_refinement.specs.Peers.{TreeHolds, DownHolds, AcksSay, AsksFit, PhaseFits, TaskFits, IsAtRest, MessageFits, SendFits}
@@ -92,7 +93,7 @@ module _ (c : Scene) where
   pub record Here (key : List ℕ) (x : PeerState) (h : Held) (out : Out) (notes : List Note) : Type 0 where
     pub reached : Reached
     pub roles : RolesHold reached.ghosts (now reached) (put c.roles p (role_in key x.phase (owed_after [] out.answers))) (said_in_sends p out.sends ++ c.said)
-    pub peer : PeerHolds (now reached).objects.ledger p x h.stores.facts.kept
+    pub peer : PeerHolds (now reached).objects.ledger p x (bare h.stores.facts.kept)
     pub listed : IsListedPeer lines.voting p x
     pub trust : (now reached).objects.trusted p ≡ x.trusted
     pub tree : TreeHolds (now reached) strings p h

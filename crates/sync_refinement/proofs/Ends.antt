@@ -29,11 +29,12 @@ use Rattle.sync_rule.specs.Merges.{IsMerge, merged}
 use Rattle.sync_rule.specs.Syncs.{is_clean, is_source, is_trusted_source, has_finished, is_trusted, all_entries, is_over, outcome_of}
 use Rattle.sync_rule.specs.declared.sync.Outcome.TheVariants.{Pending, Trusted}
 use Rattle.sync_rule.specs.declared.sync.Source.{Source}
+use Rattle.tree_node.specs.declared.version.TreeVersion.TheVariants.{One}
 use Rattle.tree_maps.proofs.Below.{every}
 use Rattle.tree_maps.proofs.Names.{md5_run}
 use Rattle.tree_maps.proofs.Orders.{cmp_same}
 use Rattle.tree_maps.specs.Entries.{IsBelowAll, Ascends}
-use Rattle.tree_maps.specs.Sixteen.{sixteen}
+use Rattle.tree_maps.specs.Sixteen.{form_of}
 use Rattle.tree_node.specs.declared.body.Scan.{Scan}
 use Rattle.tree_node.specs.declared.position.Position.{Position}
 use Rattle.tree_verify.specs.Scans.{lost}
@@ -106,7 +107,7 @@ entry_fits s strings e says = record {
 
 -- a scan without damage has the whole map
 whole_scan : (m : List Entry) (scan : Scan) → IsScanOf m scan → scan.damaged ≡ [] → scan.entries ≡ m
-whole_scan m scan is none = is.entries ∙ ap (λ (ps : List Position). filter (λ e. not (lost sixteen ps e.key)) m) none ∙ every m
+whole_scan m scan is none = is.entries ∙ ap (λ (ps : List Position). filter (λ e. not (lost (form_of One) ps e.key)) m) none ∙ every m
 
 -- ## The end
 

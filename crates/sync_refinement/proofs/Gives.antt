@@ -5,6 +5,7 @@ use Rattle.abstract_protocol.specs.Objects.{epoch_of, IsGenuine}
 use Rattle.abstract_protocol.specs.Protocol.{State, Step, IsRun, state_after}
 use Rattle.ens_base.specs.declared.entry.Entry.{Entry}
 use Rattle.ens_base.specs.declared.epoch.Epoch.{Epoch}
+use Rattle.tree_node.specs.declared.version.TreeVersion.TheVariants.{One}
 use Rattle.exchange.specs.Gives.{given}
 use Rattle.exchange.specs.declared.question.Question.{Question}
 use Rattle.leader_refinement.proofs.Numbers.{rank_some}
@@ -15,7 +16,7 @@ use Rattle.step_plans.specs.declared.walked.Walked.TheVariants.{Reached, Broken}
 use Rattle.sync_laws.specs.Facts.{Lines}
 use Rattle.sync_laws.specs.Messages.{GiveSays}
 use Rattle.tree_maps.specs.Paths.{node_of}
-use Rattle.tree_maps.specs.Sixteen.{sixteen}
+use Rattle.tree_maps.specs.Sixteen.{form_of}
 use Rattle.tree_node.specs.declared.body.TreeBody.{TreeBody}
 use Rattle.tree_node.specs.declared.body.TreeBody.TheVariants as bodies
 use Rattle.version_laws.proofs.Trees.{run_versions}
@@ -70,11 +71,11 @@ show_fits g s strings q ballot question trusted (bodies.Damaged at) shows = tt
 gives_show : (g : Lines) (s : State) → VersionsAreSafe s.objects → GivesShow g s
 gives_show g s safe strings q ballot question trusted m walked kept trusts stands ok hashed says walk = by_walk walked walk
   where
-    by_walk : (x : Walked (Option (List ℕ))) → HasWalked (node_of sixteen question.position m) x → GiveFits g s strings q ballot question trusted (body_of question x)
-    by_walk (Reached node) is = show_fits g s strings q ballot question trusted (given node question) (record {
+    by_walk : (x : Walked (Option (List ℕ))) → HasWalked (node_of (form_of One) question.position m) x → GiveFits g s strings q ballot question trusted (body_of question x)
+    by_walk (Reached node) is = show_fits g s strings q ballot question trusted (given One node question) (record {
       map = m;
       is_map = ok;
-      body_is = ap (λ (o : Option (List ℕ)). given o question) is;
+      body_is = ap (λ (o : Option (List ℕ)). given One o question) is;
       hashed = hashed;
       entries = says.entries;
       says = give_says g s safe strings q (epoch_number ballot) trusted m stands says kept trusts;

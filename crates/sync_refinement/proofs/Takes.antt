@@ -9,6 +9,7 @@ use Rattle.abstract_protocol.specs.Protocol.{State, Step, IsRun, state_after}
 use Rattle.ens_base.specs.Lists.{◌∈◌, is_in}
 use Rattle.ens_base.specs.declared.entry.Entry.{Entry}
 use Rattle.ens_base.specs.declared.epoch.Epoch.{Epoch}
+use Rattle.tree_node.specs.declared.version.TreeVersion.TheVariants.{One}
 use Rattle.exchange.specs.Asked.{Asked}
 use Rattle.exchange.specs.Asks.{taken}
 use Rattle.exchange.specs.Covers.{AreApart}
@@ -32,7 +33,7 @@ use Rattle.sync_laws.specs.Messages.{GiveSays}
 use Rattle.sync_laws.specs.Syncs as syncs
 use Rattle.sync_rule.specs.Syncs.{is_source, is_awaited}
 use Rattle.tree_maps.specs.Paths.{node_of}
-use Rattle.tree_maps.specs.Sixteen.{sixteen}
+use Rattle.tree_maps.specs.Sixteen.{form_of}
 use Rattle.tree_node.specs.Positions.{IsPosition}
 use Rattle.tree_node.specs.declared.body.TreeBody.{TreeBody}
 use Rattle.tree_node.specs.declared.body.TreeBody.TheVariants as bodies
@@ -59,11 +60,11 @@ shows_of g s strings q ballot question flag (bodies.Inner mask digests) fits sou
 shows_of g s strings q ballot question flag (bodies.Page es more) fits sound = fits
 shows_of g s strings q ballot question flag (bodies.Damaged at) fits sound = absurd (sound at refl)
 
-module _ (g : Lines) (s : State) (strings : List (List ℕ)) (p : ℕ) (fact : Fact) (trusted : Bool) (m : List Entry) (r : Running) (give : Give) (own : Option (List ℕ)) (free : AreFree strings) (position : IsPosition give.question.position)
-    (node : (own ≡ None) ⊎ (own ≡ node_of sixteen give.question.position m)) (old : SyncSays g s strings p fact trusted m r) (ballot : give.ballot ≡ r.fact.epoch) (place : ℕ) (a : Asking) (at : slice_get r.asks place ≡ Some a) (other : IsOfOther p r.sync.view a) where
+module _ (g : Lines) (s : State) (strings : List (List ℕ)) (p : ℕ) (fact : Fact) (trusted : Bool) (m : List Entry) (r : Running) (give : Give) (own : Option (List ℕ)) (free : AreFree strings) (position : IsPosition One give.question.position)
+    (node : (own ≡ None) ⊎ (own ≡ node_of (form_of One) give.question.position m)) (old : SyncSays g s strings p fact trusted m r) (ballot : give.ballot ≡ r.fact.epoch) (place : ℕ) (a : Asking) (at : slice_get r.asks place ≡ Some a) (other : IsOfOther p r.sync.view a) where
   -- what the ask comes to
   abbrev next : Reply × Asked
-  next = taken r.sync.scan own give.question give.body a.ask
+  next = taken One r.sync.scan own give.question give.body a.ask
 
   abbrev Says : Asking → Type 0
   Says b = AskSays g s strings (epoch_number r.fact.epoch) r.sync.scan.entries a.peer b
@@ -93,7 +94,7 @@ module _ (g : Lines) (s : State) (strings : List (List ℕ)) (p : ℕ) (fact : F
       says : GiveSays g s.objects a.peer (epoch_number r.fact.epoch) give.trusted (ranks shows.map)
       says = subst (λ (d : Epoch). GiveSays g s.objects a.peer (epoch_number d) give.trusted (ranks shows.map)) ballot shows.says
 
-      apart : AreApart shows.map m
+      apart : AreApart One shows.map m
       apart = λ x y in_map in_own same. free x y (shows.hashed x in_map) (old.hashed y in_own) same
 
   dropped_says : Says (anew stages.Dropped a.peer)
@@ -103,10 +104,10 @@ module _ (g : Lines) (s : State) (strings : List (List ℕ)) (p : ℕ) (fact : F
   sound : (step : Reply) → next.0 ≡ step → (step ≡ steps.Dropped → ⊥) → (step ≡ steps.Ignored → ⊥) → (x : Position) → give.body ≡ bodies.Damaged x → ⊥
   sound step is goes counts x damaged = by_damage (damage_is r.sync.scan own give.question x a.ask)
     where
-      there : (taken r.sync.scan own give.question (bodies.Damaged x) a.ask).0 ≡ step
-      there = subst (λ (body : TreeBody). (taken r.sync.scan own give.question body a.ask).0 ≡ step) damaged is
+      there : (taken One r.sync.scan own give.question (bodies.Damaged x) a.ask).0 ≡ step
+      there = subst (λ (body : TreeBody). (taken One r.sync.scan own give.question body a.ask).0 ≡ step) damaged is
 
-      by_damage : ((taken r.sync.scan own give.question (bodies.Damaged x) a.ask).0 ≡ steps.Dropped) ⊎ ((taken r.sync.scan own give.question (bodies.Damaged x) a.ask).0 ≡ steps.Ignored) → ⊥
+      by_damage : ((taken One r.sync.scan own give.question (bodies.Damaged x) a.ask).0 ≡ steps.Dropped) ⊎ ((taken One r.sync.scan own give.question (bodies.Damaged x) a.ask).0 ≡ steps.Ignored) → ⊥
       by_damage (inl dropped) = goes (sym there ∙ dropped)
       by_damage (inr ignored) = counts (sym there ∙ ignored)
 

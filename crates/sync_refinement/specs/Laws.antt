@@ -7,6 +7,7 @@ use Rattle.ens_base.specs.Lists.{◌∈◌, AreDistinct}
 use Rattle.ens_base.specs.Views.{last_view}
 use Rattle.ens_base.specs.declared.entry.Entry.{Entry}
 use Rattle.ens_base.specs.declared.epoch.Epoch.{Epoch}
+use Rattle.tree_node.specs.declared.version.TreeVersion.TheVariants.{One}
 use Rattle.exchange.specs.declared.question.Question.{Question}
 use Rattle.leader_refinement.specs.Seen.{rank}
 use Rattle.peer_plan.specs.Syncs.{body_of}
@@ -23,7 +24,7 @@ use Rattle.sync_rule.specs.Syncs.{outcome_of, needs_build}
 use Rattle.sync_rule.specs.declared.sync.Outcome.TheVariants.{Trusted}
 use Rattle.tree_maps.specs.Entries.{IsMap}
 use Rattle.tree_maps.specs.Paths.{node_of}
-use Rattle.tree_maps.specs.Sixteen.{sixteen}
+use Rattle.tree_maps.specs.Sixteen.{form_of}
 use Rattle.tree_node.specs.Positions.{IsPosition}
 use Rattle.tree_node.specs.declared.body.Scan.{Scan}
 use Rattle.tree_node.specs.declared.body.TreeBody.{TreeBody}
@@ -55,7 +56,7 @@ HasWalked x (Broken at) = Unit {0}
 -- a peer that stands at the ballot sends a part of what its tree shows, or reports damage
 abbrev pub GivesShow : Lines → State → Type 0
 GivesShow g s = (strings : List (List ℕ)) (q : ℕ) (ballot : Epoch) (question : Question) (trusted : Bool) (m : List Entry) (walked : Walked (Option (List ℕ))) → FirmAreKept g s → s.objects.trusted q ≡ trusted → s.objects.ledger.ballot q ≡ epoch_number ballot → IsMap m → AreHashed strings m → TreeSays s strings q m
-    → HasWalked (node_of sixteen question.position m) walked → GiveFits g s strings q ballot question trusted (body_of question walked)
+    → HasWalked (node_of (form_of One) question.position m) walked → GiveFits g s strings q ballot question trusted (body_of question walked)
 
 -- ## Syncs
 
@@ -71,8 +72,8 @@ SyncsResume g s = (strings : List (List ℕ)) (p : ℕ) (fact : Fact) (trusted :
 
 -- a sync takes what a source sends; the own node was read, or its path did not verify, or it is not needed
 abbrev pub SyncsTake : Lines → State → Type 0
-SyncsTake g s = (strings : List (List ℕ)) (p : ℕ) (fact : Fact) (trusted : Bool) (m : List Entry) (r : Running) (from : ℕ) (give : Give) (own : Option (List ℕ)) → AreFree strings → IsPosition give.question.position → AsksOthers p r
-    → GiveFits g s strings from give.ballot give.question give.trusted give.body → (own ≡ None) ⊎ (own ≡ node_of sixteen give.question.position m) → SyncSays g s strings p fact trusted m r → SyncSays g s strings p fact trusted m (row_take from give own r).0
+SyncsTake g s = (strings : List (List ℕ)) (p : ℕ) (fact : Fact) (trusted : Bool) (m : List Entry) (r : Running) (from : ℕ) (give : Give) (own : Option (List ℕ)) → AreFree strings → IsPosition One give.question.position → AsksOthers p r
+    → GiveFits g s strings from give.ballot give.question give.trusted give.body → (own ≡ None) ⊎ (own ≡ node_of (form_of One) give.question.position m) → SyncSays g s strings p fact trusted m r → SyncSays g s strings p fact trusted m (row_take from give own r).0
 
 -- the end of a sync: the merged entries are a map, the peer may install it, and each entry says what
 -- holds; if the tree need not be built, they are those of the own tree

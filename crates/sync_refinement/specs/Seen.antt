@@ -6,6 +6,7 @@ use Rattle.abstract_protocol.specs.Numbers.{epoch_number}
 use Rattle.abstract_protocol.specs.Objects.{Map}
 use Rattle.ens_base.specs.Lists.{same_bytes}
 use Rattle.ens_base.specs.declared.entry.Entry.{Entry}
+use Rattle.tree_node.specs.declared.version.TreeVersion.TheVariants.{One}
 use Rattle.exchange.specs.Gives.{is_beyond}
 use Rattle.exchange.specs.declared.question.Question.{Question}
 use Rattle.leader_refinement.specs.Seen.{rank, entry_rank}
@@ -22,7 +23,7 @@ use Rattle.sync_laws.specs.Trees as trees
 use Rattle.sync_rule.specs.Syncs.{is_clean}
 use Rattle.tree_maps.specs.Entries.{lookup}
 use Rattle.tree_maps.specs.Paths.{passes}
-use Rattle.tree_maps.specs.Sixteen.{sixteen}
+use Rattle.tree_maps.specs.Sixteen.{form_of}
 use Rattle.tree_node.specs.declared.body.Scan.{Scan}
 use Rattle.tree_node.specs.declared.position.Position.{Position}
 use Rattle.tree_verify.specs.Scans.{lost}
@@ -54,7 +55,7 @@ seen_tree m = record { top = ranks m; named = []; intact = true }
 
 -- what a scan found
 abbrev pub seen_scan : Scan → trees.Scan
-seen_scan scan = record { entries = ranks scan.entries; broken = lost sixteen scan.damaged; damaged = not (is_clean scan) }
+seen_scan scan = record { entries = ranks scan.entries; broken = lost (form_of One) scan.damaged; damaged = not (is_clean scan) }
 
 -- ## Asks
 
@@ -65,7 +66,7 @@ seen_stage stages.Dropped = syncs.Dropped
 
 -- whether the path of the key goes through the position
 abbrev pub through : List ℕ → Position → Bool
-through key at = passes sixteen key at.level at.index
+through key at = passes (form_of One) key at.level at.index
 
 -- whether it goes through one of these positions
 abbrev pub through_any : List ℕ → List Position → Bool

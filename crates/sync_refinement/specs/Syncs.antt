@@ -8,6 +8,7 @@ use Rattle.ens_base.specs.Lists.{◌∈◌, AreDistinct}
 use Rattle.ens_base.specs.Views.{last_view}
 use Rattle.ens_base.specs.declared.entry.Entry.{Entry}
 use Rattle.ens_base.specs.declared.epoch.Epoch.{Epoch}
+use Rattle.tree_node.specs.declared.version.TreeVersion.TheVariants.{One}
 use Rattle.exchange.specs.Covers.{give_of}
 use Rattle.exchange.specs.declared.question.Question.{Question}
 use Rattle.leader_refinement.specs.Seen.{rank}
@@ -23,7 +24,7 @@ use Rattle.sync_rule.specs.declared.sync.Source.{Source}
 use Rattle.tree_maps.specs.Entries.{IsMap}
 use Rattle.tree_maps.specs.Forms.{root}
 use Rattle.tree_maps.specs.Maps.{IsNode}
-use Rattle.tree_maps.specs.Sixteen.{sixteen}
+use Rattle.tree_maps.specs.Sixteen.{form_of}
 use Rattle.tree_node.specs.Positions.{IsPosition}
 use Rattle.tree_node.specs.declared.body.Scan.{Scan}
 use Rattle.tree_node.specs.declared.body.TreeBody.{TreeBody}
@@ -51,12 +52,12 @@ pub record MayReturn (s : State) (strings : List (List ℕ)) (q : ℕ) (m : List
 -- what a scan of the tree of a map returns
 pub record IsScanOf (m : List Entry) (scan : Scan) : Type 0 where
   pub is_map : IsMap m
-  pub entries : scan.entries ≡ filter (λ e. not (lost sixteen scan.damaged e.key)) m
-  pub positions : AllByRecursion IsPosition scan.damaged
+  pub entries : scan.entries ≡ filter (λ e. not (lost (form_of One) scan.damaged e.key)) m
+  pub positions : AllByRecursion (IsPosition One) scan.damaged
 
 -- each node of the map was hashed
 abbrev pub AreHashed : List (List ℕ) → List Entry → Type 0
-AreHashed strings m = (node : List ℕ) → IsNode sixteen sixteen.depth root m node → node ∈ strings
+AreHashed strings m = (node : List ℕ) → IsNode (form_of One) (form_of One).depth root m node → node ∈ strings
 
 -- ## Syncs
 
@@ -90,7 +91,7 @@ SyncMaySay g s strings p fact trusted m (Some r) = SyncSays g s strings p fact t
 pub record GiveShows (g : Lines) (s : State) (strings : List (List ℕ)) (q : ℕ) (ballot : Epoch) (question : Question) (trusted : Bool) (body : TreeBody) : Type 0 where
   pub map : List Entry
   pub is_map : IsMap map
-  pub body_is : body ≡ give_of map question
+  pub body_is : body ≡ give_of One map question
   pub hashed : AreHashed strings map
   pub entries : EntriesSay s strings map
   pub says : GiveSays g s.objects q (epoch_number ballot) trusted (ranks map)

@@ -10,8 +10,9 @@ use Rattle.held_stores.specs.Answers.{Answered, answered, looked, entered, whole
 use Rattle.held_stores.specs.Held.{Held, unless_failing}
 use Rattle.held_stores.specs.Walks.{End, Came, Broke, Failed, Walk, walk}
 use Rattle.step_plans.specs.Calls.{Load, Save, FreshTree, OpenTree, Find, Enter, ScanTree, ReadNode, Install, Fetch, Put, Hash}
-use Rattle.peer_fact.specs.declared.fact.Fact.{Fact}
+use Rattle.peer_fact.specs.declared.saved.SavedFact.{SavedFact}
 use Rattle.step_plans.specs.declared.error.PeerError.TheVariants.{StoreFault}
+use Rattle.tree_node.specs.declared.version.TreeVersion.TheVariants.{One}
 use Rattle.synctree.specs.Nodes.{node_plan}
 use Rattle.synctree.specs.Plans.{Plan, Ends}
 use Rattle.synctree.specs.Trees.{open_plan, fresh_plan, get_plan, insert_plan}
@@ -23,8 +24,8 @@ use Rattle.tree_maps.specs.Entries.{lookup, put}
 use Rattle.tree_maps.specs.Forms.{root}
 use Rattle.tree_maps.specs.Maps.{IsNode, AreApart, Stands}
 use Rattle.tree_maps.specs.Paths.{node_of}
-use Rattle.tree_maps.specs.Sixteen.{sixteen}
-use Rattle.tree_maps.proofs.Formats.{sixteen_laws}
+use Rattle.tree_maps.specs.Sixteen.{form_of}
+use Rattle.tree_maps.proofs.Formats.{form_laws}
 use Rattle.tree_node.specs.declared.body.Scan.{Scan}
 use Rattle.tree_repair.specs.Rebuilds.{rebuild_plan}
 use Rattle.tree_verify.specs.Levels.{slot, scan_plan}
@@ -44,7 +45,7 @@ either_way P None goes fails p q = p
 either_way P (Some leaves) goes fails p q = q leaves
 
 -- what holds of each fact keeper holds after a save, and likewise for the objects after a put
-pub after_saving : (fact : Fact) (h : Held) (P : Held → Type 0) → ((facts : HeldFact) → P (with_facts facts h)) → P (answered (Save fact) h).held
+pub after_saving : (fact : SavedFact) (h : Held) (P : Held → Type 0) → ((facts : HeldFact) → P (with_facts facts h)) → P (answered (Save fact) h).held
 after_saving fact h P holds = either_way (λ (a : Answered (Save fact)). P a.held) h.stores.facts.faults.pending (record { result = Ok tt; held = with_facts (record h.stores.facts { kept = Some fact }) h })
     (λ leaves. record { result = Err StoreFault; held = with_facts (facts_failed h.stores.facts (record h.stores.facts { kept = Some fact }) leaves) h })
     (holds (record h.stores.facts { kept = Some fact })) (λ leaves. holds (facts_failed h.stores.facts (record h.stores.facts { kept = Some fact }) leaves))
@@ -59,7 +60,7 @@ pub still_shows : {A : Type 0} (p : Plan A) (h : Held) (m : List Entry) → Show
 still_shows p h m shows = record { digest = shows.digest; top = shows.top; stands = shows.stands; texts = λ x n. walk_grows p h.stores.tree.store h.hashed x (shows.texts x n) }
 
 -- strings without clashes are apart from the nodes of a map that was hashed
-pub apart_of : (strings now hashed xs : List (List ℕ)) (m : List Entry) → AreFree strings → AreAmong now strings → now ≡ hashed ++ xs → ((x : List ℕ) → IsNode sixteen sixteen.depth root m x → x ∈ hashed) → AreApart xs sixteen sixteen.depth root m
+pub apart_of : (strings now hashed xs : List (List ℕ)) (m : List Entry) → AreFree strings → AreAmong now strings → now ≡ hashed ++ xs → ((x : List ℕ) → IsNode (form_of One) (form_of One).depth root m x → x ∈ hashed) → AreApart xs (form_of One) (form_of One).depth root m
 apart_of strings now hashed xs m free among grew texts x y i n e =
     free x y (among x (subst (λ zs. x ∈ zs) (sym grew) (in_right hashed xs x i))) (among y (subst (λ zs. y ∈ zs) (sym grew) (in_left hashed xs y (texts y n)))) e
 
@@ -71,41 +72,41 @@ looked_end p x s t xs (Broke at) is ends sound = tt
 looked_end p x s t xs Failed is ends sound = sound refl
 
 -- a walk that looks for something finds it, if each run of its plan does that is apart from the map
-looked_from : {A : Type 0} (p : Plan A) (x : A) (strings hashed : List (List ℕ)) (m : List Entry) (s : Nodes) → OnlyReads p → AreFree strings → AreAmong (walk p s hashed).hashed strings → ((y : List ℕ) → IsNode sixteen sixteen.depth root m y → y ∈ hashed)
-    → ((y : A) (xs : List (List ℕ)) (t : Nodes) → AreApart xs sixteen sixteen.depth root m → Ends does p s xs (Ok y) t → y ≡ x) → IsReached x (looked (walk p s hashed).end)
+looked_from : {A : Type 0} (p : Plan A) (x : A) (strings hashed : List (List ℕ)) (m : List Entry) (s : Nodes) → OnlyReads p → AreFree strings → AreAmong (walk p s hashed).hashed strings → ((y : List ℕ) → IsNode (form_of One) (form_of One).depth root m y → y ∈ hashed)
+    → ((y : A) (xs : List (List ℕ)) (t : Nodes) → AreApart xs (form_of One) (form_of One).depth root m → Ends does p s xs (Ok y) t → y ≡ x) → IsReached x (looked (walk p s hashed).end)
 looked_from p x strings hashed m s quiet free among texts is =
     let w = walk_is p s hashed in
     looked_end p x s (walk p s hashed).nodes w.strings (walk p s hashed).end (λ y ends. is y w.strings (walk p s hashed).nodes (apart_of strings (walk p s hashed).hashed hashed w.strings m free among w.grew texts) ends) w.ended (no_failure p s hashed quiet)
 
 pub finds : FindsEntries
 finds strings h m key free among shows =
-    subst (λ (top : Option (List ℕ)). AreAmong (walked (get_plan sixteen top key) h).hashed strings → IsReached (lookup key m) (looked (walked (get_plan sixteen top key) h).end)) (sym shows.top)
-    (λ a. looked_from (get_plan sixteen (Some shows.digest) key) (lookup key m) strings h.hashed m h.stores.tree.store (get_reads sixteen shows.digest key) free a shows.texts
-    (λ y xs t apart ends. get_answers does sixteen sixteen_laws shows.digest key m h.stores.tree.store t xs y shows.stands apart ends)) among
+    subst (λ (top : Option (List ℕ)). AreAmong (walked (get_plan (form_of One) top key) h).hashed strings → IsReached (lookup key m) (looked (walked (get_plan (form_of One) top key) h).end)) (sym shows.top)
+    (λ a. looked_from (get_plan (form_of One) (Some shows.digest) key) (lookup key m) strings h.hashed m h.stores.tree.store (get_reads (form_of One) shows.digest key) free a shows.texts
+    (λ y xs t apart ends. get_answers does (form_of One) (form_laws One) shows.digest key m h.stores.tree.store t xs y shows.stands apart ends)) among
 
 pub reads : ReadsNodes
 reads strings h m at free among shows is =
-    subst (λ (top : Option (List ℕ)). AreAmong (walked (node_plan sixteen top at) h).hashed strings → IsReached (node_of sixteen at m) (looked (walked (node_plan sixteen top at) h).end)) (sym shows.top)
-    (λ a. looked_from (node_plan sixteen (Some shows.digest) at) (node_of sixteen at m) strings h.hashed m h.stores.tree.store (node_reads sixteen shows.digest at) free a shows.texts
-    (λ y xs t apart ends. node_is does sixteen sixteen_laws (3 - at.level) at m shows.digest h.stores.tree.store t xs y (place_of at is) apart shows.stands ends)) among
+    subst (λ (top : Option (List ℕ)). AreAmong (walked (node_plan (form_of One) top at) h).hashed strings → IsReached (node_of (form_of One) at m) (looked (walked (node_plan (form_of One) top at) h).end)) (sym shows.top)
+    (λ a. looked_from (node_plan (form_of One) (Some shows.digest) at) (node_of (form_of One) at m) strings h.hashed m h.stores.tree.store (node_reads (form_of One) shows.digest at) free a shows.texts
+    (λ y xs t apart ends. node_is does (form_of One) (form_laws One) (3 - at.level) at m shows.digest h.stores.tree.store t xs y (place_of One at is) apart shows.stands ends)) among
 
-scanned_end : (m : List Entry) (digest : List ℕ) (s t : Nodes) (xs : List (List ℕ)) (end : End Scan) → Stands sixteen digest m → AreApart xs sixteen sixteen.depth root m → Comes (scan_plan sixteen (Some digest))
-    → Ended (scan_plan sixteen (Some digest)) s xs end t → (end ≡ Failed → ⊥) → IsScanned m (whole end)
-scanned_end m digest s t xs (Came scan) stands apart comes ends sound = scan_answers sixteen sixteen_laws does digest m s t xs scan stands apart ends
-scanned_end m digest s t xs (Broke at) stands apart comes ends sound = unbroken does (scan_plan sixteen (Some digest)) s t xs at comes ends
+scanned_end : (m : List Entry) (digest : List ℕ) (s t : Nodes) (xs : List (List ℕ)) (end : End Scan) → Stands (form_of One) digest m → AreApart xs (form_of One) (form_of One).depth root m → Comes (scan_plan (form_of One) (Some digest))
+    → Ended (scan_plan (form_of One) (Some digest)) s xs end t → (end ≡ Failed → ⊥) → IsScanned m (whole end)
+scanned_end m digest s t xs (Came scan) stands apart comes ends sound = scan_answers (form_of One) (form_laws One) does digest m s t xs scan stands apart ends
+scanned_end m digest s t xs (Broke at) stands apart comes ends sound = unbroken does (scan_plan (form_of One) (Some digest)) s t xs at comes ends
 scanned_end m digest s t xs Failed stands apart comes ends sound = sound refl
 
-scanned_from : (strings hashed : List (List ℕ)) (m : List Entry) (digest : List ℕ) (s : Nodes) → AreFree strings → AreAmong (walk (scan_plan sixteen (Some digest)) s hashed).hashed strings → Stands sixteen digest m
-    → ((x : List ℕ) → IsNode sixteen sixteen.depth root m x → x ∈ hashed) → IsScanned m (whole (walk (scan_plan sixteen (Some digest)) s hashed).end)
+scanned_from : (strings hashed : List (List ℕ)) (m : List Entry) (digest : List ℕ) (s : Nodes) → AreFree strings → AreAmong (walk (scan_plan (form_of One) (Some digest)) s hashed).hashed strings → Stands (form_of One) digest m
+    → ((x : List ℕ) → IsNode (form_of One) (form_of One).depth root m x → x ∈ hashed) → IsScanned m (whole (walk (scan_plan (form_of One) (Some digest)) s hashed).end)
 scanned_from strings hashed m digest s free among stands texts =
-    let w = walk_is (scan_plan sixteen (Some digest)) s hashed in
-    let comes : Comes (scan_plan sixteen (Some digest)) = scan_comes sixteen sixteen.depth (slot root (Some digest) ∷ []) in
-    scanned_end m digest s (walk (scan_plan sixteen (Some digest)) s hashed).nodes w.strings (walk (scan_plan sixteen (Some digest)) s hashed).end stands
-    (apart_of strings (walk (scan_plan sixteen (Some digest)) s hashed).hashed hashed w.strings m free among w.grew texts) comes w.ended (no_failure (scan_plan sixteen (Some digest)) s hashed (comes_reads (scan_plan sixteen (Some digest)) comes))
+    let w = walk_is (scan_plan (form_of One) (Some digest)) s hashed in
+    let comes : Comes (scan_plan (form_of One) (Some digest)) = scan_comes (form_of One) (form_of One).depth (slot root (Some digest) ∷ []) in
+    scanned_end m digest s (walk (scan_plan (form_of One) (Some digest)) s hashed).nodes w.strings (walk (scan_plan (form_of One) (Some digest)) s hashed).end stands
+    (apart_of strings (walk (scan_plan (form_of One) (Some digest)) s hashed).hashed hashed w.strings m free among w.grew texts) comes w.ended (no_failure (scan_plan (form_of One) (Some digest)) s hashed (comes_reads (scan_plan (form_of One) (Some digest)) comes))
 
 pub scans : ScansMaps
 scans strings h m free among shows =
-    subst (λ (top : Option (List ℕ)). AreAmong (walked (scan_plan sixteen top) h).hashed strings → IsScanned m (whole (walked (scan_plan sixteen top) h).end)) (sym shows.top)
+    subst (λ (top : Option (List ℕ)). AreAmong (walked (scan_plan (form_of One) top) h).hashed strings → IsScanned m (whole (walked (scan_plan (form_of One) top) h).end)) (sym shows.top)
     (λ a. scanned_from strings h.hashed m shows.digest h.stores.tree.store free a shows.stands shows.texts) among
 
 -- ## Entering
@@ -114,38 +115,38 @@ scans strings h m free among shows =
 old_root : (h : Held) (w : Walk (List ℕ)) (xs : List (List ℕ)) → w.hashed ≡ h.hashed ++ xs → (m : List Entry) → Shows h m → Shows (with_tree h.stores.tree.top w h) m
 old_root h w xs grew m shows = record { digest = shows.digest; top = shows.top; stands = shows.stands; texts = λ x n. subst (λ zs. x ∈ zs) (sym grew) (in_left h.hashed xs x (shows.texts x n)) }
 
-entered_end : (h : Held) (m : List Entry) (e : Entry) (digest : List ℕ) (w : Walk (List ℕ)) (xs : List (List ℕ)) (end : End (List ℕ)) → Shows h m → IsEntry e → length (put e m) < 2 ^ 32 → Stands sixteen digest m → AreApart xs sixteen sixteen.depth root m → w.hashed ≡ h.hashed ++ xs
-    → Ended (insert_plan sixteen (Some digest) e) h.stores.tree.store xs end w.nodes → IsEntered e m (entered end) (with_tree (root_after h.stores.tree.top end) w h)
+entered_end : (h : Held) (m : List Entry) (e : Entry) (digest : List ℕ) (w : Walk (List ℕ)) (xs : List (List ℕ)) (end : End (List ℕ)) → Shows h m → IsEntry e → length (put e m) < 2 ^ 32 → Stands (form_of One) digest m → AreApart xs (form_of One) (form_of One).depth root m → w.hashed ≡ h.hashed ++ xs
+    → Ended (insert_plan (form_of One) (Some digest) e) h.stores.tree.store xs end w.nodes → IsEntered e m (entered end) (with_tree (root_after h.stores.tree.top end) w h)
 entered_end h m e digest w xs (Came new) shows fits few stands apart grew ends = record {
   digest = new;
   top = refl;
-  stands = insert_stands sixteen sixteen_laws does digest e m h.stores.tree.store w.nodes xs new stands fits few apart ends;
-  texts = λ x n. known x (insert_nodes sixteen sixteen_laws does digest e m h.stores.tree.store w.nodes xs new stands apart ends x n);
+  stands = insert_stands (form_of One) (form_laws One) does digest e m h.stores.tree.store w.nodes xs new stands fits few apart ends;
+  texts = λ x n. known x (insert_nodes (form_of One) (form_laws One) does digest e m h.stores.tree.store w.nodes xs new stands apart ends x n);
 }
   where
-    known : (x : List ℕ) → (x ∈ xs) ⊎ IsNode sixteen sixteen.depth root m x → x ∈ w.hashed
+    known : (x : List ℕ) → (x ∈ xs) ⊎ IsNode (form_of One) (form_of One).depth root m x → x ∈ w.hashed
     known x (inl i) = subst (λ zs. x ∈ zs) (sym grew) (in_right h.hashed xs x i)
     known x (inr n) = subst (λ zs. x ∈ zs) (sym grew) (in_left h.hashed xs x (shows.texts x n))
 entered_end h m e digest w xs (Broke at) shows fits few stands apart grew ends = old_root h w xs grew m shows
 entered_end h m e digest w xs Failed shows fits few stands apart grew ends = (refl, old_root h w xs grew m shows)
 
-entered_from : (strings : List (List ℕ)) (h : Held) (m : List Entry) (e : Entry) (digest : List ℕ) → AreFree strings → AreAmong (walked (insert_plan sixteen (Some digest) e) h).hashed strings → Shows h m → Stands sixteen digest m → IsEntry e → length (put e m) < 2 ^ 32
-    → IsEntered e m (entered (walked (insert_plan sixteen (Some digest) e) h).end) (with_tree (root_after h.stores.tree.top (walked (insert_plan sixteen (Some digest) e) h).end) (walked (insert_plan sixteen (Some digest) e) h) h)
+entered_from : (strings : List (List ℕ)) (h : Held) (m : List Entry) (e : Entry) (digest : List ℕ) → AreFree strings → AreAmong (walked (insert_plan (form_of One) (Some digest) e) h).hashed strings → Shows h m → Stands (form_of One) digest m → IsEntry e → length (put e m) < 2 ^ 32
+    → IsEntered e m (entered (walked (insert_plan (form_of One) (Some digest) e) h).end) (with_tree (root_after h.stores.tree.top (walked (insert_plan (form_of One) (Some digest) e) h).end) (walked (insert_plan (form_of One) (Some digest) e) h) h)
 entered_from strings h m e digest free among shows stands fits few =
-    let w = walk_is (insert_plan sixteen (Some digest) e) h.stores.tree.store h.hashed in
-    entered_end h m e digest (walked (insert_plan sixteen (Some digest) e) h) w.strings (walked (insert_plan sixteen (Some digest) e) h).end shows fits few stands
-    (apart_of strings (walked (insert_plan sixteen (Some digest) e) h).hashed h.hashed w.strings m free among w.grew shows.texts) w.grew w.ended
+    let w = walk_is (insert_plan (form_of One) (Some digest) e) h.stores.tree.store h.hashed in
+    entered_end h m e digest (walked (insert_plan (form_of One) (Some digest) e) h) w.strings (walked (insert_plan (form_of One) (Some digest) e) h).end shows fits few stands
+    (apart_of strings (walked (insert_plan (form_of One) (Some digest) e) h).hashed h.hashed w.strings m free among w.grew shows.texts) w.grew w.ended
 
 pub enters : EntersEntries
 enters strings h m e free among shows fits few =
-    subst (λ (top : Option (List ℕ)). AreAmong (walked (insert_plan sixteen top e) h).hashed strings → IsEntered e m (entered (walked (insert_plan sixteen top e) h).end) (with_tree (root_after h.stores.tree.top (walked (insert_plan sixteen top e) h).end) (walked (insert_plan sixteen top e) h) h)) (sym shows.top)
+    subst (λ (top : Option (List ℕ)). AreAmong (walked (insert_plan (form_of One) top e) h).hashed strings → IsEntered e m (entered (walked (insert_plan (form_of One) top e) h).end) (with_tree (root_after h.stores.tree.top (walked (insert_plan (form_of One) top e) h).end) (walked (insert_plan (form_of One) top e) h) h)) (sym shows.top)
     (λ a. entered_from strings h m e shows.digest free a shows shows.stands fits few) among
 
 -- ## A new tree
 
 made_end : (h : Held) (m : List Entry) (p : Plan (List ℕ)) (w : Walk (List ℕ)) (xs : List (List ℕ)) (end : End (List ℕ)) → w.hashed ≡ h.hashed ++ xs
-    → ((new : List ℕ) → Ends does p h.stores.tree.store xs (Ok new) w.nodes → Stands sixteen new m)
-    → ((new : List ℕ) → Ends does p h.stores.tree.store xs (Ok new) w.nodes → (x : List ℕ) → IsNode sixteen sixteen.depth root m x → x ∈ xs)
+    → ((new : List ℕ) → Ends does p h.stores.tree.store xs (Ok new) w.nodes → Stands (form_of One) new m)
+    → ((new : List ℕ) → Ends does p h.stores.tree.store xs (Ok new) w.nodes → (x : List ℕ) → IsNode (form_of One) (form_of One).depth root m x → x ∈ xs)
     → Ended p h.stores.tree.store xs end w.nodes → IsMade m h (done end) (with_tree (root_after h.stores.tree.top end) w h)
 made_end h m p w xs (Came new) grew stands texts ends = record {
   digest = new;
@@ -158,17 +159,17 @@ made_end h m p w xs Failed grew stands texts ends = (refl, refl, old_root h w xs
 
 pub makes : MakesEmpty
 makes h =
-    let w = walk_is (fresh_plan sixteen) h.stores.tree.store h.hashed in
-    let t = (walked (fresh_plan sixteen) h).nodes in
-    made_end h [] (fresh_plan sixteen) (walked (fresh_plan sixteen) h) w.strings (walked (fresh_plan sixteen) h).end w.grew
-    (λ new ends. fresh_stands does sixteen new h.stores.tree.store t w.strings ends) (λ new ends. fresh_nodes does sixteen new h.stores.tree.store t w.strings ends) w.ended
+    let w = walk_is (fresh_plan (form_of One)) h.stores.tree.store h.hashed in
+    let t = (walked (fresh_plan (form_of One)) h).nodes in
+    made_end h [] (fresh_plan (form_of One)) (walked (fresh_plan (form_of One)) h) w.strings (walked (fresh_plan (form_of One)) h).end w.grew
+    (λ new ends. fresh_stands does (form_of One) new h.stores.tree.store t w.strings ends) (λ new ends. fresh_nodes does (form_of One) new h.stores.tree.store t w.strings ends) w.ended
 
 pub installs : InstallsMaps
 installs h m ok =
-    let w = walk_is (rebuild_plan sixteen m) h.stores.tree.store h.hashed in
-    let t = (walked (rebuild_plan sixteen m) h).nodes in
-    made_end h m (rebuild_plan sixteen m) (walked (rebuild_plan sixteen m) h) w.strings (walked (rebuild_plan sixteen m) h).end w.grew
-    (λ new ends. rebuild_stands does sixteen sixteen_laws m new h.stores.tree.store t w.strings ok ends) (λ new ends. rebuild_nodes does sixteen sixteen_laws m new h.stores.tree.store t w.strings ends) w.ended
+    let w = walk_is (rebuild_plan (form_of One) m) h.stores.tree.store h.hashed in
+    let t = (walked (rebuild_plan (form_of One) m) h).nodes in
+    made_end h m (rebuild_plan (form_of One) m) (walked (rebuild_plan (form_of One) m) h) w.strings (walked (rebuild_plan (form_of One) m) h).end w.grew
+    (λ new ends. rebuild_stands does (form_of One) (form_laws One) m new h.stores.tree.store t w.strings ok ends) (λ new ends. rebuild_nodes does (form_of One) (form_laws One) m new h.stores.tree.store t w.strings ends) w.ended
 
 -- ## Other calls
 
@@ -176,11 +177,11 @@ pub keeps : KeepsMaps
 keeps Load h m k shows = shows
 keeps (Save fact) h m k shows = after_saving fact h (λ t. Shows t m) (λ facts. shows)
 keeps FreshTree h m k shows = absurd k
-keeps OpenTree h m k shows = absurd k
-keeps (Find key) h m k shows = still_shows (get_plan sixteen h.stores.tree.top key) h m shows
+keeps (OpenTree seal) h m k shows = absurd k
+keeps (Find key) h m k shows = still_shows (get_plan (form_of One) h.stores.tree.top key) h m shows
 keeps (Enter entry) h m k shows = absurd k
-keeps ScanTree h m k shows = still_shows (scan_plan sixteen h.stores.tree.top) h m shows
-keeps (ReadNode at) h m k shows = still_shows (node_plan sixteen h.stores.tree.top at) h m shows
+keeps ScanTree h m k shows = still_shows (scan_plan (form_of One) h.stores.tree.top) h m shows
+keeps (ReadNode at) h m k shows = still_shows (node_plan (form_of One) h.stores.tree.top at) h m shows
 keeps (Install entries) h m k shows = absurd k
 keeps (Fetch key) h m k shows = shows
 keeps (Put key bytes) h m k shows = after_putting key bytes h (λ t. Shows t m) (λ objects. shows)
@@ -189,13 +190,13 @@ keeps (Hash bytes) h m k shows = record { digest = shows.digest; top = shows.top
 pub grows : KeepsHashed
 grows Load h x i = i
 grows (Save fact) h x i = after_saving fact h (λ t. x ∈ t.hashed) (λ facts. i)
-grows FreshTree h x i = walk_grows (fresh_plan sixteen) h.stores.tree.store h.hashed x i
-grows OpenTree h x i = walk_grows open_plan h.stores.tree.store h.hashed x i
-grows (Find key) h x i = walk_grows (get_plan sixteen h.stores.tree.top key) h.stores.tree.store h.hashed x i
-grows (Enter entry) h x i = walk_grows (insert_plan sixteen h.stores.tree.top entry) h.stores.tree.store h.hashed x i
-grows ScanTree h x i = walk_grows (scan_plan sixteen h.stores.tree.top) h.stores.tree.store h.hashed x i
-grows (ReadNode at) h x i = walk_grows (node_plan sixteen h.stores.tree.top at) h.stores.tree.store h.hashed x i
-grows (Install entries) h x i = walk_grows (rebuild_plan sixteen entries) h.stores.tree.store h.hashed x i
+grows FreshTree h x i = walk_grows (fresh_plan (form_of One)) h.stores.tree.store h.hashed x i
+grows (OpenTree seal) h x i = walk_grows open_plan h.stores.tree.store h.hashed x i
+grows (Find key) h x i = walk_grows (get_plan (form_of One) h.stores.tree.top key) h.stores.tree.store h.hashed x i
+grows (Enter entry) h x i = walk_grows (insert_plan (form_of One) h.stores.tree.top entry) h.stores.tree.store h.hashed x i
+grows ScanTree h x i = walk_grows (scan_plan (form_of One) h.stores.tree.top) h.stores.tree.store h.hashed x i
+grows (ReadNode at) h x i = walk_grows (node_plan (form_of One) h.stores.tree.top at) h.stores.tree.store h.hashed x i
+grows (Install entries) h x i = walk_grows (rebuild_plan (form_of One) entries) h.stores.tree.store h.hashed x i
 grows (Fetch key) h x i = i
 grows (Put key bytes) h x i = after_putting key bytes h (λ t. x ∈ t.hashed) (λ objects. i)
 grows (Hash bytes) h x i = in_left h.hashed (bytes ∷ []) x i
@@ -207,7 +208,7 @@ pub spares : KeepsStores
 spares Load h = refl
 spares (Save fact) h = after_saving fact h (λ t. SparesOthers (Save fact) h.stores t.stores) (λ facts. (refl, refl))
 spares FreshTree h = (refl, refl)
-spares OpenTree h = (refl, refl)
+spares (OpenTree seal) h = (refl, refl)
 spares (Find key) h = (refl, refl)
 spares (Enter entry) h = (refl, refl)
 spares ScanTree h = (refl, refl)

@@ -10,6 +10,7 @@ use Rattle.held_stores.specs.Held.{Held}
 use Rattle.held_stores.specs.Walks.{End, Came, Broke, Failed, Walk, walk}
 use Rattle.step_plans.specs.Calls.{Load, Save, FreshTree, OpenTree, Find, Enter, ScanTree, ReadNode, Install, Fetch, Put, Hash}
 use Rattle.step_plans.specs.declared.error.PeerError.TheVariants.{StoreFault}
+use Rattle.tree_node.specs.declared.version.TreeVersion.TheVariants.{One}
 use Rattle.synctree.specs.Nodes.{node_plan}
 use Rattle.synctree.specs.Plans.{Plan}
 use Rattle.synctree.specs.Trees.{fresh_plan, get_plan, insert_plan}
@@ -18,8 +19,9 @@ use Rattle.synctree.proofs.Standing.{insert_stands}
 use Rattle.tree_maps.specs.Entries.{put}
 use Rattle.tree_maps.specs.Forms.{root}
 use Rattle.tree_maps.specs.Maps.{IsNode, Stands}
-use Rattle.tree_maps.specs.Sixteen.{sixteen}
-use Rattle.tree_maps.proofs.Formats.{sixteen_laws}
+use Rattle.tree_maps.specs.Sixteen.{form_of}
+use Rattle.tree_maps.proofs.Formats.{form_laws}
+use Rattle.tree_maps.proofs.Unique.{some_once}
 use Rattle.tree_repair.specs.Rebuilds.{rebuild_plan}
 use Rattle.tree_verify.specs.Levels.{scan_plan}
 use Rattle.world_stores.specs.Nodes.{Nodes, top_of, reverted}
@@ -39,6 +41,14 @@ use Rattle.tree_refinement.proofs.Whole.{get_only, node_only, scan_only}
 -- a digest that names a map goes on naming it as more is hashed
 pub named_behind : (hashed more : List (List ℕ)) (digest : List ℕ) (m : List Entry) → AreAmong hashed more → IsNamed hashed digest m → IsNamed more digest m
 named_behind hashed more digest m among named = record { stands = named.stands; texts = λ x n. among x (named.texts x n) }
+
+-- the root of a tree names the map that the tree shows
+pub shows_named : (h : Held) (m : List Entry) (digest : List ℕ) → Shows h m → h.stores.tree.top ≡ Some digest → IsNamed h.hashed digest m
+shows_named h m digest shows is = record { stands = subst (λ (d : List ℕ). Stands (form_of One) d m) (some_once h.stores.tree.top shows.digest digest shows.top is) shows.stands; texts = shows.texts }
+
+-- and a tree shows the map that its root names
+pub named_shows : (h : Held) (m : List Entry) (digest : List ℕ) → h.stores.tree.top ≡ Some digest → IsNamed h.hashed digest m → Shows h m
+named_shows h m digest is named = record { digest = digest; top = is; stands = named.stands; texts = named.texts }
 
 -- ## Lists of top records
 
@@ -92,16 +102,16 @@ is_torn m h w digest named (inr is) = (refl, inr (record { digest = digest; tops
 -- ## Entering
 
 -- the digest to which an entering leads names the map with the entry
-put_named : (strings : List (List ℕ)) (h : Held) (m : List Entry) (e : Entry) (digest : List ℕ) (now : List (List ℕ)) (new : List ℕ) → AreFree strings → AreAmong now strings → Shows h m → Stands sixteen digest m → IsEntry e → length (put e m) < 2 ^ 32
-    → LeadsTo (insert_plan sixteen (Some digest) e) h.stores.tree.store h.hashed now new → IsNamed now new (put e m)
+put_named : (strings : List (List ℕ)) (h : Held) (m : List Entry) (e : Entry) (digest : List ℕ) (now : List (List ℕ)) (new : List ℕ) → AreFree strings → AreAmong now strings → Shows h m → Stands (form_of One) digest m → IsEntry e → length (put e m) < 2 ^ 32
+    → LeadsTo (insert_plan (form_of One) (Some digest) e) h.stores.tree.store h.hashed now new → IsNamed now new (put e m)
 put_named strings h m e digest now new free among shows stands fits few leads =
     let apart = apart_of strings now h.hashed leads.strings m free among leads.grew shows.texts in
     record {
-      stands = insert_stands sixteen sixteen_laws would digest e m h.stores.tree.store leads.last leads.strings new stands fits few apart leads.came;
-      texts = λ x n. known x (insert_nodes sixteen sixteen_laws would digest e m h.stores.tree.store leads.last leads.strings new stands apart leads.came x n);
+      stands = insert_stands (form_of One) (form_laws One) would digest e m h.stores.tree.store leads.last leads.strings new stands fits few apart leads.came;
+      texts = λ x n. known x (insert_nodes (form_of One) (form_laws One) would digest e m h.stores.tree.store leads.last leads.strings new stands apart leads.came x n);
     }
   where
-    known : (x : List ℕ) → (x ∈ leads.strings) ⊎ IsNode sixteen sixteen.depth root m x → x ∈ now
+    known : (x : List ℕ) → (x ∈ leads.strings) ⊎ IsNode (form_of One) (form_of One).depth root m x → x ∈ now
     known x (inl i) = subst (λ zs. x ∈ zs) (sym leads.grew) (in_right h.hashed leads.strings x i)
     known x (inr n) = subst (λ zs. x ∈ zs) (sym leads.grew) (in_left h.hashed leads.strings x (shows.texts x n))
 
@@ -112,16 +122,16 @@ entered_end h m e p w (Came new) named shows (leads, is) = is_written (put e m) 
 entered_end h m e p w (Broke at) named shows is = (shows, is)
 entered_end h m e p w Failed named shows (new, leads, either) = is_torn (put e m) h w new (named new leads) either
 
-entered_from : (strings : List (List ℕ)) (h : Held) (m : List Entry) (e : Entry) (digest : List ℕ) → AreFree strings → AreAmong (walked (insert_plan sixteen (Some digest) e) h).hashed strings → Shows h m → Stands sixteen digest m → IsEntry e → length (put e m) < 2 ^ 32
-    → HasEntered e m h (entered (walked (insert_plan sixteen (Some digest) e) h).end) (with_tree (root_after h.stores.tree.top (walked (insert_plan sixteen (Some digest) e) h).end) (walked (insert_plan sixteen (Some digest) e) h) h)
+entered_from : (strings : List (List ℕ)) (h : Held) (m : List Entry) (e : Entry) (digest : List ℕ) → AreFree strings → AreAmong (walked (insert_plan (form_of One) (Some digest) e) h).hashed strings → Shows h m → Stands (form_of One) digest m → IsEntry e → length (put e m) < 2 ^ 32
+    → HasEntered e m h (entered (walked (insert_plan (form_of One) (Some digest) e) h).end) (with_tree (root_after h.stores.tree.top (walked (insert_plan (form_of One) (Some digest) e) h).end) (walked (insert_plan (form_of One) (Some digest) e) h) h)
 entered_from strings h m e digest free among shows stands fits few =
-    let p : Plan (List ℕ) = insert_plan sixteen (Some digest) e in
+    let p : Plan (List ℕ) = insert_plan (form_of One) (Some digest) e in
     entered_end h m e p (walked p h) (walked p h).end (λ new leads. put_named strings h m e digest (walked p h).hashed new free among shows stands fits few leads) (still_shows p h m shows)
-    (walk_leaves p h.stores.tree.store h.hashed (insert_last sixteen (Some digest) e))
+    (walk_leaves p h.stores.tree.store h.hashed (insert_last (form_of One) (Some digest) e))
 
 pub enters : EntersTops
 enters strings h m e free among shows fits few =
-    subst (λ (top : Option (List ℕ)). AreAmong (walked (insert_plan sixteen top e) h).hashed strings → HasEntered e m h (entered (walked (insert_plan sixteen top e) h).end) (with_tree (root_after h.stores.tree.top (walked (insert_plan sixteen top e) h).end) (walked (insert_plan sixteen top e) h) h)) (sym shows.top)
+    subst (λ (top : Option (List ℕ)). AreAmong (walked (insert_plan (form_of One) top e) h).hashed strings → HasEntered e m h (entered (walked (insert_plan (form_of One) top e) h).end) (with_tree (root_after h.stores.tree.top (walked (insert_plan (form_of One) top e) h).end) (walked (insert_plan (form_of One) top e) h) h)) (sym shows.top)
     (λ a. entered_from strings h m e shows.digest free a shows shows.stands fits few) among
 
 -- ## A new tree
@@ -134,21 +144,21 @@ built_end h m p w (Broke at) named is = (refl, inl is)
 built_end h m p w Failed named (new, leads, either) = is_torn m h w new (named new leads) either
 
 pub makes : MakesTops
-makes h = built_end h [] (fresh_plan sixteen) (walked (fresh_plan sixteen) h) (walked (fresh_plan sixteen) h).end named (walk_leaves (fresh_plan sixteen) h.stores.tree.store h.hashed (fresh_last sixteen))
+makes h = built_end h [] (fresh_plan (form_of One)) (walked (fresh_plan (form_of One)) h) (walked (fresh_plan (form_of One)) h).end named (walk_leaves (fresh_plan (form_of One)) h.stores.tree.store h.hashed (fresh_last (form_of One)))
   where
-    named : (new : List ℕ) → LeadsTo (fresh_plan sixteen) h.stores.tree.store h.hashed (walked (fresh_plan sixteen) h).hashed new → IsNamed (walked (fresh_plan sixteen) h).hashed new []
+    named : (new : List ℕ) → LeadsTo (fresh_plan (form_of One)) h.stores.tree.store h.hashed (walked (fresh_plan (form_of One)) h).hashed new → IsNamed (walked (fresh_plan (form_of One)) h).hashed new []
     named new leads = record {
-      stands = fresh_stands would sixteen new h.stores.tree.store leads.last leads.strings leads.came;
-      texts = λ x n. subst (λ zs. x ∈ zs) (sym leads.grew) (in_right h.hashed leads.strings x (fresh_nodes would sixteen new h.stores.tree.store leads.last leads.strings leads.came x n));
+      stands = fresh_stands would (form_of One) new h.stores.tree.store leads.last leads.strings leads.came;
+      texts = λ x n. subst (λ zs. x ∈ zs) (sym leads.grew) (in_right h.hashed leads.strings x (fresh_nodes would (form_of One) new h.stores.tree.store leads.last leads.strings leads.came x n));
     }
 
 pub installs : InstallsTops
-installs h m ok = built_end h m (rebuild_plan sixteen m) (walked (rebuild_plan sixteen m) h) (walked (rebuild_plan sixteen m) h).end named (walk_leaves (rebuild_plan sixteen m) h.stores.tree.store h.hashed (rebuild_last sixteen m))
+installs h m ok = built_end h m (rebuild_plan (form_of One) m) (walked (rebuild_plan (form_of One) m) h) (walked (rebuild_plan (form_of One) m) h).end named (walk_leaves (rebuild_plan (form_of One) m) h.stores.tree.store h.hashed (rebuild_last (form_of One) m))
   where
-    named : (new : List ℕ) → LeadsTo (rebuild_plan sixteen m) h.stores.tree.store h.hashed (walked (rebuild_plan sixteen m) h).hashed new → IsNamed (walked (rebuild_plan sixteen m) h).hashed new m
+    named : (new : List ℕ) → LeadsTo (rebuild_plan (form_of One) m) h.stores.tree.store h.hashed (walked (rebuild_plan (form_of One) m) h).hashed new → IsNamed (walked (rebuild_plan (form_of One) m) h).hashed new m
     named new leads = record {
-      stands = rebuild_stands would sixteen sixteen_laws m new h.stores.tree.store leads.last leads.strings ok leads.came;
-      texts = λ x n. subst (λ zs. x ∈ zs) (sym leads.grew) (in_right h.hashed leads.strings x (rebuild_nodes would sixteen sixteen_laws m new h.stores.tree.store leads.last leads.strings leads.came x n));
+      stands = rebuild_stands would (form_of One) (form_laws One) m new h.stores.tree.store leads.last leads.strings ok leads.came;
+      texts = λ x n. subst (λ zs. x ∈ zs) (sym leads.grew) (in_right h.hashed leads.strings x (rebuild_nodes would (form_of One) (form_laws One) m new h.stores.tree.store leads.last leads.strings leads.came x n));
     }
 
 pub opens : OpensMaps
@@ -171,11 +181,11 @@ pub keeps : KeepsTops
 keeps Load h k = (refl, λ is. is)
 keeps (Save fact) h k = after_saving fact h (KeepsThem h) (λ facts. (refl, λ is. is))
 keeps FreshTree h k = absurd k
-keeps OpenTree h k = absurd k
-keeps (Find key) h k = reads_them (get_plan sixteen h.stores.tree.top key) h (get_only h.stores.tree.top key)
+keeps (OpenTree seal) h k = absurd k
+keeps (Find key) h k = reads_them (get_plan (form_of One) h.stores.tree.top key) h (get_only h.stores.tree.top key)
 keeps (Enter entry) h k = absurd k
-keeps ScanTree h k = reads_them (scan_plan sixteen h.stores.tree.top) h (scan_only h.stores.tree.top)
-keeps (ReadNode at) h k = reads_them (node_plan sixteen h.stores.tree.top at) h (node_only h.stores.tree.top at)
+keeps ScanTree h k = reads_them (scan_plan (form_of One) h.stores.tree.top) h (scan_only h.stores.tree.top)
+keeps (ReadNode at) h k = reads_them (node_plan (form_of One) h.stores.tree.top at) h (node_only h.stores.tree.top at)
 keeps (Install entries) h k = absurd k
 keeps (Fetch key) h k = (refl, λ is. is)
 keeps (Put key bytes) h k = after_putting key bytes h (KeepsThem h) (λ objects. (refl, λ is. is))

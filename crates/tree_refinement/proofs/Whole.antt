@@ -10,6 +10,7 @@ use Rattle.held_stores.specs.Walks.{walk}
 use Rattle.step_plans.specs.Calls.{Load, Save, FreshTree, OpenTree, Find, Enter, ScanTree, ReadNode, Install, Fetch, Put, Hash}
 use Rattle.step_plans.specs.declared.error.PeerError.TheVariants.{StoreFault}
 use Rattle.step_plans.specs.declared.walked.Walked.TheVariants.{Reached}
+use Rattle.tree_node.specs.declared.version.TreeVersion.TheVariants.{One}
 use Rattle.synctree.specs.Nodes.{node_plan}
 use Rattle.synctree.specs.Plans.{Plan}
 use Rattle.synctree.specs.Trees.{fresh_plan, get_plan, insert_plan}
@@ -17,9 +18,9 @@ use Rattle.synctree.proofs.Places.{place_of}
 use Rattle.tree_maps.specs.Entries.{lookup, put}
 use Rattle.tree_maps.specs.Forms.{root}
 use Rattle.tree_maps.specs.Paths.{node_of}
-use Rattle.tree_maps.specs.Sixteen.{sixteen}
+use Rattle.tree_maps.specs.Sixteen.{form_of}
 use Rattle.tree_maps.proofs.Below.{every}
-use Rattle.tree_maps.proofs.Formats.{sixteen_laws}
+use Rattle.tree_maps.proofs.Formats.{form_laws}
 use Rattle.tree_node.specs.declared.body.Scan.{Scan}
 use Rattle.tree_node.specs.declared.position.Position.{Position}
 use Rattle.tree_repair.specs.Rebuilds.{rebuild_plan}
@@ -47,7 +48,7 @@ serves Load h none = refl
 serves (Save fact) h none = served h.stores.facts.faults.pending (record { result = Ok tt; held = with_facts (record h.stores.facts { kept = Some fact }) h })
     (λ leaves. record { result = Err StoreFault; held = with_facts (facts_failed h.stores.facts (record h.stores.facts { kept = Some fact }) leaves) h }) none.facts
 serves FreshTree h none = tt
-serves OpenTree h none = tt
+serves (OpenTree seal) h none = tt
 serves (Find key) h none = tt
 serves (Enter entry) h none = tt
 serves ScanTree h none = tt
@@ -62,31 +63,31 @@ serves (Hash bytes) h none = refl
 
 pub finds : FindsAll
 finds h m key whole =
-    subst (λ (top : Option (List ℕ)). looked (walked (get_plan sixteen top key) h).end ≡ Ok (Reached (lookup key m))) (sym whole.shows.top)
-    (ap looked (told (get_plan sixteen (Some whole.shows.digest) key) h.stores.tree.store h.hashed (lookup key m)
-    (get_tells (walked (get_plan sixteen (Some whole.shows.digest) key) h).hashed sixteen sixteen_laws h.stores.tree.store whole.shows.digest key m whole.shows.stands whole.stored)))
+    subst (λ (top : Option (List ℕ)). looked (walked (get_plan (form_of One) top key) h).end ≡ Ok (Reached (lookup key m))) (sym whole.shows.top)
+    (ap looked (told (get_plan (form_of One) (Some whole.shows.digest) key) h.stores.tree.store h.hashed (lookup key m)
+    (get_tells (walked (get_plan (form_of One) (Some whole.shows.digest) key) h).hashed (form_of One) (form_laws One) h.stores.tree.store whole.shows.digest key m whole.shows.stands whole.stored)))
 
 pub reads : ReadsAll
 reads h m at is whole =
-    subst (λ (top : Option (List ℕ)). looked (walked (node_plan sixteen top at) h).end ≡ Ok (Reached (node_of sixteen at m))) (sym whole.shows.top)
-    (ap looked (told (node_plan sixteen (Some whole.shows.digest) at) h.stores.tree.store h.hashed (node_of sixteen at m)
-    (node_tells (walked (node_plan sixteen (Some whole.shows.digest) at) h).hashed sixteen sixteen_laws h.stores.tree.store (3 - at.level) at m whole.shows.digest (place_of at is) whole.shows.stands whole.stored)))
+    subst (λ (top : Option (List ℕ)). looked (walked (node_plan (form_of One) top at) h).end ≡ Ok (Reached (node_of (form_of One) at m))) (sym whole.shows.top)
+    (ap looked (told (node_plan (form_of One) (Some whole.shows.digest) at) h.stores.tree.store h.hashed (node_of (form_of One) at m)
+    (node_tells (walked (node_plan (form_of One) (Some whole.shows.digest) at) h).hashed (form_of One) (form_laws One) h.stores.tree.store (3 - at.level) at m whole.shows.digest (place_of One at is) whole.shows.stands whole.stored)))
 
 -- entries without damage are all entries
-all_entries : (m : List Entry) (scan : Scan) → scan.damaged ≡ [] → scan.entries ≡ filter (λ e. not (lost sixteen scan.damaged e.key)) m → scan ≡ record { entries = m; damaged = [] }
+all_entries : (m : List Entry) (scan : Scan) → scan.damaged ≡ [] → scan.entries ≡ filter (λ e. not (lost (form_of One) scan.damaged e.key)) m → scan ≡ record { entries = m; damaged = [] }
 all_entries m scan none is =
-    let all : scan.entries ≡ m = is ∙ ap (λ (ps : List Position). filter (λ e. not (lost sixteen ps e.key)) m) none ∙ every m in
+    let all : scan.entries ≡ m = is ∙ ap (λ (ps : List Position). filter (λ e. not (lost (form_of One) ps e.key)) m) none ∙ every m in
     λ i. record { entries = all i; damaged = none i }
 
 pub scans : ScansAll
 scans strings h m free among whole = ap all_of came.came ∙ ap Ok (all_entries m came.value came.held found)
   where
-    came : Arrives (walked (scan_plan sixteen h.stores.tree.top) h) (λ scan t. scan.damaged ≡ [])
-    came = subst (λ (top : Option (List ℕ)). Arrives (walked (scan_plan sixteen top) h) (λ (scan : Scan) t. scan.damaged ≡ [])) (sym whole.shows.top)
-        (arrives (walked (scan_plan sixteen (Some whole.shows.digest)) h).hashed (scan_plan sixteen (Some whole.shows.digest)) h.stores.tree.store h.hashed (λ (scan : Scan) t. scan.damaged ≡ [])
-        (scan_reaches (walked (scan_plan sixteen (Some whole.shows.digest)) h).hashed sixteen sixteen_laws h.stores.tree.store whole.shows.digest m whole.shows.stands whole.stored) (λ x i. i))
+    came : Arrives (walked (scan_plan (form_of One) h.stores.tree.top) h) (λ scan t. scan.damaged ≡ [])
+    came = subst (λ (top : Option (List ℕ)). Arrives (walked (scan_plan (form_of One) top) h) (λ (scan : Scan) t. scan.damaged ≡ [])) (sym whole.shows.top)
+        (arrives (walked (scan_plan (form_of One) (Some whole.shows.digest)) h).hashed (scan_plan (form_of One) (Some whole.shows.digest)) h.stores.tree.store h.hashed (λ (scan : Scan) t. scan.damaged ≡ [])
+        (scan_reaches (walked (scan_plan (form_of One) (Some whole.shows.digest)) h).hashed (form_of One) (form_laws One) h.stores.tree.store whole.shows.digest m whole.shows.stands whole.stored) (λ x i. i))
 
-    found : came.value.entries ≡ filter (λ e. not (lost sixteen came.value.damaged e.key)) m
+    found : came.value.entries ≡ filter (λ e. not (lost (form_of One) came.value.damaged e.key)) m
     found = subst (IsScanned m) (ap all_of came.came) (keeping.scans strings h m free among whole.shows)
 
 -- ## Entering
@@ -101,10 +102,10 @@ enters strings h m e free among fits few whole = (
   },
 )
   where
-    came : Arrives (walked (insert_plan sixteen h.stores.tree.top e) h) (λ new t. AreStored t sixteen sixteen.depth root (put e m) × (t.faults ≡ h.stores.tree.store.faults))
-    came = subst (λ (top : Option (List ℕ)). AreAmong (walked (insert_plan sixteen top e) h).hashed strings → Arrives (walked (insert_plan sixteen top e) h) (λ new t. AreStored t sixteen sixteen.depth root (put e m) × (t.faults ≡ h.stores.tree.store.faults))) (sym whole.shows.top)
-        (λ a. arrives strings (insert_plan sixteen (Some whole.shows.digest) e) h.stores.tree.store h.hashed (λ new t. AreStored t sixteen sixteen.depth root (put e m) × (t.faults ≡ h.stores.tree.store.faults))
-        (insert_reaches strings free sixteen sixteen_laws whole.shows.digest e m h.stores.tree.store whole.no_faults.tree whole.shows.stands (λ x n. (among x (grows (Enter e) h x (whole.shows.texts x n)), whole.stored x n))) a) among
+    came : Arrives (walked (insert_plan (form_of One) h.stores.tree.top e) h) (λ new t. AreStored t (form_of One) (form_of One).depth root (put e m) × (t.faults ≡ h.stores.tree.store.faults))
+    came = subst (λ (top : Option (List ℕ)). AreAmong (walked (insert_plan (form_of One) top e) h).hashed strings → Arrives (walked (insert_plan (form_of One) top e) h) (λ new t. AreStored t (form_of One) (form_of One).depth root (put e m) × (t.faults ≡ h.stores.tree.store.faults))) (sym whole.shows.top)
+        (λ a. arrives strings (insert_plan (form_of One) (Some whole.shows.digest) e) h.stores.tree.store h.hashed (λ new t. AreStored t (form_of One) (form_of One).depth root (put e m) × (t.faults ≡ h.stores.tree.store.faults))
+        (insert_reaches strings free (form_of One) (form_laws One) whole.shows.digest e m h.stores.tree.store whole.no_faults.tree whole.shows.stands (λ x n. (among x (grows (Enter e) h x (whole.shows.texts x n)), whole.stored x n))) a) among
 
     result : (answered (Enter e) h).result ≡ Ok (Reached tt)
     result = ap entered came.came
@@ -121,9 +122,9 @@ makes h none = (
   },
 )
   where
-    came : Arrives (walked (fresh_plan sixteen) h) (λ new t. AreStored t sixteen sixteen.depth root [] × (t.faults ≡ h.stores.tree.store.faults))
-    came = arrives (walked (fresh_plan sixteen) h).hashed (fresh_plan sixteen) h.stores.tree.store h.hashed (λ new t. AreStored t sixteen sixteen.depth root [] × (t.faults ≡ h.stores.tree.store.faults))
-        (fresh_reaches (walked (fresh_plan sixteen) h).hashed sixteen h.stores.tree.store none.tree) (λ x i. i)
+    came : Arrives (walked (fresh_plan (form_of One)) h) (λ new t. AreStored t (form_of One) (form_of One).depth root [] × (t.faults ≡ h.stores.tree.store.faults))
+    came = arrives (walked (fresh_plan (form_of One)) h).hashed (fresh_plan (form_of One)) h.stores.tree.store h.hashed (λ new t. AreStored t (form_of One) (form_of One).depth root [] × (t.faults ≡ h.stores.tree.store.faults))
+        (fresh_reaches (walked (fresh_plan (form_of One)) h).hashed (form_of One) h.stores.tree.store none.tree) (λ x i. i)
 
     result : (answered FreshTree h).result ≡ Ok tt
     result = ap done came.came
@@ -138,9 +139,9 @@ installs strings h m free among ok none = (
   },
 )
   where
-    came : Arrives (walked (rebuild_plan sixteen m) h) (λ new t. AreStored t sixteen sixteen.depth root m × (t.faults ≡ h.stores.tree.store.faults))
-    came = arrives strings (rebuild_plan sixteen m) h.stores.tree.store h.hashed (λ new t. AreStored t sixteen sixteen.depth root m × (t.faults ≡ h.stores.tree.store.faults))
-        (rebuild_reaches strings free sixteen sixteen_laws m h.stores.tree.store none.tree) among
+    came : Arrives (walked (rebuild_plan (form_of One) m) h) (λ new t. AreStored t (form_of One) (form_of One).depth root m × (t.faults ≡ h.stores.tree.store.faults))
+    came = arrives strings (rebuild_plan (form_of One) m) h.stores.tree.store h.hashed (λ new t. AreStored t (form_of One) (form_of One).depth root m × (t.faults ≡ h.stores.tree.store.faults))
+        (rebuild_reaches strings free (form_of One) (form_laws One) m h.stores.tree.store none.tree) among
 
     result : (answered (Install m) h).result ≡ Ok tt
     result = ap done came.came
@@ -164,20 +165,20 @@ still_whole p h m only shows whole =
     let stay = nodes_stay p h.stores.tree.store h.hashed only in
     record {
       shows = shows;
-      stored = subst (λ (s : Nodes). AreStored s sixteen sixteen.depth root m) (sym stay) whole.stored;
+      stored = subst (λ (s : Nodes). AreStored s (form_of One) (form_of One).depth root m) (sym stay) whole.stored;
       no_faults = record { facts = whole.no_faults.facts; backend = whole.no_faults.backend; tree = ap (λ (s : Nodes). s.faults.pending) stay ∙ whole.no_faults.tree };
     }
 
-pub get_only : (top : Option (List ℕ)) (key : List ℕ) → OnlyReads (get_plan sixteen top key)
+pub get_only : (top : Option (List ℕ)) (key : List ℕ) → OnlyReads (get_plan (form_of One) top key)
 get_only None key = (tt, λ a. tt)
-get_only (Some digest) key = get_reads sixteen digest key
+get_only (Some digest) key = get_reads (form_of One) digest key
 
-pub node_only : (top : Option (List ℕ)) (at : Position) → OnlyReads (node_plan sixteen top at)
+pub node_only : (top : Option (List ℕ)) (at : Position) → OnlyReads (node_plan (form_of One) top at)
 node_only None at = tt
-node_only (Some digest) at = node_reads sixteen digest at
+node_only (Some digest) at = node_reads (form_of One) digest at
 
-pub scan_only : (top : Option (List ℕ)) → OnlyReads (scan_plan sixteen top)
-scan_only top = comes_reads (scan_plan sixteen top) (scan_comes sixteen sixteen.depth (slot root top ∷ []))
+pub scan_only : (top : Option (List ℕ)) → OnlyReads (scan_plan (form_of One) top)
+scan_only top = comes_reads (scan_plan (form_of One) top) (scan_comes (form_of One) (form_of One).depth (slot root top ∷ []))
 
 pub keeps : KeepsWhole
 keeps Load h m k whole = whole
@@ -187,11 +188,11 @@ keeps (Save fact) h m k whole = subst (λ (a : Answered (Save fact)). IsWhole a.
   no_faults = record { facts = whole.no_faults.facts; backend = whole.no_faults.backend; tree = whole.no_faults.tree };
 })
 keeps FreshTree h m k whole = absurd k
-keeps OpenTree h m k whole = absurd k
-keeps (Find key) h m k whole = still_whole (get_plan sixteen h.stores.tree.top key) h m (get_only h.stores.tree.top key) (keeping.keeps (Find key) h m tt whole.shows) whole
+keeps (OpenTree seal) h m k whole = absurd k
+keeps (Find key) h m k whole = still_whole (get_plan (form_of One) h.stores.tree.top key) h m (get_only h.stores.tree.top key) (keeping.keeps (Find key) h m tt whole.shows) whole
 keeps (Enter entry) h m k whole = absurd k
-keeps ScanTree h m k whole = still_whole (scan_plan sixteen h.stores.tree.top) h m (scan_only h.stores.tree.top) (keeping.keeps ScanTree h m tt whole.shows) whole
-keeps (ReadNode at) h m k whole = still_whole (node_plan sixteen h.stores.tree.top at) h m (node_only h.stores.tree.top at) (keeping.keeps (ReadNode at) h m tt whole.shows) whole
+keeps ScanTree h m k whole = still_whole (scan_plan (form_of One) h.stores.tree.top) h m (scan_only h.stores.tree.top) (keeping.keeps ScanTree h m tt whole.shows) whole
+keeps (ReadNode at) h m k whole = still_whole (node_plan (form_of One) h.stores.tree.top at) h m (node_only h.stores.tree.top at) (keeping.keeps (ReadNode at) h m tt whole.shows) whole
 keeps (Install entries) h m k whole = absurd k
 keeps (Fetch key) h m k whole = whole
 keeps (Put key bytes) h m k whole = subst (λ (a : Answered (Put key bytes)). IsWhole a.held m) (sym (serves (Put key bytes) h whole.no_faults)) (record {
@@ -207,20 +208,21 @@ keeps (Hash bytes) h m k whole = record { shows = keeping.keeps (Hash bytes) h m
 still_recorded : {A : Type 0} (p : Plan A) (h : Held) → OnlyReads p → IsRecorded h → IsRecorded (with_tree h.stores.tree.top (walked p h) h)
 still_recorded p h only is = ap (λ (s : Nodes). top_of s.tops) (nodes_stay p h.stores.tree.store h.hashed only) ∙ is
 
-open_recorded : (h : Held) → IsRecorded (answered OpenTree h).held
+open_recorded : (h : Held) → IsRecorded (answered (OpenTree None) h).held
 unfolding walk
 open_recorded h = refl
 
 pub records : KeepsRecord
-records Load h none is = is
-records (Save fact) h none is = subst (λ (a : Answered (Save fact)). IsRecorded a.held) (sym (serves (Save fact) h none)) is
-records FreshTree h none is = root_recorded (fresh_plan sixteen) h.stores.tree.store h.hashed h.stores.tree.top none.tree (fresh_last sixteen) is
-records OpenTree h none is = open_recorded h
-records (Find key) h none is = still_recorded (get_plan sixteen h.stores.tree.top key) h (get_only h.stores.tree.top key) is
-records (Enter e) h none is = root_recorded (insert_plan sixteen h.stores.tree.top e) h.stores.tree.store h.hashed h.stores.tree.top none.tree (insert_last sixteen h.stores.tree.top e) is
-records ScanTree h none is = still_recorded (scan_plan sixteen h.stores.tree.top) h (scan_only h.stores.tree.top) is
-records (ReadNode at) h none is = still_recorded (node_plan sixteen h.stores.tree.top at) h (node_only h.stores.tree.top at) is
-records (Install entries) h none is = root_recorded (rebuild_plan sixteen entries) h.stores.tree.store h.hashed h.stores.tree.top none.tree (rebuild_last sixteen entries) is
-records (Fetch key) h none is = is
-records (Put key bytes) h none is = subst (λ (a : Answered (Put key bytes)). IsRecorded a.held) (sym (serves (Put key bytes) h none)) is
-records (Hash bytes) h none is = is
+records Load h none own is = is
+records (Save fact) h none own is = subst (λ (a : Answered (Save fact)). IsRecorded a.held) (sym (serves (Save fact) h none)) is
+records FreshTree h none own is = root_recorded (fresh_plan (form_of One)) h.stores.tree.store h.hashed h.stores.tree.top none.tree (fresh_last (form_of One)) is
+records (OpenTree None) h none own is = open_recorded h
+records (OpenTree (Some seal)) h none own is = absurd own
+records (Find key) h none own is = still_recorded (get_plan (form_of One) h.stores.tree.top key) h (get_only h.stores.tree.top key) is
+records (Enter e) h none own is = root_recorded (insert_plan (form_of One) h.stores.tree.top e) h.stores.tree.store h.hashed h.stores.tree.top none.tree (insert_last (form_of One) h.stores.tree.top e) is
+records ScanTree h none own is = still_recorded (scan_plan (form_of One) h.stores.tree.top) h (scan_only h.stores.tree.top) is
+records (ReadNode at) h none own is = still_recorded (node_plan (form_of One) h.stores.tree.top at) h (node_only h.stores.tree.top at) is
+records (Install entries) h none own is = root_recorded (rebuild_plan (form_of One) entries) h.stores.tree.store h.hashed h.stores.tree.top none.tree (rebuild_last (form_of One) entries) is
+records (Fetch key) h none own is = is
+records (Put key bytes) h none own is = subst (λ (a : Answered (Put key bytes)). IsRecorded a.held) (sym (serves (Put key bytes) h none)) is
+records (Hash bytes) h none own is = is

@@ -11,9 +11,10 @@ use Rattle.step_plans.specs.declared.error.PeerError.{PeerError}
 use Rattle.step_plans.specs.declared.error.PeerError.TheVariants.{StoreFault}
 use Rattle.step_plans.specs.declared.walked.Walked.{Walked}
 use Rattle.step_plans.specs.declared.walked.Walked.TheVariants.{Reached, Broken}
+use Rattle.tree_node.specs.declared.version.TreeVersion.TheVariants.{One}
 use Rattle.tree_maps.specs.Entries.{IsMap, lookup, put}
 use Rattle.tree_maps.specs.Paths.{node_of}
-use Rattle.tree_maps.specs.Sixteen.{sixteen}
+use Rattle.tree_maps.specs.Sixteen.{form_of}
 use Rattle.tree_node.specs.Positions.{IsPosition}
 use Rattle.tree_node.specs.declared.body.Scan.{Scan}
 use Rattle.tree_node.specs.declared.position.Position.{Position}
@@ -34,11 +35,11 @@ FindsEntries = (strings : List (List ℕ)) (h : Held) (m : List Entry) (key : Li
 -- a read returns the text of the node at the position in the tree of the map, or none if the
 -- position is empty there
 abbrev pub ReadsNodes : Type 0
-ReadsNodes = (strings : List (List ℕ)) (h : Held) (m : List Entry) (at : Position) → AreFree strings → AreAmong (answered (ReadNode at) h).held.hashed strings → Shows h m → IsPosition at → IsReached (node_of sixteen at m) (answered (ReadNode at) h).result
+ReadsNodes = (strings : List (List ℕ)) (h : Held) (m : List Entry) (at : Position) → AreFree strings → AreAmong (answered (ReadNode at) h).held.hashed strings → Shows h m → IsPosition One at → IsReached (node_of (form_of One) at m) (answered (ReadNode at) h).result
 
 -- the entries of the map whose paths go through no damaged position
 abbrev pub IsScanned : List Entry → Result Scan PeerError → Type 0
-IsScanned m (Ok scan) = scan.entries ≡ filter (λ e. not (lost sixteen scan.damaged e.key)) m
+IsScanned m (Ok scan) = scan.entries ≡ filter (λ e. not (lost (form_of One) scan.damaged e.key)) m
 IsScanned m (Err e) = ⊥
 
 -- a scan returns the entries of the map, but for those below a damaged position
@@ -74,7 +75,7 @@ InstallsMaps = (h : Held) (entries : List Entry) → IsMap entries → IsMade en
 -- a call that gives the tree no other root
 abbrev pub KeepsRoot : Call → Type 0
 KeepsRoot FreshTree = ⊥
-KeepsRoot OpenTree = ⊥
+KeepsRoot (OpenTree seal) = ⊥
 KeepsRoot (Enter entry) = ⊥
 KeepsRoot (Install entries) = ⊥
 KeepsRoot call = Unit {0}

@@ -1,5 +1,5 @@
 -- The top records of a tree over nodes in memory, and what each call does to them.
-use Rattle.std.specs.Prelude.{◌≡◌, ◌<◌, ◌^◌, ◌⊎◌, ℕ, List, [], ◌∷◌, ◌++◌, Result, Ok, Err, Some, length}
+use Rattle.std.specs.Prelude.{◌≡◌, ◌<◌, ◌^◌, ◌⊎◌, ℕ, List, [], ◌∷◌, ◌++◌, Result, Ok, Err, None, Some, length}
 use Rattle.ens_base.specs.declared.entry.Entry.{Entry}
 use Rattle.ens_base.specs.Lists.{◌∈◌}
 use Rattle.ens_fields.specs.Entries.{IsEntry}
@@ -10,10 +10,11 @@ use Rattle.step_plans.specs.declared.error.PeerError.{PeerError}
 use Rattle.step_plans.specs.declared.error.PeerError.TheVariants.{StoreFault}
 use Rattle.step_plans.specs.declared.walked.Walked.{Walked}
 use Rattle.step_plans.specs.declared.walked.Walked.TheVariants.{Reached, Broken}
+use Rattle.tree_node.specs.declared.version.TreeVersion.TheVariants.{One}
 use Rattle.tree_maps.specs.Entries.{IsMap, put}
 use Rattle.tree_maps.specs.Forms.{root}
 use Rattle.tree_maps.specs.Maps.{IsNode, Stands}
-use Rattle.tree_maps.specs.Sixteen.{sixteen}
+use Rattle.tree_maps.specs.Sixteen.{form_of}
 use Rattle.world_stores.specs.Nodes.{top_of}
 use Rattle.tree_refinement.specs.Laws.{KeepsRoot}
 use Rattle.tree_refinement.specs.Trees.{AreAmong, AreFree, Shows}
@@ -25,8 +26,8 @@ tops_of s = s.tree.store.tops
 
 -- the map stands under the digest, and the text of each of its nodes was hashed
 pub record IsNamed (hashed : List (List ℕ)) (digest : List ℕ) (m : List Entry) : Type 0 where
-  pub stands : Stands sixteen digest m
-  pub texts : (node : List ℕ) → IsNode sixteen sixteen.depth root m node → node ∈ hashed
+  pub stands : Stands (form_of One) digest m
+  pub texts : (node : List ℕ) → IsNode (form_of One) (form_of One).depth root m node → node ∈ hashed
 
 -- one more top record was written, and it names the map
 pub record NamesNext (m : List Entry) (h t : Held) : Type 0 where
@@ -71,7 +72,7 @@ pub record HasOpened (m : List Entry) (h t : Held) : Type 0 where
   pub tops : tops_of t.stores ≡ tops_of h.stores
 
 abbrev pub OpensMaps : Type 0
-OpensMaps = (h : Held) (m : List Entry) (digest : List ℕ) → top_of (tops_of h.stores) ≡ Some digest → IsNamed h.hashed digest m → ((answered OpenTree h).result ≡ Ok tt) × HasOpened m h (answered OpenTree h).held
+OpensMaps = (h : Held) (m : List Entry) (digest : List ℕ) → top_of (tops_of h.stores) ≡ Some digest → IsNamed h.hashed digest m → ((answered (OpenTree None) h).result ≡ Ok tt) × HasOpened m h (answered (OpenTree None) h).held
 
 -- a call that gives the tree no other root writes no top record, and leaves the root recorded
 abbrev pub KeepsTops : Type 0

@@ -8,6 +8,7 @@ use Rattle.ens_outside.specs.Maps.{Entries, value_at, with_value}
 use Rattle.held_stores.specs.Answers.{Answered, answered, with_facts, with_backend}
 use Rattle.held_stores.specs.Held.{Held, HeldStores, and_hashed}
 use Rattle.md5.specs.Md5.{md5}
+use Rattle.tree_node.specs.declared.version.TreeVersion.TheVariants.{One}
 use Rattle.node_faults.specs.Laws.{HoldsMap}
 use Rattle.step_plans.specs.Calls.{Call, Load, Save, FreshTree, OpenTree, Find, Enter, ScanTree, ReadNode, Install, Fetch, Put, Hash}
 use Rattle.step_plans.specs.declared.walked.Walked.TheVariants.{Reached}
@@ -15,7 +16,7 @@ use Rattle.tree_maps.specs.Entries.{IsMap, lookup, put}
 use Rattle.tree_maps.specs.Forms.{root}
 use Rattle.tree_maps.specs.Maps.{IsNode}
 use Rattle.tree_maps.specs.Paths.{node_of}
-use Rattle.tree_maps.specs.Sixteen.{sixteen}
+use Rattle.tree_maps.specs.Sixteen.{form_of}
 use Rattle.tree_node.specs.Positions.{IsPosition}
 use Rattle.tree_node.specs.declared.position.Position.{Position}
 use Rattle.world_stores.specs.Nodes.{top_of}
@@ -35,7 +36,7 @@ pub record HasNoFaults (s : HeldStores) : Type 0 where
 -- the tree of the peer shows the map, each node of the map is stored, and no failure waits
 pub record IsWhole (h : Held) (m : List Entry) : Type 0 where
   pub shows : Shows h m
-  pub stored : (node : List ℕ) → IsNode sixteen sixteen.depth root m node → IsStored h.stores.tree.store.entries node
+  pub stored : (node : List ℕ) → IsNode (form_of One) (form_of One).depth root m node → IsStored h.stores.tree.store.entries node
   pub no_faults : HasNoFaults h.stores
 
 -- a find returns the entry that the map has for the key, whatever strings were hashed
@@ -45,7 +46,7 @@ FindsAll = (h : Held) (m : List Entry) (key : List ℕ) → IsWhole h m → (ans
 -- and a read the text of the node at the position in the tree of the map, or none if the position
 -- is empty there
 abbrev pub ReadsAll : Type 0
-ReadsAll = (h : Held) (m : List Entry) (at : Position) → IsPosition at → IsWhole h m → (answered (ReadNode at) h).result ≡ Ok (Reached (node_of sixteen at m))
+ReadsAll = (h : Held) (m : List Entry) (at : Position) → IsPosition One at → IsWhole h m → (answered (ReadNode at) h).result ≡ Ok (Reached (node_of (form_of One) at m))
 
 -- A scan returns all entries of the map, and no damage. Here and below, `strings` is any list that
 -- has all strings hashed up to the end of the call.
@@ -70,16 +71,21 @@ MakesWhole = (h : Held) → HasNoFaults h.stores → ((answered FreshTree h).res
 -- an opened tree is whole if a map stands under the top record, and each of its nodes is stored and
 -- was hashed, whatever tree was there
 abbrev pub OpensWhole : Type 0
-OpensWhole = (h : Held) (m : List Entry) → HoldsMap sixteen h.stores.tree.store m → ((node : List ℕ) → IsNode sixteen sixteen.depth root m node → node ∈ h.hashed) → HasNoFaults h.stores
-    → ((answered OpenTree h).result ≡ Ok tt) × IsWhole (answered OpenTree h).held m
+OpensWhole = (h : Held) (m : List Entry) → HoldsMap (form_of One) h.stores.tree.store m → ((node : List ℕ) → IsNode (form_of One) (form_of One).depth root m node → node ∈ h.hashed) → HasNoFaults h.stores
+    → ((answered (OpenTree None) h).result ≡ Ok tt) × IsWhole (answered (OpenTree None) h).held m
 
 -- the top record names the root of the tree
 abbrev pub IsRecorded : Held → Type 0
 IsRecorded h = top_of h.stores.tree.store.tops ≡ h.stores.tree.top
 
--- each call leaves it so, whatever strings were hashed
+-- a call that opens no tree under a seal
+abbrev pub LeavesRecord : Call → Type 0
+LeavesRecord (OpenTree (Some seal)) = ⊥
+LeavesRecord call = Unit {0}
+
+-- each such call leaves it so, whatever strings were hashed
 abbrev pub KeepsRecord : Type 0
-KeepsRecord = (call : Call) (h : Held) → HasNoFaults h.stores → IsRecorded h → IsRecorded (answered call h).held
+KeepsRecord = (call : Call) (h : Held) → HasNoFaults h.stores → LeavesRecord call → IsRecorded h → IsRecorded (answered call h).held
 
 -- a call that gives the tree no other root leaves it whole
 abbrev pub KeepsWhole : Type 0
