@@ -25,6 +25,3 @@ fn main(rt: HostRuntime) -> ExitCode {
     let mut output = WriterSink::new(rt.stdout());
     ExitCode::from(chart(&rt, alloc, &mut input, &mut output).number())
 }
-
-#[cfg(test)]
-mod tests;

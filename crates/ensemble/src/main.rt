@@ -47,12 +47,3 @@ fn main(rt: HostRuntime) -> ExitCode {
     );
     ExitCode::from(status.number())
 }
-
-#[cfg(test)]
-mod generate_tests;
-#[cfg(test)]
-mod memory_tests;
-#[cfg(test)]
-mod replay_tests;
-#[cfg(test)]
-mod tests;
