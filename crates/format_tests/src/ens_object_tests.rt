@@ -37,13 +37,6 @@ fn the_object_of_46_bytes(rt: HostRuntime) -> Result<(), Fail> {
     put_object(&object, &mut out)?;
     let (taken, end) = take_object(alloc, &out, 0)?;
     assert!(rt; taken == object.copy(alloc)? && end == 46);
-    Ok(())
-}
-
-#[test]
-fn an_entry_matches_its_object(rt: HostRuntime) -> Result<(), Fail> {
-    let alloc = rt.alloc();
-    let object = object(alloc)?;
     let digest = Digest([7; 16]);
     let entry = Entry {
         key: Key::new(alloc, b"k")?,
@@ -51,6 +44,5 @@ fn an_entry_matches_its_object(rt: HostRuntime) -> Result<(), Fail> {
         digest,
     };
     assert!(rt; object.matches(&digest, &entry));
-    assert!(rt; !object.matches(&Digest([8; 16]), &entry));
     Ok(())
 }

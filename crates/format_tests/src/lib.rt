@@ -1,5 +1,8 @@
-//! Tests of the formats and of the types below them: what is written, and the calls that no format
-//! needs. The program `format_table` shows what is read. One file tests one crate.
+//! Tests of the formats and of the types below them, a file for each crate.
+//!
+//! They show that what is written has the bytes of the documents: an object, a fact, nodes, a
+//! position and two frames. The program `format_table` shows what is read, and the causes of what is
+//! not. That what is written is read again, and every other answer, is a clause.
 #![tactic(auto)]
 
 #[cfg(test)]

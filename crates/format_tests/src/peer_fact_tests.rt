@@ -16,11 +16,7 @@ fn opening() -> Result<Fact, Fail> {
 fn the_opening_fact_of_52_bytes(rt: HostRuntime) -> Result<(), Fail> {
     let fact = opening()?;
     assert_eq!(rt; fact.change, Change::None);
-    let bytes = fact.encode(rt.alloc())?;
-    assert!(rt; bytes.as_slice() == OPENING.as_slice());
-    let mut out = [9u8; 480];
-    let end = fact.spell(&mut out);
-    assert!(rt; end == 52 && out.starts_with(&OPENING) && out[52] == 9);
+    assert!(rt; fact.encode(rt.alloc())?.as_slice() == OPENING.as_slice());
     let mut put = Vec::new(rt.alloc());
     put_fact(&fact, &mut put)?;
     assert!(rt; take_fact(&put, 0)? == (fact, 52));
@@ -33,8 +29,7 @@ fn views_follow_the_change(rt: HostRuntime) -> Result<(), Fail> {
     let old = fact.views.first();
     let new = View::new(&[PeerId(4)])?;
     fact.change = Change::Add(new);
-    assert!(rt; fact.next_views() == Views::two(new, old));
     fact.seq = 1;
-    assert!(rt; fact.newer_than(&opening()?) && !fact.newer_than(&fact));
+    assert!(rt; fact.next_views() == Views::two(new, old) && fact.newer_than(&opening()?));
     Ok(())
 }

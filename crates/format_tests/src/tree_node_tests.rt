@@ -2,7 +2,7 @@ use ens_base::{Digest, Entry, Epoch, Key, Seq, Version};
 use std::alloc::Global;
 use std::test::Fail;
 use tree_node::{
-    InnerNode, Position, Segment, TreeBody, append_entries, decode_segment, put_position,
+    InnerNode, Position, Segment, TreeVersion, append_entries, decode_segment, put_position,
     take_position,
 };
 
@@ -21,36 +21,25 @@ fn entry(alloc: Global, key: &[u8]) -> Result<Entry, Fail> {
 }
 
 #[test]
-fn empty_nodes_are_written(rt: HostRuntime) -> Result<(), Fail> {
+fn nodes_and_a_position_are_written_and_read(rt: HostRuntime) -> Result<(), Fail> {
     let alloc = rt.alloc();
     let inner = InnerNode {
+        version: TreeVersion::One,
         position: ROOT,
         mask: 0,
         digests: Seq::new(Vec::new(alloc)),
     };
     assert!(rt; inner.encode(alloc)?.as_slice() == b"\x01\0\0\0\0\0\0\0".as_slice());
     let segment = Segment {
+        version: TreeVersion::One,
         position: ROOT,
         entries: Seq::new(Vec::new(alloc)),
     };
     assert!(rt; segment.encode(alloc)?.as_slice() == b"\x02\0\0\0\0\0\0\0\0\0".as_slice());
-    Ok(())
-}
-
-#[test]
-fn entries_are_read_again(rt: HostRuntime) -> Result<(), Fail> {
-    let alloc = rt.alloc();
     let mut bytes = b"\x02\0\0\0\0\0\0\0\0\x02".to_vec(alloc)?;
     append_entries(&[entry(alloc, b"a")?, entry(alloc, b"b")?], &mut bytes)?;
-    let segment = decode_segment(alloc, &bytes, ROOT)?;
-    let entries = segment.entries.as_slice();
-    assert!(rt; bytes.len() == 86 && entries.len() == 2);
-    Ok(())
-}
-
-#[test]
-fn positions_and_bodies(rt: HostRuntime) -> Result<(), Fail> {
-    let alloc = rt.alloc();
+    let segment = decode_segment(alloc, &bytes, ROOT, TreeVersion::One)?;
+    assert!(rt; bytes.len() == 86 && segment.entries.as_slice().len() == 2);
     let at = Position {
         level: 3,
         index: 4095,
@@ -58,9 +47,8 @@ fn positions_and_bodies(rt: HostRuntime) -> Result<(), Fail> {
     let mut out = Vec::new(alloc);
     put_position(&at, &mut out)?;
     assert!(rt;
-        out.as_slice() == b"\x03\0\0\x0f\xff".as_slice() && take_position(&out, 0)? == (at, 5)
+        out.as_slice() == b"\x03\0\0\x0f\xff".as_slice()
+            && take_position(&out, 0, TreeVersion::One)? == (at, 5)
     );
-    let body = TreeBody::Damaged(at).copy(alloc)?;
-    assert!(rt; matches!(body, TreeBody::Damaged(_)));
     Ok(())
 }

@@ -36,21 +36,14 @@ impl Script {
         }
     }
 
-    /// Adds a call without a reply.
-    fn call(&mut self, id: u64, command: Command) -> Result<(), Fail> {
-        let key = Key::new(self.alloc, b"k")?;
+    /// Adds a call with this reply.
+    fn replied(&mut self, id: u64, command: Command, reply: Reply) -> Result<(), Fail> {
         self.calls.push(Call {
             id,
-            key,
+            key: Key::new(self.alloc, b"k")?,
             command,
             event: 1,
         })?;
-        Ok(())
-    }
-
-    /// Adds a call with this reply.
-    fn replied(&mut self, id: u64, command: Command, reply: Reply) -> Result<(), Fail> {
-        self.call(id, command)?;
         self.answers.push(Answer {
             id,
             event: 2,
@@ -104,30 +97,6 @@ const ORDERS: [(&[u64], bool); 6] = [
 fn an_update_reveals_a_stamp(rt: HostRuntime) -> Result<(), Fail> {
     let script = timed_out(rt.alloc())?;
     for (order, runs) in ORDERS {
-        assert!(rt; script.is_run(order)? == runs, "{order:?}");
-    }
-    Ok(())
-}
-
-/// Two deletes that tell which of two updates was done.
-const UPDATES: [(&[u64], bool); 4] = [
-    (&[1, 2, 3, 4, 5], true),
-    (&[1, 2, 3, 4, 6], true),
-    (&[1, 2, 3, 4, 5, 6], false),
-    (&[1, 2, 4, 5], false),
-];
-
-#[test]
-fn one_of_two_updates_was_done(rt: HostRuntime) -> Result<(), Fail> {
-    let alloc = rt.alloc();
-    let mut script = Script::new(alloc);
-    script.call(1, Command::Over(value(alloc, b"a")?))?;
-    script.call(2, Command::Update(stamp(1), value(alloc, b"b")?))?;
-    script.call(3, Command::Update(stamp(2), value(alloc, b"b")?))?;
-    script.replied(4, Command::Get, Reply::Value(stamp(5), value(alloc, b"b")?))?;
-    script.replied(5, Command::Delete, Reply::Ok(stamp(1)))?;
-    script.replied(6, Command::Delete, Reply::Ok(stamp(2)))?;
-    for (order, runs) in UPDATES {
         assert!(rt; script.is_run(order)? == runs, "{order:?}");
     }
     Ok(())

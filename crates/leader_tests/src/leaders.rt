@@ -3,7 +3,7 @@ use ens_object::Object;
 use leader_words::{LeadOut, Own};
 use leading::Leader;
 use peer_fact::{Change, Fact};
-use phase_rows::{Seen, Then};
+use phase_rows::{KeyRule, Seen, Then};
 use std::alloc::Global;
 use std::test::Fail;
 
@@ -45,6 +45,7 @@ enum Step {
 #[derive(Clone, Copy, PartialEq, Eq)]
 enum End {
     Waits,
+    Fetches,
     Looks,
     Puts,
     Answers,
@@ -62,7 +63,7 @@ const WRITE_AND_READ: [Row; 11] = [
     (Step::OwnStored, 2, 0, End::Waits),
     (Step::Stored(2, 2), 0, 0, End::Waits),
     (Step::Stored(3, 1), 0, 1, End::Answers),
-    (Step::Get, 0, 0, End::Looks),
+    (Step::Get, 0, 0, End::Fetches),
     (Step::OwnObject, 2, 0, End::Waits),
     (Step::Stands(2, 1), 0, 0, End::Waits),
     (Step::Stands(2, 2), 0, 1, End::Answers),
@@ -104,8 +105,13 @@ fn call(alloc: Global, leader: &mut Leader, id: u64, command: Command) -> Result
     Ok(leader.rule_27(alloc, 40, id, key(alloc)?, command, false)?)
 }
 
-fn rule(alloc: Global, leader: &mut Leader, number: u8, seen: &Seen) -> Result<LeadOut, Fail> {
-    Ok(leader.rule(alloc, number, &key(alloc)?, seen)?)
+fn run_rule(
+    alloc: Global,
+    leader: &mut Leader,
+    rule: KeyRule,
+    seen: &Seen,
+) -> Result<LeadOut, Fail> {
+    Ok(leader.rule(alloc, rule, &key(alloc)?, seen)?)
 }
 
 fn own_object(alloc: Global, leader: &mut Leader) -> Result<LeadOut, Fail> {
@@ -115,10 +121,10 @@ fn own_object(alloc: Global, leader: &mut Leader) -> Result<LeadOut, Fail> {
         key: key(alloc)?,
         value: Some(Value::new(alloc, b"v")?),
     };
-    rule(
+    run_rule(
         alloc,
         leader,
-        28,
+        KeyRule::StartCall,
         &Seen::Kept(Some((object, Digest([5; 16])))),
     )
 }
@@ -135,10 +141,10 @@ fn perform(alloc: Global, leader: &mut Leader, step: Step) -> Result<LeadOut, Fa
                 entry: None,
                 object: None,
             };
-            rule(alloc, leader, 29, &seen)
+            run_rule(alloc, leader, KeyRule::Read, &seen)
         }
         Step::OwnObject => own_object(alloc, leader),
-        Step::OwnStored => rule(alloc, leader, 35, &Seen::Stored(Digest([5; 16]))),
+        Step::OwnStored => run_rule(alloc, leader, KeyRule::Put, &Seen::Stored(Digest([5; 16]))),
         Step::Nothing(peer, round) => {
             let key = key(alloc)?;
             Ok(leader.rule_29_reply(alloc, PeerId(peer), EPOCH, round, &key, None, None)?)
@@ -159,6 +165,7 @@ fn end_of(out: &LeadOut) -> End {
         return End::Answers;
     }
     match &out.own {
+        Some(Own::Fetch(_key)) => End::Fetches,
         Some(Own::Look(_key)) => End::Looks,
         Some(Own::Put(_object)) => End::Puts,
         None => { if out.leave { End::Leaves } else { End::Waits } }
@@ -166,15 +173,15 @@ fn end_of(out: &LeadOut) -> End {
 }
 
 /// How many messages were sent and notes were made, the end, and the rule that runs next on the key.
-type Part = (usize, usize, End, Option<u8>);
+type Part = (usize, usize, End, Option<KeyRule>);
 
 fn part_of(out: &LeadOut) -> Part {
     let next = match out.then {
-        Then::Rule(number) => {
+        Then::OnKeys(rule) => {
             if out.keys.as_slice().is_empty() {
                 None
             } else {
-                Some(number)
+                Some(rule)
             }
         }
         _ => None,
@@ -192,8 +199,8 @@ fn first_part(alloc: Global, leader: &mut Leader, first: Step) -> Result<Part, F
     Ok(part_of(&out))
 }
 
-fn next_part(alloc: Global, leader: &mut Leader, number: u8) -> Result<Part, Fail> {
-    let out = rule(alloc, leader, number, &Seen::Nothing)?;
+fn next_part(alloc: Global, leader: &mut Leader, rule: KeyRule) -> Result<Part, Fail> {
+    let out = run_rule(alloc, leader, rule, &Seen::Nothing)?;
     Ok(part_of(&out))
 }
 
@@ -202,8 +209,8 @@ fn run(alloc: Global, leader: &mut Leader, first: Step) -> Result<Part, Fail> {
     let (mut sends, mut notes, mut end, mut next) = first_part(alloc, leader, first)?;
     for _ in 0..8 {
         if end == End::Waits {
-            if let Some(number) = next {
-                let part = next_part(alloc, leader, number)?;
+            if let Some(rule) = next {
+                let part = next_part(alloc, leader, rule)?;
                 sends = sends.saturating_add(part.0);
                 notes = notes.saturating_add(part.1);
                 end = part.2;
@@ -228,16 +235,14 @@ fn first_wrong(alloc: Global, rows: &[Row]) -> Result<Option<usize>, Fail> {
 }
 
 #[test]
-fn a_write_is_put_and_settled_and_read_after_a_check(rt: HostRuntime) -> Result<(), Fail> {
-    let wrong = first_wrong(rt.alloc(), &WRITE_AND_READ)?;
-    assert!(rt; wrong.is_none(), "{wrong:?}");
-    Ok(())
-}
-
-#[test]
-fn a_late_put_ends_leading(rt: HostRuntime) -> Result<(), Fail> {
-    let wrong = first_wrong(rt.alloc(), &LATE_PUT)?;
-    assert!(rt; wrong.is_none(), "{wrong:?}");
+fn a_write_is_put_and_settled_and_read_and_a_late_put_ends_leading(
+    rt: HostRuntime,
+) -> Result<(), Fail> {
+    let stories: [&[Row]; 2] = [&WRITE_AND_READ, &LATE_PUT];
+    for rows in stories {
+        let wrong = first_wrong(rt.alloc(), rows)?;
+        assert!(rt; wrong.is_none(), "{wrong:?}");
+    }
     Ok(())
 }
 

@@ -1,5 +1,9 @@
-//! Tests of the leader's crates: the counting of votes and rounds, the outcome of each command, the
-//! objects that a backend keeps, the table of a leader's calls, and the rules of a leader.
+//! Tests of the leader's crates, over public calls alone.
+//!
+//! They show two stories of a leader from call to answer, step by step, as the rules tell them, and
+//! that each call of the crates below can be called: a round and a tally, the table of calls, the
+//! objects that a backend keeps, and the commands that are decided without a value. What each of them
+//! answers is a clause, and the program `command_table` shows each command on each register.
 #![tactic(auto)]
 
 #[cfg(test)]
@@ -12,5 +16,3 @@ mod leaders;
 mod rounds;
 #[cfg(test)]
 mod table;
-#[cfg(test)]
-mod tallies;

@@ -1,14 +1,13 @@
 use ens_base::{PeerId, View, Views};
+use joint_views::Tally;
 use quorum_round::{Round, RoundState};
 use std::test::Fail;
 
 /// The peers that answer, in turn, and the state of the round then.
-const ANSWERS: [(u32, RoundState); 7] = [
+const ANSWERS: [(u32, RoundState); 5] = [
     (2, RoundState::Open),
-    (3, RoundState::Open),
     (9, RoundState::Open),
     (3, RoundState::Open),
-    (5, RoundState::Met),
     (5, RoundState::Met),
     (4, RoundState::AllAnswered),
 ];
@@ -22,5 +21,8 @@ fn a_joint_round_is_open_then_met_then_all_answered(rt: HostRuntime) -> Result<(
         round.vote(PeerId(peer));
         assert!(rt; round.outcome() == state);
     }
+    let mut tally = Tally::new(Views::two(new, old));
+    tally.vote(PeerId(1));
+    assert!(rt; !tally.is_quorum() && !tally.has_all(new) && !tally.has_every());
     Ok(())
 }

@@ -3,40 +3,6 @@ use ens_base::{Command, Digest, Entry, Epoch, Key, Version};
 use std::alloc::Global;
 use std::test::Fail;
 
-/// Replies to a read, in turn: the key, the count of the epoch, the number of the version, the digest,
-/// and whether the entry is the greatest so far.
-const REPLIES: [(&[u8], u64, u64, u8, bool); 6] = [
-    (b"k", 1, 9, 9, true),
-    (b"k", 2, 1, 1, true),
-    (b"k", 2, 1, 0, false),
-    (b"a", 2, 1, 1, false),
-    (b"m", 2, 1, 1, true),
-    (b"k", 1, 10, 9, false),
-];
-
-fn entry(alloc: Global, key: &[u8], count: u64, seq: u64, digest: u8) -> Result<Entry, Fail> {
-    let epoch = Epoch { count, proposer: 1 };
-    Ok(Entry {
-        key: Key::new(alloc, key)?,
-        version: Version { epoch, seq },
-        digest: Digest([digest; 16]),
-    })
-}
-
-#[test]
-fn the_greatest_entry_is_by_version_then_digest_then_key(rt: HostRuntime) -> Result<(), Fail> {
-    let alloc = rt.alloc();
-    let mut best = None;
-    for (key, count, seq, digest, greater) in REPLIES {
-        best = better(best, Some(entry(alloc, key, count, seq, digest)?), None);
-        if let Some(found) = &best {
-            let is_it = found.entry == entry(alloc, key, count, seq, digest)?;
-            assert!(rt; is_it == greater);
-        }
-    }
-    Ok(())
-}
-
 /// A table with the calls 1 and 3 of the key `k`, and the call 2 of the key `j`.
 fn three(alloc: Global) -> Result<CallTable, Fail> {
     let mut table = CallTable::new(alloc);
@@ -54,31 +20,42 @@ fn three(alloc: Global) -> Result<CallTable, Fail> {
 }
 
 #[test]
-fn the_running_call_is_the_oldest_of_its_key(rt: HostRuntime) -> Result<(), Fail> {
+fn the_calls_of_a_key_run_in_their_order_and_time_out_together(
+    rt: HostRuntime,
+) -> Result<(), Fail> {
     let alloc = rt.alloc();
     let mut table = three(alloc)?;
     let key = Key::new(alloc, b"k")?;
-    assert!(rt; table.waiting_on(&key) == 2);
+    assert!(rt; table.waiting_on(&key) == 2 && !table.has_late_put());
     assert!(rt; table.end_running(alloc, &key)?.map(|w| w.id) == Some(1));
     assert!(rt; table.running(alloc, &key)?.map(|w| w.id) == Some(3));
-    assert!(rt; table.into_calls(alloc)?.len() == 2);
+    for _ in 0..8 {
+        table.grow_older();
+    }
+    let due = table.drop_due(alloc)?;
+    assert!(rt; due.len() == 2 && due[0].id == 2 && due[0].running.is_some());
+    assert!(rt; !table.unanswered() && table.into_calls(alloc)?.is_empty());
     Ok(())
 }
 
+/// The entry of the key `k` at this number, with this digest.
+fn entry(alloc: Global, seq: u64, digest: u8) -> Result<Entry, Fail> {
+    let epoch = Epoch {
+        count: 1,
+        proposer: 1,
+    };
+    Ok(Entry {
+        key: Key::new(alloc, b"k")?,
+        version: Version { epoch, seq },
+        digest: Digest([digest; 16]),
+    })
+}
+
 #[test]
-fn two_keys_time_out_in_one_tick(rt: HostRuntime) -> Result<(), Fail> {
+fn the_best_entry_has_the_greatest_version(rt: HostRuntime) -> Result<(), Fail> {
     let alloc = rt.alloc();
-    let mut table = three(alloc)?;
-    for _ in 0..7 {
-        table.grow_older();
-        assert!(rt; table.drop_due(alloc)?.is_empty());
-    }
-    table.grow_older();
-    assert!(rt; !table.has_late_put());
-    let due = table.drop_due(alloc)?;
-    for (call, (id, ran)) in due.iter().zip([(1, true), (2, true), (3, false)]) {
-        assert!(rt; call.id == id && call.running.is_some() == ran);
-    }
-    assert!(rt; due.len() == 3 && !table.unanswered());
+    let first = better(None, Some(entry(alloc, 2, 1)?), None);
+    let best = better(first, Some(entry(alloc, 1, 9)?), None);
+    assert!(rt; matches!(&best, Some(found) if found.entry.digest == Digest([1; 16])));
     Ok(())
 }

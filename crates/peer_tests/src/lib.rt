@@ -1,14 +1,14 @@
 //! Tests of one peer, of the network, and of the stores of a schedule, a file for each crate.
 //!
-//! The messages of an election are written down from the rules of the phases. The tests use public
-//! calls alone.
+//! They show that a peer can start, step, be suspended and start again on its stores, with the messages
+//! of an election written down from the rules of the phases; that messages are taken in the order of
+//! sending; and what a failed save leaves. Every answer of theirs is a clause. The tests use public calls
+//! alone.
 #![tactic(auto)]
 
 #[cfg(test)]
 mod network_tests;
 #[cfg(test)]
 mod peer_core_tests;
-#[cfg(test)]
-mod step_plans_tests;
 #[cfg(test)]
 mod world_stores_tests;

@@ -28,27 +28,18 @@ fn four(alloc: Global) -> Result<Network, Fail> {
 }
 
 #[test]
-fn messages_are_kept_in_the_order_of_sending(rt: HostRuntime) -> Result<(), Fail> {
+fn messages_are_taken_in_the_order_of_sending(rt: HostRuntime) -> Result<(), Fail> {
     let mut network = four(rt.alloc())?;
-    for place in [0, 2] {
-        assert!(rt; network.oldest_between(PeerId(1), PeerId(2)) == Some(place));
-        network.settle(place);
-    }
-    assert!(rt; network.oldest_between(PeerId(2), PeerId(1)) == Some(1));
-    network.lose(PeerId(2), PeerId(1));
-    assert!(rt; network.oldest_between(PeerId(2), PeerId(1)).is_none());
-    assert!(rt; network.sent().len() == 4);
-    Ok(())
-}
-
-#[test]
-fn the_oldest_among_peers_goes_from_member_to_member(rt: HostRuntime) -> Result<(), Fail> {
-    let network = four(rt.alloc())?;
     let mut peers = PeerSet::empty();
     peers.insert(PeerId(1));
     peers.insert(PeerId(3));
     assert!(rt; network.oldest_among(&peers) == Some(3));
-    peers.insert(PeerId(2));
-    assert!(rt; network.oldest_among(&peers) == Some(0));
+    assert!(rt; network.oldest_between(PeerId(1), PeerId(2)) == Some(0));
+    network.settle(0);
+    assert!(rt; network.oldest_between(PeerId(1), PeerId(2)) == Some(2));
+    network.lose(PeerId(2), PeerId(1));
+    assert!(rt;
+        network.oldest_between(PeerId(2), PeerId(1)).is_none() && network.sent().len() == 4
+    );
     Ok(())
 }

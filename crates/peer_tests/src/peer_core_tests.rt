@@ -8,13 +8,14 @@ use ens_hashing::PlainHasher;
 use ens_outside::{MemBackend, MemNodes};
 use fact_store::{FactKeeper, Kept, MemFacts};
 use peer_core::{Event, Peer, StartError, Stores};
-use peer_fact::{Change, Fact};
+use peer_fact::{Change, Fact, SavedFact};
 use slot_disk::Failing;
 use std::alloc::Global;
 use std::test::Fail;
 use std::thread::Threads;
 use step_plans::{Outbox, PeerError};
 use synctree::Tree;
+use tree_node::TreeVersion;
 use wire_frames::Message;
 
 type Held = Stores<MemBackend, MemNodes, MemFacts>;
@@ -36,7 +37,7 @@ fn view() -> Result<View, ViewError> {
 fn stores(alloc: Global, failing: Failing) -> Held {
     Stores {
         backend: MemBackend::new(alloc, Vec::new(alloc)),
-        tree: Tree::unopened(MemNodes::new(alloc, Vec::new(alloc))),
+        tree: Tree::unopened(MemNodes::new(alloc, Vec::new(alloc)), TreeVersion::One),
         facts: MemFacts::new(Kept::Nothing, failing),
     }
 }
@@ -204,28 +205,21 @@ fn starting<R: Threads + Sync>(rt: &R, alloc: Global, view: View) -> Result<Trie
     Ok(one)
 }
 
+/// Whether the stores of the peer keep this fact, without a seal.
+fn keeps(peer: Tried, fact: Fact) -> bool {
+    let mut stores = peer.into_stores();
+    stores.facts.load() == Ok(Some(SavedFact { fact, seal: None }))
+}
+
 #[test]
-fn a_suspended_peer_goes_on(rt: HostRuntime) -> Result<(), Fail> {
+fn a_suspended_peer_goes_on_and_keeps_its_fact_over_a_start(rt: HostRuntime) -> Result<(), Fail> {
     let alloc = rt.alloc();
-    let one = starting(&rt, alloc, view()?)?;
+    let view = view()?;
+    let one = starting(&rt, alloc, view)?;
     let (suspended, stores) = one.suspend();
     let mut one = suspended.resume(stores);
     assert!(rt; told(&rt, alloc, &mut one, 3, Message::Accepted(BALLOT, 1), &[])?);
     assert!(rt; ticked(&rt, alloc, &mut one, 1, &[(2, "new epoch"), (3, "beat")])?);
-    Ok(())
-}
-
-/// Whether the stores of the peer keep this fact.
-fn keeps(peer: Tried, fact: Fact) -> bool {
-    let mut stores = peer.into_stores();
-    stores.facts.load() == Ok(Some(fact))
-}
-
-#[test]
-fn a_peer_started_again_keeps_its_fact(rt: HostRuntime) -> Result<(), Fail> {
-    let alloc = rt.alloc();
-    let view = view()?;
-    let one = starting(&rt, alloc, view)?;
     let again = started(alloc, 1, view, one.into_stores())?;
     assert!(rt; keeps(again, elected(view)));
     Ok(())

@@ -106,6 +106,15 @@ pub fn summary(out: PhaseOut) -> Answer {
     }
 }
 
+/// The answer that sends this message to the peer, and goes on with `then`.
+pub fn tells(peer: u32, said: Said, then: Then) -> Answer {
+    Answer {
+        to: set(&[peer]),
+        said,
+        ..silent(then)
+    }
+}
+
 /// The answer that saves and sends nothing, and goes on with `then`.
 pub fn silent(then: Then) -> Answer {
     Answer {

@@ -1,4 +1,4 @@
-use schedule_text::{Reading, ScheduleError, read_event, read_schedule, write_schedule};
+use schedule_text::{Reading, ScheduleError, read_schedule, write_schedule};
 use std::test::Fail;
 
 const EVERY_LINE: &[u8] = b"ensemble 1\npeers 12\nview 1 2 3\n\
@@ -19,82 +19,6 @@ fn every_line_is_copied_and_written_back(rt: HostRuntime) -> Result<(), Fail> {
     assert!(rt; events.len() == 26);
     schedule.events = ens_base::Seq::new(events);
     assert!(rt; write_schedule(alloc, &schedule)?.as_slice() == EVERY_LINE);
-    Ok(())
-}
-
-/// Lines of a schedule of three peers, and the cause of each.
-const BAD_LINES: [(&[u8], u8); 31] = [
-    (b"", 4),
-    (b" calm", 4),
-    (b"jump 1", 4),
-    (b"call 1 1 take 6b", 4),
-    (b"call x  foo ", 4),
-    (b"call 1 1 ", 4),
-    (b"call 1 1", 5),
-    (b"call 1 1 get", 5),
-    (b"call 0 x get 6B ", 5),
-    (b"calm ", 5),
-    (b"change 1", 5),
-    (b"pass 1", 5),
-    (b"tick 1 0", 6),
-    (b"tick 1 101", 6),
-    (b"tick 1 01", 6),
-    (b"tick 1 +1", 6),
-    (b"deliver 18446744073709551616", 6),
-    (b"call 1 x get 6B", 6),
-    (b"call 1 1 update 6b 1.4294967296.1 00", 6),
-    (b"call 1 1 update 6b 1.1 00", 6),
-    (b"inner 1 1 16 -", 6),
-    (b"inner 1 3 0 -", 6),
-    (b"fail 1 disk old", 6),
-    (b"call 1 1 get -", 7),
-    (b"call 1 1 get 6B", 7),
-    (b"damage 1 6b 0", 7),
-    (b"stop 4", 8),
-    (b"call 0 x get 6B", 8),
-    (b"calm 2 1", 8),
-    (b"calm 1 1", 8),
-    (b"change 1 2 4", 8),
-];
-
-#[test]
-fn the_first_cause_of_a_bad_line_is_answered(rt: HostRuntime) -> Result<(), Fail> {
-    for (line, cause) in BAD_LINES {
-        let fault = read_event(rt.alloc(), line, 7, 3).err();
-        assert!(rt;
-            fault == Some(ScheduleError::Bad { line: 7, cause }),
-            "{line:?}"
-        );
-    }
-    Ok(())
-}
-
-/// Texts, and the line and the cause of the first fault in each.
-const BAD_TEXTS: [(&[u8], u32, u8); 9] = [
-    (b"", 1, 3),
-    (b"ensemble 1", 1, 2),
-    (b"ensemble 1\n", 2, 3),
-    (b"ensemble 2\n", 1, 3),
-    (b"ensemble 1\npeers 32\n", 2, 3),
-    (b"ensemble 1\npeers 3\nview 1 2 3", 3, 2),
-    (b"ensemble 1\npeers 3\nview 3 2\n", 3, 3),
-    (b"ensemble 1\npeers 3\nview 1 2 3\njump 1\n", 4, 4),
-    (
-        b"ensemble 1\npeers 3\nview 1 2 3\ncall 1 1 get 6b\ncall 1 1 get 6b\n",
-        5,
-        9,
-    ),
-];
-
-#[test]
-fn the_first_bad_line_is_answered(rt: HostRuntime) -> Result<(), Fail> {
-    for (text, line, cause) in BAD_TEXTS {
-        let fault = read_schedule(rt.alloc(), text).err();
-        assert!(rt;
-            fault == Some(ScheduleError::Bad { line, cause }),
-            "{text:?}"
-        );
-    }
     Ok(())
 }
 

@@ -11,7 +11,7 @@ fn gave(look: Result<Option<Vec<u8>>, LinkError>, frame: Option<&[u8]>) -> bool 
 }
 
 #[test]
-fn a_failed_look_leaves_its_frame_waiting(rt: HostRuntime) -> Result<(), Fail> {
+fn a_link_a_queue_and_a_ticker_in_memory(rt: HostRuntime) -> Result<(), Fail> {
     let alloc = rt.alloc();
     let looks = vec![in alloc; Some(Bytes::from_slice(alloc, b"frame")?)]?;
     let mut link = MemLink::new(alloc, looks, vec![in alloc; 1, 3]?);
@@ -19,27 +19,9 @@ fn a_failed_look_leaves_its_frame_waiting(rt: HostRuntime) -> Result<(), Fail> {
     assert!(rt; gave(link.receive(alloc), Some(b"frame")));
     assert!(rt; link.send(alloc, 33, b"lost").is_err() && link.send(alloc, 34, b"two").is_ok());
     assert!(rt; link.sent().len() == 1 && link.faults() == 2);
-    Ok(())
-}
-
-#[test]
-fn a_queue_gives_frames_in_the_order_of_sending(rt: HostRuntime) -> Result<(), Fail> {
-    let alloc = rt.alloc();
-    let mut queue = MemQueue::new(alloc, vec![in alloc; 2]?);
-    for frame in [b"one", b"two", b"six"] {
-        queue.send(alloc, 2, frame).ok();
-    }
-    assert!(rt; gave(queue.receive(alloc), Some(b"one")));
-    assert!(rt; gave(queue.receive(alloc), Some(b"six")));
-    assert!(rt; gave(queue.receive(alloc), None) && queue.faults() == 1);
-    Ok(())
-}
-
-#[test]
-fn a_ticker_is_due_at_the_given_times(rt: HostRuntime) -> Result<(), Fail> {
-    let mut ticker = MemTicker::new(vec![in rt.alloc(); false, true]?);
-    for due in [false, true, false] {
-        assert!(rt; ticker.due() == due);
-    }
+    let mut queue = MemQueue::new(alloc, Vec::new(alloc));
+    assert!(rt; queue.send(alloc, 2, b"one").is_ok() && gave(queue.receive(alloc), Some(b"one")));
+    let mut ticker = MemTicker::new(vec![in alloc; false, true]?);
+    assert!(rt; !ticker.due() && ticker.due() && !ticker.due());
     Ok(())
 }

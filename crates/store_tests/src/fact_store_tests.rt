@@ -1,6 +1,6 @@
-use ens_base::{Epoch, PeerId, View};
+use ens_base::{Digest, Epoch, PeerId, View};
 use fact_store::{FactFile, FactKeeper, KeepError, Kept, MemFacts};
-use peer_fact::{Change, Fact, FactError};
+use peer_fact::{Change, Fact, FactError, SavedFact};
 use slot_disk::{Disk, Failing, Image, MemDisk, Room};
 use std::alloc::Global;
 use std::test::Fail;
@@ -12,19 +12,23 @@ const ROOM: Room = Room {
     calls: 40,
 };
 
-/// The opening fact of the view 1 2 3.
-fn opening() -> Result<Fact, Fail> {
-    Ok(Fact::opening(View::new(&[PeerId(1), PeerId(2), PeerId(3)])?))
+/// The opening fact of the view 1 2 3, without a seal.
+fn opening() -> Result<SavedFact, Fail> {
+    Ok(SavedFact {
+        fact: Fact::opening(View::new(&[PeerId(1), PeerId(2), PeerId(3)])?),
+        seal: None,
+    })
 }
 
-/// The opening fact with the ballot 1.1.
-fn promised() -> Result<Fact, Fail> {
-    let mut fact = opening()?;
-    fact.ballot = Epoch {
+/// The opening fact with the ballot 1.1, and a seal.
+fn promised() -> Result<SavedFact, Fail> {
+    let mut saved = opening()?;
+    saved.fact.ballot = Epoch {
         count: 1,
         proposer: 1,
     };
-    Ok(fact)
+    saved.seal = Some(Digest([7; 16]));
+    Ok(saved)
 }
 
 /// Opens a fact file on a disk with these bytes.
@@ -44,37 +48,16 @@ fn the_second_fact_is_at_offset_512(rt: HostRuntime) -> Result<(), Fail> {
     assert!(rt; file.load() == Ok(Some(promised()?)));
     let disk = file.into_disk();
     let bytes = disk.bytes();
-    assert!(rt; bytes.len() == 575 && bytes.starts_with(b"\x01\0\0\0\0\0\0\0\x01\0\x34"));
-    assert!(rt; bytes[512..].starts_with(b"\x01\0\0\0\0\0\0\0\x02\0\x34"));
+    assert!(rt; bytes.len() == 591 && bytes.starts_with(b"\x01\0\0\0\0\0\0\0\x01\0\x34\x01"));
+    assert!(rt; bytes[512..].starts_with(b"\x01\0\0\0\0\0\0\0\x02\0\x44\x02"));
     Ok(())
 }
 
 #[test]
-fn a_record_that_is_no_fact_is_a_bad_fact(rt: HostRuntime) -> Result<(), Fail> {
+fn a_bad_fact_and_a_keeper_in_memory(rt: HostRuntime) -> Result<(), Fail> {
     let alloc = rt.alloc();
     let mut file = file(alloc, b"\x01\0\0\0\0\0\0\0\x01\0\x01x")?;
-    assert_eq!(rt; file.load(), Err(KeepError::Bad(FactError::BadTag)));
-    assert_eq!(rt; file.save(&opening()?), Ok(()));
-    assert_eq!(rt; file.load(), Ok(Some(opening()?)));
-    assert_eq!(rt; file.faults(), 0);
-    Ok(())
-}
-
-#[test]
-fn a_spent_file_counts_a_fault_of_its_own(rt: HostRuntime) -> Result<(), Fail> {
-    let alloc = rt.alloc();
-    let mut file = file(alloc, b"\x01\xff\xff\xff\xff\xff\xff\xff\xff\0\x01x")?;
-    let fact = opening()?;
-    assert_eq!(rt; fact.change, Change::None);
-    assert_eq!(rt; file.save(&fact), Err(KeepError::Failed));
-    assert_eq!(rt; file.faults(), 1);
-    assert_eq!(rt; file.into_disk().faults(), 0);
-    Ok(())
-}
-
-#[test]
-fn a_memory_keeper_fails_at_the_listed_calls(rt: HostRuntime) -> Result<(), Fail> {
-    let alloc = rt.alloc();
+    assert!(rt; file.load() == Err(KeepError::Bad(FactError::BadTag)));
     let failing = Failing {
         undone: vec![in alloc; 1]?,
         done: vec![in alloc; 2]?,

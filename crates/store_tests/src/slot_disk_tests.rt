@@ -1,4 +1,3 @@
-use ens_base::Failed;
 use slot_disk::{Disk, Failing, Image, MemDisk, Room, SlotError, SlotFile};
 use std::alloc::Global;
 use std::test::Fail;
@@ -42,25 +41,6 @@ fn three_crash_images_of_unsynced_writes(rt: HostRuntime) -> Result<(), Fail> {
 }
 
 #[test]
-fn a_call_past_the_room_fails(rt: HostRuntime) -> Result<(), Fail> {
-    let alloc = rt.alloc();
-    let room = Room {
-        bytes: 4,
-        written: 5,
-        calls: 3,
-    };
-    let failing = Failing {
-        undone: vec![in alloc; 1]?,
-        done: vec![in alloc; 2]?,
-    };
-    let mut disk = MemDisk::new(alloc, room, failing)?;
-    assert!(rt; disk.write_at(0, b"y").is_err() && disk.bytes().is_empty());
-    assert!(rt; disk.write_at(0, b"z").is_err() && disk.bytes() == b"z".as_slice());
-    assert!(rt; disk.write_at(3, b"ab") == Err(Failed) && disk.faults() == 3);
-    Ok(())
-}
-
-#[test]
 fn the_slots_take_turns(rt: HostRuntime) -> Result<(), Fail> {
     let alloc = rt.alloc();
     let mut file = file(alloc, disk(alloc)?)?;
@@ -72,49 +52,5 @@ fn the_slots_take_turns(rt: HostRuntime) -> Result<(), Fail> {
     let bytes = disk.bytes();
     assert!(rt; bytes.len() == 525 && bytes.starts_with(b"\x01\0\0\0\0\0\0\0\x01\0\x03abc"));
     assert!(rt; bytes.ends_with(b"\x01\0\0\0\0\0\0\0\x02\0\x02de"));
-    Ok(())
-}
-
-/// A disk after a save of `new` over `old` of which one call failed. The first call is number 1.
-fn interrupted(alloc: Global, call: u64, is_done: bool) -> Result<MemDisk, Fail> {
-    let mut before = file(alloc, disk(alloc)?)?;
-    before.save(b"older").map_err(|_e| "not saved")?;
-    before.save(b"old").map_err(|_e| "not saved")?;
-    let mut failing = Failing::never(alloc);
-    // The opening takes three calls.
-    let number = call.saturating_add(3);
-    if is_done {
-        failing.done.push(number)?;
-    } else {
-        failing.undone.push(number)?;
-    }
-    let disk = MemDisk::holding(alloc, before.into_disk().bytes(), ROOM, failing)?;
-    let mut file = file(alloc, disk)?;
-    match file.save(b"new") {
-        Err(SlotError::Failed) => Ok(file.into_disk()),
-        _ => Err("the fault was not met".into()),
-    }
-}
-
-/// Whether a disk with these bytes holds the record `old` or `new`.
-fn is_old_or_new(alloc: Global, bytes: &[u8]) -> Result<bool, Fail> {
-    let disk = MemDisk::holding(alloc, bytes, ROOM, Failing::never(alloc))?;
-    let file = file(alloc, disk)?;
-    Ok(file.record() == Some(b"old".as_slice()) || file.record() == Some(b"new".as_slice()))
-}
-
-#[test]
-fn a_save_that_fails_leaves_the_old_or_the_new_record(rt: HostRuntime) -> Result<(), Fail> {
-    let alloc = rt.alloc();
-    for call in 1..7 {
-        for is_done in [false, true] {
-            let disk = interrupted(alloc, call, is_done)?;
-            assert!(rt; is_old_or_new(alloc, disk.bytes())?, "{call} {is_done}");
-            for image in [Image::Old, Image::New, Image::Half] {
-                let left = disk.crash(alloc, image)?;
-                assert!(rt; is_old_or_new(alloc, &left)?, "{call} {is_done} {image:?}");
-            }
-        }
-    }
     Ok(())
 }

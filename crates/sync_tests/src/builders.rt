@@ -1,5 +1,5 @@
 //! Builders of facts, entries and answers, and the questions that messages ask.
-ghost use Rattle.std.specs.Prelude.{◌≡◌};
+ghost use Rattle.tree_node.specs.declared.version.TreeVersion.TheVariants.{One};
 ghost use Rattle.tree_node.specs.Positions.{IsPosition};
 
 use ens_base::{Bytes, Digest, Entry, Epoch, Key, PeerId, Seq, Version, View};
@@ -14,7 +14,7 @@ use tree_node::{Position, Scan, TreeBody};
 use wire_frames::Message;
 
 /// The epoch of the sync's fact.
-pub const EPOCH: Epoch = Epoch {
+const EPOCH: Epoch = Epoch {
     count: 1,
     proposer: 1,
 };
@@ -58,29 +58,6 @@ pub fn inner(alloc: Global, mask: u16) -> Result<TreeBody, Fail> {
     })
 }
 
-/// The inner node of an empty tree.
-pub fn nothing(alloc: Global) -> TreeBody {
-    TreeBody::Inner {
-        mask: 0,
-        digests: Seq::new(Vec::new(alloc)),
-    }
-}
-
-/// The answer of a source to the question for a position, at the epoch.
-pub fn give(ballot: Epoch, position: Position, trusted: bool, body: TreeBody) -> Give
-    ensures { result.question.position ≡ position }
-{
-    Give {
-        ballot,
-        question: Question {
-            position,
-            after: None,
-        },
-        trusted,
-        body,
-    }
-}
-
 /// Lets the sync take an answer of this source, at the epoch. The own tree has no node there.
 pub fn take(
     alloc: Global,
@@ -89,9 +66,18 @@ pub fn take(
     position: Position,
     body: TreeBody,
 ) -> Result<Seq<Outgoing>, Fail>
-    requires { IsPosition position }
+    requires { IsPosition One position }
 {
-    let give = give(EPOCH, position, false, body);
+    let question = Question {
+        position,
+        after: None,
+    };
+    let give = Give {
+        ballot: EPOCH,
+        question,
+        trusted: false,
+        body,
+    };
     Ok(sync.take(alloc, PeerId(from), &give, &None)?)
 }
 

@@ -4,6 +4,7 @@ use ens_hashing::PlainHasher;
 use std::alloc::Global;
 use std::sync::atomic::{AtomicU64, Ordering};
 use std::test::Fail;
+use tree_node::TreeVersion;
 use tree_repair::{ascends, build, install};
 use tree_verify::{Gate, NoGate, scan};
 
@@ -71,9 +72,23 @@ fn gate_two_halves(rt: HostRuntime) -> Result<(), Fail> {
     let alloc = rt.alloc();
     let entries = many(alloc)?;
     assert!(rt; ascends(entries.as_slice()));
-    let plain = build(&rt, alloc, &mut PlainHasher, &NoGate, entries.as_slice())?;
+    let plain = build(
+        &rt,
+        alloc,
+        TreeVersion::One,
+        &mut PlainHasher,
+        &NoGate,
+        entries.as_slice(),
+    )?;
     let gate = TwoHalves::new();
-    let built = build(&rt, alloc, &mut PlainHasher, &gate, entries.as_slice())?;
+    let built = build(
+        &rt,
+        alloc,
+        TreeVersion::One,
+        &mut PlainHasher,
+        &gate,
+        entries.as_slice(),
+    )?;
     assert!(rt; gate.counts() == [3, 3, 0] && built.top == plain.top);
     let mut tree = fresh(alloc)?;
     install(alloc, &mut tree, &built)?;

@@ -1,5 +1,9 @@
-//! Tests of the hash tree: what it finds, its nodes, an ask between two trees, and a build and a scan by
-//! threads.
+//! Tests of the hash tree.
+//!
+//! They show the digests of two trees, taken with another program, and how their nodes begin; that a
+//! build makes the tree of the inserts; that a root with other bytes is damage; how many questions an ask
+//! takes; and that a build and a scan hash two halves at once, which no clause can say. What a tree finds,
+//! and which nodes it reads and gives, are clauses.
 #![tactic(auto)]
 
 #[cfg(test)]

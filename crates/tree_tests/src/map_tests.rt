@@ -3,8 +3,9 @@ use ens_base::{Entry, Key};
 use ens_hashing::PlainHasher;
 use std::alloc::Global;
 use std::test::Fail;
+use tree_node::TreeVersion;
 use tree_repair::{ascends, build, install, rebuild};
-use tree_verify::{NoGate, scan};
+use tree_verify::NoGate;
 
 /// A tree into which the keys 0 to 99, of one byte each, were written in the versions 1 to 199.
 fn written(alloc: Global) -> Result<MemTree, Fail> {
@@ -40,38 +41,24 @@ fn has_gone(alloc: Global, tree: &mut MemTree) -> Result<bool, Fail> {
 }
 
 #[test]
-fn a_tree_has_the_newest_entry_of_each_key(rt: HostRuntime) -> Result<(), Fail> {
-    let alloc = rt.alloc();
-    let mut tree = written(alloc)?;
-    let newest = newest(alloc)?;
-    assert!(rt; has_all(alloc, &mut tree, newest.as_slice())? && !has_gone(alloc, &mut tree)?);
-    let found = scan(&rt, alloc, &mut tree, &mut PlainHasher, &NoGate)?;
-    assert!(rt;
-        found.damaged.as_slice().is_empty() && found.entries.as_slice() == newest.as_slice()
-    );
-    Ok(())
-}
-
-#[test]
-fn a_build_makes_the_tree_of_the_inserts(rt: HostRuntime) -> Result<(), Fail> {
+fn a_build_makes_the_tree_of_the_inserts_and_a_rebuild_that_of_its_entries(
+    rt: HostRuntime,
+) -> Result<(), Fail> {
     let alloc = rt.alloc();
     let newest = newest(alloc)?;
     assert!(rt; ascends(newest.as_slice()));
-    let built = build(&rt, alloc, &mut PlainHasher, &NoGate, newest.as_slice())?;
+    let built = build(
+        &rt,
+        alloc,
+        TreeVersion::One,
+        &mut PlainHasher,
+        &NoGate,
+        newest.as_slice(),
+    )?;
     let mut tree = fresh(alloc)?;
     install(alloc, &mut tree, &built)?;
     assert!(rt; tree.top() == written(alloc)?.top() && tree.top() == Some(built.top));
-    assert!(rt; has_all(alloc, &mut tree, newest.as_slice())?);
-    Ok(())
-}
-
-#[test]
-fn a_rebuild_has_the_entries_given_alone(rt: HostRuntime) -> Result<(), Fail> {
-    let alloc = rt.alloc();
-    let newest = newest(alloc)?;
-    let mut tree = fresh(alloc)?;
     insert(alloc, &mut tree, &entry(alloc, b"gone", 1)?)?;
-    assert!(rt; ascends(newest.as_slice()));
     rebuild(&rt, alloc, &mut tree, &mut PlainHasher, newest.as_slice())?;
     assert!(rt; has_all(alloc, &mut tree, newest.as_slice())? && !has_gone(alloc, &mut tree)?);
     Ok(())

@@ -1,14 +1,11 @@
-ghost use Rattle.tree_node.specs.Positions.{IsPosition};
-
-use crate::trees::{MemTree, entry, find, fresh, insert, opened};
-use ens_base::{Digest, Entry, Key};
+use crate::trees::{MemTree, entry, fresh, insert, opened};
+use ens_base::{Digest, Entry};
 use ens_hashing::PlainHasher;
 use ens_outside::{MemNodes, NodeStore};
-use exchange::{Question, give};
 use std::alloc::Global;
 use std::test::Fail;
-use synctree::{ROOT, Tree, TreeError};
-use tree_node::{Position, TreeBody};
+use synctree::{ROOT, Tree};
+use tree_node::TreeVersion;
 use tree_repair::{Built, ascends, build};
 use tree_verify::{NoGate, scan};
 
@@ -48,20 +45,20 @@ fn no_nodes(alloc: Global) -> MemNodes {
     MemNodes::new(alloc, Vec::new(alloc))
 }
 
-/// The top of a tree over no nodes, of that tree emptied, of the tree of `abc` opened again, and of
-/// that tree emptied.
+/// The top of a tree over no nodes, of that tree emptied, of the tree of `abc` opened again under its
+/// own digest as seal, and of that tree emptied.
 fn tops(alloc: Global) -> Result<[Option<Digest>; 4], Fail> {
-    let mut tree = Tree::unopened(no_nodes(alloc));
-    tree.reopen()?;
+    let mut tree = Tree::unopened(no_nodes(alloc), TreeVersion::One);
+    tree.reopen(None, TreeVersion::One)?;
     let unopened = tree.top();
-    tree.empty(alloc, &mut PlainHasher)?;
+    tree.empty(alloc, TreeVersion::One, &mut PlainHasher)?;
     let empty = tree.top();
     insert(alloc, &mut tree, &abc(alloc)?)?;
     let (_mark, nodes) = tree.split();
-    let mut again = Tree::unopened(nodes);
-    again.reopen()?;
+    let mut again = Tree::unopened(nodes, TreeVersion::One);
+    again.reopen(Some(ABC), TreeVersion::One)?;
     let reopened = again.top();
-    again.empty(alloc, &mut PlainHasher)?;
+    again.empty(alloc, TreeVersion::One, &mut PlainHasher)?;
     Ok([unopened, empty, reopened, again.top()])
 }
 
@@ -86,76 +83,19 @@ fn has_heads(built: &Built, heads: &[&[u8]]) -> bool {
 #[test]
 fn a_build_has_the_nodes_of_its_entries(rt: HostRuntime) -> Result<(), Fail> {
     let alloc = rt.alloc();
-    let built = build(&rt, alloc, &mut PlainHasher, &NoGate, &[])?;
+    let built = build(&rt, alloc, TreeVersion::One, &mut PlainHasher, &NoGate, &[])?;
     assert!(rt; built.top == EMPTY && has_heads(&built, &[&[1, 0, 0, 0, 0, 0, 0, 0]]));
     let entries = [abc(alloc)?];
     assert!(rt; ascends(&entries));
-    let built = build(&rt, alloc, &mut PlainHasher, &NoGate, &entries)?;
+    let built = build(
+        &rt,
+        alloc,
+        TreeVersion::One,
+        &mut PlainHasher,
+        &NoGate,
+        &entries,
+    )?;
     assert!(rt; built.top == ABC && has_heads(&built, &HEADS));
-    Ok(())
-}
-
-/// The mask of an inner body, the number of entries of a page, or 99 for damage.
-fn size(body: &TreeBody) -> usize {
-    match body {
-        TreeBody::Inner { mask, .. } => *mask as usize,
-        TreeBody::Page { entries, .. } => entries.as_slice().len(),
-        TreeBody::Damaged(_) => 99,
-    }
-}
-
-/// The size of what is given of a position.
-fn given(alloc: Global, tree: &mut MemTree, position: Position) -> Result<usize, Fail>
-    requires { IsPosition position }
-{
-    let question = Question {
-        position,
-        after: None,
-    };
-    Ok(size(&give(alloc, tree, &mut PlainHasher, &question)?))
-}
-
-/// How many bytes the node at a position has, none if there is no node.
-fn length(alloc: Global, tree: &mut MemTree, position: Position) -> Result<Option<usize>, TreeError>
-    requires { IsPosition position }
-{
-    match tree.node(alloc, &mut PlainHasher, position)? {
-        Some(bytes) => Ok(Some(bytes.as_slice().len())),
-        None => Ok(None),
-    }
-}
-
-/// The root has the child 9, its segment 900 has one entry, and its segment 901 is empty.
-#[test]
-fn nodes_are_read_and_given_by_position(rt: HostRuntime) -> Result<(), Fail> {
-    let alloc = rt.alloc();
-    let mut tree = tree_of_abc(alloc)?;
-    let segment = Position {
-        level: 3,
-        index: 0x900,
-    };
-    let other = Position {
-        level: 3,
-        index: 0x901,
-    };
-    assert!(rt;
-        length(alloc, &mut tree, ROOT)? == Some(24) && given(alloc, &mut tree, ROOT)? == 1 << 9
-    );
-    assert!(rt;
-        length(alloc, &mut tree, segment)?.is_some() && given(alloc, &mut tree, segment)? == 1
-    );
-    assert!(rt; length(alloc, &mut tree, other)?.is_none() && given(alloc, &mut tree, other)? == 0);
-    Ok(())
-}
-
-#[test]
-fn a_store_without_a_top_record_is_damaged(rt: HostRuntime) -> Result<(), Fail> {
-    let alloc = rt.alloc();
-    let mut tree = opened(no_nodes(alloc))?;
-    let found = find(alloc, &mut tree, &Key::new(alloc, b"abc")?);
-    assert!(rt;
-        found.err() == Some(TreeError::Damaged(ROOT)) && given(alloc, &mut tree, ROOT)? == 99
-    );
     Ok(())
 }
 

@@ -5,6 +5,7 @@ use ens_outside::MemNodes;
 use std::alloc::Global;
 use std::test::Fail;
 use synctree::{Tree, TreeError};
+use tree_node::TreeVersion;
 
 /// A tree over a store in memory.
 pub(crate) type MemTree = Tree<MemNodes>;
@@ -23,7 +24,7 @@ pub(crate) fn entry(alloc: Global, key: &[u8], seq: u64) -> Result<Entry, Fail> 
 
 pub(crate) fn fresh(alloc: Global) -> Result<MemTree, TreeError> {
     let nodes = MemNodes::new(alloc, Vec::new(alloc));
-    match Tree::fresh(alloc, nodes, &mut PlainHasher) {
+    match Tree::fresh(alloc, nodes, TreeVersion::One, &mut PlainHasher) {
         Ok(tree) => Ok(tree),
         Err(refused) => Err(refused.error),
     }
@@ -31,7 +32,7 @@ pub(crate) fn fresh(alloc: Global) -> Result<MemTree, TreeError> {
 
 /// The tree under the top record of the store.
 pub(crate) fn opened(nodes: MemNodes) -> Result<MemTree, TreeError> {
-    match Tree::open(nodes) {
+    match Tree::open(nodes, None, TreeVersion::One) {
         Ok(tree) => Ok(tree),
         Err(refused) => Err(refused.error),
     }
