@@ -6,7 +6,7 @@ use ens_base::{Command, Digest, Epoch, Key, PeerId, PeerSet, Value, Version, Vie
 use leader_words::{LeadError, LeadOut, Own};
 use leading::Leader;
 use peer_fact::{Change, Fact};
-use phase_rows::{Seen, Then};
+use phase_rows::{KeyRule, Seen, Then};
 use std::alloc::Global;
 
 const EPOCH: Epoch = Epoch {
@@ -38,7 +38,7 @@ enum Stores {
 #[derive(Clone, Copy)]
 struct Turn {
     answered: u64,
-    next: Option<(u8, Stores)>,
+    next: Option<(KeyRule, Stores)>,
 }
 
 fn leader(alloc: Global) -> Option<Leader> {
@@ -59,12 +59,19 @@ fn key_of(alloc: Global, number: u64) -> Option<Key> {
     Key::new(alloc, &number.to_be_bytes()).ok()
 }
 
-fn next_of(own: &Option<Own>, then: Then) -> Option<(u8, Stores)> {
+/// Returns what the stores return to a rule that asks them.
+fn stores_for(own: &Own) -> Stores {
     match own {
-        Some(Own::Look(_key)) => Some((29, Stores::Missing)),
-        Some(Own::Put(_object)) => Some((35, Stores::Stored)),
+        Own::Fetch(_key) | Own::Look(_key) => Stores::Missing,
+        Own::Put(_object) => Stores::Stored,
+    }
+}
+
+fn next_of(own: &Option<Own>, then: Then) -> Option<(KeyRule, Stores)> {
+    match own {
+        Some(own) => Some((own.asked_by(), stores_for(own))),
         None => match then {
-            Then::Rule(number) => Some((number, Stores::Unasked)),
+            Then::OnKeys(rule) => Some((rule, Stores::Unasked)),
             _ => None,
         },
     }
@@ -92,7 +99,13 @@ fn seen_of(stores: Stores) -> Seen {
 }
 
 /// Runs the rule on the key.
-fn run(alloc: Global, leader: &mut Leader, rule: u8, key: &Key, stores: Stores) -> Option<Turn> {
+fn run(
+    alloc: Global,
+    leader: &mut Leader,
+    rule: KeyRule,
+    key: &Key,
+    stores: Stores,
+) -> Option<Turn> {
     let seen = seen_of(stores);
     turn_of(leader.rule(alloc, rule, key, &seen))
 }

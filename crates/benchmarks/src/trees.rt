@@ -6,6 +6,7 @@ use ens_outside::MemNodes;
 use std::alloc::Global;
 use std::thread::Threads;
 use synctree::Tree;
+use tree_node::TreeVersion;
 use tree_repair::{ascends, build, install};
 use tree_verify::{NoGate, scan};
 
@@ -42,7 +43,7 @@ fn entries(alloc: Global) -> Option<Vec<Entry>> {
 
 fn fresh(alloc: Global) -> Option<Tree<MemNodes>> {
     let nodes = MemNodes::new(alloc, Vec::new(alloc));
-    Tree::fresh(alloc, nodes, &mut PlainHasher).ok()
+    Tree::fresh(alloc, nodes, TreeVersion::One, &mut PlainHasher).ok()
 }
 
 /// Inserts all entries one by one. Returns their number.
@@ -63,7 +64,15 @@ fn built<R: Threads + Sync>(rt: &R, alloc: Global) -> Option<Tree<MemNodes>> {
     if !ascends(entries.as_slice()) {
         return None;
     }
-    let built = build(rt, alloc, &mut PlainHasher, &NoGate, entries.as_slice()).ok()?;
+    let built = build(
+        rt,
+        alloc,
+        TreeVersion::One,
+        &mut PlainHasher,
+        &NoGate,
+        entries.as_slice(),
+    )
+    .ok()?;
     let mut tree = fresh(alloc)?;
     install(alloc, &mut tree, &built).ok()?;
     Some(tree)
@@ -101,7 +110,15 @@ fn builds<R: Threads + Sync>(rt: &R, alloc: Global) -> Option<u64> {
     }
     let mut nodes = 0;
     for _ in 0..ROUNDS {
-        let built = build(rt, alloc, &mut PlainHasher, &NoGate, entries.as_slice()).ok()?;
+        let built = build(
+            rt,
+            alloc,
+            TreeVersion::One,
+            &mut PlainHasher,
+            &NoGate,
+            entries.as_slice(),
+        )
+        .ok()?;
         nodes = built.nodes.as_slice().len() as u64;
     }
     Some(nodes)

@@ -9,6 +9,7 @@ use std::alloc::Global;
 use std::fs::File;
 use std::rt::Files;
 use synctree::Tree;
+use tree_node::TreeVersion;
 
 /// The number of puts.
 const PUTS: u64 = 20_000;
@@ -41,7 +42,7 @@ fn put<N: NodeStore, B: Backend>(
 
 /// Makes all puts. Returns their number.
 fn puts<N: NodeStore + Drop, B: Backend>(alloc: Global, nodes: N, objects: &mut B) -> Option<u64> {
-    let mut tree = Tree::fresh(alloc, nodes, &mut PlainHasher).ok()?;
+    let mut tree = Tree::fresh(alloc, nodes, TreeVersion::One, &mut PlainHasher).ok()?;
     let mut count: u64 = 0;
     for number in 0..PUTS {
         put(alloc, &mut tree, objects, number)?;

@@ -1,7 +1,7 @@
 use ens_object::Object;
 use peer_fact::Fact;
 use std::alloc::Global;
-use tree_node::{Position, decode_inner, decode_segment};
+use tree_node::{Position, TreeVersion, decode_inner, decode_segment};
 use wire_frames::decode_frame;
 
 /// The position of the root.
@@ -45,15 +45,23 @@ fn object(alloc: Global, bytes: &[u8]) -> Option<String> {
 }
 
 fn root(alloc: Global, bytes: &[u8]) -> Option<String> {
-    match decode_inner(alloc, bytes, ROOT) {
-        Ok(node) => format!(in alloc; "{node:?}").ok(),
+    match decode_inner(alloc, bytes, ROOT, TreeVersion::One) {
+        Ok(node) => {
+            let (position, mask, digests) = (node.position, node.mask, &node.digests);
+            format!(in alloc;
+                "InnerNode {{ position: {position:?}, mask: {mask:?}, digests: {digests:?} }}"
+            ).ok()
+        }
         Err(fault) => format!(in alloc; "{fault:?}").ok(),
     }
 }
 
 fn segment(alloc: Global, bytes: &[u8]) -> Option<String> {
-    match decode_segment(alloc, bytes, SEGMENT) {
-        Ok(segment) => format!(in alloc; "{segment:?}").ok(),
+    match decode_segment(alloc, bytes, SEGMENT, TreeVersion::One) {
+        Ok(segment) => {
+            let (position, entries) = (segment.position, &segment.entries);
+            format!(in alloc; "Segment {{ position: {position:?}, entries: {entries:?} }}").ok()
+        }
         Err(fault) => format!(in alloc; "{fault:?}").ok(),
     }
 }
