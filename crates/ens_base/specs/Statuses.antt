@@ -1,7 +1,7 @@
 -- The exit status of each ending.
 use Rattle.std.specs.Prelude.{ℕ}
 use Rattle.ens_base.specs.declared.status.Status.{Status}
-use Rattle.ens_base.specs.declared.status.Status.TheVariants.{Done, Usage, Schedule, Premise, ReadFault, WriteFault, Clash, StoreFault, LinkFault, Limit, Memory}
+use Rattle.ens_base.specs.declared.status.Status.TheVariants.{Done, Usage, Schedule, Premise, ReadFault, WriteFault, Clash, StoreFault, LinkFault, Limit, Memory, Backup}
 
 -- the exit status of the process
 abbrev pub status_number : Status → ℕ
@@ -16,3 +16,4 @@ status_number StoreFault = 7
 status_number LinkFault = 8
 status_number Limit = 9
 status_number Memory = 10
+status_number Backup = 12

@@ -26,10 +26,12 @@ pub enum Status {
     Limit,
     /// 10: out of memory.
     Memory,
+    /// 12: a tree cannot be backed up, or a backup is damaged.
+    Backup,
 }
 
 impl Status {
-    /// Returns the exit status, from 0 to 10.
+    /// Returns the exit status, from 0 to 10, or 12.
     pub fn number(self) -> u8
         ensures { result ≡ status_number self }
     {
@@ -45,6 +47,7 @@ impl Status {
             Status::LinkFault => 8,
             Status::Limit => 9,
             Status::Memory => 10,
+            Status::Backup => 12,
         }
     }
 }
