@@ -23,6 +23,8 @@ use Rattle.peer_fact.specs.declared.fact.Fact.{Fact}
 use Rattle.peer_fact.specs.declared.saved.SavedFact.{SavedFact}
 use Rattle.register_model.specs.declared.note.Note.{Note}
 use Rattle.request_refinement.specs.Naming.{EntrySays}
+use Rattle.seal_laws.proofs.Moves.{unsealed_not}
+use Rattle.seal_stores.specs.Held.{kept_seal}
 use Rattle.schedule_text.specs.declared.keyword.StoreName.{StoreName}
 use Rattle.schedule_text.specs.declared.keyword.StoreName.TheVariants as names
 use Rattle.step_plans.specs.Calls.{OpenTree}
@@ -30,7 +32,7 @@ use Rattle.step_plans.specs.Plans.{Ending, Finished, Stopped, nothing}
 use Rattle.step_plans.specs.declared.error.PeerError.{PeerError}
 use Rattle.step_plans.specs.Saved.{bare}
 use Rattle.sync_laws.specs.Facts.{Lines}
-use Rattle.sync_refinement.proofs.Staying.{stays, tree_says_stay}
+use Rattle.sync_refinement.proofs.Staying.{stays}
 use Rattle.sync_refinement.specs.Seen.{ranks}
 use Rattle.sync_refinement.specs.Syncs.{MayReturn}
 use Rattle.tree_maps.specs.Entries.{lookup}
@@ -42,8 +44,8 @@ use Rattle.world_spec.specs.Nodes.{Node, Up, Down, taken_by, taken_of, run_over,
 use Rattle.world_spec.specs.Stores.{failing, spoiled, segment_spoiled, inner_spoiled, taken_back}
 use Rattle.world_stores.specs.Nodes.{top_of, reverted}
 use Rattle.call_refinement.proofs.HashedBefore.{behind, ended_behind, run_behind}
-use Rattle.step_refinement.proofs.ShownMaps.{tops_behind, tops_stay}
-use Rattle.step_refinement.specs.Peers.{TopReturns, TopsReturn, TreeHolds, DownHolds}
+use Rattle.step_refinement.proofs.ShownMaps.{tops_stay, last_over, last_stays, last_under, named_top, tree_over}
+use Rattle.step_refinement.specs.Peers.{TopReturns, LastMap, TreeHolds, DownHolds}
 use Rattle.call_refinement.specs.Roles.{role_of}
 use Rattle.call_refinement.specs.Worlds.{UpFits, NodeFits}
 
@@ -76,14 +78,8 @@ inner_spares level index bytes = record { kept = λ stores. refl; tops = λ stor
 module _ (lines : Lines) (strings : List (List ℕ)) (q : ℕ) where
   module _ (f : HeldStores → HeldStores) (spares : SparesRecords f) (hashed : List (List ℕ)) (s : State) where
     -- nothing that holds of a tree is about its stored nodes
-    abbrev altered_tree : (stores : HeldStores) → TreeHolds s strings q (held_with stores hashed) → TreeHolds s strings q (held_with (f stores) hashed)
-    altered_tree stores tree = record {
-      map = tree.map;
-      shows = record { digest = tree.shows.digest; top = spares.root stores ∙ tree.shows.top; stands = tree.shows.stands; texts = tree.shows.texts };
-      says = tree.says;
-      recorded = ap top_of (spares.tops stores) ∙ tree.recorded ∙ sym (spares.root stores);
-      tops = subst (λ (tops : List (List ℕ)). TopsReturn s strings hashed q tops) (sym (spares.tops stores)) tree.tops;
-    }
+    abbrev altered_tree : (seal : Option (List ℕ)) (stores : HeldStores) → TreeHolds s strings q seal (held_with stores hashed) → TreeHolds s strings q seal (held_with (f stores) hashed)
+    altered_tree seal stores tree = tree_over s strings q seal (held_with stores hashed) (held_with (f stores) hashed) (spares.kept stores) (spares.tops stores) (spares.root stores) (λ x i. i) tree
 
     -- nor is anything that holds of a node
     pub altered_fits : (node : Node) → NodeFits lines strings hashed s q node → NodeFits lines strings hashed s q (over_stores f node)
@@ -91,7 +87,7 @@ module _ (lines : Lines) (strings : List (List ℕ)) (q : ℕ) where
       holds = subst (PeerHolds s.objects.ledger q x) (sym (ap bare (spares.kept stores))) fits.holds;
       listed = fits.listed;
       trust = fits.trust;
-      tree = altered_tree stores fits.tree;
+      tree = altered_tree x.seal stores fits.tree;
       sync = fits.sync;
       fits = fits.fits;
       rests = fits.rests;
@@ -102,12 +98,8 @@ module _ (lines : Lines) (strings : List (List ℕ)) (q : ℕ) where
       saved = down.saved;
       listed = down.listed;
       blind = down.blind;
-      map = down.map;
-      digest = down.digest;
-      top = ap top_of (spares.tops stores) ∙ down.top;
-      named = down.named;
-      says = down.says;
-      tops = subst (λ (tops : List (List ℕ)). TopsReturn s strings hashed q tops) (sym (spares.tops stores)) down.tops;
+      last = last_under strings q s hashed (kept_seal stores.facts.kept) (kept_seal (f stores).facts.kept) (tops_of (f stores)) (ap kept_seal (spares.kept stores))
+          (last_over strings q s hashed hashed (kept_seal stores.facts.kept) (tops_of stores) (tops_of (f stores)) (λ x i. i) (spares.tops stores) down.last);
     }
 
 -- the role of the peer is as it was
@@ -117,7 +109,7 @@ altered_role f (Down stores) = refl
 
 -- ## A peer that stops
 
--- the top record of a peer that stops names the map that its tree shows
+-- a peer that stops keeps the map that it wrote last
 pub stopped_fits : (lines : Lines) (strings hashed : List (List ℕ)) (s : State) (q : ℕ) (x : PeerState) (stores : HeldStores) → UpFits lines strings hashed s q x stores → DownHolds lines.voting (happens s (Lose q)) strings hashed q stores
 stopped_fits lines strings hashed s q x stores fits = record {
   fact = x.fact;
@@ -125,12 +117,8 @@ stopped_fits lines strings hashed s q x stores fits = record {
   saved = fits.holds.saved;
   listed = fits.listed.fact;
   blind = put_here s.objects.trusted q false;
-  map = fits.tree.map;
-  digest = fits.tree.shows.digest;
-  top = fits.tree.recorded ∙ fits.tree.shows.top;
-  named = record { stands = fits.tree.shows.stands; texts = fits.tree.shows.texts };
-  says = tree_says_stay s (happens s (Lose q)) strings (stay_step s (Lose q) (tt, tt)) q fits.tree.map refl fits.tree.says;
-  tops = tops_stay s (happens s (Lose q)) strings hashed q (tops_of stores) (stay_step s (Lose q) (tt, tt)) fits.tree.tops;
+  last = last_under strings q (happens s (Lose q)) hashed x.seal (kept_seal stores.facts.kept) (tops_of stores) fits.tree.sealed
+      (last_stays strings q s (happens s (Lose q)) hashed x.seal (tops_of stores) (stay_step s (Lose q) (tt, tt)) refl refl fits.tree.last);
 }
 
 -- ## A peer that starts
@@ -166,18 +154,20 @@ module _ (view : List ℕ) (stores : HeldStores) (hashed : List (List ℕ)) (sav
   started_strings = ap (λ (xs : List (List ℕ)). hashed ++ xs) (taken_strings ended.ending ended.held ended.notes) ∙ ap (λ (e : Ended PeerState). e.held.hashed) starts_so
 
 module _ (lines : Lines) (strings hashed : List (List ℕ)) (s : State) (q : ℕ) where
-  -- a tree that was opened shows the map that the top record names
+  -- without a seal a peer that is down has a top record, which names the map that it wrote last
+  topped : (stores : HeldStores) → (down : DownHolds lines.voting s strings hashed q stores) → top_of (tops_of stores) ≡ Some down.last.digest
+  topped stores down = sym (named_top (top_of (tops_of stores)) (kept_seal stores.facts.kept) down.last.unsealed) ∙ down.last.is
+
+  -- a tree that was opened shows the map that the peer wrote last
   opened_fits : (stores : HeldStores) (down : DownHolds lines.voting s strings hashed q stores) (saved : SavedFact) → stores.facts.kept ≡ Some saved → let h : Held = (answered (OpenTree None) (held_with stores hashed)).held in UpFits lines strings h.hashed s q (first_state saved false) h.stores
   opened_fits stores down saved kept = record {
     holds = record { saved = subst (IsSaved s.objects.ledger q) same down.saved; kept = ap bare kept; phase = tt; sync = tt };
     listed = listed_started lines.voting q saved false (subst (IsListedFact lines.voting) same down.listed);
     trust = down.blind;
     tree = record {
-      map = down.map;
-      shows = record { digest = has.shows.digest; top = has.shows.top; stands = has.shows.stands; texts = has.shows.texts };
-      says = down.says;
-      recorded = has.recorded;
-      tops = subst (λ (tops : List (List ℕ)). TopsReturn s strings h.hashed q tops) (sym has.tops) (tops_behind s strings hashed h.hashed q (tops_of stores) (grows (OpenTree None) (held_with stores hashed)) down.tops);
+      last = last_over strings q s hashed h.hashed saved.seal (tops_of stores) (tops_of h.stores) (grows (OpenTree None) (held_with stores hashed)) has.tops last;
+      sealed = ap kept_seal kept;
+      root = inl (sym has.recorded, sym has.recorded ∙ sym (named_top (top_of (tops_of h.stores)) saved.seal last.unsealed));
     };
     sync = tt;
     fits = tt;
@@ -190,8 +180,11 @@ module _ (lines : Lines) (strings hashed : List (List ℕ)) (s : State) (q : ℕ
       h : Held
       h = (answered (OpenTree None) (held_with stores hashed)).held
 
-      has : HasOpened down.map (held_with stores hashed) h
-      has = (opens (held_with stores hashed) down.map down.digest down.top down.named).1
+      last : LastMap s strings hashed q saved.seal (tops_of stores)
+      last = last_under strings q s hashed (kept_seal stores.facts.kept) saved.seal (tops_of stores) (sym (ap kept_seal kept)) down.last
+
+      has : HasOpened down.last.map (held_with stores hashed) h
+      has = (opens (held_with stores hashed) down.last.map down.last.digest (topped stores down) down.last.named).1
 
   -- what is kept, if its fact is
   some_saved : (kept : Option SavedFact) (fact : Fact) → bare kept ≡ Some fact → (saved : SavedFact) × (kept ≡ Some saved)
@@ -203,7 +196,7 @@ module _ (lines : Lines) (strings hashed : List (List ℕ)) (s : State) (q : ℕ
   started_fits view (Up x stores) fits = subst (λ (xs : List (List ℕ)). UpFits lines strings xs s q x stores) (sym (append-nil hashed)) fits
   started_fits view (Down stores) down =
       let k = some_saved stores.facts.kept down.fact down.kept in
-      let answers : (answered (OpenTree None) (held_with stores hashed)).result ≡ Ok tt = (opens (held_with stores hashed) down.map down.digest down.top down.named).0 in
+      let answers : (answered (OpenTree None) (held_with stores hashed)).result ≡ Ok tt = (opens (held_with stores hashed) down.last.map down.last.digest (topped stores down) down.last.named).0 in
       subst (λ (xs : List (List ℕ)). NodeFits lines strings xs s q (started view (Down stores))) (sym (started_strings view stores hashed k.0 k.1 answers))
       (subst (λ (n : Node). NodeFits lines strings (answered (OpenTree None) (held_with stores hashed)).held.hashed s q n) (sym (started_node view stores hashed k.0 k.1 answers)) (opened_fits stores down k.0 k.1))
 
@@ -212,7 +205,7 @@ module _ (lines : Lines) (strings hashed : List (List ℕ)) (s : State) (q : ℕ
   started_role view (Up x stores) fits = refl
   started_role view (Down stores) down =
       let k = some_saved stores.facts.kept down.fact down.kept in
-      ap role_of (started_node view stores hashed k.0 k.1 (opens (held_with stores hashed) down.map down.digest down.top down.named).0)
+      ap role_of (started_node view stores hashed k.0 k.1 (opens (held_with stores hashed) down.last.map down.last.digest (topped stores down) down.last.named).0)
 
 -- ## A tree that is put back
 
@@ -248,23 +241,27 @@ reverted_fits lines strings hashed s q n stores down = record {
     saved = down.saved;
     listed = down.listed;
     blind = down.blind;
-    map = m;
-    digest = new.0;
-    top = new.1;
-    named = return.named;
-    says = record {
-      entries = ((stays lines s t stay).returns strings q m return.returns).entries;
-      visible = λ k. ap (λ (f : List ℕ → ℕ). f k) (put_here s.objects.visible q (ranks m));
+    last = record {
+      digest = new.0;
+      is = named_top (top_of (reverted n (tops_of stores))) (kept_seal stores.facts.kept) down.last.unsealed ∙ new.1;
+      map = m;
+      named = return.named;
+      says = record {
+        entries = ((stays lines s t stay).returns strings q m return.returns).entries;
+        visible = λ k. ap (λ (f : List ℕ → ℕ). f k) (put_here s.objects.visible q (ranks m));
+      };
+      honest = λ sealed. absurd (unsealed_not (kept_seal stores.facts.kept) down.last.unsealed sealed);
+      returns = λ none digest at. tops_stay s t strings hashed q (tops_of stores) stay (down.last.returns none) digest (reverted_in n (tops_of stores) digest at);
+      unsealed = down.last.unsealed;
     };
-    tops = λ digest at. tops_stay s t strings hashed q (tops_of stores) stay down.tops digest (reverted_in n (tops_of stores) digest at);
   };
 }
   where
     new : (digest : List ℕ) × (top_of (reverted n (tops_of stores)) ≡ Some digest) × (digest ∈ tops_of stores)
-    new = reverted_some (tops_of stores) (some_top (tops_of stores) down.digest down.top) n
+    new = reverted_some (tops_of stores) (some_top (tops_of stores) down.last.digest (topped lines strings hashed s q stores down)) n
 
     return : TopReturns s strings hashed q new.0
-    return = down.tops new.0 new.2
+    return = down.last.returns down.last.unsealed new.0 new.2
 
     m : List Entry
     m = return.map

@@ -1,6 +1,6 @@
 -- What holds of the node of a peer stays so while other peers take steps, and by the steps at which an
 -- event begins and calls are answered; and all messages hold what they held.
-use Rattle.std.proofs.Common.{◌≡◌, ℕ, true, List, Option, Some, sym, ap, ◌∙◌, subst}
+use Rattle.std.proofs.Common.{◌≡◌, ℕ, true, List, Option, Some, refl, sym, ap, ◌∙◌, subst}
 use Rattle.std.specs.Prelude.{All}
 use Rattle.std.proofs.lemmas.Option.{same_Some}
 use Rattle.abstract_protocol.specs.Ledger.{Ledger}
@@ -12,15 +12,14 @@ use Rattle.election_refinement.specs.Refinement.{IsSaved, IsKept, NodeHolds, Fra
 use Rattle.held_stores.specs.Laws.{held_with}
 use Rattle.peer_fact.specs.declared.fact.Fact.{Fact}
 use Rattle.request_refinement.specs.Naming.{hash_of}
+use Rattle.seal_stores.specs.Held.{kept_seal}
 use Rattle.sync_laws.specs.Facts.{Lines}
-use Rattle.sync_refinement.proofs.Staying.{stays, tree_says_stay}
-use Rattle.tree_refinement.proofs.Tops.{named_behind}
 use Rattle.tree_refinement.specs.Tops.{tops_of}
 use Rattle.tree_refinement.specs.Trees.{AreAmong}
 use Rattle.wire_frames.specs.declared.frame.Frame.{Frame}
 use Rattle.world_spec.specs.Nodes.{Node, Up, Down}
 use Rattle.step_refinement.specs.Scenes.{Elsewhere}
-use Rattle.step_refinement.proofs.ShownMaps.{tree_behind, tree_stays, tops_behind, tops_stay}
+use Rattle.step_refinement.proofs.ShownMaps.{tree_behind, tree_stays, last_over, last_stays}
 use Rattle.call_refinement.specs.Worlds.{NodeFits, MessagesFit}
 use Rattle.step_refinement.proofs.LaterStates.{sync_stays, phase_stays, frames_fit}
 use Rattle.step_plans.specs.Saved.{bare}
@@ -31,6 +30,7 @@ use Rattle.step_plans.specs.Saved.{bare}
 pub record StaysFor (q : ℕ) (s t : State) : Type 0 where
   pub node : (node : Node) → NodeHolds s.objects.ledger q node → NodeHolds t.objects.ledger q node
   pub views : (d : ℕ) → s.objects.ledger.elected d ≡ true → t.objects.ledger.views d ≡ s.objects.ledger.views d
+  pub map : t.objects.map q ≡ s.objects.map q
   pub visible : t.objects.visible q ≡ s.objects.visible q
   pub trusted : t.objects.trusted q ≡ s.objects.trusted q
   pub entries : EntriesStay s t
@@ -40,6 +40,7 @@ pub elsewhere_stays : (p q : ℕ) (s t : State) → (p ≡ q → ⊥) → Elsewh
 elsewhere_stays p q s t other e = record {
   node = λ node holds. node_keeps s.objects.ledger t.objects.ledger p e.ledger q node other holds;
   views = e.ledger.views;
+  map = e.map q other;
   visible = e.visible q other;
   trusted = e.trusted q other;
   entries = e.stays;
@@ -50,6 +51,7 @@ pub same_stays : (q : ℕ) (s t : State) → t.objects ≡ s.objects → Entries
 same_stays q s t same stays = record {
   node = λ node holds. subst (λ (o : Objects). NodeHolds o.ledger q node) (sym same) holds;
   views = λ d elected. ap (λ (o : Objects). o.ledger.views d) same;
+  map = ap (λ (o : Objects). o.map q) same;
   visible = ap (λ (o : Objects). o.visible q) same;
   trusted = ap (λ (o : Objects). o.trusted q) same;
   entries = stays;
@@ -62,8 +64,8 @@ module _ (lines : Lines) (strings hashed more : List (List ℕ)) (q : ℕ) (s t 
     holds = stays_for.node (Up x stores) f.holds;
     listed = f.listed;
     trust = stays_for.trusted ∙ f.trust;
-    tree = tree_behind t strings q stores hashed more among (tree_stays s t strings q (held_with stores hashed) stays_for.entries stays_for.visible f.tree);
-    sync = sync_stays lines s t strings q x.fact x.trusted f.tree.map x.sync stays_for.entries f.holds.saved.ballot f.sync;
+    tree = tree_behind t strings q x.seal stores hashed more among (tree_stays s t strings q x.seal (held_with stores hashed) stays_for.entries stays_for.visible stays_for.map (λ blind. stays_for.trusted ∙ blind) f.tree);
+    sync = sync_stays lines s t strings q x.fact x.trusted f.tree.last.map x.sync stays_for.entries f.holds.saved.ballot f.sync;
     fits = phase_stays hash_of s t q x.fact x.phase stays_for.entries stays_for.views f.holds.phase f.fits;
     rests = f.rests;
   }
@@ -73,12 +75,7 @@ module _ (lines : Lines) (strings hashed more : List (List ℕ)) (q : ℕ) (s t 
     saved = saved_stays f.fact f.kept (stays_for.node (Down stores) (record { fact = f.fact; kept = f.kept; saved = f.saved }));
     listed = f.listed;
     blind = stays_for.trusted ∙ f.blind;
-    map = f.map;
-    digest = f.digest;
-    top = f.top;
-    named = named_behind hashed more f.digest f.map among f.named;
-    says = tree_says_stay s t strings stays_for.entries q f.map stays_for.visible f.says;
-    tops = tops_behind t strings hashed more q (tops_of stores) among (tops_stay s t strings hashed q (tops_of stores) stays_for.entries f.tops);
+    last = last_over strings q t hashed more (kept_seal stores.facts.kept) (tops_of stores) (tops_of stores) among refl (last_stays strings q s t hashed (kept_seal stores.facts.kept) (tops_of stores) stays_for.entries stays_for.visible stays_for.map f.last);
   }
     where
       same_fact : (o : Option Fact) (a b : Fact) → o ≡ Some a → o ≡ Some b → b ≡ a

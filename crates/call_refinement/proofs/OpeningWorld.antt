@@ -18,13 +18,16 @@ use Rattle.leader_laws.proofs.Roles.{roles_open}
 use Rattle.leader_laws.specs.Roles.{Follows}
 use Rattle.leader_laws.specs.Tables.{Ghosts}
 use Rattle.network.specs.Mail.{MayBeSent}
+use Rattle.peer_fact.specs.Facts.{opening_fact}
 use Rattle.peer_plan.specs.Starts.{first_state, opening_saved, saves_opening, start_of}
 use Rattle.peer_state.specs.declared.state.State.{State as PeerState}
 use Rattle.request_refinement.specs.Naming.{hash_of}
+use Rattle.seal_stores.specs.Held.{kept_seal}
 use Rattle.step_plans.specs.Calls.{FreshTree}
 use Rattle.step_plans.specs.Plans.{Finished, Stopped, nothing}
 use Rattle.step_plans.specs.declared.error.PeerError.{PeerError}
 use Rattle.sync_laws.specs.Facts.{Lines}
+use Rattle.tree_refinement.proofs.Keeping.{spares}
 use Rattle.tree_refinement.proofs.Tops as records
 use Rattle.tree_refinement.proofs.Whole as whole
 use Rattle.tree_refinement.specs.Tops.{IsWritten, HasBuilt}
@@ -79,16 +82,16 @@ module _ (view : List ℕ) where
   strings_are = ap (λ (e : Ended PeerState). (taken_of e).hashed) started
 
   -- the tree shows the empty map, which the only top record names
-  abbrev fresh_tree : (strings : List (List ℕ)) (q : ℕ) → TreeHolds (opening view) strings q saved
-  fresh_tree strings q = tree_saved (opening view) strings q kept_first fresh (tree_written (opening view) strings q first fresh [] written (λ s at. absurd at) (record { entries = λ e at. absurd at; visible = λ k. refl }) (record { entries = λ e at. absurd at; reached = λ e at. absurd at })
-      (λ digest at. absurd at))
+  abbrev fresh_tree : (strings : List (List ℕ)) (q : ℕ) → TreeHolds (opening view) strings q None saved
+  fresh_tree strings q = tree_saved (opening view) strings q None (opening_fact view) fresh (tree_written (opening view) strings q None first fresh [] refl (ap (λ (f : HeldFact). kept_seal f.kept) (spares FreshTree first).1) written (λ s at. absurd at) (record { entries = λ e at. absurd at; visible = λ k. refl })
+      (record { entries = λ e at. absurd at; reached = λ e at. absurd at }) (λ digest at. absurd at))
 
   node_first : (lines : Lines) (strings more : List (List ℕ)) (q : ℕ) → view ∈ lines.voting → AreAmong (opening_strings view) more → NodeFits lines strings more (opening view) q (opening_node view)
   node_first lines strings more q votes among = subst (λ (n : Node). NodeFits lines strings more (opening view) q n) node_is (record {
     holds = record { saved = saved_first view q; kept = refl; phase = tt; sync = tt };
     listed = listed_opening lines.voting q view votes;
     trust = refl;
-    tree = tree_behind (opening view) strings q saved.stores fresh.hashed more (subst (λ (xs : List (List ℕ)). AreAmong xs more) strings_are among) (fresh_tree strings q);
+    tree = tree_behind (opening view) strings q None saved.stores fresh.hashed more (subst (λ (xs : List (List ℕ)). AreAmong xs more) strings_are among) (fresh_tree strings q);
     sync = tt;
     fits = tt;
     rests = tt;

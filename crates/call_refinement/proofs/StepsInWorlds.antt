@@ -197,7 +197,7 @@ module _ (lines : Lines) (view : List ℕ) (strings : List (List ℕ)) (p : ℕ)
         stay = stay_step reached_state e back.may
 
         others : (q : ℕ) → (p ≡ q → ⊥) → StaysFor q reached_state t
-        others q other = record { node = λ node holds. holds; views = λ d elected. refl; visible = put_other reached_state.objects.visible p (ranks back.map) q other; trusted = refl; entries = stay }
+        others q other = record { node = λ node holds. holds; views = λ d elected. refl; map = refl; visible = put_other reached_state.objects.visible p (ranks back.map) q other; trusted = refl; entries = stay }
 
         firm : FirmAreKept lines t
         firm = put_then reached_state.objects.reverted p true (λ q was. lines.firm q ≡ true → was ≡ false) (λ is. absurd (true≢false (sym is ∙ soft))) (λ q other. parts.firm q)

@@ -31,8 +31,8 @@ pub record UpFits (lines : Lines) (strings hashed : List (List ℕ)) (s : State)
   pub holds : PeerHolds s.objects.ledger q x (bare stores.facts.kept)
   pub listed : IsListedPeer lines.voting q x
   pub trust : s.objects.trusted q ≡ x.trusted
-  pub tree : TreeHolds s strings q (held_with stores hashed)
-  pub sync : SyncMaySay lines s strings q x.fact x.trusted tree.map x.sync
+  pub tree : TreeHolds s strings q x.seal (held_with stores hashed)
+  pub sync : SyncMaySay lines s strings q x.fact x.trusted tree.last.map x.sync
   pub fits : PhaseFits hash_of s x.phase
   pub rests : IsAtRest x.phase
 

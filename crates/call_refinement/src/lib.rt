@@ -5,11 +5,11 @@
 //! premise is that of each view that the schedule names, the opening one and those that lines ask for,
 //! more than half of the members are never reverted; and that no two different strings that were hashed
 //! have the same MD5. Then the world after the schedule agrees with a run of the abstract protocol
-//! (`specs/Worlds`): each running peer shows the map of the protocol and has its role in the theory of
-//! leaders (`specs/Roles`), the top record of a peer that is down names such a map, each message says
-//! what holds, and the book has the notes of the leaders, the calls of the lines and the answers
-//! printed (`specs/Lines`). So its histories are legal, in the sense of Herlihy and Wing (1990), and each answer
-//! printed has its cause in the notes (`specs/Causes`).
+//! (`specs/Worlds`): the stores of each peer name the map that it shows in the protocol, a running peer has
+//! its role in the theory of leaders (`specs/Roles`), each message says what holds, and the book has the
+//! notes of the leaders, the calls of the lines and the answers printed (`specs/Lines`). So its histories
+//! are legal, in the sense of Herlihy and Wing (1990), and each answer printed has its cause in the notes
+//! (`specs/Causes`).
 //!
 //! What one step of a peer is in the protocol stands in `step_refinement`. `proofs/StepsInWorlds` makes
 //! it the step of a peer in a world, and `proofs/Agreement` and `proofs/Schedules` go through the lines

@@ -1,6 +1,6 @@
 -- Steps of elections, which end no sync: the run that a step of a peer has reached goes on by them, and
 -- what trees, messages and acknowledgements say stays so.
-use Rattle.std.proofs.Common.{◌≡◌, ℕ, suc, Bool, List, [], ◌∷◌, ◌++◌, arith, refl, ap, sym, subst, ◌∙◌}
+use Rattle.std.proofs.Common.{◌≡◌, ℕ, suc, Bool, List, [], ◌∷◌, ◌++◌, Option, arith, refl, ap, sym, subst, ◌∙◌}
 use Rattle.std.specs.Prelude.{All}
 use Rattle.abstract_protocol.proofs.Steps.{after_both, may_both}
 use Rattle.abstract_protocol.specs.Protocol.{State, Step, Raise, Elect, Accept, Commit, Adopt, Install, EndSync, happens, MayCome, IsRun, state_after, after, MayAll}
@@ -167,8 +167,10 @@ module _ (view : List ℕ) (es steps : List Step) (run : IsRun view (es ++ steps
       (acks v q fits (ap (λ (f : ℕ → ℕ → Bool). f (rank v) q) (sym (spared_there view es steps kinds).acked) ∙ acked))
 
   -- the tree of a peer holds what it held
-  abbrev pub tree_there : AreElectionSteps es → (q : ℕ) (h : Held) → TreeHolds (state_after view steps) strings q h → TreeHolds (state_after view (es ++ steps)) strings q h
-  tree_there kinds q h tree = tree_stays (state_after view steps) (state_after view (es ++ steps)) strings q h (entries_there view es steps run) (ap (λ (f : ℕ → List ℕ → ℕ). f q) (spared_there view es steps kinds).visible) tree
+  abbrev pub tree_there : AreElectionSteps es → (q : ℕ) (seal : Option (List ℕ)) (h : Held) → TreeHolds (state_after view steps) strings q seal h → TreeHolds (state_after view (es ++ steps)) strings q seal h
+  tree_there kinds q seal h tree = let spared = spared_there view es steps kinds in
+      tree_stays (state_after view steps) (state_after view (es ++ steps)) strings q seal h (entries_there view es steps run) (ap (λ (f : ℕ → List ℕ → ℕ). f q) spared.visible) (ap (λ (f : ℕ → List ℕ → ℕ). f q) spared.map)
+      (λ blind. ap (λ (f : ℕ → Bool). f q) spared.trusted ∙ blind) tree
 
   -- messages that were to be sent fit as before
   pub sends_there : (lines : Lines) (q : ℕ) (sends : List Outgoing) → All (SendFits lines (state_after view steps) strings q) sends → All (SendFits lines (state_after view (es ++ steps)) strings q) sends

@@ -1,5 +1,5 @@
--- A row of a phase leaves the trust of the peer in its tree as it was, unless it finds damage, and it begins no
--- sync: the sync of the peer runs on, or it ends.
+-- A row of a phase leaves the seal of the peer as it was, and its trust in its tree, unless it finds damage, and
+-- it begins no sync: the sync of the peer runs on, or it ends.
 use Rattle.std.proofs.Common.{◌≡◌, ◌⊎◌, inl, inr, ℕ, Bool, true, false, if◌then◌else◌, List, Option, None, Some, refl, sym, ap, subst, ◌∙◌}
 use Rattle.ens_base.specs.declared.entry.Entry.{Entry}
 use Rattle.ens_base.specs.declared.epoch.Epoch.{Epoch}
@@ -36,8 +36,9 @@ use Rattle.phase_rows.specs.declared.phase.Then.TheVariants as thens
 use Rattle.phase_rows.specs.declared.rules.PhaseRule.{PhaseRule}
 use Rattle.phase_rows.specs.declared.rules.PhaseRule.TheVariants as phase_rules
 
--- from x to y the trust stays, and the sync runs on or ends
+-- from x to y the seal and the trust stay, and the sync runs on or ends
 pub record Spares (x y : State) : Type 0 where
+  pub seal : y.seal ≡ x.seal
   pub trusted : y.trusted ≡ x.trusted
   pub sync : (y.sync ≡ x.sync) ⊎ (y.sync ≡ None)
 
@@ -47,11 +48,11 @@ IsBlind x = (x.trusted ≡ false) × (x.sync ≡ None)
 
 -- nothing changes
 pub spares_same : (x : State) → Spares x x
-spares_same x = record { trusted = refl; sync = inl refl }
+spares_same x = record { seal = refl; trusted = refl; sync = inl refl }
 
 -- two changes that spare the peer spare it together
 pub spares_then : (x y z : State) → Spares x y → Spares y z → Spares x z
-spares_then x y z a b = record { trusted = b.trusted ∙ a.trusted; sync = by_later b.sync a.sync }
+spares_then x y z a b = record { seal = b.seal ∙ a.seal; trusted = b.trusted ∙ a.trusted; sync = by_later b.sync a.sync }
   where
     by_first : z.sync ≡ y.sync → (y.sync ≡ x.sync) ⊎ (y.sync ≡ None) → (z.sync ≡ x.sync) ⊎ (z.sync ≡ None)
     by_first same (inl first) = inl (same ∙ first)
@@ -63,22 +64,22 @@ spares_then x y z a b = record { trusted = b.trusted ∙ a.trusted; sync = by_la
 
 -- ## After a row
 
-left_spares : (leave : Bool) (x : State) → Spares x (left leave x)
-left_spares true x = record { trusted = refl; sync = inl refl }
+pub left_spares : (leave : Bool) (x : State) → Spares x (left leave x)
+left_spares true x = record { seal = refl; trusted = refl; sync = inl refl }
 left_spares false x = spares_same x
 
 saved_spares : (save : Option Fact) (x : State) → Spares x (saved_in save x)
 saved_spares None x = spares_same x
-saved_spares (Some fact) x = record { trusted = refl; sync = inl refl }
+saved_spares (Some fact) x = record { seal = refl; trusted = refl; sync = inl refl }
 
 turned_spares : (me : ℕ) (next : Then) (x : State) → IsBlind (made_way next (turned me next x)) ⊎ Spares x (made_way next (turned me next x))
-turned_spares me thens.Follow x = inr (record { trusted = refl; sync = inr refl })
-turned_spares me (thens.Lead fact) x = inr (record { trusted = refl; sync = inr refl })
+turned_spares me thens.Follow x = inr (record { seal = refl; trusted = refl; sync = inr refl })
+turned_spares me (thens.Lead fact) x = inr (record { seal = refl; trusted = refl; sync = inr refl })
 turned_spares me thens.Untrust x = inl (refl, refl)
 turned_spares me thens.Stay x = inr (spares_same x)
 turned_spares me thens.Put x = inr (spares_same x)
 turned_spares me thens.Resume x = inr (spares_same x)
-turned_spares me (thens.SyncOn fact) x = inr (record { trusted = refl; sync = inr refl })
+turned_spares me (thens.SyncOn fact) x = inr (record { seal = refl; trusted = refl; sync = inr refl })
 turned_spares me (thens.Rule n) x = inr (spares_same x)
 turned_spares me (thens.OnKeys n) x = inr (spares_same x)
 
@@ -92,6 +93,25 @@ settled_spares me row x y before = by_turn (turned_spares me row.then kept)
     by_turn : IsBlind (settled me row y) ⊎ Spares kept (settled me row y) → IsBlind (settled me row y) ⊎ Spares x (settled me row y)
     by_turn (inl blind) = inl blind
     by_turn (inr spares) = inr (spares_then x kept (settled me row y) (spares_then x (left row.leave y) kept (spares_then x y (left row.leave y) before (left_spares row.leave y)) (saved_spares row.save (left row.leave y))) spares)
+
+-- what follows the first part of a row leaves the seal, also where damage was found
+pub settled_seal : (me : ℕ) (row : PhaseOut) (y : State) → (settled me row y).seal ≡ (left row.leave y).seal
+settled_seal me row y = turned_seal row.then (saved_in row.save (left row.leave y)) ∙ saved_seal row.save (left row.leave y)
+  where
+    saved_seal : (save : Option Fact) (x : State) → (saved_in save x).seal ≡ x.seal
+    saved_seal None x = refl
+    saved_seal (Some fact) x = refl
+
+    turned_seal : (next : Then) (x : State) → (made_way next (turned me next x)).seal ≡ x.seal
+    turned_seal thens.Follow x = refl
+    turned_seal (thens.Lead fact) x = refl
+    turned_seal thens.Untrust x = refl
+    turned_seal thens.Stay x = refl
+    turned_seal thens.Put x = refl
+    turned_seal thens.Resume x = refl
+    turned_seal (thens.SyncOn fact) x = refl
+    turned_seal (thens.Rule n) x = refl
+    turned_seal (thens.OnKeys n) x = refl
 
 -- ## The sync
 
@@ -141,15 +161,15 @@ module _ (p : ℕ) (x : State) where
 
   seeks : (o : Option Probing) → Spares x (sought o x)
   seeks None = same
-  seeks (Some b) = record { trusted = refl; sync = inr refl }
+  seeks (Some b) = record { seal = refl; trusted = refl; sync = inr refl }
 
   stands : (o : Option Election) → Spares x (stood o x)
   stands None = same
-  stands (Some e) = record { trusted = refl; sync = inr refl }
+  stands (Some e) = record { seal = refl; trusted = refl; sync = inr refl }
 
   waits : (next : Then) → Spares x (waiting_for next x)
-  waits (thens.SyncOn fact) = record { trusted = refl; sync = inl refl }
-  waits thens.Resume = record { trusted = refl; sync = inl refl }
+  waits (thens.SyncOn fact) = record { seal = refl; trusted = refl; sync = inl refl }
+  waits thens.Resume = record { seal = refl; trusted = refl; sync = inl refl }
   waits thens.Stay = same
   waits thens.Follow = same
   waits (thens.Lead fact) = same
@@ -159,15 +179,15 @@ module _ (p : ℕ) (x : State) where
   waits (thens.OnKeys n) = same
 
   wants : (change : Change) (phase : Phase) → Spares x (wanting change phase x)
-  wants change (phases.Leading l) = record { trusted = refl; sync = inl refl }
+  wants change (phases.Leading l) = record { seal = refl; trusted = refl; sync = inl refl }
   wants change other = same
 
   rule_8 : (phase : Phase) (from : ℕ) (reply : Fact) → G (while_8 phase p from reply x)
-  rule_8 (phases.Probing b) from reply = record { trusted = refl; sync = inl refl }
+  rule_8 (phases.Probing b) from reply = record { seal = refl; trusted = refl; sync = inl refl }
   rule_8 other from reply = same
 
   rule_9 : (phase : Phase) → G (while_9 phase x)
-  rule_9 (phases.Probing b) = record { trusted = refl; sync = inl refl }
+  rule_9 (phases.Probing b) = record { seal = refl; trusted = refl; sync = inl refl }
   rule_9 other = same
 
   rule_10 : (phase : Phase) → G (while_10 phase p x)
@@ -176,15 +196,15 @@ module _ (p : ℕ) (x : State) where
   rule_10 other = same
 
   rule_12 : (phase : Phase) (from : ℕ) (ballot : Epoch) (promised : Fact) → G (while_12 phase p from ballot promised x)
-  rule_12 (phases.Electing e) from ballot promised = record { trusted = refl; sync = inl refl }
+  rule_12 (phases.Electing e) from ballot promised = record { seal = refl; trusted = refl; sync = inl refl }
   rule_12 other from ballot promised = same
 
   rule_13 : (phase : Phase) → G (while_13 phase p x)
-  rule_13 (phases.Electing e) = record { trusted = refl; sync = inl refl }
+  rule_13 (phases.Electing e) = record { seal = refl; trusted = refl; sync = inl refl }
   rule_13 other = same
 
   rule_14 : (phase : Phase) → G (while_14 phase p x)
-  rule_14 (phases.Electing e) = record { trusted = refl; sync = inl refl }
+  rule_14 (phases.Electing e) = record { seal = refl; trusted = refl; sync = inl refl }
   rule_14 other = same
 
   rule_15 : (phase : Phase) (ballot : Epoch) (cause : NackCause) → G (while_15 phase ballot cause x)
@@ -193,12 +213,12 @@ module _ (p : ℕ) (x : State) where
   rule_15 other ballot cause = same
 
   rule_17 : (phase : Phase) (from : ℕ) (ballot : Epoch) (seq : ℕ) → G (while_17 phase from ballot seq x)
-  rule_17 (phases.Electing e) from ballot seq = record { trusted = refl; sync = inl refl }
-  rule_17 (phases.Leading l) from ballot seq = record { trusted = refl; sync = inl refl }
+  rule_17 (phases.Electing e) from ballot seq = record { seal = refl; trusted = refl; sync = inl refl }
+  rule_17 (phases.Leading l) from ballot seq = record { seal = refl; trusted = refl; sync = inl refl }
   rule_17 other from ballot seq = same
 
   rule_25 : (phase : Phase) → G (while_25 phase p x)
-  rule_25 (phases.Leading l) = record { trusted = refl; sync = inl refl }
+  rule_25 (phases.Leading l) = record { seal = refl; trusted = refl; sync = inl refl }
   rule_25 other = same
 
   rule_26 : (phase : Phase) → G (while_26 phase p x)
@@ -206,10 +226,10 @@ module _ (p : ℕ) (x : State) where
   rule_26 other = same
 
   rules_2_to_4 : (phase : Phase) → G (aged phase p x)
-  rules_2_to_4 (phases.Following f) = record { trusted = refl; sync = inl refl }
-  rules_2_to_4 (phases.Probing b) = record { trusted = refl; sync = inl refl }
-  rules_2_to_4 (phases.Electing (Preparing base promises asked age)) = record { trusted = refl; sync = inl refl }
-  rules_2_to_4 (phases.Electing (Starting new accepts age)) = record { trusted = refl; sync = inl refl }
+  rules_2_to_4 (phases.Following f) = record { seal = refl; trusted = refl; sync = inl refl }
+  rules_2_to_4 (phases.Probing b) = record { seal = refl; trusted = refl; sync = inl refl }
+  rules_2_to_4 (phases.Electing (Preparing base promises asked age)) = record { seal = refl; trusted = refl; sync = inl refl }
+  rules_2_to_4 (phases.Electing (Starting new accepts age)) = record { seal = refl; trusted = refl; sync = inl refl }
   rules_2_to_4 (phases.Leading l) = same
 
   -- the row of a rule that a row names

@@ -171,8 +171,8 @@ module _ (c : Scene) (call : CallIn) (few : length (state_after c.view (Ask (ask
     peer = old.standing.peer;
     listed = old.standing.listed;
     trust = old.standing.trust;
-    tree = tree_stays s t strings p h called_later refl old.standing.tree;
-    sync = sync_stays lines s t strings p x.fact x.trusted old.standing.tree.map x.sync called_later old.standing.peer.saved.ballot old.standing.sync;
+    tree = tree_stays s t strings p x.seal h called_later refl refl (λ blind. blind) old.standing.tree;
+    sync = sync_stays lines s t strings p x.fact x.trusted old.standing.tree.last.map x.sync called_later old.standing.peer.saved.ballot old.standing.sync;
     noted = sym (append-nil t.book.notes);
     sends = All-nil (SendHolds t.objects.ledger p);
     listed_sends = All-nil (λ (o : Outgoing). IsListedMessage lines.voting o.message);
@@ -222,8 +222,8 @@ module _ (c : Scene) (call : CallIn) (few : length (state_after c.view (Ask (ask
     f = takes.follows
 
     -- the map that the leader's peer wrote last
-    called_map : MapSays t strings p old.standing.tree.map
-    called_map = maps_stay s strings strings (Ask ask ∷ []) p old.standing.tree.map (may_ask, tt) (tt, tt) (λ a at. at) (own_map c l x here)
+    called_map : MapSays t strings p old.standing.tree.last.map
+    called_map = maps_stay s strings strings (Ask ask ∷ []) p old.standing.tree.last.map (may_ask, tt) (tt, tt) (λ a at. at) (own_map c l x here)
 
     taken : Here d call.key (leading (with_leader row.0 l) x) h (and_sends (and_answers nothing row.1.answers) row.1.sends) row.1.notes
     taken = stands_on d call.key (leading (with_leader row.0 l) x) h (and_sends (and_answers nothing row.1.answers) row.1.sends) row.1.notes (Ask ask ∷ c.begun) f.ghosts f.steps (run, may_ask) f.move.may (record {

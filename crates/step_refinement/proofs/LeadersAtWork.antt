@@ -90,8 +90,8 @@ module _ (c : Scene) where
     pub peer : PeerHolds t.objects.ledger p x (bare h.stores.facts.kept)
     pub listed : IsListedPeer lines.voting p x
     pub trust : t.objects.trusted p ≡ x.trusted
-    pub tree : TreeHolds t strings p h
-    pub sync : SyncMaySay lines t strings p x.fact x.trusted tree.map x.sync
+    pub tree : TreeHolds t strings p x.seal h
+    pub sync : SyncMaySay lines t strings p x.fact x.trusted tree.last.map x.sync
     pub noted : t.book.notes ≡ (state_before c).book.notes ++ notes
     pub sends : All (SendHolds t.objects.ledger p) out.sends
     pub listed_sends : All (λ (o : Outgoing). IsListedMessage lines.voting o.message) out.sends
@@ -203,16 +203,16 @@ module _ (c : Scene) where
     shows own = subst (λ q. AcksShow s q later) own (acks_shown s l.leader.me steps kinds)
 
     -- what stands of the leader still does after a rule that is moves of the theory
-    pub steps_stand : (g : Ghosts) → g.hash ≡ hash_of → MapSays s strings p old.tree.map → l.leader.me ≡ p → All AskFits r.1.sends → Standing (leading (with_leader r.0 l) x) h (and_sends (and_answers out r.1.answers) r.1.sends) (notes ++ r.1.notes) later
+    pub steps_stand : (g : Ghosts) → g.hash ≡ hash_of → MapSays s strings p old.tree.last.map → l.leader.me ≡ p → All AskFits r.1.sends → Standing (leading (with_leader r.0 l) x) h (and_sends (and_answers out r.1.answers) r.1.sends) (notes ++ r.1.notes) later
     steps_stand g hash map_says own asks = record {
       elsewhere = elsewhere_then p (state_before c) s later old.elsewhere moved;
       orderly = subst IsOrderly (sym kept.ledger) old.orderly;
-      acks = acks_later s g strings p old.tree.map steps hash c.free map_says may (shows own) old.acks;
+      acks = acks_later s g strings p old.tree.last.map steps hash c.free map_says may (shows own) old.acks;
       peer = new_peer;
       listed = new_listed;
       trust = ap (λ (t : ℕ → Bool). t p) kept.trusted ∙ old.trust;
-      tree = tree_stays s later strings p h (stay_after s steps may) (ap (λ (m : ℕ → Map). m p) kept.visible) old.tree;
-      sync = sync_stays lines s later strings p x.fact x.trusted old.tree.map x.sync (stay_after s steps may) old.peer.saved.ballot old.sync;
+      tree = tree_stays s later strings p x.seal h (stay_after s steps may) (ap (λ (m : ℕ → Map). m p) kept.visible) (ap (λ (m : ℕ → Map). m p) kept.map) (λ blind. ap (λ (t : ℕ → Bool). t p) kept.trusted ∙ blind) old.tree;
+      sync = sync_stays lines s later strings p x.fact x.trusted old.tree.last.map x.sync (stay_after s steps may) old.peer.saved.ballot old.sync;
       noted = told_notes ∙ ap (λ ns. ns ++ r.1.notes) old.noted ∙ append_assoc (state_before c).book.notes notes r.1.notes;
       sends = new_sends asks;
       listed_sends = new_listed_sends asks;
@@ -271,8 +271,8 @@ module _ (c : Scene) where
     trusts = here.trust ∙ here.listed.phase.sees
 
     -- so the tree shows the map that the peer wrote last
-    pub own_map : MapSays state strings p here.tree.map
-    own_map = trusted_maps view here.reached.steps here.reached.run strings p here.tree.map trusts here.tree.says
+    pub own_map : MapSays state strings p here.tree.last.map
+    own_map = trusted_maps view here.reached.steps here.reached.run strings p here.tree.last.map trusts here.tree.last.says
 
     serves : Serves state p x.fact true
     serves = let saved = here.peer.saved in

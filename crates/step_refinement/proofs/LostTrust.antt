@@ -74,7 +74,7 @@ module _ (c : Scene) where
     pub roles : RolesHold reached.ghosts (now c reached) (put c.roles p (role_in key x.phase (owed_after [] out.answers))) (said_in_sends p out.sends ++ c.said)
     pub peer : PeerHolds (now c reached).objects.ledger p x (bare h.stores.facts.kept)
     pub listed : IsListedPeer lines.voting p x
-    pub tree : TreeHolds (now c reached) strings p h
+    pub tree : TreeHolds (now c reached) strings p x.seal h
     pub fits : PhaseFits reached.ghosts.hash (now c reached) x.phase
     pub rests : IsAtRest x.phase
     pub noted : (now c reached).book.notes ≡ (state_before c).book.notes ++ notes
@@ -102,8 +102,8 @@ module _ (c : Scene) where
         peer = near.peer;
         listed = near.listed;
         trust = put_here s.objects.trusted p false ∙ sym blind;
-        tree = tree_stays s u strings p h stay refl near.tree;
-        sync = subst (λ (sync : Option Running). SyncMaySay lines u strings p x.fact x.trusted near.tree.map sync) (sym none) tt;
+        tree = tree_stays s u strings p x.seal h stay refl refl (λ is. put_here s.objects.trusted p false) near.tree;
+        sync = subst (λ (sync : Option Running). SyncMaySay lines u strings p x.fact x.trusted near.tree.last.map sync) (sym none) tt;
         fits = phase_stays near.reached.ghosts.hash s u p x.fact x.phase stay (λ d elected. refl) near.peer.phase near.fits;
         task = rest_task u key x.phase near.rests;
         noted = near.noted;

@@ -61,11 +61,11 @@ use Rattle.step_refinement.proofs.StoreAnswers.{HasEither, SaveEnds, Saves, Refu
 use Rattle.step_refinement.proofs.Refusals.{rests_over}
 use Rattle.step_refinement.proofs.SentMessages.{posted_to_each, SaysSo, sends_say, says_more}
 use Rattle.step_refinement.proofs.ElectionSteps.{AreElectionSteps, elections_only, entries_there, spared_there, roles_there, unled_there, tree_there, sends_there, reached_there}
-use Rattle.step_refinement.proofs.KeptTrust.{Spares, IsBlind, settled_spares, sync_spared}
+use Rattle.step_refinement.proofs.KeptTrust.{Spares, IsBlind, left_spares, settled_seal, settled_spares, sync_spared}
 use Rattle.step_refinement.proofs.LaterStates.{phase_stays, sync_stays}
 use Rattle.step_refinement.proofs.SyncSteps.{begun_good, resumed_good}
 use Rattle.step_refinement.proofs.LeaderTasks.{PhasesNext}
-use Rattle.step_refinement.proofs.ShownMaps.{tree_saved}
+use Rattle.step_refinement.proofs.ShownMaps.{tree_saved, tree_under}
 use Rattle.step_refinement.proofs.PhaseRoles.{part_stands, PartStands, PhaseStands, turn_stands, left_stands, left_begun, turned_stands}
 use Rattle.step_refinement.specs.Peers.{TreeHolds, MessageFits, SendFits}
 use Rattle.step_refinement.specs.Roles.{role_in, said_in_sends}
@@ -83,11 +83,11 @@ kept_after seal None h = refl
 kept_after seal (Some fact) h = refl
 
 -- the tree shows the same map
-abbrev tree_after : (s : State) (strings : List (List ℕ)) (q : ℕ) (seal : Option (List ℕ)) (save : Option Fact) (h : Held) → TreeHolds s strings q h → TreeHolds s strings q (held_after seal save h)
+abbrev tree_after : (s : State) (strings : List (List ℕ)) (q : ℕ) (seal : Option (List ℕ)) (save : Option Fact) (h : Held) → TreeHolds s strings q seal h → TreeHolds s strings q seal (held_after seal save h)
 tree_after s strings q seal None h tree = tree
-tree_after s strings q seal (Some fact) h tree = tree_saved s strings q (record h.stores.facts { kept = Some (with_seal seal fact) }) h tree
+tree_after s strings q seal (Some fact) h tree = tree_saved s strings q seal fact h tree
 
-map_after : (s : State) (strings : List (List ℕ)) (q : ℕ) (seal : Option (List ℕ)) (save : Option Fact) (h : Held) (tree : TreeHolds s strings q h) → tree.map ≡ (tree_after s strings q seal save h tree).map
+map_after : (s : State) (strings : List (List ℕ)) (q : ℕ) (seal : Option (List ℕ)) (save : Option Fact) (h : Held) (tree : TreeHolds s strings q seal h) → tree.last.map ≡ (tree_after s strings q seal save h tree).last.map
 map_after s strings q seal None h tree = refl
 map_after s strings q seal (Some fact) h tree = refl
 
@@ -289,8 +289,15 @@ module _ (c : Scene) where
     listed_row : RowAll (IsListedMessage lines.voting) row.1.message
     listed_row = says_listed lines.voting row.1.message good.listed.says
 
-    abbrev tree : TreeHolds t strings p h
-    tree = tree_there view es steps good.goes.run strings kinds p h at.0.tree
+    -- the seal is that of the peer before the row, and stays after it
+    seal_same : seal ≡ x.seal
+    seal_same = (left_spares row.1.leave row.0).seal ∙ good.spares.seal
+
+    abbrev tree : TreeHolds t strings p seal h
+    tree = tree_under t strings p x.seal seal h seal_same (tree_there view es steps good.goes.run strings kinds p x.seal h at.0.tree)
+
+    abbrev tree_then : TreeHolds t strings p end.seal (held_after seal row.1.save h)
+    tree_then = tree_under t strings p seal end.seal (held_after seal row.1.save h) (settled_seal p row.1 row.0) (tree_after t strings p seal row.1.save h tree)
 
     -- all but the trust and the sync of the peer at the end of the row
     abbrev nearly : Nearly c key end (held_after seal row.1.save h) (out_after row.1 row.0 out) notes
@@ -299,7 +306,7 @@ module _ (c : Scene) where
       roles = roles_after;
       peer = peer_there;
       listed = good.listed.peer;
-      tree = tree_after t strings p seal row.1.save h tree;
+      tree = tree_then;
       fits = stands.fits;
       rests = stands.rests;
       noted = (spared_there view es steps kinds).notes ∙ at.0.noted;
@@ -309,10 +316,10 @@ module _ (c : Scene) where
     }
 
     -- a sync that runs on says what it said
-    sync_there : Spares x end → SyncMaySay lines t strings p end.fact end.trusted tree.map end.sync
+    sync_there : Spares x end → SyncMaySay lines t strings p end.fact end.trusted tree.last.map end.sync
     sync_there spares =
-        sync_spared lines t strings t.objects.ledger p tree.map (may_wait end.phase) x end spares peer_there.sync
-        (sync_stays lines (now c at.0.reached) t strings p x.fact x.trusted at.0.tree.map x.sync (entries_there view es steps good.goes.run) at.0.peer.saved.ballot at.0.sync)
+        sync_spared lines t strings t.objects.ledger p tree.last.map (may_wait end.phase) x end spares peer_there.sync
+        (sync_stays lines (now c at.0.reached) t strings p x.fact x.trusted at.0.tree.last.map x.sync (entries_there view es steps good.goes.run) at.0.peer.saved.ballot at.0.sync)
 
     -- the peer agrees with the run at the end of the row
     row_there : RowEnds key end (held_after seal row.1.save h) (out_after row.1 row.0 out) notes t.objects.ledger
@@ -328,7 +335,7 @@ module _ (c : Scene) where
               peer = nearly.peer;
               listed = nearly.listed;
               trust = ap (λ (f : ℕ → Bool). f p) (spared_there view es steps kinds).trusted ∙ (at.0.trust ∙ sym spares.trusted);
-              tree = tree_after t strings p seal row.1.save h tree;
+              tree = tree_then;
               sync = subst (λ (m : List Entry). SyncMaySay lines t strings p end.fact end.trusted m end.sync) (map_after t strings p seal row.1.save h tree) (sync_there spares);
               fits = nearly.fits;
               task = rest_task t key end.phase nearly.rests;

@@ -341,7 +341,7 @@ module _ (c : Scene) where
 
     module _ (few : (view : List ℕ) (steps : List Step) → IsRun view steps → KeysAreFew (state_after view steps)) (from : ℕ) (ballot : Epoch) (o : Object) where
       -- the version goes in, and is acknowledged
-      write_ends : (row : PhaseOut) (t : Held) → Over c here t → IsReady c x → PutComes from ballot o → TakesVersion here.reached.ghosts (now c here.reached) strings p here.tree.map from ballot o row
+      write_ends : (row : PhaseOut) (t : Held) → Over c here t → IsReady c x → PutComes from ballot o → TakesVersion here.reached.ghosts (now c here.reached) strings p here.tree.last.map from ballot o row
           → Ends c (put_done row.then p from ballot o row x out next) (put_done row.then p from ballot o row x out mark) t notes
       write_ends row t over able comes takes = subst (λ (turn : Then). Ends c (put_done turn p from ballot o row x out next) (put_done turn p from ballot o row x out mark) t notes) (sym (ap (λ (r : PhaseOut). r.then) takes.is))
           (written_ends c there few o (epoch_number ballot) store (replied next) (replied mark) (λ u stored. reply_ends u (acknowledged u stored) row (subst IsReply (sym takes.is) (acknowledges_replies from ballot o)) takes.says)
@@ -364,15 +364,15 @@ module _ (c : Scene) where
               (rest_task (happens (happens (now c here.reached) (Write p (rank o.version))) (Acknowledge p (rank o.version))) key x.phase rest)
 
       -- after the tree was asked
-      put_row : (seen : Seen) (t : Held) → Over c here t → IsReady c x → IsSight seen → FindSees here.tree.map o.key seen → PutComes from ballot o
+      put_row : (seen : Seen) (t : Held) → Over c here t → IsReady c x → IsSight seen → FindSees here.tree.last.map o.key seen → PutComes from ballot o
           → Ends c (put_done (row_22 x.fact x.trusted from ballot o seen).then p from ballot o (row_22 x.fact x.trusted from ballot o seen) x out next) (put_done (row_22 x.fact x.trusted from ballot o seen).then p from ballot o (row_22 x.fact x.trusted from ballot o seen) x out mark) t notes
       put_row seen t over able sight found comes =
-          by_end (run_puts view here.reached.steps here.reached.run here.reached.ghosts strings p here.tree.map x.fact x.trusted from ballot o seen serves (shown_map c here) comes.says comes.obeys found)
+          by_end (run_puts view here.reached.steps here.reached.run here.reached.ghosts strings p here.tree.last.map x.fact x.trusted from ballot o seen serves (shown_map c here) comes.says comes.obeys found)
         where
           row : PhaseOut
           row = row_22 x.fact x.trusted from ballot o seen
 
-          by_end : IsReplyToPut here.reached.ghosts (now c here.reached) strings p here.tree.map from ballot o row → Ends c (put_done row.then p from ballot o row x out next) (put_done row.then p from ballot o row x out mark) t notes
+          by_end : IsReplyToPut here.reached.ghosts (now c here.reached) strings p here.tree.last.map from ballot o row → Ends c (put_done row.then p from ballot o row x out next) (put_done row.then p from ballot o row x out mark) t notes
           by_end (inl replies) = ignored_ends from ballot o row t over (row_22_responds x.fact x.trusted from ballot o seen sight) replies
           by_end (inr (inl has)) = there_ends from ballot o row t over able.trusts has
           by_end (inr (inr takes)) = write_ends row t over able comes takes
@@ -385,6 +385,6 @@ module _ (c : Scene) where
           replied after seen y q = put_done (row_22 y.fact y.trusted from ballot o seen).then p from ballot o (row_22 y.fact y.trusted from ballot o seen) y q after
 
           by_served : (served : Bool) → is_served x.fact x.trusted ballot ≡ served → Ends c (shown served (found o.key) x out (replied next)) (shown served (found o.key) x out (replied mark)) h notes
-          by_served true is = found_ends c here o.key (replied next) (replied mark) (λ t over. put_row (seens.Held (lookup o.key here.tree.map) None) t over (ready ballot is) tt refl (put_comes from ballot o comes))
+          by_served true is = found_ends c here o.key (replied next) (replied mark) (λ t over. put_row (seens.Held (lookup o.key here.tree.last.map) None) t over (ready ballot is) tt refl (put_comes from ballot o comes))
               (λ at t over. put_row (seens.Damaged at) t over (ready ballot is) tt tt (put_comes from ballot o comes))
           by_served false is = unserved_ends from ballot o

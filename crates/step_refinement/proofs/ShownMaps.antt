@@ -1,25 +1,35 @@
--- The tree of a running peer through the calls of a step: which map it shows, and which maps its top
--- records name.
-use Rattle.std.proofs.Common.{◌≡◌, ◌⊎◌, inl, inr, ℕ, true, List, [], ◌∷◌, ◌++◌, sym, ap, subst, ◌∙◌}
+-- The stores of a peer through the calls of a step: which map it wrote last and what names it, which map
+-- its tree shows, and which maps its top records name.
+use Rattle.std.proofs.Common.{◌≡◌, ◌⊎◌, inl, inr, ℕ, true, false, List, [], ◌∷◌, ◌++◌, Option, None, Some, refl, sym, ap, subst, ◌∙◌}
+use Rattle.std.proofs.lemmas.Bool.{true≢false}
 use Rattle.ens_base.proofs.Lists.{in_append}
 use Rattle.ens_base.specs.Lists.{◌∈◌}
 use Rattle.ens_base.specs.declared.entry.Entry.{Entry}
+use Rattle.abstract_protocol.specs.Objects.{Map, Objects}
 use Rattle.abstract_protocol.specs.Protocol.{State}
 use Rattle.entry_laws.specs.Stays.{EntriesStay}
 use Rattle.held_stores.specs.Answers.{answered, with_facts}
 use Rattle.held_stores.specs.Held.{Held, HeldStores}
 use Rattle.held_stores.specs.Laws.{held_with}
-use Rattle.step_plans.specs.Calls.{Call}
+use Rattle.peer_fact.specs.declared.fact.Fact.{Fact}
+use Rattle.seal_laws.proofs.Moves.{unsealed_not}
+use Rattle.seal_laws.specs.Kept.{IsSealed, RootHolds, named_by}
+use Rattle.seal_stores.specs.Held.{kept_seal}
+use Rattle.step_plans.specs.Calls.{Call, Load, Save, FreshTree, OpenTree, Find, Enter, ScanTree, ReadNode, Install, Fetch, Put, Hash}
+use Rattle.step_plans.specs.Saved.{with_seal}
 use Rattle.sync_refinement.proofs.Staying.{stays, tree_says_stay}
 use Rattle.sync_refinement.specs.Syncs.{TreeSays, MayReturn}
 use Rattle.tree_refinement.proofs.Keeping as keeping
+use Rattle.tree_refinement.proofs.Keeping.{after_saving, after_putting}
+use Rattle.tree_refinement.proofs.Recording.{last_top}
 use Rattle.tree_refinement.proofs.Tops as records
-use Rattle.tree_refinement.proofs.Tops.{named_behind}
+use Rattle.tree_refinement.proofs.Tops.{named_behind, named_shows}
 use Rattle.tree_refinement.specs.Laws.{KeepsRoot}
+use Rattle.tree_refinement.specs.Rooted.{Sees}
 use Rattle.tree_refinement.specs.Tops.{IsNamed, NamesNext, IsWritten, tops_of}
-use Rattle.tree_refinement.specs.Trees.{AreAmong}
-use Rattle.world_stores.specs.declared.fact.HeldFact.{HeldFact}
-use Rattle.step_refinement.specs.Peers.{TopReturns, TopsReturn, TreeHolds}
+use Rattle.tree_refinement.specs.Trees.{AreAmong, Shows}
+use Rattle.world_stores.specs.Nodes.{top_of}
+use Rattle.step_refinement.specs.Peers.{TopReturns, TopsReturn, LastMap, TreeHolds}
 
 -- ## Top records
 
@@ -40,41 +50,140 @@ tops_next s strings hashed q tops digest m named returns return d at = by_place 
     by_place (inr (inl same)) = record { map = m; named = subst (λ (x : List ℕ). IsNamed hashed x m) (sym same) named; returns = returns }
     by_place (inr (inr none)) = absurd none
 
+-- ## The map that a peer wrote last
+
+-- without a seal the top record names the map
+pub named_top : (top seal : Option (List ℕ)) → seal ≡ None → named_by top seal ≡ top
+named_top top seal none = ap (λ (x : Option (List ℕ)). named_by top x) none
+
+module _ (strings : List (List ℕ)) (q : ℕ) where
+  -- more strings were hashed, and the top records are the same
+  abbrev pub last_over : (s : State) (hashed more : List (List ℕ)) (seal : Option (List ℕ)) (tops others : List (List ℕ)) → AreAmong hashed more → others ≡ tops → LastMap s strings hashed q seal tops → LastMap s strings more q seal others
+  last_over s hashed more seal tops others among same last = record {
+    digest = last.digest;
+    is = ap (λ (records : List (List ℕ)). named_by (top_of records) seal) same ∙ last.is;
+    map = last.map;
+    named = named_behind hashed more last.digest last.map among last.named;
+    says = last.says;
+    honest = last.honest;
+    returns = λ none. subst (λ (records : List (List ℕ)). TopsReturn s strings more q records) (sym same) (tops_behind s strings hashed more q tops among (last.returns none));
+    unsealed = last.unsealed;
+  }
+
+  -- in a later state in which the peer shows the same and wrote the same last
+  abbrev pub last_stays : (s t : State) (hashed : List (List ℕ)) (seal : Option (List ℕ)) (tops : List (List ℕ)) → EntriesStay s t → t.objects.visible q ≡ s.objects.visible q → t.objects.map q ≡ s.objects.map q → LastMap s strings hashed q seal tops → LastMap t strings hashed q seal tops
+  last_stays s t hashed seal tops stay visible written last = record {
+    digest = last.digest;
+    is = last.is;
+    map = last.map;
+    named = last.named;
+    says = tree_says_stay s t strings stay q last.map visible last.says;
+    honest = λ sealed k. ap (λ (m : Map). m k) visible ∙ (last.honest sealed k ∙ sym (ap (λ (m : Map). m k) written));
+    returns = λ none. tops_stay s t strings hashed q tops stay (last.returns none);
+    unsealed = last.unsealed;
+  }
+
+  -- under an equal seal
+  abbrev pub last_under : (s : State) (hashed : List (List ℕ)) (seal other : Option (List ℕ)) (tops : List (List ℕ)) → other ≡ seal → LastMap s strings hashed q seal tops → LastMap s strings hashed q other tops
+  last_under s hashed seal other tops same last = record {
+    digest = last.digest;
+    is = ap (λ (x : Option (List ℕ)). named_by (top_of tops) x) same ∙ last.is;
+    map = last.map;
+    named = last.named;
+    says = last.says;
+    honest = λ sealed. last.honest (subst IsSealed same sealed);
+    returns = λ none. last.returns (sym same ∙ none);
+    unsealed = same ∙ last.unsealed;
+  }
+
+  -- one more top record names this map, which is that of the protocol, and there is no seal
+  abbrev pub last_written : (s : State) (h t : Held) (seal : Option (List ℕ)) (m : List Entry) → seal ≡ None → NamesNext m h t → AreAmong h.hashed t.hashed → TreeSays s strings q m → MayReturn s strings q m → TopsReturn s strings h.hashed q (tops_of h.stores) → LastMap s strings t.hashed q seal (tops_of t.stores)
+  last_written s h t seal m none next among says returns return = record {
+    digest = next.digest;
+    is = named_top (top_of (tops_of t.stores)) seal none ∙ (ap top_of next.tops ∙ last_top (tops_of h.stores) next.digest);
+    map = m;
+    named = next.named;
+    says = says;
+    honest = λ sealed. absurd (unsealed_not seal none sealed);
+    returns = λ is. subst (λ (tops : List (List ℕ)). TopsReturn s strings t.hashed q tops) (sym next.tops) (tops_next s strings t.hashed q (tops_of h.stores) next.digest m next.named returns (tops_behind s strings h.hashed t.hashed q (tops_of h.stores) among return));
+    unsealed = none;
+  }
+
+-- ## Roots
+
+-- a root that holds still does in another state in which the peer does not trust its tree if it did not
+pub root_over : (o e : Objects) (q : ℕ) (top seal root other next : Option (List ℕ)) → other ≡ top → next ≡ root → (o.trusted q ≡ false → e.trusted q ≡ false) → RootHolds o q top seal root → RootHolds e q other seal next
+root_over o e q top seal root other next same_top same_root blind (inl is) = inl (same_root ∙ (is.0 ∙ sym same_top), same_root ∙ (is.1 ∙ sym (ap (λ (x : Option (List ℕ)). named_by x seal) same_top)))
+root_over o e q top seal root other next same_top same_root blind (inr none) = inr (same_root ∙ none.0, none.1, blind none.2)
+
+-- a call that gives the tree no other root leaves its root
+pub root_same : (call : Call) (h : Held) → KeepsRoot call → (answered call h).held.stores.tree.top ≡ h.stores.tree.top
+root_same Load h k = refl
+root_same (Save fact) h k = after_saving fact h (λ (t : Held). t.stores.tree.top ≡ h.stores.tree.top) (λ facts. refl)
+root_same FreshTree h k = absurd k
+root_same (OpenTree seal) h k = absurd k
+root_same (Find key) h k = refl
+root_same (Enter entry) h k = absurd k
+root_same ScanTree h k = refl
+root_same (ReadNode at) h k = refl
+root_same (Install entries) h k = absurd k
+root_same (Fetch key) h k = refl
+root_same (Put key bytes) h k = after_putting key bytes h (λ (t : Held). t.stores.tree.top ≡ h.stores.tree.top) (λ objects. refl)
+root_same (Hash bytes) h k = refl
+
 -- ## Trees
 
-module _ (s : State) (strings : List (List ℕ)) (q : ℕ) where
-  -- a call that leaves the root leaves the tree
-  abbrev pub tree_kept : (call : Call) (h : Held) → KeepsRoot call → TreeHolds s strings q h → TreeHolds s strings q (answered call h).held
-  tree_kept call h root tree = record {
-    map = tree.map;
-    shows = keeping.keeps call h tree.map root tree.shows;
-    says = tree.says;
-    recorded = (records.keeps call h root).1 tree.recorded;
-    tops = subst (λ (tops : List (List ℕ)). TopsReturn s strings (answered call h).held.hashed q tops) (sym (records.keeps call h root).0) (tops_behind s strings h.hashed (answered call h).held.hashed q (tops_of h.stores) (keeping.grows call h) tree.tops);
+module _ (s : State) (strings : List (List ℕ)) (q : ℕ) (seal : Option (List ℕ)) where
+  -- a tree has no root, or shows the map that the peer wrote last
+  pub tree_sees : (h : Held) → (tree : TreeHolds s strings q seal h) → Sees h tree.last.map
+  tree_sees h tree = by_root tree.root
+    where
+      by_root : RootHolds s.objects q (top_of (tops_of h.stores)) seal h.stores.tree.top → Sees h tree.last.map
+      by_root (inl is) = inr (named_shows h tree.last.map tree.last.digest (is.1 ∙ tree.last.is) tree.last.named)
+      by_root (inr none) = inl none.0
+
+  -- a tree that the peer trusts shows it
+  pub tree_shows : (h : Held) → (tree : TreeHolds s strings q seal h) → s.objects.trusted q ≡ true → Shows h tree.last.map
+  tree_shows h tree trusts = by_root tree.root
+    where
+      by_root : RootHolds s.objects q (top_of (tops_of h.stores)) seal h.stores.tree.top → Shows h tree.last.map
+      by_root (inl is) = named_shows h tree.last.map tree.last.digest (is.1 ∙ tree.last.is) tree.last.named
+      by_root (inr none) = absurd (true≢false (sym trusts ∙ none.2))
+
+  -- the same fact, top records and root are kept, and more strings were hashed
+  abbrev pub tree_over : (h t : Held) → t.stores.facts.kept ≡ h.stores.facts.kept → tops_of t.stores ≡ tops_of h.stores → t.stores.tree.top ≡ h.stores.tree.top → AreAmong h.hashed t.hashed → TreeHolds s strings q seal h → TreeHolds s strings q seal t
+  tree_over h t same tops root among tree = record {
+    last = last_over strings q s h.hashed t.hashed seal (tops_of h.stores) (tops_of t.stores) among tops tree.last;
+    sealed = ap kept_seal same ∙ tree.sealed;
+    root = root_over s.objects s.objects q (top_of (tops_of h.stores)) seal h.stores.tree.top (top_of (tops_of t.stores)) t.stores.tree.top (ap top_of tops) root (λ is. is) tree.root;
   }
 
-  -- so does a save of a fact
-  abbrev pub tree_saved : (facts : HeldFact) (h : Held) → TreeHolds s strings q h → TreeHolds s strings q (with_facts facts h)
-  tree_saved facts h tree = record { map = tree.map; shows = record { digest = tree.shows.digest; top = tree.shows.top; stands = tree.shows.stands; texts = tree.shows.texts }; says = tree.says; recorded = tree.recorded; tops = tree.tops }
+  -- a call that leaves the root and the fact leaves the tree
+  abbrev pub tree_kept : (call : Call) (h : Held) → KeepsRoot call → (answered call h).held.stores.facts.kept ≡ h.stores.facts.kept → TreeHolds s strings q seal h → TreeHolds s strings q seal (answered call h).held
+  tree_kept call h root same tree = tree_over h (answered call h).held same (records.keeps call h root).0 (root_same call h root) (keeping.grows call h) tree
+
+  -- so does a save of a fact with the same seal
+  abbrev pub tree_saved : (fact : Fact) (h : Held) → TreeHolds s strings q seal h → TreeHolds s strings q seal (with_facts (record h.stores.facts { kept = Some (with_seal seal fact) }) h)
+  tree_saved fact h tree = record { last = tree.last; sealed = refl; root = tree.root }
 
   -- more strings were hashed
-  abbrev pub tree_behind : (stores : HeldStores) (hashed more : List (List ℕ)) → AreAmong hashed more → TreeHolds s strings q (held_with stores hashed) → TreeHolds s strings q (held_with stores more)
-  tree_behind stores hashed more among tree = record {
-    map = tree.map;
-    shows = record { digest = tree.shows.digest; top = tree.shows.top; stands = tree.shows.stands; texts = λ node is. among node (tree.shows.texts node is) };
-    says = tree.says;
-    recorded = tree.recorded;
-    tops = tops_behind s strings hashed more q (tops_of stores) among tree.tops;
+  abbrev pub tree_behind : (stores : HeldStores) (hashed more : List (List ℕ)) → AreAmong hashed more → TreeHolds s strings q seal (held_with stores hashed) → TreeHolds s strings q seal (held_with stores more)
+  tree_behind stores hashed more among tree = tree_over (held_with stores hashed) (held_with stores more) refl refl refl among tree
+
+  -- another map was written, which is that of the protocol, in a peer without a seal
+  abbrev pub tree_written : (h t : Held) (m : List Entry) → seal ≡ None → kept_seal t.stores.facts.kept ≡ seal → IsWritten m h t → AreAmong h.hashed t.hashed → TreeSays s strings q m → MayReturn s strings q m → TopsReturn s strings h.hashed q (tops_of h.stores) → TreeHolds s strings q seal t
+  tree_written h t m none sealed written among says returns return = record {
+    last = last_written strings q s h t seal m none written.next among says returns return;
+    sealed = sealed;
+    root = inl (sym written.recorded, sym written.recorded ∙ sym (named_top (top_of (tops_of t.stores)) seal none));
   }
 
-  -- another map was written, which is that of the protocol
-  abbrev pub tree_written : (h t : Held) (m : List Entry) → IsWritten m h t → AreAmong h.hashed t.hashed → TreeSays s strings q m → MayReturn s strings q m → TopsReturn s strings h.hashed q (tops_of h.stores) → TreeHolds s strings q t
-  tree_written h t m written among says returns return = record {
-    map = m;
-    shows = written.shows;
-    says = says;
-    recorded = written.recorded;
-    tops = subst (λ (tops : List (List ℕ)). TopsReturn s strings t.hashed q tops) (sym written.next.tops) (tops_next s strings t.hashed q (tops_of h.stores) written.next.digest m written.next.named returns (tops_behind s strings h.hashed t.hashed q (tops_of h.stores) among return));
+  -- an equal seal
+  abbrev pub tree_under : (other : Option (List ℕ)) (h : Held) → other ≡ seal → TreeHolds s strings q seal h → TreeHolds s strings q other h
+  tree_under other h same tree = record {
+    last = last_under strings q s h.hashed seal other (tops_of h.stores) same tree.last;
+    sealed = tree.sealed ∙ sym same;
+    root = subst (λ (x : Option (List ℕ)). RootHolds s.objects q (top_of (tops_of h.stores)) x h.stores.tree.top) (sym same) tree.root;
   }
 
 -- a top record that was written, seen from earlier stores with the same top records
@@ -97,12 +206,11 @@ written_kept call h t m root written = record {
   recorded = (records.keeps call t root).1 written.recorded;
 }
 
--- in a later state in which the peer shows the same
-abbrev pub tree_stays : (s t : State) (strings : List (List ℕ)) (q : ℕ) (h : Held) → EntriesStay s t → t.objects.visible q ≡ s.objects.visible q → TreeHolds s strings q h → TreeHolds t strings q h
-tree_stays s t strings q h stay same tree = record {
-  map = tree.map;
-  shows = tree.shows;
-  says = tree_says_stay s t strings stay q tree.map same tree.says;
-  recorded = tree.recorded;
-  tops = tops_stay s t strings h.hashed q (tops_of h.stores) stay tree.tops;
+-- in a later state in which the peer shows the same, wrote the same last, and does not trust its tree if it
+-- did not
+abbrev pub tree_stays : (s t : State) (strings : List (List ℕ)) (q : ℕ) (seal : Option (List ℕ)) (h : Held) → EntriesStay s t → t.objects.visible q ≡ s.objects.visible q → t.objects.map q ≡ s.objects.map q → (s.objects.trusted q ≡ false → t.objects.trusted q ≡ false) → TreeHolds s strings q seal h → TreeHolds t strings q seal h
+tree_stays s t strings q seal h stay visible written blind tree = record {
+  last = last_stays strings q s t h.hashed seal (tops_of h.stores) stay visible written tree.last;
+  sealed = tree.sealed;
+  root = root_over s.objects t.objects q (top_of (tops_of h.stores)) seal h.stores.tree.top (top_of (tops_of h.stores)) h.stores.tree.top refl refl blind tree.root;
 }

@@ -1,6 +1,6 @@
 -- What the stores answer to the calls of a step. A find may meet damage. A save, an entering and a put may
 -- be refused; then a save leaves the old fact or the new one, and the others leave the fact as it was.
-use Rattle.std.proofs.Common.{◌≡◌, ◌⊎◌, inl, inr, ◌<◌, ◌^◌, ℕ, List, length, Option, None, Some, Result, Ok, Err, refl, sym, ap, ◌∙◌}
+use Rattle.std.proofs.Common.{◌≡◌, ◌⊎◌, inl, inr, ◌<◌, ◌^◌, ℕ, List, length, Option, None, Some, Result, Ok, Err, refl, ap}
 use Rattle.ens_base.specs.declared.entry.Entry.{Entry}
 use Rattle.ens_fields.specs.Entries.{IsEntry}
 use Rattle.ens_outside.specs.Maps.{with_value}
@@ -20,13 +20,12 @@ use Rattle.synctree.specs.Trees.{insert_plan}
 use Rattle.tree_maps.specs.Entries.{lookup, put}
 use Rattle.tree_maps.specs.Sixteen.{form_of}
 use Rattle.tree_node.specs.declared.position.Position.{Position}
-use Rattle.tree_refinement.proofs.Keeping as keeping
+use Rattle.tree_refinement.proofs.Rooted as rooted
 use Rattle.tree_refinement.proofs.Tops as records
 use Rattle.tree_refinement.specs.Laws.{IsReached}
+use Rattle.tree_refinement.specs.Rooted.{Sees}
 use Rattle.tree_refinement.specs.Tops.{tops_of, NamesNext, IsWritten, HasEntered}
 use Rattle.tree_refinement.specs.Trees.{AreAmong, AreFree, Shows}
-use Rattle.tree_refinement.specs.Whole.{IsRecorded}
-use Rattle.world_stores.specs.Nodes.{top_of}
 use Rattle.world_stores.specs.Objects.{Objects}
 use Rattle.world_stores.specs.declared.fact.HeldFact.{HeldFact}
 
@@ -44,8 +43,8 @@ looks x (Ok (Broken at)) is = Breaks at refl
 looks x (Err e) is = absurd is
 
 -- a find returns the entry that the map has for the key, or meets damage
-pub find_ends : (strings : List (List ℕ)) (h : Held) (m : List Entry) (key : List ℕ) → AreFree strings → AreAmong (answered (Find key) h).held.hashed strings → Shows h m → Looks (lookup key m) (answered (Find key) h).result
-find_ends strings h m key free among shows = looks (lookup key m) (answered (Find key) h).result (keeping.finds strings h m key free among shows)
+pub find_ends : (strings : List (List ℕ)) (h : Held) (m : List Entry) (key : List ℕ) → AreFree strings → AreAmong (answered (Find key) h).held.hashed strings → Sees h m → Looks (lookup key m) (answered (Find key) h).result
+find_ends strings h m key free among sees = looks (lookup key m) (answered (Find key) h).result (rooted.finds strings h m key free among sees)
 
 -- ## A save
 
@@ -95,21 +94,21 @@ put_ends key bytes h = by_pending h.stores.backend.faults.pending
 -- left no top record, or one that names the map with the entry
 pub data EnterEnds (e : Entry) (m : List Entry) (h : Held) (r : Result (Walked (Unit {0})) PeerError) (t : Held) : Type 0 where
   Enters : r ≡ Ok (Reached tt) → IsWritten (put e m) h t → EnterEnds e m h r t
-  Stops : (at : Position) → r ≡ Ok (Broken at) → Shows t m → tops_of t.stores ≡ tops_of h.stores → EnterEnds e m h r t
+  Stops : (at : Position) → r ≡ Ok (Broken at) → tops_of t.stores ≡ tops_of h.stores → EnterEnds e m h r t
   Tears : r ≡ Err StoreFault → (tops_of t.stores ≡ tops_of h.stores) ⊎ NamesNext (put e m) h t → EnterEnds e m h r t
 
 entered_so : (e : Entry) (m : List Entry) (h : Held) (r : Result (Walked (Unit {0})) PeerError) (t : Held) → HasEntered e m h r t → EnterEnds e m h r t
 entered_so e m h (Ok (Reached done)) t has = Enters refl has
-entered_so e m h (Ok (Broken at)) t has = Stops at refl has.0 has.1
+entered_so e m h (Ok (Broken at)) t has = Stops at refl has.1
 entered_so e m h (Err error) t has = Tears (ap (λ (x : PeerError). Err x) has.0) has.1
 
 -- each entering ends so
 pub enter_ends : (strings : List (List ℕ)) (h : Held) (m : List Entry) (e : Entry) → AreFree strings → AreAmong (answered (Enter e) h).held.hashed strings → Shows h m → IsEntry e → length (put e m) < 2 ^ 32 → EnterEnds e m h (answered (Enter e) h).result (answered (Enter e) h).held
 enter_ends strings h m e free among shows fits few = entered_so e m h (answered (Enter e) h).result (answered (Enter e) h).held (records.enters strings h m e free among shows fits few)
 
--- an entering that meets damage leaves the root recorded
-pub broken_recorded : (e : Entry) (h : Held) (at : Position) → (answered (Enter e) h).result ≡ Ok (Broken at) → tops_of (answered (Enter e) h).held.stores ≡ tops_of h.stores → IsRecorded h → IsRecorded (answered (Enter e) h).held
-broken_recorded e h at is tops recorded = ap top_of tops ∙ recorded ∙ sym (by_end (walked (insert_plan (form_of One) h.stores.tree.top e) h).end is)
+-- an entering that meets damage leaves the root
+pub broken_root : (e : Entry) (h : Held) (at : Position) → (answered (Enter e) h).result ≡ Ok (Broken at) → (answered (Enter e) h).held.stores.tree.top ≡ h.stores.tree.top
+broken_root e h at is = by_end (walked (insert_plan (form_of One) h.stores.tree.top e) h).end is
   where
     by_end : (end : End (List ℕ)) → entered end ≡ Ok (Broken at) → root_after h.stores.tree.top end ≡ h.stores.tree.top
     by_end (Came root) is = absurd (cc)

@@ -48,6 +48,7 @@ use Rattle.tree_node.specs.declared.body.TreeBody.{TreeBody}
 use Rattle.tree_node.specs.declared.body.TreeBody.TheVariants as bodies
 use Rattle.tree_node.specs.declared.position.Position.{Position}
 use Rattle.tree_refinement.proofs.Keeping as keeping
+use Rattle.tree_refinement.proofs.Rooted as rooted
 use Rattle.tree_refinement.specs.Laws.{IsReached}
 use Rattle.tree_refinement.specs.Trees.{AreAmong}
 use Rattle.wire_frames.specs.declared.message.Message.{Message}
@@ -57,6 +58,7 @@ use Rattle.phase_rows.specs.declared.phase.Then.TheVariants as thens
 use Rattle.world_stores.specs.declared.fact.HeldFact.{HeldFact}
 use Rattle.step_refinement.proofs.CallByCall.{Ends, Answers, Onward, ask_ends}
 use Rattle.step_refinement.specs.Scenes.{Scene, now, AtRest}
+use Rattle.step_refinement.proofs.ShownMaps.{tree_sees}
 use Rattle.step_refinement.proofs.PhaseMessages.{SaysNothing}
 use Rattle.step_refinement.proofs.PhaseRows.{RowAll, row_good}
 use Rattle.step_refinement.proofs.PhaseRules.{mute_says}
@@ -169,23 +171,23 @@ module _ (c : Scene) where
           harmless_ends there next mark go (row_23 x.fact x.trusted from ballot at after body) (row_23_harmless x.fact x.trusted from ballot at after body) mute.1 mute.0 (row_fits (now c there.0.reached) x.trusted from ballot at after x.fact body fits)
 
       read_ends : is_same ballot x.fact.ballot ≡ true → Ends c (shown_node true question x out (λ body y o. row_done p (row_23 y.fact y.trusted from ballot at after body) y o next)) (shown_node true question x out (λ body y o. row_done p (row_23 y.fact y.trusted from ballot at after body) y o mark)) h notes
-      read_ends same = ask_ends keeping.grows c (ReadNode at) _ _ h notes (λ among. by_walk among (answered (ReadNode at) h).result refl (keeping.reads strings h rest.0.tree.map at c.free among rest.0.tree.shows position))
+      read_ends same = ask_ends keeping.grows c (ReadNode at) _ _ h notes (λ among. by_walk among (answered (ReadNode at) h).result refl (rooted.reads strings h rest.0.tree.last.map at c.free among (tree_sees (now c rest.0.reached) strings p x.seal h rest.0.tree) position))
         where
           kept : (answered (ReadNode at) h).held.stores.facts.kept ≡ h.stores.facts.kept
           kept = ap (λ (f : HeldFact). f.kept) (keeping.spares (ReadNode at) h).1
 
-          walked_so : (walked : Walked (Option (List ℕ))) → IsReached (node_of (form_of One) at rest.0.tree.map) (Ok walked) → HasWalked (node_of (form_of One) at rest.0.tree.map) walked
+          walked_so : (walked : Walked (Option (List ℕ))) → IsReached (node_of (form_of One) at rest.0.tree.last.map) (Ok walked) → HasWalked (node_of (form_of One) at rest.0.tree.last.map) walked
           walked_so (Came found) is = is
           walked_so (Broken place) is = tt
 
-          by_walk : AreAmong (answered (ReadNode at) h).held.hashed strings → (result : Result (Walked (Option (List ℕ))) PeerError) → (answered (ReadNode at) h).result ≡ result → IsReached (node_of (form_of One) at rest.0.tree.map) result
+          by_walk : AreAmong (answered (ReadNode at) h).held.hashed strings → (result : Result (Walked (Option (List ℕ))) PeerError) → (answered (ReadNode at) h).result ≡ result → IsReached (node_of (form_of One) at rest.0.tree.last.map) result
               → Answers c (ReadNode at) (λ walked. row_done p (row_23 x.fact x.trusted from ballot at after (Some (body_of question walked))) x out next) (λ walked. row_done p (row_23 x.fact x.trusted from ballot at after (Some (body_of question walked))) x out mark) h notes
           by_walk among (Ok walked) is found = record {
             answer = walked;
             is = is;
             goes = answers (Some (body_of question walked)) (answered (ReadNode at) h).held (read_here c rest.0 (ReadNode at) tt kept, rest.1)
-                ((laws_here c rest.0.reached).gives strings p ballot question x.trusted rest.0.tree.map walked (firm_here c rest.0.reached) rest.0.trust (rest.0.peer.saved.ballot ∙ ap epoch_number (sym (same_epochs ballot x.fact.ballot same))) rest.0.tree.shows.stands.is_map
-                (λ node within. among node (keeping.grows (ReadNode at) h node (rest.0.tree.shows.texts node within))) rest.0.tree.says (walked_so walked found));
+                ((laws_here c rest.0.reached).gives strings p ballot question x.trusted rest.0.tree.last.map walked (firm_here c rest.0.reached) rest.0.trust (rest.0.peer.saved.ballot ∙ ap epoch_number (sym (same_epochs ballot x.fact.ballot same))) rest.0.tree.last.named.stands.is_map
+                (λ node within. among node (keeping.grows (ReadNode at) h node (rest.0.tree.last.named.texts node within))) rest.0.tree.last.says (walked_so walked found));
           }
           by_walk among (Err e) is none = absurd none
 
@@ -208,30 +210,30 @@ module _ (c : Scene) where
       at : Position
       at = give.question.position
 
-      takes : (own : Option (List ℕ)) (t : Held) → IsOwnNode at rest.0.tree.map own → (there : AtRest c key x t out notes) → GiveFits lines (now c there.0.reached) strings from give.ballot give.question give.trusted give.body → there.0.tree.map ≡ rest.0.tree.map → (sync : Option Running) → x.sync ≡ sync
+      takes : (own : Option (List ℕ)) (t : Held) → IsOwnNode at rest.0.tree.last.map own → (there : AtRest c key x t out notes) → GiveFits lines (now c there.0.reached) strings from give.ballot give.question give.trusted give.body → there.0.tree.last.map ≡ rest.0.tree.last.map → (sync : Option Running) → x.sync ≡ sync
           → Ends c (take_give p from give own sync x out next) (take_give p from give own sync x out mark) t notes
       takes own t is there shows same None none = go [] key x t out notes (tt, there)
       takes own t is there shows same (Some r) runs = gone_good c there next mark go (row_take from give own r) r
           (record { may = subst (MaySync (now c there.0.reached).objects.ledger x.fact (may_wait x.phase)) (sym (fact_stays from give own r)) syncing.may; asks = taken_are p from give own r syncing.asks })
           (subst (IsListedFact lines.voting) (sym (fact_stays from give own r)) (subst (IsListedSync lines.voting) runs there.0.listed.sync))
-          ((laws_here c there.0.reached).takes strings p x.fact x.trusted there.0.tree.map r from give own c.free position syncing.asks shows (subst (λ m. (own ≡ None) ⊎ (own ≡ node_of (form_of One) at m)) (sym same) is)
-          (subst (SyncMaySay lines (now c there.0.reached) strings p x.fact x.trusted there.0.tree.map) runs there.0.sync))
+          ((laws_here c there.0.reached).takes strings p x.fact x.trusted there.0.tree.last.map r from give own c.free position syncing.asks shows (subst (λ m. (own ≡ None) ⊎ (own ≡ node_of (form_of One) at m)) (sym same) is)
+          (subst (SyncMaySay lines (now c there.0.reached) strings p x.fact x.trusted there.0.tree.last.map) runs there.0.sync))
           (take_go p from give own r syncing.asks) (take_ask p from give own r syncing.asks)
         where
           syncing : IsSyncing (now c there.0.reached).objects.ledger p x.fact (may_wait x.phase) r
           syncing = subst (ledgers.SyncHolds (now c there.0.reached).objects.ledger p x.fact (may_wait x.phase)) runs there.0.peer.sync
 
       read_ends : Ends c (own_node true at x out (λ own y o. take_give p from give own y.sync y o next)) (own_node true at x out (λ own y o. take_give p from give own y.sync y o mark)) h notes
-      read_ends = ask_ends keeping.grows c (ReadNode at) _ _ h notes (λ among. by_walk (answered (ReadNode at) h).result refl (keeping.reads strings h rest.0.tree.map at c.free among rest.0.tree.shows position))
+      read_ends = ask_ends keeping.grows c (ReadNode at) _ _ h notes (λ among. by_walk (answered (ReadNode at) h).result refl (rooted.reads strings h rest.0.tree.last.map at c.free among (tree_sees (now c rest.0.reached) strings p x.seal h rest.0.tree) position))
         where
           kept : (answered (ReadNode at) h).held.stores.facts.kept ≡ h.stores.facts.kept
           kept = ap (λ (f : HeldFact). f.kept) (keeping.spares (ReadNode at) h).1
 
-          own_is : (walked : Walked (Option (List ℕ))) → IsReached (node_of (form_of One) at rest.0.tree.map) (Ok walked) → IsOwnNode at rest.0.tree.map (reached walked)
+          own_is : (walked : Walked (Option (List ℕ))) → IsReached (node_of (form_of One) at rest.0.tree.last.map) (Ok walked) → IsOwnNode at rest.0.tree.last.map (reached walked)
           own_is (Came found) is = inr is
           own_is (Broken place) is = inl refl
 
-          by_walk : (result : Result (Walked (Option (List ℕ))) PeerError) → (answered (ReadNode at) h).result ≡ result → IsReached (node_of (form_of One) at rest.0.tree.map) result
+          by_walk : (result : Result (Walked (Option (List ℕ))) PeerError) → (answered (ReadNode at) h).result ≡ result → IsReached (node_of (form_of One) at rest.0.tree.last.map) result
               → Answers c (ReadNode at) (λ walked. take_give p from give (reached walked) x.sync x out next) (λ walked. take_give p from give (reached walked) x.sync x out mark) h notes
           by_walk (Ok walked) is found = record { answer = walked; is = is; goes = takes (reached walked) (answered (ReadNode at) h).held (own_is walked found) (read_here c rest.0 (ReadNode at) tt kept, rest.1) fits refl x.sync refl }
           by_walk (Err e) is none = absurd none

@@ -8,7 +8,7 @@ use Rattle.ens_base.specs.declared.entry.Entry.{Entry}
 use Rattle.ens_base.specs.declared.epoch.Epoch.{Epoch}
 use Rattle.abstract_protocol.specs.Ledger.{Ledger, Place, put}
 use Rattle.abstract_protocol.specs.Numbers.{epoch_number}
-use Rattle.abstract_protocol.specs.Objects.{Map, MayEndSync}
+use Rattle.abstract_protocol.specs.Objects.{Map, IsHonest, MayEndSync}
 use Rattle.abstract_protocol.specs.Protocol.{State, Step, Install, EndSync, MayCome, happens}
 use Rattle.election.specs.declared.election.Election.TheVariants.{Preparing, Starting}
 use Rattle.election_laws.proofs.Epochs.{not_empty, run_elections}
@@ -46,6 +46,9 @@ use Rattle.running_sync.proofs.Others.{asks_are, resumed_are}
 use Rattle.running_sync.specs.Rows.{row_start, row_resume}
 use Rattle.running_sync.specs.Running.{Running}
 use Rattle.running_sync.specs.Sends.{MayGo, AsksAt, IsQuestion}
+use Rattle.seal_laws.proofs.Moves.{unsealed_not}
+use Rattle.seal_laws.specs.Kept.{RootHolds}
+use Rattle.seal_stores.specs.Held.{kept_seal}
 use Rattle.step_plans.specs.Calls.{Call, ScanTree, Install as InstallTree, Save}
 use Rattle.step_plans.specs.Plans.{Out, Rest, asked}
 use Rattle.step_plans.specs.declared.error.PeerError.{PeerError}
@@ -69,7 +72,7 @@ use Rattle.tree_node.specs.declared.body.Scan.{Scan}
 use Rattle.tree_node.specs.declared.position.Position.{Position}
 use Rattle.tree_refinement.proofs.Damage.{scan_positions}
 use Rattle.tree_refinement.proofs.Keeping as keeping
-use Rattle.tree_refinement.proofs.Recording.{last_top}
+use Rattle.tree_refinement.proofs.Rooted as rooted
 use Rattle.tree_refinement.proofs.Tops.{installs as installs_tops}
 use Rattle.tree_refinement.specs.Laws.{IsScanned, KeepsRoot}
 use Rattle.tree_refinement.specs.Tops.{HasBuilt, IsTorn, IsWritten, NamesNext, tops_of}
@@ -90,7 +93,7 @@ use Rattle.step_refinement.proofs.Refusals.{Halts, rests_down, rests_over}
 use Rattle.step_refinement.proofs.SentMessages.{SaysSo, SendSaysSo, says_nothing, tells_more}
 use Rattle.step_refinement.proofs.LaterStates.{phase_stays, sends_stay}
 use Rattle.step_refinement.proofs.LeaderTasks.{PhasesNext}
-use Rattle.step_refinement.proofs.ShownMaps.{tree_kept, tree_saved, tree_written, tree_stays, tops_behind, tops_next, tops_stay}
+use Rattle.step_refinement.proofs.ShownMaps.{tops_stay, last_stays, last_under, last_written, tree_kept, tree_sees, tree_written}
 use Rattle.step_refinement.specs.Peers.{MessageFits, SendFits, TreeHolds, TopsReturn}
 use Rattle.step_refinement.specs.Roles.{role_in, said_in_sends}
 
@@ -190,7 +193,7 @@ module _ (c : Scene) where
 
   module _ {key : List ℕ} {x : PeerState} {h : Held} {out : Out} {notes : List Note} (here : Here c key x h out notes) where
     -- this sync runs
-    abbrev pub runs_here : (r : Running) → IsSyncing (now c here.reached).objects.ledger p x.fact (may_wait x.phase) r → IsListedFact lines.voting r.fact → SyncSays lines (now c here.reached) strings p x.fact x.trusted here.tree.map r → Here c key (with_sync r x) h out notes
+    abbrev pub runs_here : (r : Running) → IsSyncing (now c here.reached).objects.ledger p x.fact (may_wait x.phase) r → IsListedFact lines.voting r.fact → SyncSays lines (now c here.reached) strings p x.fact x.trusted here.tree.last.map r → Here c key (with_sync r x) h out notes
     runs_here r syncing listed says = record {
       reached = here.reached;
       roles = here.roles;
@@ -228,7 +231,7 @@ module _ (c : Scene) where
   -- ## The merged map is installed
 
   module _ {key : List ℕ} {x : PeerState} {h : Held} {out : Out} {notes : List Note} (at : AtRest c key x h out notes) (r : Running) (entries : List Entry) (alone : x.sync ≡ None) (may : MaySync (now c at.0.reached).objects.ledger x.fact (may_wait x.phase) r.fact)
-      (ends : SyncEnds (now c at.0.reached) strings p at.0.tree.map r entries) where
+      (ends : SyncEnds (now c at.0.reached) strings p at.0.tree.last.map r entries) where
     abbrev s : State
     s = now c at.0.reached
 
@@ -261,7 +264,7 @@ module _ (c : Scene) where
     halted = record { reached = reached; role = role_in key x.phase (owed_after [] out.answers); sends = out.sends; roles = roles_on; saved = at.0.peer.saved; listed = at.0.listed.fact; noted = at.0.noted }
 
     -- the peer agrees with the run, over stores whose tree shows the merged map
-    abbrev installed_here : (u : Held) → u.stores.facts.kept ≡ h.stores.facts.kept → TreeHolds t strings p u → Here c key x u out notes
+    abbrev installed_here : (u : Held) → u.stores.facts.kept ≡ h.stores.facts.kept → TreeHolds t strings p x.seal u → Here c key x u out notes
     installed_here u kept tree = record {
       reached = reached;
       roles = roles_on;
@@ -269,7 +272,7 @@ module _ (c : Scene) where
       listed = at.0.listed;
       trust = at.0.trust;
       tree = tree;
-      sync = subst (λ (sync : Option Running). SyncMaySay lines t strings p x.fact x.trusted tree.map sync) (sym alone) tt;
+      sync = subst (λ (sync : Option Running). SyncMaySay lines t strings p x.fact x.trusted tree.last.map sync) (sym alone) tt;
       fits = phase_stays at.0.reached.ghosts.hash s t p x.fact x.phase stay (λ e elected. refl) at.0.peer.phase at.0.fits;
       task = rest_task t key x.phase at.1;
       noted = at.0.noted;
@@ -278,15 +281,29 @@ module _ (c : Scene) where
       fits_sends = sends_stay s t strings stay lines p out.sends at.0.fits_sends;
     }
 
+    honest_merged : IsHonest t.objects p
+    honest_merged k = ap (λ (m : Map). m k) (put_here s.objects.visible p (ranks entries)) ∙ sym (ap (λ (m : Map). m k) (put_here s.objects.map p (ranks entries)))
+
     -- the own tree is already that of the merged map
-    kept_tree : entries ≡ at.0.tree.map → TreeHolds t strings p h
-    kept_tree same = record {
-      map = at.0.tree.map;
-      shows = at.0.tree.shows;
-      says = subst (TreeSays t strings p) same says_merged;
-      recorded = at.0.tree.recorded;
-      tops = tops_stay s t strings h.hashed p (tops_of h.stores) stay at.0.tree.tops;
+    kept_tree : entries ≡ at.0.tree.last.map → TreeHolds t strings p x.seal h
+    kept_tree same = let last = at.0.tree.last in record {
+      last = record {
+        digest = last.digest;
+        is = last.is;
+        map = last.map;
+        named = last.named;
+        says = subst (TreeSays t strings p) same says_merged;
+        honest = λ sealed. honest_merged;
+        returns = λ none. tops_stay s t strings h.hashed p (tops_of h.stores) stay (last.returns none);
+        unsealed = last.unsealed;
+      };
+      sealed = at.0.tree.sealed;
+      root = at.0.tree.root;
     }
+
+    -- each map that a top record names may still return
+    tops_on : TopsReturn t strings h.hashed p (tops_of h.stores)
+    tops_on = tops_stay s t strings h.hashed p (tops_of h.stores) stay (at.0.tree.last.returns at.0.tree.last.unsealed)
 
     -- the tree is built, or its building is refused
     spared : (answered (InstallTree entries) h).held.stores.facts.kept ≡ h.stores.facts.kept
@@ -297,13 +314,12 @@ module _ (c : Scene) where
       where
         by_tops : (tops_of (answered (InstallTree entries) h).held.stores ≡ tops_of h.stores) ⊎ NamesNext entries h (answered (InstallTree entries) h).held → Rests c (answered (InstallTree entries) h).held notes
         by_tops (inl same) = rests_over c at.0 (answered (InstallTree entries) h).held spared same (keeping.grows (InstallTree entries) h)
-        by_tops (inr next) = rests_down c halted (answered (InstallTree entries) h).held entries next.digest (ap bare spared ∙ at.0.peer.kept) (ap (λ tops. top_of tops) next.tops ∙ last_top (tops_of h.stores) next.digest) next.named says_merged
-            (subst (λ (tops : List (List ℕ)). TopsReturn t strings (answered (InstallTree entries) h).held.hashed p tops) (sym next.tops)
-            (tops_next t strings (answered (InstallTree entries) h).held.hashed p (tops_of h.stores) next.digest entries next.named return_merged
-            (tops_behind t strings h.hashed (answered (InstallTree entries) h).held.hashed p (tops_of h.stores) (keeping.grows (InstallTree entries) h) (tops_stay s t strings h.hashed p (tops_of h.stores) stay at.0.tree.tops))))
+        by_tops (inr next) = let u : Held = (answered (InstallTree entries) h).held in
+            rests_down c halted u (ap bare spared ∙ at.0.peer.kept) (last_under strings p t u.hashed x.seal (kept_seal u.stores.facts.kept) (tops_of u.stores) (ap kept_seal spared ∙ at.0.tree.sealed)
+            (last_written strings p t h u x.seal entries at.0.tree.last.unsealed next (keeping.grows (InstallTree entries) h) says_merged return_merged tops_on))
 
-    built_tree : IsWritten entries h (answered (InstallTree entries) h).held → TreeHolds t strings p (answered (InstallTree entries) h).held
-    built_tree written = tree_written t strings p h (answered (InstallTree entries) h).held entries written (keeping.grows (InstallTree entries) h) says_merged return_merged (tops_stay s t strings h.hashed p (tops_of h.stores) stay at.0.tree.tops)
+    built_tree : IsWritten entries h (answered (InstallTree entries) h).held → TreeHolds t strings p x.seal (answered (InstallTree entries) h).held
+    built_tree written = tree_written t strings p x.seal h (answered (InstallTree entries) h).held entries at.0.tree.last.unsealed (ap kept_seal spared ∙ at.0.tree.sealed) written (keeping.grows (InstallTree entries) h) says_merged return_merged tops_on
 
     -- the sync may end then
     pub record MayAccept (there : Reached c) : Type 0 where
@@ -311,7 +327,7 @@ module _ (c : Scene) where
       pub finishes : MayEndSync (now c there).objects p (epoch_number r.fact.epoch)
 
     may_accept : MayAccept reached
-    may_accept = record { syncs = may; finishes = may_end lines s (run_versions view at.0.reached.steps at.0.reached.run) p (seen_fact x.fact) (seen_tree at.0.tree.map) x.trusted Theory.Following d (ranks entries) ends.may }
+    may_accept = record { syncs = may; finishes = may_end lines s (run_versions view at.0.reached.steps at.0.reached.run) p (seen_fact x.fact) (seen_tree at.0.tree.last.map) x.trusted Theory.Following d (ranks entries) ends.may }
 
     -- the tree is built if that is needed
     installed_ends : (builds : Bool) → needs_build r.sync.scan entries ≡ builds → (next mark : Rest PeerState (Unit {0})) → ((u : Held) → (there : Here c key x u out notes) → MayAccept there.reached → Ends c (next tt x out) (mark tt x out) u notes)
@@ -374,8 +390,12 @@ module _ (c : Scene) where
     listed_new : IsListedPeer lines.voting p joined_state
     listed_new = listed_synced new listed at.0.listed
 
-    tree_new : TreeHolds later strings p held
-    tree_new = tree_stays merged later strings p held stay_on refl (tree_saved merged strings p (record h.stores.facts { kept = Some (with_seal x.seal new) }) h at.0.tree)
+    tree_new : TreeHolds later strings p x.seal held
+    tree_new = record { last = last_stays strings p merged later h.hashed x.seal (tops_of h.stores) stay_on refl refl at.0.tree.last; sealed = refl; root = by_root at.0.tree.root }
+      where
+        by_root : RootHolds merged.objects p (top_of (tops_of h.stores)) x.seal h.stores.tree.top → RootHolds later.objects p (top_of (tops_of h.stores)) x.seal h.stores.tree.top
+        by_root (inl is) = inl is
+        by_root (inr none) = absurd (unsealed_not x.seal at.0.tree.last.unsealed none.1)
 
     abbrev joined_here : AtRest c key joined_state held out notes
     joined_here = (
@@ -480,7 +500,7 @@ module _ (c : Scene) where
     abbrev alone : AtRest c key (without_sync x) h out notes
     alone = (alone_here at.0, at.1)
 
-    end_sync_good : (r : Running) (entries : List Entry) → IsSyncing (now c at.0.reached).objects.ledger p x.fact (may_wait x.phase) r → IsListedFact lines.voting r.fact → SyncEnds (now c at.0.reached) strings p at.0.tree.map r entries → Ends c (end_sync p r entries x out next) (end_sync p r entries x out mark) h notes
+    end_sync_good : (r : Running) (entries : List Entry) → IsSyncing (now c at.0.reached).objects.ledger p x.fact (may_wait x.phase) r → IsListedFact lines.voting r.fact → SyncEnds (now c at.0.reached) strings p at.0.tree.last.map r entries → Ends c (end_sync p r entries x out next) (end_sync p r entries x out mark) h notes
     end_sync_good r entries syncing listed ends =
         installed_ends alone r entries refl syncing.may ends (needs_build r.sync.scan entries) refl (saves next) (saves mark) (λ u there may.
         accepts_ends (there, at.1) r.fact listed may.syncs may.finishes (accepts next) (accepts mark)
@@ -497,17 +517,17 @@ module _ (c : Scene) where
     has_view r syncing = let l = (now c at.0.reached).objects.ledger in
         subst (λ (views : List (List ℕ)). 0 < length views) (sym syncing.may.first.known.views) (not_empty l (run_sound view at.0.reached.steps at.0.reached.run) (epoch_number r.fact.epoch) syncing.may.first.known.elected)
 
-    ended_good : (r : Running) (outcome : Outcome) → outcome_of r.sync ≡ outcome → IsSyncing (now c at.0.reached).objects.ledger p x.fact (may_wait x.phase) r → IsListedFact lines.voting r.fact → SyncSays lines (now c at.0.reached) strings p x.fact x.trusted at.0.tree.map r
+    ended_good : (r : Running) (outcome : Outcome) → outcome_of r.sync ≡ outcome → IsSyncing (now c at.0.reached).objects.ledger p x.fact (may_wait x.phase) r → IsListedFact lines.voting r.fact → SyncSays lines (now c at.0.reached) strings p x.fact x.trusted at.0.tree.last.map r
         → Ends c (by_outcome p r outcome x out next) (by_outcome p r outcome x out mark) h notes
     ended_good r Pending is syncing listed says = go [] key (with_sync r x) h out notes (tt, (runs_here at.0 r syncing listed says, at.1))
     ended_good r (Trusted entries) is syncing listed says = end_sync_good r entries syncing listed
-        ((laws_here at.0.reached).ends strings p x.fact x.trusted at.0.tree.map r entries c.sound (listed.views (last_view r.fact.views) (last_view_in r.fact.views (has_view r syncing))) (few_here at.0.reached) at.0.peer.saved.ballot (ap (λ (place : Place). place.epoch) at.0.peer.saved.place) at.0.tree.says says is)
+        ((laws_here at.0.reached).ends strings p x.fact x.trusted at.0.tree.last.map r entries c.sound (listed.views (last_view r.fact.views) (last_view_in r.fact.views (has_view r syncing))) (few_here at.0.reached) at.0.peer.saved.ballot (ap (λ (place : Place). place.epoch) at.0.peer.saved.place) at.0.tree.last.says says is)
 
   -- ## What a sync does
 
   -- a sync sends its questions, and goes on, or ends
   pub gone_good : {key : List ℕ} {x : PeerState} {h : Held} {out : Out} {notes : List Note} (at : AtRest c key x h out notes) (next mark : Rest PeerState (List Task)) → Onward c (PhasesNext c) next mark → (r : Running × List Outgoing) (of : Running) → IsSyncing (now c at.0.reached).objects.ledger p x.fact (may_wait x.phase) r.0
-      → IsListedFact lines.voting r.0.fact → SyncSays lines (now c at.0.reached) strings p x.fact x.trusted at.0.tree.map r.0 → All (MayGo p) r.1 → All (IsQuestion of) r.1 → Ends c (go_on p r x out next) (go_on p r x out mark) h notes
+      → IsListedFact lines.voting r.0.fact → SyncSays lines (now c at.0.reached) strings p x.fact x.trusted at.0.tree.last.map r.0 → All (MayGo p) r.1 → All (IsQuestion of) r.1 → Ends c (go_on p r x out next) (go_on p r x out mark) h notes
   gone_good at next mark go r of syncing listed says may ask = ended_good (asks_here at.0 of r.1 may ask, at.1) next mark go r.0 (outcome_of r.0.sync) refl syncing listed says
 
   -- the stores after a call that leaves the root of the tree and the fact
@@ -518,7 +538,7 @@ module _ (c : Scene) where
     peer = record { saved = here.peer.saved; kept = ap bare kept ∙ here.peer.kept; phase = here.peer.phase; sync = here.peer.sync };
     listed = here.listed;
     trust = here.trust;
-    tree = tree_kept (now c here.reached) strings p call h root here.tree;
+    tree = tree_kept (now c here.reached) strings p x.seal call h root kept here.tree;
     sync = here.sync;
     fits = here.fits;
     task = here.task;
@@ -533,16 +553,16 @@ module _ (c : Scene) where
       → Ends c (start_sync p new x out next) (start_sync p new x out mark) h notes
   unfolding asked
   begun_good {key} {x} {h} {out} {notes} at next mark go new listed may =
-      ask_ends keeping.grows c ScanTree (λ scan. go_on p (row_start new p x.trusted scan) x out next) (λ scan. go_on p (row_start new p x.trusted scan) x out mark) h notes (λ among. by_scan among (answered ScanTree h).result refl (keeping.scans strings h at.0.tree.map c.free among at.0.tree.shows))
+      ask_ends keeping.grows c ScanTree (λ scan. go_on p (row_start new p x.trusted scan) x out next) (λ scan. go_on p (row_start new p x.trusted scan) x out mark) h notes (λ among. by_scan among (answered ScanTree h).result refl (rooted.scans strings h at.0.tree.last.map c.free among (tree_sees (now c at.0.reached) strings p x.seal h at.0.tree)))
     where
       same : (answered ScanTree h).held.stores.facts.kept ≡ h.stores.facts.kept
       same = ap (λ (f : HeldFact). f.kept) (keeping.spares ScanTree h).1
 
-      starts : AreAmong (answered ScanTree h).held.hashed strings → (scan : Scan) → (answered ScanTree h).result ≡ Ok scan → IsScanned at.0.tree.map (Ok scan) → SyncSays lines (now c at.0.reached) strings p x.fact x.trusted at.0.tree.map (row_start new p x.trusted scan).0
-      starts among scan is entries = (laws_here at.0.reached).starts strings p x.fact new x.trusted at.0.tree.map scan (firm_here at.0.reached) at.0.trust at.0.peer.saved.ballot (first_seen (now c at.0.reached).objects.ledger new may.first) (ap epoch_number may.promised) may.newer
-          (λ node within. among node (keeping.grows ScanTree h node (at.0.tree.shows.texts node within))) at.0.tree.says (record { is_map = at.0.tree.shows.stands.is_map; entries = entries; positions = scan_positions h scan is })
+      starts : AreAmong (answered ScanTree h).held.hashed strings → (scan : Scan) → (answered ScanTree h).result ≡ Ok scan → IsScanned at.0.tree.last.map (Ok scan) → SyncSays lines (now c at.0.reached) strings p x.fact x.trusted at.0.tree.last.map (row_start new p x.trusted scan).0
+      starts among scan is entries = (laws_here at.0.reached).starts strings p x.fact new x.trusted at.0.tree.last.map scan (firm_here at.0.reached) at.0.trust at.0.peer.saved.ballot (first_seen (now c at.0.reached).objects.ledger new may.first) (ap epoch_number may.promised) may.newer
+          (λ node within. among node (keeping.grows ScanTree h node (at.0.tree.last.named.texts node within))) at.0.tree.last.says (record { is_map = at.0.tree.last.named.stands.is_map; entries = entries; positions = scan_positions h scan is })
 
-      by_scan : AreAmong (answered ScanTree h).held.hashed strings → (result : Result Scan PeerError) → (answered ScanTree h).result ≡ result → IsScanned at.0.tree.map result → Answers c ScanTree (λ scan. go_on p (row_start new p x.trusted scan) x out next) (λ scan. go_on p (row_start new p x.trusted scan) x out mark) h notes
+      by_scan : AreAmong (answered ScanTree h).held.hashed strings → (result : Result Scan PeerError) → (answered ScanTree h).result ≡ result → IsScanned at.0.tree.last.map result → Answers c ScanTree (λ scan. go_on p (row_start new p x.trusted scan) x out next) (λ scan. go_on p (row_start new p x.trusted scan) x out mark) h notes
       by_scan among (Ok scan) is entries = record {
         answer = scan;
         is = is;
@@ -555,12 +575,12 @@ module _ (c : Scene) where
   pub resumed_good : {key : List ℕ} {x : PeerState} {h : Held} {out : Out} {notes : List Note} (at : AtRest c key x h out notes) (next mark : Rest PeerState (List Task)) → Onward c (PhasesNext c) next mark → Ends c (resume_sync x.sync x out next) (resume_sync x.sync x out mark) h notes
   resumed_good {key} {x} {h} {out} {notes} at next mark go = by_sync x.sync refl
     where
-      asks_again : (r : Running) → x.sync ≡ Some r → IsSyncing (now c at.0.reached).objects.ledger p x.fact (may_wait x.phase) r → IsListedFact lines.voting r.fact → SyncSays lines (now c at.0.reached) strings p x.fact x.trusted at.0.tree.map r
+      asks_again : (r : Running) → x.sync ≡ Some r → IsSyncing (now c at.0.reached).objects.ledger p x.fact (may_wait x.phase) r → IsListedFact lines.voting r.fact → SyncSays lines (now c at.0.reached) strings p x.fact x.trusted at.0.tree.last.map r
           → Ends c (next [] (with_sync (row_resume r).0 x) (and_sends out (row_resume r).1)) (mark [] (with_sync (row_resume r).0 x) (and_sends out (row_resume r).1)) h notes
       asks_again r is syncing listed says = go [] key (with_sync (row_resume r).0 x) h (and_sends out (row_resume r).1) notes (
         tt,
         (
-          runs_here (asks_here at.0 r (row_resume r).1 (resume_go p r syncing.asks) (resume_ask p r syncing.asks)) (row_resume r).0 (record { may = syncing.may; asks = resumed_are p r syncing.asks }) listed ((laws_here at.0.reached).resumes strings p x.fact x.trusted at.0.tree.map r says),
+          runs_here (asks_here at.0 r (row_resume r).1 (resume_go p r syncing.asks) (resume_ask p r syncing.asks)) (row_resume r).0 (record { may = syncing.may; asks = resumed_are p r syncing.asks }) listed ((laws_here at.0.reached).resumes strings p x.fact x.trusted at.0.tree.last.map r says),
           at.1,
         ),
       )
@@ -568,4 +588,4 @@ module _ (c : Scene) where
       by_sync : (sync : Option Running) → x.sync ≡ sync → Ends c (resume_sync sync x out next) (resume_sync sync x out mark) h notes
       by_sync None is = go [] key x h out notes (tt, at)
       by_sync (Some r) is = asks_again r is (subst (ledgers.SyncHolds (now c at.0.reached).objects.ledger p x.fact (may_wait x.phase)) is at.0.peer.sync) (subst (IsListedSync lines.voting) is at.0.listed.sync)
-          (subst (SyncMaySay lines (now c at.0.reached) strings p x.fact x.trusted at.0.tree.map) is at.0.sync)
+          (subst (SyncMaySay lines (now c at.0.reached) strings p x.fact x.trusted at.0.tree.last.map) is at.0.sync)

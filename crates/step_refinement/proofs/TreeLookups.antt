@@ -57,6 +57,7 @@ use Rattle.request_refinement.proofs.Staying.{put_entry, write_shows}
 use Rattle.request_refinement.specs.Naming.{hash_of, version_string, object_of_version, VersionSays, EntrySays, EntryMaySay, MayBeDecoded}
 use Rattle.request_refinement.specs.Replies.{MapSays, LookSees, IsShown, found_in}
 use Rattle.running_sync.specs.Running.{Running}
+use Rattle.seal_stores.specs.Held.{kept_seal}
 use Rattle.step_plans.specs.Calls.{Call, Find, Enter, Fetch, Put, Hash}
 use Rattle.step_plans.specs.Plans.{Plan, Ask, Out, Rest, asked}
 use Rattle.step_plans.specs.declared.error.PeerError.TheVariants.{StoreFault}
@@ -70,25 +71,21 @@ use Rattle.tree_maps.proofs.Names.{md5_run}
 use Rattle.tree_maps.proofs.Parts.{ascends-put}
 use Rattle.tree_maps.specs.Entries.{lookup, put, IsMap}
 use Rattle.tree_node.specs.declared.position.Position.{Position}
-use Rattle.tree_refinement.proofs.Keeping as keeping
 use Rattle.tree_refinement.proofs.Keeping.{grows, hashes, spares}
 use Rattle.tree_refinement.proofs.Tops as records
-use Rattle.tree_refinement.proofs.Recording.{last_top}
 use Rattle.tree_refinement.specs.Laws.{KeepsRoot}
 use Rattle.tree_refinement.specs.Tops.{tops_of, NamesNext, IsWritten}
-use Rattle.tree_refinement.specs.Trees.{AreAmong, Shows}
-use Rattle.tree_refinement.specs.Whole.{IsRecorded}
+use Rattle.tree_refinement.specs.Trees.{AreAmong}
 use Rattle.phase_rows.specs.declared.phase.Seen.{Seen}
 use Rattle.phase_rows.specs.declared.phase.Seen.TheVariants as seens
-use Rattle.world_stores.specs.Nodes.{top_of}
 use Rattle.world_stores.specs.declared.fact.HeldFact.{HeldFact}
 use Rattle.step_refinement.proofs.CallByCall.{Ends, Answers, IsRefused, ask_ends, ask_may_end}
 use Rattle.step_refinement.specs.Scenes.{Scene, state_before, Reached, now, Here, Rests}
 use Rattle.step_refinement.proofs.CalledKeys.{length_keys, key_from}
-use Rattle.step_refinement.proofs.StoreAnswers.{Looks, Finds, Breaks, find_ends, put_ends, EnterEnds, Enters, Stops, Tears, enter_ends, broken_recorded}
+use Rattle.step_refinement.proofs.StoreAnswers.{Looks, Finds, Breaks, find_ends, put_ends, EnterEnds, Enters, Stops, Tears, enter_ends, broken_root}
 use Rattle.step_refinement.proofs.Refusals.{rests_down, rests_over}
 use Rattle.step_refinement.proofs.LaterStates.{sends_stay, sync_stays, phase_stays}
-use Rattle.step_refinement.proofs.ShownMaps.{tops_behind, tops_stay, tops_next, tree_written, tree_stays, names_from, written_from, written_kept}
+use Rattle.step_refinement.proofs.ShownMaps.{tops_stay, last_under, last_written, root_same, tree_sees, tree_shows, tree_over, tree_written, tree_stays, names_from, written_from, written_kept}
 use Rattle.step_refinement.specs.Keys.{KeysAreFew}
 use Rattle.step_refinement.specs.Peers.{TopsReturn, TreeHolds, AcksSay, TaskFits}
 use Rattle.step_refinement.specs.Roles.{role_in, said_in_sends}
@@ -358,8 +355,8 @@ module _ (c : Scene) where
     s = now c here.reached
 
     -- such a peer shows the map that it wrote last
-    pub shown_map : x.trusted ≡ true → MapSays s strings p here.tree.map
-    shown_map trusts = trusted_maps view here.reached.steps here.reached.run strings p here.tree.map (here.trust ∙ trusts) here.tree.says
+    pub shown_map : x.trusted ≡ true → MapSays s strings p here.tree.last.map
+    shown_map trusts = trusted_maps view here.reached.steps here.reached.run strings p here.tree.last.map (here.trust ∙ trusts) here.tree.last.says
 
     -- and runs no sync
     pub no_sync : IsReady x → x.sync ≡ None
@@ -375,8 +372,7 @@ module _ (c : Scene) where
     -- the stores, after calls that leave the tree
     pub record Over (t : Held) : Type 0 where
       pub kept_fact : t.stores.facts.kept ≡ h.stores.facts.kept
-      pub shows : Shows t here.tree.map
-      pub recorded : IsRecorded t
+      pub root : t.stores.tree.top ≡ h.stores.tree.top
       pub tops : tops_of t.stores ≡ tops_of h.stores
       pub hashed : AreAmong h.hashed t.hashed
 
@@ -385,20 +381,19 @@ module _ (c : Scene) where
       pub kept_fact : t.stores.facts.kept ≡ h.stores.facts.kept
       pub spelled : object_spelling o ∈ strings
       pub hashed : AreAmong h.hashed t.hashed
-      pub written : IsWritten (put (entry_of o (md5 (object_spelling o))) here.tree.map) h t
+      pub written : IsWritten (put (entry_of o (md5 (object_spelling o))) here.tree.last.map) h t
 
     -- one more call that leaves the tree
     over_call : (call : Call) (t : Held) → KeepsRoot call → (answered call t).held.stores.facts.kept ≡ t.stores.facts.kept → Over t → Over (answered call t).held
     over_call call t root same over = record {
       kept_fact = same ∙ over.kept_fact;
-      shows = keeping.keeps call t here.tree.map root over.shows;
-      recorded = (records.keeps call t root).1 over.recorded;
+      root = root_same call t root ∙ over.root;
       tops = (records.keeps call t root).0 ∙ over.tops;
       hashed = λ a at. grows call t a (over.hashed a at);
     }
 
     -- the peer agrees with the run over other stores too, with the same fact and a tree that agrees
-    abbrev pub here_over : (t : Held) → t.stores.facts.kept ≡ h.stores.facts.kept → (tree : TreeHolds s strings p t) → SyncMaySay lines s strings p x.fact x.trusted tree.map x.sync → Here c key x t out notes
+    abbrev pub here_over : (t : Held) → t.stores.facts.kept ≡ h.stores.facts.kept → (tree : TreeHolds s strings p x.seal t) → SyncMaySay lines s strings p x.fact x.trusted tree.last.map x.sync → Here c key x t out notes
     here_over t kept_fact tree sync = record {
       reached = here.reached;
       roles = here.roles;
@@ -417,19 +412,11 @@ module _ (c : Scene) where
 
     -- so it does after calls that leave the tree
     abbrev pub over_here : (t : Held) → Over t → Here c key x t out notes
-    over_here t over = here_over t over.kept_fact
-        (record {
-          map = here.tree.map;
-          shows = over.shows;
-          says = here.tree.says;
-          recorded = over.recorded;
-          tops = subst (λ (tops : List (List ℕ)). TopsReturn s strings t.hashed p tops) (sym over.tops) (tops_behind s strings h.hashed t.hashed p (tops_of h.stores) over.hashed here.tree.tops);
-        })
-        here.sync
+    over_here t over = here_over t over.kept_fact (tree_over s strings p x.seal h t over.kept_fact over.tops over.root over.hashed here.tree) here.sync
 
     -- before any call the stores are such stores
     abbrev pub nothing_read : Over h
-    nothing_read = record { kept_fact = refl; shows = here.tree.shows; recorded = here.tree.recorded; tops = refl; hashed = λ a at. at }
+    nothing_read = record { kept_fact = refl; root = refl; tops = refl; hashed = λ a at. at }
 
     -- ## A write of the tree
 
@@ -445,7 +432,7 @@ module _ (c : Scene) where
       entry = entry_of o (md5 (object_spelling o))
 
       abbrev map_then : List Entry
-      map_then = put entry here.tree.map
+      map_then = put entry here.tree.last.map
 
       -- the run with the write
       abbrev reached_then : Reached c
@@ -460,7 +447,7 @@ module _ (c : Scene) where
 
       -- the map with the entry is that of the protocol
       map_says : object_spelling o ∈ strings → MapSays t strings p map_then
-      map_says spelled = write_shows s strings strings p here.tree.map entry (λ a i. i) (shown_map store.ready.trusts) (put_entry s strings d o (md5 (object_spelling o)) store.says store.obeys spelled refl)
+      map_says spelled = write_shows s strings strings p here.tree.last.map entry (λ a i. i) (shown_map store.ready.trusts) (put_entry s strings d o (md5 (object_spelling o)) store.says store.obeys spelled refl)
 
       -- the tree that shows the map with the entry says what holds
       pub tree_says : object_spelling o ∈ strings → TreeSays t strings p map_then
@@ -472,7 +459,7 @@ module _ (c : Scene) where
 
       -- each map that a top record names may still return
       pub tops_then : TopsReturn t strings h.hashed p (tops_of h.stores)
-      tops_then = tops_stay s t strings h.hashed p (tops_of h.stores) stay here.tree.tops
+      tops_then = tops_stay s t strings h.hashed p (tops_of h.stores) stay (here.tree.last.returns here.tree.last.unsealed)
 
       -- the roles of the peers still hold
       pub roles_then : RolesHold here.reached.ghosts t (ledger.put c.roles p (role_in key x.phase (owed_after [] out.answers))) (said_in_sends p out.sends ++ c.said)
@@ -490,9 +477,8 @@ module _ (c : Scene) where
             listed = here.listed.fact;
             noted = here.noted;
           })
-          u map_then next.digest (ap bare kept_fact ∙ here.peer.kept) (ap top_of next.tops ∙ last_top (tops_of h.stores) next.digest) next.named (tree_says spelled)
-          (subst (λ (tops : List (List ℕ)). TopsReturn t strings u.hashed p tops) (sym next.tops)
-          (tops_next t strings u.hashed p (tops_of h.stores) next.digest map_then next.named (map_returns spelled next.named.stands.is_map) (tops_behind t strings h.hashed u.hashed p (tops_of h.stores) among tops_then)))
+          u (ap bare kept_fact ∙ here.peer.kept) (last_under strings p t u.hashed x.seal (kept_seal u.stores.facts.kept) (tops_of u.stores) (ap kept_seal kept_fact ∙ here.tree.sealed)
+          (last_written strings p t h u x.seal map_then here.tree.last.unsealed next among (tree_says spelled) (map_returns spelled next.named.stands.is_map) tops_then))
 
       -- the object was written: its version is in the peer's tree
       abbrev pub write_here : (u : Held) → Stored o u → TaskFits t key x.phase → Here c key x u out notes
@@ -502,7 +488,7 @@ module _ (c : Scene) where
         peer = record { saved = here.peer.saved; kept = ap bare stored.kept_fact ∙ here.peer.kept; phase = here.peer.phase; sync = here.peer.sync };
         listed = here.listed;
         trust = here.trust;
-        tree = tree_written t strings p h u map_then stored.written stored.hashed (tree_says stored.spelled) (map_returns stored.spelled stored.written.next.named.stands.is_map) tops_then;
+        tree = tree_written t strings p x.seal h u map_then here.tree.last.unsealed (ap kept_seal stored.kept_fact ∙ here.tree.sealed) stored.written stored.hashed (tree_says stored.spelled) (map_returns stored.spelled stored.written.next.named.stands.is_map) tops_then;
         sync = subst (λ (sync : Option Running). SyncMaySay lines t strings p x.fact x.trusted map_then sync) (sym (no_sync store.ready)) tt;
         fits = phase_stays here.reached.ghosts.hash s t p x.fact x.phase stay (λ e elected. refl) here.peer.phase here.fits;
         task = task;
@@ -517,13 +503,13 @@ module _ (c : Scene) where
     -- the peer acknowledges a version
     abbrev pub acknowledge_here : (v : ℕ) → x.trusted ≡ true → MayCome s (Acknowledge p v) → TaskFits (happens s (Acknowledge p v)) key x.phase → Here c key x h out notes
     acknowledge_here v trusts may task = record {
-      reached = acknowledged here.reached here.tree.map v (shown_map trusts) may;
+      reached = acknowledged here.reached here.tree.last.map v (shown_map trusts) may;
       roles = (run_roles view here.reached.steps here.reached.run).silent here.reached.ghosts (ledger.put c.roles p (role_in key x.phase (owed_after [] out.answers))) (said_in_sends p out.sends ++ c.said) (Acknowledge p v) may tt here.roles;
       peer = here.peer;
       listed = here.listed;
       trust = here.trust;
-      tree = tree_stays s (happens s (Acknowledge p v)) strings p h (stay_step s (Acknowledge p v) may) refl here.tree;
-      sync = sync_stays lines s (happens s (Acknowledge p v)) strings p x.fact x.trusted here.tree.map x.sync (stay_step s (Acknowledge p v) may) here.peer.saved.ballot here.sync;
+      tree = tree_stays s (happens s (Acknowledge p v)) strings p x.seal h (stay_step s (Acknowledge p v) may) refl refl (λ blind. blind) here.tree;
+      sync = sync_stays lines s (happens s (Acknowledge p v)) strings p x.fact x.trusted here.tree.last.map x.sync (stay_step s (Acknowledge p v) may) here.peer.saved.ballot here.sync;
       fits = phase_stays here.reached.ghosts.hash s (happens s (Acknowledge p v)) p x.fact x.phase (stay_step s (Acknowledge p v) may) (λ d elected. refl) here.peer.phase here.fits;
       task = task;
       noted = here.noted;
@@ -536,14 +522,14 @@ module _ (c : Scene) where
 
     -- what a peer that trusts its tree sees of a key
     pub record Sees (k : List ℕ) (entry : Option Entry) (object : Option Object) : Type 0 where
-      pub sees : LookSees strings here.tree.map k (seens.Held entry object)
+      pub sees : LookSees strings here.tree.last.map k (seens.Held entry object)
       pub look : LookSays s p k (seens.Held entry object)
       pub shows : IsShown here.reached.ghosts s strings p k entry object
       pub names : LookNames here.reached.ghosts k (seens.Held entry object)
 
-    sees_so : x.trusted ≡ true → (k : List ℕ) (entry : Option Entry) (object : Option Object) → LookSees strings here.tree.map k (seens.Held entry object) → Sees k entry object
+    sees_so : x.trusted ≡ true → (k : List ℕ) (entry : Option Entry) (object : Option Object) → LookSees strings here.tree.last.map k (seens.Held entry object) → Sees k entry object
     sees_so trusts k entry object sees =
-        let both = looks_so s here.reached.ghosts strings p here.tree.map k (seens.Held entry object) here.reached.hash c.free (shown_map trusts) sees in
+        let both = looks_so s here.reached.ghosts strings p here.tree.last.map k (seens.Held entry object) here.reached.hash c.free (shown_map trusts) sees in
         record { sees = sees; look = both.0; shows = both.1; names = names entry both.1.found }
       where
         names : (entry : Option Entry) → FoundSays here.reached.ghosts k (found_in entry object) → FoundSays here.reached.ghosts k (better None entry object)
@@ -588,7 +574,7 @@ module _ (c : Scene) where
 
     -- ## The tree
 
-    held_ends : (k : List ℕ) (entry : Option Entry) (t : Held) (next mark : Rest PeerState Seen) → x.trusted ≡ true → entry ≡ lookup k here.tree.map → Over t
+    held_ends : (k : List ℕ) (entry : Option Entry) (t : Held) (next mark : Rest PeerState Seen) → x.trusted ≡ true → entry ≡ lookup k here.tree.last.map → Over t
         → ((entry : Option Entry) (object : Option Object) (u : Held) → Over u → Sees k entry object → Ends c (next (seens.Held entry object) x out) (mark (seens.Held entry object) x out) u notes)
         → Ends c (held k entry x out next) (held k entry x out mark) t notes
     held_ends k None t next mark trusts is over go = go None None t over (sees_so trusts k None None (is, refl))
@@ -600,7 +586,7 @@ module _ (c : Scene) where
         → ((entry : Option Entry) (object : Option Object) (t : Held) → Over t → Sees k entry object → Ends c (next (seens.Held entry object) x out) (mark (seens.Held entry object) x out) t notes)
         → EndsDamaged next mark → Ends c (looked k x out next) (looked k x out mark) h notes
     unfolding asked
-    looked_ends k next mark trusts go damaged = ask_ends grows c (Find k) (λ end. looked_at k end x out next) (λ end. looked_at k end x out mark) h notes (λ among. by_look (find_ends strings h here.tree.map k c.free among here.tree.shows))
+    looked_ends k next mark trusts go damaged = ask_ends grows c (Find k) (λ end. looked_at k end x out next) (λ end. looked_at k end x out mark) h notes (λ among. by_look (find_ends strings h here.tree.last.map k c.free among (tree_sees s strings p x.seal h here.tree)))
       where
         t : Held
         t = (answered (Find k) h).held
@@ -608,16 +594,16 @@ module _ (c : Scene) where
         read_over : Over t
         read_over = over_call (Find k) h tt refl nothing_read
 
-        by_look : Looks (lookup k here.tree.map) (answered (Find k) h).result → Answers c (Find k) (λ end. looked_at k end x out next) (λ end. looked_at k end x out mark) h notes
-        by_look (Finds is) = record { answer = Came (lookup k here.tree.map); is = is; goes = held_ends k (lookup k here.tree.map) t next mark trusts refl read_over go }
+        by_look : Looks (lookup k here.tree.last.map) (answered (Find k) h).result → Answers c (Find k) (λ end. looked_at k end x out next) (λ end. looked_at k end x out mark) h notes
+        by_look (Finds is) = record { answer = Came (lookup k here.tree.last.map); is = is; goes = held_ends k (lookup k here.tree.last.map) t next mark trusts refl read_over go }
         by_look (Breaks at is) = record { answer = Broken at; is = is; goes = damaged at t read_over }
 
     -- rule 22: the entry of the key
     pub found_ends : (k : List ℕ) (next mark : Rest PeerState Seen)
-        → ((t : Held) → Over t → Ends c (next (seens.Held (lookup k here.tree.map) None) x out) (mark (seens.Held (lookup k here.tree.map) None) x out) t notes)
+        → ((t : Held) → Over t → Ends c (next (seens.Held (lookup k here.tree.last.map) None) x out) (mark (seens.Held (lookup k here.tree.last.map) None) x out) t notes)
         → EndsDamaged next mark → Ends c (found k x out next) (found k x out mark) h notes
     unfolding asked
-    found_ends k next mark go damaged = ask_ends grows c (Find k) (λ end. next (found_at end) x out) (λ end. mark (found_at end) x out) h notes (λ among. by_look (find_ends strings h here.tree.map k c.free among here.tree.shows))
+    found_ends k next mark go damaged = ask_ends grows c (Find k) (λ end. next (found_at end) x out) (λ end. mark (found_at end) x out) h notes (λ among. by_look (find_ends strings h here.tree.last.map k c.free among (tree_sees s strings p x.seal h here.tree)))
       where
         t : Held
         t = (answered (Find k) h).held
@@ -625,8 +611,8 @@ module _ (c : Scene) where
         read_over : Over t
         read_over = over_call (Find k) h tt refl nothing_read
 
-        by_look : Looks (lookup k here.tree.map) (answered (Find k) h).result → Answers c (Find k) (λ end. next (found_at end) x out) (λ end. mark (found_at end) x out) h notes
-        by_look (Finds is) = record { answer = Came (lookup k here.tree.map); is = is; goes = go t read_over }
+        by_look : Looks (lookup k here.tree.last.map) (answered (Find k) h).result → Answers c (Find k) (λ end. next (found_at end) x out) (λ end. mark (found_at end) x out) h notes
+        by_look (Finds is) = record { answer = Came (lookup k here.tree.last.map); is = is; goes = go t read_over }
         by_look (Breaks at is) = record { answer = Broken at; is = is; goes = damaged at t read_over }
 
     -- ## The object of a reply
@@ -651,20 +637,20 @@ module _ (c : Scene) where
 
     module _ (few : (view : List ℕ) (steps : List Step) → IsRun view steps → KeysAreFew (state_after view steps)) where
       -- with one more version the map has no more entries than calls came
-      few_entries : (o : Object) (d : ℕ) (digest : List ℕ) → PutSays s d o.key (rank o.version) (content_of o) → length (put (entry_of o digest) here.tree.map) < 2 ^ 32
+      few_entries : (o : Object) (d : ℕ) (digest : List ℕ) → PutSays s d o.key (rank o.version) (content_of o) → length (put (entry_of o digest) here.tree.last.map) < 2 ^ 32
       few_entries o d digest says = below
-          (few view here.reached.steps here.reached.run (map (λ (e : Entry). e.key) m) (distinct_keys m (ascends-put (entry_of o digest) here.tree.map here.tree.shows.stands.is_map.ascends)) (key_from IsKeyOf m (λ e i. by_place e (in_put e (entry_of o digest) here.tree.map i))))
+          (few view here.reached.steps here.reached.run (map (λ (e : Entry). e.key) m) (distinct_keys m (ascends-put (entry_of o digest) here.tree.last.map here.tree.last.named.stands.is_map.ascends)) (key_from IsKeyOf m (λ e i. by_place e (in_put e (entry_of o digest) here.tree.last.map i))))
           (length_keys m) (ap (λ (calls : List BookCall). length calls) here.reached.elsewhere.calls) c.few
         where
           m : List Entry
-          m = put (entry_of o digest) here.tree.map
+          m = put (entry_of o digest) here.tree.last.map
 
           IsKeyOf : List ℕ → Type 0
           IsKeyOf k = (v : ℕ) × (s.objects.proposed v ≡ true) × (s.objects.key v ≡ k)
 
-          by_place : (e : Entry) → (e ≡ entry_of o digest) ⊎ (e ∈ here.tree.map) → IsKeyOf e.key
+          by_place : (e : Entry) → (e ≡ entry_of o digest) ⊎ (e ∈ here.tree.last.map) → IsKeyOf e.key
           by_place e (inl same) = (rank o.version, says.proposed, says.key ∙ ap (λ (f : Entry). f.key) (sym same))
-          by_place e (inr old) = let there = here.tree.says.entries e old in (rank e.version, there.version.proposed, sym there.key)
+          by_place e (inr old) = let there = here.tree.last.says.entries e old in (rank e.version, there.version.proposed, sym there.key)
 
           below : length (map (λ (e : Entry). e.key) m) ≤ length s.book.calls → length (map (λ (e : Entry). e.key) m) ≡ length m → length s.book.calls ≡ length (state_before c).book.calls → length (state_before c).book.calls < 2 ^ 32 → length m < 2 ^ 32
           below le same calls few = omega (arith, le, same, calls, few)
@@ -690,7 +676,7 @@ module _ (c : Scene) where
               kept_fact = ap (λ (f : HeldFact). f.kept) (spares (Put o.key bytes) t).1 ∙ stored.kept_fact;
               spelled = stored.spelled;
               hashed = λ a at. grows (Put o.key bytes) t a (stored.hashed a at);
-              written = written_kept (Put o.key bytes) h t (put e here.tree.map) tt stored.written;
+              written = written_kept (Put o.key bytes) h t (put e here.tree.last.map) tt stored.written;
             }
 
             by_end : ((answered (Put o.key bytes) t).result ≡ Ok tt) ⊎ ((answered (Put o.key bytes) t).result ≡ Err StoreFault)
@@ -702,7 +688,7 @@ module _ (c : Scene) where
         entry_ends : (t : Held) → bytes ∈ strings → Over t → ((u : Held) → Stored o u → Ends c (next (seens.Stored (md5 bytes)) x out) (mark (seens.Stored (md5 bytes)) x out) u notes) → EndsDamaged next mark
             → Ends c (Ask (Enter e) (λ end. entered o bytes (md5 bytes) end x out next)) (Ask (Enter e) (λ end. entered o bytes (md5 bytes) end x out mark)) t notes
         entry_ends t spelled over go damaged = ask_may_end grows c (Enter e) (λ end. entered o bytes (md5 bytes) end x out next) (λ end. entered o bytes (md5 bytes) end x out mark) t notes (λ among.
-            by_end (enter_ends strings t here.tree.map e c.free among over.shows (record { key = store.obeys.key; version = store.obeys.version; digest = md5_run bytes }) (few_entries o d (md5 bytes) store.says)))
+            by_end (enter_ends strings t here.tree.last.map e c.free among (tree_shows s strings p x.seal t (over_here t over).tree (here.trust ∙ store.ready.trusts)) (record { key = store.obeys.key; version = store.obeys.version; digest = md5_run bytes }) (few_entries o d (md5 bytes) store.says)))
           where
             u : Held
             u = (answered (Enter e) t).held
@@ -714,20 +700,20 @@ module _ (c : Scene) where
             hashed a at = grows (Enter e) t a (over.hashed a at)
 
             -- the write of the top record was refused
-            torn : (tops_of u.stores ≡ tops_of t.stores) ⊎ NamesNext (put e here.tree.map) t u → Rests c u notes
+            torn : (tops_of u.stores ≡ tops_of t.stores) ⊎ NamesNext (put e here.tree.last.map) t u → Rests c u notes
             torn (inl same) = rests_over c here u still (same ∙ over.tops) hashed
-            torn (inr named) = rests_written o d store u still spelled hashed (names_from h t u (put e here.tree.map) over.tops named)
+            torn (inr named) = rests_written o d store u still spelled hashed (names_from h t u (put e here.tree.last.map) over.tops named)
 
-            by_end : EnterEnds e here.tree.map t (answered (Enter e) t).result u → Answers c (Enter e) (λ end. entered o bytes (md5 bytes) end x out next) (λ end. entered o bytes (md5 bytes) end x out mark) t notes ⊎ IsRefused c (Enter e) t notes
+            by_end : EnterEnds e here.tree.last.map t (answered (Enter e) t).result u → Answers c (Enter e) (λ end. entered o bytes (md5 bytes) end x out next) (λ end. entered o bytes (md5 bytes) end x out mark) t notes ⊎ IsRefused c (Enter e) t notes
             by_end (Enters is written) = inl (record {
               answer = Came tt;
               is = is;
-              goes = bytes_end u (record { kept_fact = still; spelled = spelled; hashed = hashed; written = written_from h t u (put e here.tree.map) over.tops written }) go;
+              goes = bytes_end u (record { kept_fact = still; spelled = spelled; hashed = hashed; written = written_from h t u (put e here.tree.last.map) over.tops written }) go;
             })
-            by_end (Stops at is shows tops) = inl (record {
+            by_end (Stops at is tops) = inl (record {
               answer = Broken at;
               is = is;
-              goes = damaged at u (record { kept_fact = still; shows = shows; recorded = broken_recorded e t at is tops over.recorded; tops = tops ∙ over.tops; hashed = hashed });
+              goes = damaged at u (record { kept_fact = still; root = broken_root e t at is ∙ over.root; tops = tops ∙ over.tops; hashed = hashed });
             })
             by_end (Tears is either) = inr (record { error = StoreFault; is = is; rests = torn either })
 

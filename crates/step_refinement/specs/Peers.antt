@@ -1,11 +1,12 @@
 -- What holds of a peer and its stores besides its part in elections, and what messages say besides.
-use Rattle.std.specs.Prelude.{◌≡◌, ◌<◌, ◌^◌, ℕ, true, false, List, Some}
+use Rattle.std.specs.Prelude.{◌≡◌, ◌<◌, ◌^◌, ℕ, true, false, List, Option, None, Some}
 use Rattle.ens_base.specs.Limits.{IsKey, IsCommand}
 use Rattle.ens_base.specs.Lists.{◌∈◌}
 use Rattle.ens_base.specs.declared.entry.Entry.{Entry}
 use Rattle.ens_base.specs.declared.epoch.Version.{Version}
 use Rattle.ens_object.specs.Objects.{IsObject}
 use Rattle.abstract_protocol.specs.Numbers.{IsVersion}
+use Rattle.abstract_protocol.specs.Objects.{IsHonest}
 use Rattle.abstract_protocol.specs.Protocol.{State}
 use Rattle.call_table.specs.Calls.{running}
 use Rattle.call_table.specs.Rows.{row_at}
@@ -24,11 +25,11 @@ use Rattle.sync_laws.specs.Facts.{Lines}
 use Rattle.wire_frames.specs.declared.frame.Frame.{Frame}
 use Rattle.wire_frames.specs.declared.message.Message.{Message}
 use Rattle.wire_frames.specs.declared.message.Message.TheVariants as messages
+use Rattle.seal_laws.specs.Kept.{IsSealed, RootHolds, named_by}
+use Rattle.seal_stores.specs.Held.{kept_seal}
 use Rattle.request_refinement.specs.Naming.{VersionSays, EntryMaySay}
 use Rattle.sync_refinement.specs.Syncs.{TreeSays, MayReturn, GiveFits}
 use Rattle.tree_refinement.specs.Tops.{IsNamed, tops_of}
-use Rattle.tree_refinement.specs.Trees.{Shows}
-use Rattle.tree_refinement.specs.Whole.{IsRecorded}
 use Rattle.world_stores.specs.Nodes.{top_of}
 use Rattle.step_plans.specs.Saved.{bare}
 
@@ -44,29 +45,37 @@ pub record TopReturns (s : State) (strings hashed : List (List ℕ)) (q : ℕ) (
 abbrev pub TopsReturn : State → List (List ℕ) → List (List ℕ) → ℕ → List (List ℕ) → Type 0
 TopsReturn s strings hashed q tops = (digest : List ℕ) → digest ∈ tops → TopReturns s strings hashed q digest
 
--- the tree of the running peer q shows a map, which is that of the protocol; the top record names its
--- root
-pub record TreeHolds (s : State) (strings : List (List ℕ)) (q : ℕ) (h : Held) : Type 0 where
+-- What the stores of peer q keep of the map that the peer wrote last, under this seal, if there is one, and
+-- these top records, the oldest first. The seal, or without a seal the top record, names the map that the
+-- protocol shows. Under a seal that is the map of the last write, and nothing is said of the top records;
+-- without one the tree may be put back to each map that a top record ever named. No peer makes a seal yet.
+pub record LastMap (s : State) (strings hashed : List (List ℕ)) (q : ℕ) (seal : Option (List ℕ)) (tops : List (List ℕ)) : Type 0 where
+  pub digest : List ℕ
+  pub is : named_by (top_of tops) seal ≡ Some digest
   pub map : List Entry
-  pub shows : Shows h map
+  pub named : IsNamed hashed digest map
   pub says : TreeSays s strings q map
-  pub recorded : IsRecorded h
-  pub tops : TopsReturn s strings h.hashed q (tops_of h.stores)
+  pub honest : IsSealed seal → IsHonest s.objects q
+  pub returns : seal ≡ None → TopsReturn s strings hashed q tops
+  pub unsealed : seal ≡ None
 
--- the stores of peer q, which is down: they keep its fact, the top record names a map, which is that of
--- the protocol, and the peer does not trust its tree
+-- The tree of the running peer q, whose saved fact has this seal, if it has one. Its root is the top record,
+-- and names the map that the peer wrote last; or it has no root, and then the peer has a seal and does not
+-- trust its tree.
+pub record TreeHolds (s : State) (strings : List (List ℕ)) (q : ℕ) (seal : Option (List ℕ)) (h : Held) : Type 0 where
+  pub last : LastMap s strings h.hashed q seal (tops_of h.stores)
+  pub sealed : kept_seal h.stores.facts.kept ≡ seal
+  pub root : RootHolds s.objects q (top_of (tops_of h.stores)) seal h.stores.tree.top
+
+-- the stores of peer q, which is down: they keep its fact and the map that it wrote last, and the peer does
+-- not trust its tree
 pub record DownHolds (voting : List (List ℕ)) (s : State) (strings hashed : List (List ℕ)) (q : ℕ) (stores : HeldStores) : Type 0 where
   pub fact : Fact
   pub kept : bare stores.facts.kept ≡ Some fact
   pub saved : IsSaved s.objects.ledger q fact
   pub listed : IsListedFact voting fact
   pub blind : s.objects.trusted q ≡ false
-  pub map : List Entry
-  pub digest : List ℕ
-  pub top : top_of (tops_of stores) ≡ Some digest
-  pub named : IsNamed hashed digest map
-  pub says : TreeSays s strings q map
-  pub tops : TopsReturn s strings hashed q (tops_of stores)
+  pub last : LastMap s strings hashed q (kept_seal stores.facts.kept) (tops_of stores)
 
 -- ## Versions and calls
 

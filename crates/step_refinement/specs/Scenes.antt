@@ -9,9 +9,7 @@ use Rattle.entry_laws.specs.Stays.{EntriesStay}
 use Rattle.election_refinement.specs.Keeps.{Keeps}
 use Rattle.election_refinement.specs.Listed.{IsListedPeer, IsListedMessage}
 use Rattle.election_refinement.specs.Refinement.{PeerHolds, MessageHolds, SendHolds, IsOrderly}
-use Rattle.held_stores.specs.Answers.{answered}
 use Rattle.held_stores.specs.Held.{Held}
-use Rattle.held_stores.specs.Runs.{run}
 use Rattle.leader_laws.specs.Roles.{Role, Follows, Said, Sent, RolesHold}
 use Rattle.leader_laws.specs.Tables.{Ghosts}
 use Rattle.leader_refinement.specs.Seen.{owed_after}
@@ -96,8 +94,8 @@ module _ (c : Scene) where
     pub peer : PeerHolds (now reached).objects.ledger p x (bare h.stores.facts.kept)
     pub listed : IsListedPeer lines.voting p x
     pub trust : (now reached).objects.trusted p ≡ x.trusted
-    pub tree : TreeHolds (now reached) strings p h
-    pub sync : SyncMaySay lines (now reached) strings p x.fact x.trusted tree.map x.sync
+    pub tree : TreeHolds (now reached) strings p x.seal h
+    pub sync : SyncMaySay lines (now reached) strings p x.fact x.trusted tree.last.map x.sync
     pub fits : PhaseFits reached.ghosts.hash (now reached) x.phase
     pub task : TaskFits (now reached) key x.phase
     pub noted : (now reached).book.notes ≡ (state_before c).book.notes ++ notes
