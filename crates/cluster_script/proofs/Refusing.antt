@@ -21,15 +21,15 @@ use Rattle.cluster_script.specs.declared.line.ScriptLine.{ScriptLine}
 use Rattle.cluster_script.specs.declared.read.ReadError.{ReadError}
 use Rattle.cluster_script.specs.declared.read.ReadError.TheVariants as read
 
-from_bind : {A B G : Type 0} (r : Result A Cause) (f : A → Result B Cause) (q : B) → (r >>= f) ≡ Ok q → ((x : A) → f x ≡ Ok q → G) → G
+pub from_bind : {A B G : Type 0} (r : Result A Cause) (f : A → Result B Cause) (q : B) → (r >>= f) ≡ Ok q → ((x : A) → f x ≡ Ok q → G) → G
 from_bind (Ok x) f q h go = go x h
 from_bind (Err c) f q h go = absurd cc
 
-from_line : {A : Type 0} (n : ℕ) (r : Result A Cause) (q : A) → at_line n r ≡ Ok q → r ≡ Ok q
+pub from_line : {A : Type 0} (n : ℕ) (r : Result A Cause) (q : A) → at_line n r ≡ Ok q → r ≡ Ok q
 from_line n (Ok x) q h = cc
 from_line n (Err c) q h = absurd cc
 
-from_test : {A : Type 0} (b : Bool) (r : Result A ScheduleError) (q : A) → (if b then Err Lines else r) ≡ Ok q → r ≡ Ok q
+pub from_test : {A : Type 0} (b : Bool) (r : Result A ScheduleError) (q : A) → (if b then Err Lines else r) ≡ Ok q → r ≡ Ok q
 from_test true r q h = absurd cc
 from_test false r q h = h
 

@@ -1,7 +1,7 @@
 -- What the text of a script is, and which line of a text is bad and why.
-use Rattle.std.specs.Prelude.{ℕ, ◌+◌, ◌==◌, ◌||◌, Bool, false, nat_lt, if◌then◌else◌, List, [], ◌∷◌, ◌++◌, length, codes, Result, Ok, Err}
+use Rattle.std.specs.Prelude.{ℕ, ◌+◌, ◌≤◌, ◌==◌, ◌||◌, Bool, false, nat_lt, if◌then◌else◌, List, [], ◌∷◌, ◌++◌, length, codes, Result, Ok, Err}
 use Rattle.std.specs.List.{list_any}
-use Rattle.ens_base.specs.Lists.{same_bytes}
+use Rattle.ens_base.specs.Lists.{AreDistinct, same_bytes}
 use Rattle.ens_base.specs.Results.{◌>>=◌}
 use Rattle.line_reading.specs.Reading.{read_text}
 use Rattle.schedule_words.specs.Words.{number_of, words_of}
@@ -11,9 +11,11 @@ use Rattle.schedule_text.specs.Arguments.{one_of}
 use Rattle.schedule_text.specs.Errors.{at_line}
 use Rattle.schedule_text.specs.Events.{event_of, line_limit}
 use Rattle.schedule_text.specs.Reading.{bounded, most_lines}
+use Rattle.schedule_text.specs.Spelling.{MayStand, call_ids}
 use Rattle.schedule_text.specs.declared.error.ScheduleError.{ScheduleError}
 use Rattle.schedule_text.specs.declared.error.ScheduleError.TheVariants.{Lines}
-use Rattle.schedule_text.specs.declared.event.ScheduleEvent.TheVariants.{Call}
+use Rattle.schedule_text.specs.declared.event.ScheduleEvent.{ScheduleEvent}
+use Rattle.schedule_text.specs.declared.event.ScheduleEvent.TheVariants.{Call, Tick, Change, Stop, Start}
 use Rattle.cluster_script.specs.declared.line.ScriptLine.{ScriptLine}
 use Rattle.cluster_script.specs.declared.line.ScriptLine.TheVariants.{Event, Turn}
 
@@ -66,3 +68,34 @@ ended lines (byte ∷ rest) = if length lines == most_lines then Err Lines else 
 -- the script that a text is for so many peers, or its first bad line and the cause
 abbrev pub script_of : ℕ → List ℕ → Result (List ScriptLine) ScheduleError
 script_of peers text = read_text (next_line peers) ended [] text
+
+-- an event of a script
+abbrev pub IsScripted : ScheduleEvent → Type 0
+IsScripted (Call peer id key command) = Unit {0}
+IsScripted (Tick peer ticks) = Unit {0}
+IsScripted (Change peer view) = Unit {0}
+IsScripted (Stop peer) = Unit {0}
+IsScripted (Start peer) = Unit {0}
+IsScripted _ = ⊥
+
+-- a line that may stand in a script for so many peers
+abbrev pub MayBeLine : ℕ → ScriptLine → Type 0
+MayBeLine peers (Event event) = IsScripted event × MayStand peers event
+MayBeLine peers (Turn count) = (1 ≤ count) × (count ≤ 100000)
+
+-- each line may stand in a script for so many peers
+abbrev pub AllMayBeLines : ℕ → List ScriptLine → Type 0
+AllMayBeLines peers [] = Unit {0}
+AllMayBeLines peers (line ∷ more) = MayBeLine peers line × AllMayBeLines peers more
+
+-- the events of a script, in the order of its lines
+abbrev pub script_events : List ScriptLine → List ScheduleEvent
+script_events [] = []
+script_events (Event event ∷ more) = event ∷ script_events more
+script_events (Turn count ∷ more) = script_events more
+
+-- a script for so many peers: lines that may stand, whose calls have distinct ids
+pub record IsScript (peers : ℕ) (lines : List ScriptLine) : Type 0 where
+  pub may : AllMayBeLines peers lines
+  pub distinct : AreDistinct (call_ids (script_events lines))
+  pub few : length lines ≤ 200000

@@ -4,7 +4,7 @@ ghost use Rattle.ens_base.specs.Causes.{Rose};
 ghost use Rattle.ens_outside.specs.Lines.{BeginsLong};
 ghost use Rattle.line_reading.specs.Reading.{HasTaken, ReadsAs, ReadsOn, WasCutOff};
 ghost use Rattle.cluster_script.specs.Reading.{Refuses, of_schedule};
-ghost use Rattle.cluster_script.specs.Scripts.{ended, next_line, script_of};
+ghost use Rattle.cluster_script.specs.Scripts.{IsScript, ended, next_line, script_of};
 
 use crate::line::ScriptLine;
 use crate::reading::ScriptReading;
@@ -65,6 +65,7 @@ fn take_line<S: Source>(
     ensures line { IfOk result (λ o. IfNone o (ReadsOn (next_line reading.old.peers) ended (prepend_known lines.old.pending.items (S.left input.old)) reading.old.lines.items (prepend_known lines.new.pending.items (S.left input.new)) reading.new.lines.items × (length reading.new.lines.items ≡ length reading.old.lines.items + 1))) }
     ensures rest { IfOk result (λ o. IfSome o (λ v. ReadsAs (next_line reading.old.peers) ended (prepend_known lines.old.pending.items (S.left input.old)) reading.old.lines.items (ended reading.old.lines.items v.items) × IsAtEnd (prepend_known lines.new.pending.items (S.left input.new)) × (reading.new ≡ reading.old))) }
     ensures peers { reading.new.peers ≡ reading.old.peers }
+    ensures stands { OnOk result (reading.old.peers ≤ 31 → IsScript reading.old.peers reading.old.lines.items → IsScript reading.old.peers reading.new.lines.items) }
     ensures bad { IfErr result (Refuses reading.old.peers (prepend_known lines.old.pending.items (S.left input.old)) reading.old.lines.items) }
     ensures later { S.fault_count input.old ≤ S.fault_count input.new }
     ensures failed { IsErrOf result ReadError.Failed → Rose (S.fault_count input.old) (S.fault_count input.new) }
@@ -90,8 +91,10 @@ fn long_line(reading: &ScriptReading) -> ReadError
 }
 
 /// Returns the script, given what follows the last line feed.
+#[tactic(auto, using(crate::proofs::Standing::ended_stands))]
 fn end_of(reading: ScriptReading, rest: &[u8]) -> Result<Seq<ScriptLine>, ReadError>
     ensures ok { IfOk result (λ script. ended reading.lines.items rest.now ≡ Ok script) }
+    ensures stands { IfOk result (λ script. IsScript reading.peers reading.lines.items → IsScript reading.peers script) }
     ensures bad { IfErr result (λ e. (bytes : Option (List ℕ)) → ReadsAs (next_line reading.peers) ended bytes reading.lines.items (ended reading.lines.items rest.now) → Refuses reading.peers bytes reading.lines.items e) }
     ensures only { result ≢ Err ReadError.Failed }
 {
@@ -103,12 +106,14 @@ fn end_of(reading: ScriptReading, rest: &[u8]) -> Result<Seq<ScriptLine>, ReadEr
 
 /// Reads a script for `peers` peers up to the end of the source, its first bad line, or the first byte of line
 /// 200,001.
+#[tactic(auto, using(crate::proofs::Standing::nothing_stands))]
 pub fn read_script<S: Source>(
     alloc: Global,
     input: &mut S,
     peers: u32,
 ) -> Result<Seq<ScriptLine>, ReadError>
     ensures ok { IfOk result (λ script. IfSome (S.left input.old) (λ bytes. script_of peers bytes ≡ Ok script)) }
+    ensures valid { peers ≤ 31 → IfOk result (IsScript peers) }
     ensures end { OnOk result (IsAtEnd (S.left input.new)) }
     ensures bad { IfErr result (Refuses peers (S.left input.old) []) }
     ensures later { S.fault_count input.old ≤ S.fault_count input.new }

@@ -2,13 +2,14 @@
 use Rattle.std.proofs.Common.{◌≡◌, ◌∙◌, ◌+◌, ℕ, List, [], ◌∷◌, ◌++◌, drop, take, Option, None, Some, refl, sym, ap, subst, append-nil, append_assoc}
 use Rattle.cluster_script.specs.declared.line.ScriptLine.{ScriptLine}
 use Rattle.cluster_script.specs.declared.line.ScriptLine.TheVariants.{Event, Turn}
-use Rattle.cluster_spec.specs.Recordings.{Follows, IsRunOf, Recording, delivering, found, heard, heard_all, recorded, script_events, without_deliveries}
+use Rattle.cluster_script.specs.Scripts.{script_events}
+use Rattle.cluster_spec.specs.Recordings.{Follows, IsRunOf, Recording, delivering, found, heard, heard_all, recorded, without_deliveries}
 use Rattle.schedule_text.specs.declared.event.ScheduleEvent.{ScheduleEvent}
 use Rattle.schedule_text.specs.declared.event.ScheduleEvent.TheVariants.{Deliver}
 use Rattle.world_spec.specs.Lines.{applied, run_from}
 use Rattle.world_spec.specs.Runs.{Run, opening_run}
 
-run_last : (lines : List ScheduleEvent) (line : ScheduleEvent) (w : Run) → run_from (lines ++ line ∷ []) w ≡ applied line (run_from lines w)
+pub run_last : (lines : List ScheduleEvent) (line : ScheduleEvent) (w : Run) → run_from (lines ++ line ∷ []) w ≡ applied line (run_from lines w)
 run_last [] line w = refl
 run_last (e ∷ lines) line w = run_last lines line (applied e w)
 

@@ -1,8 +1,8 @@
 -- The schedule that a cluster records.
-use Rattle.std.specs.Prelude.{◌≡◌, ◌≤◌, ℕ, ◌+◌, List, [], ◌∷◌, ◌++◌, length, take, drop, map, Bool, Option, None, Some}
-use Rattle.ens_base.specs.Lists.{same_bytes}
+use Rattle.std.specs.Prelude.{◌≡◌, ◌≤◌, ℕ, ◌+◌, List, [], ◌∷◌, ◌++◌, length, take, drop, map, Option, None, Some}
 use Rattle.cluster_script.specs.declared.line.ScriptLine.{ScriptLine}
 use Rattle.cluster_script.specs.declared.line.ScriptLine.TheVariants.{Event, Turn}
+use Rattle.frame_index.specs.Indexes.{is_spelled}
 use Rattle.network.specs.Mail.{oldest}
 use Rattle.schedule_text.specs.declared.event.ScheduleEvent.{ScheduleEvent}
 use Rattle.schedule_text.specs.declared.event.ScheduleEvent.TheVariants.{Deliver}
@@ -10,10 +10,6 @@ use Rattle.wire_frames.specs.Frames.{frame_spelling}
 use Rattle.wire_frames.specs.declared.frame.Frame.{Frame}
 use Rattle.world_spec.specs.Lines.{applied, run_of_schedule}
 use Rattle.world_spec.specs.Runs.{Run, opening_run}
-
--- whether these bytes spell the frame
-unfoldable pub is_spelled : List ℕ → Frame → Bool
-is_spelled bytes f = same_bytes (frame_spelling f) bytes
 
 -- the number of the oldest message with these bytes that was sent and not yet delivered
 abbrev pub found : Option (List ℕ) → Run → Option ℕ
@@ -54,17 +50,25 @@ Follows [] looks r s = (looks ≡ []) × (s ≡ r)
 Follows (Event event ∷ more) looks r s = Follows more looks (recorded event r) s
 Follows (Turn count ∷ more) looks r s = (count ≤ length looks) × Follows more (drop count looks) (heard_all (take count looks) r) s
 
--- the events of a script, in the order of its lines
-abbrev pub script_events : List ScriptLine → List ScheduleEvent
-script_events [] = []
-script_events (Event event ∷ more) = event ∷ script_events more
-script_events (Turn count ∷ more) = script_events more
+-- The first lines of a script. Of a turn with which they end, some looks may be left out.
+abbrev pub IsPart : List ScriptLine → List ScriptLine → Type 0
+IsPart [] script = Unit {0}
+IsPart (Event event ∷ part) (Event first ∷ script) = (event ≡ first) × IsPart part script
+IsPart (Turn count ∷ []) (Turn most ∷ script) = count ≤ most
+IsPart (Turn count ∷ part) (Turn most ∷ script) = (count ≡ most) × IsPart part script
+IsPart _ _ = ⊥
 
 -- the events that deliver no message
 abbrev pub without_deliveries : List ScheduleEvent → List ScheduleEvent
 without_deliveries [] = []
 without_deliveries (Deliver message ∷ more) = without_deliveries more
 without_deliveries (event ∷ more) = event ∷ without_deliveries more
+
+-- the numbers of the messages that events deliver, in order
+abbrev pub deliveries : List ScheduleEvent → List ℕ
+deliveries [] = []
+deliveries (Deliver message ∷ more) = message ∷ deliveries more
+deliveries (event ∷ more) = deliveries more
 
 -- a sent message as it is handed to the link: the number of its receiver, and its bytes
 abbrev pub frame_out : Frame → ℕ × List ℕ

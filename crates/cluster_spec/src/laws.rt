@@ -1,6 +1,8 @@
-ghost use Rattle.std.specs.Prelude.{◌≡◌, ◌+◌, ◌++◌, ◌∷◌, ℕ, List, [], Option, None, Some};
+ghost use Rattle.std.specs.Prelude.{◌≡◌, ◌≤◌, ◌+◌, ◌++◌, ◌∷◌, ℕ, List, [], Option, None, Some, length};
+ghost use Rattle.ens_base.specs.Lists.{AreDistinct, ◌∈◌};
+ghost use Rattle.cluster_script.specs.Scripts.{IsScript, script_events};
 ghost use Rattle.cluster_script.specs.declared.line.ScriptLine.{ScriptLine};
-ghost use Rattle.cluster_spec.specs.Recordings.{Follows, IsRunOf, Recording, found, heard, nothing_recorded, script_events, without_deliveries};
+ghost use Rattle.cluster_spec.specs.Recordings.{Follows, IsRunOf, Recording, deliveries, found, heard, nothing_recorded, without_deliveries};
 ghost use Rattle.schedule_text.specs.declared.event.ScheduleEvent.TheVariants.{Deliver};
 
 /// The run that was recorded is that of the recorded events as a schedule, whatever lines were followed and
@@ -20,4 +22,9 @@ pub fn looks_deliver_the_oldest()
 /// But for deliveries, what is recorded are the events of the script in the order of its lines.
 pub fn a_recording_keeps_the_script()
     ensures { (lines : List ScriptLine) (looks : List (Option (List ℕ))) (r s : Recording) → Follows lines looks r s → without_deliveries s.events ≡ without_deliveries r.events ++ without_deliveries (script_events lines) }
+{}
+
+/// No message is delivered twice, and none that was not sent.
+pub fn each_message_is_delivered_once()
+    ensures { (peers : ℕ) (view : List ℕ) (lines : List ScriptLine) (looks : List (Option (List ℕ))) (r : Recording) → IsScript peers lines → Follows lines looks (nothing_recorded peers view) r → AreDistinct (deliveries r.events) × ((n : ℕ) → n ∈ deliveries r.events → (1 ≤ n) × (n ≤ length r.run.mail.sent)) }
 {}

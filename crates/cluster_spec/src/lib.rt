@@ -8,4 +8,7 @@
 
 mod laws;
 
-pub use laws::{a_recording_is_a_run, a_recording_keeps_the_script, looks_deliver_the_oldest};
+pub use laws::{
+    a_recording_is_a_run, a_recording_keeps_the_script, each_message_is_delivered_once,
+    looks_deliver_the_oldest,
+};

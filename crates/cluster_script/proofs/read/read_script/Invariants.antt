@@ -1,7 +1,7 @@
 use Rattle.std.proofs.Common.{◌≡◌, ◌≤◌, [], length}
 use Rattle.std.specs.Io.KnownBytes.{prepend_known}
 use Rattle.line_reading.specs.Reading.{HasTaken, ReadsOn}
-use Rattle.cluster_script.specs.Scripts.{ended, next_line}
+use Rattle.cluster_script.specs.Scripts.{IsScript, ended, next_line}
 use Rattle.cluster_script.proofs.read.read_script.Given as goal
 
 abbrev pub invariant-loop-turn : goal.invariant-loop-turn
@@ -9,6 +9,7 @@ invariant-loop-turn g l = record {
   reads : ReadsOn (next_line l.peers) ended (g.S.Source.left l.fn.input) [] (prepend_known l.lines.pending.items (g.S.Source.left l.input)) l.reading.lines.items;
   taken : HasTaken (next_line l.peers) ended [] (g.S.Source.left l.fn.input) l.lines.pending.items (g.S.Source.left l.input) l.reading.lines.items;
   peers : l.reading.peers ≡ l.peers;
+  stands : l.peers ≤ 31 → IsScript l.peers l.reading.lines.items;
   count : length l.reading.lines.items ≡ l._turn;
   later : g.S.Source.fault_count l.fn.input ≤ g.S.Source.fault_count l.input;
 }

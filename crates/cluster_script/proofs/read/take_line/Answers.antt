@@ -5,6 +5,7 @@ use Rattle.line_reading.proofs.Parts.{line_taken, rest_read}
 use Rattle.cluster_script.specs.Reading.{TakesLine}
 use Rattle.cluster_script.specs.Scripts.{ended, next_line}
 use Rattle.cluster_script.proofs.Refusing.{line_counts, next_failed, refuses_line}
+use Rattle.cluster_script.proofs.Standing.{next_stands}
 use Rattle.cluster_script.proofs.read.take_line.Goals as goal
 
 pub returns-in_err-line-in-Line-clause-bad : goal.returns-in_err-line-in-Line-clause-bad
@@ -36,3 +37,9 @@ pub returns-in_err-line-clause-cut : goal.returns-in_err-line-clause-cut
 returns-in_err-line-clause-cut g c =
     let exit = err_from_is_err_and c.from_residual.result c.from_residual.ensures.1 in
     rw (exit.1, exit.2) (λ is source h. cut_off (next_line c.args.reading.now.peers) ended [] source _ _ _ _ c.args.reading.now.lines.items h c.in_err-line.ensures.kept (c.in_err-line.ensures.undecided (next_failed c.in_err-line.field-0.0 is)))
+
+pub returns-in_ok-line-in-Line-clause-stands : goal.returns-in_ok-line-in-Line-clause-stands
+returns-in_ok-line-in-Line-clause-stands g c =
+    let P : List ℕ → Type 0 = λ v. next_line c.args.reading.now.peers c.args.reading.now.lines.items v ≡ Ok c.line.new.self.lines.items in
+    let taken = subst P c.deref.ensures.value c.in_ok-line-in-Line.ensures.takes in
+    λ few is. next_stands c.args.reading.now.peers c.args.reading.now.lines.items c.line.new.self.lines.items c.in-Line.line.items few taken is

@@ -1,0 +1,94 @@
+-- What was recorded is a schedule that reverts no tree.
+use Rattle.std.proofs.Common.{◌≡◌, ◌≤◌, ◌+◌, ◌∙◌, ℕ, List, [], ◌∷◌, ◌++◌, length, Option, None, refl, sym, ap, subst, inl, inr}
+use Rattle.ens_base.specs.Lists.{AreDistinct, ◌∈◌}
+use Rattle.ens_base.specs.View.{IsView}
+use Rattle.cluster_script.specs.Scripts.{IsScript, script_events}
+use Rattle.cluster_script.specs.declared.line.ScriptLine.{ScriptLine}
+use Rattle.cluster_script.specs.declared.line.ScriptLine.TheVariants.{Event, Turn}
+use Rattle.schedule_premise.proofs.Soundness.{unreverted_is_none}
+use Rattle.schedule_premise.specs.Premise.{first_unsound}
+use Rattle.schedule_text.specs.Spelling.{AllMayStand, IsSchedule, call_ids}
+use Rattle.schedule_text.specs.declared.event.ScheduleEvent.{ScheduleEvent}
+use Rattle.schedule_text.specs.declared.event.ScheduleEvent.TheVariants.{Call, Deliver, Revert}
+use Rattle.schedule_text.specs.declared.schedule.Schedule.{Schedule}
+use Rattle.schedule_words.specs.Spelling.{AreMembers}
+use Rattle.cluster_spec.specs.Messages.{AllRecorded, IsRecorded}
+use Rattle.cluster_spec.specs.Recordings.{Follows, IsPart, Recording, nothing_recorded, without_deliveries}
+use Rattle.cluster_spec.proofs.Recorded.{keeps_script}
+
+-- ---- the ids of calls
+
+ids_kept : (events : List ScheduleEvent) → call_ids (without_deliveries events) ≡ call_ids events
+ids_kept [] = refl
+ids_kept (Deliver message ∷ events) = ids_kept events
+ids_kept (event ∷ events) = by event (ids_kept events)
+  where
+    by : (event : ScheduleEvent) → call_ids (without_deliveries events) ≡ call_ids events → call_ids (without_deliveries (event ∷ events)) ≡ call_ids (event ∷ events)
+    by (Call peer id key command) same = ap (λ (l : List ℕ). id ∷ l) same
+    by (Deliver message) same = same
+    by event same = same
+
+ids_of_both : (xs ys : List ScheduleEvent) → call_ids (xs ++ ys) ≡ call_ids xs ++ call_ids ys
+ids_of_both [] ys = refl
+ids_of_both (event ∷ xs) ys = by event (ids_of_both xs ys)
+  where
+    by : (event : ScheduleEvent) → call_ids (xs ++ ys) ≡ call_ids xs ++ call_ids ys → call_ids (event ∷ (xs ++ ys)) ≡ call_ids (event ∷ xs) ++ call_ids ys
+    by (Call peer id key command) same = ap (λ (l : List ℕ). id ∷ l) same
+    by event same = same
+
+in_front : {A : Type 0} (x : A) (xs ys : List A) → x ∈ xs → x ∈ (xs ++ ys)
+in_front x (y ∷ xs) ys (inl e) = inl e
+in_front x (y ∷ xs) ys (inr m) = inr (in_front x xs ys m)
+in_front x [] ys m = absurd m
+
+distinct_front : {A : Type 0} (xs ys : List A) → AreDistinct (xs ++ ys) → AreDistinct xs
+distinct_front [] ys d = tt
+distinct_front (x ∷ xs) ys d = ((λ m. d.0 (in_front x xs ys m)), distinct_front xs ys d.1)
+
+-- the events of a part are the first of the script
+part_events : (part script : List ScriptLine) → IsPart part script → (more : List ScheduleEvent) × (script_events script ≡ script_events part ++ more)
+part_events [] script is = (script_events script, refl)
+part_events (Event event ∷ part) (Event first ∷ script) is =
+    let rest = part_events part script is.1 in
+    (rest.0, ap (λ (l : List ScheduleEvent). first ∷ l) rest.1 ∙ ap (λ (e : ScheduleEvent). e ∷ (script_events part ++ rest.0)) (sym is.0))
+part_events (Turn count ∷ []) (Turn most ∷ script) is = (script_events script, refl)
+part_events (Turn count ∷ line ∷ part) (Turn most ∷ script) is = part_events (line ∷ part) script is.1
+part_events (Event event ∷ part) (Turn most ∷ script) is = absurd is
+part_events (Turn count ∷ []) (Event first ∷ script) is = absurd is
+part_events (Turn count ∷ line ∷ part) (Event first ∷ script) is = absurd is
+part_events (Event event ∷ part) [] is = absurd is
+part_events (Turn count ∷ []) [] is = absurd is
+part_events (Turn count ∷ line ∷ part) [] is = absurd is
+
+all_stand : (peers : ℕ) (events : List ScheduleEvent) → AllRecorded peers events → AllMayStand peers events
+all_stand peers [] all = tt
+all_stand peers (event ∷ events) all = (all.0.1, all_stand peers events all.1)
+
+no_revert : (peer changes : ℕ) (event : ScheduleEvent) → IsRecorded event → Revert peer changes ≡ event → ⊥
+no_revert peer changes event is same = subst IsRecorded (sym same) is
+
+none_reverts : (peers peer changes : ℕ) (events : List ScheduleEvent) → AllRecorded peers events → Revert peer changes ∈ events → ⊥
+none_reverts peers peer changes [] all m = m
+none_reverts peers peer changes (event ∷ events) all (inl same) = no_revert peer changes event all.0.0 same
+none_reverts peers peer changes (event ∷ events) all (inr m) = none_reverts peers peer changes events all.1 m
+
+module _ (peers : ℕ) (view : List ℕ) (script part : List ScriptLine) (looks : List (Option (List ℕ))) (r : Recording)
+    (few : (1 ≤ peers) × (peers ≤ 31)) (members : AreMembers peers view × IsView view) (is : IsScript peers script) (is_part : IsPart part script)
+    (follows : Follows part looks (nothing_recorded peers view) r) (all : AllRecorded peers r.events) (lines : length r.events + 3 ≤ 200000) where
+  abbrev schedule : Schedule
+  schedule = record { peers = peers; view = view; events = r.events }
+
+  same_ids : call_ids r.events ≡ call_ids (script_events part)
+  same_ids = sym (ids_kept r.events) ∙ ap call_ids (keeps_script part looks (nothing_recorded peers view) r follows) ∙ ids_kept (script_events part)
+
+  distinct : AreDistinct (call_ids r.events)
+  distinct =
+      let front = part_events part script is_part in
+      let whole : call_ids (script_events script) ≡ call_ids (script_events part) ++ call_ids front.0 = ap call_ids front.1 ∙ ids_of_both (script_events part) front.0 in
+      subst AreDistinct (sym same_ids) (distinct_front (call_ids (script_events part)) (call_ids front.0) (subst AreDistinct whole is.distinct))
+
+  pub recorded_is : IsSchedule schedule
+  recorded_is = record { peers = few; view = members; events = all_stand peers r.events all; distinct = distinct; lines = lines }
+
+  pub recorded_sound : first_unsound schedule ≡ None
+  recorded_sound = unreverted_is_none schedule recorded_is (λ p reverted. none_reverts peers p reverted.0 r.events all reverted.1)
