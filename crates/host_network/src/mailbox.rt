@@ -14,10 +14,12 @@ const LOOK_WAIT: i32 = 1;
 /// How long a send waits for room in the buffer of the socket, in milliseconds.
 const SEND_WAIT: i32 = 1000;
 
-/// A socket on 127.0.0.1, and the room for what it receives.
+/// Sockets on 127.0.0.1, and the room for what they receive.
 #[derive(Drop)]
 pub struct Mailbox {
-    socket: UdpSocket,
+    sockets: Vec<UdpSocket>,
+    /// What a look asks the system of each socket, in their order.
+    asked: Vec<pollfd>,
     room: Room,
 }
 
@@ -28,52 +30,82 @@ fn bound<R: Net>(net: &R, port: u16) -> io::Result<UdpSocket> {
     Ok(socket)
 }
 
-/// Waits until the socket is ready for one of these events, for so many milliseconds at most. Returns
-/// whether it is. A signal ends the wait.
-fn is_ready(socket: &UdpSocket, events: i16, milliseconds: i32) -> bool {
-    let fd = socket.as_raw_fd();
-    let mut asked = [pollfd {
-        fd,
+/// What to ask of a socket: whether it is ready for one of these events.
+fn question(socket: &UdpSocket, events: i16) -> pollfd {
+    pollfd {
+        fd: socket.as_raw_fd(),
         events,
         revents: 0,
-    }];
-    poll(&mut asked, milliseconds) > 0
+    }
+}
+
+/// Waits until one of the sockets is ready for what is asked of it, for so many milliseconds at most.
+/// Returns whether one is. A signal ends the wait.
+fn is_ready(asked: &mut [pollfd], milliseconds: i32) -> bool {
+    poll(asked, milliseconds) > 0
+}
+
+/// Sends a datagram from the socket to a port of this host.
+fn post_from(socket: &UdpSocket, port: u16, frame: &[u8]) -> io::Result<()> {
+    let to = (Ipv4Addr::LOCALHOST, port);
+    let sent = match socket.send_to(frame, to) {
+        Err(e) if e.kind() == ErrorKind::WouldBlock => {
+            is_ready(&mut [question(socket, POLLOUT)], SEND_WAIT);
+            socket.send_to(frame, to)?
+        }
+        sent => sent?,
+    };
+    if sent < frame.len() {
+        return Err(io::Error::from(ErrorKind::WriteZero));
+    }
+    Ok(())
 }
 
 impl Mailbox {
-    /// Makes room, and binds the socket. When out of memory, binds nothing.
-    pub fn open<R: Net>(net: &R, alloc: Global, port: u16) -> Result<Mailbox, LinkError> {
-        let room = Room::new(alloc)?;
-        match bound(net, port) {
-            Ok(socket) => Ok(Mailbox { socket, room }),
-            Err(_) => Err(LinkError::Failed),
+    /// Makes room, and binds no socket yet.
+    pub fn new(alloc: Global) -> Result<Mailbox, LinkError> {
+        Ok(Mailbox {
+            sockets: Vec::new(alloc),
+            asked: Vec::new(alloc),
+            room: Room::new(alloc)?,
+        })
+    }
+
+    /// Binds one more socket, to this port. On an error there is none more.
+    pub fn open<R: Net>(&mut self, net: &R, port: u16) -> Result<(), LinkError> {
+        let Ok(socket) = bound(net, port) else {
+            return Err(LinkError::Failed);
+        };
+        self.asked.push(question(&socket, POLLIN))?;
+        self.sockets.push(socket)?;
+        Ok(())
+    }
+
+    /// Sends a datagram to a port of this host, from the first socket.
+    pub fn post(&self, port: u16, frame: &[u8]) -> io::Result<()> {
+        match self.sockets.first() {
+            Some(socket) => post_from(socket, port, frame),
+            None => Err(io::Error::from(ErrorKind::NotConnected)),
         }
     }
 
-    /// Sends a datagram to a port of this host.
-    pub fn post(&self, port: u16, frame: &[u8]) -> io::Result<()> {
-        let to = (Ipv4Addr::LOCALHOST, port);
-        let sent = match self.socket.send_to(frame, to) {
-            Err(e) if e.kind() == ErrorKind::WouldBlock => {
-                is_ready(&self.socket, POLLOUT, SEND_WAIT);
-                self.socket.send_to(frame, to)?
+    /// Fills the room, unless it holds a datagram already, from the first socket at which one waits.
+    fn fill(&mut self) -> io::Result<()> {
+        for socket in &self.sockets {
+            if !self.room.is_empty() {
+                break;
             }
-            sent => sent?,
-        };
-        if sent < frame.len() {
-            return Err(io::Error::from(ErrorKind::WriteZero));
+            self.room.fill(socket)?;
         }
         Ok(())
     }
 
-    /// Fills the room, unless it holds a datagram already: at once if one waits at the socket, else
-    /// once one comes or the time of a look is over.
+    /// Fills the room: at once if it holds a datagram or one waits at a socket, else once one comes or
+    /// the time of a look is over.
     fn look(&mut self) -> io::Result<()> {
-        if self.room.is_empty() {
-            self.room.fill(&self.socket)?;
-        }
-        if self.room.is_empty() && is_ready(&self.socket, POLLIN, LOOK_WAIT) {
-            self.room.fill(&self.socket)?;
+        self.fill()?;
+        if self.room.is_empty() && is_ready(&mut self.asked, LOOK_WAIT) {
+            self.fill()?;
         }
         Ok(())
     }

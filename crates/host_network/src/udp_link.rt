@@ -8,34 +8,38 @@ use ens_outside::{Link, LinkError};
 use std::alloc::Global;
 use std::net::Net;
 
-/// A link over UDP (RFC 768) on 127.0.0.1. The number N has the port `base + N`, a frame is the
-/// payload of one datagram, and `me` is the number whose port this link is bound to.
+/// A link over UDP (RFC 768) on 127.0.0.1. The number N has the port `base + N`, and a frame is the
+/// payload of one datagram. The link receives what is sent to the numbers `first` to `last`: one for a
+/// peer of its own, and several for peers that share a process.
 ///
-/// The socket is bound at the first call. Until a call succeeds in that, each one tries again, and
-/// fails if the port is taken.
+/// The sockets are bound at the first call. Until a call succeeds in that, each one tries again, and
+/// fails if one of the ports is taken.
 ///
-/// A look that finds a frame returns it at once, whatever its length: 0 bytes to the 65,507 that a
-/// datagram holds. A look that finds none waits for one, for at most a millisecond, without using
-/// the processor. A frame that is longer than a datagram is not sent: the call fails. Whether
-/// somebody listens at the port of the receiver is not told.
+/// A look goes over the sockets in the order of their numbers. If it finds a frame it returns it at
+/// once, whatever its length: 0 bytes to the 65,507 that a datagram holds. A look that finds none waits
+/// for one, for at most a millisecond in all, without using the processor. A frame that is longer than a
+/// datagram is not sent: the call fails. Whether somebody listens at the port of the receiver is not
+/// told.
 #[derive(Drop)]
 pub struct UdpLink<R: Net> {
     net: R,
     base: u16,
-    me: u32,
+    first: u32,
+    last: u32,
     mailbox: Option<Mailbox>,
     faults: u64,
 }
 
 impl<R: Net> UdpLink<R> {
-    /// Makes a link of the number `me`. Binds nothing yet.
-    pub fn new(net: R, base: u16, me: u32) -> Self
+    /// Makes a link of the numbers `first` to `last`. Binds nothing yet.
+    pub fn new(net: R, base: u16, first: u32, last: u32) -> Self
         ensures { result.faults ≡ 0 }
     {
         UdpLink {
             net,
             base,
-            me,
+            first,
+            last,
             mailbox: None,
             faults: 0,
         }
@@ -52,12 +56,21 @@ impl<R: Net> UdpLink<R> {
         }
     }
 
-    /// Binds the socket, if it is not bound yet.
+    /// Binds a socket for each number of the link. If one cannot be bound, none is.
+    fn open(&self, alloc: Global) -> Result<Mailbox, LinkError> {
+        let mut mailbox = Mailbox::new(alloc)?;
+        for number in self.first..=self.last {
+            mailbox.open(&self.net, self.port(number)?)?;
+        }
+        Ok(mailbox)
+    }
+
+    /// Binds the sockets, if they are not bound yet.
     fn bind(&mut self, alloc: Global) -> Result<(), LinkError>
         ensures { self.new.faults ≡ self.old.faults }
     {
         if self.mailbox.is_none() {
-            self.mailbox = Some(Mailbox::open(&self.net, alloc, self.port(self.me)?)?);
+            self.mailbox = Some(self.open(alloc)?);
         }
         Ok(())
     }

@@ -3,17 +3,17 @@ use host_network::UdpLink;
 use std::process;
 use std::test::Fail;
 
-/// Returns a base below three ports of the test: another process mostly has another one.
+/// Returns a base below six ports of the tests: another process mostly has another one.
 fn base(process: u32) -> u16 {
-    47_000 + 3 * (process % 33) as u16
+    47_000 + 6 * (process % 33) as u16
 }
 
 #[test]
 fn frames_of_every_length_come_as_they_were_sent(rt: HostRuntime) -> Result<(), Fail> {
     let alloc = rt.alloc();
     let base = base(process::id(rt.process()));
-    let mut one = UdpLink::new(&rt, base, 1);
-    let mut two = UdpLink::new(&rt, base, 2);
+    let mut one = UdpLink::new(&rt, base, 1, 1);
+    let mut two = UdpLink::new(&rt, base, 2, 2);
     assert!(rt; one.send(alloc, 2, b"nobody listens").is_ok());
     let nothing = two.receive(alloc);
     assert!(rt; matches!(&nothing, Ok(None)));
@@ -37,8 +37,8 @@ fn frames_of_every_length_come_as_they_were_sent(rt: HostRuntime) -> Result<(), 
 fn what_fails_is_counted(rt: HostRuntime) -> Result<(), Fail> {
     let alloc = rt.alloc();
     let base = base(process::id(rt.process()));
-    let mut first = UdpLink::new(&rt, base, 3);
-    let mut second = UdpLink::new(&rt, base, 3);
+    let mut first = UdpLink::new(&rt, base, 3, 3);
+    let mut second = UdpLink::new(&rt, base, 3, 3);
     let nothing = first.receive(alloc);
     assert!(rt; matches!(&nothing, Ok(None)));
     let refused = second.receive(alloc);
@@ -53,5 +53,25 @@ fn what_fails_is_counted(rt: HostRuntime) -> Result<(), Fail> {
     drop(first);
     let bound = second.receive(alloc);
     assert!(rt; matches!(&bound, Ok(None)) && second.faults() == 2);
+    Ok(())
+}
+
+#[test]
+fn a_link_of_several_numbers_looks_at_each(rt: HostRuntime) -> Result<(), Fail> {
+    let alloc = rt.alloc();
+    let base = base(process::id(rt.process()));
+    let mut link = UdpLink::new(&rt, base, 4, 6);
+    for number in [6, 4, 5] {
+        let frame = [number as u8];
+        assert!(rt; link.send(alloc, number, &frame).is_ok());
+    }
+    for number in [4, 5, 6] {
+        let received = link.receive(alloc);
+        assert!(rt;
+            matches!(&received, Ok(Some(bytes)) if bytes.as_slice() == [number].as_slice())
+        );
+    }
+    let nothing = link.receive(alloc);
+    assert!(rt; matches!(&nothing, Ok(None)) && link.faults() == 0);
     Ok(())
 }
