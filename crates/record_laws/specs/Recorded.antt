@@ -1,18 +1,15 @@
 -- The record that is made of a schedule and of what its replay printed.
-use Rattle.std.specs.Prelude.{◌≡◌, ℕ, List, [], ◌++◌, codes, Ok}
+use Rattle.std.specs.Prelude.{◌≡◌, ℕ, List, [], Ok}
 use Rattle.call_refinement.specs.Lines.{answers_in}
 use Rattle.history_audit.specs.Reports.{IsReport}
 use Rattle.history_audit.specs.declared.report.Report.{Report}
 use Rattle.history_record.specs.Reading.{record_of}
 use Rattle.history_record.specs.declared.record.Record.{Record}
 use Rattle.history_scribe.specs.Histories.{AreHistories}
+use Rattle.replay.specs.Text.{record_text}
 use Rattle.replay.specs.Worlds.{schedule_run}
 use Rattle.schedule_text.specs.Reading.{schedule_of}
 use Rattle.schedule_text.specs.declared.schedule.Schedule.{Schedule}
-
--- the schedule, the line `answers`, and the text that was printed
-abbrev pub record_text : List ℕ → List ℕ → List ℕ
-record_text schedule printed = schedule ++ codes "answers\n" ++ printed
 
 -- the record has the schedule, the answers that its run printed, and the histories that the notes of the run
 -- give

@@ -69,7 +69,7 @@ module _ (first now : Account) (s : Schedule) (sound : first_unsound s ≡ None)
       by None read = (kept, new, has.1, has.3, is, tt)
       by (Some bytes) read = (kept, new, has.1, has.3, is, (s, read, sound, has, rejects))
 
-  book_ends : (text : List ℕ) → RejectsIn s first (λ strings mid. HasFilled strings mid now) → text ≡ codes "limit book 1073741824" ++ 10 ∷ [] → EndsSo first now s Status.Limit text
+  pub book_ends : (text : List ℕ) → RejectsIn s first (λ strings mid. HasFilled strings mid now) → text ≡ codes "limit book 1073741824" ++ 10 ∷ [] → EndsSo first now s Status.Limit text
   book_ends text rejects is source read = by source read
     where
       has : HasFilled (hashed_by s) first now
@@ -79,7 +79,7 @@ module _ (first now : Account) (s : Schedule) (sound : first_unsound s ≡ None)
       by None read = inr (inr (has.2, tt, is))
       by (Some bytes) read = inr (inr (has.2, (s, read, sound, has, (λ limit kept. filled_beyond (hashed_by s) limit first now kept has), rejects), is))
 
-  limit_ends : (text : List ℕ) → PassesLimit s first → text ≡ codes "limit messages 500000" ++ 10 ∷ [] → EndsSo first now s Status.Limit text
+  pub limit_ends : (text : List ℕ) → PassesLimit s first → text ≡ codes "limit messages 500000" ++ 10 ∷ [] → EndsSo first now s Status.Limit text
   limit_ends text passes is None read = inr (inl (tt, is))
   limit_ends text passes is (Some bytes) read = inr (inl ((s, read, sound, passes_whole s first passes, passes), is))
 

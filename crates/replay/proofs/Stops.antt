@@ -50,7 +50,7 @@ parted (e ∷ es) (suc place) = ap (λ l. e ∷ l) (parted es place)
 split_at : (all : List ScheduleEvent) (place : ℕ) (event : ScheduleEvent) → slice_get all place ≡ Some event → all ≡ take place all ++ event ∷ drop (place + 1) all
 split_at all place event here = parted all place ∙ ap (λ l. take place all ++ l) (drop_one all place event here)
 
-run_last : (lines : List ScheduleEvent) (line : ScheduleEvent) (w : Run) → run_from (lines ++ line ∷ []) w ≡ applied line (run_from lines w)
+pub run_last : (lines : List ScheduleEvent) (line : ScheduleEvent) (w : Run) → run_from (lines ++ line ∷ []) w ≡ applied line (run_from lines w)
 run_last [] line w = refl
 run_last (e ∷ lines) line w = run_last lines line (applied e w)
 
@@ -59,7 +59,7 @@ run_parts [] line rest w = refl
 run_parts (e ∷ lines) line rest w = run_parts lines line rest (applied e w)
 
 -- a line hashes the same strings whatever was hashed before
-after_strings : (line : ScheduleEvent) (w : Run) → applied line w ≡ in_front w.hashed (applied line (unhashed w))
+pub after_strings : (line : ScheduleEvent) (w : Run) → applied line w ≡ in_front w.hashed (applied line (unhashed w))
 after_strings line w = ap (applied line) begun ∙ applied_front line w.hashed (unhashed w)
   where
     begun : w ≡ in_front w.hashed (unhashed w)
@@ -125,7 +125,7 @@ module _ (s : Schedule) (place : ℕ) (first : Account) (now : Run) (mid : Accou
         (hashed_all (run_after s done).hashed (hashed_in s done event) first mid later old.has (subst (λ (w : Run). HasHashed (applied event w).hashed mid later) old.is has));
   }
 
-  stops : (later : Account) (e : WorldError) → MayRefuse mid (applied event now) later e → StopsIn s first later e
+  pub stops : (later : Account) (e : WorldError) → MayRefuse mid (applied event now) later e → StopsIn s first later e
   stops later MessageLimit past = record { done = done; line = event; mid = mid; came = at_line; past = subst IsPastMessages line_after (subst (λ (w : Run). IsPastMessages (applied event w)) old.is past) }
   stops later Memory cut = inl tt
   stops later (Clash kept new) cut = inr (done, event, mid, at_line, subst (λ (w : Run). IsCutOff (applied event w).hashed mid later (Clash kept new)) old.is cut)
@@ -136,7 +136,7 @@ module _ (s : Schedule) (place : ℕ) (first : Account) (now : Run) (mid : Accou
   stops_in r G e later and same may = errs (StopsIn s first later) r G e and same (stops later e may)
 
 -- an error before the first line was passed on
-opening_stops : (s : Schedule) (first now : Account) (e : WorldError) → IsCutOff (opening_run s.peers s.view).hashed first now e → StopsIn s first now e
+pub opening_stops : (s : Schedule) (first now : Account) (e : WorldError) → IsCutOff (opening_run s.peers s.view).hashed first now e → StopsIn s first now e
 opening_stops s first now MessageLimit cut = absurd cut
 opening_stops s first now Memory cut = inl tt
 opening_stops s first now (Clash kept new) cut = inl cut

@@ -14,4 +14,4 @@ mod worlds;
 
 pub use job::{replay, replay_with};
 pub use laws::{a_run_has_one_text, a_text_is_replayed};
-pub use worlds::summarize;
+pub use worlds::{clash_text, run_text, summarize};

@@ -23,8 +23,8 @@ use std::alloc::{AllocError, Global};
 use std::thread::Threads;
 use world_model::{World, WorldError};
 
-/// Returns the line that reports two different strings with the same MD5.
-fn clash_text(alloc: Global, kept: &Bytes, new: &Bytes) -> Result<String, AllocError>
+/// Returns the line that reports two different strings with the same MD5: the one kept, and the new one.
+pub fn clash_text(alloc: Global, kept: &Bytes, new: &Bytes) -> Result<String, AllocError>
     ensures { IfOk result (λ text. string_bytes text ≡ clash_line kept.now new.now) }
 {
     let mut text = String::new(alloc);
@@ -37,7 +37,7 @@ fn clash_text(alloc: Global, kept: &Bytes, new: &Bytes) -> Result<String, AllocE
 }
 
 /// Returns the text that the run of a world prints, followed by a history for each key.
-fn run_text(alloc: Global, world: &World) -> Result<String, AllocError>
+pub fn run_text(alloc: Global, world: &World) -> Result<String, AllocError>
     ensures { IfOk result (λ text. IsTextOfRun (run_of world.now) (string_bytes text)) }
 {
     let histories = world.histories(alloc)?;
