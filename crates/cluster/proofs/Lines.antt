@@ -1,0 +1,138 @@
+-- What a recorder makes of the lines of a script.
+use Rattle.std.proofs.Common.{◌≡◌, ◌∙◌, ℕ, List, [], ◌∷◌, ◌++◌, length, Option, Result, Ok, Err, refl, sym, ap, subst, arith, append_assoc, append-nil}
+use Rattle.std.specs.Prelude.{IsErrAnd}
+use Rattle.std.specs.Vec.Iter.{into_iter_items, into_iter_len}
+use Rattle.std.specs.declared.vec.IntoIter.{IntoIter}
+use Rattle.ens_base.specs.declared.peer_words.ClusterWords.{ClusterWords}
+use Rattle.cluster_script.specs.Scripts.{AllMayBeLines, IsScripted, MayBeLine}
+use Rattle.cluster_script.specs.declared.line.ScriptLine.{ScriptLine}
+use Rattle.cluster_script.specs.declared.line.ScriptLine.TheVariants.{Event, Turn}
+use Rattle.cluster_spec.proofs.Following.{Leads, leads_follows, leads_none, leads_on, part_after, part_of_first, turn_alone, turn_leads}
+use Rattle.cluster_spec.specs.Messages.{MayBeRecorded, mail_before}
+use Rattle.cluster_spec.specs.Recordings.{Follows, IsPart, Recording, heard_all, recorded}
+use Rattle.held_stores.specs.Held.{Account}
+use Rattle.network.specs.Mail.{Mail}
+use Rattle.schedule_text.specs.declared.event.ScheduleEvent.{ScheduleEvent}
+use Rattle.schedule_text.specs.declared.event.ScheduleEvent.TheVariants.{Call, Tick, Change, Start}
+use Rattle.schedule_text.specs.declared.event.ScheduleEvent.TheVariants as events
+use Rattle.cluster.specs.Ends.{opening}
+use Rattle.cluster.specs.Recorders.{FollowsOn, Hears, IsInStep, Reached, Records, RecordsAll, StopsAt, mail_in}
+use Rattle.cluster.specs.declared.recorder.Recorder.{Recorder}
+use Rattle.cluster.specs.declared.stop.Stop.{Stop}
+
+-- an event of a script delivers nothing
+pub scripted_mail : (event : ScheduleEvent) (m : Mail) → IsScripted event → mail_before event m ≡ m
+scripted_mail (Call peer id key command) m is = refl
+scripted_mail (Tick peer ticks) m is = refl
+scripted_mail (Change peer view) m is = refl
+scripted_mail (events.Stop peer) m is = refl
+scripted_mail (Start peer) m is = refl
+scripted_mail event m is = absurd is
+
+pub scripted_may : (peers : ℕ) (m : Mail) (event : ScheduleEvent) → MayBeLine peers (Event event) → MayBeRecorded peers m event
+scripted_may peers m (Call peer id key command) may = may
+scripted_may peers m (Tick peer ticks) may = may
+scripted_may peers m (Change peer view) may = may
+scripted_may peers m (events.Stop peer) may = may
+scripted_may peers m (Start peer) may = may
+scripted_may peers m event may = absurd may.0
+
+-- the same of a line that is this event
+pub event_may : (peers : ℕ) (m : Mail) (line : ScriptLine) (event : ScheduleEvent) → line ≡ Event event → MayBeLine peers line → MayBeRecorded peers m event
+event_may peers m line event is may = scripted_may peers m event (subst (MayBeLine peers) is may)
+
+pub event_step : (c : Recorder) (line : ScriptLine) (event : ScheduleEvent) → line ≡ Event event → MayBeLine c.schedule.peers line → IsInStep c (mail_in c) → IsInStep c (mail_before event (mail_in c))
+event_step c line event is may step = subst (IsInStep c) (sym (scripted_mail event (mail_in c) (subst (MayBeLine c.schedule.peers) is may).0)) step
+
+no_lines : {X : Type 0} (xs : List X) → length xs ≡ 0 → xs ≡ []
+no_lines [] none = refl
+no_lines (x ∷ xs) none = absurd (omega arith)
+
+-- an iterator that came to its end has no items
+pub none_left : {X A : Type 0} (it : IntoIter X A) → into_iter_len it ≡ 0 → into_iter_items it ≡ []
+none_left it none = no_lines it.rest.items (sym it.rest.ok.0 ∙ none)
+
+module _ {L : Type 0} (sent : L → Option (List (ℕ × List ℕ))) (given : L → Option (List (Option (List ℕ)))) (faults : L → ℕ)
+    (w : ClusterWords) (first : Account) (a : L) where
+  abbrev At : List (Option (List ℕ)) → Recording → Recorder → L → Account → Type 0
+  At = Reached sent given faults w first a
+
+  module _ (looks : List (Option (List ℕ))) (r : Recording) where
+    -- an event was followed
+    pub follows_event : (event : ScheduleEvent) (result : Result (Unit {0}) Stop) (c : Recorder) (b : L) (now : Account) → Records sent given faults w first a looks (recorded event r) result c b now → FollowsOn sent given faults w first a (Event event ∷ []) looks r result c b now
+    follows_event event (Ok x) c b now reached = ([], recorded event r, (refl, refl), subst (λ (l : List (Option (List ℕ))). At l (recorded event r) c b now) (sym (append-nil looks)) reached)
+    follows_event event (Err e) c b now stop = (Event event ∷ [], [], recorded event r, (refl, tt), (refl, refl), subst (λ (l : List (Option (List ℕ))). StopsAt sent given faults w first a l (recorded event r) e b now) (sym (append-nil looks)) stop)
+
+    -- a turn was followed
+    pub follows_turn : (count : ℕ) (result : Result (Unit {0}) Stop) (c : Recorder) (b : L) (now : Account) → Hears sent given faults w first a count looks r result c b now → FollowsOn sent given faults w first a (Turn count ∷ []) looks r result c b now
+    follows_turn count (Ok x) c b now heard = (heard.0, heard_all heard.0 r, turn_alone count heard.0 r heard.1, heard.2)
+    follows_turn count (Err e) c b now heard = (Turn (length heard.0) ∷ [], heard.0, heard_all heard.0 r, heard.1, turn_alone (length heard.0) heard.0 r refl, heard.2)
+
+    pub event_follows : (line : ScriptLine) (event : ScheduleEvent) → line ≡ Event event → (result : Result (Unit {0}) Stop) (c : Recorder) (b : L) (now : Account) → Records sent given faults w first a looks (recorded event r) result c b now → FollowsOn sent given faults w first a (line ∷ []) looks r result c b now
+    event_follows line event is result c b now records = subst (λ (l : ScriptLine). FollowsOn sent given faults w first a (l ∷ []) looks r result c b now) (sym is) (follows_event event result c b now records)
+
+    pub turn_follows : (line : ScriptLine) (count : ℕ) → line ≡ Turn count → (result : Result (Unit {0}) Stop) (c : Recorder) (b : L) (now : Account) → Hears sent given faults w first a count looks r result c b now → FollowsOn sent given faults w first a (line ∷ []) looks r result c b now
+    turn_follows line count is result c b now heard = subst (λ (l : ScriptLine). FollowsOn sent given faults w first a (l ∷ []) looks r result c b now) (sym is) (follows_turn count result c b now heard)
+
+  -- the lines so far were followed, and these are left
+  pub record Underway (script left : List ScriptLine) (c : Recorder) (b : L) (now : Account) : Type 0 where
+    pub done : List ScriptLine
+    pub all : script ≡ done ++ left
+    pub may : AllMayBeLines w.peers left
+    pub looks : List (Option (List ℕ))
+    pub r : Recording
+    pub leads : Leads done looks (opening w) r
+    pub reached : At looks r c b now
+
+  pub begun : (script left : List ScriptLine) (c : Recorder) (now : Account) → left ≡ script → AllMayBeLines w.peers script → At [] (opening w) c a now → Underway script left c a now
+  begun script left c now same may reached = record { done = []; all = sym same; may = subst (AllMayBeLines w.peers) (sym same) may; looks = []; r = opening w; leads = leads_none (opening w); reached = reached }
+
+  pub next_may : (script left : List ScriptLine) (line : ScriptLine) (rest : List ScriptLine) (c : Recorder) (b : L) (now : Account) → left ≡ line ∷ rest → Underway script left c b now → MayBeLine w.peers line
+  next_may script left line rest c b now same under = (subst (AllMayBeLines w.peers) same under.may).0
+
+  -- one line more was followed
+  leads_line : (line : ScriptLine) (more : List (Option (List ℕ))) (r s : Recording) → Follows (line ∷ []) more r s → Leads (line ∷ []) more r s
+  leads_line (Event event) more r s follows = record {
+    on = λ part extra t goes.
+        subst (λ (l : List (Option (List ℕ))). Follows part (l ++ extra) (recorded event r) t) (sym follows.0) (subst (λ (q : Recording). Follows part extra q t) follows.1 goes);
+  }
+  leads_line (Turn count) more r s follows = turn_leads count more r s follows
+
+  pub goes_on : (script left : List ScriptLine) (line : ScriptLine) (rest : List ScriptLine) (c d : Recorder) (link b : L) (mid now : Account) → left ≡ line ∷ rest → Underway script left c link mid
+      → ((looks : List (Option (List ℕ))) (r : Recording) → At looks r c link mid → FollowsOn sent given faults w first a (line ∷ []) looks r (Ok tt) d b now) → Underway script rest d b now
+  goes_on script left line rest c d link b mid now same under one =
+      let next = one under.looks under.r under.reached in
+      record {
+        done = under.done ++ line ∷ [];
+        all = under.all ∙ ap (λ (l : List ScriptLine). under.done ++ l) same ∙ sym (append_assoc under.done (line ∷ []) rest);
+        may = (subst (AllMayBeLines w.peers) same under.may).1;
+        looks = under.looks ++ next.0;
+        r = next.1;
+        leads = leads_on under.done (line ∷ []) under.looks next.0 (opening w) under.r next.1 under.leads (leads_line line next.0 under.r next.1 next.2);
+        reached = next.3;
+      }
+
+  -- the recorder stopped in the next line
+  pub stops_in : (script left : List ScriptLine) (line : ScriptLine) (rest : List ScriptLine) (c d : Recorder) (link b : L) (mid now : Account) (e : Stop) → left ≡ line ∷ rest → Underway script left c link mid
+      → ((looks : List (Option (List ℕ))) (r : Recording) → At looks r c link mid → FollowsOn sent given faults w first a (line ∷ []) looks r (Err e) d b now) → RecordsAll sent given faults w first a script (Err e) b now
+  stops_in script left line rest c d link b mid now e same under one =
+      let next = one under.looks under.r under.reached in
+      let whole : script ≡ under.done ++ (line ∷ rest) = under.all ∙ ap (λ (l : List ScriptLine). under.done ++ l) same in (
+        under.done ++ next.0,
+        under.looks ++ next.1,
+        next.2,
+        subst (IsPart (under.done ++ next.0)) (sym whole) (part_after under.done next.0 (line ∷ rest) (part_of_first next.0 line rest next.3)),
+        under.leads.on next.0 next.1 next.2 next.4,
+        next.5,
+      )
+
+  -- no line is left
+  pub followed_all : (script left : List ScriptLine) (c : Recorder) (b : L) (now : Account) → left ≡ [] → Underway script left c b now → IsInStep c (mail_in c) → RecordsAll sent given faults w first a script (Ok c) b now
+  followed_all script left c b now none under step =
+      let whole : script ≡ under.done = under.all ∙ ap (λ (l : List ScriptLine). under.done ++ l) none ∙ append-nil under.done in
+      (step, (under.looks, under.r, subst (λ (l : List ScriptLine). Follows l under.looks (opening w) under.r) (sym whole) (leads_follows under.done under.looks (opening w) under.r under.leads), under.reached))
+
+  -- an error was passed on
+  pub all_err : (script : List ScriptLine) (result : Result Recorder Stop) (G : Stop → Type 0) (e : Stop) (b : L) (now : Account) → IsErrAnd result G → ((d : Stop) → G d → d ≡ e) → RecordsAll sent given faults w first a script (Err e) b now → RecordsAll sent given faults w first a script result b now
+  all_err script (Ok c) G e b now and same all = absurd and
+  all_err script (Err d) G e b now and same all = subst (λ (x : Stop). RecordsAll sent given faults w first a script (Err x) b now) (sym (same d and)) all

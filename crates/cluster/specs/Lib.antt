@@ -1,0 +1,4 @@
+pub mod Endings
+pub mod Ends
+pub mod Recorders
+pub mod Sending
