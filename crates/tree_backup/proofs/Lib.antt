@@ -1,0 +1,12 @@
+pub mod Grammars
+pub mod ItemLoop
+pub mod Matches
+pub mod Ascending
+pub mod Strings
+pub mod Judged
+pub mod Reasons
+pub mod Calls
+pub mod Kept
+pub mod Faults
+pub mod Outcomes
+pub mod Written
