@@ -13,9 +13,9 @@ use Rattle.schedule_words.specs.Words.{number_of, peer_of, view_of}
 use Rattle.schedule_words.specs.declared.cause.Cause.{Cause}
 use Rattle.schedule_words.specs.declared.cause.Cause.TheVariants.{Unknown}
 use Rattle.ens_words.specs.Forms.{AskFor, IsJob, output_word, words_of}
-use Rattle.ens_words.specs.Reading.{audit_of, cluster_form_of, cluster_of, generate_of, generator_of, job_of, peer_form_of, peer_of_words, replay_of, summary_of}
+use Rattle.ens_words.specs.Reading.{alone_of, cluster_form_of, cluster_of, generate_of, generator_of, job_of, peer_form_of, peer_of_words, summary_of}
 use Rattle.ens_words.specs.declared.job.Job.{Job}
-use Rattle.ens_words.specs.declared.job.Job.TheVariants.{Replay, Peer, Cluster, Audit, Generate}
+use Rattle.ens_words.specs.declared.job.Job.TheVariants.{Replay, Peer, Cluster, Audit, Check, Generate}
 use Rattle.ens_base.specs.declared.peer_words.PeerWords.{PeerWords}
 use Rattle.ens_base.specs.declared.peer_words.ClusterWords.{ClusterWords}
 
@@ -24,13 +24,9 @@ use Rattle.ens_base.specs.declared.peer_words.ClusterWords.{ClusterWords}
 asks_same : (words : List (List ℕ)) (one other : Job) → one ≡ other → AskFor words one → AskFor words other
 asks_same words one other same asks = subst (AskFor words) same asks
 
-replay_read : (verb : List ℕ) (rest : List (List ℕ)) (job : Job) → verb ≡ codes "replay" → replay_of rest ≡ Ok job → AskFor (verb ∷ rest) job
-replay_read verb [] job is h = asks_same (verb ∷ []) Replay job (ok_same h) (tt, ap (λ (w : List ℕ). w ∷ []) is)
-replay_read verb (w ∷ ws) job is h = cc h
-
-audit_read : (verb : List ℕ) (rest : List (List ℕ)) (job : Job) → verb ≡ codes "audit" → audit_of rest ≡ Ok job → AskFor (verb ∷ rest) job
-audit_read verb [] job is h = asks_same (verb ∷ []) Audit job (ok_same h) (tt, ap (λ (w : List ℕ). w ∷ []) is)
-audit_read verb (w ∷ ws) job is h = cc h
+alone_read : (verb word : List ℕ) (rest : List (List ℕ)) (one job : Job) → verb ≡ word → IsJob one → words_of one ≡ word ∷ [] → alone_of one rest ≡ Ok job → AskFor (verb ∷ rest) job
+alone_read verb word [] one job is fits form h = asks_same (verb ∷ []) one job (ok_same h) (fits, ap (λ (w : List ℕ). w ∷ []) is ∙ sym form)
+alone_read verb word (w ∷ ws) one job is fits form h = cc h
 
 peer_same : (a b c d e f g i j k : List ℕ) (xs ys : List (List ℕ)) → a ≡ f → b ≡ g → c ≡ i → d ≡ j → e ≡ k → xs ≡ ys → a ∷ b ∷ c ∷ d ∷ e ∷ xs ≡ f ∷ g ∷ i ∷ j ∷ k ∷ ys
 peer_same a b c d e f g i j k xs ys p q r s t u = λ n. p n ∷ q n ∷ r n ∷ s n ∷ t n ∷ u n
@@ -115,16 +111,17 @@ generate_read verb (a ∷ b ∷ c ∷ d ∷ more) job is h = cc h
 
 verb_read : (verb : List ℕ) (rest : List (List ℕ)) (job : Job) → job_of (verb ∷ rest) ≡ Ok job → AskFor (verb ∷ rest) job
 verb_read verb rest job h =
-    one (same_bytes verb (codes "replay")) refl (same_bytes verb (codes "peer")) refl (same_bytes verb (codes "cluster")) refl (same_bytes verb (codes "audit")) refl (same_bytes verb (codes "generate")) refl h
+    one (same_bytes verb (codes "replay")) refl (same_bytes verb (codes "peer")) refl (same_bytes verb (codes "cluster")) refl (same_bytes verb (codes "audit")) refl (same_bytes verb (codes "generate")) refl (same_bytes verb (codes "check")) refl h
   where
-    one : (a : Bool) → same_bytes verb (codes "replay") ≡ a → (b : Bool) → same_bytes verb (codes "peer") ≡ b → (c : Bool) → same_bytes verb (codes "cluster") ≡ c → (e : Bool) → same_bytes verb (codes "audit") ≡ e → (d : Bool) → same_bytes verb (codes "generate") ≡ d
-        → (if a then replay_of rest else if b then peer_of_words rest else if c then cluster_of rest else if e then audit_of rest else if d then generate_of rest else Err Unknown) ≡ Ok job → AskFor (verb ∷ rest) job
-    one true p b q c r e t d s h = replay_read verb rest job (bytes_same verb (codes "replay") p) h
-    one false p true q c r e t d s h = peer_read verb rest job (bytes_same verb (codes "peer") q) h
-    one false p false q true r e t d s h = cluster_read verb rest job (bytes_same verb (codes "cluster") r) h
-    one false p false q false r true t d s h = audit_read verb rest job (bytes_same verb (codes "audit") t) h
-    one false p false q false r false t true s h = generate_read verb rest job (bytes_same verb (codes "generate") s) h
-    one false p false q false r false t false s h = cc h
+    one : (a : Bool) → same_bytes verb (codes "replay") ≡ a → (b : Bool) → same_bytes verb (codes "peer") ≡ b → (c : Bool) → same_bytes verb (codes "cluster") ≡ c → (d : Bool) → same_bytes verb (codes "audit") ≡ d → (e : Bool) → same_bytes verb (codes "generate") ≡ e → (f : Bool) → same_bytes verb (codes "check") ≡ f
+        → (if a then alone_of Replay rest else if b then peer_of_words rest else if c then cluster_of rest else if d then alone_of Audit rest else if e then generate_of rest else if f then alone_of Check rest else Err Unknown) ≡ Ok job → AskFor (verb ∷ rest) job
+    one true p b q c r d s e t f u h = alone_read verb (codes "replay") rest Replay job (bytes_same verb (codes "replay") p) tt refl h
+    one false p true q c r d s e t f u h = peer_read verb rest job (bytes_same verb (codes "peer") q) h
+    one false p false q true r d s e t f u h = cluster_read verb rest job (bytes_same verb (codes "cluster") r) h
+    one false p false q false r true s e t f u h = alone_read verb (codes "audit") rest Audit job (bytes_same verb (codes "audit") s) tt refl h
+    one false p false q false r false s true t f u h = generate_read verb rest job (bytes_same verb (codes "generate") t) h
+    one false p false q false r false s false t true u h = alone_read verb (codes "check") rest Check job (bytes_same verb (codes "check") u) tt refl h
+    one false p false q false r false s false t false u h = cc h
 
 pub job_read : (words : List (List ℕ)) (job : Job) → job_of words ≡ Ok job → AskFor words job
 job_read [] job h = cc h
@@ -150,6 +147,7 @@ peer_back w is =
 pub job_back : (job : Job) → IsJob job → job_of (words_of job) ≡ Ok job
 job_back Replay is = refl
 job_back Audit is = refl
+job_back Check is = refl
 job_back (Peer w) is = peer_back w is
 job_back (Cluster w) is =
     rw (

@@ -6,13 +6,14 @@ use Rattle.schedule_words.specs.Words.{number_of, peer_of, view_of}
 use Rattle.schedule_words.specs.declared.cause.Cause.{Cause}
 use Rattle.schedule_words.specs.declared.cause.Cause.TheVariants.{Unknown, Words}
 use Rattle.ens_words.specs.declared.job.Job.{Job}
-use Rattle.ens_words.specs.declared.job.Job.TheVariants.{Replay, Peer, Cluster, Audit, Generate}
+use Rattle.ens_words.specs.declared.job.Job.TheVariants.{Replay, Peer, Cluster, Audit, Check, Generate}
 
 -- the words behind the first one of each form
 
-abbrev pub replay_of : List (List ℕ) → Result Job Cause
-replay_of [] = Ok Replay
-replay_of _ = Err Words
+-- none
+abbrev pub alone_of : Job → List (List ℕ) → Result Job Cause
+alone_of job [] = Ok job
+alone_of job _ = Err Words
 
 unfoldable pub peer_form_of : List ℕ → List ℕ → List ℕ → List ℕ → List (List ℕ) → Result Job Cause
 peer_form_of id count base limit members = do
@@ -38,10 +39,6 @@ abbrev pub cluster_of : List (List ℕ) → Result Job Cause
 cluster_of (count ∷ base ∷ members) = cluster_form_of count base members
 cluster_of _ = Err Words
 
-abbrev pub audit_of : List (List ℕ) → Result Job Cause
-audit_of [] = Ok Audit
-audit_of _ = Err Words
-
 -- whether the word asks for a summary, and not for the schedule
 abbrev pub summary_of : List ℕ → Result Bool Cause
 summary_of word =
@@ -64,9 +61,10 @@ generate_of _ = Err Words
 abbrev pub job_of : List (List ℕ) → Result Job Cause
 job_of [] = Err Words
 job_of (verb ∷ rest) =
-    if same_bytes verb (codes "replay") then replay_of rest
+    if same_bytes verb (codes "replay") then alone_of Replay rest
     else if same_bytes verb (codes "peer") then peer_of_words rest
     else if same_bytes verb (codes "cluster") then cluster_of rest
-    else if same_bytes verb (codes "audit") then audit_of rest
+    else if same_bytes verb (codes "audit") then alone_of Audit rest
     else if same_bytes verb (codes "generate") then generate_of rest
+    else if same_bytes verb (codes "check") then alone_of Check rest
     else Err Unknown

@@ -11,6 +11,8 @@ pub enum Job {
     Cluster(ClusterWords),
     /// `audit`: read a record, and write a report on its histories.
     Audit,
+    /// `check`: read a backup, and write what it holds.
+    Check,
     /// `generate NUMBER CALLS schedule` or `generate NUMBER CALLS summary`: generate a schedule of 1
     /// to 20,000 calls from a number, and write it, or a summary of its run.
     Generate {

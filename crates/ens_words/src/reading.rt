@@ -3,7 +3,7 @@ ghost use Rattle.clap.specs.Words.{kind_of};
 ghost use Rattle.schedule_words.specs.Causes.{Gives};
 ghost use Rattle.schedule_words.specs.Words.{view_of};
 ghost use Rattle.ens_words.specs.Forms.{Reads};
-ghost use Rattle.ens_words.specs.Reading.{audit_of, cluster_of, generate_of, generator_of, job_of, peer_form_of, peer_of_words, replay_of, summary_of};
+ghost use Rattle.ens_words.specs.Reading.{alone_of, cluster_of, generate_of, generator_of, job_of, peer_form_of, peer_of_words, summary_of};
 ghost use Rattle.ens_words.specs.Split.{Splits, has_option};
 
 use crate::command::{has_option, matches_of};
@@ -26,21 +26,12 @@ const MOST_TURNS: u64 = 1_000_000_000;
 /// The greatest number of calls of a generated schedule.
 const MOST_CALLS: u64 = 20000;
 
-fn replay_job(words: &[&str]) -> Result<Job, WordError>
-    ensures { Gives (replay_of (map (λ w. w.now) words.now)) result }
+/// Returns the job of a word that has none behind it.
+fn alone(job: Job, words: &[&str]) -> Result<Job, WordError>
+    ensures { Gives (alone_of job (map (λ w. w.now) words.now)) result }
 {
     if words.is_empty() {
-        Ok(Job::Replay)
-    } else {
-        Err(WordError::Bad(Cause::Words))
-    }
-}
-
-fn audit_job(words: &[&str]) -> Result<Job, WordError>
-    ensures { Gives (audit_of (map (λ w. w.now) words.now)) result }
-{
-    if words.is_empty() {
-        Ok(Job::Audit)
+        Ok(job)
     } else {
         Err(WordError::Bad(Cause::Words))
     }
@@ -149,15 +140,17 @@ fn job(alloc: Global, verb: &str, rest: &[&str]) -> Result<Job, WordError>
     ensures { Gives (job_of (verb.now ∷ map (λ w. w.now) rest.now)) result }
 {
     if verb == "replay" {
-        replay_job(rest)
+        alone(Job::Replay, rest)
     } else if verb == "peer" {
         peer_job(alloc, rest)
     } else if verb == "cluster" {
         cluster_job(alloc, rest)
     } else if verb == "audit" {
-        audit_job(rest)
+        alone(Job::Audit, rest)
     } else if verb == "generate" {
         generate_job(rest)
+    } else if verb == "check" {
+        alone(Job::Check, rest)
     } else {
         Err(WordError::Bad(Cause::Unknown))
     }

@@ -1,0 +1,68 @@
+ghost use Rattle.std.specs.Prelude.{◌≡◌, ◌≢◌, ◌≤◌, ◌<◌, [], length, true, false, vec_len, IfOk, IfErr, OnErr, IsErrOf};
+ghost use Rattle.std.specs.Io.KnownBytes.{prepend_known, Keeps, IsAtEnd};
+ghost use Rattle.ens_base.specs.Causes.{Rose};
+ghost use Rattle.backup_job.specs.Printed.{BeginsLong};
+
+use ens_base::Failed;
+use ens_outside::Source;
+use std::alloc::Global;
+
+/// The most bytes that a backup may have.
+pub(crate) const MOST_BYTES: usize = 268_435_456;
+
+/// The most bytes that are read at once.
+const PIECE: usize = 4_096;
+
+/// Why the input was not read to its end.
+#[derive(Clone, Copy, Debug, PartialEq, Eq)]
+pub(crate) enum InputError {
+    /// The input failed. Its fault count has risen.
+    Failed,
+    /// It has more bytes than a backup may have.
+    TooLong,
+    /// Out of memory.
+    Memory,
+}
+
+/// Reads one piece behind the bytes. Returns whether there was any.
+fn fill<S: Source>(bytes: &mut Vec<u8>, input: &mut S) -> Result<bool, InputError>
+    requires { vec_len bytes.old ≤ 268435456 }
+    ensures kept { Keeps (prepend_known bytes.old.items (S.left input.old)) (prepend_known bytes.new.items (S.left input.new)) }
+    ensures end { IfOk result (λ more. more ≡ false → (bytes.new.items ≡ bytes.old.items) × IsAtEnd (S.left input.new)) }
+    ensures grows { IfOk result (λ more. more ≡ true → vec_len bytes.old < vec_len bytes.new) }
+    ensures most { vec_len bytes.new ≤ 268435457 }
+    ensures later { S.fault_count input.old ≤ S.fault_count input.new }
+    ensures failed { IsErrOf result InputError.Failed → Rose (S.fault_count input.old) (S.fault_count input.new) }
+    ensures short { IfErr result (λ e. e ≢ InputError.TooLong) }
+{
+    if bytes.reserve(PIECE).is_err() {
+        return Err(InputError::Memory);
+    }
+    let mut piece = [0u8; PIECE];
+    let size = (MOST_BYTES + 1 - bytes.len()).min(PIECE);
+    match input.read_some(&mut piece[..size]) {
+        Ok(n) => {
+            bytes.extend_from_slice(&piece[..n]).unwrap();
+            Ok(n > 0)
+        }
+        Err(Failed) => Err(InputError::Failed),
+    }
+}
+
+/// Reads the input to its end, or to the first byte that a backup may not have.
+pub(crate) fn read_all<S: Source>(alloc: Global, input: &mut S) -> Result<Vec<u8>, InputError>
+    ensures read { IfOk result (λ v. Keeps (S.left input.old) (prepend_known v.items (S.left input.new))) }
+    ensures end { IfOk result (λ v. IsAtEnd (S.left input.new)) }
+    ensures most { IfOk result (λ v. length v.items ≤ 268435456) }
+    ensures long { IsErrOf result InputError.TooLong → BeginsLong (S.left input.old) }
+    ensures later { S.fault_count input.old ≤ S.fault_count input.new }
+    ensures failed { IsErrOf result InputError.Failed → Rose (S.fault_count input.old) (S.fault_count input.new) }
+{
+    let mut bytes = Vec::new(alloc);
+    while bytes.len() <= MOST_BYTES {
+        if !fill(&mut bytes, input)? {
+            return Ok(bytes);
+        }
+    }
+    Err(InputError::TooLong)
+}
