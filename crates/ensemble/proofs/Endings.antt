@@ -1,58 +1,47 @@
 -- What a job prints is what the program prints.
-use Rattle.std.proofs.Common.{◌≡◌, ℕ, true, false, List, [], ◌∷◌, length, Option, Result, Ok, Err, refl, inl, inr, sym, ap, subst, ◌∙◌, arith}
+use Rattle.std.proofs.Common.{◌≡◌, ℕ, true, false, List, Option, Result, Ok, Err, refl, inl, inr, sym, ap, subst, ◌∙◌, arith}
 use Rattle.ens_base.specs.declared.status.Status.{Status}
-use Rattle.ens_words.specs.Forms.{AskFor, Reads, words_of}
+use Rattle.ens_words.specs.Forms.{AskFor, Reads}
 use Rattle.ens_words.specs.declared.job.Job.{Job}
-use Rattle.ens_words.specs.declared.job.Job.TheVariants.{Replay, Peer, Cluster, Audit, Generate}
+use Rattle.ens_words.specs.declared.job.Job.TheVariants.{Replay, Peer, Cluster, Audit, Check, Generate}
 use Rattle.ens_words.specs.declared.job.WordsError.TheVariants.{Usage}
 use Rattle.ens_words.proofs.Exactly.{job_back}
 use Rattle.ens_words.specs.Reading.{job_of}
+use Rattle.backup_job.proofs.Completing.{memory_read as check_memory_read, runs_out as check_runs_out, usage_read as check_usage_read}
+use Rattle.backup_job.specs.Printed.{HasRead as HasReadBackup}
 use Rattle.record_report.proofs.Printing.{runs_out as report_runs_out}
 use Rattle.replay.proofs.Completing.{memory_read, runs_out, usage_read}
 use Rattle.replay.specs.Jobs.{HasRead, RanOut}
 use Rattle.replay.specs.Summary.{EndsInSummary}
 use Rattle.schedule_generator.specs.Generated.{generate}
-use Rattle.ensemble.specs.Top.{AskForNone, AskToRead, DidRead, Does, Ends, EndsGiven, EndsUnread, GivenFor, GivenToRead, HasReadRecord, IsBuilt, IsUnhindered, PrintsSummary, ReadsInput}
+use Rattle.ensemble.specs.Top.{AskForNone, AskToRead, DidRead, Does, Ends, EndsGiven, EndsUnread, GivenFor, GivenToRead, HasReadRecord, IsUnhindered, PrintsSummary, ReadsInput}
 use Rattle.ensemble.specs.declared.arguments.ArgumentsError.{ArgumentsError}
+use Rattle.ensemble.proofs.Recording.{record_memory, record_usage}
 
 pub summary_prints : (number calls : ℕ) (status : Status) (text : List ℕ) → EndsInSummary (generate number calls) status text → PrintsSummary number calls status text
 summary_prints number calls Status.Memory text h = absurd h
 summary_prints number calls status text h = h
 
-abbrev verb_length : List (List ℕ) → ℕ
-verb_length [] = 0
-verb_length (verb ∷ rest) = length verb
-
--- words that ask for a job that is not built ask for no other
-unbuilt : (words : List (List ℕ)) (job other : Job) → ¬ IsBuilt job → AskFor words job → AskFor words other → ¬ IsBuilt other
-unbuilt words (Cluster w) Audit never asks also built = let bad : ◌≡◌ {A = ℕ} 7 5 = ap verb_length (sym asks.1 ∙ also.1) in absurd (omega (arith, bad))
-unbuilt words (Cluster w) Replay never asks also built = let bad : ◌≡◌ {A = ℕ} 7 6 = ap verb_length (sym asks.1 ∙ also.1) in absurd (omega (arith, bad))
-unbuilt words (Cluster w) (Generate number calls summary) never asks also built = let bad : ◌≡◌ {A = ℕ} 7 8 = ap verb_length (sym asks.1 ∙ also.1) in absurd (omega (arith, bad))
-unbuilt words (Cluster w) (Peer v) never asks also built = let bad : ◌≡◌ {A = ℕ} 7 4 = ap verb_length (sym asks.1 ∙ also.1) in absurd (omega (arith, bad))
-unbuilt words job (Cluster w) never asks also built = built
-unbuilt words (Peer w) other never asks also built = absurd (never tt)
-unbuilt words Replay other never asks also built = absurd (never tt)
-unbuilt words Audit other never asks also built = absurd (never tt)
-unbuilt words (Generate number calls summary) other never asks also built = absurd (never tt)
-
 pub job_ends : (words : List (List ℕ)) (source : Option (List ℕ)) (job : Job) (status : Status) (text : List ℕ) → AskFor words job → Does job source status text
     → Ends words source status text
 job_ends words source (Peer w) Status.Usage text asks h = absurd h
-job_ends words source (Cluster w) Status.Usage text asks h = ((λ other. unbuilt words (Cluster w) other (λ b. b) asks), h)
-job_ends words source (Cluster w) status text asks h = absurd h
+job_ends words source (Cluster w) Status.Usage text asks h = absurd (record_usage w source text h)
 job_ends words source (Peer w) Status.Memory text asks h = h
+job_ends words source (Cluster w) Status.Memory text asks h = record_memory w source text h
 job_ends words source Replay Status.Usage text asks h = absurd h.1
 job_ends words source (Generate number calls true) Status.Usage text asks h = absurd h
 job_ends words source (Generate number calls false) Status.Usage text asks h = absurd h
 job_ends words source Audit Status.Usage text asks h = absurd h
+job_ends words source Check Status.Usage text asks h = absurd h
 job_ends words source Replay Status.Memory text asks h = h.1
 job_ends words source Audit Status.Memory text asks h = h
+job_ends words source Check Status.Memory text asks h = h
 job_ends words source (Generate number calls true) Status.Memory text asks h = h
 job_ends words source (Generate number calls false) Status.Memory text asks h = h
 job_ends words source job status text asks h = (job, asks, h)
 
 pub refused_words : (words : List (List ℕ)) → Reads words (Err Usage) → AskForNone words
-refused_words words none job asks built = none job asks
+refused_words words none = none
 
 pub asked_one : (words : List (List ℕ)) (job other : Job) → AskFor words job → AskFor words other → job ≡ other
 asked_one words job other asks also = same (sym (job_back job asks.0) ∙ ap job_of (sym asks.1 ∙ also.1) ∙ job_back other also.0)
@@ -66,6 +55,7 @@ unhindered source Replay status text free does calm = runs_out source status tex
 unhindered source (Peer w) status text free does calm = absurd free
 unhindered source (Cluster w) status text free does calm = absurd free
 unhindered source Audit status text free does calm = report_runs_out source status text free does calm
+unhindered source Check status text free does calm = check_runs_out source status text free does calm
 unhindered source (Generate number calls false) Status.Done text free does calm = inl refl
 unhindered source (Generate number calls false) Status.Memory text free does calm = inr refl
 unhindered source (Generate number calls false) status text free does calm = absurd does
@@ -74,23 +64,15 @@ unhindered source (Generate number calls true) Status.Memory text free does calm
 unhindered source (Generate number calls true) Status.Limit text free does calm = absurd (omega (arith, free, does.0))
 unhindered source (Generate number calls true) status text free does calm = absurd does
 
-built : (source : Option (List ℕ)) (job : Job) → IsUnhindered job source → IsBuilt job
-built source Replay free = tt
-built source Audit free = tt
-built source (Peer w) free = absurd free
-built source (Cluster w) free = free
-built source (Generate number calls summary) free = tt
-
 pub job_completes : (words : List (List ℕ)) (source : Option (List ℕ)) (status : Status) (text : List ℕ) (job : Job) → AskFor words job → IsUnhindered job source → Ends words source status text
     → (status ≡ Status.ReadFault → ⊥) → RanOut status
-job_completes words source Status.Usage text job asks free ends calm = absurd (ends.0 job asks (built source job free))
+job_completes words source Status.Usage text job asks free ends calm = absurd (ends.0 job asks)
 job_completes words source Status.Memory text job asks free ends calm = inr refl
 job_completes words source status text job asks free ends calm = unhindered source job status text free (subst (λ (j : Job). Does j source status text) (asked_one words ends.0 job ends.1 asks) ends.2) calm
 
 -- words that ask for a job that reads the input ask to read
 pub asked_reads : (words : List (List ℕ)) (job : Job) → AskFor words job → ReadsInput job → AskToRead words
-asked_reads words job asks (inl e) = inl (asks.1 ∙ ap words_of e)
-asked_reads words job asks (inr e) = inr (asks.1 ∙ ap words_of e)
+asked_reads words job asks reads = (job, asks, reads)
 
 -- the same of words that were read
 pub given_did_read : (given : Result (List (List ℕ)) ArgumentsError) (words : List (List ℕ)) (Q : Job → Type 0) → ((job : Job) → AskFor words job → Q job) → given ≡ Ok words → (job : Job) → GivenFor given job → Q job
@@ -109,6 +91,7 @@ fault_at_usage e = cc e
 pub usage_did_read : (job : Job) (source : Option (List ℕ)) (before now : ℕ) → DidRead job source source before now Status.Usage
 usage_did_read Replay source before now = usage_read source before now
 usage_did_read Audit source before now = record { end = λ e. absurd (at_usage e); fault = λ e. absurd (fault_at_usage e); cut = λ e. absurd (fault_at_usage e) }
+usage_did_read Check source before now = check_usage_read source before now
 usage_did_read (Peer w) source before now = tt
 usage_did_read (Cluster w) source before now = tt
 usage_did_read (Generate number calls summary) source before now = tt
@@ -122,6 +105,7 @@ fault_at_memory e = cc e
 pub memory_did_read : (job : Job) (source : Option (List ℕ)) (before now : ℕ) → DidRead job source source before now Status.Memory
 memory_did_read Replay source before now = memory_read source before now
 memory_did_read Audit source before now = record { end = λ e. absurd (at_memory e); fault = λ e. absurd (fault_at_memory e); cut = λ e. absurd (fault_at_memory e) }
+memory_did_read Check source before now = check_memory_read source before now
 memory_did_read (Peer w) source before now = tt
 memory_did_read (Cluster w) source before now = tt
 memory_did_read (Generate number calls summary) source before now = tt
@@ -132,6 +116,9 @@ did_read_at job source left before now status ended is did = subst (λ (s : Stat
 
 pub did_read_record : (job : Job) (source left : Option (List ℕ)) (before now : ℕ) (status : Status) → job ≡ Audit → HasReadRecord source left before now status → DidRead job source left before now status
 did_read_record job source left before now status is has = rw is has
+
+pub did_read_backup : (job : Job) (source left : Option (List ℕ)) (before now : ℕ) (status : Status) → job ≡ Check → HasReadBackup source left before now status → DidRead job source left before now status
+did_read_backup job source left before now status is has = rw is has
 
 pub did_read_schedule : (job : Job) (source left : Option (List ℕ)) (before now : ℕ) (status : Status) → job ≡ Replay → HasRead source left before now status → DidRead job source left before now status
 did_read_schedule job source left before now status is has = rw is has

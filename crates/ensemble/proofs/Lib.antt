@@ -1,3 +1,4 @@
 pub mod Endings
 pub mod Generated
 pub mod Serving
+pub mod Recording

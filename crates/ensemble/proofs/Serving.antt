@@ -2,17 +2,18 @@
 use Rattle.std.proofs.Common.{◌≡◌, ℕ, Bool, List, Option, Result, Ok, Err, refl, inl, inr, sym, subst, ◌∙◌}
 use Rattle.std.specs.Io.KnownBytes.{Appends}
 use Rattle.ens_base.specs.Causes.{Rose}
+use Rattle.ens_base.specs.declared.peer_words.ClusterWords.{ClusterWords}
 use Rattle.ens_base.specs.declared.peer_words.PeerWords.{PeerWords}
 use Rattle.ens_base.specs.declared.status.Status.{Status}
 use Rattle.ens_outside.specs.Written.{AppendsFront}
 use Rattle.ens_words.specs.Forms.{AskFor}
 use Rattle.ens_words.specs.declared.job.Job.{Job}
-use Rattle.ens_words.specs.declared.job.Job.TheVariants.{Peer}
+use Rattle.ens_words.specs.declared.job.Job.TheVariants.{Peer, Cluster}
 use Rattle.peer_serve.specs.Serving.{Ended, Printed}
 use Rattle.peer_serve.specs.declared.disks.Disks.{Disks}
 use Rattle.turn_spec.specs.Turns.{ignored_in, taken_in}
 use Rattle.ensemble.proofs.Endings.{asked_one}
-use Rattle.ensemble.specs.Peers.{AskToServe, GivenToServe, OnPeer}
+use Rattle.ensemble.specs.Peers.{AskForLink, GivenForLink, OnLink}
 use Rattle.ensemble.specs.Top.{DidRead, GivenFor, PrintsCounts}
 use Rattle.ensemble.specs.declared.arguments.ArgumentsError.{ArgumentsError}
 
@@ -61,25 +62,30 @@ finished old new before now status text result written front failed = inl (writt
 -- ---- the words
 
 -- what holds of a job holds of the peer for which the words ask
-pub on_asked : (words : List (List ℕ)) (job : Job) (w : PeerWords) (P : PeerWords → Type 0) (Q : Type 0) → AskFor words job → AskFor words (Peer w) → OnPeer job P Q → P w
-on_asked words job w P Q asks also h = subst (λ (j : Job). OnPeer j P Q) (asked_one words job (Peer w) asks also) h
+pub on_peer : (words : List (List ℕ)) (job : Job) (w : PeerWords) (P : PeerWords → Type 0) (Q : ClusterWords → Type 0) (R : Type 0) → AskFor words job → AskFor words (Peer w) → OnLink job P Q R → P w
+on_peer words job w P Q R asks also h = subst (λ (j : Job). OnLink j P Q R) (asked_one words job (Peer w) asks also) h
 
--- and what holds of every other job holds where they ask for no peer
-pub on_none : (words : List (List ℕ)) (job : Job) (P : PeerWords → Type 0) (Q : Type 0) → AskFor words job → ¬ AskToServe words → OnPeer job P Q → Q
-on_none words (Peer w) P Q asks none h = absurd (none (w, asks))
-on_none words job P Q asks none h = h
+-- or of the cluster
+pub on_cluster : (words : List (List ℕ)) (job : Job) (w : ClusterWords) (P : PeerWords → Type 0) (Q : ClusterWords → Type 0) (R : Type 0) → AskFor words job → AskFor words (Cluster w) → OnLink job P Q R → Q w
+on_cluster words job w P Q R asks also h = subst (λ (j : Job). OnLink j P Q R) (asked_one words job (Cluster w) asks also) h
+
+-- and what holds of every other job holds where they ask for neither
+pub on_none : (words : List (List ℕ)) (job : Job) (P : PeerWords → Type 0) (Q : ClusterWords → Type 0) (R : Type 0) → AskFor words job → ¬ AskForLink words → OnLink job P Q R → R
+on_none words (Peer w) P Q R asks none h = absurd (none (Peer w, asks, tt))
+on_none words (Cluster w) P Q R asks none h = absurd (none (Cluster w, asks, tt))
+on_none words job P Q R asks none h = h
 
 -- the same for words that were read
-pub given_served : (given : Result (List (List ℕ)) ArgumentsError) (words : List (List ℕ)) (Q : PeerWords → Type 0) → ((w : PeerWords) → AskFor words (Peer w) → Q w) → given ≡ Ok words → (w : PeerWords) → GivenFor given (Peer w) → Q w
-given_served given words Q f is w asks = f w (subst (λ (g : Result (List (List ℕ)) ArgumentsError). GivenFor g (Peer w)) is asks)
+pub given_asked : {W : Type 0} (given : Result (List (List ℕ)) ArgumentsError) (words : List (List ℕ)) (job : W → Job) (Q : W → Type 0) → ((w : W) → AskFor words (job w) → Q w) → given ≡ Ok words → (w : W) → GivenFor given (job w) → Q w
+given_asked given words job Q f is w asks = f w (subst (λ (g : Result (List (List ℕ)) ArgumentsError). GivenFor g (job w)) is asks)
 
-pub given_alone : (given : Result (List (List ℕ)) ArgumentsError) (words : List (List ℕ)) (Q : Type 0) → (¬ AskToServe words → Q) → given ≡ Ok words → ¬ GivenToServe given → Q
-given_alone given words Q f is none = f (λ asks. none (asks.0, subst (λ (g : Result (List (List ℕ)) ArgumentsError). GivenFor g (Peer asks.0)) (sym is) asks.1))
+pub given_alone : (given : Result (List (List ℕ)) ArgumentsError) (words : List (List ℕ)) (Q : Type 0) → (¬ AskForLink words → Q) → given ≡ Ok words → ¬ GivenForLink given → Q
+given_alone given words Q f is none = f (λ asks. none (asks.0, subst (λ (g : Result (List (List ℕ)) ArgumentsError). GivenFor g asks.0) (sym is) asks.1, asks.2))
 
--- words that were not read ask for no peer
-pub unread_served : (given : Result (List (List ℕ)) ArgumentsError) (why : ArgumentsError) (w : PeerWords) → given ≡ Err why → GivenFor given (Peer w) → ⊥
-unread_served given why w is asks = subst (λ (g : Result (List (List ℕ)) ArgumentsError). GivenFor g (Peer w)) is asks
+-- words that were not read ask for nothing
+pub unread_given : (given : Result (List (List ℕ)) ArgumentsError) (why : ArgumentsError) (job : Job) → given ≡ Err why → GivenFor given job → ⊥
+unread_given given why job is asks = subst (λ (g : Result (List (List ℕ)) ArgumentsError). GivenFor g job) is asks
 
--- words that ask for nothing ask for no peer
-pub none_given : (given : Result (List (List ℕ)) ArgumentsError) (words : List (List ℕ)) → given ≡ Ok words → ((job : Job) → ¬ AskFor words job) → ¬ GivenToServe given
-none_given given words is none served = none (Peer served.0) (subst (λ (g : Result (List (List ℕ)) ArgumentsError). GivenFor g (Peer served.0)) is served.1)
+-- nor do words for which there is no job
+pub none_given : (given : Result (List (List ℕ)) ArgumentsError) (words : List (List ℕ)) → given ≡ Ok words → ((job : Job) → ¬ AskFor words job) → (job : Job) → ¬ GivenFor given job
+none_given given words is none job asks = none job (subst (λ (g : Result (List (List ℕ)) ArgumentsError). GivenFor g job) is asks)

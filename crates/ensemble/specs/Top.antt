@@ -1,12 +1,16 @@
 -- The jobs, and what the program prints.
-use Rattle.std.specs.Prelude.{◌≡◌, ◌⊎◌, ℕ, true, false, List, [], ◌∷◌, ◌++◌, codes, Option, Result, Ok, Err, IsSomeAnd}
+use Rattle.std.specs.Prelude.{◌≡◌, ℕ, true, false, List, [], ◌∷◌, ◌++◌, codes, Option, Result, Ok, Err, IsSomeAnd}
 use Rattle.std.specs.Io.KnownBytes.{IsAtEnd}
 use Rattle.ens_base.specs.Causes.{Rose}
+use Rattle.backup_job.specs.Printed.{IsCheckable, PrintsCheck}
+use Rattle.backup_job.specs.Printed.{HasRead as HasReadBackup}
+use Rattle.cluster.specs.Ends.{PrintsRecord}
+use Rattle.cluster.specs.Ends.{HasRead as HasReadScript}
 use Rattle.ens_base.specs.declared.peer_words.PeerWords.{PeerWords}
 use Rattle.ens_base.specs.declared.status.Status.{Status}
 use Rattle.ens_words.specs.Forms.{AskFor}
 use Rattle.ens_words.specs.declared.job.Job.{Job}
-use Rattle.ens_words.specs.declared.job.Job.TheVariants.{Replay, Peer, Cluster, Audit, Generate}
+use Rattle.ens_words.specs.declared.job.Job.TheVariants.{Replay, Peer, Cluster, Audit, Check, Generate}
 use Rattle.peer_serve.specs.Faults.{fault_text}
 use Rattle.peer_serve.specs.Serving.{counts_text}
 use Rattle.record_input.specs.Reading.{WasCutOff}
@@ -18,18 +22,17 @@ use Rattle.schedule_text.specs.Spelling.{schedule_text}
 use Rattle.ensemble.specs.declared.arguments.ArgumentsError.{ArgumentsError}
 use Rattle.ensemble.specs.declared.arguments.ArgumentsError.TheVariants.{NotText, Memory}
 
--- the jobs that the program runs: several peers in one process, over a network, are not built yet
-abbrev pub IsBuilt : Job → Type 0
-IsBuilt (Cluster words) = ⊥
-IsBuilt job = Unit {0}
-
--- only a replay and an audit read the input
+-- a replay, an audit, a cluster and the test of a backup read the input
 abbrev pub ReadsInput : Job → Type 0
-ReadsInput job = (job ≡ Replay) ⊎ (job ≡ Audit)
+ReadsInput Replay = Unit {0}
+ReadsInput Audit = Unit {0}
+ReadsInput Check = Unit {0}
+ReadsInput (Cluster w) = Unit {0}
+ReadsInput job = ⊥
 
 -- the words ask for one of them
 abbrev pub AskToRead : List (List ℕ) → Type 0
-AskToRead words = (words ≡ codes "replay" ∷ []) ⊎ (words ≡ codes "audit" ∷ [])
+AskToRead words = (job : Job) × AskFor words job × ReadsInput job
 
 -- how far an audit read its source: at status 0 nothing is left, and a read fault was counted, and came
 -- before the bytes that the source gave decided anything
@@ -42,13 +45,15 @@ pub record HasReadRecord (source left : Option (List ℕ)) (before now : ℕ) (s
 abbrev pub DidRead : Job → (source left : Option (List ℕ)) → (before now : ℕ) → Status → Type 0
 DidRead Replay source left before now status = HasRead source left before now status
 DidRead Audit source left before now status = HasReadRecord source left before now status
+DidRead Check source left before now status = HasReadBackup source left before now status
+DidRead (Cluster w) source left before now status = HasReadScript w source left before now status
 DidRead job source left before now status = Unit {0}
 
--- the words ask for none of the jobs that the program runs
+-- the words ask for no job
 abbrev pub AskForNone : List (List ℕ) → Type 0
-AskForNone words = (job : Job) → AskFor words job → ¬ IsBuilt job
+AskForNone words = (job : Job) → ¬ AskFor words job
 
--- the text reports that the words ask for none of these jobs
+-- the text reports that the words ask for no job
 abbrev pub IsUsageText : List ℕ → Type 0
 IsUsageText text = text ≡ codes "usage" ++ 10 ∷ []
 
@@ -75,34 +80,32 @@ PrintsCounts w Status.LinkFault text = text ≡ fault_text Status.LinkFault
 PrintsCounts w Status.Memory text = IsMemoryText text
 PrintsCounts w status text = ⊥
 
--- a job that is not built ends with the usage line
-abbrev pub DoesNothing : Status → List ℕ → Type 0
-DoesNothing Status.Usage text = IsUsageText text
-DoesNothing status text = ⊥
-
--- the text that a job prints, for each status; only a replay and an audit read the source
+-- the text that a job prints, for each status; only some jobs read the source
 abbrev pub Does : Job → Option (List ℕ) → Status → List ℕ → Type 0
 Does Replay source status text = Prints source status text
 Does (Peer words) source status text = PrintsCounts words status text
-Does (Cluster words) source status text = DoesNothing status text
+Does (Cluster words) source status text = PrintsRecord words source status text
 Does Audit source status text = PrintsReport source status text
+Does Check source status text = PrintsCheck source status text
 Does (Generate number calls false) source status text = PrintsSchedule number calls status text
 Does (Generate number calls true) source status text = PrintsSummary number calls status text
 
--- the text that the program prints, for each status: a usage line if the words ask for no job that
--- it runs, and otherwise what the job prints, unless memory runs out
+-- the text that the program prints, for each status: a usage line if the words ask for no job, and
+-- otherwise what the job prints, unless memory runs out
 abbrev pub Ends : List (List ℕ) → Option (List ℕ) → Status → List ℕ → Type 0
 Ends words source Status.Usage text = AskForNone words × IsUsageText text
 Ends words source Status.Memory text = IsMemoryText text
 Ends words source status text = (job : Job) × AskFor words job × Does job source status text
 
--- Nothing ends the job early: it is built; a replay and an audit have a source whose bytes are known, and
--- which nothing in them ends early; and the run that is summed up stays within the limit on messages.
+-- Nothing ends the job early: a replay, an audit and the test of a backup have a source whose bytes are known,
+-- and which nothing in them ends early; and the run that is summed up stays within the limit on messages. What
+-- a peer and a cluster do rests on their link, which tells nothing beforehand.
 abbrev pub IsUnhindered : Job → Option (List ℕ) → Type 0
 IsUnhindered Replay source = IsSomeAnd source IsRunnable
 IsUnhindered (Peer words) source = ⊥
 IsUnhindered (Cluster words) source = ⊥
 IsUnhindered Audit source = IsSomeAnd source IsAuditable
+IsUnhindered Check source = IsSomeAnd source IsCheckable
 IsUnhindered (Generate number calls false) source = Unit {0}
 IsUnhindered (Generate number calls true) source = StaysWithin (generate number calls)
 

@@ -1,10 +1,10 @@
-ghost use Rattle.std.specs.Prelude.{◌≡◌, IfOk, Some, None};
+ghost use Rattle.std.specs.Prelude.{IfOk};
 ghost use Rattle.ensemble.specs.Arguments.{words_given};
-ghost use Rattle.ensemble.specs.Peers.{IsPeerOf, OnPeer};
+ghost use Rattle.ensemble.specs.Peers.{IsJobOf};
 ghost use Rattle.peer_serve.specs.DiskPeers.{AreThere};
 
 use crate::arguments::{ArgumentsError, words_of};
-use ens_words::{Job, PeerWords, WordsError, read_words};
+use ens_words::{Job, WordsError, read_words};
 use host_adapters::FileDisk;
 use host_network::{ClockTicker, UdpLink};
 use peer_serve::Disks;
@@ -29,41 +29,34 @@ pub fn stand_in<R: Files<File = File>>(files: &R) -> io::Result<(File, File, Fil
     Ok((first, second, third))
 }
 
-/// Returns the words of the peer as which the job serves, if it does.
-fn peer_in(job: Job) -> Option<PeerWords>
-    ensures { OnPeer job (λ w. result ≡ Some w) (result ≡ None) }
-{
-    match job {
-        Job::Peer(words) => Some(words),
-        Job::Replay | Job::Audit | Job::Cluster(_) | Job::Generate { .. } => None,
-    }
-}
-
-/// Returns the words of the peer as which the program serves with all its arguments, or `None` if it
-/// does not serve as one.
-pub fn peer_of(
+/// Returns the job that all the arguments of the program ask for, or `None` if they ask for none.
+pub fn job_of(
     alloc: Global,
     all: &Result<Vec<String>, ArgumentsError>,
-) -> Result<Option<PeerWords>, AllocError>
-    ensures { IfOk result (IsPeerOf (words_given all.now)) }
+) -> Result<Option<Job>, AllocError>
+    ensures { IfOk result (IsJobOf (words_given all.now)) }
 {
     let Ok(all) = all else {
         return Ok(None);
     };
     let words = words_of(alloc, all)?;
     match read_words(alloc, &words) {
-        Ok(job) => Ok(peer_in(job)),
+        Ok(job) => Ok(Some(job)),
         Err(WordsError::Usage) => Ok(None),
         Err(WordsError::Memory) => Err(AllocError),
     }
 }
 
-/// Makes the link of a peer over UDP. It binds a socket once it is used, so that without a peer it does
-/// not matter which number it has.
-pub fn link_of<R: Net>(net: R, peer: Option<PeerWords>) -> UdpLink<R> {
-    match peer {
-        Some(words) => UdpLink::new(net, words.port, words.me.0),
-        None => UdpLink::new(net, 0, 0),
+/// Makes the link of a job over UDP: of a peer that of its own number, and of a cluster that of all its
+/// peers. It binds its sockets once it is used, so that for any other job it does not matter which
+/// numbers it has.
+pub fn link_of<R: Net>(net: R, job: Option<Job>) -> UdpLink<R> {
+    match job {
+        Some(Job::Peer(words)) => UdpLink::new(net, words.port, words.me.0, words.me.0),
+        Some(Job::Cluster(words)) => UdpLink::new(net, words.port, 1, words.peers),
+        Some(Job::Replay | Job::Audit | Job::Check | Job::Generate { .. }) | None => {
+            UdpLink::new(net, 0, 0, 0)
+        }
     }
 }
 

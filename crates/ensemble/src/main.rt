@@ -1,11 +1,11 @@
 //! The program `ensemble`: passes its arguments, its standard input and output, the files of the
-//! current folder, a socket and the clock to `run_program`, and exits with the status that this
+//! current folder, its sockets and the clock to `run_program`, and exits with the status that this
 //! returns.
 //!
-//! `run_program` passes the words after the name of the program to `ensemble_main`. For the argument
-//! `replay`, `ensemble_main` guarantees that every history it prints is legal; for `peer`, that it
-//! serves as the protocol defines. The clauses of both stand in `top.rt`; the definitions that they
-//! cite stand in `specs/Top` and `specs/Peers`, and in the crates replay and peer_serve.
+//! `run_program` passes the words after the name of the program to `ensemble_main`. For the arguments
+//! `replay` and `cluster`, `ensemble_main` guarantees that every history it prints is legal; for `peer`,
+//! that it serves as the protocol defines. The clauses of both stand in `top.rt`; the definitions that
+//! they cite stand in `specs/Top` and `specs/Peers`, and in the crates replay, cluster and peer_serve.
 #![tactic(auto)]
 
 mod arguments;
@@ -17,7 +17,7 @@ mod top;
 use arguments::all_arguments;
 use ens_base::Status;
 use ens_outside::{ReaderSource, WriterSink, finish};
-use host::{disks_of, link_of, peer_of, stand_in, ticker_of};
+use host::{disks_of, job_of, link_of, stand_in, ticker_of};
 use std::env;
 use std::process::ExitCode;
 use top::run_program;
@@ -29,10 +29,10 @@ fn main(rt: HostRuntime) -> ExitCode {
     let mut input = ReaderSource::new(rt.stdin());
     let mut output = WriterSink::new(rt.stdout());
     let all = all_arguments(alloc, env::args(&rt));
-    let Ok(peer) = peer_of(alloc, &all) else {
+    let Ok(job) = job_of(alloc, &all) else {
         return ExitCode::from(finish(&mut output, "memory\n", Status::Memory).number());
     };
-    let mut link = link_of(&rt, peer);
+    let mut link = link_of(&rt, job);
     let mut disks = disks_of(&rt);
     let mut ticker = ticker_of(&rt);
     let status = run_program(

@@ -1,6 +1,7 @@
 ghost use Rattle.std.specs.Prelude.{◌≡◌, ◌≢◌, ℕ, List, map};
 ghost use Rattle.std.specs.Io.KnownBytes.{Appends};
 ghost use Rattle.ens_base.specs.Causes.{Rose};
+ghost use Rattle.ens_base.specs.declared.peer_words.ClusterWords.{ClusterWords as OfCluster};
 ghost use Rattle.ens_base.specs.declared.peer_words.PeerWords.{PeerWords as Words};
 ghost use Rattle.ens_base.specs.declared.status.Status.{Status};
 ghost use Rattle.ens_outside.specs.Written.{AppendsFront};
@@ -8,13 +9,15 @@ ghost use Rattle.ens_words.specs.Forms.{AskFor, IsJob};
 ghost use Rattle.ens_words.specs.declared.job.Job.{Job};
 ghost use Rattle.ens_words.specs.declared.job.Job.TheVariants as jobs;
 ghost use Rattle.ensemble.specs.Arguments.{words_given};
-ghost use Rattle.ensemble.specs.Peers.{AreUntouched, AskToServe, CameToServe, GivenToServe, HasServed, OnPeer};
+ghost use Rattle.ensemble.specs.Peers.{AreUntouched, AskForLink, CameToRecord, CameToServe, GivenForLink, HasRecorded, HasServed, OnLink};
 ghost use Rattle.ensemble.specs.Top.{AskToRead, DidRead, Does, Ends, EndsGiven, GivenFor, GivenToRead, IsUnhindered, ReadsInput};
 ghost use Rattle.peer_serve.specs.DiskPeers.{AreThere};
 ghost use Rattle.replay.specs.Jobs.{RanOut};
 
 use crate::arguments::{ArgumentsError, words_of};
 use crate::generating::{print_generated, print_summary};
+use backup_job::print_check;
+use cluster::cluster;
 use ens_base::Status;
 use ens_outside::{Link, Sink, Source, Ticker, finish};
 use ens_words::{Job, WordsError, read_words};
@@ -25,8 +28,8 @@ use slot_disk::Disk;
 use std::alloc::Global;
 use std::thread::Threads;
 
-/// Runs a job on this input and output. A peer also uses the link, the disks and the ticker. Returns
-/// the status.
+/// Runs a job on this input and output. A peer also uses the link, the disks and the ticker, and a cluster
+/// the link. Returns the status.
 fn run_job<S: Source, O: Sink, L: Link, D: Disk + Drop, T: Ticker, R: Threads + Sync>(
     rt: &R,
     alloc: Global,
@@ -45,14 +48,16 @@ fn run_job<S: Source, O: Sink, L: Link, D: Disk + Drop, T: Ticker, R: Threads + 
     ensures untouched { ¬ ReadsInput job → input.new ≡ input.old }
     ensures read { result ≡ Status.ReadFault → Rose (S.fault_count input.old) (S.fault_count input.new) }
     ensures write { result ≡ Status.WriteFault → Rose (O.fault_count output.old) (O.fault_count output.new) }
-    ensures served { OnPeer job (HasServed D.seen D.may_leave D.moment D.left_since D.fault_count L.sent L.given L.fault_count T.coming disks.old disks.new link.old link.new ticker.old ticker.new (O.written output.old) (O.written output.new) (O.fault_count output.old) (O.fault_count output.new) result) (AreUntouched disks.old disks.new link.old link.new ticker.old ticker.new) }
+    ensures linked { OnLink job (HasServed D.seen D.may_leave D.moment D.left_since D.fault_count L.sent L.given L.fault_count T.coming disks.old disks.new link.old link.new ticker.old ticker.new (O.written output.old) (O.written output.new) (O.fault_count output.old) (O.fault_count output.new) result)
+        (HasRecorded D.seen D.may_leave D.moment D.left_since D.fault_count L.sent L.given L.fault_count T.coming disks.old disks.new link.old link.new ticker.old ticker.new (S.left input.old) (O.written output.old) (O.written output.new) (O.fault_count output.old) (O.fault_count output.new) result) (AreUntouched disks.old disks.new link.old link.new ticker.old ticker.new) }
     ensures there { AreThere disks.new }
 {
     match job {
         Job::Replay => replay(rt, alloc, input, output),
         Job::Audit => print_report(alloc, input, output),
+        Job::Check => print_check(rt, alloc, input, output),
         Job::Peer(words) => serve(rt, alloc, &words, link, disks, ticker, output),
-        Job::Cluster(_) => finish(output, "usage\n", Status::Usage),
+        Job::Cluster(words) => cluster(rt, alloc, &words, input, output, link),
         Job::Generate {
             number,
             calls,
@@ -71,12 +76,14 @@ fn run_job<S: Source, O: Sink, L: Link, D: Disk + Drop, T: Ticker, R: Threads + 
 ///
 /// The argument `replay` reads a schedule, and writes what its run prints and one history for each
 /// key. `audit` reads a record, which is a schedule with such a text, and writes the report on its
-/// histories. `generate NUMBER CALLS schedule` writes the schedule of 1 to 20,000 calls that is
-/// generated from a number, and `generate NUMBER CALLS summary` the six lines that sum up its run.
+/// histories. `check` reads a backup, and writes how many entries and objects it holds. `generate NUMBER
+/// CALLS schedule` writes the schedule of 1 to 20,000 calls that is generated from a number, and `generate
+/// NUMBER CALLS summary` the six lines that sum up its run.
 /// `peer ID PEERS PORT TURNS MEMBER ..` serves as one peer over the link, on the disks, and writes how
-/// many frames it took and ignored. Whoever makes the link makes it for these words: as the number ID,
-/// with the ports from PORT on. Any other arguments are a usage error, and so far the form of
-/// `cluster` is one too.
+/// many frames it took and ignored. `cluster PEERS PORT MEMBER ..` reads a script, runs peers as it says
+/// over the link, and writes a record: what happened as a schedule, and what a replay of it prints.
+/// Whoever makes the link makes it for these words: with the ports from PORT on, as the number ID or as
+/// the numbers 1 to PEERS. Any other arguments are a usage error.
 pub fn ensemble_main<S: Source, O: Sink, L: Link, D: Disk + Drop, T: Ticker, R: Threads + Sync>(
     rt: &R,
     alloc: Global,
@@ -93,9 +100,9 @@ pub fn ensemble_main<S: Source, O: Sink, L: Link, D: Disk + Drop, T: Ticker, R: 
     ensures printed { result ≢ Status.WriteFault → (text : List ℕ) × Ends (map (λ w. w.now) words.now) (S.left input.old) result text × Appends (O.written output.old) (O.written output.new) text }
     // If the output failed, a prefix of the text with which the job would otherwise have ended.
     ensures front { result ≡ Status.WriteFault → (status : Status) × (text : List ℕ) × Ends (map (λ w. w.now) words.now) (S.left input.old) status text × ((job : Job) → AskFor (map (λ w. w.now) words.now) job → DidRead job (S.left input.old) (S.left input.new) (S.fault_count input.old) (S.fault_count input.new) status) × AppendsFront (O.written output.old) (O.written output.new) text }
-    // How far a replay or an audit read the input.
+    // How far a replay, an audit, a cluster or the test of a backup read the input.
     ensures input { result ≢ Status.WriteFault → (job : Job) → AskFor (map (λ w. w.now) words.now) job → DidRead job (S.left input.old) (S.left input.new) (S.fault_count input.old) (S.fault_count input.new) result }
-    // Only a replay and an audit read the input.
+    // No other job reads the input.
     ensures untouched { ¬ AskToRead (map (λ w. w.now) words.now) → input.new ≡ input.old }
     ensures read { result ≡ Status.ReadFault → Rose (S.fault_count input.old) (S.fault_count input.new) }
     ensures write { result ≡ Status.WriteFault → Rose (O.fault_count output.old) (O.fault_count output.new) }
@@ -103,8 +110,10 @@ pub fn ensemble_main<S: Source, O: Sink, L: Link, D: Disk + Drop, T: Ticker, R: 
     ensures completes { (job : Job) → AskFor (map (λ w. w.now) words.now) job → IsUnhindered job (S.left input.old) → ¬ Rose (S.fault_count input.old) (S.fault_count input.new) → ¬ Rose (O.fault_count output.old) (O.fault_count output.new) → RanOut result }
     // What became of a peer: its turns, its steps and what they sent, its disks, and what it printed.
     ensures served { (w : Words) → AskFor (map (λ w. w.now) words.now) (jobs.Peer w) → CameToServe D.seen D.may_leave D.moment D.left_since D.fault_count L.sent L.given L.fault_count T.coming disks.old disks.new link.old link.new ticker.old ticker.new (O.written output.old) (O.written output.new) (O.fault_count output.old) (O.fault_count output.new) result w }
-    // Only a peer touches the disks, the link and the ticker, and the disks stay there.
-    ensures alone { ¬ AskToServe (map (λ w. w.now) words.now) → AreUntouched disks.old disks.new link.old link.new ticker.old ticker.new }
+    // What became of a cluster: its script, its looks, what was handed to the link, and what it printed.
+    ensures recorded { (w : OfCluster) → AskFor (map (λ w. w.now) words.now) (jobs.Cluster w) → CameToRecord D.seen D.may_leave D.moment D.left_since D.fault_count L.sent L.given L.fault_count T.coming disks.old disks.new link.old link.new ticker.old ticker.new (S.left input.old) (O.written output.old) (O.written output.new) (O.fault_count output.old) (O.fault_count output.new) result w }
+    // Only a peer and a cluster touch the link, and only a peer the disks and the ticker. The disks stay there.
+    ensures alone { ¬ AskForLink (map (λ w. w.now) words.now) → AreUntouched disks.old disks.new link.old link.new ticker.old ticker.new }
     ensures there { AreThere disks.new }
 {
     match read_words(alloc, words) {
@@ -130,9 +139,9 @@ pub fn run_program<S: Source, O: Sink, L: Link, D: Disk + Drop, T: Ticker, R: Th
     ensures printed { result ≢ Status.WriteFault → (text : List ℕ) × EndsGiven (words_given all.now) (S.left input.old) result text × Appends (O.written output.old) (O.written output.new) text }
     // If the output failed, a prefix of the text with which the program would otherwise have ended.
     ensures front { result ≡ Status.WriteFault → (status : Status) × (text : List ℕ) × EndsGiven (words_given all.now) (S.left input.old) status text × ((job : Job) → GivenFor (words_given all.now) job → DidRead job (S.left input.old) (S.left input.new) (S.fault_count input.old) (S.fault_count input.new) status) × AppendsFront (O.written output.old) (O.written output.new) text }
-    // How far a replay or an audit read the input.
+    // How far a replay, an audit, a cluster or the test of a backup read the input.
     ensures input { result ≢ Status.WriteFault → (job : Job) → GivenFor (words_given all.now) job → DidRead job (S.left input.old) (S.left input.new) (S.fault_count input.old) (S.fault_count input.new) result }
-    // Only a replay and an audit read the input.
+    // No other job reads the input.
     ensures untouched { ¬ GivenToRead (words_given all.now) → input.new ≡ input.old }
     ensures read { result ≡ Status.ReadFault → Rose (S.fault_count input.old) (S.fault_count input.new) }
     ensures write { result ≡ Status.WriteFault → Rose (O.fault_count output.old) (O.fault_count output.new) }
@@ -140,8 +149,10 @@ pub fn run_program<S: Source, O: Sink, L: Link, D: Disk + Drop, T: Ticker, R: Th
     ensures completes { (job : Job) → GivenFor (words_given all.now) job → IsUnhindered job (S.left input.old) → ¬ Rose (S.fault_count input.old) (S.fault_count input.new) → ¬ Rose (O.fault_count output.old) (O.fault_count output.new) → RanOut result }
     // What became of a peer, unless memory ran out before its words were read.
     ensures served { (w : Words) → GivenFor (words_given all.now) (jobs.Peer w) → CameToServe D.seen D.may_leave D.moment D.left_since D.fault_count L.sent L.given L.fault_count T.coming disks.old disks.new link.old link.new ticker.old ticker.new (O.written output.old) (O.written output.new) (O.fault_count output.old) (O.fault_count output.new) result w }
-    // Only a peer touches the disks, the link and the ticker.
-    ensures alone { ¬ GivenToServe (words_given all.now) → AreUntouched disks.old disks.new link.old link.new ticker.old ticker.new }
+    // What became of a cluster, unless memory ran out before its words were read.
+    ensures recorded { (w : OfCluster) → GivenFor (words_given all.now) (jobs.Cluster w) → CameToRecord D.seen D.may_leave D.moment D.left_since D.fault_count L.sent L.given L.fault_count T.coming disks.old disks.new link.old link.new ticker.old ticker.new (S.left input.old) (O.written output.old) (O.written output.new) (O.fault_count output.old) (O.fault_count output.new) result w }
+    // Only a peer and a cluster touch the link, and only a peer the disks and the ticker.
+    ensures alone { ¬ GivenForLink (words_given all.now) → AreUntouched disks.old disks.new link.old link.new ticker.old ticker.new }
 {
     match all {
         Ok(all) => match words_of(alloc, all) {

@@ -2,7 +2,7 @@ use Rattle.std.proofs.Common.{refl, inl, inr}
 use Rattle.ens_base.specs.declared.status.Status.TheVariants as Status
 use Rattle.ens_words.specs.declared.job.Job.TheVariants as jobs
 use Rattle.ensemble.proofs.Endings.{asked_did_read, asked_reads, did_read_at, job_completes, job_ends, memory_did_read, refused_words, usage_did_read}
-use Rattle.ensemble.proofs.Serving.{finished, on_asked, on_none}
+use Rattle.ensemble.proofs.Serving.{finished, on_cluster, on_none, on_peer}
 use Rattle.ensemble.proofs.top.ensemble_main.Goals as goal
 
 pub returns-in-Ok-clause-printed : goal.returns-in-Ok-clause-printed
@@ -39,13 +39,22 @@ pub returns-in-Ok-clause-untouched : goal.returns-in-Ok-clause-untouched
 returns-in-Ok-clause-untouched g c = λ none. c.run_job.ensures.untouched (λ reads. none (asked_reads _ c.in-Ok.job c.in-Ok.ensures reads))
 
 pub returns-in-Ok-clause-served : goal.returns-in-Ok-clause-served
-returns-in-Ok-clause-served g c = λ w asks. inl (on_asked _ c.in-Ok.job w _ _ c.in-Ok.ensures asks c.run_job.ensures.served)
+returns-in-Ok-clause-served g c = λ w asks. inl (on_peer _ c.in-Ok.job w _ _ _ c.in-Ok.ensures asks c.run_job.ensures.linked)
+
+pub returns-in-Ok-clause-recorded : goal.returns-in-Ok-clause-recorded
+returns-in-Ok-clause-recorded g c = λ w asks. inl (on_cluster _ c.in-Ok.job w _ _ _ c.in-Ok.ensures asks c.run_job.ensures.linked)
 
 pub returns-in-Ok-clause-alone : goal.returns-in-Ok-clause-alone
-returns-in-Ok-clause-alone g c = λ none. on_none _ c.in-Ok.job _ _ c.in-Ok.ensures none c.run_job.ensures.served
+returns-in-Ok-clause-alone g c = λ none. on_none _ c.in-Ok.job _ _ _ c.in-Ok.ensures none c.run_job.ensures.linked
 
 pub returns-in-Err-Usage-clause-served : goal.returns-in-Err-Usage-clause-served
 returns-in-Err-Usage-clause-served g c = λ w asks. absurd ((rw c.in-Err-Usage.field-0-is at c.in-Err-Usage.ensures) (jobs.Peer w) asks)
+
+pub returns-in-Err-Usage-clause-recorded : goal.returns-in-Err-Usage-clause-recorded
+returns-in-Err-Usage-clause-recorded g c = λ w asks. absurd ((rw c.in-Err-Usage.field-0-is at c.in-Err-Usage.ensures) (jobs.Cluster w) asks)
+
+pub returns-in-Err-Memory-clause-recorded : goal.returns-in-Err-Memory-clause-recorded
+returns-in-Err-Memory-clause-recorded g c = λ w asks. inr ((refl, refl, refl), finished _ _ _ _ _ _ _ c.finish-in-Err-Memory.ensures.written c.finish-in-Err-Memory.ensures.front c.finish-in-Err-Memory.ensures.failed)
 
 pub returns-in-Err-Memory-clause-served : goal.returns-in-Err-Memory-clause-served
 returns-in-Err-Memory-clause-served g c = λ w asks. inr ((refl, refl, refl), finished _ _ _ _ _ _ _ c.finish-in-Err-Memory.ensures.written c.finish-in-Err-Memory.ensures.front c.finish-in-Err-Memory.ensures.failed)

@@ -1,16 +1,50 @@
-use Rattle.std.proofs.Common.{rules, ℕ, List, ◌∷◌, [], ◌++◌, codes, inl, inr, sym, subst}
+use Rattle.cluster.specs.Ends.{EndsOverBook}
+use Rattle.std.proofs.Common.{ℕ, List, refl, rules, sym, subst}
 use Rattle.ens_base.specs.declared.status.Status.{Status}
-use Rattle.ens_base.specs.declared.status.Status.TheVariants as statuses
 use Rattle.ens_words.specs.declared.job.Job.{Job}
 use Rattle.ensemble.specs.Top.{Does, PrintsCounts}
-use Rattle.ensemble.proofs.Endings.{did_read_at, did_read_record, did_read_schedule, usage_did_read}
+use Rattle.ensemble.proofs.Endings.{did_read_backup, did_read_record, did_read_schedule}
+use Rattle.ensemble.proofs.Recording.{cluster_reads, did_read_script, printed_of, read_rose, unseen, words_valid}
 use Rattle.ensemble.proofs.Serving.{ended_prints, front_text, peer_did_read, reads_nothing, whole_text}
 use Rattle.ensemble.proofs.top.run_job.Given as given
 use Rattle.ensemble.proofs.top.run_job.Goals as goal
 use Rattle.peer_serve.specs.Serving.{Printed}
 
+pub cluster-requires : goal.cluster-requires
+cluster-requires g c = (search rules, words_valid c.args.job c.in-Cluster.words c.in-Cluster.is c.requires.job)
+
+pub returns-in-Cluster-clause-printed : goal.returns-in-Cluster-clause-printed
+returns-in-Cluster-clause-printed g c = λ wrote.
+    let p = c.cluster.ensures.printed wrote in (
+      p.0,
+      subst (λ (job : Job). Does job (g.S.Source.left c.args.input.now) c.cluster.result p.0) (sym c.in-Cluster.is) (unseen g.L.Link.sent g.L.Link.given g.L.Link.fault_count c.args.link.now c.cluster.new.link c.in-Cluster.words (g.S.Source.left c.args.input.now) c.cluster.result p.0 p.1),
+      p.2,
+    )
+
 pub returns-in-Cluster-clause-front : goal.returns-in-Cluster-clause-front
-returns-in-Cluster-clause-front g c = λ fault. (statuses.Usage, codes "usage" ++ 10 ∷ [], search rules, usage_did_read c.args.job _ _ _, c.finish.ensures.front fault)
+returns-in-Cluster-clause-front g c = λ fault.
+    let f = c.cluster.ensures.front fault in (
+      f.0,
+      f.1,
+      subst (λ (job : Job). Does job (g.S.Source.left c.args.input.now) f.0 f.1) (sym c.in-Cluster.is) (unseen g.L.Link.sent g.L.Link.given g.L.Link.fault_count c.args.link.now c.cluster.new.link c.in-Cluster.words (g.S.Source.left c.args.input.now) f.0 f.1 f.2),
+      did_read_script c.args.job c.in-Cluster.words _ _ _ _ _ c.in-Cluster.is f.3,
+      f.4,
+    )
+
+pub returns-in-Cluster-clause-untouched : goal.returns-in-Cluster-clause-untouched
+returns-in-Cluster-clause-untouched g c = λ none. absurd (none (cluster_reads c.args.job c.in-Cluster.words c.in-Cluster.is))
+
+pub returns-in-Cluster-clause-read : goal.returns-in-Cluster-clause-read
+returns-in-Cluster-clause-read g c = λ fault. read_rose c.in-Cluster.words _ _ _ _ c.cluster.result fault c.cluster.ensures.input
+
+pub returns-in-Cluster-clause-linked : goal.returns-in-Cluster-clause-linked
+returns-in-Cluster-clause-linked g c =
+    rw c.in-Cluster.is (
+      refl,
+      refl,
+      printed_of (λ status text. EndsOverBook g.L.Link.sent g.L.Link.given g.L.Link.fault_count c.in-Cluster.words (g.S.Source.left c.args.input.now) c.args.link.now c.cluster.new.link status text) _ _ _ _ c.cluster.result c.cluster.ensures.printed
+          (λ fault. let f = c.cluster.ensures.front fault in (f.0, f.1, f.2, f.4)) c.cluster.ensures.write,
+    )
 
 pub returns-in-Audit-clause-front : goal.returns-in-Audit-clause-front
 returns-in-Audit-clause-front g c = λ fault.
@@ -18,16 +52,27 @@ returns-in-Audit-clause-front g c = λ fault.
     (r.0, r.1, subst (λ (job : Job). Does job (g.S.Source.left c.args.input.now) r.0 r.1) (sym c.in-Audit.is) r.2, did_read_record c.args.job _ _ _ _ _ c.in-Audit.is (record { end = r.3; fault = r.4; cut = r.5 }), r.6)
 
 pub returns-in-Audit-clause-untouched : goal.returns-in-Audit-clause-untouched
-returns-in-Audit-clause-untouched g c = λ none. absurd (none (inr c.in-Audit.is))
+returns-in-Audit-clause-untouched g c = λ none. absurd (none (rw c.in-Audit.is tt))
+
+pub returns-in-Check-clause-front : goal.returns-in-Check-clause-front
+returns-in-Check-clause-front g c = λ fault.
+    let r = c.print_check.ensures.front fault in
+    (r.0, r.1, subst (λ (job : Job). Does job (g.S.Source.left c.args.input.now) r.0 r.1) (sym c.in-Check.is) r.2, did_read_backup c.args.job _ _ _ _ _ c.in-Check.is (record { end = r.3; fault = r.4 }), r.5)
+
+pub returns-in-Check-clause-untouched : goal.returns-in-Check-clause-untouched
+returns-in-Check-clause-untouched g c = λ none. absurd (none (rw c.in-Check.is tt))
+
+pub returns-in-Check-clause-input : goal.returns-in-Check-clause-input
+returns-in-Check-clause-input g c = λ wrote. did_read_backup c.args.job _ _ _ _ _ c.in-Check.is (record { end = c.print_check.ensures.end; fault = c.print_check.ensures.read })
 
 pub returns-in-Replay-clause-front : goal.returns-in-Replay-clause-front
 returns-in-Replay-clause-front g c = λ fault. let r = c.replay.ensures.front fault in (r.0, r.1, subst (λ (job : Job). Does job (g.S.Source.left c.args.input.now) r.0 r.1) (sym c.in-Replay.is) r.2, did_read_schedule c.args.job _ _ _ _ _ c.in-Replay.is r.3, r.4)
 
 pub returns-in-Replay-clause-untouched : goal.returns-in-Replay-clause-untouched
-returns-in-Replay-clause-untouched g c = λ none. absurd (none (inl c.in-Replay.is))
+returns-in-Replay-clause-untouched g c = λ none. absurd (none (rw c.in-Replay.is tt))
 
 pub returns-in-Cluster-clause-input : goal.returns-in-Cluster-clause-input
-returns-in-Cluster-clause-input g c = λ wrote. did_read_at c.args.job _ _ _ _ _ _ (c.finish.ensures.written wrote).0 (usage_did_read c.args.job _ _ _)
+returns-in-Cluster-clause-input g c = λ wrote. did_read_script c.args.job c.in-Cluster.words _ _ _ _ _ c.in-Cluster.is (c.cluster.ensures.input wrote)
 
 pub returns-in-Replay-clause-input : goal.returns-in-Replay-clause-input
 returns-in-Replay-clause-input g c = λ wrote. did_read_schedule c.args.job _ _ _ _ _ c.in-Replay.is (c.replay.ensures.input wrote)
@@ -67,5 +112,5 @@ returns-in-Peer-clause-write g c = λ fault.
     let e = counts g c in
     (front_text c.in-Peer.words (g.O.Sink.written c.args.output.now) (g.O.Sink.written c.serve.new.output) (g.O.Sink.fault_count c.args.output.now) (g.O.Sink.fault_count c.serve.new.output) e.0 e.1 c.serve.result e.2 e.3 fault).4
 
-pub returns-in-Peer-clause-served : goal.returns-in-Peer-clause-served
-returns-in-Peer-clause-served g c = rw c.in-Peer.is c.serve.ensures.ended
+pub returns-in-Peer-clause-linked : goal.returns-in-Peer-clause-linked
+returns-in-Peer-clause-linked g c = rw c.in-Peer.is c.serve.ensures.ended

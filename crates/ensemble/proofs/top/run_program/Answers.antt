@@ -1,9 +1,10 @@
 use Rattle.std.proofs.Common.{rules, ◌≡◌, ◌∷◌, [], ◌++◌, Err, codes, refl, inr}
 use Rattle.ens_base.specs.declared.status.Status.TheVariants as Status
+use Rattle.ens_words.specs.declared.job.Job.TheVariants as jobs
 use Rattle.ensemble.specs.Arguments.{words_given}
 use Rattle.ensemble.specs.declared.arguments.ArgumentsError.TheVariants.{NotText, Memory}
 use Rattle.ensemble.proofs.Endings.{did_read_at, front_given, given_did_read, memory_did_read, not_to_read, printed_given, unread_ends, usage_did_read}
-use Rattle.ensemble.proofs.Serving.{finished, given_alone, given_served, unread_served}
+use Rattle.ensemble.proofs.Serving.{finished, given_alone, given_asked, unread_given}
 use Rattle.ensemble.proofs.top.run_program.Goals as goal
 
 pub returns-in-Ok-words_of-clause-printed : goal.returns-in-Ok-words_of-clause-printed
@@ -41,7 +42,23 @@ pub returns-in-Err-Memory-clause-input : goal.returns-in-Err-Memory-clause-input
 returns-in-Err-Memory-clause-input g c = λ wrote job asks. did_read_at job _ _ _ _ _ _ (c.finish-in-Err-Memory.ensures.written wrote).0 (memory_did_read job _ _ _)
 
 pub returns-in-Ok-words_of-clause-served : goal.returns-in-Ok-words_of-clause-served
-returns-in-Ok-words_of-clause-served g c = given_served (words_given c.args.all.now) _ _ c.ensemble_main.ensures.served (search rules)
+returns-in-Ok-words_of-clause-served g c = given_asked (words_given c.args.all.now) _ (λ w. jobs.Peer w) _ c.ensemble_main.ensures.served (search rules)
+
+pub returns-in-Ok-words_of-clause-recorded : goal.returns-in-Ok-words_of-clause-recorded
+returns-in-Ok-words_of-clause-recorded g c = given_asked (words_given c.args.all.now) _ (λ w. jobs.Cluster w) _ c.ensemble_main.ensures.recorded (search rules)
+
+pub returns-in-Err-clause-recorded : goal.returns-in-Err-clause-recorded
+returns-in-Err-clause-recorded g c = λ w asks. inr ((refl, refl, refl), finished _ _ _ _ _ _ _ c.finish.ensures.written c.finish.ensures.front c.finish.ensures.failed)
+
+pub returns-in-Err-NotText-clause-recorded : goal.returns-in-Err-NotText-clause-recorded
+returns-in-Err-NotText-clause-recorded g c = λ w asks.
+    let given : words_given c.args.all.now ≡ Err NotText = search rules in
+    absurd (unread_given (words_given c.args.all.now) NotText (jobs.Cluster w) given asks)
+
+pub returns-in-Err-Memory-clause-recorded : goal.returns-in-Err-Memory-clause-recorded
+returns-in-Err-Memory-clause-recorded g c = λ w asks.
+    let given : words_given c.args.all.now ≡ Err Memory = search rules in
+    absurd (unread_given (words_given c.args.all.now) Memory (jobs.Cluster w) given asks)
 
 pub returns-in-Ok-words_of-clause-alone : goal.returns-in-Ok-words_of-clause-alone
 returns-in-Ok-words_of-clause-alone g c = given_alone (words_given c.args.all.now) _ _ c.ensemble_main.ensures.alone (search rules)
@@ -52,9 +69,9 @@ returns-in-Err-clause-served g c = λ w asks. inr ((refl, refl, refl), finished 
 pub returns-in-Err-NotText-clause-served : goal.returns-in-Err-NotText-clause-served
 returns-in-Err-NotText-clause-served g c = λ w asks.
     let given : words_given c.args.all.now ≡ Err NotText = search rules in
-    absurd (unread_served (words_given c.args.all.now) NotText w given asks)
+    absurd (unread_given (words_given c.args.all.now) NotText (jobs.Peer w) given asks)
 
 pub returns-in-Err-Memory-clause-served : goal.returns-in-Err-Memory-clause-served
 returns-in-Err-Memory-clause-served g c = λ w asks.
     let given : words_given c.args.all.now ≡ Err Memory = search rules in
-    absurd (unread_served (words_given c.args.all.now) Memory w given asks)
+    absurd (unread_given (words_given c.args.all.now) Memory (jobs.Peer w) given asks)
