@@ -3,7 +3,8 @@ use Rattle.std.proofs.Common.{◌≡◌, ℕ, ◌+◌, ◌≤◌, Bool, true, fa
 use Rattle.std.specs.Prelude.{◌==◌, nat_lt, if◌then◌else◌}
 use Rattle.std.proofs.lemmas.Bool.Decides.{nat_tests}
 use Rattle.std.proofs.lemmas.List.{length-append}
-use Rattle.ens_base.specs.Lists.{AreDistinct, same_bytes}
+use Rattle.ens_base.specs.Lists.{AreDistinct}
+use Rattle.schedule_words.specs.Causes.{or_cause}
 use Rattle.schedule_words.specs.Words.{words_of}
 use Rattle.schedule_words.specs.declared.cause.Cause.{Cause}
 use Rattle.schedule_words.specs.declared.cause.Cause.TheVariants.{TooLong, Heading, Repeated, Unfinished}
@@ -11,9 +12,10 @@ use Rattle.schedule_words.proofs.Results.{bind_ok, ok_same}
 use Rattle.schedule_text.proofs.Ids.{distinct_with}
 use Rattle.schedule_text.specs.Errors.{at_line}
 use Rattle.schedule_text.specs.Events.{event_of, line_limit}
+use Rattle.schedule_text.specs.Forms.{form_named}
 use Rattle.schedule_text.specs.Progress.{Progress, Blank, Titled, Counted, Running, lines_so_far, is_repeated}
 use Rattle.schedule_text.specs.Reading.{at_next, bounded, ended, finished, most_lines, next_line, opening_of, peers_of, with_line}
-use Rattle.schedule_text.specs.Spelling.{call_ids, ensemble_line}
+use Rattle.schedule_text.specs.Spelling.{call_ids}
 use Rattle.schedule_text.specs.declared.error.ScheduleError.{ScheduleError}
 use Rattle.schedule_text.specs.declared.error.ScheduleError.TheVariants.{Lines}
 use Rattle.schedule_text.specs.declared.event.ScheduleEvent.{ScheduleEvent}
@@ -29,10 +31,6 @@ ids_of_calls n [] = refl
 ids_of_calls n (line.Call peer id key command ∷ more) = ap (λ (ids : List ℕ). id ∷ ids) (ids_of_calls (n + 1) more)
 ids_of_calls n (_ ∷ more) = ids_of_calls (n + 1) more
 
-if_ok : {A : Type 0} (b : Bool) (e : Cause) (x y : A) → (if b then Ok x else Err e) ≡ Ok y → x ≡ y
-if_ok true e x y h = ok_same h
-if_ok false e x y h = cc h
-
 if_repeated : (b : Bool) (x y : Progress) → (if b then Err Repeated else Ok x) ≡ Ok y → (b ≡ false) × (x ≡ y)
 if_repeated true x y h = cc h
 if_repeated false x y h = (refl, ok_same h)
@@ -44,18 +42,18 @@ record Grows (p q : Progress) : Type 0 where
 
 with_line-grows : (p q : Progress) (text : List ℕ) → with_line p text ≡ Ok q → Grows p q
 with_line-grows Blank q text h =
-    let same : Titled ≡ q = if_ok (same_bytes text ensemble_line) Heading Titled q h in
-    subst (λ (r : Progress). Grows Blank r) same (record { more = refl; distinct = λ d. tt })
-with_line-grows Titled q text h =
+    let form = bind_ok (or_cause Heading (form_named text)) _ q h in
+    subst (λ (r : Progress). Grows Blank r) (ok_same form.2) (record { more = refl; distinct = λ d. tt })
+with_line-grows (Titled form) q text h =
     let n = bind_ok (peers_of (words_of text)) _ q h in
-    subst (λ (r : Progress). Grows Titled r) (ok_same n.2) (record { more = refl; distinct = λ d. tt })
-with_line-grows (Counted peers) q text h =
+    subst (λ (r : Progress). Grows (Titled form) r) (ok_same n.2) (record { more = refl; distinct = λ d. tt })
+with_line-grows (Counted form peers) q text h =
     let v = bind_ok (opening_of peers (words_of text)) _ q h in
-    subst (λ (r : Progress). Grows (Counted peers) r) (ok_same v.2) (record { more = refl; distinct = λ d. tt })
-with_line-grows (Running peers view events) q text h =
+    subst (λ (r : Progress). Grows (Counted form peers) r) (ok_same v.2) (record { more = refl; distinct = λ d. tt })
+with_line-grows (Running form peers view events) q text h =
     let e = bind_ok (event_of peers text) _ q h in
     let once = if_repeated (is_repeated events e.0) _ q e.2 in
-    subst (λ (r : Progress). Grows (Running peers view events) r) once.1
+    subst (λ (r : Progress). Grows (Running form peers view events) r) once.1
     (record { more = omega (arith, length-append events (e.0 ∷ [])); distinct = λ d. distinct_with events e.0 d once.0 })
 
 at_line_ok : {A : Type 0} (n : ℕ) (r : Result A Cause) (x : A) → at_line n r ≡ Ok x → r ≡ Ok x
@@ -94,9 +92,9 @@ next_begun p q text h begun =
 
 finished-fit : (p : Progress) (s : Schedule) → finished p ≡ Ok s → IsBegun p → IsFit s
 finished-fit Blank s h begun = cc h
-finished-fit Titled s h begun = cc h
-finished-fit (Counted peers) s h begun = cc h
-finished-fit (Running peers view events) s h begun =
+finished-fit (Titled form) s h begun = cc h
+finished-fit (Counted form peers) s h begun = cc h
+finished-fit (Running form peers view events) s h begun =
     subst IsFit (ok_same h)
     (record {
       lines = let few : 3 + length events ≤ 200000 = begun.few in omega arith;
@@ -119,9 +117,9 @@ ended-fit p (b ∷ rest) s h begun =
 
 finished-lines : (p : Progress) (s : Schedule) → finished p ≡ Ok s → length s.events + 3 ≡ lines_so_far p
 finished-lines Blank s h = cc h
-finished-lines Titled s h = cc h
-finished-lines (Counted peers) s h = cc h
-finished-lines (Running peers view events) s h = subst (λ (t : Schedule). length t.events + 3 ≡ 3 + length events) (ok_same h) (omega arith)
+finished-lines (Titled form) s h = cc h
+finished-lines (Counted form peers) s h = cc h
+finished-lines (Running form peers view events) s h = subst (λ (t : Schedule). length t.events + 3 ≡ 3 + length events) (ok_same h) (omega arith)
 
 -- the lines of the schedule that ends here
 pub ended-lines : (p : Progress) (s : Schedule) → ended p [] ≡ Ok s → length s.events + 3 ≡ lines_so_far p

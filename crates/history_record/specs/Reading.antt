@@ -125,7 +125,7 @@ stage_of p (Some h) = Behind h
 
 -- the calls read so far have distinct ids
 abbrev pub HasDistinct : Progress → Type 0
-HasDistinct (Running peers view events) = AreDistinct (call_ids events)
+HasDistinct (Running form peers view events) = AreDistinct (call_ids events)
 HasDistinct p = Unit {0}
 
 -- the lines read so far may be the front of a schedule

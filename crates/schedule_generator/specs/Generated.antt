@@ -4,6 +4,7 @@ use Rattle.ens_base.specs.declared.command.Command.{Command}
 use Rattle.ens_base.specs.declared.command.Command.TheVariants as does
 use Rattle.schedule_text.specs.declared.event.ScheduleEvent.{ScheduleEvent}
 use Rattle.schedule_text.specs.declared.event.ScheduleEvent.TheVariants.{Call, Tick, Calm, Stop, Start, Damage}
+use Rattle.schedule_text.specs.declared.form.Form.TheVariants.{One}
 use Rattle.schedule_text.specs.declared.schedule.Schedule.{Schedule}
 use Rattle.schedule_generator.specs.Drawing.{Drawing, ◌>>=◌, gives, draw, draw_bytes}
 
@@ -70,6 +71,6 @@ draw_calls (suc count) peer id = do
   rest ← draw_calls count first.0 (id + 1)
   gives (first.1 ++ rest)
 
--- the schedule of so many calls that is generated from a number: peer 1 of five leads, and is called
+-- the schedule of so many calls that is generated from a number, in form 1: peer 1 of five leads, and is called
 unfoldable pub generate : ℕ → ℕ → Schedule
-generate number calls = record { peers = 5; view = 1 ∷ 2 ∷ 3 ∷ 4 ∷ 5 ∷ []; events = Tick 1 6 ∷ Calm ∷ (draw_calls calls 1 1 number).1 }
+generate number calls = record { form = One; peers = 5; view = 1 ∷ 2 ∷ 3 ∷ 4 ∷ 5 ∷ []; events = Tick 1 6 ∷ Calm ∷ (draw_calls calls 1 1 number).1 }

@@ -4,7 +4,7 @@ ghost use Rattle.schedule_generator.specs.Growing.{Grows};
 
 use crate::draws::{draw, draw_command, draw_key};
 use ens_base::{Bytes, Key, PeerId, Seq, View};
-use schedule_text::{Schedule, ScheduleEvent};
+use schedule_text::{Form, Schedule, ScheduleEvent};
 use std::alloc::{AllocError, Global};
 
 /// A schedule that is being generated: the number that the next draw begins with, the peer that
@@ -115,6 +115,7 @@ pub fn generate(alloc: Global, number: u64, calls: u64) -> Result<Schedule, Allo
         events,
     } = generator;
     Ok(Schedule {
+        form: Form::One,
         peers: 5,
         view: opening(),
         events: Seq::new(events),

@@ -8,6 +8,7 @@ use Rattle.std.proofs.lemmas.List.Elements.{All-head, All-tail, All-weaker}
 use Rattle.std.proofs.lemmas.List.Splits.{slice_split-cons_yes, slice_split-cons_no, slice_split_none, slice_split_at}
 use Rattle.ens_outside.specs.Lines.{HasNoFeed, BeginsLong}
 use Rattle.ens_base.specs.Results.{◌>>=◌}
+use Rattle.schedule_words.specs.Causes.{or_cause}
 use Rattle.schedule_words.specs.Words.{parts_of, words_of}
 use Rattle.schedule_words.specs.declared.cause.Cause.{Cause}
 use Rattle.schedule_words.specs.declared.cause.Cause.TheVariants.{TooLong, Unfinished, Repeated, Heading}
@@ -15,12 +16,11 @@ use Rattle.schedule_text.specs.Errors.{at_line}
 use Rattle.schedule_text.specs.Events.{event_of, line_limit}
 use Rattle.schedule_text.specs.Progress.{Progress, Blank, Titled, Counted, Running, lines_so_far, is_repeated}
 use Rattle.schedule_text.specs.Reading.{next_line, with_line, bounded, at_next, ended, and_then, read_parts, most_lines, peers_of, opening_of, TakesLine}
-use Rattle.schedule_text.specs.Spelling.{ensemble_line}
+use Rattle.schedule_text.specs.Forms.{form_named}
 use Rattle.schedule_text.specs.declared.error.ScheduleError.{ScheduleError}
 use Rattle.schedule_text.specs.declared.error.ScheduleError.TheVariants.{Bad, Lines, Memory}
 use Rattle.schedule_text.specs.declared.schedule.Schedule.{Schedule}
 use Rattle.schedule_text.specs.declared.event.ScheduleEvent.{ScheduleEvent}
-use Rattle.ens_base.specs.Lists.{same_bytes}
 use Rattle.schedule_input.specs.declared.read.ReadError.{ReadError}
 use Rattle.schedule_input.specs.declared.read.ReadError.TheVariants as read
 use Rattle.schedule_input.specs.Reading.{ReadsAs, ReadsOn, Refuses, of_schedule}
@@ -199,18 +199,14 @@ from_test true r q h = absurd cc
 from_test false r q h = h
 
 one_more : (p q : Progress) (t : List ℕ) → with_line p t ≡ Ok q → lines_so_far q ≡ lines_so_far p + 1
-one_more Blank q t h = titled (same_bytes t ensemble_line) h
+one_more Blank q t h = from_bind (or_cause Heading (form_named t)) (λ form. Ok (Titled form)) q h (λ form e. let is : Titled form ≡ q = cc in sym (ap lines_so_far is))
+one_more (Titled form) q t h = from_bind (peers_of (words_of t)) (λ peers. Ok (Counted form peers)) q h (λ peers e. let is : Counted form peers ≡ q = cc in sym (ap lines_so_far is))
+one_more (Counted form peers) q t h = from_bind (opening_of peers (words_of t)) (λ view. Ok (Running form peers view [])) q h (λ view e. let is : Running form peers view [] ≡ q = cc in sym (ap lines_so_far is))
+one_more (Running form peers view events) q t h = from_bind (event_of peers t) (λ event. if is_repeated events event then Err Repeated else Ok (Running form peers view (events ++ event ∷ []))) q h (λ event e. logged event (is_repeated events event) e)
   where
-    titled : (b : Bool) → (let r : Result Progress Cause = if b then Ok Titled else Err Heading in r ≡ Ok q) → lines_so_far q ≡ 1
-    titled true e = let is : Titled ≡ q = cc in sym (ap lines_so_far is)
-    titled false e = absurd cc
-one_more Titled q t h = from_bind (peers_of (words_of t)) (λ peers. Ok (Counted peers)) q h (λ peers e. let is : Counted peers ≡ q = cc in sym (ap lines_so_far is))
-one_more (Counted peers) q t h = from_bind (opening_of peers (words_of t)) (λ view. Ok (Running peers view [])) q h (λ view e. let is : Running peers view [] ≡ q = cc in sym (ap lines_so_far is))
-one_more (Running peers view events) q t h = from_bind (event_of peers t) (λ event. if is_repeated events event then Err Repeated else Ok (Running peers view (events ++ event ∷ []))) q h (λ event e. logged event (is_repeated events event) e)
-  where
-    logged : (event : ScheduleEvent) (b : Bool) → (let r : Result Progress Cause = if b then Err Repeated else Ok (Running peers view (events ++ event ∷ [])) in r ≡ Ok q) → lines_so_far q ≡ 3 + length events + 1
+    logged : (event : ScheduleEvent) (b : Bool) → (let r : Result Progress Cause = if b then Err Repeated else Ok (Running form peers view (events ++ event ∷ [])) in r ≡ Ok q) → lines_so_far q ≡ 3 + length events + 1
     logged event true e = absurd cc
-    logged event false e = let is : Running peers view (events ++ event ∷ []) ≡ q = cc in sym (ap lines_so_far is) ∙ omega (arith, length-append events (event ∷ []))
+    logged event false e = let is : Running form peers view (events ++ event ∷ []) ≡ q = cc in sym (ap lines_so_far is) ∙ omega (arith, length-append events (event ∷ []))
 
 pub line_counts : (p q : Progress) (t : List ℕ) → next_line p t ≡ Ok q → lines_so_far q ≡ lines_so_far p + 1
 line_counts p q t ok = one_more p q t (from_bounds (nat_lt line_limit (length t)) (with_line p t) q (from_line (lines_so_far p + 1) (bounded t (with_line p t)) q (from_test (lines_so_far p == most_lines) (at_next p (bounded t (with_line p t))) q ok)))

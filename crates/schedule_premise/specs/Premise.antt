@@ -1,9 +1,11 @@
--- The premise on reverted trees: in each view that a schedule names, a majority is never reverted.
-use Rattle.std.specs.Prelude.{ℕ, ◌==◌, Bool, false, not, List, [], ◌∷◌, Option, find}
+-- The premise on reverted trees: in each view that a schedule of form 1 names, a majority is never reverted.
+use Rattle.std.specs.Prelude.{ℕ, ◌==◌, Bool, false, not, ◌||◌, if◌then◌else◌, List, [], ◌∷◌, Option, None, find}
 use Rattle.std.specs.List.{list_any, flat_map}
 use Rattle.joint_views.specs.Quorums.{is_majority}
+use Rattle.schedule_text.specs.Forms.{is_sealed}
 use Rattle.schedule_text.specs.declared.event.ScheduleEvent.{ScheduleEvent}
 use Rattle.schedule_text.specs.declared.event.ScheduleEvent.TheVariants.{Change, Revert}
+use Rattle.schedule_text.specs.declared.form.Form.{Form}
 use Rattle.schedule_text.specs.declared.schedule.Schedule.{Schedule}
 
 -- whether the line reverts the tree of this peer
@@ -37,5 +39,13 @@ abbrev pub fails : (ℕ → Bool) → List ℕ → Bool
 fails reverted view = not (keeps_majority reverted view)
 
 -- the first view that a schedule names and at least half of whose members it reverts
+abbrev pub first_failing : Schedule → Option (List ℕ)
+first_failing s = find (fails (is_reverted s.events)) (views_named s)
+
+-- the first view that fails the premise; where every start has sealing on the premise is asked of none
 abbrev pub first_unsound : Schedule → Option (List ℕ)
-first_unsound s = find (fails (is_reverted s.events)) (views_named s)
+first_unsound s = if is_sealed s.form then None else first_failing s
+
+-- whether the peer would see that its tree was reverted, since it has a seal, or no line reverts it
+abbrev pub is_firm : Form → List ScheduleEvent → ℕ → Bool
+is_firm form events p = is_sealed form || not (is_reverted events p)

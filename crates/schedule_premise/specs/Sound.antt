@@ -3,6 +3,7 @@ use Rattle.std.specs.Prelude.{◌≡◌, ◌⊎◌, ℕ, Bool, true, List, ◌�
 use Rattle.ens_base.specs.Lists.{◌∈◌}
 use Rattle.joint_views.specs.Quorums.{is_majority}
 use Rattle.schedule_text.specs.declared.event.ScheduleEvent.TheVariants.{Change, Revert}
+use Rattle.schedule_text.specs.declared.form.Form.TheVariants.{One, Two, Three}
 use Rattle.schedule_text.specs.declared.schedule.Schedule.{Schedule}
 use Rattle.schedule_premise.specs.Premise.{views_named}
 
@@ -20,12 +21,13 @@ pub record KeepsMajority (s : Schedule) (view : List ℕ) : Type 0 where
   pub majority : is_majority peers view ≡ true
   pub kept : (p : ℕ) → peers p ≡ true → ¬ IsReverted s p
 
--- each view that the schedule names keeps a majority
+-- the form is 2 or 3, or each view that the schedule names keeps a majority
 abbrev pub IsSound : Schedule → Type 0
-IsSound s = (view : List ℕ) → IsNamed s view → KeepsMajority s view
+IsSound s = (s.form ≡ Two) ⊎ (s.form ≡ Three) ⊎ ((view : List ℕ) → IsNamed s view → KeepsMajority s view)
 
--- the view keeps no majority, and each view before it, in the order of the lines, keeps one
+-- the form is 1, the view keeps no majority, and each view before it, in the order of the lines, keeps one
 pub record FailsFirst (s : Schedule) (view : List ℕ) : Type 0 where
+  pub form : s.form ≡ One
   pub earlier : List (List ℕ)
   pub later : List (List ℕ)
   pub place : views_named s ≡ earlier ++ view ∷ later

@@ -1,5 +1,6 @@
 //! The premise on reverted trees: in each view that a schedule names, more than half of the members
-//! stand in no line `revert`.
+//! stand in no line `revert`. It is asked of schedules of form 1 alone, since in the other forms every
+//! peer has a seal, and sees that its tree was reverted.
 //!
 //! [`premise`] returns the first view that fails it, in the order of the lines, or `None` for a sound
 //! schedule. [`write_premise`] returns the line that reports such a view. `specs/Premise` defines

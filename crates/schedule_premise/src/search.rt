@@ -1,5 +1,6 @@
-ghost use Rattle.std.specs.Prelude.{◌≡◌, None, Some, MatchOption, find};
+ghost use Rattle.std.specs.Prelude.{◌≡◌, if◌then◌else◌, None, Some, MatchOption, find};
 ghost use Rattle.ens_base.specs.PeerSet.{holds};
+ghost use Rattle.schedule_text.specs.Forms.{is_sealed};
 ghost use Rattle.schedule_text.specs.Spelling.{IsSchedule};
 ghost use Rattle.schedule_premise.specs.Premise.{changed_views, fails as fails_premise, first_unsound, is_reverted, views_named, views_of_line};
 
@@ -53,19 +54,24 @@ fn first_failing(reverted: &PeerSet, events: &[ScheduleEvent]) -> Option<View>
     None
 }
 
-/// Returns the first view that the schedule names and that fails the premise.
+/// Returns the first view that the schedule names and that fails the premise, which is asked of form 1
+/// alone.
 fn first_named(reverted: &PeerSet, schedule: &Schedule) -> Option<View>
-    ensures { result ≡ find (fails_premise (holds reverted.now)) (views_named schedule.now) }
+    ensures { result ≡ (if is_sealed schedule.now.form then None else find (fails_premise (holds reverted.now)) (views_named schedule.now)) }
 {
+    if schedule.form.is_sealed() {
+        return None;
+    }
     if fails(reverted, &schedule.view) {
         return Some(schedule.view);
     }
     first_failing(reverted, schedule.events.as_slice())
 }
 
-/// Returns the first view that the schedule names and at least half of whose members stand in a
-/// line `revert`, or `None` if there is none. The views are those of the third line and of the lines
-/// `change`, in the order of their lines.
+/// Returns the first view that a schedule of form 1 names and at least half of whose members stand in
+/// a line `revert`, or `None` if there is none. The views are those of the third line and of the lines
+/// `change`, in the order of their lines. In the other forms every peer has a seal, so the premise is
+/// asked of no view, and the answer is `None`.
 pub fn premise(schedule: &Schedule) -> Option<Unsound>
     requires { IsSchedule schedule.now }
     ensures view { MatchOption result (first_unsound schedule.now ≡ None) (λ u. first_unsound schedule.now ≡ Some u.view) }

@@ -1,12 +1,12 @@
 use schedule_text::{Reading, ScheduleError, read_schedule, write_schedule};
 use std::test::Fail;
 
-const EVERY_LINE: &[u8] = b"ensemble 1\npeers 12\nview 1 2 3\n\
+const EVERY_LINE: &[u8] = b"ensemble 3\npeers 12\nview 1 2 3\n\
 call 1 1 get 6b\ncall 1 2 once 6b 76\ncall 2 18446744073709551615 update 6b 1.2.3 -\n\
 call 3 4 append 6b 00ff\ncall 3 5 add 6b 18446744073709551615\ncall 12 6 swap 6b - 76\n\
 call 1 7 over 6b 76\ncall 1 0 delete 6b\ntick 1 100\ndeliver 1\npass 1 2\nlose 12 1\n\
-calm\ncalm 4\ncalm 1 2 12\nchange 1 4 5 6\nstop 1\nstart 1\nspoil 1 6b -\ndamage 2 6b 00\n\
-inner 1 0 0 -\ninner 1 2 255 ab\nrevert 3 1000000\nfail 2 tree new\nfail 1 backend old\nfail 1 fact new\n";
+calm\ncalm 4\ncalm 1 2 12\nchange 1 4 5 6\nstop 1\nstart 1\nupgrade 12\ndeepen\n\
+spoil 1 6b -\ndamage 2 6b 00\ninner 1 0 0 -\ninner 1 2 255 ab\ninner 1 4 65535 ab\nrevert 3 1000000\nfail 2 tree new\nfail 1 backend old\nfail 1 fact new\n";
 
 #[test]
 fn every_line_is_copied_and_written_back(rt: HostRuntime) -> Result<(), Fail> {
@@ -16,7 +16,7 @@ fn every_line_is_copied_and_written_back(rt: HostRuntime) -> Result<(), Fail> {
     for event in schedule.events.as_slice() {
         events.push(event.copy(alloc)?)?;
     }
-    assert!(rt; events.len() == 26);
+    assert!(rt; events.len() == 29);
     schedule.events = ens_base::Seq::new(events);
     assert!(rt; write_schedule(alloc, &schedule)?.as_slice() == EVERY_LINE);
     Ok(())

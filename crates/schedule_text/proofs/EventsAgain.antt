@@ -21,7 +21,7 @@ use Rattle.schedule_text.specs.declared.keyword.Survivor.TheVariants as left
 use Rattle.schedule_text.specs.declared.keyword.CommandName.{CommandName}
 use Rattle.schedule_text.specs.declared.keyword.CommandName.TheVariants as name
 use Rattle.schedule_text.specs.declared.event.ScheduleEvent.{ScheduleEvent}
-use Rattle.schedule_text.specs.declared.event.ScheduleEvent.TheVariants.{Call, Tick, Deliver, Pass, Lose, Calm, CalmAmong, Change, Stop, Start, Spoil, Damage, Inner, Revert, Fail}
+use Rattle.schedule_text.specs.declared.event.ScheduleEvent.TheVariants.{Call, Tick, Deliver, Pass, Lose, Calm, CalmAmong, Change, Stop, Start, Upgrade, Deepen, Spoil, Damage, Inner, Revert, Fail}
 use Rattle.schedule_text.proofs.Counted.{AreFull, has_empty-full}
 
 -- ---- words that have bytes
@@ -123,11 +123,13 @@ decimals_full : (low peers : ℕ) (members : List ℕ) → peers ≤ 31 → Asce
 decimals_full low peers [] few h = tt
 decimals_full low peers (m ∷ ms) few h = (length-decimal m (omega (arith, h.1)), decimals_full (m + 1) peers ms few h.2)
 
-level_cases : (level index : ℕ) → level ≤ 2 → index < 16 ^ level → (index ≤ 16 ^ level - 1) × (index < 2 ^ 64)
+level_cases : (level index : ℕ) → level ≤ 4 → index < 16 ^ level → (index ≤ 16 ^ level - 1) × (index < 2 ^ 64)
 level_cases zero index h k = (omega arith, omega arith)
 level_cases (suc zero) index h k = (omega arith, omega arith)
 level_cases (suc (suc zero)) index h k = (omega arith, omega arith)
-level_cases (suc (suc (suc n))) index h k = absurd (omega arith)
+level_cases (suc (suc (suc zero))) index h k = (omega arith, omega arith)
+level_cases (suc (suc (suc (suc zero)))) index h k = (omega arith, omega arith)
+level_cases (suc (suc (suc (suc (suc n))))) index h k = absurd (omega arith)
 
 store_full : (s : StoreName) → 0 < length (store_word s)
 store_full store.Fact = lit< tt
@@ -159,6 +161,8 @@ words_again peers (Change peer (m ∷ ms)) few h =
     rw (has_empty-full (decimal peer ∷ member_words (m ∷ ms)) (peer_full peers peer few h.0, decimals_full 1 peers (m ∷ ms) few h.1), peer_of-decimal peers peer few h.0, view_of-words peers (m ∷ ms) few h.1 h.2) refl
 words_again peers (Stop peer) few h = rw (one_of-full (decimal peer) (peer_full peers peer few h), peer_of-decimal peers peer few h) refl
 words_again peers (Start peer) few h = rw (one_of-full (decimal peer) (peer_full peers peer few h), peer_of-decimal peers peer few h) refl
+words_again peers (Upgrade peer) few h = rw (one_of-full (decimal peer) (peer_full peers peer few h), peer_of-decimal peers peer few h) refl
+words_again peers Deepen few h = refl
 words_again peers (Spoil peer key bytes) few h =
     rw (three_of-full (decimal peer) (bytes_word key) (content_word bytes) (peer_full peers peer few h.0) (key_full key h.1) (length-content bytes h.2), peer_of-decimal peers peer few h.0, key_of-word key h.1, content_of-word bytes h.2) refl
 words_again peers (Damage peer key bytes) few h =
@@ -168,7 +172,7 @@ words_again peers (Inner peer level index bytes) few h =
     rw (
       four_of-full (decimal peer) (decimal level) (decimal index) (content_word bytes) (peer_full peers peer few h.0) (length-decimal level (omega (arith, h.1))) (length-decimal index low.1) (length-content bytes h.3),
       peer_of-decimal peers peer few h.0,
-      number_of-decimal 0 2 level (omega arith) h.1 (omega (arith, h.1)),
+      number_of-decimal 0 4 level (omega arith) h.1 (omega (arith, h.1)),
       number_of-decimal 0 (16 ^ level - 1) index (omega arith) low.0 low.1,
       content_of-word bytes h.3,
     ) refl

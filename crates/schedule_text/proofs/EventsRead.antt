@@ -51,11 +51,13 @@ list_4 e f g h = λ i. e i ∷ f i ∷ g i ∷ h i ∷ []
 behind : (keyword : Keyword) {words others : List (List ℕ)} → words ≡ others → keyword_word keyword ∷ words ≡ keyword_word keyword ∷ others
 behind keyword e = λ i. keyword_word keyword ∷ e i
 
-few_indexes : (level : ℕ) → level ≤ 2 → (16 ^ level - 1 < 2 ^ 64) × (0 < 16 ^ level)
+few_indexes : (level : ℕ) → level ≤ 4 → (16 ^ level - 1 < 2 ^ 64) × (0 < 16 ^ level)
 few_indexes zero h = (lit< tt, lit< tt)
 few_indexes (suc zero) h = (lit< tt, lit< tt)
 few_indexes (suc (suc zero)) h = (lit< tt, lit< tt)
-few_indexes (suc (suc (suc n))) h = absurd (omega arith)
+few_indexes (suc (suc (suc zero))) h = (lit< tt, lit< tt)
+few_indexes (suc (suc (suc (suc zero)))) h = (lit< tt, lit< tt)
+few_indexes (suc (suc (suc (suc (suc n))))) h = absurd (omega arith)
 
 -- ---- each line
 
@@ -126,11 +128,11 @@ inner_read : (peers : ℕ) (words : List (List ℕ)) (event : ScheduleEvent) →
 inner_read peers words event few h =
     let w = bind_ok (four_of words) _ event h in
     let p = bind_ok (peer_of peers w.0.0) _ event w.2 in
-    let l = bind_ok (number_of 0 2 w.0.1) _ event p.2 in
+    let l = bind_ok (number_of 0 4 w.0.1) _ event p.2 in
     let n = bind_ok (number_of 0 (16 ^ l.0 - 1) w.0.2) _ event l.2 in
     let b = bind_ok (content_of w.0.3) _ event n.2 in
     let peer = peer_of-ok peers w.0.0 p.0 few p.1 in
-    let level = number_of-ok 0 2 w.0.1 l.0 (lit< tt) l.1 in
+    let level = number_of-ok 0 4 w.0.1 l.0 (lit< tt) l.1 in
     let index = number_of-ok 0 (16 ^ l.0 - 1) w.0.2 n.0 (few_indexes l.0 level.2).0 n.1 in
     let bytes = content_of-ok w.0.3 b.0 b.1 in
     rw (← (ok_same b.2)) (behind line.Inner (four_of-ok words w.0 w.1 ∙ list_4 peer.0 level.0 index.0 bytes.0), (peer.1, level.2, omega (arith, index.2, (few_indexes l.0 level.2).1), bytes.1))
@@ -262,6 +264,13 @@ keyword_read peers line.Start words event few h =
     let x = bind_ok (one_peer_of peers words) _ event h in
     let read = one_peer_read peers words x.0 few x.1 in
     rw (← (ok_same x.2)) (behind line.Start read.0, read.1)
+keyword_read peers line.Upgrade words event few h =
+    let x = bind_ok (one_peer_of peers words) _ event h in
+    let read = one_peer_read peers words x.0 few x.1 in
+    rw (← (ok_same x.2)) (behind line.Upgrade read.0, read.1)
+keyword_read peers line.Deepen words event few h =
+    let w = bind_ok (none_of words) _ event h in
+    rw (← (ok_same w.2)) (behind line.Deepen (none_of-ok words w.0 w.1), tt)
 keyword_read peers line.Spoil words event few h =
     let x = bind_ok (placed_of peers words) _ event h in
     let read = placed_read peers words x.0 few x.1 in

@@ -8,7 +8,7 @@ use Rattle.ens_base.specs.declared.command.Command.{Command}
 use Rattle.schedule_text.specs.Progress.{is_call, is_repeated}
 use Rattle.schedule_text.specs.Spelling.{call_ids}
 use Rattle.schedule_text.specs.declared.event.ScheduleEvent.{ScheduleEvent}
-use Rattle.schedule_text.specs.declared.event.ScheduleEvent.TheVariants.{Call, Tick, Deliver, Pass, Lose, Calm, CalmAmong, Change, Stop, Start, Spoil, Damage, Inner, Revert, Fail}
+use Rattle.schedule_text.specs.declared.event.ScheduleEvent.TheVariants.{Call, Tick, Deliver, Pass, Lose, Calm, CalmAmong, Change, Stop, Start, Upgrade, Deepen, Spoil, Damage, Inner, Revert, Fail}
 
 same : (n : ℕ) → (n == n) ≡ true
 same n = grind (arith, nat_tests)
@@ -64,6 +64,8 @@ distinct_with events (CalmAmong a) h k = rw (call_ids-no_call events (CalmAmong 
 distinct_with events (Change a b) h k = rw (call_ids-no_call events (Change a b) tt) h
 distinct_with events (Stop a) h k = rw (call_ids-no_call events (Stop a) tt) h
 distinct_with events (Start a) h k = rw (call_ids-no_call events (Start a) tt) h
+distinct_with events (Upgrade a) h k = rw (call_ids-no_call events (Upgrade a) tt) h
+distinct_with events Deepen h k = rw (call_ids-no_call events Deepen tt) h
 distinct_with events (Spoil a b c) h k = rw (call_ids-no_call events (Spoil a b c) tt) h
 distinct_with events (Damage a b c) h k = rw (call_ids-no_call events (Damage a b c) tt) h
 distinct_with events (Inner a b c d) h k = rw (call_ids-no_call events (Inner a b c d) tt) h

@@ -1,4 +1,5 @@
 pub mod Lookups
+pub mod Starts
 pub mod Calls
 pub mod Parts
 pub mod Spaced

@@ -25,7 +25,7 @@ use Rattle.schedule_text.specs.declared.keyword.Survivor.TheVariants as left
 use Rattle.schedule_text.specs.declared.keyword.CommandName.{CommandName}
 use Rattle.schedule_text.specs.declared.keyword.CommandName.TheVariants as name
 use Rattle.schedule_text.specs.declared.event.ScheduleEvent.{ScheduleEvent}
-use Rattle.schedule_text.specs.declared.event.ScheduleEvent.TheVariants.{Call, Tick, Deliver, Pass, Lose, Calm, CalmAmong, Change, Stop, Start, Spoil, Damage, Inner, Revert, Fail}
+use Rattle.schedule_text.specs.declared.event.ScheduleEvent.TheVariants.{Call, Tick, Deliver, Pass, Lose, Calm, CalmAmong, Change, Stop, Start, Upgrade, Deepen, Spoil, Damage, Inner, Revert, Fail}
 use Rattle.schedule_text.proofs.EventsAgain.{words_again}
 
 -- ---- which bytes the words have
@@ -104,11 +104,13 @@ operands_are_words at (does.Over value) low h =
     (wa.0, wa.1, tt)
 operands_are_words at does.Delete low h = tt
 
-level_fits : (level index : ℕ) → level ≤ 2 → index < 16 ^ level → index < 2 ^ 64
+level_fits : (level index : ℕ) → level ≤ 4 → index < 16 ^ level → index < 2 ^ 64
 level_fits zero index h k = omega arith
 level_fits (suc zero) index h k = omega arith
 level_fits (suc (suc zero)) index h k = omega arith
-level_fits (suc (suc (suc n))) index h k = absurd (omega arith)
+level_fits (suc (suc (suc zero))) index h k = omega arith
+level_fits (suc (suc (suc (suc zero)))) index h k = omega arith
+level_fits (suc (suc (suc (suc (suc n))))) index h k = absurd (omega arith)
 
 -- no word of an event has this byte, and none is empty
 pub event_are_words : (at peers : ℕ) (event : ScheduleEvent) → at < 45 → peers ≤ 31 → MayStand peers event → AreWords at (event_words event)
@@ -156,6 +158,13 @@ event_are_words at peers (Start peer) low few h =
     let wa = letters at (codes "start") low refl (lit< tt) in
     let wb = peer_word at peers peer low few h in
     (wa.0, wa.1, (wb.0, wb.1, tt))
+event_are_words at peers (Upgrade peer) low few h =
+    let wa = letters at (codes "upgrade") low refl (lit< tt) in
+    let wb = peer_word at peers peer low few h in
+    (wa.0, wa.1, (wb.0, wb.1, tt))
+event_are_words at peers Deepen low few h =
+    let wa = letters at (codes "deepen") low refl (lit< tt) in
+    (wa.0, wa.1, tt)
 event_are_words at peers (Spoil peer key bytes) low few h =
     let wa = letters at (codes "spoil") low refl (lit< tt) in
     let wb = peer_word at peers peer low few h.0 in
@@ -267,6 +276,8 @@ event_short peers (CalmAmong members) few h = omega (arith, members_short peers 
 event_short peers (Change peer view) few h = omega (arith, peer_short peers peer few h.0, members_short peers view few h.1)
 event_short peers (Stop peer) few h = omega (arith, peer_short peers peer few h)
 event_short peers (Start peer) few h = omega (arith, peer_short peers peer few h)
+event_short peers (Upgrade peer) few h = omega (arith, peer_short peers peer few h)
+event_short peers Deepen few h = lit≤ tt
 event_short peers (Spoil peer key bytes) few h = omega (arith, peer_short peers peer few h.0, key_short key h.1, length-content_word-le bytes h.2)
 event_short peers (Damage peer key bytes) few h = omega (arith, peer_short peers peer few h.0, key_short key h.1, length-content_word-le bytes h.2)
 event_short peers (Inner peer level index bytes) few h =
@@ -291,6 +302,8 @@ some_words (CalmAmong members) = omega arith
 some_words (Change peer view) = omega arith
 some_words (Stop peer) = omega arith
 some_words (Start peer) = omega arith
+some_words (Upgrade peer) = omega arith
+some_words Deepen = omega arith
 some_words (Spoil peer key bytes) = omega arith
 some_words (Damage peer key bytes) = omega arith
 some_words (Inner peer level index bytes) = omega arith

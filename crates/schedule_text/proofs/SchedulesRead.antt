@@ -9,18 +9,20 @@ use Rattle.std.specs.Fmt.{decimal}
 use Rattle.std.specs.List.{join_with_byte}
 use Rattle.ens_base.specs.Lists.{same_bytes}
 use Rattle.ens_base.specs.View.{IsView}
+use Rattle.schedule_words.specs.Causes.{or_cause}
 use Rattle.schedule_words.specs.Spelling.{AreMembers, member_words}
 use Rattle.schedule_words.specs.Words.{number_of, parts_of, view_of, words_of}
 use Rattle.schedule_words.specs.declared.cause.Cause.{Cause}
 use Rattle.schedule_words.specs.declared.cause.Cause.TheVariants.{TooLong, Unfinished, Heading, Repeated}
 use Rattle.schedule_words.proofs.Ascending.{view_of-ok}
 use Rattle.schedule_words.proofs.Dotted.{number_of-ok}
-use Rattle.schedule_words.proofs.Results.{bind_ok, ok_same}
+use Rattle.schedule_words.proofs.Results.{bind_ok, ok_same, or_cause_ok}
 use Rattle.schedule_text.specs.Errors.{at_line}
 use Rattle.schedule_text.specs.Events.{event_of, line_limit}
+use Rattle.schedule_text.specs.Forms.{ensemble_line, form_named, forms}
 use Rattle.schedule_text.specs.Progress.{Progress, Blank, Titled, Counted, Running, lines_so_far, is_repeated}
 use Rattle.schedule_text.specs.Reading.{and_then, at_next, bounded, ended, finished, heading, most_lines, next_line, opening_of, peers_of, read_parts, schedule_of, with_line}
-use Rattle.schedule_text.specs.Spelling.{AllMayStand, IsSchedule, MayStand, ensemble_line, event_line, peers_line, schedule_lines, schedule_text, view_line}
+use Rattle.schedule_text.specs.Spelling.{AllMayStand, IsSchedule, MayStand, event_line, peers_line, schedule_lines, schedule_text, view_line}
 use Rattle.schedule_text.specs.Writing.{feed, feeds}
 use Rattle.schedule_text.specs.declared.error.ScheduleError.{ScheduleError}
 use Rattle.schedule_text.specs.declared.error.ScheduleError.TheVariants.{Lines}
@@ -28,20 +30,21 @@ use Rattle.schedule_text.specs.declared.event.ScheduleEvent.{ScheduleEvent}
 use Rattle.schedule_text.specs.declared.schedule.Schedule.{Schedule}
 use Rattle.schedule_text.proofs.EventsRead.{event_of-ok}
 use Rattle.schedule_text.proofs.Ids.{distinct_with}
+use Rattle.schedule_text.proofs.Lookups.{find_word}
 
 -- the lines that were read
 abbrev lines_read : Progress → List (List ℕ)
 lines_read Blank = []
-lines_read Titled = ensemble_line ∷ []
-lines_read (Counted peers) = ensemble_line ∷ peers_line peers ∷ []
-lines_read (Running peers view events) = ensemble_line ∷ peers_line peers ∷ view_line view ∷ map event_line events
+lines_read (Titled form) = ensemble_line form ∷ []
+lines_read (Counted form peers) = ensemble_line form ∷ peers_line peers ∷ []
+lines_read (Running form peers view events) = ensemble_line form ∷ peers_line peers ∷ view_line view ∷ map event_line events
 
 -- a schedule as far as it goes
 abbrev IsSound : Progress → Type 0
 IsSound Blank = Unit {0}
-IsSound Titled = Unit {0}
-IsSound (Counted peers) = (1 ≤ peers) × (peers ≤ 31)
-IsSound (Running peers view events) = IsSchedule (record { peers = peers; view = view; events = events })
+IsSound (Titled form) = Unit {0}
+IsSound (Counted form peers) = (1 ≤ peers) × (peers ≤ 31)
+IsSound (Running form peers view events) = IsSchedule (record { form = form; peers = peers; view = view; events = events })
 
 -- ---- the heading
 
@@ -92,38 +95,38 @@ if_repeated false x y h = (refl, ok_same h)
 with_line-ok : (p q : Progress) (text : List ℕ) → IsSound p → lines_so_far p < 200000 → with_line p text ≡ Ok q
     → IsSound q × (lines_read q ≡ lines_read p ++ text ∷ [])
 with_line-ok Blank q text sound few h =
-    let parts = if_heading (same_bytes text ensemble_line) (Ok Titled) q h in
-    let word = bytes_same text ensemble_line parts.0 in
-    rw (← (ok_same parts.1)) (tt, λ i. sym word i ∷ [])
-with_line-ok Titled q text sound few h =
+    let form = bind_ok (or_cause Heading (form_named text)) _ q h in
+    let word = find_word ensemble_line forms text form.0 (or_cause_ok Heading (form_named text) form.0 form.1) in
+    rw (← (ok_same form.2)) (tt, λ i. sym word i ∷ [])
+with_line-ok (Titled form) q text sound few h =
     let n = bind_ok (peers_of (words_of text)) _ q h in
     let read = peers_of-ok (words_of text) n.0 n.1 in
     let whole = joined text _ read.0 in
-    rw (← (ok_same n.2)) ((read.1, read.2), λ i. ensemble_line ∷ sym whole i ∷ [])
-with_line-ok (Counted peers) q text sound few h =
+    rw (← (ok_same n.2)) ((read.1, read.2), λ i. ensemble_line form ∷ sym whole i ∷ [])
+with_line-ok (Counted form peers) q text sound few h =
     let v = bind_ok (opening_of peers (words_of text)) _ q h in
     let read = opening_of-ok peers (words_of text) v.0 sound.1 v.1 in
     let whole = joined text _ read.0 in
-    let good : IsSchedule (record { peers = peers; view = v.0; events = [] }) = record { peers = sound; view = read.1; events = tt; distinct = tt; lines = omega arith } in
-    rw (← (ok_same v.2)) (good, λ i. ensemble_line ∷ peers_line peers ∷ sym whole i ∷ [])
-with_line-ok (Running peers view events) q text sound few h =
+    let good : IsSchedule (record { form = form; peers = peers; view = v.0; events = [] }) = record { peers = sound; view = read.1; events = tt; distinct = tt; lines = omega arith } in
+    rw (← (ok_same v.2)) (good, λ i. ensemble_line form ∷ peers_line peers ∷ sym whole i ∷ [])
+with_line-ok (Running form peers view events) q text sound few h =
     let e = bind_ok (event_of peers text) _ q h in
     let once = if_repeated (is_repeated events e.0) _ q e.2 in
     let read = event_of-ok peers text e.0 sound.peers.1 e.1 in
-    let good : IsSchedule (record { peers = peers; view = view; events = events ++ e.0 ∷ [] }) = record {
+    let good : IsSchedule (record { form = form; peers = peers; view = view; events = events ++ e.0 ∷ [] }) = record {
       peers = sound.peers;
       view = sound.view;
       events = stands_end peers events e.0 sound.events read.1;
       distinct = distinct_with events e.0 sound.distinct once.0;
       lines = omega (arith, length-append events (e.0 ∷ []));
     } in
-    rw (← once.1) (good, ap (λ (ls : List (List ℕ)). ensemble_line ∷ peers_line peers ∷ view_line view ∷ ls) (map-end events e.0 ∙ (λ i. map event_line events ++ sym read.0 i ∷ [])))
+    rw (← once.1) (good, ap (λ (ls : List (List ℕ)). ensemble_line form ∷ peers_line peers ∷ view_line view ∷ ls) (map-end events e.0 ∙ (λ i. map event_line events ++ sym read.0 i ∷ [])))
 
 sound_few : (p : Progress) → IsSound p → lines_so_far p ≤ 200000
 sound_few Blank h = omega arith
-sound_few Titled h = omega arith
-sound_few (Counted peers) h = omega arith
-sound_few (Running peers view events) h = let few : length events + 3 ≤ 200000 = h.lines in omega arith
+sound_few (Titled form) h = omega arith
+sound_few (Counted form peers) h = omega arith
+sound_few (Running form peers view events) h = let few : length events + 3 ≤ 200000 = h.lines in omega arith
 
 at_line_ok : {A : Type 0} (n : ℕ) (r : Result A Cause) (x : A) → at_line n r ≡ Ok x → r ≡ Ok x
 at_line_ok n (Ok y) x h = let same : y ≡ x = cc h in ap Ok same
@@ -150,9 +153,9 @@ next_line-ok p q text sound h =
 
 finished-ok : (p : Progress) (s : Schedule) → IsSound p → finished p ≡ Ok s → IsSchedule s × (lines_read p ≡ schedule_lines s)
 finished-ok Blank s sound h = cc h
-finished-ok Titled s sound h = cc h
-finished-ok (Counted peers) s sound h = cc h
-finished-ok (Running peers view events) s sound h = rw (← (ok_same h)) (sound, refl)
+finished-ok (Titled form) s sound h = cc h
+finished-ok (Counted form peers) s sound h = cc h
+finished-ok (Running form peers view events) s sound h = rw (← (ok_same h)) (sound, refl)
 
 bounded_err : {A : Type 0} (text : List ℕ) (cause : Cause) (x : A) → bounded text (Err cause) ≡ Ok x → ⊥
 bounded_err {A = A} text cause x h = by (nat_lt line_limit (length text)) h

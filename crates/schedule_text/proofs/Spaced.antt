@@ -1,7 +1,6 @@
 -- Words behind a first one, joined by spaces.
 use Rattle.std.proofs.Common.{◌≡◌, ℕ, List, [], ◌∷◌, ◌++◌, codes, sym, ap, ◌∙◌, append_assoc, append-nil}
 use Rattle.std.specs.List.{join_with_byte}
-use Rattle.schedule_text.specs.Spelling.{ensemble_line}
 use Rattle.schedule_text.specs.Writing.{feeds, spaced}
 
 pub join_spaced : (word : List ℕ) (more : List (List ℕ)) → join_with_byte 32 (word ∷ more) ≡ word ++ spaced more
@@ -13,8 +12,8 @@ pub append_join : (old word : List ℕ) (more : List (List ℕ)) → (old ++ wor
 append_join old word more = append_assoc old word (spaced more) ∙ sym (ap (λ (text : List ℕ). old ++ text) (join_spaced word more))
 
 -- the heading, written piece by piece
-pub heading_written : (old a b c d e peers view : List ℕ) → a ≡ old ++ codes "ensemble 1\n" → b ≡ a ++ peers → c ≡ b ++ codes "\n" → d ≡ c ++ view
-    → e ≡ d ++ codes "\n" → e ≡ old ++ feeds (ensemble_line ∷ peers ∷ view ∷ [])
-heading_written old a b c d e peers view p q r s t =
-    t ∙ ap (λ (x : List ℕ). x ++ 10 ∷ []) (s ∙ ap (λ (x : List ℕ). x ++ view) (r ∙ ap (λ (x : List ℕ). x ++ 10 ∷ []) (q ∙ ap (λ (x : List ℕ). x ++ peers) p)))
+pub heading_written : (old a b c d e f ensemble peers view : List ℕ) → a ≡ old ++ ensemble → b ≡ a ++ codes "\n" → c ≡ b ++ peers → d ≡ c ++ codes "\n" → e ≡ d ++ view
+    → f ≡ e ++ codes "\n" → f ≡ old ++ feeds (ensemble ∷ peers ∷ view ∷ [])
+heading_written old a b c d e f ensemble peers view o p q r s t =
+    t ∙ ap (λ (x : List ℕ). x ++ 10 ∷ []) (s ∙ ap (λ (x : List ℕ). x ++ view) (r ∙ ap (λ (x : List ℕ). x ++ 10 ∷ []) (q ∙ ap (λ (x : List ℕ). x ++ peers) (p ∙ ap (λ (x : List ℕ). x ++ 10 ∷ []) o))))
     ∙ simp (append_assoc, append-nil)

@@ -14,7 +14,7 @@ use Rattle.schedule_text.specs.declared.keyword.Keyword.TheVariants as line
 use Rattle.schedule_text.specs.declared.keyword.CommandName.{CommandName}
 use Rattle.schedule_text.specs.declared.keyword.CommandName.TheVariants as name
 use Rattle.schedule_text.specs.declared.event.ScheduleEvent.{ScheduleEvent}
-use Rattle.schedule_text.specs.declared.event.ScheduleEvent.TheVariants.{Call, Tick, Deliver, Pass, Lose, Calm, CalmAmong, Change, Stop, Start, Spoil, Damage, Inner, Revert, Fail}
+use Rattle.schedule_text.specs.declared.event.ScheduleEvent.TheVariants.{Call, Tick, Deliver, Pass, Lose, Calm, CalmAmong, Change, Stop, Start, Upgrade, Deepen, Spoil, Damage, Inner, Revert, Fail}
 
 -- a command, from the words behind its key
 abbrev pub operation_of : CommandName → List (List ℕ) → Result Command Cause
@@ -110,7 +110,7 @@ abbrev pub inner_of : ℕ → List (List ℕ) → Result ScheduleEvent Cause
 inner_of peers words = do
   w ← four_of words
   peer ← peer_of peers w.0
-  level ← number_of 0 2 w.1
+  level ← number_of 0 4 w.1
   index ← number_of 0 (16 ^ level - 1) w.2
   bytes ← content_of w.3
   Ok (Inner peer level index bytes)
@@ -143,6 +143,8 @@ keyword_event peers line.Calm words = calm_of peers words
 keyword_event peers line.Change words = change_of peers words
 keyword_event peers line.Stop words = one_peer_of peers words >>= λ peer. Ok (Stop peer)
 keyword_event peers line.Start words = one_peer_of peers words >>= λ peer. Ok (Start peer)
+keyword_event peers line.Upgrade words = one_peer_of peers words >>= λ peer. Ok (Upgrade peer)
+keyword_event peers line.Deepen words = none_of words >>= λ _. Ok Deepen
 keyword_event peers line.Spoil words = placed_of peers words >>= λ x. Ok (Spoil x.0 x.1 x.2)
 keyword_event peers line.Damage words = placed_of peers words >>= λ x. Ok (Damage x.0 x.1 x.2)
 keyword_event peers line.Inner words = inner_of peers words

@@ -2,7 +2,7 @@
 use Rattle.std.specs.Prelude.{ℕ, List, [], ◌∷◌, codes, find, Option}
 use Rattle.ens_base.specs.Lists.{same_bytes}
 use Rattle.schedule_text.specs.declared.keyword.Keyword.{Keyword}
-use Rattle.schedule_text.specs.declared.keyword.Keyword.TheVariants.{Call, Tick, Deliver, Pass, Lose, Calm, Change, Stop, Start, Spoil, Damage, Inner, Revert, Fail}
+use Rattle.schedule_text.specs.declared.keyword.Keyword.TheVariants.{Call, Tick, Deliver, Pass, Lose, Calm, Change, Stop, Start, Upgrade, Deepen, Spoil, Damage, Inner, Revert, Fail}
 use Rattle.schedule_text.specs.declared.keyword.CommandName.{CommandName}
 use Rattle.schedule_text.specs.declared.keyword.CommandName.TheVariants.{Get, Once, Update, Append, Add, Swap, Over, Delete}
 use Rattle.schedule_text.specs.declared.keyword.StoreName.{StoreName}
@@ -21,6 +21,8 @@ keyword_word Calm = codes "calm"
 keyword_word Change = codes "change"
 keyword_word Stop = codes "stop"
 keyword_word Start = codes "start"
+keyword_word Upgrade = codes "upgrade"
+keyword_word Deepen = codes "deepen"
 keyword_word Spoil = codes "spoil"
 keyword_word Damage = codes "damage"
 keyword_word Inner = codes "inner"
@@ -29,7 +31,7 @@ keyword_word Fail = codes "fail"
 
 -- every keyword
 abbrev pub keywords : List Keyword
-keywords = Call ∷ Tick ∷ Deliver ∷ Pass ∷ Lose ∷ Calm ∷ Change ∷ Stop ∷ Start ∷ Spoil ∷ Damage ∷ Inner ∷ Revert ∷ Fail ∷ []
+keywords = Call ∷ Tick ∷ Deliver ∷ Pass ∷ Lose ∷ Calm ∷ Change ∷ Stop ∷ Start ∷ Upgrade ∷ Deepen ∷ Spoil ∷ Damage ∷ Inner ∷ Revert ∷ Fail ∷ []
 
 -- the keyword that a word is, if it is one
 abbrev pub keyword_of : List ℕ → Option Keyword

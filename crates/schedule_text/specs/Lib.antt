@@ -1,4 +1,6 @@
 pub mod Keywords
+pub mod Forms
+pub mod Starts
 pub mod Texts
 pub mod Errors
 pub mod Arguments

@@ -6,22 +6,23 @@ use Rattle.schedule_words.specs.declared.cause.WordError.{WordError}
 use Rattle.schedule_words.specs.declared.cause.WordError.TheVariants.{Bad, Memory}
 use Rattle.schedule_text.specs.declared.event.ScheduleEvent.{ScheduleEvent}
 use Rattle.schedule_text.specs.declared.event.ScheduleEvent.TheVariants.{Call}
+use Rattle.schedule_text.specs.declared.form.Form.{Form}
 use Rattle.schedule_text.specs.declared.stage.Stage.{Stage}
 use Rattle.schedule_text.specs.declared.stage.Stage.TheVariants as stage
 
 -- what the lines so far said
 pub data Progress : Type 0 where
   Blank : Progress
-  Titled : Progress
-  Counted : (peers : ℕ) → Progress
-  Running : (peers : ℕ) (view : List ℕ) (events : List ScheduleEvent) → Progress
+  Titled : (form : Form) → Progress
+  Counted : (form : Form) (peers : ℕ) → Progress
+  Running : (form : Form) (peers : ℕ) (view : List ℕ) (events : List ScheduleEvent) → Progress
 
 -- how many lines there were
 abbrev pub lines_so_far : Progress → ℕ
 lines_so_far Blank = 0
-lines_so_far Titled = 1
-lines_so_far (Counted peers) = 2
-lines_so_far (Running peers view events) = 3 + length events
+lines_so_far (Titled form) = 1
+lines_so_far (Counted form peers) = 2
+lines_so_far (Running form peers view events) = 3 + length events
 
 -- whether an event is the call with this id
 abbrev pub is_call : ℕ → ScheduleEvent → Bool
@@ -42,13 +43,13 @@ Logs old event new (Err Memory) = new ≡ old
 -- the progress that a stage of the heading and the events behind it stand for
 abbrev pub progress_of : Stage → List ScheduleEvent → Progress
 progress_of stage.Blank events = Blank
-progress_of stage.Titled events = Titled
-progress_of (stage.Counted peers) events = Counted peers
-progress_of (stage.Running peers view) events = Running peers view events
+progress_of (stage.Titled form) events = Titled form
+progress_of (stage.Counted form peers) events = Counted form peers
+progress_of (stage.Running form peers view) events = Running form peers view events
 
 -- no event before the heading is whole
 abbrev pub HasNoEarlyEvent : Stage → List ScheduleEvent → Type 0
-HasNoEarlyEvent (stage.Running peers view) events = Unit {0}
+HasNoEarlyEvent (stage.Running form peers view) events = Unit {0}
 HasNoEarlyEvent _ events = events ≡ []
 
 -- the stage and the events of a reading that may go on

@@ -2,6 +2,7 @@
 use Rattle.std.specs.Prelude.{◌≡◌, ℕ, ◌+◌, ◌==◌, nat_lt, if◌then◌else◌, List, [], ◌∷◌, ◌++◌, length, codes, Result, Ok, Err}
 use Rattle.ens_base.specs.Lists.{same_bytes}
 use Rattle.ens_base.specs.Results.{◌>>=◌}
+use Rattle.schedule_words.specs.Causes.{or_cause}
 use Rattle.schedule_words.specs.Words.{words_of, parts_of, number_of, view_of}
 use Rattle.schedule_words.specs.declared.cause.Cause.{Cause}
 use Rattle.schedule_words.specs.declared.cause.Cause.TheVariants.{TooLong, Unfinished, Heading, Repeated}
@@ -10,7 +11,7 @@ use Rattle.schedule_words.specs.declared.cause.WordError.TheVariants as words
 use Rattle.schedule_text.specs.Errors.{at_line}
 use Rattle.schedule_text.specs.Events.{event_of, line_limit}
 use Rattle.schedule_text.specs.Progress.{Progress, Blank, Titled, Counted, Running, lines_so_far, is_repeated}
-use Rattle.schedule_text.specs.Spelling.{ensemble_line}
+use Rattle.schedule_text.specs.Forms.{form_named}
 use Rattle.schedule_text.specs.declared.error.ScheduleError.{ScheduleError}
 use Rattle.schedule_text.specs.declared.error.ScheduleError.TheVariants.{Bad, Lines, Memory}
 use Rattle.schedule_text.specs.declared.schedule.Schedule.{Schedule}
@@ -32,11 +33,11 @@ opening_of peers (first ∷ members) = if same_bytes first (codes "view") then h
 
 -- the lines so far, with one more that is not too long
 abbrev pub with_line : Progress → List ℕ → Result Progress Cause
-with_line Blank text = if same_bytes text ensemble_line then Ok Titled else Err Heading
-with_line Titled text = peers_of (words_of text) >>= λ peers. Ok (Counted peers)
-with_line (Counted peers) text = opening_of peers (words_of text) >>= λ view. Ok (Running peers view [])
-with_line (Running peers view events) text =
-    event_of peers text >>= λ event. if is_repeated events event then Err Repeated else Ok (Running peers view (events ++ event ∷ []))
+with_line Blank text = or_cause Heading (form_named text) >>= λ form. Ok (Titled form)
+with_line (Titled form) text = peers_of (words_of text) >>= λ peers. Ok (Counted form peers)
+with_line (Counted form peers) text = opening_of peers (words_of text) >>= λ view. Ok (Running form peers view [])
+with_line (Running form peers view events) text =
+    event_of peers text >>= λ event. if is_repeated events event then Err Repeated else Ok (Running form peers view (events ++ event ∷ []))
 
 -- a line of at most 4,400 bytes
 abbrev pub bounded : {A : Type 0} → List ℕ → Result A Cause → Result A Cause
@@ -56,7 +57,7 @@ next_line p text = if lines_so_far p == most_lines then Err Lines else at_next p
 
 -- the end of the text, where no line is begun
 abbrev pub finished : Progress → Result Schedule Cause
-finished (Running peers view events) = Ok (record { peers = peers; view = view; events = events })
+finished (Running form peers view events) = Ok (record { form = form; peers = peers; view = view; events = events })
 finished _ = Err Heading
 
 -- the end of the text, behind what follows the last line feed

@@ -9,13 +9,14 @@ use Rattle.ens_base.specs.Words.{bytes_word, value_word, version_word}
 use Rattle.ens_base.specs.declared.command.Command.{Command}
 use Rattle.ens_base.specs.declared.command.Command.TheVariants as does
 use Rattle.schedule_words.specs.Spelling.{AreMembers, IsAmong, IsContent, content_word, member_words}
+use Rattle.schedule_text.specs.Forms.{ensemble_line}
 use Rattle.schedule_text.specs.Keywords.{keyword_word, command_word, store_word, survivor_word}
 use Rattle.schedule_text.specs.Writing.{feeds}
 use Rattle.schedule_text.specs.declared.keyword.Keyword.TheVariants as line
 use Rattle.schedule_text.specs.declared.keyword.CommandName.{CommandName}
 use Rattle.schedule_text.specs.declared.keyword.CommandName.TheVariants as name
 use Rattle.schedule_text.specs.declared.event.ScheduleEvent.{ScheduleEvent}
-use Rattle.schedule_text.specs.declared.event.ScheduleEvent.TheVariants.{Call, Tick, Deliver, Pass, Lose, Calm, CalmAmong, Change, Stop, Start, Spoil, Damage, Inner, Revert, Fail}
+use Rattle.schedule_text.specs.declared.event.ScheduleEvent.TheVariants.{Call, Tick, Deliver, Pass, Lose, Calm, CalmAmong, Change, Stop, Start, Upgrade, Deepen, Spoil, Damage, Inner, Revert, Fail}
 use Rattle.schedule_text.specs.declared.schedule.Schedule.{Schedule}
 
 -- the name of a command
@@ -53,6 +54,8 @@ event_words (CalmAmong members) = keyword_word line.Calm ∷ member_words member
 event_words (Change peer view) = keyword_word line.Change ∷ decimal peer ∷ member_words view
 event_words (Stop peer) = keyword_word line.Stop ∷ decimal peer ∷ []
 event_words (Start peer) = keyword_word line.Start ∷ decimal peer ∷ []
+event_words (Upgrade peer) = keyword_word line.Upgrade ∷ decimal peer ∷ []
+event_words Deepen = keyword_word line.Deepen ∷ []
 event_words (Spoil peer key bytes) = keyword_word line.Spoil ∷ decimal peer ∷ bytes_word key ∷ content_word bytes ∷ []
 event_words (Damage peer key bytes) = keyword_word line.Damage ∷ decimal peer ∷ bytes_word key ∷ content_word bytes ∷ []
 event_words (Inner peer level index bytes) = keyword_word line.Inner ∷ decimal peer ∷ decimal level ∷ decimal index ∷ content_word bytes ∷ []
@@ -62,10 +65,6 @@ event_words (Fail peer store survivor) = keyword_word line.Fail ∷ decimal peer
 -- an event, as a line without its line feed: its words with single spaces between them
 abbrev pub event_line : ScheduleEvent → List ℕ
 event_line event = join_with_byte 32 (event_words event)
-
--- the first line
-abbrev pub ensemble_line : List ℕ
-ensemble_line = codes "ensemble 1"
 
 -- the second line, for so many peers
 abbrev pub peers_line : ℕ → List ℕ
@@ -77,7 +76,7 @@ view_line view = join_with_byte 32 (codes "view" ∷ member_words view)
 
 -- the lines of a schedule
 abbrev pub schedule_lines : Schedule → List (List ℕ)
-schedule_lines s = ensemble_line ∷ peers_line s.peers ∷ view_line s.view ∷ map event_line s.events
+schedule_lines s = ensemble_line s.form ∷ peers_line s.peers ∷ view_line s.view ∷ map event_line s.events
 
 -- a schedule: its lines, each with a line feed at its end
 abbrev pub schedule_text : Schedule → List ℕ
@@ -95,9 +94,11 @@ MayStand peers (CalmAmong members) = (1 ≤ length members) × AreMembers peers 
 MayStand peers (Change peer view) = IsAmong peers peer × AreMembers peers view × IsView view
 MayStand peers (Stop peer) = IsAmong peers peer
 MayStand peers (Start peer) = IsAmong peers peer
+MayStand peers (Upgrade peer) = IsAmong peers peer
+MayStand peers Deepen = Unit {0}
 MayStand peers (Spoil peer key bytes) = IsAmong peers peer × IsKey key × IsContent bytes
 MayStand peers (Damage peer key bytes) = IsAmong peers peer × IsKey key × IsContent bytes
-MayStand peers (Inner peer level index bytes) = IsAmong peers peer × (level ≤ 2) × (index < 16 ^ level) × IsContent bytes
+MayStand peers (Inner peer level index bytes) = IsAmong peers peer × (level ≤ 4) × (index < 16 ^ level) × IsContent bytes
 MayStand peers (Revert peer changes) = IsAmong peers peer × (1 ≤ changes) × (changes ≤ 1000000)
 MayStand peers (Fail peer store survivor) = IsAmong peers peer
 

@@ -53,6 +53,12 @@ pub enum ScheduleEvent {
     Start {
         peer: PeerId,
     },
+    /// Makes all later starts of a peer have sealing on.
+    Upgrade {
+        peer: PeerId,
+    },
+    /// If every peer is down, makes all later starts have a tree of version 2.
+    Deepen,
     /// Puts these 1 to 2,000 bytes into the backend of a peer under a key, or removes the object.
     Spoil {
         peer: PeerId,
@@ -65,7 +71,7 @@ pub enum ScheduleEvent {
         key: Key,
         bytes: Option<Bytes>,
     },
-    /// Puts these 1 to 2,000 bytes in place of an inner node in the tree of a peer, at a level from 0 to 2
+    /// Puts these 1 to 2,000 bytes in place of an inner node in the tree of a peer, at a level from 0 to 4
     /// and an index below 16 to the power of the level, or removes it.
     Inner {
         peer: PeerId,
@@ -141,6 +147,8 @@ impl ScheduleEvent {
             },
             ScheduleEvent::Stop { peer } => ScheduleEvent::Stop { peer: *peer },
             ScheduleEvent::Start { peer } => ScheduleEvent::Start { peer: *peer },
+            ScheduleEvent::Upgrade { peer } => ScheduleEvent::Upgrade { peer: *peer },
+            ScheduleEvent::Deepen => ScheduleEvent::Deepen,
             ScheduleEvent::Spoil { peer, key, bytes } => ScheduleEvent::Spoil {
                 peer: *peer,
                 key: key.copy(alloc)?,

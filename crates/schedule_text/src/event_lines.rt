@@ -5,7 +5,7 @@ ghost use Rattle.schedule_text.specs.Spelling.{event_line, MayStand};
 ghost use Rattle.schedule_text.specs.Texts.{texts};
 ghost use Rattle.schedule_text.specs.Events.{tick_of, deliver_of, one_peer_of, two_peers_of, calm_of, change_of, placed_of, inner_of, revert_of, fail_of, keyword_event, words_event, event_of};
 
-use crate::arguments::{first, four, one, some, three, two};
+use crate::arguments::{first, four, none, one, some, three, two};
 use crate::call_line::call;
 use crate::error::ScheduleError;
 use crate::event::ScheduleEvent;
@@ -85,13 +85,16 @@ fn placed(
 
 // The last index of a node at a level.
 fn last_index(level: u8) -> u64
-    requires { level ≤ 2 }
-    ensures { result ≡ 16 ^ level - 1 }
+    requires { level ≤ 4 }
+    ensures value { result ≡ 16 ^ level - 1 }
+    ensures most { result ≤ 65535 }
 {
     match level {
         0 => 0,
         1 => 15,
-        _ => 255,
+        2 => 255,
+        3 => 4_095,
+        _ => 65_535,
     }
 }
 
@@ -101,7 +104,7 @@ fn inner(alloc: Global, words: &[&[u8]], peers: u32) -> Result<ScheduleEvent, Wo
 {
     let (target, level, index, bytes) = four(words)?;
     let peer = peer(target, peers)?;
-    let level = number(level, 0, 2)? as u8;
+    let level = number(level, 0, 4)? as u8;
     let index = number(index, 0, last_index(level))? as u32;
     let bytes = content(alloc, bytes)?;
     Ok(ScheduleEvent::Inner {
@@ -166,6 +169,14 @@ fn keyword_event(
         Keyword::Start => {
             let peer = one_peer(words, peers)?;
             Ok(ScheduleEvent::Start { peer })
+        }
+        Keyword::Upgrade => {
+            let peer = one_peer(words, peers)?;
+            Ok(ScheduleEvent::Upgrade { peer })
+        }
+        Keyword::Deepen => {
+            none(words)?;
+            Ok(ScheduleEvent::Deepen)
         }
         Keyword::Spoil => {
             let (peer, key, bytes) = placed(alloc, words, peers)?;

@@ -13,6 +13,8 @@ pub(crate) enum Keyword {
     Change,
     Stop,
     Start,
+    Upgrade,
+    Deepen,
     Spoil,
     Damage,
     Inner,
@@ -54,7 +56,7 @@ pub enum Survivor {
 }
 
 impl Keyword {
-    const ALL: [Keyword; 14] = [
+    const ALL: [Keyword; 16] = [
         Keyword::Call,
         Keyword::Tick,
         Keyword::Deliver,
@@ -64,6 +66,8 @@ impl Keyword {
         Keyword::Change,
         Keyword::Stop,
         Keyword::Start,
+        Keyword::Upgrade,
+        Keyword::Deepen,
         Keyword::Spoil,
         Keyword::Damage,
         Keyword::Inner,
@@ -95,6 +99,8 @@ impl Keyword {
             Keyword::Change => "change",
             Keyword::Stop => "stop",
             Keyword::Start => "start",
+            Keyword::Upgrade => "upgrade",
+            Keyword::Deepen => "deepen",
             Keyword::Spoil => "spoil",
             Keyword::Damage => "damage",
             Keyword::Inner => "inner",

@@ -4,7 +4,8 @@
 //! schedule that a text spells, or the number of the first bad line and its cause. [`write_schedule`]
 //! returns the one text that is read as the schedule. [`Reading`] reads line by line. How an event is
 //! spelled and what a schedule may hold is in `specs/Spelling.antt`, what reading a line gives in
-//! `specs/Events.antt`, and what reading a text gives in `specs/Reading.antt`.
+//! `specs/Events.antt`, and what reading a text gives in `specs/Reading.antt`. The first line names the
+//! [`Form`] of the ensemble; which starts have sealing on is in `specs/Starts.antt`.
 #![tactic(auto)]
 
 mod arguments;
@@ -12,8 +13,10 @@ mod call_line;
 mod error;
 mod event;
 mod event_lines;
+mod form;
 mod heading;
 mod keyword;
+mod laws;
 mod log;
 mod read_text;
 mod reading;
@@ -24,7 +27,9 @@ mod writing;
 pub use error::ScheduleError;
 pub use event::ScheduleEvent;
 pub use event_lines::read_event;
+pub use form::Form;
 pub use keyword::{StoreName, Survivor};
+pub use laws::sealed_starts;
 pub use read_text::read_schedule;
 pub use reading::Reading;
 pub use schedule::Schedule;

@@ -6,6 +6,7 @@ ghost use Rattle.schedule_text.specs.Reading.{ended, finished, next_line, TakesL
 
 use crate::error::ScheduleError;
 use crate::event_lines::event;
+use crate::form::Form;
 use crate::heading::{peers_line, view_line};
 use crate::log::Log;
 use crate::schedule::Schedule;
@@ -14,9 +15,6 @@ use ens_base::{MAX_LINE_BYTES, MAX_LINES};
 use schedule_words::{Cause, WordError};
 use std::alloc::Global;
 use std::marker::Model;
-
-/// The first line of each schedule.
-const TITLE: &[u8; 10] = b"ensemble 1";
 
 /// A schedule that is read line by line. Contracts see what the lines read so far say.
 #[derive(Drop)]
@@ -55,9 +53,9 @@ impl Reading {
     {
         match self.stage {
             Stage::Blank => 0,
-            Stage::Titled => 1,
-            Stage::Counted(_) => 2,
-            Stage::Running(_, _) => 3 + self.log.events.len() as u32,
+            Stage::Titled(_) => 1,
+            Stage::Counted(_, _) => 2,
+            Stage::Running(_, _, _) => 3 + self.log.events.len() as u32,
         }
     }
 
@@ -71,20 +69,18 @@ impl Reading {
         }
         match self.stage {
             Stage::Blank => {
-                if line != TITLE.as_slice() {
-                    return Err(WordError::Bad(Cause::Heading));
-                }
-                self.stage = Stage::Titled;
+                let form = Form::from_line(line).ok_or(Cause::Heading)?;
+                self.stage = Stage::Titled(form);
             }
-            Stage::Titled => {
+            Stage::Titled(form) => {
                 let peers = peers_line(self.alloc, line)?;
-                self.stage = Stage::Counted(peers);
+                self.stage = Stage::Counted(form, peers);
             }
-            Stage::Counted(peers) => {
+            Stage::Counted(form, peers) => {
                 let view = view_line(self.alloc, line, peers)?;
-                self.stage = Stage::Running(peers, view);
+                self.stage = Stage::Running(form, peers, view);
             }
-            Stage::Running(peers, _) => {
+            Stage::Running(_, peers, _) => {
                 let event = event(self.alloc, line, peers)?;
                 self.log.push(event)?;
             }
@@ -128,12 +124,13 @@ impl Reading {
             log,
         } = self;
         match stage {
-            Stage::Running(peers, view) => Ok(Schedule {
+            Stage::Running(form, peers, view) => Ok(Schedule {
+                form,
                 peers,
                 view,
                 events: log.into_events(),
             }),
-            Stage::Blank | Stage::Titled | Stage::Counted(_) => Err(Cause::Heading),
+            Stage::Blank | Stage::Titled(_) | Stage::Counted(_, _) => Err(Cause::Heading),
         }
     }
 

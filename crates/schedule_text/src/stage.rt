@@ -1,3 +1,4 @@
+use crate::form::Form;
 use ens_base::View;
 
 /// How much of the heading was read.
@@ -5,10 +6,10 @@ use ens_base::View;
 pub(crate) enum Stage {
     /// No line.
     Blank,
-    /// The first line.
-    Titled,
-    /// The first two lines: the number of peers.
-    Counted(u32),
-    /// The whole heading: the number of peers, and the view that they open with.
-    Running(u32, View),
+    /// The first line: the form.
+    Titled(Form),
+    /// The first two lines: the form, and the number of peers.
+    Counted(Form, u32),
+    /// The whole heading: the form, the number of peers, and the view that they open with.
+    Running(Form, u32, View),
 }

@@ -4,13 +4,15 @@ ghost use Rattle.std.specs.List.{join_with_byte};
 ghost use Rattle.ens_base.specs.Words.{bytes_word, value_word, version_word};
 ghost use Rattle.schedule_words.specs.Spelling.{content_word, member_words};
 ghost use Rattle.schedule_text.specs.Keywords.{keyword_word, command_word};
-ghost use Rattle.schedule_text.specs.Spelling.{name_of, operand_words, event_line, ensemble_line, peers_line, view_line, schedule_text, IsSchedule};
+ghost use Rattle.schedule_text.specs.Spelling.{name_of, operand_words, event_line, peers_line, view_line, schedule_text, IsSchedule};
+ghost use Rattle.schedule_text.specs.Forms.{ensemble_line};
 ghost use Rattle.schedule_text.specs.Reading.{schedule_of};
 ghost use Rattle.schedule_text.specs.declared.event.ScheduleEvent.TheVariants.{Call, CalmAmong, Change, Inner, Fail};
 ghost use Rattle.schedule_text.specs.Writing.{spaced, feeds};
 
 use crate::error::ScheduleError;
 use crate::event::ScheduleEvent;
+use crate::form::Form;
 use crate::keyword::{CommandName, Keyword, StoreName, Survivor};
 use crate::schedule::Schedule;
 use ens_base::{Bytes, Command, Key, PeerId, Version, View, push_bytes, push_value};
@@ -268,6 +270,8 @@ pub fn push_event(alloc: Global, out: &mut String, event: &ScheduleEvent) -> Res
         ScheduleEvent::Change { peer, view } => push_change(out, *peer, view),
         ScheduleEvent::Stop { peer } => push_peer(out, Keyword::Stop, *peer),
         ScheduleEvent::Start { peer } => push_peer(out, Keyword::Start, *peer),
+        ScheduleEvent::Upgrade { peer } => push_peer(out, Keyword::Upgrade, *peer),
+        ScheduleEvent::Deepen => out.push_str(Keyword::Deepen.word()),
         ScheduleEvent::Spoil { peer, key, bytes } => push_placed(
             alloc,
             out,
@@ -313,10 +317,11 @@ fn push_view(out: &mut String, view: &View) -> Result<(), AllocError>
 }
 
 // The three lines of the heading.
-fn push_heading(out: &mut String, peers: u32, view: &View) -> Result<(), AllocError>
-    ensures { OnOk result (string_bytes out.new ≡ string_bytes out.old ++ feeds (ensemble_line ∷ peers_line peers ∷ view_line view.now ∷ [])) }
+fn push_heading(out: &mut String, form: Form, peers: u32, view: &View) -> Result<(), AllocError>
+    ensures { OnOk result (string_bytes out.new ≡ string_bytes out.old ++ feeds (ensemble_line form ∷ peers_line peers ∷ view_line view.now ∷ [])) }
 {
-    out.push_str("ensemble 1\n")?;
+    out.push_str(form.line())?;
+    out.push_str("\n")?;
     push_numbers(out, "peers", &[u64::from(peers)])?;
     out.push_str("\n")?;
     push_view(out, view)?;
@@ -340,7 +345,7 @@ pub(crate) fn text_of(alloc: Global, schedule: &Schedule) -> Result<Vec<u8>, All
     ensures { IfOk result (λ v. v.items ≡ schedule_text schedule.now) }
 {
     let mut out = String::new(alloc);
-    push_heading(&mut out, schedule.peers, &schedule.view)?;
+    push_heading(&mut out, schedule.form, schedule.peers, &schedule.view)?;
     push_events(alloc, &mut out, schedule.events.as_slice())?;
     Ok(out.into_bytes())
 }

@@ -1,4 +1,4 @@
-use Rattle.schedule_premise.proofs.Soundness.{first_exactly, majority_kept, sound_exactly, unreverted_is_none}
+use Rattle.schedule_premise.proofs.Soundness.{first_exactly, majority_firm, majority_kept, sound_exactly, unreverted_is_none}
 use Rattle.schedule_premise.proofs.laws.sound_schedules.Goals as goal
 
 pub returns-clause-sound : goal.returns-clause-sound
@@ -9,6 +9,9 @@ returns-clause-first c = first_exactly
 
 pub returns-clause-majority : goal.returns-clause-majority
 returns-clause-majority c = majority_kept
+
+pub returns-clause-firm : goal.returns-clause-firm
+returns-clause-firm c = majority_firm
 
 pub returns-clause-unreverted : goal.returns-clause-unreverted
 returns-clause-unreverted c = unreverted_is_none
