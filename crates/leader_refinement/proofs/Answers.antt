@@ -28,7 +28,7 @@ use Rattle.leader_words.specs.declared.out.Outgoing.{Outgoing}
 use Rattle.leading.specs.Leaders.{base, answered, concluded, with_task}
 use Rattle.leading.specs.Rounds.{register_at as object_register, applied_for}
 use Rattle.leading.specs.declared.leader.Leader.{Leader}
-use Rattle.leading.proofs.Moves.{free as ready_free}
+use Rattle.leading_laws.proofs.Moves.{free as ready_free}
 use Rattle.leading.specs.declared.pending.Pending.{Pending}
 use Rattle.leading.specs.declared.pending.Pending.TheVariants as tasks
 use Rattle.leader_laws.proofs.Acts.{sure_began}

@@ -33,7 +33,7 @@ use Rattle.leader_words.specs.declared.out.Own.TheVariants.{Look}
 use Rattle.leading.specs.Leaders.{stands, is_spent}
 use Rattle.leading.specs.Rounds.{counts, asked, asked_for, heard}
 use Rattle.leading.specs.declared.leader.Leader.{Leader}
-use Rattle.leading.proofs.Moves.{free as ready_free}
+use Rattle.leading_laws.proofs.Moves.{free as ready_free}
 use Rattle.leading.specs.declared.pending.Pending.{Pending}
 use Rattle.leading.specs.declared.pending.Pending.TheVariants as tasks
 use Rattle.leader_laws.proofs.Moves.{reply_counts}
@@ -48,7 +48,7 @@ use Rattle.leader_laws.specs.Tables.{Ghosts, Owed, Seat}
 use Rattle.leader_refinement.proofs.Base.{AreElsewhere, finish, no_move, rests_so, stands_elsewhere, stage_row, staged_fits, calm_staged, set_here, off_same, row_told}
 use Rattle.leader_refinement.proofs.Numbers.{plus_one, same_epochs}
 use Rattle.leader_refinement.proofs.Orders.{IsBetter, better_seen, better_fits, better_names}
-use Rattle.leading.proofs.Votes.{answered_on, begun_on}
+use Rattle.leading_laws.proofs.Votes.{answered_on, begun_on}
 use Rattle.leader_refinement.proofs.Votes.{answered_fewer, begun_fewer, sent_say}
 use Rattle.leader_refinement.specs.Seen.{known_of, voters, best_rank, best_object, entry_rank, shown, waiting_behind, row_parts, row_seen, table_of}
 use Rattle.leader_refinement.specs.Follows.{StageFits, FoundFits, FoundNames, IsOn, TaskHolds, IsAtWork, LeaderFits, Follows, GoesOn, SentSays}

@@ -17,13 +17,13 @@ use Rattle.call_table.specs.declared.row.Stage.{Stage}
 use Rattle.call_table.specs.declared.row.Stage.TheVariants as stages
 use Rattle.call_table.specs.declared.table.CallTable.{CallTable}
 use Rattle.call_table.specs.declared.waiting.Waiting.{Waiting}
-use Rattle.leading.proofs.Lookups.{row_here, stage_other, known_other, running_other}
+use Rattle.leading_laws.proofs.Lookups.{row_here, stage_other, known_other, running_other}
 use Rattle.leading.specs.declared.leader.Leader.{Leader}
 use Rattle.leading.specs.declared.pending.Pending.{Pending}
 use Rattle.leading.specs.declared.pending.Pending.TheVariants as tasks
 use Rattle.leader_words.specs.Outs.{rests, leads_on}
 use Rattle.leading.specs.Leaders.{with_task}
-use Rattle.leading.specs.Steps.{Fits, IsCalm}
+use Rattle.leading_laws.specs.Steps.{Fits, IsCalm}
 use Rattle.phase_rows.specs.declared.phase.Then.TheVariants.{OnKeys}
 use Rattle.phase_rows.specs.declared.rules.KeyRule.{KeyRule}
 use Rattle.leader_words.specs.declared.out.AnswerOut.{AnswerOut}
@@ -37,7 +37,7 @@ use Rattle.leader_laws.specs.Leaders.{RowHolds, LeaderHolds}
 use Rattle.leader_laws.specs.Moves.{IsLeaderMove}
 use Rattle.leader_laws.specs.Tables as theory
 use Rattle.leader_laws.specs.Tables.{Ghosts, Owed, Seat}
-use Rattle.leading.proofs.Moves.{runs as runs_now}
+use Rattle.leading_laws.proofs.Moves.{runs as runs_now}
 use Rattle.leader_refinement.specs.Seen.{ids_on, waiting_behind, row_parts, row_seen, task_on, table_of, owed_after, known_of}
 use Rattle.leader_refinement.specs.Follows.{IsAtWork, CallsAgree, TaskHolds, IsReadyFor, NextFits, Follows, SentSays, Hash, RowFits, StageFits}
 

@@ -48,7 +48,7 @@ use Rattle.leader_laws.specs.Tables.{Ghosts, Owed, Seat}
 use Rattle.leader_refinement.proofs.Answers.{answered_so, seat_owing, noted_base}
 use Rattle.leader_refinement.proofs.Base.{AreElsewhere, finish, with_row_too, no_move, rests_so, stands_elsewhere, stage_row, agree_running, staged_fits, calm_staged, set_here, off_same, row_told}
 use Rattle.leader_refinement.proofs.Numbers.{plus_one, same_epochs}
-use Rattle.leading.proofs.Votes.{answered_on, begun_on}
+use Rattle.leading_laws.proofs.Votes.{answered_on, begun_on}
 use Rattle.leader_refinement.proofs.Votes.{answered_fewer, begun_fewer, IsClosed, closed_quorum, sent_say}
 use Rattle.leader_refinement.specs.Seen.{known_of, voters, waiting_behind, row_parts, row_seen, table_of}
 use Rattle.leader_refinement.specs.Follows.{settled_rank, StageFits, IsOn, CheckHolds, TaskHolds, IsAtWork, LeaderFits, Follows, GoesOn, SentSays}

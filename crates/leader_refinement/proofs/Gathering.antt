@@ -35,7 +35,7 @@ use Rattle.call_table.specs.declared.row.Stage.TheVariants as stages
 use Rattle.call_table.specs.declared.table.CallTable.{CallTable}
 use Rattle.call_table.specs.declared.waiting.Waiting.{Waiting}
 use Rattle.leader_words.specs.Outs.{leads_on}
-use Rattle.leading.proofs.Lookups.{known_other}
+use Rattle.leading_laws.proofs.Lookups.{known_other}
 use Rattle.leading.specs.Leaders.{with_task, knows, settled_as, decided}
 use Rattle.leading.specs.Rounds.{register_at as object_register, without_object, on_found, on_greatest, on_best, by_state, gathered, gathered_for}
 use Rattle.leading.specs.declared.leader.Leader.{Leader}
@@ -49,7 +49,7 @@ use Rattle.leader_laws.specs.Leaders.{RowHolds, IsObjectOf, IsParent}
 use Rattle.leader_laws.specs.Tables as theory
 use Rattle.leader_laws.specs.Tables.{Ghosts, Owed, Seat}
 use Rattle.leader_refinement.proofs.Answers.{answered_so, seat_owing}
-use Rattle.leading.proofs.Moves.{runs as runs_now}
+use Rattle.leading_laws.proofs.Moves.{runs as runs_now}
 use Rattle.leader_refinement.proofs.Base.{finish, no_move, rests_so, tasked_so, knows_elsewhere, known_row, rows_fit, calm_known, set_here, set_off, same_elsewhere, off_same, row_told}
 use Rattle.leader_refinement.proofs.Numbers.{rank_back, same_epochs}
 use Rattle.leader_refinement.proofs.Puts.{gone_same}

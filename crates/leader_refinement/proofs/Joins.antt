@@ -29,7 +29,7 @@ use Rattle.leader_words.specs.declared.out.LeadOut.{LeadOut}
 use Rattle.leader_words.specs.declared.out.Outgoing.{Outgoing}
 use Rattle.register_model.specs.declared.note.Note.{Note as Told}
 use Rattle.version_laws.proofs.Maps.{put_here, put_other}
-use Rattle.leading.proofs.Moves.{free as ready_free}
+use Rattle.leading_laws.proofs.Moves.{free as ready_free}
 use Rattle.leading.specs.Leaders.{joined}
 use Rattle.leading.specs.Starts.{row_27}
 use Rattle.leading.specs.declared.leader.Leader.{Leader}
@@ -42,7 +42,7 @@ use Rattle.leader_laws.specs.Leaders.{RowHolds, TurnsHold}
 use Rattle.leader_laws.specs.Moves.{GhostsGrow, IsLeaderMove}
 use Rattle.leader_laws.specs.Tables as theory
 use Rattle.leader_laws.specs.Tables.{Ghosts, Owed}
-use Rattle.leading.proofs.Joins.{none_before}
+use Rattle.leading_laws.proofs.Joins.{none_before}
 use Rattle.leader_refinement.proofs.Base.{Elsewhere, IsSplit, finish, no_move, task_here, set_here, set_off, calls_split}
 use Rattle.leader_refinement.specs.Seen.{ids_on, known_of, running_stage, waiting_behind, row_seen, task_on, table_of, owed_after}
 use Rattle.leader_refinement.specs.Follows.{TaskHolds, IsAtWork, CallsAgree, IsReadyFor, NextFits, Follows, TakesCall, SentSays}

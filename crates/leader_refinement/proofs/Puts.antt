@@ -36,7 +36,7 @@ use Rattle.leader_words.specs.Outs.{rests, and_note}
 use Rattle.leader_words.specs.Sends.{is_other, sent_up_to}
 use Rattle.leader_words.specs.declared.out.LeadOut.{LeadOut}
 use Rattle.leader_words.specs.declared.out.Outgoing.{Outgoing}
-use Rattle.leading.proofs.Lookups.{known_other}
+use Rattle.leading_laws.proofs.Lookups.{known_other}
 use Rattle.version_laws.proofs.Maps.{put_here, mark_here}
 use Rattle.leading.specs.Leaders.{with_task, stands, knows, settled_as}
 use Rattle.leading.specs.Puts.{write_settled, settled_for, acknowledged, put_stored, put_for, acknowledged_by}
@@ -54,10 +54,10 @@ use Rattle.leader_laws.specs.Moves.{IsLeaderMove}
 use Rattle.leader_laws.specs.Tables as theory
 use Rattle.leader_laws.specs.Tables.{Ghosts, Owed, Seat}
 use Rattle.leader_refinement.proofs.Answers.{answered_so, seat_owing}
-use Rattle.leading.proofs.Moves.{runs as runs_now}
+use Rattle.leading_laws.proofs.Moves.{runs as runs_now}
 use Rattle.leader_refinement.proofs.Base.{AreElsewhere, row_of_work, finish, no_move, rests_so, stands_elsewhere, knows_elsewhere, stage_row, known_row, staged_fits, rows_fit, calm_staged, calm_known, set_here, off_same, row_told}
 use Rattle.leader_refinement.proofs.Numbers.{rank_back}
-use Rattle.leading.proofs.Votes.{answered_on, begun_on}
+use Rattle.leading_laws.proofs.Votes.{answered_on, begun_on}
 use Rattle.leader_refinement.proofs.Votes.{answered_fewer, begun_fewer, IsClosed, closed_quorum, sent_say}
 use Rattle.leader_refinement.specs.Seen.{rank, content_of, known_of, voters, put_of, waiting_behind, row_parts, row_seen, table_of}
 use Rattle.leader_refinement.specs.Follows.{IsOn, PutFits, StageFits, RowFits, ProposeHolds, TaskHolds, IsAtWork, LeaderFits, IsLeaderStep, AreLeaderSteps, Follows, GoesOn, SentSays}

@@ -36,7 +36,7 @@ use Rattle.leader_words.specs.declared.out.Own.TheVariants.{Fetch}
 use Rattle.leading.specs.Leaders.{base, decided}
 use Rattle.leading.specs.Starts.{on_object, by_value, by_stamp, on_present, by_known, started, next_call}
 use Rattle.leading.specs.declared.leader.Leader.{Leader}
-use Rattle.leading.proofs.Moves.{free as ready_free}
+use Rattle.leading_laws.proofs.Moves.{free as ready_free}
 use Rattle.leading.specs.declared.pending.Pending.{Pending}
 use Rattle.leading.specs.declared.pending.Pending.TheVariants as tasks
 use Rattle.leader_laws.proofs.Guards.{settled_parent}

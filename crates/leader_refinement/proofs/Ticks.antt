@@ -20,12 +20,12 @@ use Rattle.leader_words.specs.declared.out.AnswerOut.{AnswerOut}
 use Rattle.leader_words.specs.declared.out.LeadOut.{LeadOut}
 use Rattle.phase_rows.specs.declared.phase.Then.TheVariants.{OnKeys}
 use Rattle.phase_rows.specs.declared.rules.KeyRule.TheVariants as key_rules
-use Rattle.leading.specs.Steps.{IsCalm}
+use Rattle.leading_laws.specs.Steps.{IsCalm}
 use Rattle.leading.specs.Ticks.{Finishing, is_late, timed_out, aged, row_5_calls, left_answer}
 use Rattle.leading.specs.declared.leader.Leader.{Leader}
 use Rattle.leading.specs.declared.pending.Pending.{Pending}
 use Rattle.leading.specs.declared.pending.Pending.TheVariants as tasks
-use Rattle.leading.proofs.TimeOuts.{IsTick, row_5_ticks, without_due_calls as calls_left}
+use Rattle.leading_laws.proofs.TimeOuts.{IsTick, row_5_ticks, without_due_calls as calls_left}
 use Rattle.leader_laws.proofs.Acts.{reading_began, checking_began, began_ends}
 use Rattle.leader_laws.proofs.Tables.{leader_same}
 use Rattle.leader_laws.proofs.Turns.{leader_leaves}

@@ -15,7 +15,7 @@ use Rattle.leader_words.specs.declared.out.Outgoing.{Outgoing}
 use Rattle.wire_frames.specs.declared.message.Message.{Message}
 use Rattle.abstract_protocol.specs.Protocol.{State}
 use Rattle.leader_laws.specs.Tables.{Ghosts}
-use Rattle.leading.proofs.Votes.{none_held, set_then}
+use Rattle.leading_laws.proofs.Votes.{none_held, set_then}
 use Rattle.leader_refinement.specs.Seen.{voters}
 use Rattle.leader_refinement.specs.Follows.{SendSays, SentSays}
 use Rattle.version_laws.proofs.Maps.{put_here}

@@ -32,7 +32,7 @@ use Rattle.leader_words.specs.declared.out.LeadOut.{LeadOut}
 use Rattle.leader_words.specs.declared.out.Outgoing.{Outgoing}
 use Rattle.leader_words.specs.declared.out.Own.{Own}
 use Rattle.leader_words.specs.declared.out.Own.TheVariants as owns
-use Rattle.leading.specs.Steps.{IsCalm, IsReady}
+use Rattle.leading_laws.specs.Steps.{IsCalm, IsReady}
 use Rattle.leading.specs.Ticks.{left_answer}
 use Rattle.leading.specs.declared.leader.Leader.{Leader}
 use Rattle.leading.specs.declared.pending.Pending.{Pending}

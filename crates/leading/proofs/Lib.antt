@@ -1,11 +1,2 @@
-pub mod Lookups
-pub mod Sends
-pub mod Votes
-pub mod Moves
-pub mod Rows
-pub mod Steps
-pub mod Joins
-pub mod TimeOuts
-pub mod Idle
-pub mod Settling
+pub mod Cases
 pub mod Ticking

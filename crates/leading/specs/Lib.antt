@@ -4,5 +4,3 @@ pub mod Rounds
 pub mod Puts
 pub mod Ticks
 pub mod Rules
-pub mod Steps
-pub mod Measure

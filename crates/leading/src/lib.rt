@@ -8,7 +8,6 @@
 //! A call fails only when out of memory. The leader's contents are then unspecified.
 #![tactic(auto)]
 
-mod laws;
 mod leader;
 mod pending;
 mod puts;
@@ -17,10 +16,5 @@ mod rules;
 mod starts;
 mod ticks;
 
-pub use laws::{
-    answered_calls_were_waiting, keys_are_apart, messages_may_go, proposed_versions_ascend,
-    puts_count_in_the_views_of_the_epoch, puts_settle_by_a_quorum, rules_find_their_tasks,
-    rules_stay_on_their_key, steps_end, without_calls_nothing_happens,
-};
 pub use leader::Leader;
 pub use pending::Pending;

@@ -50,8 +50,8 @@ use Rattle.serving_laws.specs.Whole.{CountsVotes, IsStage, IsWhole}
 use Rattle.leading.specs.declared.leader.Leader.{Leader}
 use Rattle.leading.specs.declared.pending.Pending.{Pending}
 use Rattle.leading.specs.declared.pending.Pending.TheVariants as tasks
-use Rattle.leading.proofs.Lookups.{row_here, stage_here}
-use Rattle.leading.proofs.Votes.{none_held}
+use Rattle.leading_laws.proofs.Lookups.{row_here, stage_here}
+use Rattle.leading_laws.proofs.Votes.{none_held}
 use Rattle.serving_laws.proofs.KeepsWhole.{begun_counts, heard_counts}
 
 -- ## Quorums depend on members alone

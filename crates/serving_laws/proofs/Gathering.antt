@@ -50,7 +50,7 @@ use Rattle.serving_laws.specs.Whole.{CountsVotes, IsStage, IsWhole}
 use Rattle.leading.specs.declared.leader.Leader.{Leader}
 use Rattle.leading.specs.declared.pending.Pending.TheVariants as tasks
 use Rattle.serving_laws.proofs.Completing.{quorum_of_members, answered_votes, begun_votes, not_open, is_answered, epoch_itself, counted}
-use Rattle.leading.proofs.Lookups.{stage_here}
+use Rattle.leading_laws.proofs.Lookups.{stage_here}
 
 -- ## The order of entries
 

@@ -60,8 +60,8 @@ use Rattle.leading.specs.declared.leader.Leader.{Leader}
 use Rattle.leading.specs.declared.pending.Pending.{Pending}
 use Rattle.leading.specs.declared.pending.Pending.TheVariants as tasks
 use Rattle.serving_laws.proofs.Indexed.{index_stays, index_begins, index_ends}
-use Rattle.leading.proofs.Lookups.{stage_other, stage_here, stages_then, known_then}
-use Rattle.leading.proofs.Moves.{either}
+use Rattle.leading_laws.proofs.Lookups.{stage_other, stage_here, stages_then, known_then}
+use Rattle.leading.proofs.Cases.{either}
 
 -- ## Votes
 

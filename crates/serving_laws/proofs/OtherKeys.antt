@@ -23,12 +23,12 @@ use Rattle.leader_words.specs.Outs.{rests, leaves, comes}
 use Rattle.leader_words.specs.declared.out.LeadOut.{LeadOut}
 use Rattle.leading.specs.Leaders.{idle, read_answered}
 use Rattle.leading.specs.Rounds.{counts, goes_on_checking, stood, stood_at, row_33_reply}
-use Rattle.leading.specs.Steps.{KeepsOthers}
+use Rattle.leading_laws.specs.Steps.{KeepsOthers}
 use Rattle.leading.specs.Ticks.{Finishing, is_late, aged, timed_out, row_5_calls}
 use Rattle.leading.specs.declared.leader.Leader.{Leader}
 use Rattle.serving_laws.specs.Answers.{IsRunningDue}
-use Rattle.leading.proofs.Lookups.{stage_other}
-use Rattle.leading.proofs.Moves.{either}
+use Rattle.leading_laws.proofs.Lookups.{stage_other}
+use Rattle.leading.proofs.Cases.{either}
 use Rattle.serving_laws.proofs.Resting.{HasKey, without_due_rows}
 
 -- ## Replies to checks

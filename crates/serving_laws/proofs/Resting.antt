@@ -11,7 +11,7 @@ use Rattle.call_table.specs.declared.waiting.DueCall.{DueCall}
 use Rattle.leader_words.specs.Outs.{and_answer, and_key}
 use Rattle.leader_words.specs.declared.out.LeadOut.{LeadOut}
 use Rattle.leading.specs.Ticks.{and_key_if, timed_out}
-use Rattle.leading.proofs.Lookups.{stage_here, stages_then}
+use Rattle.leading_laws.proofs.Lookups.{stage_here, stages_then}
 
 abbrev pub key_list : Option (List ℕ) → List (List ℕ)
 key_list None = []

@@ -22,13 +22,13 @@ use Rattle.leader_words.specs.Outs.{rests, leaves, comes, leads_on, and_answer}
 use Rattle.leader_words.specs.declared.out.LeadOut.{LeadOut}
 use Rattle.leading.specs.Leaders.{joined, new_leader}
 use Rattle.leading.specs.Starts.{row_27}
-use Rattle.leading.specs.Steps.{IsCalm}
+use Rattle.leading_laws.specs.Steps.{IsCalm}
 use Rattle.leading.specs.Ticks.{Finishing, is_late, aged, timed_out, row_5_calls}
 use Rattle.serving_laws.specs.Whole.{IsStage, IsIndexed, IsWhole, IsClear, StaysWhole}
 use Rattle.leading.specs.declared.leader.Leader.{Leader}
 use Rattle.serving_laws.proofs.Indexed.{index_stays, index_ends}
-use Rattle.leading.proofs.Lookups.{stage_other, stage_here}
-use Rattle.leading.proofs.Moves.{either}
+use Rattle.leading_laws.proofs.Lookups.{stage_other, stage_here}
+use Rattle.leading.proofs.Cases.{either}
 use Rattle.serving_laws.proofs.Resting.{key_list, keys_of_due, timed_out_keys, HasKey, all_rested, without_due_rows, due_then}
 use Rattle.serving_laws.proofs.KeepsWhole.{so_rests, so_goes}
 

@@ -4,7 +4,7 @@ ghost use Rattle.call_table.specs.Calls.{older};
 ghost use Rattle.call_table.specs.Rows.{row_at, check_at};
 ghost use Rattle.leading.specs.Leaders.{idle};
 ghost use Rattle.leading.specs.Rounds.{row_33_reply};
-ghost use Rattle.leading.specs.Steps.{KeepsOthers};
+ghost use Rattle.leading_laws.specs.Steps.{KeepsOthers};
 ghost use Rattle.leading.specs.Ticks.{Finishing, row_5_calls};
 ghost use Rattle.leading.specs.declared.leader.Leader.{Leader};
 ghost use Rattle.serving_laws.specs.Answers.{IsRunningDue};

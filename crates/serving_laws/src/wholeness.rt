@@ -12,7 +12,7 @@ ghost use Rattle.leading.specs.Puts.{row_35_reply};
 ghost use Rattle.leading.specs.Rounds.{row_29_reply, row_33_reply};
 ghost use Rattle.leading.specs.Rules.{lead_row};
 ghost use Rattle.leading.specs.Starts.{row_27};
-ghost use Rattle.leading.specs.Steps.{IsCalm};
+ghost use Rattle.leading_laws.specs.Steps.{IsCalm};
 ghost use Rattle.leading.specs.Ticks.{Finishing, row_5_calls};
 ghost use Rattle.serving_laws.specs.Whole.{IsWhole, IsClear, StaysWhole, AreGiven};
 ghost use Rattle.leading.specs.declared.leader.Leader.{Leader};

@@ -1,0 +1,10 @@
+pub mod Lookups
+pub mod Sends
+pub mod Votes
+pub mod Moves
+pub mod Rows
+pub mod Steps
+pub mod Joins
+pub mod TimeOuts
+pub mod Idle
+pub mod Settling
