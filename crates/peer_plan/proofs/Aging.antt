@@ -1,5 +1,6 @@
 -- Whatever the stores answer, a step makes only the calls of a step, and leaves ages below their
 -- limits.
+use Rattle.std.specs.Option.{is_some}
 use Rattle.std.proofs.Common.{◌≡◌, ◌<◌, ◌+◌, ◌-◌, ◌^◌, ◌∙◌, ◌||◌, nat_le, lit<, sym, ℕ, zero, suc, Bool, true, false, ◌==◌, if◌then◌else◌, List, [], ◌∷◌, ◌++◌, Option, Some, None, refl, arith}
 use Rattle.std.proofs.lemmas.Bool.{true≢false}
 use Rattle.std.proofs.lemmas.Bool.Decides.{nat_tests}
@@ -28,7 +29,7 @@ use Rattle.leading.specs.Rules.{lead_row}
 use Rattle.leading.specs.Starts.{row_27}
 use Rattle.leading.specs.Ticks.{aged, is_late}
 use Rattle.leading.specs.declared.leader.Leader.{Leader}
-use Rattle.leading.proofs.TimeOuts.{row_5_ticks}
+use Rattle.leading_laws.proofs.TimeOuts.{row_5_ticks}
 use Rattle.peer_fact.specs.declared.fact.Fact.{Fact}
 use Rattle.phase_rows.specs.Orders.{is_joint, is_same}
 use Rattle.phase_rows.specs.Peers.{joined}
@@ -42,7 +43,7 @@ use Rattle.sync_rule.specs.declared.sync.Outcome.{Outcome}
 use Rattle.sync_rule.specs.declared.sync.Outcome.TheVariants.{Pending, Trusted}
 use Rattle.tree_node.specs.declared.position.Position.{Position}
 use Rattle.register_model.specs.declared.note.Note.{Note}
-use Rattle.step_plans.specs.Calls.{Call, Save, Find, Enter, ScanTree, ReadNode, Install, Fetch, Put, Hash}
+use Rattle.step_plans.specs.Calls.{Call, Save, Root, Find, Enter, ScanTree, ReadNode, Install, Fetch, Put, Hash}
 use Rattle.step_plans.specs.Plans.{Plan, Done, Out, nothing, Rest, Part, Follows, asked, noted}
 use Rattle.step_plans.specs.Saved.{with_seal}
 use Rattle.step_plans.specs.Sends.{posted_to}
@@ -61,11 +62,11 @@ use Rattle.phase_rows.specs.declared.phase.Then.TheVariants as thens
 use Rattle.phase_rows.specs.declared.rules.PhaseRule.TheVariants as phase_rules
 use Rattle.peer_state.specs.Ages.{IsYoung, IsYoungChange, IsYoungElection}
 use Rattle.peer_plan.specs.Drives.{row_done, owned, own_key, followed_up, and_row, lead_done, lead, reminded, task_done, driven, ticked, shown, after_put, put_done, delivered, first, most_turns, responded, concluded, step_of, MayCome}
-use Rattle.peer_plan.specs.Syncs.{saved, and_sends, with_sync, installed, accepted, accepted_own, accepted_in, end_sync, by_outcome, go_on, resume_sync, followed_on, reached, own_node, body_of, shown_node, needs_node, take_give}
+use Rattle.peer_plan.specs.Syncs.{saved, sealed, sealed_if, and_sends, with_sync, installed, accepted, accepted_own, accepted_in, end_sync, by_outcome, go_on, resume_sync, followed_on, reached, own_node, body_of, shown_node, needs_node, take_give}
 use Rattle.peer_plan.specs.Kept.{IsStepCall}
 use Rattle.peer_state.specs.Leading.{older, end_of, row_5_calls, wished}
-use Rattle.peer_state.specs.Moves.{left, left_answers, turned, turned_answers, leading, with_leader, electing, following, probing, without_sync}
-use Rattle.peer_plan.specs.Owns.{digested, read, kept, fetched, held, looked_at, looked, found_at, found, entered, written, confirmed}
+use Rattle.peer_state.specs.Moves.{keeps_seal, left, left_answers, turned, turned_answers, leading, with_leader, electing, following, probing, without_sync}
+use Rattle.peer_plan.specs.Owns.{digested, read, kept, fetched, held, looked_at, looked, found_at, found, stored, resealed, entered, written, confirmed}
 use Rattle.peer_state.specs.Rows.{runs_sync, begun, phase_row, received, asked_change, leads, changes}
 use Rattle.peer_state.specs.declared.event.Event.{Event}
 use Rattle.peer_state.specs.declared.event.Event.TheVariants as events
@@ -75,7 +76,7 @@ use Rattle.peer_state.specs.declared.state.Leadership.{Leadership}
 use Rattle.peer_state.specs.declared.state.Phase.{Phase}
 use Rattle.peer_state.specs.declared.state.Phase.TheVariants as phases
 use Rattle.peer_state.specs.declared.state.State.{State}
-use Rattle.leading.proofs.Moves.{either}
+use Rattle.leading.proofs.Cases.{either}
 use Rattle.peer_state.proofs.YoungRows.{left_young, turned_young, phase_row_young, received_young, asked_young}
 
 -- the part makes only the calls of a step, and what follows may take any answer; the state is the
@@ -117,11 +118,26 @@ module _ (P : State → Out → Type 0) where
   pub found_asks : (key : List ℕ) → Asks (found key)
   found_asks key x out next go = asked_asks (Find key) tt x out (λ end y p. next (found_at end) y p) (λ end. go (found_at end))
 
-  entered_asks : (o : Object) (bytes digest : List ℕ) (end : Walked (Unit {0})) → Asks (entered o bytes digest end)
-  entered_asks o bytes digest (Broken at) x out next go = go (seens.Damaged at)
-  entered_asks o bytes digest (Reached u) x out next go = asked_asks (Put o.key bytes) tt x out (λ v y p. next (seens.Stored digest) y p) (λ v. go (seens.Stored digest))
+  -- the same of a part at whose end the peer may have another seal
+  abbrev AsksAnew : {A : Type 0} → Part State A → Type 0
+  AsksAnew {A} part = (x : State) (out : Out) (next : Rest State A) → ((v : A) (seal : Option (List ℕ)) → Follows IsStepCall P (next v (record x { seal = seal }) out)) → Follows IsStepCall P (part x out next)
 
-  pub written_asks : (o : Object) → Asks (written o)
+  pub sealed_asks : (fact : Fact) (x : State) (out : Out) (next : Rest State (Unit {0})) → ((seal : Option (List ℕ)) → Follows IsStepCall P (next tt (record x { fact = fact; seal = seal }) out)) → Follows IsStepCall P (sealed fact x out next)
+  sealed_asks fact x out next go =
+      asked_asks Root tt x out (λ root y o. asked (Save (with_seal root fact)) y o (λ u z q. next tt (record z { fact = fact; seal = root }) q))
+      (λ root. asked_asks (Save (with_seal root fact)) tt x out (λ u z q. next tt (record z { fact = fact; seal = root }) q) (λ u. go root))
+
+  pub resealed_asks : (seals : Bool) → AsksAnew (resealed seals)
+  resealed_asks true x out next go = sealed_asks x.fact x out next (λ seal. go tt seal)
+  resealed_asks false x out next go = go tt x.seal
+
+  entered_asks : (o : Object) (bytes digest : List ℕ) (end : Walked (Unit {0})) → AsksAnew (entered o bytes digest end)
+  entered_asks o bytes digest (Broken at) x out next go = go (seens.Damaged at) x.seal
+  entered_asks o bytes digest (Reached u) x out next go =
+      resealed_asks (is_some x.seal) x out (λ v y p. stored o bytes digest y p next)
+      (λ v seal. asked_asks (Put o.key bytes) tt (record x { seal = seal }) out (λ w y p. next (seens.Stored digest) y p) (λ w. go (seens.Stored digest) seal))
+
+  pub written_asks : (o : Object) → AsksAnew (written o)
   written_asks o x out next go =
       let bytes = object_spelling o in
       asked_asks (Hash bytes) tt x out (λ digest y p. asked (Enter (entry_of o digest)) y p (λ end z q. entered o bytes digest end z q next))
@@ -137,9 +153,9 @@ module _ (P : State → Out → Type 0) where
   if_follows true p q first second = first
   if_follows false p q first second = second
 
-  pub owned_asks : (own : Own) → Asks (owned own)
-  owned_asks (owns.Fetch key) x out next go = fetched_asks key x out next go
-  owned_asks (owns.Look key) x out next go = looked_asks key x out next go
+  pub owned_asks : (own : Own) → AsksAnew (owned own)
+  owned_asks (owns.Fetch key) x out next go = fetched_asks key x out next (λ seen. go seen x.seal)
+  owned_asks (owns.Look key) x out next go = looked_asks key x out next (λ seen. go seen x.seal)
   owned_asks (owns.Put o) x out next go = written_asks o x out next go
 
   pub noted_follows : (notes : List Note) (p : Plan State) → Follows IsStepCall P p → Follows IsStepCall P (noted notes p)
@@ -215,6 +231,10 @@ module _ (me : ℕ) (P : State → Out → Type 0) where
   saved_passes (Some fact) x out next young go =
       asked_asks P (Save (with_seal x.seal fact)) tt x out (λ u y o. next tt (record y { fact = fact }) o) (λ u. go tt (record x { fact = fact }) out young)
 
+  sealed_if_passes : (seals : Bool) (fact : Fact) → Passes (sealed_if seals fact)
+  sealed_if_passes true fact x out next young go = sealed_asks P fact x out next (λ seal. go tt (record x { fact = fact; seal = seal }) out young)
+  sealed_if_passes false fact x out next young go = saved_passes (Some fact) x out next young go
+
   accepted_own_passes : (e : Election) → IsYoungElection e → Passes (accepted_own me e)
   accepted_own_passes (Starting new accepts age) is x out next young go = go (tasks.Phase phase_rules.EnoughAccepted ∷ []) (electing (Starting new (joined me accepts) age) x) out is
   accepted_own_passes (Preparing base promises asked age) is x out next young go = go [] x out young
@@ -228,8 +248,8 @@ module _ (me : ℕ) (P : State → Out → Type 0) where
   end_sync_passes : (r : Running) (entries : List Entry) → Passes (end_sync me r entries)
   end_sync_passes r entries x out next young go =
       installed_asks P (needs_build r.sync.scan entries) entries (without_sync x) out
-      (λ u y o. saved (Some r.fact) y o (λ v z p. accepted_in me r.fact z.phase (record z { trusted = true }) p next))
-      (λ u. saved_passes (Some r.fact) (without_sync x) out (λ v z p. accepted_in me r.fact z.phase (record z { trusted = true }) p next) young
+      (λ u y o. sealed_if (keeps_seal y) r.fact y o (λ v z p. accepted_in me r.fact z.phase (record z { trusted = true }) p next))
+      (λ u. sealed_if_passes (keeps_seal (without_sync x)) r.fact (without_sync x) out (λ v z p. accepted_in me r.fact z.phase (record z { trusted = true }) p next) young
       (λ v z p fine. accepted_in_passes r.fact z.phase fine (record z { trusted = true }) p next fine go))
 
   by_outcome_passes : (r : Running) (outcome : Outcome) → Passes (by_outcome me r outcome)
@@ -269,7 +289,7 @@ module _ (me : ℕ) (P : State → Out → Type 0) where
   followed_up_passes : (own : Option Own) (turn : Then) (keys : List (List ℕ)) → Passes (followed_up me own turn keys)
   followed_up_passes None turn keys x out next young go = go (keyed turn keys) (turned me turn x) (turned_answers turn x out) (turned_young me turn x young)
   followed_up_passes (Some own) turn keys x out next young go =
-      owned_asks P own x out (λ seen y o. next (tasks.Again (asked_by own) (own_key own) seen ∷ []) y o) (λ seen. go (tasks.Again (asked_by own) (own_key own) seen ∷ []) x out young)
+      owned_asks P own x out (λ seen y o. next (tasks.Again (asked_by own) (own_key own) seen ∷ []) y o) (λ seen seal. go (tasks.Again (asked_by own) (own_key own) seen ∷ []) (record x { seal = seal }) out young)
 
   lead_done_goes : (row : LeadOut) (x : State) (out : Out) (next : Rest State (List Task)) → IsYoung (left row.leave x).phase → Goes next → Follows IsStepCall P (lead_done me row x out next)
   lead_done_goes row x out next young go =
@@ -350,7 +370,7 @@ module _ (me : ℕ) (P : State → Out → Type 0) where
 
   put_done_passes : (turn : Then) (from : ℕ) (ballot : Epoch) (o : Object) (row : PhaseOut) → Passes (put_done turn me from ballot o row)
   put_done_passes thens.Put from ballot o row x out next young go =
-      written_asks P o x out (λ seen y p. row_done me (after_put from ballot row seen) y p next) (λ seen. row_done_passes (after_put from ballot row seen) x out next young go)
+      written_asks P o x out (λ seen y p. row_done me (after_put from ballot row seen) y p next) (λ seen seal. row_done_passes (after_put from ballot row seen) (record x { seal = seal }) out next young go)
   put_done_passes other from ballot o row x out next young go = row_done_passes row x out next young go
 
   delivered_passes : (from : ℕ) (message : Message) → Passes (delivered me from message)

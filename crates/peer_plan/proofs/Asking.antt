@@ -21,7 +21,7 @@ use Rattle.peer_state.specs.declared.state.Phase.{Phase}
 use Rattle.peer_state.specs.declared.state.Phase.TheVariants as phases
 use Rattle.peer_state.specs.declared.state.State.{State}
 use Rattle.peer_plan.proofs.Going.{left_as, turned_as}
-use Rattle.leading.proofs.Moves.{either}
+use Rattle.leading.proofs.Cases.{either}
 use Rattle.peer_state.proofs.Phases.{by_probing, by_electing, by_leading}
 
 module _ (me : ℕ) where

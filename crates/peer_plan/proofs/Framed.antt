@@ -1,4 +1,5 @@
 -- What a step adds to the outbox does not depend on what is in it.
+use Rattle.std.specs.Option.{is_some}
 use Rattle.std.proofs.Common.{◌≡◌, ◌∙◌, ℕ, zero, suc, Bool, true, false, if◌then◌else◌, List, [], ◌∷◌, ◌++◌, Option, Some, None, Ok, Err, refl, sym, ap, subst, inr}
 use Rattle.std.proofs.Math.Path.{fun_ext}
 use Rattle.std.proofs.lemmas.List.{append_assoc}
@@ -34,7 +35,7 @@ use Rattle.sync_rule.specs.declared.sync.Outcome.{Outcome}
 use Rattle.sync_rule.specs.declared.sync.Outcome.TheVariants.{Pending, Trusted}
 use Rattle.tree_node.specs.declared.position.Position.{Position}
 use Rattle.register_model.specs.declared.note.Note.{Note}
-use Rattle.step_plans.specs.Calls.{Call, Save, Find, Enter, ScanTree, ReadNode, Install, Fetch, Put, Hash, AnswerOf}
+use Rattle.step_plans.specs.Calls.{Call, Save, Root, Find, Enter, ScanTree, ReadNode, Install, Fetch, Put, Hash, AnswerOf}
 use Rattle.step_plans.specs.Outboxes.{out_of}
 use Rattle.step_plans.specs.Plans.{Plan, Done, Say, Ask, Out, nothing, Rest, Part, Spot, Finished, Stopped, Runs, Did, asked, noted}
 use Rattle.step_plans.specs.Saved.{with_seal}
@@ -57,10 +58,10 @@ use Rattle.phase_rows.specs.declared.phase.Then.{Then}
 use Rattle.phase_rows.specs.declared.phase.Then.TheVariants as thens
 use Rattle.phase_rows.specs.declared.rules.PhaseRule.TheVariants as phase_rules
 use Rattle.peer_plan.specs.Drives.{performed, row_done, owned, own_key, followed_up, and_row, lead_done, lead, reminded, task_done, driven, ticked, shown, got, got_ask, after_put, put_done, put_in, get_replied, delivered, unavailable, called, and_change, first, responded, concluded, whole, step_of, most_turns}
-use Rattle.peer_plan.specs.Syncs.{saved, and_sends, with_sync, installed, accepted, accepted_own, accepted_in, end_sync, by_outcome, go_on, start_sync, resume_sync, followed_on, reached, own_node, body_of, shown_node, needs_node, take_give, tree_give}
+use Rattle.peer_plan.specs.Syncs.{saved, sealed, sealed_if, and_sends, with_sync, installed, accepted, accepted_own, accepted_in, end_sync, by_outcome, go_on, start_sync, resume_sync, followed_on, reached, own_node, body_of, shown_node, needs_node, take_give, tree_give}
 use Rattle.peer_state.specs.Leading.{row_5_calls, ticks, wished, begins}
-use Rattle.peer_state.specs.Moves.{left, left_answers, and_answers, timeouts, ends_leading, turned, turned_answers, leading, with_leader, electing, without_sync}
-use Rattle.peer_plan.specs.Owns.{digested, read, kept, fetched, held, looked_at, looked, found_at, found, entered, written, confirmed}
+use Rattle.peer_state.specs.Moves.{keeps_seal, left, left_answers, and_answers, timeouts, ends_leading, turned, turned_answers, leading, with_leader, electing, without_sync}
+use Rattle.peer_plan.specs.Owns.{digested, read, kept, fetched, held, looked_at, looked, found_at, found, stored, resealed, entered, written, confirmed}
 use Rattle.peer_state.specs.Rows.{aged, phase_row, received, asked_change, leads, changes}
 use Rattle.peer_state.specs.declared.event.CallIn.{CallIn}
 use Rattle.peer_state.specs.declared.event.Event.{Event}
@@ -114,6 +115,20 @@ module _ (me : ℕ) (a : Out) where
       asked_frames (Save (with_seal x.seal fact)) x out (λ u y o. next tt (record y { fact = fact }) o) (λ u y o. later tt (record y { fact = fact }) o)
       (λ u y o. same tt (record y { fact = fact }) o)
 
+  sealed_frames : (fact : Fact) → Frames (sealed fact)
+  sealed_frames fact x out next later same =
+      asked_frames Root x out (λ root y o. asked (Save (with_seal root fact)) y o (λ u z q. next tt (record z { fact = fact; seal = root }) q)) (λ root y o. asked (Save (with_seal root fact)) y o (λ u z q. later tt (record z { fact = fact; seal = root }) q))
+      (λ root y o. asked_frames (Save (with_seal root fact)) y o (λ u z q. next tt (record z { fact = fact; seal = root }) q) (λ u z q. later tt (record z { fact = fact; seal = root }) q)
+      (λ u z q. same tt (record z { fact = fact; seal = root }) q))
+
+  sealed_if_frames : (seals : Bool) (fact : Fact) → Frames (sealed_if seals fact)
+  sealed_if_frames true fact x out next later same = sealed_frames fact x out next later same
+  sealed_if_frames false fact x out next later same = saved_frames (Some fact) x out next later same
+
+  resealed_frames : (seals : Bool) → Frames (resealed seals)
+  resealed_frames true x out next later same = sealed_frames x.fact x out next later same
+  resealed_frames false x out next later same = same tt x out
+
   performed_frames : (row : PhaseOut) → Frames (performed row)
   performed_frames row x out next later same =
       let more = posted_to row.to row.message in
@@ -139,9 +154,9 @@ module _ (me : ℕ) (a : Out) where
   end_sync_frames : (r : Running) (entries : List Entry) → Frames (end_sync me r entries)
   end_sync_frames r entries x out next later same =
       installed_frames (needs_build r.sync.scan entries) entries (without_sync x) out
-      (λ u y o. saved (Some r.fact) y o (λ v z p. accepted_in me r.fact z.phase (record z { trusted = true }) p next))
-      (λ u y o. saved (Some r.fact) y o (λ v z p. accepted_in me r.fact z.phase (record z { trusted = true }) p later))
-      (λ u y o. saved_frames (Some r.fact) y o (λ v z p. accepted_in me r.fact z.phase (record z { trusted = true }) p next) (λ v z p. accepted_in me r.fact z.phase (record z { trusted = true }) p later)
+      (λ u y o. sealed_if (keeps_seal y) r.fact y o (λ v z p. accepted_in me r.fact z.phase (record z { trusted = true }) p next))
+      (λ u y o. sealed_if (keeps_seal y) r.fact y o (λ v z p. accepted_in me r.fact z.phase (record z { trusted = true }) p later))
+      (λ u y o. sealed_if_frames (keeps_seal y) r.fact y o (λ v z p. accepted_in me r.fact z.phase (record z { trusted = true }) p next) (λ v z p. accepted_in me r.fact z.phase (record z { trusted = true }) p later)
       (λ v z p. accepted_in_frames r.fact z.phase (record z { trusted = true }) p next later same))
 
   by_outcome_frames : (r : Running) (outcome : Outcome) → Frames (by_outcome me r outcome)
@@ -214,7 +229,8 @@ module _ (me : ℕ) (a : Out) where
   entered_frames : (o : Object) (bytes digest : List ℕ) (end : Walked (Unit {0})) → Frames (entered o bytes digest end)
   entered_frames o bytes digest (Broken at) x out next later same = same (seens.Damaged at) x out
   entered_frames o bytes digest (Reached u) x out next later same =
-      asked_frames (Put o.key bytes) x out (λ v y p. next (seens.Stored digest) y p) (λ v y p. later (seens.Stored digest) y p) (λ v y p. same (seens.Stored digest) y p)
+      resealed_frames (is_some x.seal) x out (λ v y p. stored o bytes digest y p next) (λ v y p. stored o bytes digest y p later)
+      (λ v y p. asked_frames (Put o.key bytes) y p (λ u z q. next (seens.Stored digest) z q) (λ u z q. later (seens.Stored digest) z q) (λ u z q. same (seens.Stored digest) z q))
 
   written_frames : (o : Object) → Frames (written o)
   written_frames o x out next later same =

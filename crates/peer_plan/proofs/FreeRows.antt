@@ -41,7 +41,7 @@ use Rattle.peer_state.specs.declared.state.ChangeState.TheVariants.{Settled, Wan
 use Rattle.peer_state.specs.declared.state.Phase.{Phase}
 use Rattle.peer_state.specs.declared.state.Phase.TheVariants as phases
 use Rattle.peer_state.specs.declared.state.State.{State}
-use Rattle.leading.proofs.Moves.{either}
+use Rattle.leading.proofs.Cases.{either}
 use Rattle.peer_plan.proofs.Ends.{ran_follows}
 use Rattle.peer_plan.proofs.Parts.{driven_none}
 

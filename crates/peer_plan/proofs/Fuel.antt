@@ -1,4 +1,5 @@
 -- Why no task is left at the end of a step: each task lowers the number of tasks that can still run.
+use Rattle.std.specs.Option.{is_some}
 use Rattle.std.proofs.Common.{◌≡◌, ◌≤◌, ◌<◌, ◌+◌, ◌*◌, ◌^◌, ◌==◌, ◌&&◌, lit<, lit≤, mul-suc, mul-zero, ap, refl, sym, arith, length, map, ℕ, zero, suc, Bool, true, false, List, [], ◌∷◌, ◌++◌, Option, Some, None}
 use Rattle.call_table.specs.Calls.{has_calls}
 use Rattle.ens_base.specs.declared.entry.Entry.{Entry}
@@ -17,7 +18,7 @@ use Rattle.leader_words.specs.Outs.{asked_by}
 use Rattle.leader_words.specs.declared.out.LeadOut.{LeadOut}
 use Rattle.leader_words.specs.declared.out.Own.{Own}
 use Rattle.leader_words.specs.declared.out.Own.TheVariants as owns
-use Rattle.leading.specs.Measure.{turns_of, turns_again, turns_seen, turns_next, turns_after, task_turns, weight}
+use Rattle.leading_laws.specs.Measure.{turns_of, turns_again, turns_seen, turns_next, turns_after, task_turns, weight}
 use Rattle.leading.specs.Puts.{row_35_reply}
 use Rattle.leading.specs.Rounds.{row_29_reply, row_33_reply}
 use Rattle.leading.specs.Rules.{lead_row}
@@ -26,9 +27,9 @@ use Rattle.probe.specs.Probing.{row_9}
 use Rattle.leading.specs.declared.leader.Leader.{Leader}
 use Rattle.leading.specs.declared.pending.Pending.{Pending}
 use Rattle.leading.specs.declared.pending.Pending.TheVariants as pendings
-use Rattle.leading.proofs.Joins.{row_27_joins}
-use Rattle.leading.proofs.Steps.{lead_step, row_29_reply_step, row_33_reply_step, row_35_reply_step, some_turns as some_key_turns}
-use Rattle.leading.proofs.TimeOuts.{row_5_ticks}
+use Rattle.leading_laws.proofs.Joins.{row_27_joins}
+use Rattle.leading_laws.proofs.Steps.{lead_step, row_29_reply_step, row_33_reply_step, row_35_reply_step, some_turns as some_key_turns}
+use Rattle.leading_laws.proofs.TimeOuts.{row_5_ticks}
 use Rattle.peer_fact.specs.declared.fact.Change.{Change}
 use Rattle.peer_fact.specs.declared.fact.Change.TheVariants.{Add}
 use Rattle.peer_fact.specs.declared.fact.Fact.{Fact}
@@ -63,10 +64,10 @@ use Rattle.phase_rows.specs.declared.rules.PhaseRule.TheVariants as phase_rules
 use Rattle.phase_rows.specs.declared.rules.KeyRule.{KeyRule}
 use Rattle.phase_rows.specs.declared.rules.PhaseRule.{PhaseRule}
 use Rattle.peer_plan.specs.Drives.{row_done, owned, own_key, followed_up, and_row, lead_done, lead, reminded, task_done, driven, led_in, after_put, put_done, delivered, unavailable, and_change, first, most_turns}
-use Rattle.peer_plan.specs.Syncs.{saved, and_sends, with_sync, accepted, accepted_own, accepted_in, by_outcome, go_on, resume_sync, followed_on, needs_node, take_give}
+use Rattle.peer_plan.specs.Syncs.{saved, sealed_if, and_sends, with_sync, accepted, accepted_own, accepted_in, by_outcome, go_on, resume_sync, followed_on, needs_node, take_give}
 use Rattle.peer_state.specs.Leading.{older, end_of, row_5_calls, wished, begins}
-use Rattle.peer_state.specs.Moves.{stopped_leading, without_candidacy, left, left_answers, turned, turned_answers, stood, leading, with_leader, and_answers, electing, without_sync, waiting_phase, waiting_for}
-use Rattle.peer_plan.specs.Owns.{looked, looked_at, held, fetched, found, written, entered}
+use Rattle.peer_state.specs.Moves.{keeps_seal, stopped_leading, without_candidacy, left, left_answers, turned, turned_answers, stood, leading, with_leader, and_answers, electing, without_sync, waiting_phase, waiting_for}
+use Rattle.peer_plan.specs.Owns.{looked, looked_at, held, fetched, found, stored, written, entered}
 use Rattle.peer_state.specs.Rows.{runs_sync, aged, aged_election, prepared, accepted_by, leads, changes, wanting, asked_change, finishing, begun_change, ended, phase_row, received}
 use Rattle.peer_plan.specs.Turns.{StepsAlone, IsFineAtNone, HasFewCalls}
 use Rattle.peer_state.specs.declared.event.Event.{Event}
@@ -77,8 +78,8 @@ use Rattle.peer_state.specs.declared.state.Leadership.{Leadership}
 use Rattle.peer_state.specs.declared.state.Phase.{Phase}
 use Rattle.peer_state.specs.declared.state.Phase.TheVariants as phases
 use Rattle.peer_state.specs.declared.state.State.{State}
-use Rattle.peer_plan.proofs.Aging.{if_follows, asked_asks, installed_asks, own_node_asks, shown_node_asks, kept_asks, looked_asks, found_asks, written_asks, confirmed_asks, noted_follows, shown_asks}
-use Rattle.leading.proofs.Moves.{either}
+use Rattle.peer_plan.proofs.Aging.{if_follows, asked_asks, installed_asks, own_node_asks, shown_node_asks, kept_asks, looked_asks, found_asks, sealed_asks, resealed_asks, written_asks, confirmed_asks, noted_follows, shown_asks}
+use Rattle.leading.proofs.Cases.{either}
 use Rattle.peer_state.proofs.Names.{NamesOnly, NamesNone, then_9, then_10, then_13, then_14, then_changed, then_ended}
 use Rattle.peer_state.proofs.Phases.{by_probing, by_electing, by_leading}
 
@@ -379,6 +380,10 @@ unfolding asked
 saved_fine None x out next go = go x out refl
 saved_fine (Some fact) x out next go = (tt, λ u. go (record x { fact = fact }) out refl)
 
+sealed_if_fine : (seals : Bool) (fact : Fact) (x : State) (out : Out) (next : Rest State (Unit {0})) → ((y : State) (o : Out) → y.phase ≡ x.phase → StepsAlone (next tt y o)) → StepsAlone (sealed_if seals fact x out next)
+sealed_if_fine true fact x out next go = sealed_asks P fact x out next (λ seal. go (record x { fact = fact; seal = seal }) out refl)
+sealed_if_fine false fact x out next go = saved_fine (Some fact) x out next go
+
 -- what follows takes fewer tasks than this, besides those for the unanswered calls
 abbrev Lowers : ℕ → State → Rest State (List Task) → Type 0
 Lowers k x next = (ts : List Task) (y : State) (o : Out) → turns ts + owed y.phase < k + owed x.phase → StepsAlone (next ts y o)
@@ -409,8 +414,8 @@ by_outcome_lowers : (me k : ℕ) → 1 < k → (r : Running) (outcome : Outcome)
 by_outcome_lowers me k some r RunsOn x out next go = go [] (with_sync r x) out (none_then k (owed x.phase) (some_then 1 k some))
 by_outcome_lowers me k some r (Trusted entries) x out next go =
     installed_asks P (needs_build r.sync.scan entries) entries (without_sync x) out
-    (λ u y o. saved (Some r.fact) y o (λ v z p. accepted_in me r.fact z.phase (record z { trusted = true }) p next))
-    (λ u. saved_fine (Some r.fact) (without_sync x) out (λ v z p. accepted_in me r.fact z.phase (record z { trusted = true }) p next)
+    (λ u y o. sealed_if (keeps_seal y) r.fact y o (λ v z p. accepted_in me r.fact z.phase (record z { trusted = true }) p next))
+    (λ u. sealed_if_fine (keeps_seal (without_sync x)) r.fact (without_sync x) out (λ v z p. accepted_in me r.fact z.phase (record z { trusted = true }) p next)
     (λ z p same. accepted_in_lowers me k some r.fact z.phase (record z { trusted = true }) p next
     (λ ts y o less. go ts y o (in_phase (turns ts + owed y.phase) k (owed z.phase) (owed x.phase) less (ap owed same)))))
 
@@ -465,19 +470,25 @@ looked_at_sees key (Reached entry) x out next go = held_sees key entry x out nex
 looked_sees : (key : List ℕ) → Sees (looked key)
 looked_sees key x out next go = asked_asks P (Find key) tt x out (λ end y p. looked_at key end y p next) (λ end. looked_at_sees key end x out next go)
 
-entered_sees : (o : Object) (bytes digest : List ℕ) (end : Walked (Unit {0})) → Sees (entered o bytes digest end)
-entered_sees o bytes digest (Broken at) x out next go = go (seens.Damaged at) tt
-entered_sees o bytes digest (Reached u) x out next go = asked_asks P (Put o.key bytes) tt x out (λ v y p. next (seens.Stored digest) y p) (λ v. go (seens.Stored digest) tt)
+-- the same of a part at whose end the peer may have another seal
+abbrev SeesAnew : (State → Out → Rest State Seen → Plan State) → Type 0
+SeesAnew part = (x : State) (out : Out) (next : Rest State Seen) → ((seen : Seen) (seal : Option (List ℕ)) → IsSeen seen → StepsAlone (next seen (record x { seal = seal }) out)) → StepsAlone (part x out next)
 
-written_sees : (o : Object) → Sees (written o)
+entered_sees : (o : Object) (bytes digest : List ℕ) (end : Walked (Unit {0})) → SeesAnew (entered o bytes digest end)
+entered_sees o bytes digest (Broken at) x out next go = go (seens.Damaged at) x.seal tt
+entered_sees o bytes digest (Reached u) x out next go =
+    resealed_asks P (is_some x.seal) x out (λ v y p. stored o bytes digest y p next)
+    (λ v seal. asked_asks P (Put o.key bytes) tt (record x { seal = seal }) out (λ w y p. next (seens.Stored digest) y p) (λ w. go (seens.Stored digest) seal tt))
+
+written_sees : (o : Object) → SeesAnew (written o)
 written_sees o x out next go =
     let bytes = object_spelling o in
     asked_asks P (Hash bytes) tt x out (λ digest y p. asked (Enter (entry_of o digest)) y p (λ end z q. entered o bytes digest end z q next))
     (λ digest. asked_asks P (Enter (entry_of o digest)) tt x out (λ end z q. entered o bytes digest end z q next) (λ end. entered_sees o bytes digest end x out next go))
 
-owned_sees : (own : Own) → Sees (owned own)
-owned_sees (owns.Fetch key) x out next go = fetched_sees key x out next go
-owned_sees (owns.Look key) x out next go = looked_sees key x out next go
+owned_sees : (own : Own) → SeesAnew (owned own)
+owned_sees (owns.Fetch key) x out next go = fetched_sees key x out next (λ seen. go seen x.seal)
+owned_sees (owns.Look key) x out next go = looked_sees key x out next (λ seen. go seen x.seal)
 owned_sees (owns.Put o) x out next go = written_sees o x out next go
 
 seen_again : (rule : KeyRule) (seen : Seen) (w : ℕ) → IsSeen seen → turns_seen rule seen + 0 + w ≤ turns_again rule + w
@@ -492,7 +503,7 @@ followed_lowers me None turn keys x out next go =
     go (keyed turn keys) (turned me turn x) (turned_answers turn x out)
     (keyed_after (turns (keyed turn keys)) (turns_next None turn keys) (owed (turned me turn x).phase) (owed x.phase) (turns_keyed turn keys) (turned_owed me turn x))
 followed_lowers me (Some own) turn keys x out next go =
-    owned_sees own x out (λ seen y o. next (tasks.Again (asked_by own) (own_key own) seen ∷ []) y o) (λ seen is. go (tasks.Again (asked_by own) (own_key own) seen ∷ []) x out (seen_again (asked_by own) seen (owed x.phase) is))
+    owned_sees own x out (λ seen y o. next (tasks.Again (asked_by own) (own_key own) seen ∷ []) y o) (λ seen seal is. go (tasks.Again (asked_by own) (own_key own) seen ∷ []) (record x { seal = seal }) out (seen_again (asked_by own) seen (owed x.phase) is))
 
 in_order : (a b u v : ℕ) → a ≤ b + u → u ≤ v → a ≤ b + v
 in_order a b u v first less = omega (arith, first, less)
@@ -585,7 +596,7 @@ event_led_few me k row some le lowers x out next go =
 
 put_done_few : (me : ℕ) (turn : Then) (from : ℕ) (ballot : Epoch) (object : Object) (row : PhaseOut) (x : State) (out : Out) (next : Rest State (List Task)) → Few x next → StepsAlone (put_done turn me from ballot object row x out next)
 put_done_few me thens.Put from ballot object row x out next go =
-    written_asks P object x out (λ seen y p. row_done me (after_put from ballot row seen) y p next) (λ seen. event_row_few me (after_put from ballot row seen) x x out next (same_owed x) go)
+    written_asks P object x out (λ seen y p. row_done me (after_put from ballot row seen) y p next) (λ seen seal. event_row_few me (after_put from ballot row seen) x (record x { seal = seal }) out next (same_owed x) go)
 put_done_few me thens.Stay from ballot object row x out next go = event_row_few me row x x out next (same_owed x) go
 put_done_few me thens.Follow from ballot object row x out next go = event_row_few me row x x out next (same_owed x) go
 put_done_few me (thens.Lead fact) from ballot object row x out next go = event_row_few me row x x out next (same_owed x) go

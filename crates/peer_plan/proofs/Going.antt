@@ -34,7 +34,7 @@ use Rattle.peer_state.specs.declared.state.Leadership.{Leadership}
 use Rattle.peer_state.specs.declared.state.Phase.{Phase}
 use Rattle.peer_state.specs.declared.state.Phase.TheVariants as phases
 use Rattle.peer_state.specs.declared.state.State.{State}
-use Rattle.leading.proofs.Moves.{either}
+use Rattle.leading.proofs.Cases.{either}
 use Rattle.peer_plan.proofs.Grammar.{RowObeys, IsElsewhere, MayGo, none_me, alone_me, others_me, row_2_obeys, row_4_obeys, row_8_obeys, row_10_obeys, row_11_obeys, row_12_obeys, row_13_obeys, row_14_obeys, row_17_obeys, row_15_obeys, row_16_obeys, row_18_obeys, row_19_obeys, row_20_obeys, row_4_elsewhere, row_8_elsewhere, row_10_elsewhere, row_12_elsewhere, row_13_elsewhere, row_14_elsewhere, row_17_elsewhere, row_15_elsewhere, row_11_elsewhere, row_16_elsewhere, row_18_elsewhere, row_19_elsewhere, row_20_elsewhere}
 use Rattle.peer_state.proofs.Phases.{by_probing, by_electing, by_leading}
 

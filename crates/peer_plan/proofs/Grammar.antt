@@ -34,7 +34,7 @@ use Rattle.phase_rows.specs.declared.phase.PhaseOut.{PhaseOut}
 use Rattle.step_plans.specs.Plans.{Out}
 use Rattle.step_plans.specs.Sends.{posted, posted_to}
 use Rattle.leader_words.specs.declared.out.Outgoing.{Outgoing}
-use Rattle.leading.proofs.Moves.{either}
+use Rattle.leading.proofs.Cases.{either}
 use Rattle.peer_plan.specs.Syncs.{and_sends}
 use Rattle.peer_plan.specs.Kept.{MaySend, AllMayGo}
 
@@ -76,7 +76,8 @@ none_me me peer = get_or-replicate 32 me false false (omega (arith, peer.1))
 pub alone_me : (me from : ℕ) → IsPeer me → from ≢ me → holds (alone from) me ≡ false
 alone_me me from peer other = get_or-set_other nobody from me true false (λ same. other (sym same)) ∙ none_me me peer
 
-those_at : (test : ℕ → Bool) (p : ℕ) → IsPeer p → holds (those test) p ≡ test p
+-- a set of the peers that pass a test
+pub those_at : (test : ℕ → Bool) (p : ℕ) → IsPeer p → holds (those test) p ≡ test p
 those_at test zero peer = absurd (omega (arith, peer.0))
 those_at test (suc k) peer = get_or-map-range_with_len test 1 31 k (suc k) false (omega (arith, peer.1)) (omega arith)
 

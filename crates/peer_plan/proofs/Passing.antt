@@ -1,4 +1,5 @@
 -- As long as the answers of the stores are sound, each message that a step sends may be sent.
+use Rattle.std.specs.Option.{is_some}
 use Rattle.std.specs.Prelude.{All, OnOk}
 use Rattle.std.proofs.Common.{◌≡◌, ◌≢◌, ◌≤◌, ◌∙◌, lit≤, ℕ, zero, suc, Bool, true, false, not, nat_le, ◌&&◌, ◌==◌, if◌then◌else◌, List, [], ◌∷◌, ◌++◌, Option, Some, None, Result, Ok, Err, refl, inl, inr, subst, arith}
 use Rattle.std.proofs.lemmas.List.Elements.{All-nil, All-push, All-append}
@@ -22,10 +23,10 @@ use Rattle.leading.specs.Rounds.{row_29_reply, row_33_reply}
 use Rattle.leading.specs.Rules.{lead_row}
 use Rattle.leading.specs.Starts.{row_27}
 use Rattle.leading.specs.declared.leader.Leader.{Leader}
-use Rattle.leading.proofs.Joins.{row_27_joins}
-use Rattle.leading.proofs.Sends.{ticks_may}
-use Rattle.leading.proofs.Steps.{lead_step, row_29_reply_step, row_33_reply_step, row_35_reply_step}
-use Rattle.leading.proofs.TimeOuts.{row_5_ticks}
+use Rattle.leading_laws.proofs.Joins.{row_27_joins}
+use Rattle.leading_laws.proofs.Sends.{ticks_may}
+use Rattle.leading_laws.proofs.Steps.{lead_step, row_29_reply_step, row_33_reply_step, row_35_reply_step}
+use Rattle.leading_laws.proofs.TimeOuts.{row_5_ticks}
 use Rattle.peer_fact.specs.declared.fact.Fact.{Fact}
 use Rattle.election.specs.declared.election.Election.{Election}
 use Rattle.election.specs.declared.election.Election.TheVariants.{Preparing, Starting}
@@ -46,7 +47,7 @@ use Rattle.tree_node.specs.Positions.{IsPosition}
 use Rattle.tree_node.specs.declared.position.Position.{Position}
 use Rattle.wire_frames.specs.Messages.{Obeys}
 use Rattle.register_model.specs.declared.note.Note.{Note}
-use Rattle.step_plans.specs.Calls.{Call, Save, Find, Enter, ScanTree, ReadNode, Install, Fetch, Put, Hash, AnswerOf}
+use Rattle.step_plans.specs.Calls.{Call, Save, Root, Find, Enter, ScanTree, ReadNode, Install, Fetch, Put, Hash, AnswerOf}
 use Rattle.step_plans.specs.Outboxes.{out_of}
 use Rattle.step_plans.specs.Plans.{Plan, Done, Say, Ask, Out, nothing, Rest, Part, Finished, Runs, asked, noted}
 use Rattle.step_plans.specs.Saved.{with_seal}
@@ -69,11 +70,11 @@ use Rattle.phase_rows.specs.declared.phase.Then.TheVariants as thens
 use Rattle.phase_rows.specs.declared.rules.PhaseRule.TheVariants as phase_rules
 use Rattle.phase_rows.specs.declared.rules.KeyRule.{KeyRule}
 use Rattle.peer_plan.specs.Drives.{row_done, owned, own_key, followed_up, and_row, lead_done, lead, reminded, task_done, driven, led_in, ticked, shown, after_put, put_done, delivered, unavailable, first, most_turns, responded, concluded, step_of, MayCome}
-use Rattle.peer_plan.specs.Syncs.{saved, and_sends, with_sync, installed, accepted, accepted_own, accepted_in, end_sync, by_outcome, go_on, resume_sync, followed_on, reached, own_node, body_of, shown_node, needs_node, take_give}
+use Rattle.peer_plan.specs.Syncs.{saved, sealed, sealed_if, and_sends, with_sync, installed, accepted, accepted_own, accepted_in, end_sync, by_outcome, go_on, resume_sync, followed_on, reached, own_node, body_of, shown_node, needs_node, take_give}
 use Rattle.peer_plan.specs.Kept.{MaySend, AllMayGo, LeadsAs, SyncsAs, IsOwn, IsInTree, IsSound, Reaches}
 use Rattle.peer_state.specs.Leading.{older, end_of, ticks, row_5_calls}
-use Rattle.peer_state.specs.Moves.{left, left_answers, turned, turned_answers, ends_leading, leading, with_leader, and_answers, electing, without_sync}
-use Rattle.peer_plan.specs.Owns.{digested, read, kept, fetched, held, looked_at, looked, found_at, found, entered, written, confirmed}
+use Rattle.peer_state.specs.Moves.{keeps_seal, left, left_answers, turned, turned_answers, ends_leading, leading, with_leader, and_answers, electing, without_sync}
+use Rattle.peer_plan.specs.Owns.{digested, read, kept, fetched, held, looked_at, looked, found_at, found, stored, resealed, entered, written, confirmed}
 use Rattle.peer_state.specs.Rows.{aged, phase_row, received, asked_change, leads, changes}
 use Rattle.peer_state.specs.declared.event.Event.{Event}
 use Rattle.peer_state.specs.declared.event.Event.TheVariants as events
@@ -186,11 +187,26 @@ module _ (me : ℕ) (peer : IsPeer me) (P : State → Out → Type 0) where
   found_sees : (key : List ℕ) → Sees (found key)
   found_sees key x out next go = asked_reaches (Find key) x out (λ end y p. next (found_at end) y p) (λ end sound. go (found_at end) (found_seen end sound))
 
-  entered_sees : (o : Object) (bytes digest : List ℕ) (end : Walked (Unit {0})) → IsInTree end → Sees (entered o bytes digest end)
-  entered_sees o bytes digest (Broken at) is x out next go = go (seens.Damaged at) is
-  entered_sees o bytes digest (Reached u) is x out next go = asked_reaches (Put o.key bytes) x out (λ v y p. next (seens.Stored digest) y p) (λ v sound. go (seens.Stored digest) tt)
+  -- the same of a part at whose end the peer may have another seal
+  abbrev SeesAnew : Part State Seen → Type 0
+  SeesAnew part = (x : State) (out : Out) (next : Rest State Seen) → ((seen : Seen) (seal : Option (List ℕ)) → IsSeenInTree seen → Reaches P (next seen (record x { seal = seal }) out)) → Reaches P (part x out next)
 
-  written_sees : (o : Object) → Sees (written o)
+  sealed_reads : (fact : Fact) (x : State) (out : Out) (next : Rest State (Unit {0})) → ((seal : Option (List ℕ)) → Reaches P (next tt (record x { fact = fact; seal = seal }) out)) → Reaches P (sealed fact x out next)
+  sealed_reads fact x out next go =
+      asked_reaches Root x out (λ root y o. asked (Save (with_seal root fact)) y o (λ u z q. next tt (record z { fact = fact; seal = root }) q))
+      (λ root sound. asked_reaches (Save (with_seal root fact)) x out (λ u z q. next tt (record z { fact = fact; seal = root }) q) (λ u is. go root))
+
+  resealed_reads : (seals : Bool) (x : State) (out : Out) (next : Rest State (Unit {0})) → ((seal : Option (List ℕ)) → Reaches P (next tt (record x { seal = seal }) out)) → Reaches P (resealed seals x out next)
+  resealed_reads true x out next go = sealed_reads x.fact x out next go
+  resealed_reads false x out next go = go x.seal
+
+  entered_sees : (o : Object) (bytes digest : List ℕ) (end : Walked (Unit {0})) → IsInTree end → SeesAnew (entered o bytes digest end)
+  entered_sees o bytes digest (Broken at) is x out next go = go (seens.Damaged at) x.seal is
+  entered_sees o bytes digest (Reached u) is x out next go =
+      resealed_reads (is_some x.seal) x out (λ v y p. stored o bytes digest y p next)
+      (λ seal. asked_reaches (Put o.key bytes) (record x { seal = seal }) out (λ w y p. next (seens.Stored digest) y p) (λ w sound. go (seens.Stored digest) seal tt))
+
+  written_sees : (o : Object) → SeesAnew (written o)
   written_sees o x out next go =
       let bytes = object_spelling o in
       asked_reaches (Hash bytes) x out (λ digest y p. asked (Enter (entry_of o digest)) y p (λ end z q. entered o bytes digest end z q next))
@@ -202,9 +218,9 @@ module _ (me : ℕ) (peer : IsPeer me) (P : State → Out → Type 0) where
   confirmed_reads (Some entry) (Some o) x out next go =
       asked_reaches (Hash (object_spelling o)) x out (λ digest y p. next (matching entry (Some (o, digest))) y p) (λ digest sound. go (matching entry (Some (o, digest))))
 
-  owned_sees : (own : Own) → Sees (owned own)
-  owned_sees (owns.Fetch key) x out next go = fetched_sees key x out next go
-  owned_sees (owns.Look key) x out next go = looked_sees key x out next go
+  owned_sees : (own : Own) → SeesAnew (owned own)
+  owned_sees (owns.Fetch key) x out next go = fetched_sees key x out next (λ seen. go seen x.seal)
+  owned_sees (owns.Look key) x out next go = looked_sees key x out next (λ seen. go seen x.seal)
   owned_sees (owns.Put o) x out next go = written_sees o x out next go
 
   noted_reaches : (notes : List Note) (p : Plan State) → Reaches P p → Reaches P (noted notes p)
@@ -224,6 +240,10 @@ module _ (me : ℕ) (peer : IsPeer me) (P : State → Out → Type 0) where
   saved_passes None x out next good go = go tt x out good
   saved_passes (Some fact) x out next good go =
       asked_reaches (Save (with_seal x.seal fact)) x out (λ u y o. next tt (record y { fact = fact }) o) (λ u sound. go tt (record x { fact = fact }) out good)
+
+  sealed_if_passes : (seals : Bool) (fact : Fact) → Passes (sealed_if seals fact)
+  sealed_if_passes true fact x out next good go = sealed_reads fact x out next (λ seal. go tt (record x { fact = fact; seal = seal }) out good)
+  sealed_if_passes false fact x out next good go = saved_passes (Some fact) x out next good go
 
   -- ## Syncs
 
@@ -267,8 +287,8 @@ module _ (me : ℕ) (peer : IsPeer me) (P : State → Out → Type 0) where
   end_sync_passes : (r : Running) (entries : List Entry) → Passes (end_sync me r entries)
   end_sync_passes r entries x out next good go =
       installed_reads (needs_build r.sync.scan entries) entries (without_sync x) out
-      (λ u y o. saved (Some r.fact) y o (λ v z p. accepted_in me r.fact z.phase (record z { trusted = true }) p next))
-      (λ u. saved_passes (Some r.fact) (without_sync x) out (λ v z p. accepted_in me r.fact z.phase (record z { trusted = true }) p next) ((good.0.0, tt), good.1)
+      (λ u y o. sealed_if (keeps_seal y) r.fact y o (λ v z p. accepted_in me r.fact z.phase (record z { trusted = true }) p next))
+      (λ u. sealed_if_passes (keeps_seal (without_sync x)) r.fact (without_sync x) out (λ v z p. accepted_in me r.fact z.phase (record z { trusted = true }) p next) ((good.0.0, tt), good.1)
       (λ v z p fine. accepted_in_passes r.fact z.phase (record z { trusted = true }) p next fine go))
 
   by_outcome_passes : (r : Running) → AsksOthers me r → (outcome : Outcome) → Passes (by_outcome me r outcome)
@@ -314,7 +334,7 @@ module _ (me : ℕ) (peer : IsPeer me) (P : State → Out → Type 0) where
   followed_up_passes None turn keys x out next good go =
       go (keyed turn keys) (turned me turn x) (turned_answers turn x out) (turned_own me turn x good.0, answered_may (ends_leading turn) x out good.1)
   followed_up_passes (Some own) turn keys x out next good go =
-      owned_sees own x out (λ seen y o. next (tasks.Again (asked_by own) (own_key own) seen ∷ []) y o) (λ seen is. go (tasks.Again (asked_by own) (own_key own) seen ∷ []) x out good)
+      owned_sees own x out (λ seen y o. next (tasks.Again (asked_by own) (own_key own) seen ∷ []) y o) (λ seen seal is. go (tasks.Again (asked_by own) (own_key own) seen ∷ []) (record x { seal = seal }) out good)
 
   lead_done_passes : (row : LeadOut) → All (MaySend me) row.sends → Passes (lead_done me row)
   lead_done_passes row may x out next good go =
@@ -368,7 +388,7 @@ module _ (me : ℕ) (peer : IsPeer me) (P : State → Out → Type 0) where
   put_done_passes : (turn : Then) (from : ℕ) → from ≢ me → (ballot : Epoch) (o : Object) (row : PhaseOut) → MayGo me row → Passes (put_done turn me from ballot o row)
   put_done_passes thens.Put from other ballot o row may x out next good go =
       written_sees o x out (λ seen y p. row_done me (after_put from ballot row seen) y p next)
-      (λ seen is. row_done_passes (after_put from ballot row seen) (after_put_may me peer from other ballot row seen is may) x out next good go)
+      (λ seen seal is. row_done_passes (after_put from ballot row seen) (after_put_may me peer from other ballot row seen is may) (record x { seal = seal }) out next good go)
   put_done_passes thens.Stay from other ballot o row may x out next good go = row_done_passes row may x out next good go
   put_done_passes thens.Follow from other ballot o row may x out next good go = row_done_passes row may x out next good go
   put_done_passes (thens.Lead fact) from other ballot o row may x out next good go = row_done_passes row may x out next good go

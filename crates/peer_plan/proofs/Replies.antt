@@ -22,7 +22,7 @@ use Rattle.phase_rows.specs.declared.phase.PhaseOut.{PhaseOut}
 use Rattle.phase_rows.specs.declared.phase.Seen.{Seen}
 use Rattle.phase_rows.specs.declared.phase.Seen.TheVariants as seens
 use Rattle.peer_plan.specs.Drives.{after_put}
-use Rattle.leading.proofs.Moves.{either}
+use Rattle.leading.proofs.Cases.{either}
 use Rattle.peer_plan.proofs.Grammar.{MayGo, none_me, alone_me}
 
 -- the damage that was seen, if any, is at a position of the tree

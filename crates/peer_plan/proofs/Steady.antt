@@ -31,9 +31,9 @@ use Rattle.phase_rows.specs.declared.rules.PhaseRule.TheVariants as phase_rules
 use Rattle.phase_rows.specs.declared.rules.PhaseRule.{PhaseRule}
 use Rattle.peer_state.specs.Ages.{IsYoung}
 use Rattle.peer_plan.specs.Drives.{row_done, driven, concluded, most_turns, step_of, MayCome}
-use Rattle.peer_plan.specs.Syncs.{saved, and_sends, with_sync, accepted, accepted_own, accepted_in, by_outcome, go_on, resume_sync, followed_on}
+use Rattle.peer_plan.specs.Syncs.{saved, sealed_if, and_sends, with_sync, accepted, accepted_own, accepted_in, by_outcome, go_on, resume_sync, followed_on}
 use Rattle.peer_plan.specs.Kept.{IsStepCall}
-use Rattle.peer_state.specs.Moves.{stopped_leading, without_candidacy, left, left_answers, turned, turned_answers, electing, without_sync}
+use Rattle.peer_state.specs.Moves.{keeps_seal, stopped_leading, without_candidacy, left, left_answers, turned, turned_answers, electing, without_sync}
 use Rattle.peer_state.specs.NoAllocation.{is_over, is_over_in, IsSteady}
 use Rattle.peer_state.specs.Rows.{while_10, while_13, while_14, ended, while_26}
 use Rattle.peer_state.specs.declared.event.Event.{Event}
@@ -43,7 +43,7 @@ use Rattle.peer_state.specs.declared.state.Leadership.{Leadership}
 use Rattle.peer_state.specs.declared.state.Phase.{Phase}
 use Rattle.peer_state.specs.declared.state.Phase.TheVariants as phases
 use Rattle.peer_state.specs.declared.state.State.{State}
-use Rattle.peer_plan.proofs.Aging.{asked_asks, installed_asks, responded_passes, most_is_some}
+use Rattle.peer_plan.proofs.Aging.{asked_asks, sealed_asks, installed_asks, responded_passes, most_is_some}
 use Rattle.peer_state.proofs.Names.{NamesOnly, NamesNone, then_13, then_14}
 use Rattle.peer_state.proofs.Phases.{by_electing}
 
@@ -115,6 +115,10 @@ module _ (me : ℕ) (P : State → Out → Type 0) where
   saved_settles None x out next none go = go tt x out none
   saved_settles (Some fact) x out next none go = (tt, λ u. go tt (record x { fact = fact }) out none)
 
+  sealed_if_settles : (seals : Bool) (fact : Fact) → Settles (sealed_if seals fact)
+  sealed_if_settles true fact x out next none go = sealed_asks P fact x out next (λ seal. go tt (record x { fact = fact; seal = seal }) out none)
+  sealed_if_settles false fact x out next none go = saved_settles (Some fact) x out next none go
+
   -- what follows goes on with these tasks
   abbrev GoesWith : List Task → Rest State (List Task) → Type 0
   GoesWith ts next = (y : State) (o : Out) → HasBegunNone y.phase → Follows IsStepCall P (next ts y o)
@@ -134,8 +138,8 @@ module _ (me : ℕ) (P : State → Out → Type 0) where
   by_outcome_settles r Pending x out next none go own = go (with_sync r x) out none
   by_outcome_settles r (Trusted entries) x out next none go own =
       installed_asks P (needs_build r.sync.scan entries) entries (without_sync x) out
-      (λ u y o. saved (Some r.fact) y o (λ v z p. accepted_in me r.fact z.phase (record z { trusted = true }) p next))
-      (λ u. saved_settles (Some r.fact) (without_sync x) out (λ v z p. accepted_in me r.fact z.phase (record z { trusted = true }) p next) none
+      (λ u y o. sealed_if (keeps_seal y) r.fact y o (λ v z p. accepted_in me r.fact z.phase (record z { trusted = true }) p next))
+      (λ u. sealed_if_settles (keeps_seal (without_sync x)) r.fact (without_sync x) out (λ v z p. accepted_in me r.fact z.phase (record z { trusted = true }) p next) none
       (λ v z p still. accepted_in_settles r.fact z.phase (record z { trusted = true }) p next still go own))
 
   resumed_settles : (running : Option Running) (x : State) (out : Out) (next : Rest State (List Task)) → HasBegunNone x.phase → GoesWith [] next → Follows IsStepCall P (resume_sync running x out next)

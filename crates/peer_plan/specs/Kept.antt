@@ -3,7 +3,7 @@ use Rattle.std.specs.Prelude.{◌≡◌, ◌≢◌, ℕ, Option, None, Some, All
 use Rattle.running_sync.specs.Running.{Running}
 use Rattle.running_sync.specs.Sends.{AsksOthers}
 use Rattle.ens_base.specs.View.{IsPeer}
-use Rattle.step_plans.specs.Calls.{Call, Save, Find, Enter, ScanTree, ReadNode, Install, Fetch, Put, Hash, AnswerOf}
+use Rattle.step_plans.specs.Calls.{Call, Save, Root, Find, Enter, ScanTree, ReadNode, Install, Fetch, Put, Hash, AnswerOf}
 use Rattle.step_plans.specs.Plans.{Plan, Done, Say, Ask, Out}
 use Rattle.step_plans.specs.declared.error.PeerError.{PeerError}
 use Rattle.step_plans.specs.declared.error.PeerError.TheVariants as errors
@@ -17,10 +17,11 @@ use Rattle.peer_state.specs.declared.state.Phase.{Phase}
 use Rattle.peer_state.specs.declared.state.Phase.TheVariants as phases
 use Rattle.peer_state.specs.declared.state.State.{State}
 
--- a call that a step may make: it saves the fact, finds or enters an entry, scans the tree, reads one of
--- its nodes or builds it anew, fetches or puts an object, or hashes bytes
+-- a call that a step may make: it saves the fact, asks for the root of the tree, finds or enters an entry,
+-- scans the tree, reads one of its nodes or builds it anew, fetches or puts an object, or hashes bytes
 abbrev pub IsStepCall : Call → Type 0
 IsStepCall (Save fact) = Unit {0}
+IsStepCall Root = Unit {0}
 IsStepCall (Find key) = Unit {0}
 IsStepCall (Enter entry) = Unit {0}
 IsStepCall ScanTree = Unit {0}

@@ -1,5 +1,6 @@
 -- What a rule asks of the peer's own tree and backend.
-use Rattle.std.specs.Prelude.{ℕ, List, Option, Some, None}
+use Rattle.std.specs.Option.{is_some}
+use Rattle.std.specs.Prelude.{ℕ, Bool, true, false, List, Option, Some, None}
 use Rattle.ens_base.specs.declared.entry.Entry.{Entry}
 use Rattle.ens_object.specs.Objects.{object_spelling}
 use Rattle.ens_object.specs.declared.object.Object.{Object}
@@ -10,6 +11,7 @@ use Rattle.step_plans.specs.declared.walked.Walked.{Walked}
 use Rattle.step_plans.specs.declared.walked.Walked.TheVariants.{Reached, Broken}
 use Rattle.phase_rows.specs.declared.phase.Seen.{Seen}
 use Rattle.phase_rows.specs.declared.phase.Seen.TheVariants as seens
+use Rattle.peer_plan.specs.Syncs.{sealed}
 use Rattle.peer_state.specs.declared.state.State.{State}
 
 -- the object in these bytes, if they are one, with their digest
@@ -51,12 +53,22 @@ found_at (Reached entry) = seens.Held entry None
 abbrev pub found : List ℕ → Part State Seen
 found key x out next = asked (Find key) x out (λ end y p. next (found_at end) y p)
 
--- the object's bytes are put in the backend, unless the path of its key was damaged
+-- the object's bytes are put in the backend
+abbrev pub stored : Object → List ℕ → List ℕ → Part State Seen
+stored o bytes digest x out next = asked (Put o.key bytes) x out (λ u y p. next (seens.Stored digest) y p)
+
+-- a peer with a seal saves its fact again, with the new root as its seal
+abbrev pub resealed : Bool → Part State (Unit {0})
+resealed true x out next = sealed x.fact x out next
+resealed false x out next = next tt x out
+
+-- the object's entry is in the tree, and its bytes follow, unless the path of its key was damaged
 abbrev pub entered : Object → List ℕ → List ℕ → Walked (Unit {0}) → Part State Seen
 entered o bytes digest (Broken at) x out next = next (seens.Damaged at) x out
-entered o bytes digest (Reached u) x out next = asked (Put o.key bytes) x out (λ v y p. next (seens.Stored digest) y p)
+entered o bytes digest (Reached u) x out next = resealed (is_some x.seal) x out (λ v y p. stored o bytes digest y p next)
 
--- an object of these bytes is written, its entry in the tree and then the bytes in the backend
+-- an object of these bytes is written: its entry in the tree, then the fact in a peer with a seal, and then
+-- the bytes in the backend
 abbrev pub written_as : Object → List ℕ → Part State Seen
 written_as o bytes x out next = asked (Hash bytes) x out (λ digest y p. asked (Enter (entry_of o digest)) y p (λ end z q. entered o bytes digest end z q next))
 

@@ -12,7 +12,7 @@ use Rattle.phase_rows.specs.Peers.{joined}
 use Rattle.running_sync.specs.Rows.{row_start, row_resume, row_take, needs_own_node}
 use Rattle.running_sync.specs.Running.{Running}
 use Rattle.running_sync.specs.declared.asking.Give.{Give}
-use Rattle.step_plans.specs.Calls.{ScanTree, ReadNode, Install, Save}
+use Rattle.step_plans.specs.Calls.{Root, ScanTree, ReadNode, Install, Save}
 use Rattle.step_plans.specs.Plans.{Out, Part, asked}
 use Rattle.step_plans.specs.Saved.{with_seal}
 use Rattle.step_plans.specs.declared.tasks.Task.{Task}
@@ -30,7 +30,7 @@ use Rattle.phase_rows.specs.declared.phase.Then.{Then}
 use Rattle.phase_rows.specs.declared.phase.Then.TheVariants as thens
 use Rattle.phase_rows.specs.declared.rules.PhaseRule.TheVariants as phase_rules
 use Rattle.step_plans.specs.Tasks.{named}
-use Rattle.peer_state.specs.Moves.{electing, without_sync}
+use Rattle.peer_state.specs.Moves.{electing, keeps_seal, without_sync}
 use Rattle.peer_state.specs.declared.state.Phase.{Phase}
 use Rattle.peer_state.specs.declared.state.Phase.TheVariants as phases
 use Rattle.peer_state.specs.declared.state.State.{State}
@@ -39,6 +39,15 @@ use Rattle.peer_state.specs.declared.state.State.{State}
 abbrev pub saved : Option Fact → Part State (Unit {0})
 saved None x out next = next tt x out
 saved (Some fact) x out next = asked (Save (with_seal x.seal fact)) x out (λ u y o. next tt (record y { fact = fact }) o)
+
+-- the fact is saved with the root of the tree as its seal, and they become those of the peer
+abbrev pub sealed : Fact → Part State (Unit {0})
+sealed fact x out next = asked Root x out (λ root y o. asked (Save (with_seal root fact)) y o (λ u z p. next tt (record z { fact = fact; seal = root }) p))
+
+-- the fact is saved, with the root of the tree as its seal if that is to be
+abbrev pub sealed_if : Bool → Fact → Part State (Unit {0})
+sealed_if true fact x out next = sealed fact x out next
+sealed_if false fact x out next = saved (Some fact) x out next
 
 -- these messages are added to the output
 abbrev pub and_sends : Out → List Outgoing → Out
@@ -74,11 +83,11 @@ accepted_in me fact (phases.Probing p) x out next = next [] x out
 accepted_in me fact (phases.Leading l) x out next = next [] x out
 
 -- A sync ends with these merged entries: the tree is built from them if needed, the fact of the sync is
--- saved and accepted, and the tree is trusted.
+-- saved and accepted, with the top record as its seal if the peer keeps one, and the tree is trusted.
 abbrev pub end_sync : ℕ → Running → List Entry → Part State (List Task)
 end_sync me r entries x out next =
     installed (needs_build r.sync.scan entries) entries (without_sync x) out
-    (λ u y o. saved (Some r.fact) y o (λ v z p. accepted_in me r.fact z.phase (record z { trusted = true }) p next))
+    (λ u y o. sealed_if (keeps_seal y) r.fact y o (λ v z p. accepted_in me r.fact z.phase (record z { trusted = true }) p next))
 
 -- a sync runs on, or ends if its sources suffice
 abbrev pub by_outcome : ℕ → Running → Outcome → Part State (List Task)

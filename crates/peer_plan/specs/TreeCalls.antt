@@ -1,7 +1,7 @@
 -- What the tree of a peer and the hasher lent to it may answer: each call is a plan of the tree.
 use Rattle.std.specs.Option.{IsSomeAnd}
 use Rattle.std.specs.Prelude.{◌≡◌, ℕ, List, Option, Result, Ok, Err}
-use Rattle.step_plans.specs.Calls.{Call, FreshTree, OpenTree, Find, Enter, ScanTree, ReadNode, Install, AnswerOf}
+use Rattle.step_plans.specs.Calls.{Call, FreshTree, OpenTree, Root, Find, Enter, ScanTree, ReadNode, Install, AnswerOf}
 use Rattle.step_plans.specs.declared.walked.Walked.{Walked}
 use Rattle.step_plans.specs.declared.walked.Walked.TheVariants.{Reached, Broken}
 use Rattle.step_plans.specs.declared.error.PeerError.{PeerError}
@@ -57,6 +57,7 @@ Halts does refuses plan s e t = (error : TreeError) × (e ≡ peer_error error) 
 abbrev pub TreeDoes : {N H : Type 0} → (N × H → (call : TreeCall) → TreeAnswer call → N × H → Type 0) → Tree N × H → (call : Call) → AnswerOf call → Tree N × H → Type 0
 TreeDoes does s FreshTree a t = IsSomeAnd t.0.top (λ root. Walks does (fresh_plan (form_of One)) s (Ok root) t)
 TreeDoes does s (OpenTree seal) a t = (top : Option (List ℕ)) × Walks does open_plan s (Ok top) t × (t.0.top ≡ root_under seal top)
+TreeDoes does s Root a t = (a ≡ s.0.top) × (t.0 ≡ s.0) × (t.1 ≡ s.1)
 TreeDoes does s (Find key) a t = Walks does (get_plan (form_of One) s.0.top key) s (end_of a) t × (t.0.top ≡ s.0.top)
 TreeDoes does s (Enter entry) a t = Changes (λ end. Walks does (insert_plan (form_of One) s.0.top entry) s end t) s.0.top a t.0.top
 TreeDoes does s ScanTree a t = Walks does (scan_plan (form_of One) s.0.top) s (Ok a) t × (t.0.top ≡ s.0.top)

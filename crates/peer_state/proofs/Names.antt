@@ -21,7 +21,7 @@ use Rattle.peer_state.specs.Rows.{begun_change, ended}
 use Rattle.peer_state.specs.declared.state.ChangeState.{ChangeState}
 use Rattle.peer_state.specs.declared.state.ChangeState.TheVariants.{Settled, Wanted, Finishing as Finishes}
 use Rattle.peer_state.specs.declared.state.Leadership.{Leadership}
-use Rattle.leading.proofs.Moves.{either}
+use Rattle.leading.proofs.Cases.{either}
 
 -- the row names no rule except this one
 abbrev pub NamesOnly : PhaseRule → Then → Type 0

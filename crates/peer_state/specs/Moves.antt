@@ -1,5 +1,6 @@
 -- How the phase and the trust of a peer change, and which calls are answered then.
-use Rattle.std.specs.Prelude.{ℕ, Bool, true, false, List, [], ◌++◌, map, Option, Some, None}
+use Rattle.std.specs.Option.{is_some}
+use Rattle.std.specs.Prelude.{ℕ, Bool, true, false, ◌||◌, List, [], ◌++◌, map, Option, Some, None}
 use Rattle.election.specs.declared.election.Election.{Election}
 use Rattle.election.specs.declared.election.Election.TheVariants.{Preparing, Starting}
 use Rattle.call_table.specs.Calls.{has_calls}
@@ -25,6 +26,11 @@ use Rattle.peer_state.specs.declared.state.State.{State}
 -- what the peer saved last: its fact, with its seal
 abbrev pub saved_by : State → SavedFact
 saved_by x = with_seal x.seal x.fact
+
+-- whether the peer keeps a seal from the end of its next sync on: its fact has one, or it was started to
+-- make one
+abbrev pub keeps_seal : State → Bool
+keeps_seal x = x.mode.sealing || is_some x.seal
 
 -- following, with no quiet tick so far
 abbrev pub follower : Phase

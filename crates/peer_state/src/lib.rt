@@ -15,5 +15,5 @@ mod state;
 mod syncs;
 
 pub use event::{CallIn, Event};
-pub use state::{ChangeState, Leadership, Phase, State};
+pub use state::{ChangeState, Leadership, Mode, Phase, State};
 pub use syncs::{resume_sync, start_sync, sync_outcome, take_give};

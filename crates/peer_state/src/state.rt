@@ -1,7 +1,7 @@
 ghost use Rattle.std.specs.Prelude.{◌≡◌, IsOk, OnOk, IfOk, IfErr, false, true, []};
 ghost use Rattle.leading.specs.Leaders.{new_leader};
 ghost use Rattle.step_plans.specs.Outboxes.{Grows, out_of};
-ghost use Rattle.peer_state.specs.Moves.{follower, waits, timeouts, and_answers, stopped_leading, without_candidacy, without_sync, accepts_of, accepts_in, leading, left, left_answers, followed, untrusted, turned, ends_leading, turned_answers, stood, sought, waiting_phase, waiting_for};
+ghost use Rattle.peer_state.specs.Moves.{keeps_seal, follower, waits, timeouts, and_answers, stopped_leading, without_candidacy, without_sync, accepts_of, accepts_in, leading, left, left_answers, followed, untrusted, turned, ends_leading, turned_answers, stood, sought, waiting_phase, waiting_for};
 ghost use Rattle.peer_state.specs.NoAllocation.{EndsQuietly};
 ghost use Rattle.peer_state.specs.declared.state.ChangeState.TheVariants.{Settled};
 
@@ -45,13 +45,22 @@ pub enum Phase {
     Leading(Leadership),
 }
 
+/// How a peer was started.
+#[derive(Clone, Copy, Debug, PartialEq, Eq)]
+pub struct Mode {
+    /// The fact keeps a seal, the digest of the tree's top record: from the first start on empty
+    /// stores on, or else from the end of the next sync on.
+    pub sealing: bool,
+}
+
 /// A peer without its number and its stores: the last saved fact and the seal that it was saved with,
-/// whether the peer trusts its tree, its phase, and the sync that runs, if one does. No peer makes a
-/// seal yet.
+/// how the peer was started, whether it trusts its tree, its phase, and the sync that runs, if one
+/// does.
 #[derive(Drop)]
 pub struct State {
     pub fact: Fact,
     pub seal: Option<Digest>,
+    pub mode: Mode,
     pub trusted: bool,
     pub phase: Phase,
     pub sync: Option<RunningSync>,
@@ -147,6 +156,14 @@ fn ends_the_lead(then: &Then) -> bool
 }
 
 impl State {
+    /// Whether the peer keeps a seal from the end of its next sync on: its fact has one, or it was
+    /// started to make one.
+    pub fn keeps_seal(&self) -> bool
+        ensures { result ≡ keeps_seal self.now }
+    {
+        self.mode.sealing || self.seal.is_some()
+    }
+
     /// Steps down a leader, if `leave` is true; its unanswered calls are answered. Fails only when
     /// out of memory.
     pub fn leave(&mut self, alloc: Global, out: &mut Outbox, leave: bool) -> Result<(), PeerError>

@@ -8,14 +8,16 @@ use Rattle.tree_node.specs.declared.position.Position.{Position}
 use Rattle.step_plans.specs.declared.error.PeerError.{PeerError}
 use Rattle.step_plans.specs.declared.walked.Walked.{Walked}
 
--- loads or saves the fact with its seal; makes an empty tree, or opens the kept one, under a seal if there is one;
--- in the tree, finds an entry, enters one, scans all, reads a node, or installs the tree of some
--- entries; fetches the bytes of a key from the backend, or puts them there; hashes bytes
+-- loads or saves the fact with its seal; makes an empty tree, or opens the kept one, under a seal if there
+-- is one, or tells the root of the running tree; in the tree, finds an entry, enters one, scans all, reads
+-- a node, or installs the tree of some entries; fetches the bytes of a key from the backend, or puts them
+-- there; hashes bytes
 pub data Call : Type 0 where
   Load : Call
   Save : (fact : SavedFact) → Call
   FreshTree : Call
   OpenTree : (seal : Option (List ℕ)) → Call
+  Root : Call
   Find : (key : List ℕ) → Call
   Enter : (entry : Entry) → Call
   ScanTree : Call
@@ -31,6 +33,7 @@ AnswerOf Load = Option SavedFact
 AnswerOf (Save fact) = Unit {0}
 AnswerOf FreshTree = Unit {0}
 AnswerOf (OpenTree seal) = Unit {0}
+AnswerOf Root = Option (List ℕ)
 AnswerOf (Find key) = Walked (Option Entry)
 AnswerOf (Enter entry) = Walked (Unit {0})
 AnswerOf ScanTree = Scan

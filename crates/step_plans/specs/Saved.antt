@@ -11,3 +11,8 @@ with_seal seal fact = record { fact = fact; seal = seal }
 abbrev pub bare : Option SavedFact → Option Fact
 bare None = None
 bare (Some saved) = Some saved.fact
+
+-- the seal that is kept with the fact, if there is one
+abbrev pub kept_seal : Option SavedFact → Option (List ℕ)
+kept_seal None = None
+kept_seal (Some saved) = saved.seal

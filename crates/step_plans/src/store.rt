@@ -3,7 +3,7 @@ ghost use Rattle.std.specs.Thread.{IsSync};
 ghost use Rattle.tree_node.specs.declared.version.TreeVersion.TheVariants.{One};
 ghost use Rattle.tree_node.specs.Entries.{AreAbove};
 ghost use Rattle.tree_node.specs.Positions.{IsPosition};
-ghost use Rattle.step_plans.specs.Calls.{Call, Load, Save, FreshTree, OpenTree, Find, Enter, ScanTree, ReadNode, Install, Fetch, Put, Hash, AnswerOf, Answers};
+ghost use Rattle.step_plans.specs.Calls.{Call, Load, Save, FreshTree, OpenTree, Root, Find, Enter, ScanTree, ReadNode, Install, Fetch, Put, Hash, AnswerOf, Answers};
 ghost use Rattle.step_plans.specs.declared.error.PeerError.{PeerError};
 ghost use Rattle.step_plans.specs.declared.error.PeerError.TheVariants.{StoreFault};
 
@@ -46,6 +46,10 @@ pub trait Store<H> {
         seal: Option<Digest>,
     ) -> Result<(), PeerError>
         ensures { Answers does refuses (self.old, hasher.old) (OpenTree seal) result (self.new, hasher.new) };
+
+    /// Returns the root of the running tree, or `None` if its root is damaged. Reads no store.
+    fn root(&mut self, hasher: &mut H) -> Result<Option<Digest>, PeerError>
+        ensures { Answers does refuses (self.old, hasher.old) Root result (self.new, hasher.new) };
 
     /// Returns the entry of the key in the tree, or `None` if it has none.
     fn find(

@@ -1,4 +1,5 @@
 -- A step from its event to its end.
+use Rattle.std.specs.Option.{is_some}
 use Rattle.std.proofs.Common.{◌≡◌, ℕ, zero, suc, Bool, true, false, if◌then◌else◌, List, [], ◌∷◌, ◌++◌, Option, Some, None, refl, subst}
 use Rattle.std.proofs.lemmas.List.Elements.{All-append, All-push}
 use Rattle.election.specs.declared.election.Election.{Election}
@@ -25,10 +26,10 @@ use Rattle.leading.specs.declared.leader.Leader.{Leader}
 use Rattle.peer_fact.specs.declared.fact.Fact.{Fact}
 use Rattle.peer_fact.specs.declared.saved.SavedFact.{SavedFact}
 use Rattle.peer_plan.specs.Drives.{row_done, owned, own_key, followed_up, and_row, lead_done, lead, reminded, task_done, driven, led_in, ticked, shown, after_put, put_done, delivered, unavailable, first, and_change, most_turns, responded, concluded, step_of}
-use Rattle.peer_plan.specs.Owns.{digested, read, kept, fetched, held, looked_at, looked, found_at, found, entered, written, confirmed}
-use Rattle.peer_plan.specs.Syncs.{saved, and_sends, with_sync, installed, accepted, accepted_own, accepted_in, end_sync, by_outcome, go_on, resume_sync, followed_on, reached, own_node, body_of, shown_node, needs_node, take_give}
+use Rattle.peer_plan.specs.Owns.{digested, read, kept, fetched, held, looked_at, looked, found_at, found, entered, written, confirmed, stored, resealed}
+use Rattle.peer_plan.specs.Syncs.{saved, and_sends, with_sync, installed, accepted, accepted_own, accepted_in, end_sync, by_outcome, go_on, resume_sync, followed_on, reached, own_node, body_of, shown_node, needs_node, take_give, sealed, sealed_if}
 use Rattle.peer_state.specs.Leading.{older, end_of, ticks, row_5_calls, wished, begins}
-use Rattle.peer_state.specs.Moves.{left, left_answers, turned, turned_answers, ends_leading, leading, with_leader, and_answers, electing, without_sync, saved_by}
+use Rattle.peer_state.specs.Moves.{left, left_answers, turned, turned_answers, ends_leading, leading, with_leader, and_answers, electing, without_sync, saved_by, keeps_seal}
 use Rattle.peer_state.specs.Rows.{aged, phase_row, received, asked_change, leads, changes}
 use Rattle.peer_state.specs.declared.event.Event.{Event}
 use Rattle.peer_state.specs.declared.event.Event.TheVariants as events
@@ -47,7 +48,7 @@ use Rattle.register_model.specs.declared.note.Note.{Note}
 use Rattle.running_sync.specs.Rows.{row_start, row_resume, row_take}
 use Rattle.running_sync.specs.Running.{Running}
 use Rattle.running_sync.specs.declared.asking.Give.{Give}
-use Rattle.step_plans.specs.Calls.{Call, Save, Find, Enter, ScanTree, ReadNode, Install, Fetch, Put, Hash, AnswerOf}
+use Rattle.step_plans.specs.Calls.{Call, Save, Find, Enter, ScanTree, ReadNode, Install, Fetch, Put, Hash, AnswerOf, Root}
 use Rattle.step_plans.specs.Plans.{Plan, Done, Out, nothing, Rest, Part, asked, noted}
 use Rattle.step_plans.specs.Saved.{with_seal}
 use Rattle.step_plans.specs.Sends.{posted_to}
@@ -121,11 +122,26 @@ module _ (test : ℕ → Bool) (me : ℕ) (P : SavedFact → State → Out → T
   found_reads : (key : List ℕ) → Reads (found key)
   found_reads key x out next go = asked_ends (Find key) x out (λ end y p. next (found_at end) y p) (λ end. go (found_at end))
 
-  entered_reads : (o : Object) (bytes digest : List ℕ) (end : Walked (Unit {0})) → Reads (entered o bytes digest end)
-  entered_reads o bytes digest (Broken at) x out next go = go (seens.Damaged at)
-  entered_reads o bytes digest (Reached u) x out next go = asked_ends (Put o.key bytes) x out (λ v y p. next (seens.Stored digest) y p) (λ v. go (seens.Stored digest))
+  -- the same of a part that may save the fact with another seal
+  abbrev ReadsAnew : {A : Type 0} → Part State A → Type 0
+  ReadsAnew {A} part = (x : State) (out : Out) (next : Rest State A) → ((v : A) (seal : Option (List ℕ)) → EndsIn P (saved_by (record x { seal = seal })) (next v (record x { seal = seal }) out)) → EndsIn P (saved_by x) (part x out next)
 
-  written_reads : (o : Object) → Reads (written o)
+  sealed_ends : (fact : Fact) (x : State) (out : Out) (next : Rest State (Unit {0})) → ((seal : Option (List ℕ)) → EndsIn P (with_seal seal fact) (next tt (record x { fact = fact; seal = seal }) out)) → EndsIn P (saved_by x) (sealed fact x out next)
+  sealed_ends fact x out next go =
+      asked_ends Root x out (λ root y o. asked (Save (with_seal root fact)) y o (λ u z q. next tt (record z { fact = fact; seal = root }) q))
+      (λ root. asked_ends (Save (with_seal root fact)) x out (λ u z q. next tt (record z { fact = fact; seal = root }) q) (λ u. go root))
+
+  resealed_reads : (seals : Bool) → ReadsAnew (resealed seals)
+  resealed_reads true x out next go = sealed_ends x.fact x out next (λ seal. go tt seal)
+  resealed_reads false x out next go = go tt x.seal
+
+  entered_reads : (o : Object) (bytes digest : List ℕ) (end : Walked (Unit {0})) → ReadsAnew (entered o bytes digest end)
+  entered_reads o bytes digest (Broken at) x out next go = go (seens.Damaged at) x.seal
+  entered_reads o bytes digest (Reached u) x out next go =
+      resealed_reads (is_some x.seal) x out (λ v y p. stored o bytes digest y p next)
+      (λ v seal. asked_ends (Put o.key bytes) (record x { seal = seal }) out (λ w y p. next (seens.Stored digest) y p) (λ w. go (seens.Stored digest) seal))
+
+  written_reads : (o : Object) → ReadsAnew (written o)
   written_reads o x out next go =
       let bytes = object_spelling o in
       asked_ends (Hash bytes) x out (λ digest y p. asked (Enter (entry_of o digest)) y p (λ end z q. entered o bytes digest end z q next))
@@ -137,9 +153,9 @@ module _ (test : ℕ → Bool) (me : ℕ) (P : SavedFact → State → Out → T
   confirmed_reads (Some entry) (Some o) x out next go =
       asked_ends (Hash (object_spelling o)) x out (λ digest y p. next (matching entry (Some (o, digest))) y p) (λ digest. go (matching entry (Some (o, digest))))
 
-  owned_reads : (own : Own) → Reads (owned own)
-  owned_reads (owns.Fetch key) x out next go = fetched_reads key x out next go
-  owned_reads (owns.Look key) x out next go = looked_reads key x out next go
+  owned_reads : (own : Own) → ReadsAnew (owned own)
+  owned_reads (owns.Fetch key) x out next go = fetched_reads key x out next (λ seen. go seen x.seal)
+  owned_reads (owns.Look key) x out next go = looked_reads key x out next (λ seen. go seen x.seal)
   owned_reads (owns.Put o) x out next go = written_reads o x out next go
 
   noted_ends : (f : SavedFact) (notes : List Note) (p : Plan State) → EndsIn P f p → EndsIn P f (noted notes p)
@@ -154,6 +170,10 @@ module _ (test : ℕ → Bool) (me : ℕ) (P : SavedFact → State → Out → T
   saved_passes None x out next good go = go tt x out good
   saved_passes (Some fact) x out next good go =
       asked_ends (Save (with_seal x.seal fact)) x out (λ u y o. next tt (record y { fact = fact }) o) (λ u. go tt (record x { fact = fact }) out good)
+
+  sealed_if_passes : (seals : Bool) (fact : Fact) → Passes (sealed_if seals fact)
+  sealed_if_passes true fact x out next good go = sealed_ends fact x out next (λ seal. go tt (record x { fact = fact; seal = seal }) out good)
+  sealed_if_passes false fact x out next good go = saved_passes (Some fact) x out next good go
 
   -- ## Syncs
 
@@ -182,8 +202,8 @@ module _ (test : ℕ → Bool) (me : ℕ) (P : SavedFact → State → Out → T
   end_sync_passes : (r : Running) (entries : List Entry) → Passes (end_sync me r entries)
   end_sync_passes r entries x out next good go =
       installed_reads (needs_build r.sync.scan entries) entries (without_sync x) out
-      (λ u y o. saved (Some r.fact) y o (λ v z p. accepted_in me r.fact z.phase (record z { trusted = true }) p next))
-      (λ u. saved_passes (Some r.fact) (without_sync x) out (λ v z p. accepted_in me r.fact z.phase (record z { trusted = true }) p next) good
+      (λ u y o. sealed_if (keeps_seal y) r.fact y o (λ v z p. accepted_in me r.fact z.phase (record z { trusted = true }) p next))
+      (λ u. sealed_if_passes (keeps_seal (without_sync x)) r.fact (without_sync x) out (λ v z p. accepted_in me r.fact z.phase (record z { trusted = true }) p next) good
       (λ v z p fine. accepted_in_passes r.fact z.phase (record z { trusted = true }) p next fine go))
 
   by_outcome_passes : (r : Running) (outcome : Outcome) → Passes (by_outcome me r outcome)
@@ -236,7 +256,7 @@ module _ (test : ℕ → Bool) (me : ℕ) (P : SavedFact → State → Out → T
   followed_up_passes None turn keys x out next good go =
       at_fact _ _ (next (keyed turn keys) (turned me turn x) (turned_answers turn x out)) (turned_stays test me turn x).0 (go (keyed turn keys) (turned me turn x) (turned_answers turn x out) (turned_good turn x out good))
   followed_up_passes (Some own) turn keys x out next good go =
-      owned_reads own x out (λ seen y o. next (tasks.Again (asked_by own) (own_key own) seen ∷ []) y o) (λ seen. go (tasks.Again (asked_by own) (own_key own) seen ∷ []) x out good)
+      owned_reads own x out (λ seen y o. next (tasks.Again (asked_by own) (own_key own) seen ∷ []) y o) (λ seen seal. go (tasks.Again (asked_by own) (own_key own) seen ∷ []) (record x { seal = seal }) out good)
 
   lead_done_passes : (row : LeadOut) → AllTo test row.answers → Passes (lead_done me row)
   lead_done_passes row to x out next good go =
@@ -293,7 +313,7 @@ module _ (test : ℕ → Bool) (me : ℕ) (P : SavedFact → State → Out → T
 
   put_done_passes : (turn : Then) (from : ℕ) (ballot : Epoch) (o : Object) (row : PhaseOut) → Passes (put_done turn me from ballot o row)
   put_done_passes thens.Put from ballot o row x out next good go =
-      written_reads o x out (λ seen y p. row_done me (after_put from ballot row seen) y p next) (λ seen. row_done_passes (after_put from ballot row seen) x out next good go)
+      written_reads o x out (λ seen y p. row_done me (after_put from ballot row seen) y p next) (λ seen seal. row_done_passes (after_put from ballot row seen) (record x { seal = seal }) out next good go)
   put_done_passes thens.Stay from ballot o row x out next good go = row_done_passes row x out next good go
   put_done_passes thens.Follow from ballot o row x out next good go = row_done_passes row x out next good go
   put_done_passes (thens.Lead fact) from ballot o row x out next good go = row_done_passes row x out next good go
