@@ -1,6 +1,6 @@
 -- Counts of faults and refusals along a plan.
 use Rattle.std.specs.Prelude.{Option, Some, None}
-use Rattle.std.proofs.Common.{◌≡◌, ◌≤◌, ◌++◌, ◌∷◌, [], ℕ, List, Result, Ok, Err, inl, inr, ◌∙◌, ap, arith}
+use Rattle.std.proofs.Common.{◌≡◌, ◌≤◌, ◌++◌, ◌∷◌, [], ℕ, Bool, true, false, List, Result, inl, inr, ◌∙◌, ap, arith}
 use Rattle.ens_base.specs.Causes.{Rose}
 use Rattle.ens_hashing.specs.Hashing.{Book}
 use Rattle.ens_outside.specs.Stores.{BackendCall, BackendAnswer, NodeCall, NodeAnswer}
@@ -10,28 +10,17 @@ use Rattle.fact_store.specs.declared.error.KeepError.{KeepError}
 use Rattle.peer_fact.specs.declared.error.FactError.{FactError}
 use Rattle.peer_fact.specs.declared.saved.SavedFact.{SavedFact}
 use Rattle.register_model.specs.declared.note.Note.{Note}
-use Rattle.step_plans.specs.Calls.{Call, Load, Save, FreshTree, OpenTree, Find, Enter, ScanTree, ReadNode, Install, Fetch, Put, Hash, AnswerOf}
+use Rattle.step_plans.specs.Calls.{Call, Load, Save, FreshTree, OpenTree, Root, Find, Enter, ScanTree, ReadNode, Install, Fetch, Put, Hash, AnswerOf}
 use Rattle.step_plans.specs.Plans.{Plan, Done, Say, Ask, Out, Ending, Stopped, Runs, Follows}
 use Rattle.step_plans.specs.declared.error.PeerError.{PeerError}
 use Rattle.step_plans.specs.declared.error.PeerError.TheVariants as errors
 use Rattle.synctree.specs.declared.tree.Tree.{Tree}
 use Rattle.peer_plan.specs.Kept.{IsStepCall, IsCallError}
-use Rattle.peer_plan.specs.Starts.{IsStartError, Starts, start_of, saves_opening, opened}
-use Rattle.peer_core.specs.Stores.{stores_do, stores_refuse, FactsAlone, TreeLater, IsTreeError, AreLater, SomeRose, IsCause}
+use Rattle.peer_plan.specs.Starts.{IsStartError, start_of, saves_opening, seals_opening, opened}
+use Rattle.peer_stores.specs.Stores.{stores_do, stores_refuse, FactsAlone, TreeLater, IsTreeError, AreLater, SomeRose, IsCause}
+use Rattle.peer_state.specs.declared.state.Mode.{Mode}
 use Rattle.peer_state.specs.declared.state.State.{State}
-use Rattle.peer_core.specs.declared.stores.Stores.{Stores}
-
--- a start continues from what was kept
-pub began : {P : Type 0} (does : P → (call : Call) → AnswerOf call → P → Type 0) (refuses : P → Call → PeerError → P → Type 0) (view : List ℕ) (s m t : P) (found : Option SavedFact) (r : Result State PeerError)
-    → does s Load found m → Starts does refuses (opened view found) m r t → Starts does refuses (start_of view) s r t
-began does refuses view s m t found (Ok x) did ran = inr (inr (found, m, did, ran))
-began does refuses view s m t found (Err e) did ran = inr (inr (found, m, did, ran))
-
--- a start without a kept fact continues once the tree is empty
-pub freshened : {P : Type 0} (does : P → (call : Call) → AnswerOf call → P → Type 0) (refuses : P → Call → PeerError → P → Type 0) (view : List ℕ) (s m t : P) (r : Result State PeerError)
-    → does s FreshTree tt m → Starts does refuses (saves_opening view) m r t → Starts does refuses (opened view None) s r t
-freshened does refuses view s m t (Ok x) did ran = inr (inr (tt, m, did, ran))
-freshened does refuses view s m t (Err e) did ran = inr (inr (tt, m, did, ran))
+use Rattle.peer_stores.specs.declared.stores.Stores.{Stores}
 
 same_count : {A : Type 0} (count : A → ℕ) (a b : A) → b ≡ a → count a ≤ count b
 same_count count a b e = omega (arith, ap count e)
@@ -91,6 +80,7 @@ module _ {B N F H : Type 0} (gives : B → (call : BackendCall) → BackendAnswe
   do_later s (Save fact) a t did = facts_later s t did.1 did.2
   do_later s FreshTree a t did = tree_later s t did.1
   do_later s (OpenTree seal) a t did = tree_later s t did.1
+  do_later s Root a t did = tree_later s t did.1
   do_later s (Find key) a t did = tree_later s t did.1
   do_later s (Enter entry) a t did = tree_later s t did.1
   do_later s ScanTree a t did = tree_later s t did.1
@@ -122,6 +112,7 @@ module _ {B N F H : Type 0} (gives : B → (call : BackendCall) → BackendAnswe
   refusal_cause s (Save fact) e t off = fault s e t off.0 (inr (inr off.2.rose))
   refusal_cause s FreshTree e t off = tree_cause s e t off.1
   refusal_cause s (OpenTree seal) e t off = tree_cause s e t off.1
+  refusal_cause s Root e t off = tree_cause s e t off.1
   refusal_cause s (Find key) e t off = tree_cause s e t off.1
   refusal_cause s (Enter entry) e t off = tree_cause s e t off.1
   refusal_cause s ScanTree e t off = tree_cause s e t off.1
@@ -194,6 +185,7 @@ module _ {B N F H : Type 0} (gives : B → (call : BackendCall) → BackendAnswe
   -- why a call of a step is refused
   call_error : (s : Stores B N F × H) (call : Call) (e : PeerError) (t : Stores B N F × H) → IsStepCall call → stores_refuse loses b reads misses tops n drops kept f strings c d s call e t → IsCallError e
   call_error s (Save fact) e t is off = rw off.0 tt
+  call_error s Root e t is off = tree_refusal s e t off.1
   call_error s (Find key) e t is off = tree_refusal s e t off.1
   call_error s (Enter entry) e t is off = tree_refusal s e t off.1
   call_error s (Fetch key) errors.StoreFault t is off = tt
@@ -248,9 +240,9 @@ module _ {B N F H : Type 0} (gives : B → (call : BackendCall) → BackendAnswe
   still_backend : (s t : Stores B N F × H) → t ≡ s → t.0.backend ≡ s.0.backend
   still_backend s t same = ap (λ (k : Stores B N F × H). k.0.backend) same
 
-  opening_backend : (view : List ℕ) (s : Stores B N F × H) (ns : List Note) (e : PeerError) (t : Stores B N F × H) (ms : List Note)
-      → Runs (stores_do gives b reads tops n tells kept f strings c d) (stores_refuse loses b reads misses tops n drops kept f strings c d) (saves_opening view) s ns (Stopped e) t ms → t.0.backend ≡ s.0.backend
-  opening_backend view s ns e t ms ran = elim ran [
+  opening_backend : (mode : Mode) (view : List ℕ) (seal : Option (List ℕ)) (s : Stores B N F × H) (ns : List Note) (e : PeerError) (t : Stores B N F × H) (ms : List Note)
+      → Runs (stores_do gives b reads tops n tells kept f strings c d) (stores_refuse loses b reads misses tops n drops kept f strings c d) (saves_opening mode view seal) s ns (Stopped e) t ms → t.0.backend ≡ s.0.backend
+  opening_backend mode view seal s ns e t ms ran = elim ran [
     | inl cut ↦ still_backend s t cut.1
     | inr (inl off) ↦ off.1.3.0
     | inr (inr on) ↦ elim on.3 [
@@ -259,9 +251,18 @@ module _ {B N F H : Type 0} (gives : B → (call : BackendCall) → BackendAnswe
     ]
   ]
 
-  opened_backend : (view : List ℕ) (found : Option SavedFact) (s : Stores B N F × H) (ns : List Note) (e : PeerError) (t : Stores B N F × H) (ms : List Note)
-      → Runs (stores_do gives b reads tops n tells kept f strings c d) (stores_refuse loses b reads misses tops n drops kept f strings c d) (opened view found) s ns (Stopped e) t ms → t.0.backend ≡ s.0.backend
-  opened_backend view (Some fact) s ns e t ms ran = elim ran [
+  sealing_backend : (seals : Bool) (mode : Mode) (view : List ℕ) (s : Stores B N F × H) (ns : List Note) (e : PeerError) (t : Stores B N F × H) (ms : List Note)
+      → Runs (stores_do gives b reads tops n tells kept f strings c d) (stores_refuse loses b reads misses tops n drops kept f strings c d) (seals_opening seals mode view) s ns (Stopped e) t ms → t.0.backend ≡ s.0.backend
+  sealing_backend true mode view s ns e t ms ran = elim ran [
+    | inl cut ↦ still_backend s t cut.1
+    | inr (inl off) ↦ off.1.2.0
+    | inr (inr on) ↦ opening_backend mode view on.0 on.1 ns e t ms on.3 ∙ on.2.1.3.0
+  ]
+  sealing_backend false mode view s ns e t ms ran = opening_backend mode view None s ns e t ms ran
+
+  opened_backend : (mode : Mode) (view : List ℕ) (found : Option SavedFact) (s : Stores B N F × H) (ns : List Note) (e : PeerError) (t : Stores B N F × H) (ms : List Note)
+      → Runs (stores_do gives b reads tops n tells kept f strings c d) (stores_refuse loses b reads misses tops n drops kept f strings c d) (opened mode view found) s ns (Stopped e) t ms → t.0.backend ≡ s.0.backend
+  opened_backend mode view (Some fact) s ns e t ms ran = elim ran [
     | inl cut ↦ still_backend s t cut.1
     | inr (inl off) ↦ off.1.2.0
     | inr (inr on) ↦ elim on.3 [
@@ -269,19 +270,19 @@ module _ {B N F H : Type 0} (gives : B → (call : BackendCall) → BackendAnswe
       | inr end ↦ let none : ⊥ = grind (arith, end.0) in absurd none
     ]
   ]
-  opened_backend view None s ns e t ms ran = elim ran [
+  opened_backend mode view None s ns e t ms ran = elim ran [
     | inl cut ↦ still_backend s t cut.1
     | inr (inl off) ↦ off.1.2.0
-    | inr (inr on) ↦ opening_backend view on.1 ns e t ms on.3 ∙ on.2.1.3.0
+    | inr (inr on) ↦ sealing_backend mode.sealing mode view on.1 ns e t ms on.3 ∙ on.2.1.3.0
   ]
 
   -- a start that stopped left the backend as it was
-  pub start_backend : (view : List ℕ) (s : Stores B N F × H) (ns : List Note) (e : PeerError) (t : Stores B N F × H) (ms : List Note)
-      → Runs (stores_do gives b reads tops n tells kept f strings c d) (stores_refuse loses b reads misses tops n drops kept f strings c d) (start_of view) s ns (Stopped e) t ms → t.0.backend ≡ s.0.backend
-  start_backend view s ns e t ms ran = elim ran [
+  pub start_backend : (mode : Mode) (view : List ℕ) (s : Stores B N F × H) (ns : List Note) (e : PeerError) (t : Stores B N F × H) (ms : List Note)
+      → Runs (stores_do gives b reads tops n tells kept f strings c d) (stores_refuse loses b reads misses tops n drops kept f strings c d) (start_of mode view) s ns (Stopped e) t ms → t.0.backend ≡ s.0.backend
+  start_backend mode view s ns e t ms ran = elim ran [
     | inl cut ↦ still_backend s t cut.1
     | inr (inl off) ↦ off.1.2.0
-    | inr (inr on) ↦ opened_backend view on.0 on.1 ns e t ms on.3 ∙ on.2.3.0
+    | inr (inr on) ↦ opened_backend mode view on.0 on.1 ns e t ms on.3 ∙ on.2.3.0
   ]
 
   tree_start_error : (s : Stores B N F × H) (e : PeerError) (t : Stores B N F × H) → IsTreeError n c d s e t → IsStartError e
@@ -303,9 +304,9 @@ module _ {B N F H : Type 0} (gives : B → (call : BackendCall) → BackendAnswe
   load_error s (errors.Clash first second) t off = tt
   load_error s (errors.BookFull bytes) t off = tt
 
-  opening_only : (view : List ℕ) (s : Stores B N F × H) (ns : List Note) (e : PeerError) (t : Stores B N F × H) (ms : List Note)
-      → Runs (stores_do gives b reads tops n tells kept f strings c d) (stores_refuse loses b reads misses tops n drops kept f strings c d) (saves_opening view) s ns (Stopped e) t ms → IsStartError e
-  opening_only view s ns e t ms ran = elim ran [
+  opening_only : (mode : Mode) (view : List ℕ) (seal : Option (List ℕ)) (s : Stores B N F × H) (ns : List Note) (e : PeerError) (t : Stores B N F × H) (ms : List Note)
+      → Runs (stores_do gives b reads tops n tells kept f strings c d) (stores_refuse loses b reads misses tops n drops kept f strings c d) (saves_opening mode view seal) s ns (Stopped e) t ms → IsStartError e
+  opening_only mode view seal s ns e t ms ran = elim ran [
     | inl cut ↦ start_error e errors.Memory cut.0 tt
     | inr (inl off) ↦ start_error e off.0 off.2 (rw off.1.0 tt)
     | inr (inr on) ↦ elim on.3 [
@@ -314,9 +315,18 @@ module _ {B N F H : Type 0} (gives : B → (call : BackendCall) → BackendAnswe
     ]
   ]
 
-  opened_only : (view : List ℕ) (found : Option SavedFact) (s : Stores B N F × H) (ns : List Note) (e : PeerError) (t : Stores B N F × H) (ms : List Note)
-      → Runs (stores_do gives b reads tops n tells kept f strings c d) (stores_refuse loses b reads misses tops n drops kept f strings c d) (opened view found) s ns (Stopped e) t ms → IsStartError e
-  opened_only view (Some fact) s ns e t ms ran = elim ran [
+  sealing_only : (seals : Bool) (mode : Mode) (view : List ℕ) (s : Stores B N F × H) (ns : List Note) (e : PeerError) (t : Stores B N F × H) (ms : List Note)
+      → Runs (stores_do gives b reads tops n tells kept f strings c d) (stores_refuse loses b reads misses tops n drops kept f strings c d) (seals_opening seals mode view) s ns (Stopped e) t ms → IsStartError e
+  sealing_only true mode view s ns e t ms ran = elim ran [
+    | inl cut ↦ start_error e errors.Memory cut.0 tt
+    | inr (inl off) ↦ start_error e off.0 off.2 (tree_start_error s off.0 t off.1.1)
+    | inr (inr on) ↦ opening_only mode view on.0 on.1 ns e t ms on.3
+  ]
+  sealing_only false mode view s ns e t ms ran = opening_only mode view None s ns e t ms ran
+
+  opened_only : (mode : Mode) (view : List ℕ) (found : Option SavedFact) (s : Stores B N F × H) (ns : List Note) (e : PeerError) (t : Stores B N F × H) (ms : List Note)
+      → Runs (stores_do gives b reads tops n tells kept f strings c d) (stores_refuse loses b reads misses tops n drops kept f strings c d) (opened mode view found) s ns (Stopped e) t ms → IsStartError e
+  opened_only mode view (Some fact) s ns e t ms ran = elim ran [
     | inl cut ↦ start_error e errors.Memory cut.0 tt
     | inr (inl off) ↦ start_error e off.0 off.2 (tree_start_error s off.0 t off.1.1)
     | inr (inr on) ↦ elim on.3 [
@@ -324,17 +334,17 @@ module _ {B N F H : Type 0} (gives : B → (call : BackendCall) → BackendAnswe
       | inr end ↦ let none : ⊥ = grind (arith, end.0) in absurd none
     ]
   ]
-  opened_only view None s ns e t ms ran = elim ran [
+  opened_only mode view None s ns e t ms ran = elim ran [
     | inl cut ↦ start_error e errors.Memory cut.0 tt
     | inr (inl off) ↦ start_error e off.0 off.2 (tree_start_error s off.0 t off.1.1)
-    | inr (inr on) ↦ opening_only view on.1 ns e t ms on.3
+    | inr (inr on) ↦ sealing_only mode.sealing mode view on.1 ns e t ms on.3
   ]
 
   -- why a start failed
-  pub start_only : (view : List ℕ) (s : Stores B N F × H) (ns : List Note) (e : PeerError) (t : Stores B N F × H) (ms : List Note)
-      → Runs (stores_do gives b reads tops n tells kept f strings c d) (stores_refuse loses b reads misses tops n drops kept f strings c d) (start_of view) s ns (Stopped e) t ms → IsStartError e
-  start_only view s ns e t ms ran = elim ran [
+  pub start_only : (mode : Mode) (view : List ℕ) (s : Stores B N F × H) (ns : List Note) (e : PeerError) (t : Stores B N F × H) (ms : List Note)
+      → Runs (stores_do gives b reads tops n tells kept f strings c d) (stores_refuse loses b reads misses tops n drops kept f strings c d) (start_of mode view) s ns (Stopped e) t ms → IsStartError e
+  start_only mode view s ns e t ms ran = elim ran [
     | inl cut ↦ start_error e errors.Memory cut.0 tt
     | inr (inl off) ↦ start_error e off.0 off.2 (load_error s off.0 t off.1)
-    | inr (inr on) ↦ opened_only view on.0 on.1 ns e t ms on.3
+    | inr (inr on) ↦ opened_only mode view on.0 on.1 ns e t ms on.3
   ]

@@ -5,15 +5,15 @@ use Rattle.ens_outside.specs.Stores.{BackendCall, BackendAnswer, NodeCall, NodeA
 use Rattle.fact_store.specs.Keeping.{KeeperCall, KeeperAnswer}
 use Rattle.peer_fact.specs.declared.error.FactError.{FactError}
 use Rattle.peer_fact.specs.declared.saved.SavedFact.{SavedFact}
-use Rattle.step_plans.specs.Calls.{Call, Load, Save, FreshTree, OpenTree, Find, Enter, ScanTree, ReadNode, Install, Fetch, Put, Hash, AnswerOf}
+use Rattle.step_plans.specs.Calls.{Call, Load, Save, FreshTree, OpenTree, Root, Find, Enter, ScanTree, ReadNode, Install, Fetch, Put, Hash, AnswerOf}
 use Rattle.step_plans.specs.declared.walked.Walked.TheVariants.{Reached, Broken as Ended}
 use Rattle.tree_node.specs.declared.version.TreeVersion.TheVariants.{One}
 use Rattle.synctree.specs.Nodes.{node_plan}
 use Rattle.synctree.specs.Trees.{get_plan, insert_plan}
 use Rattle.tree_maps.specs.Sixteen.{form_of}
 use Rattle.peer_plan.specs.Kept.{IsSound}
-use Rattle.peer_core.specs.Stores.{stores_do}
-use Rattle.peer_core.specs.declared.stores.Stores.{Stores}
+use Rattle.peer_stores.specs.Stores.{stores_do}
+use Rattle.peer_stores.specs.declared.stores.Stores.{Stores}
 use Rattle.peer_plan.proofs.Inside.{walked_inside, get_inside, insert_inside, node_inside}
 
 module _ {B N F H : Type 0} (gives : B → (call : BackendCall) → BackendAnswer call → B → Type 0) (b : B → ℕ) (reads : N → (call : NodeCall) → NodeAnswer call → N → Type 0)
@@ -28,6 +28,7 @@ module _ {B N F H : Type 0} (gives : B → (call : BackendCall) → BackendAnswe
   stores_sound s (Save fact) a t told = tt
   stores_sound s FreshTree a t told = tt
   stores_sound s (OpenTree seal) a t told = tt
+  stores_sound s Root a t told = tt
   stores_sound s ScanTree a t told = tt
   stores_sound s (ReadNode at) (Reached node) t told = λ is. tt
   stores_sound s (ReadNode at) (Ended place) t told = λ is. walked_inside _ (node_plan (form_of One) s.0.tree.top at) _ place _ (node_inside s.0.tree.top at is) told.0.0

@@ -16,10 +16,10 @@ use Rattle.step_plans.specs.declared.outbox.Outbox.{Outbox}
 use Rattle.peer_state.specs.Ages.{IsYoung, is_young}
 use Rattle.peer_plan.specs.Drives.{step_of, MayCome}
 use Rattle.peer_plan.specs.Kept.{IsCallError, IsStepError}
-use Rattle.peer_core.specs.Stores.{stores_do, stores_refuse, IsCause}
+use Rattle.peer_stores.specs.Stores.{stores_do, stores_refuse, IsCause}
 use Rattle.peer_state.specs.declared.event.Event.{Event}
 use Rattle.peer_state.specs.declared.state.State.{State}
-use Rattle.peer_core.specs.declared.stores.Stores.{Stores}
+use Rattle.peer_stores.specs.declared.stores.Stores.{Stores}
 use Rattle.peer_plan.proofs.Aging.{steps_young}
 use Rattle.peer_core.proofs.Counts.{stopped_cause, stopped_only}
 use Rattle.peer_state.proofs.Young.{young}

@@ -1,5 +1,3 @@
 pub mod Counts
 pub mod Halts
 pub mod Damage
-mod TreeCounts
-pub mod SameStores

@@ -5,14 +5,13 @@ ghost use Rattle.peer_plan.specs.Kept.{IsOwn};
 ghost use Rattle.peer_plan.specs.Own.{own_props};
 ghost use Rattle.peer_state.specs.NoAllocation.{IsSteady};
 
-use crate::machine::Machine;
-use crate::starting::start;
-use crate::stores::Stores;
 use ens_base::{PeerId, View};
 use ens_hashing::Hasher16;
 use ens_outside::{Backend, NodeStore};
 use fact_store::FactKeeper;
-use peer_state::{Event, State};
+use peer_machine::{Machine, start};
+use peer_state::{Event, Mode, State};
+use peer_stores::Stores;
 use std::alloc::Global;
 use std::thread::Threads;
 use step_plans::{Outbox, PeerError};
@@ -58,12 +57,13 @@ impl<B: Backend, N: NodeStore, F: FactKeeper> Peer<B, N, F> {
     ghost use Rattle.peer_state.specs.Moves.{waits};
     ghost use Rattle.peer_state.specs.NoAllocation.{IsAllocationFree};
     ghost use Rattle.peer_plan.specs.Starts.{IsStartError, start_of};
-    ghost use Rattle.peer_core.specs.Stores.{IsCause, stores_do, stores_refuse};
+    ghost use Rattle.peer_stores.specs.Stores.{IsCause, stores_do, stores_refuse};
 
     /// Rule 1: starts the peer `me`, 1 to 31, on its stores. If they keep no fact, the peer saves
     /// the opening fact of an ensemble with the view `opening`, and starts with an empty tree, which
-    /// it trusts. Otherwise it continues from the kept fact, and opens its tree, which it does not
-    /// trust. The peer follows.
+    /// it trusts; with `sealing` the fact has the root of that tree as its seal. Otherwise the peer
+    /// continues from the kept fact, and opens its tree, which it does not trust: if the fact has a
+    /// seal and the top record differs from it, the root of the tree is damaged. The peer follows.
     ///
     /// # Errors
     ///
@@ -75,19 +75,20 @@ impl<B: Backend, N: NodeStore, F: FactKeeper> Peer<B, N, F> {
         alloc: Global,
         me: PeerId,
         opening: View,
+        mode: Mode,
         stores: Stores<B, N, F>,
         hasher: &mut H,
     ) -> Result<Peer<B, N, F>, StartError<B, N, F>>
         requires { IsPeer me }
         ensures me { IfOk result (λ p. (p.me ≡ me) × (p.halted ≡ false)) }
-        ensures started { IfOk result (λ p. Runs (stores_do B.may_answer B.fault_count N.may_answer N.top_record N.fault_count F.may_answer F.kept F.fault_count H.kept H.clashes H.fulls) (stores_refuse B.may_refuse B.fault_count N.may_answer N.may_refuse N.top_record N.fault_count F.may_refuse F.kept F.fault_count H.kept H.clashes H.fulls) (start_of opening) (stores, hasher.old) [] (Finished p.machine.state nothing) (p.machine.stores, hasher.new) []) }
-        ensures stopped { IfErr result (λ r. Runs (stores_do B.may_answer B.fault_count N.may_answer N.top_record N.fault_count F.may_answer F.kept F.fault_count H.kept H.clashes H.fulls) (stores_refuse B.may_refuse B.fault_count N.may_answer N.may_refuse N.top_record N.fault_count F.may_refuse F.kept F.fault_count H.kept H.clashes H.fulls) (start_of opening) (stores, hasher.old) [] (Stopped r.error) (r.held, hasher.new) []) }
+        ensures started { IfOk result (λ p. Runs (stores_do B.may_answer B.fault_count N.may_answer N.top_record N.fault_count F.may_answer F.kept F.fault_count H.kept H.clashes H.fulls) (stores_refuse B.may_refuse B.fault_count N.may_answer N.may_refuse N.top_record N.fault_count F.may_refuse F.kept F.fault_count H.kept H.clashes H.fulls) (start_of mode opening) (stores, hasher.old) [] (Finished p.machine.state nothing) (p.machine.stores, hasher.new) []) }
+        ensures stopped { IfErr result (λ r. Runs (stores_do B.may_answer B.fault_count N.may_answer N.top_record N.fault_count F.may_answer F.kept F.fault_count H.kept H.clashes H.fulls) (stores_refuse B.may_refuse B.fault_count N.may_answer N.may_refuse N.top_record N.fault_count F.may_refuse F.kept F.fault_count H.kept H.clashes H.fulls) (start_of mode opening) (stores, hasher.old) [] (Stopped r.error) (r.held, hasher.new) []) }
         ensures untouched { IfErr result (λ r. r.held.backend ≡ stores.backend) }
         ensures causes { IfErr result (λ r. IsCause B.fault_count N.fault_count F.fault_count H.clashes H.fulls (stores, hasher.old) (r.held, hasher.new) r.error) }
         ensures only { IfErr result (λ r. IsStartError r.error) }
     {
         let mut stores = stores;
-        match start(&mut stores, hasher, alloc, opening) {
+        match start(&mut stores, hasher, alloc, mode, opening) {
             Ok(state) => Ok(Peer {
                 me,
                 machine: Machine { state, stores },

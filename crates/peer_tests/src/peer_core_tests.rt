@@ -7,7 +7,7 @@ use ens_base::{Epoch, PeerId, View, ViewError};
 use ens_hashing::PlainHasher;
 use ens_outside::{MemBackend, MemNodes};
 use fact_store::{FactKeeper, Kept, MemFacts};
-use peer_core::{Event, Peer, StartError, Stores};
+use peer_core::{Event, Mode, Peer, StartError, Stores};
 use peer_fact::{Change, Fact, SavedFact};
 use slot_disk::Failing;
 use std::alloc::Global;
@@ -47,7 +47,8 @@ fn started(alloc: Global, number: u32, view: View, stores: Held) -> Result<Tried
     requires { IsPeer number }
     ensures { IfOk result (λ p. p.me ≡ number) }
 {
-    match Peer::start(alloc, PeerId(number), view, stores, &mut PlainHasher) {
+    let mode = Mode { sealing: false };
+    match Peer::start(alloc, PeerId(number), view, mode, stores, &mut PlainHasher) {
         Ok(peer) => Ok(peer),
         Err(refused) => {
             let StartError { error, held: _ } = refused;

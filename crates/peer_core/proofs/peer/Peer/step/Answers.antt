@@ -1,7 +1,7 @@
 use Rattle.std.specs.Prelude.{is_err, OnOk, OnErr}
 use Rattle.std.proofs.Common.{◌≡◌, Bool, false, true, Result, Ok, Err, sym, ◌∙◌}
 use Rattle.std.proofs.lemmas.Bool.{true≢false}
-use Rattle.peer_core.specs.Stores.{stores_do, stores_refuse}
+use Rattle.peer_stores.specs.Stores.{stores_do, stores_refuse}
 use Rattle.peer_core.proofs.Damage.{stores_sound}
 use Rattle.peer_core.proofs.Halts.{causes, only, not_halted}
 use Rattle.peer_plan.proofs.Ends.{on_ok}

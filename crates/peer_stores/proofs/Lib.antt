@@ -1,0 +1,2 @@
+mod TreeCounts
+pub mod SameStores
