@@ -1,4 +1,5 @@
 -- A peer that started, step by step.
+use Rattle.peer_state.specs.declared.state.Mode.{Mode}
 use Rattle.std.proofs.Common.{◌≤◌, ◌<◌, ◌+◌, ◌^◌, arith, sym, subst, length, ℕ, Bool, List, [], ◌∷◌, None}
 use Rattle.peer_fact.specs.declared.saved.SavedFact.{SavedFact}
 use Rattle.phase_rows.specs.declared.rules.PhaseRule.TheVariants as phase_rules
@@ -16,10 +17,11 @@ use Rattle.step_plans.specs.declared.tasks.Task.{Task}
 use Rattle.step_plans.specs.declared.tasks.Task.TheVariants as tasks
 use Rattle.step_bounds.specs.Limits.{or_else, end_or, step_or}
 use Rattle.step_bounds.specs.Reached.{MayEnd, Reached, calls_of, calls_among, unanswered}
-use Rattle.step_bounds.specs.Resting.{IsResting}
+use Rattle.step_bounds.specs.Resting.{IsResting, LeadsWhole}
 use Rattle.step_bounds.proofs.Counts.{count, least}
 use Rattle.step_bounds.proofs.Pairs.{responded_safe, concluded_safe}
 use Rattle.step_bounds.proofs.Walking.{responded_passes, concluded_passes}
+use Rattle.step_bounds.proofs.Wholes.{step_whole}
 
 -- after a step, the calls are those from before and those of the event, or fewer
 step_few : (me k : ℕ) (event : Event) (x : State) → count x.phase + calls_of event ≤ k → Follows IsStepCall (λ y o. count y.phase ≤ k) (step_of me event x)
@@ -37,12 +39,12 @@ ended R (Ask call next) y follows (a, end) = ended R (next a) y (follows.1 a) en
 room_for : (a b c : ℕ) → a ≤ b → a + c ≤ c + b
 room_for a b c less = omega (arith, less)
 
-pub reached_few : (me : ℕ) (saved : SavedFact) (trusted : Bool) (events : List Event) (x : State) → Reached me saved trusted events x → length (unanswered x.phase) ≤ calls_among events
-reached_few me saved trusted [] x is = subst (λ (y : State). length (unanswered y.phase) ≤ 0) (sym is) (least 0)
-reached_few me saved trusted (event ∷ events) x (y, before, end) =
+pub reached_few : (me : ℕ) (mode : Mode) (saved : SavedFact) (trusted : Bool) (events : List Event) (x : State) → Reached me mode saved trusted events x → length (unanswered x.phase) ≤ calls_among events
+reached_few me mode saved trusted [] x is = subst (λ (y : State). length (unanswered y.phase) ≤ 0) (sym is) (least 0)
+reached_few me mode saved trusted (event ∷ events) x (y, before, end) =
     let k : ℕ = calls_of event + calls_among events in
     ended (λ z. count z.phase ≤ k) (step_of me event y) x
-    (step_few me k event y (room_for (count y.phase) (calls_among events) (calls_of event) (reached_few me saved trusted events y before))) end
+    (step_few me k event y (room_for (count y.phase) (calls_among events) (calls_of event) (reached_few me mode saved trusted events y before))) end
 
 few_calls : (phase : Phase) (n : ℕ) → count phase ≤ n → n < 2 ^ 60 → HasFewCalls phase
 few_calls (phases.Leading l) n less few = omega (arith, less, few)
@@ -90,19 +92,25 @@ step_rests me k event x less room rests =
 fewer : (a b c : ℕ) → c + b < a → b < a
 fewer a b c less = omega (arith, less)
 
-pub reached_rests : (me : ℕ) (saved : SavedFact) (trusted : Bool) (events : List Event) (x : State) → Reached me saved trusted events x → calls_among events < 2 ^ 60 → IsResting x.phase
-reached_rests me saved trusted [] x is less = subst (λ (y : State). IsResting y.phase) (sym is) tt
-reached_rests me saved trusted (event ∷ events) x (y, before, end) less =
+pub reached_rests : (me : ℕ) (mode : Mode) (saved : SavedFact) (trusted : Bool) (events : List Event) (x : State) → Reached me mode saved trusted events x → calls_among events < 2 ^ 60 → IsResting x.phase
+reached_rests me mode saved trusted [] x is less = subst (λ (y : State). IsResting y.phase) (sym is) tt
+reached_rests me mode saved trusted (event ∷ events) x (y, before, end) less =
     let k : ℕ = calls_of event + calls_among events in
     ended (λ z. IsResting z.phase) (step_of me event y) x
-    (step_rests me k event y less (room_for (count y.phase) (calls_among events) (calls_of event) (reached_few me saved trusted events y before))
-    (reached_rests me saved trusted events y before (fewer (2 ^ 60) (calls_among events) (calls_of event) less))) end
+    (step_rests me k event y less (room_for (count y.phase) (calls_among events) (calls_of event) (reached_few me mode saved trusted events y before))
+    (reached_rests me mode saved trusted events y before (fewer (2 ^ 60) (calls_among events) (calls_of event) less))) end
 
-module _ (other : Rest State (List Task)) (me : ℕ) (saved : SavedFact) (trusted : Bool) (event : Event) (events : List Event) (x : State) where
-  pub none_left : Reached me saved trusted events x → calls_among (event ∷ events) < 2 ^ 60 → StepsAlone (step_or other me event x)
+pub reached_whole : (me : ℕ) (mode : Mode) (saved : SavedFact) (trusted : Bool) (events : List Event) (x : State) → Reached me mode saved trusted events x → calls_among events < 2 ^ 60 → LeadsWhole x.phase
+reached_whole me mode saved trusted [] x is less = subst (λ (y : State). LeadsWhole y.phase) (sym is) tt
+reached_whole me mode saved trusted (event ∷ events) x (y, before, end) less =
+    let few : calls_among events < 2 ^ 60 = fewer (2 ^ 60) (calls_among events) (calls_of event) less in
+    ended (λ z. LeadsWhole z.phase) (step_of me event y) x (step_whole me event y (reached_rests me mode saved trusted events y before few) (reached_whole me mode saved trusted events y before few)) end
+
+module _ (other : Rest State (List Task)) (me : ℕ) (mode : Mode) (saved : SavedFact) (trusted : Bool) (event : Event) (events : List Event) (x : State) where
+  pub none_left : Reached me mode saved trusted events x → calls_among (event ∷ events) < 2 ^ 60 → StepsAlone (step_or other me event x)
   none_left reached less =
       let k : ℕ = calls_among (event ∷ events) in
       let P : State → Out → Type 0 = λ y o. Unit {0} in
-      after_event me k less P (or_else other (end_or other me)) event x (room_for (count x.phase) (calls_among events) (calls_of event) (reached_few me saved trusted events x reached))
-      (reached_rests me saved trusted events x reached (fewer (2 ^ 60) (calls_among events) (calls_of event) less))
+      after_event me k less P (or_else other (end_or other me)) event x (room_for (count x.phase) (calls_among events) (calls_of event) (reached_few me mode saved trusted events x reached))
+      (reached_rests me mode saved trusted events x reached (fewer (2 ^ 60) (calls_among events) (calls_of event) less))
       (λ y o few still. after_end me k less P (or_else other (λ v w q. Done w q)) y o few still (λ z q fine end. tt))

@@ -21,12 +21,12 @@ use Rattle.leading.specs.Puts.{row_35_reply}
 use Rattle.leading.specs.Rounds.{row_29_reply, row_33_reply}
 use Rattle.leading.specs.Rules.{lead_row}
 use Rattle.leading.specs.Starts.{row_27}
-use Rattle.leading.specs.Steps.{Serves, IsTimely}
+use Rattle.leading_laws.specs.Steps.{Serves, IsTimely}
 use Rattle.leading.specs.Ticks.{Finishing as Ending, is_late, aged as aged_table, row_5_calls}
 use Rattle.leading.specs.declared.leader.Leader.{Leader}
-use Rattle.leading.proofs.Moves.{either}
-use Rattle.leading.proofs.Steps.{lead_step, row_29_reply_step, row_33_reply_step, row_35_reply_step}
-use Rattle.leading.proofs.TimeOuts.{row_5_ticks}
+use Rattle.leading.proofs.Cases.{either}
+use Rattle.leading_laws.proofs.Steps.{lead_step, row_29_reply_step, row_33_reply_step, row_35_reply_step}
+use Rattle.leading_laws.proofs.TimeOuts.{row_5_ticks}
 use Rattle.peer_fact.specs.declared.fact.Change.{Change}
 use Rattle.peer_fact.specs.declared.fact.Change.TheVariants.{Add}
 use Rattle.peer_fact.specs.declared.fact.Fact.{Fact}

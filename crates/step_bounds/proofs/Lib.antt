@@ -1,5 +1,10 @@
 pub mod Counts
 pub mod Walking
+pub mod Phased
 pub mod Rested
 pub mod Pairs
+pub mod Wholes
 pub mod Bounds
+pub mod Walks
+pub mod Taken
+pub mod Answered

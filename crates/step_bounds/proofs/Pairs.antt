@@ -1,4 +1,5 @@
 -- A step beside the same step with a mark where a task is left: it leaves the peer at rest.
+use Rattle.std.specs.Option.{is_some}
 use Rattle.std.proofs.Common.{◌≡◌, ◌≤◌, ◌+◌, ◌||◌, arith, refl, sym, subst, ◌∙◌, length, map, ℕ, zero, suc, Bool, true, false, if◌then◌else◌, List, [], ◌∷◌, ◌++◌, Option, Some, None}
 use Rattle.election.specs.declared.election.Election.{Election}
 use Rattle.election.specs.declared.election.Election.TheVariants.{Preparing, Starting}
@@ -26,23 +27,23 @@ use Rattle.leading.specs.Puts.{row_35_reply}
 use Rattle.leading.specs.Rounds.{row_29_reply, row_33_reply}
 use Rattle.leading.specs.Rules.{lead_row}
 use Rattle.leading.specs.Starts.{row_27}
-use Rattle.leading.specs.Steps.{NamesOn, Fits, IsReady, IsReadyFor, IsCalm, IsAtRest, is_start}
-use Rattle.leading.specs.Measure.{turns_seen}
+use Rattle.leading_laws.specs.Steps.{NamesOn, Fits, IsReady, IsReadyFor, IsCalm, IsAtRest, is_start}
+use Rattle.leading_laws.specs.Measure.{turns_seen}
 use Rattle.leading.specs.Ticks.{is_late, aged as aged_table}
 use Rattle.leading.specs.declared.leader.Leader.{Leader}
 use Rattle.leading.specs.declared.pending.Pending.{Pending as LeadTask}
-use Rattle.leading.proofs.Idle.{calm_kept}
-use Rattle.leading.proofs.Joins.{row_27_joins}
-use Rattle.leading.proofs.Steps.{lead_step, row_29_reply_step, row_33_reply_step, row_35_reply_step}
-use Rattle.leading.proofs.TimeOuts.{row_5_ticks}
+use Rattle.leading_laws.proofs.Idle.{calm_kept}
+use Rattle.leading_laws.proofs.Joins.{row_27_joins}
+use Rattle.leading_laws.proofs.Steps.{lead_step, row_29_reply_step, row_33_reply_step, row_35_reply_step}
+use Rattle.leading_laws.proofs.TimeOuts.{row_5_ticks}
 use Rattle.peer_fact.specs.declared.fact.Fact.{Fact}
 use Rattle.peer_plan.specs.Drives.{row_done, owned, own_key, followed_up, and_row, lead_done, lead, reminded, task_done, driven, led_in, shown, after_put, put_done, delivered, unavailable, first, and_change, most_turns}
 use Rattle.peer_plan.specs.Kept.{IsStepCall}
-use Rattle.peer_plan.specs.Owns.{digested, read, kept, fetched, held, looked_at, looked, found_at, found, entered, written, confirmed}
-use Rattle.peer_plan.specs.Syncs.{saved, and_sends, with_sync, accepted, accepted_own, accepted_in, by_outcome, go_on, resume_sync, followed_on, needs_node, take_give, installed, reached, own_node, body_of, shown_node}
+use Rattle.peer_plan.specs.Owns.{digested, read, kept, fetched, held, looked_at, looked, found_at, found, entered, written, confirmed, stored, resealed}
+use Rattle.peer_plan.specs.Syncs.{saved, and_sends, with_sync, accepted, accepted_own, accepted_in, by_outcome, go_on, resume_sync, followed_on, needs_node, take_give, installed, reached, own_node, body_of, shown_node, sealed, sealed_if}
 use Rattle.peer_plan.specs.Turns.{StepsAlone}
 use Rattle.peer_state.specs.Leading.{older, end_of, ticks, row_5_calls, wished, begins}
-use Rattle.peer_state.specs.Moves.{left, left_answers, turned, turned_answers, leading, with_leader, and_answers, electing, without_sync}
+use Rattle.peer_state.specs.Moves.{left, left_answers, turned, turned_answers, leading, with_leader, and_answers, electing, without_sync, keeps_seal}
 use Rattle.peer_state.specs.Rows.{aged, phase_row, received, asked_change, leads, changes}
 use Rattle.peer_state.specs.declared.event.Event.{Event}
 use Rattle.peer_state.specs.declared.event.Event.TheVariants as events
@@ -63,7 +64,8 @@ use Rattle.phase_rows.specs.declared.rules.PhaseRule.TheVariants as phase_rules
 use Rattle.running_sync.specs.Rows.{row_start, row_resume, row_take}
 use Rattle.running_sync.specs.Running.{Running}
 use Rattle.running_sync.specs.declared.asking.Give.{Give}
-use Rattle.step_plans.specs.Calls.{Call, Find, Enter, ScanTree, ReadNode, Install, Fetch, Put, Hash}
+use Rattle.step_plans.specs.Saved.{with_seal}
+use Rattle.step_plans.specs.Calls.{Call, Find, Enter, ScanTree, ReadNode, Install, Fetch, Put, Hash, Root, Save}
 use Rattle.step_plans.specs.Plans.{Plan, Out, Rest, Part, Follows, asked, noted}
 use Rattle.step_plans.specs.Sends.{posted_to}
 use Rattle.step_plans.specs.Tasks.{named, keyed}
@@ -281,11 +283,27 @@ module _ (k me : ℕ) (P : State → Out → Type 0) where
   found_asks : (key : List ℕ) → Asks (found key)
   found_asks key x out next mark go = asked_asks (Find key) x out (λ end y p. next (found_at end) y p) (λ end y p. mark (found_at end) y p) (λ end. go (found_at end))
 
-  entered_asks : (o : Object) (bytes digest : List ℕ) (end : Walked (Unit {0})) → Asks (entered o bytes digest end)
-  entered_asks o bytes digest (Broken at) x out next mark go = go (seens.Damaged at)
-  entered_asks o bytes digest (Reached u) x out next mark go = asked_asks (Put o.key bytes) x out (λ v y p. next (seens.Stored digest) y p) (λ v y p. mark (seens.Stored digest) y p) (λ v. go (seens.Stored digest))
+  -- the same of a part at whose end the peer may have another seal
+  abbrev AsksAnew : {A : Type 0} → Part State A → Type 0
+  AsksAnew {A} part = (x : State) (out : Out) (next mark : Rest State A) → ((v : A) (seal : Option (List ℕ)) → Safe (next v (record x { seal = seal }) out) (mark v (record x { seal = seal }) out)) → Safe (part x out next) (part x out mark)
 
-  written_asks : (o : Object) → Asks (written o)
+  sealed_asks : (fact : Fact) (x : State) (out : Out) (next mark : Rest State (Unit {0})) → ((seal : Option (List ℕ)) → Safe (next tt (record x { fact = fact; seal = seal }) out) (mark tt (record x { fact = fact; seal = seal }) out))
+      → Safe (sealed fact x out next) (sealed fact x out mark)
+  sealed_asks fact x out next mark go =
+      asked_asks Root x out (λ root y o. asked (Save (with_seal root fact)) y o (λ u z q. next tt (record z { fact = fact; seal = root }) q)) (λ root y o. asked (Save (with_seal root fact)) y o (λ u z q. mark tt (record z { fact = fact; seal = root }) q))
+      (λ root. asked_asks (Save (with_seal root fact)) x out (λ u z q. next tt (record z { fact = fact; seal = root }) q) (λ u z q. mark tt (record z { fact = fact; seal = root }) q) (λ u. go root))
+
+  resealed_asks : (seals : Bool) → AsksAnew (resealed seals)
+  resealed_asks true x out next mark go = sealed_asks x.fact x out next mark (λ seal. go tt seal)
+  resealed_asks false x out next mark go = go tt x.seal
+
+  entered_asks : (o : Object) (bytes digest : List ℕ) (end : Walked (Unit {0})) → AsksAnew (entered o bytes digest end)
+  entered_asks o bytes digest (Broken at) x out next mark go = go (seens.Damaged at) x.seal
+  entered_asks o bytes digest (Reached u) x out next mark go =
+      resealed_asks (is_some x.seal) x out (λ v y p. stored o bytes digest y p next) (λ v y p. stored o bytes digest y p mark)
+      (λ v seal. asked_asks (Put o.key bytes) (record x { seal = seal }) out (λ w y p. next (seens.Stored digest) y p) (λ w y p. mark (seens.Stored digest) y p) (λ w. go (seens.Stored digest) seal))
+
+  written_asks : (o : Object) → AsksAnew (written o)
   written_asks o x out next mark go =
       let bytes = object_spelling o in
       asked_asks (Hash bytes) x out (λ digest y p. asked (Enter (entry_of o digest)) y p (λ end z q. entered o bytes digest end z q next)) (λ digest y p. asked (Enter (entry_of o digest)) y p (λ end z q. entered o bytes digest end z q mark))
@@ -301,9 +319,9 @@ module _ (k me : ℕ) (P : State → Out → Type 0) where
   if_safe true p q p' q' first second = first
   if_safe false p q p' q' first second = second
 
-  owned_asks : (own : Own) → Asks (owned own)
-  owned_asks (owns.Fetch key) x out next mark go = fetched_asks key x out next mark go
-  owned_asks (owns.Look key) x out next mark go = looked_asks key x out next mark go
+  owned_asks : (own : Own) → AsksAnew (owned own)
+  owned_asks (owns.Fetch key) x out next mark go = fetched_asks key x out next mark (λ seen. go seen x.seal)
+  owned_asks (owns.Look key) x out next mark go = looked_asks key x out next mark (λ seen. go seen x.seal)
   owned_asks (owns.Put o) x out next mark go = written_asks o x out next mark go
 
   noted_safe : (notes : List Note) (p q : Plan State) → Safe p q → Safe (noted notes p) (noted notes q)
@@ -341,6 +359,11 @@ module _ (k me : ℕ) (P : State → Out → Type 0) where
   saved_safe None x out next mark few rests go = go x out few rests
   saved_safe (Some fact) x out next mark few rests go = λ alone. (tt, λ u. go (record x { fact = fact }) out few rests (alone.1 u))
 
+  sealed_if_safe : (seals : Bool) (fact : Fact) (x : State) (out : Out) (next mark : Rest State (Unit {0})) → count x.phase ≤ k → IsResting x.phase
+      → ((y : State) (o : Out) → count y.phase ≤ k → IsResting y.phase → Safe (next tt y o) (mark tt y o)) → Safe (sealed_if seals fact x out next) (sealed_if seals fact x out mark)
+  sealed_if_safe true fact x out next mark few rests go = sealed_asks fact x out next mark (λ seal. go (record x { fact = fact; seal = seal }) out few rests)
+  sealed_if_safe false fact x out next mark few rests go = saved_safe (Some fact) x out next mark few rests go
+
   accepted_own_safe : (e : Election) → Passes (accepted_own me e)
   accepted_own_safe (Starting new accepts age) x out next mark few rests go = go (tasks.Phase phase_rules.EnoughAccepted ∷ []) (electing (Starting new (joined me accepts) age) x) out (least k) (tt, tt)
   accepted_own_safe (Preparing base promises sent age) x out next mark few rests go = go [] x out few rests
@@ -355,9 +378,9 @@ module _ (k me : ℕ) (P : State → Out → Type 0) where
   by_outcome_safe r Pending x out next mark few rests go = go [] (with_sync r x) out few rests
   by_outcome_safe r (Trusted entries) x out next mark few rests go =
       installed_asks (needs_build r.sync.scan entries) entries (without_sync x) out
-      (λ u y o. saved (Some r.fact) y o (λ v z p. accepted_in me r.fact z.phase (record z { trusted = true }) p next))
-      (λ u y o. saved (Some r.fact) y o (λ v z p. accepted_in me r.fact z.phase (record z { trusted = true }) p mark))
-      (λ u. saved_safe (Some r.fact) (without_sync x) out (λ v z p. accepted_in me r.fact z.phase (record z { trusted = true }) p next) (λ v z p. accepted_in me r.fact z.phase (record z { trusted = true }) p mark) few rests
+      (λ u y o. sealed_if (keeps_seal y) r.fact y o (λ v z p. accepted_in me r.fact z.phase (record z { trusted = true }) p next))
+      (λ u y o. sealed_if (keeps_seal y) r.fact y o (λ v z p. accepted_in me r.fact z.phase (record z { trusted = true }) p mark))
+      (λ u. sealed_if_safe (keeps_seal (without_sync x)) r.fact (without_sync x) out (λ v z p. accepted_in me r.fact z.phase (record z { trusted = true }) p next) (λ v z p. accepted_in me r.fact z.phase (record z { trusted = true }) p mark) few rests
       (λ z p less still. accepted_in_safe r.fact z.phase (record z { trusted = true }) p next mark less still go))
 
   go_on_safe : (r : Running × List Outgoing) → Passes (go_on me r)
@@ -405,7 +428,7 @@ module _ (k me : ℕ) (P : State → Out → Type 0) where
       go (keyed turn keys) (turned me turn x) (turned_answers turn x out) (trans (count (turned me turn x).phase) (count x.phase) k (turned_few me turn x) few) (turned_ready me key turn keys x names after)
   followed_up_safe key (Some own) turn keys x out next mark few names on after go =
       owned_asks own x out (λ seen y o. next (tasks.Again (asked_by own) (own_key own) seen ∷ []) y o) (λ seen y o. mark (tasks.Again (asked_by own) (own_key own) seen ∷ []) y o)
-      (λ seen. go (tasks.Again (asked_by own) (own_key own) seen ∷ []) x out few (again_fits key (own_key own) own turn seen x.phase on after, tt))
+      (λ seen seal. go (tasks.Again (asked_by own) (own_key own) seen ∷ []) (record x { seal = seal }) out few (again_fits key (own_key own) own turn seen x.phase on after, tt))
 
   lead_done_safe : (key : List ℕ) (row : LeadOut) (x : State) (out : Out) (next mark : Rest State (List Task)) → count x.phase ≤ k
       → NamesOn key row.then row.keys → OwnOn key row.own → After key row.own row.then x.phase → Goes next mark → Safe (lead_done me row x out next) (lead_done me row x out mark)
@@ -593,7 +616,7 @@ module _ (k me : ℕ) (P : State → Out → Type 0) where
 
   put_done_safe : (turn : Then) (from : ℕ) (ballot : Epoch) (o : Object) (row : PhaseOut) → Passes (put_done turn me from ballot o row)
   put_done_safe thens.Put from ballot o row x out next mark few rests go =
-      written_asks o x out (λ seen y p. row_done me (after_put from ballot row seen) y p next) (λ seen y p. row_done me (after_put from ballot row seen) y p mark) (λ seen. row_done_safe (after_put from ballot row seen) x out next mark few rests go)
+      written_asks o x out (λ seen y p. row_done me (after_put from ballot row seen) y p next) (λ seen y p. row_done me (after_put from ballot row seen) y p mark) (λ seen seal. row_done_safe (after_put from ballot row seen) (record x { seal = seal }) out next mark few rests go)
   put_done_safe thens.Stay from ballot o row x out next mark few rests go = row_done_safe row x out next mark few rests go
   put_done_safe thens.Follow from ballot o row x out next mark few rests go = row_done_safe row x out next mark few rests go
   put_done_safe (thens.Lead fact) from ballot o row x out next mark few rests go = row_done_safe row x out next mark few rests go

@@ -1,19 +1,15 @@
 -- Which rows leave a leader at rest, or ready for the rule that they name.
-use Rattle.std.proofs.Common.{◌≡◌, ◌==◌, ◌&&◌, refl, sym, subst, ℕ, Bool, true, false, List, Option, Some, None}
+use Rattle.std.proofs.Common.{◌≡◌, ◌&&◌, refl, sym, subst, ℕ, Bool, true, false, List, Option, Some, None}
 use Rattle.call_table.specs.Rows.{row_at}
 use Rattle.call_table.specs.Tables.{empty_table}
 use Rattle.call_table.specs.declared.row.Stage.{Stage}
 use Rattle.call_table.specs.declared.row.Stage.TheVariants as stages
 use Rattle.call_table.specs.declared.waiting.Waiting.{Waiting}
 use Rattle.call_table.specs.Calls.{running}
-use Rattle.election.specs.Preparing.{row_10}
-use Rattle.election.specs.declared.election.Election.{Election}
-use Rattle.election.specs.declared.election.Election.TheVariants.{Preparing, Starting}
 use Rattle.ens_base.specs.Epochs.{same_version}
 use Rattle.ens_base.specs.declared.epoch.Epoch.{Epoch}
 use Rattle.ens_base.specs.declared.epoch.Version.{Version}
 use Rattle.ens_object.specs.declared.object.Object.{Object}
-use Rattle.following.specs.Announcements.{row_16}
 use Rattle.leader_words.specs.Outs.{rests as no_out, and_note}
 use Rattle.leader_words.specs.declared.out.LeadOut.{LeadOut}
 use Rattle.leader_words.specs.declared.out.Own.{Own}
@@ -21,45 +17,33 @@ use Rattle.leader_words.specs.declared.out.Own.TheVariants as owns
 use Rattle.leading.specs.Leaders.{new_leader, with_task, knows, settled_as}
 use Rattle.leading.specs.Puts.{write_settled, settled_for, acknowledged, put_seen, put_for, row_35, acknowledged_by, row_35_reply}
 use Rattle.leading.specs.Rules.{lead_row}
-use Rattle.leading.specs.Steps.{AsksOn, Fits, IsReady, IsCalm, IsAtRest}
+use Rattle.leading_laws.specs.Steps.{AsksOn, Fits, IsReady, IsCalm, IsAtRest}
 use Rattle.leading.specs.declared.leader.Leader.{Leader}
 use Rattle.leading.specs.declared.pending.Pending.{Pending}
 use Rattle.leading.specs.declared.pending.Pending.TheVariants as pendings
-use Rattle.leading.proofs.Moves.{either}
-use Rattle.leading.proofs.Steps.{lead_step}
-use Rattle.peer_fact.specs.declared.fact.Change.{Change}
-use Rattle.peer_fact.specs.declared.fact.Change.TheVariants.{Add}
+use Rattle.leading.proofs.Cases.{either}
+use Rattle.leading_laws.proofs.Steps.{lead_step}
 use Rattle.peer_fact.specs.declared.fact.Fact.{Fact}
 use Rattle.peer_plan.specs.Drives.{own_key}
-use Rattle.peer_state.specs.Moves.{stopped_leading, without_candidacy, left, turned, stood, waiting_phase, waiting_for}
-use Rattle.peer_state.specs.Rows.{runs_sync, aged, aged_election, accepted_by, leads, changes, wanting, asked_change, finishing, begun_change, phase_row, received}
-use Rattle.peer_state.specs.declared.state.ChangeState.{ChangeState}
-use Rattle.peer_state.specs.declared.state.ChangeState.TheVariants.{Settled, Wanted, Finishing as Finishes}
-use Rattle.peer_state.specs.declared.state.Leadership.{Leadership}
+use Rattle.peer_state.specs.Moves.{stopped_leading, without_candidacy, left, turned}
+use Rattle.peer_state.specs.Rows.{aged, accepted_by, asked_change, phase_row, received}
 use Rattle.peer_state.specs.declared.state.Phase.{Phase}
-use Rattle.peer_state.specs.declared.state.Phase.TheVariants as phases
 use Rattle.peer_state.specs.declared.state.State.{State}
-use Rattle.peer_state.proofs.Phases.{by_probing, by_electing, by_leading}
 use Rattle.phase_rows.specs.Orders.{is_same}
-use Rattle.phase_rows.specs.declared.phase.PhaseOut.{PhaseOut}
 use Rattle.phase_rows.specs.declared.phase.Seen.{Seen}
 use Rattle.phase_rows.specs.declared.phase.Seen.TheVariants as seens
 use Rattle.phase_rows.specs.declared.phase.Then.{Then}
-use Rattle.phase_rows.specs.declared.phase.Then.TheVariants as thens
 use Rattle.phase_rows.specs.declared.rules.KeyRule.{KeyRule}
 use Rattle.phase_rows.specs.declared.rules.KeyRule.TheVariants as key_rules
 use Rattle.phase_rows.specs.declared.rules.PhaseRule.{PhaseRule}
-use Rattle.phase_rows.specs.declared.rules.PhaseRule.TheVariants as phase_rules
 use Rattle.quorum_round.specs.Rounds.{state_of, begun, answered as heard_from}
 use Rattle.quorum_round.specs.declared.round.Round.{Round}
 use Rattle.quorum_round.specs.declared.round.RoundState.{RoundState}
 use Rattle.quorum_round.specs.declared.round.RoundState.TheVariants.{Open, Met, AllAnswered}
 use Rattle.register_model.specs.declared.note.Note.TheVariants.{Settled as Settles}
-use Rattle.view_change.specs.Changes.{row_24, row_25}
-use Rattle.view_change.specs.declared.finishing.Finishing.{Finishing}
 use Rattle.wire_frames.specs.declared.message.Message.{Message}
-use Rattle.wire_frames.specs.declared.message.Message.TheVariants as messages
 use Rattle.step_bounds.specs.Resting.{IsResting}
+use Rattle.step_bounds.proofs.Phased.{left_keeps, untrusted_keeps, turned_keeps, phase_row_keeps, received_keeps, aged_keeps, asked_keeps}
 
 -- ## Phases
 
@@ -70,116 +54,29 @@ new_calm k none = refl
 new_rests : (fact : Fact) (me : ℕ) (accepts : List Bool) → IsAtRest (new_leader fact me accepts)
 new_rests fact me accepts = record { task = refl; calm = new_calm }
 
-stopped_rests : (phase : Phase) → IsResting (stopped_leading phase)
-stopped_rests (phases.Leading l) = tt
-stopped_rests (phases.Following f) = tt
-stopped_rests (phases.Probing p) = tt
-stopped_rests (phases.Electing e) = tt
-
-pub left_rests : (leave : Bool) (x : State) → IsResting x.phase → IsResting (left leave x).phase
-left_rests true x rests = stopped_rests x.phase
-left_rests false x rests = rests
-
-given_up_rests : (e : Election) → IsResting (without_candidacy (phases.Electing e))
-given_up_rests (Starting new accepts age) = tt
-given_up_rests (Preparing base promises sent age) = tt
-
-pub untrusted_rests : (phase : Phase) → IsResting (without_candidacy (stopped_leading phase))
-untrusted_rests (phases.Leading l) = tt
-untrusted_rests (phases.Following f) = tt
-untrusted_rests (phases.Probing p) = tt
-untrusted_rests (phases.Electing e) = given_up_rests e
-
-pub turned_rests : (me : ℕ) (t : Then) (x : State) → IsResting x.phase → IsResting (turned me t x).phase
-turned_rests me thens.Stay x rests = rests
-turned_rests me thens.Follow x rests = tt
-turned_rests me (thens.Lead fact) x rests = new_rests _ _ _
-turned_rests me thens.Untrust x rests = untrusted_rests x.phase
-turned_rests me thens.Put x rests = rests
-turned_rests me thens.Resume x rests = rests
-turned_rests me (thens.SyncOn fact) x rests = rests
-turned_rests me (thens.Rule n) x rests = rests
-turned_rests me (thens.OnKeys n) x rests = rests
-
-waiting_phase_rests : (phase : Phase) → IsResting phase → IsResting (waiting_phase phase)
-waiting_phase_rests (phases.Leading l) rests = rests
-waiting_phase_rests (phases.Following f) rests = tt
-waiting_phase_rests (phases.Probing p) rests = tt
-waiting_phase_rests (phases.Electing e) rests = tt
-
-waiting_rests : (t : Then) (x : State) → IsResting x.phase → IsResting (waiting_for t x).phase
-waiting_rests (thens.SyncOn fact) x rests = waiting_phase_rests x.phase rests
-waiting_rests thens.Resume x rests = waiting_phase_rests x.phase rests
-waiting_rests thens.Stay x rests = rests
-waiting_rests thens.Follow x rests = rests
-waiting_rests (thens.Lead fact) x rests = rests
-waiting_rests thens.Untrust x rests = rests
-waiting_rests thens.Put x rests = rests
-waiting_rests (thens.Rule n) x rests = rests
-waiting_rests (thens.OnKeys n) x rests = rests
-
--- the row leaves the peer at rest
-abbrev Rests : State × PhaseOut → Type 0
-Rests r = IsResting r.0.phase
-
-stood_rests : (election : Option Election) (x : State) → IsResting x.phase → IsResting (stood election x).phase
-stood_rests None x rests = rests
-stood_rests (Some e) x rests = tt
-
-finishing_rests : (f : Option Finishing) (l : Leadership) → IsAtRest l.leader → IsAtRest (finishing f l).leader
-finishing_rests None l rests = rests
-finishing_rests (Some f) l rests = rests
-
-begun_change_rests : (change : ChangeState) (l : Leadership) (fact : Fact) (me : ℕ) → IsAtRest l.leader → IsAtRest (begun_change change l fact me).0.leader
-begun_change_rests (Wanted change) l fact me rests = finishing_rests (row_25 fact me l.leader.accepts change).1 l rests
-begun_change_rests Settled l fact me rests = rests
-begun_change_rests (Finishes f) l fact me rests = rests
-
-pub phase_row_rests : (rule : PhaseRule) (me : ℕ) (x : State) → IsResting x.phase → IsResting (phase_row rule me x).0.phase
-phase_row_rests phase_rules.BeginProbing me x rests = tt
-phase_row_rests phase_rules.EnoughHeard me x rests = by_probing Rests x.phase (λ p is. tt) rests
-phase_row_rests phase_rules.Prepare me x rests = by_probing Rests x.phase (λ p is. stood_rests (row_10 x.fact me p.best p.count).1 x rests) (by_leading Rests x.phase (λ l is. stood_rests (row_10 x.fact me x.fact x.fact.ballot.count).1 x rests) rests)
-phase_row_rests phase_rules.EnoughPromised me x rests = by_electing Rests x.phase (λ e is. tt) rests
-phase_row_rests phase_rules.EnoughAccepted me x rests = by_electing Rests x.phase (λ e is. tt) rests
-phase_row_rests phase_rules.BeginChange me x rests = by_leading Rests x.phase (λ l is. begun_change_rests l.change l x.fact me (subst IsResting is rests)) rests
-phase_row_rests phase_rules.EndEpoch me x rests = by_leading Rests x.phase (λ l is. rests) rests
-
 accepted_rests : (from : ℕ) (l : Leader) → IsAtRest l → IsAtRest (accepted_by from l)
 accepted_rests from l rests = record { task = rests.task; calm = rests.calm }
 
-pub received_rests : (me from : ℕ) (message : Message) (x : State) → IsResting x.phase → IsResting (received me from message x).0.phase
-received_rests me from messages.Probe x rests = rests
-received_rests me from (messages.ProbeReply fact) x rests = by_probing Rests x.phase (λ p is. tt) rests
-received_rests me from (messages.Prepare ballot) x rests = rests
-received_rests me from (messages.Promise ballot fact) x rests = by_electing Rests x.phase (λ e is. tt) rests
-received_rests me from (messages.Nack ballot cause) x rests = by_electing Rests x.phase (λ e is. rests) (by_leading Rests x.phase (λ l is. rests) rests)
-received_rests me from (messages.NewEpoch fact) x rests = waiting_rests (row_16 x.fact me x.trusted (runs_sync x.sync) from fact).then x rests
-received_rests me from (messages.Accepted ballot seq) x rests =
-    by_electing Rests x.phase (λ e is. tt)
-    (by_leading Rests x.phase (λ l is. let led : IsAtRest l.leader = subst IsResting is rests in either IsAtRest (is_same ballot x.fact.ballot && seq == 1) (accepted_by from l.leader) l.leader (accepted_rests from l.leader led) led) rests)
-received_rests me from (messages.Commit fact) x rests = rests
-received_rests me from (messages.Beat ballot) x rests = rests
-received_rests me from (messages.Check ballot round) x rests = rests
-received_rests me from other x rests = rests
+pub left_rests : (leave : Bool) (x : State) → IsResting x.phase → IsResting (left leave x).phase
+left_rests = left_keeps IsAtRest new_rests accepted_rests
 
-aged_election_rests : (e : Election) (me : ℕ) (x : State) → IsResting (aged_election e me x).0.phase
-aged_election_rests (Preparing base promises sent age) me x = tt
-aged_election_rests (Starting new accepts age) me x = tt
+pub untrusted_rests : (phase : Phase) → IsResting (without_candidacy (stopped_leading phase))
+untrusted_rests = untrusted_keeps IsAtRest new_rests accepted_rests
+
+pub turned_rests : (me : ℕ) (t : Then) (x : State) → IsResting x.phase → IsResting (turned me t x).phase
+turned_rests = turned_keeps IsAtRest new_rests accepted_rests
+
+pub phase_row_rests : (rule : PhaseRule) (me : ℕ) (x : State) → IsResting x.phase → IsResting (phase_row rule me x).0.phase
+phase_row_rests = phase_row_keeps IsAtRest new_rests accepted_rests
+
+pub received_rests : (me from : ℕ) (message : Message) (x : State) → IsResting x.phase → IsResting (received me from message x).0.phase
+received_rests = received_keeps IsAtRest new_rests accepted_rests
 
 pub aged_rests : (phase : Phase) (me : ℕ) (x : State) → IsResting x.phase → IsResting (aged phase me x).0.phase
-aged_rests (phases.Following f) me x rests = tt
-aged_rests (phases.Probing p) me x rests = tt
-aged_rests (phases.Electing e) me x rests = aged_election_rests e me x
-aged_rests (phases.Leading l) me x rests = rests
-
-wanting_rests : (change : Change) (phase : Phase) (x : State) → IsResting phase → IsResting x.phase → IsResting (wanting change phase x).phase
-wanting_rests change (phases.Leading l) x led rests = led
-wanting_rests change (phases.Following f) x led rests = rests
-wanting_rests change (phases.Probing p) x led rests = rests
-wanting_rests change (phases.Electing e) x led rests = rests
+aged_rests = aged_keeps IsAtRest new_rests accepted_rests
 
 pub asked_rests : (view : List ℕ) (x : State) → IsResting x.phase → IsResting (asked_change view x).0.phase
-asked_rests view x rests = either (λ (y : State). IsResting y.phase) (row_24 x.fact (leads x.phase) (changes x.phase) view).1 _ _ (wanting_rests (Add view) x.phase x rests rests) rests
+asked_rests = asked_keeps IsAtRest new_rests accepted_rests
 
 -- ## What a rule of a leader asks the stores is about its key
 

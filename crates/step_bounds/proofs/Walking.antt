@@ -1,5 +1,5 @@
 -- How many calls the parts of a step leave unanswered.
-use Rattle.std.proofs.Common.{◌≤◌, ◌+◌, arith, length, ℕ, zero, suc, Bool, true, List, [], ◌∷◌, ◌++◌, Option, Some, None}
+use Rattle.std.proofs.Common.{◌≤◌, ◌+◌, arith, length, ℕ, zero, suc, Bool, true, false, List, [], ◌∷◌, ◌++◌, Option, Some, None}
 use Rattle.election.specs.declared.election.Election.{Election}
 use Rattle.election.specs.declared.election.Election.TheVariants.{Preparing, Starting}
 use Rattle.ens_base.specs.declared.epoch.Epoch.{Epoch}
@@ -20,10 +20,10 @@ use Rattle.peer_fact.specs.declared.fact.Fact.{Fact}
 use Rattle.peer_plan.specs.Drives.{row_done, own_key, followed_up, and_row, lead_done, lead, reminded, task_done, driven, led_in, after_put, put_done, delivered, unavailable, first, and_change, most_turns, responded, concluded}
 use Rattle.peer_plan.specs.Kept.{IsStepCall}
 use Rattle.peer_plan.specs.Owns.{looked, found}
-use Rattle.peer_plan.specs.Syncs.{saved, and_sends, with_sync, accepted, accepted_own, accepted_in, by_outcome, go_on, resume_sync, followed_on, needs_node, take_give}
-use Rattle.peer_plan.proofs.Aging.{asked_asks, looked_asks, found_asks, written_asks, confirmed_asks, if_follows, owned_asks, noted_follows, installed_asks, own_node_asks, shown_node_asks, shown_asks}
+use Rattle.peer_plan.specs.Syncs.{saved, and_sends, with_sync, accepted, accepted_own, accepted_in, by_outcome, go_on, resume_sync, followed_on, needs_node, take_give, sealed_if}
+use Rattle.peer_plan.proofs.Aging.{asked_asks, looked_asks, found_asks, written_asks, confirmed_asks, if_follows, owned_asks, noted_follows, installed_asks, own_node_asks, shown_node_asks, shown_asks, sealed_asks}
 use Rattle.peer_state.specs.Leading.{older, end_of, ticks, row_5_calls, wished, begins}
-use Rattle.peer_state.specs.Moves.{left, left_answers, turned, turned_answers, leading, with_leader, and_answers, electing, without_sync}
+use Rattle.peer_state.specs.Moves.{left, left_answers, turned, turned_answers, leading, with_leader, and_answers, electing, without_sync, keeps_seal}
 use Rattle.peer_state.specs.Rows.{aged, phase_row, received, asked_change, leads, changes}
 use Rattle.peer_state.specs.declared.event.Event.{Event}
 use Rattle.peer_state.specs.declared.event.Event.TheVariants as events
@@ -77,6 +77,10 @@ module _ (k me : ℕ) (P : State → Out → Type 0) where
   saved_passes None x out next few go = go tt x out few
   saved_passes (Some fact) x out next few go = (tt, λ u. go tt (record x { fact = fact }) out few)
 
+  sealed_if_passes : (seals : Bool) (fact : Fact) → Passes (sealed_if seals fact)
+  sealed_if_passes true fact x out next few go = sealed_asks P fact x out next (λ seal. go tt (record x { fact = fact; seal = seal }) out few)
+  sealed_if_passes false fact x out next few go = saved_passes (Some fact) x out next few go
+
   -- ## Syncs
 
   accepted_own_passes : (e : Election) → Passes (accepted_own me e)
@@ -93,8 +97,8 @@ module _ (k me : ℕ) (P : State → Out → Type 0) where
   by_outcome_passes r Pending x out next few go = go [] (with_sync r x) out few
   by_outcome_passes r (Trusted entries) x out next few go =
       installed_asks P (needs_build r.sync.scan entries) entries (without_sync x) out
-      (λ u y o. saved (Some r.fact) y o (λ v z p. accepted_in me r.fact z.phase (record z { trusted = true }) p next))
-      (λ u. saved_passes (Some r.fact) (without_sync x) out (λ v z p. accepted_in me r.fact z.phase (record z { trusted = true }) p next) few
+      (λ u y o. sealed_if (keeps_seal y) r.fact y o (λ v z p. accepted_in me r.fact z.phase (record z { trusted = true }) p next))
+      (λ u. sealed_if_passes (keeps_seal (without_sync x)) r.fact (without_sync x) out (λ v z p. accepted_in me r.fact z.phase (record z { trusted = true }) p next) few
       (λ v z p fine. accepted_in_passes r.fact z.phase (record z { trusted = true }) p next fine go))
 
   go_on_passes : (r : Running × List Outgoing) → Passes (go_on me r)
@@ -138,7 +142,7 @@ module _ (k me : ℕ) (P : State → Out → Type 0) where
   followed_up_passes None turn keys x out next few go =
       go (keyed turn keys) (turned me turn x) (turned_answers turn x out) (trans (count (turned me turn x).phase) (count x.phase) k (turned_few me turn x) few)
   followed_up_passes (Some own) turn keys x out next few go =
-      owned_asks P own x out (λ seen y o. next (tasks.Again (asked_by own) (own_key own) seen ∷ []) y o) (λ seen. go (tasks.Again (asked_by own) (own_key own) seen ∷ []) x out few)
+      owned_asks P own x out (λ seen y o. next (tasks.Again (asked_by own) (own_key own) seen ∷ []) y o) (λ seen seal. go (tasks.Again (asked_by own) (own_key own) seen ∷ []) (record x { seal = seal }) out few)
 
   lead_done_passes : (row : LeadOut) → Passes (lead_done me row)
   lead_done_passes row x out next few go =
@@ -201,7 +205,7 @@ module _ (k me : ℕ) (P : State → Out → Type 0) where
 
   put_done_passes : (turn : Then) (from : ℕ) (ballot : Epoch) (o : Object) (row : PhaseOut) → Passes (put_done turn me from ballot o row)
   put_done_passes thens.Put from ballot o row x out next few go =
-      written_asks P o x out (λ seen y p. row_done me (after_put from ballot row seen) y p next) (λ seen. row_done_passes (after_put from ballot row seen) x out next few go)
+      written_asks P o x out (λ seen y p. row_done me (after_put from ballot row seen) y p next) (λ seen seal. row_done_passes (after_put from ballot row seen) (record x { seal = seal }) out next few go)
   put_done_passes thens.Stay from ballot o row x out next few go = row_done_passes row x out next few go
   put_done_passes thens.Follow from ballot o row x out next few go = row_done_passes row x out next few go
   put_done_passes (thens.Lead fact) from ballot o row x out next few go = row_done_passes row x out next few go

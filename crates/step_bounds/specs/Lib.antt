@@ -1,3 +1,5 @@
 pub mod Reached
 pub mod Resting
 pub mod Limits
+pub mod Changing
+pub mod Answering

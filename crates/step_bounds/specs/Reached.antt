@@ -8,6 +8,7 @@ use Rattle.peer_state.specs.declared.event.Event.{Event}
 use Rattle.peer_state.specs.declared.event.Event.TheVariants as events
 use Rattle.peer_state.specs.declared.state.Phase.{Phase}
 use Rattle.peer_state.specs.declared.state.Phase.TheVariants as phases
+use Rattle.peer_state.specs.declared.state.Mode.{Mode}
 use Rattle.peer_state.specs.declared.state.State.{State}
 use Rattle.step_plans.specs.Calls.{AnswerOf}
 use Rattle.step_plans.specs.Plans.{Plan, Done, Say, Ask}
@@ -25,11 +26,11 @@ MayEnd (Done x out) y = y ≡ x
 MayEnd (Say note p) y = MayEnd p y
 MayEnd (Ask call next) y = (a : AnswerOf call) × MayEnd (next a) y
 
--- peer `me` may be in this state after it started from this saved fact with this trust, and took a
+-- peer `me` may be in this state after it started so from this saved fact with this trust, and took a
 -- step on each of these events, of which the first is the latest
-abbrev pub Reached : ℕ → SavedFact → Bool → List Event → State → Type 0
-Reached me saved trusted [] x = x ≡ first_state saved trusted
-Reached me saved trusted (event ∷ events) x = (y : State) × Reached me saved trusted events y × MayEnd (step_of me event y) x
+abbrev pub Reached : ℕ → Mode → SavedFact → Bool → List Event → State → Type 0
+Reached me mode saved trusted [] x = x ≡ first_state mode saved trusted
+Reached me mode saved trusted (event ∷ events) x = (y : State) × Reached me mode saved trusted events y × MayEnd (step_of me event y) x
 
 -- how many calls an event brings
 abbrev pub calls_of : Event → ℕ
