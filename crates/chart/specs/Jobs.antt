@@ -12,11 +12,11 @@ use Rattle.chart.specs.Text.{chart_text}
 -- the bytes are a sound schedule, its run stays within the limit on messages, and the text is the
 -- chart of this run
 abbrev pub IsChart : List ℕ → List ℕ → Type 0
-IsChart bytes text = (s : Schedule) × (schedule_of bytes ≡ Ok s) × (first_unsound s ≡ None) × IsWithinMessages (run_of_schedule s.peers s.view s.events) × (text ≡ chart_text s)
+IsChart bytes text = (s : Schedule) × (schedule_of bytes ≡ Ok s) × (first_unsound s ≡ None) × IsWithinMessages (run_of_schedule s.form s.peers s.view s.events) × (text ≡ chart_text s)
 
 -- the bytes are a sound schedule, and its run exceeds the limit on messages
 abbrev pub IsPastLimit : List ℕ → Type 0
-IsPastLimit bytes = (s : Schedule) × (schedule_of bytes ≡ Ok s) × (first_unsound s ≡ None) × IsPastMessages (run_of_schedule s.peers s.view s.events)
+IsPastLimit bytes = (s : Schedule) × (schedule_of bytes ≡ Ok s) × (first_unsound s ≡ None) × IsPastMessages (run_of_schedule s.form s.peers s.view s.events)
 
 -- message 500,001 would be sent, and the text reports it
 abbrev pub IsMessageLimit : Option (List ℕ) → List ℕ → Type 0

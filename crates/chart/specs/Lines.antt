@@ -93,4 +93,4 @@ lines_from n (event ∷ more) w = event_note n event ++ effect_lines event w ++ 
 
 -- the lines of the run of a schedule
 abbrev pub run_lines : Schedule → List (List ℕ)
-run_lines s = lines_from 1 s.events (unhashed (opening_run s.peers s.view))
+run_lines s = lines_from 1 s.events (unhashed (opening_run s.form s.peers s.view))

@@ -9,7 +9,7 @@ use Rattle.register_model.specs.declared.printed.Printed.{Printed}
 use Rattle.register_model.specs.declared.printed.Printed.TheVariants as lines
 use Rattle.schedule_text.specs.Spelling.{event_line}
 use Rattle.schedule_text.specs.declared.event.ScheduleEvent.{ScheduleEvent}
-use Rattle.schedule_text.specs.declared.event.ScheduleEvent.TheVariants.{Call, Tick, Deliver, Pass, Lose, Calm, CalmAmong, Change, Stop, Start, Spoil, Damage, Inner, Revert, Fail}
+use Rattle.schedule_text.specs.declared.event.ScheduleEvent.TheVariants.{Call, Tick, Deliver, Pass, Lose, Calm, CalmAmong, Change, Stop, Start, Upgrade, Spoil, Damage, Inner, Revert, Fail}
 use Rattle.wire_frames.specs.declared.frame.Frame.{Frame}
 use Rattle.world_model.specs.declared.watching.Activity.{Activity}
 use Rattle.chart.specs.declared.fate.Fate.{Fate}
@@ -35,6 +35,7 @@ peer_of (Tick peer ticks) = Some peer
 peer_of (Change peer view) = Some peer
 peer_of (Stop peer) = Some peer
 peer_of (Start peer) = Some peer
+peer_of (Upgrade peer) = Some peer
 peer_of (Spoil peer key bytes) = Some peer
 peer_of (Damage peer key bytes) = Some peer
 peer_of (Inner peer level index bytes) = Some peer

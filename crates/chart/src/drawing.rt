@@ -46,6 +46,8 @@ fn stepped_by(event: &ScheduleEvent) -> Option<PeerId>
         ScheduleEvent::Lose { .. } => None,
         ScheduleEvent::Calm => None,
         ScheduleEvent::CalmAmong { .. } => None,
+        ScheduleEvent::Upgrade { .. } => None,
+        ScheduleEvent::Deepen => None,
         ScheduleEvent::Spoil { .. } => None,
         ScheduleEvent::Damage { .. } => None,
         ScheduleEvent::Inner { .. } => None,

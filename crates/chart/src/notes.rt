@@ -55,6 +55,7 @@ pub fn peer_of(event: &ScheduleEvent) -> Option<PeerId>
         ScheduleEvent::Change { peer, .. } => Some(*peer),
         ScheduleEvent::Stop { peer } => Some(*peer),
         ScheduleEvent::Start { peer } => Some(*peer),
+        ScheduleEvent::Upgrade { peer } => Some(*peer),
         ScheduleEvent::Spoil { peer, .. } => Some(*peer),
         ScheduleEvent::Damage { peer, .. } => Some(*peer),
         ScheduleEvent::Inner { peer, .. } => Some(*peer),
@@ -65,6 +66,7 @@ pub fn peer_of(event: &ScheduleEvent) -> Option<PeerId>
         ScheduleEvent::Lose { .. } => None,
         ScheduleEvent::Calm => None,
         ScheduleEvent::CalmAmong { .. } => None,
+        ScheduleEvent::Deepen => None,
     }
 }
 

@@ -24,8 +24,8 @@ pub fn run_lines<H: Hasher16, R: Threads + Sync>(
 ) -> Result<Lines, WorldError>
     requires { IsSchedule schedule.now }
     ensures lines { IfOk result (λ l. l ≡ lines_of_run schedule.now) }
-    ensures within { OnOk result (IsWithinMessages (run_of_schedule schedule.now.peers schedule.now.view schedule.now.events)) }
-    ensures error { IfErr result (MayRefuse (account H.kept H.clashes H.fulls hasher.old) (run_of_schedule schedule.now.peers schedule.now.view schedule.now.events) (account H.kept H.clashes H.fulls hasher.new)) }
+    ensures within { OnOk result (IsWithinMessages (run_of_schedule schedule.now.form schedule.now.peers schedule.now.view schedule.now.events)) }
+    ensures error { IfErr result (MayRefuse (account H.kept H.clashes H.fulls hasher.old) (run_of_schedule schedule.now.form schedule.now.peers schedule.now.view schedule.now.events) (account H.kept H.clashes H.fulls hasher.new)) }
 {
     let mut world = World::open(alloc, schedule, hasher)?;
     let mut lines = Lines::new(alloc);

@@ -6,7 +6,7 @@ use Rattle.ens_outside.specs.Failures.{left_by}
 use Rattle.ens_outside.specs.Maps.{value_at, with_value}
 use Rattle.ens_outside.specs.declared.memory.failing_call.Leaves.{Leaves}
 use Rattle.ens_outside.specs.declared.memory.failing_call.Leaves.TheVariants.{Old, New}
-use Rattle.step_plans.specs.Calls.{Call, Load, Save, FreshTree, OpenTree, Find, Enter, ScanTree, ReadNode, Install, Fetch, Put, Hash, AnswerOf}
+use Rattle.step_plans.specs.Calls.{Call, Load, Save, FreshTree, OpenTree, Root, Find, Enter, ScanTree, ReadNode, Install, Fetch, Put, Hash, AnswerOf}
 use Rattle.step_plans.specs.declared.walked.Walked.{Walked}
 use Rattle.step_plans.specs.declared.walked.Walked.TheVariants.{Reached, Broken}
 use Rattle.step_plans.specs.declared.error.PeerError.{PeerError}
@@ -22,8 +22,8 @@ use Rattle.tree_node.specs.declared.position.Position.{Position}
 use Rattle.tree_repair.specs.Rebuilds.{rebuild_plan}
 use Rattle.tree_verify.specs.Levels.{scan_plan}
 use Rattle.synctree.specs.declared.tree.Tree.{Tree}
-use Rattle.peer_core.specs.Stores.{TreeAlone}
-use Rattle.peer_core.proofs.SameStores.{same_stores}
+use Rattle.peer_stores.specs.Stores.{TreeAlone}
+use Rattle.peer_stores.proofs.SameStores.{same_stores}
 use Rattle.peer_plan.specs.TreeCalls.{Walks, Halts, Changes, end_of, peer_error}
 use Rattle.world_stores.specs.Faults.{spent}
 use Rattle.world_stores.specs.Nodes.{Nodes}
@@ -119,6 +119,8 @@ module _ {H : Type 0} (strings : H → Option Book) (c d : H → ℕ) (first : A
       let at_root = some_root (λ root. Walks (Does strings c d first) (fresh_plan (form_of One)) (s.0.tree, s.1) (Ok root) (t.0.tree, t.1)) t.0.tree.top did.0 in
       fresh_came s t hashed taken at_root.0 at_root.1 at_root.2 did.1.3
   did_answer (OpenTree seal) s t hashed a taken did = by_tree (OpenTree seal) done (root_read seal) open_plan (Came did.0.0) s t hashed (Ok tt) refl refl did.0.2 did.1.3 (ended open_plan s t hashed (Ok did.0.0) taken did.0.1)
+  did_answer Root s t hashed a taken did =
+      still Root s t hashed (Ok a) (rw did.0.0 (ap (λ k. record { result = Ok s.0.tree.top; held = held_with k hashed }) (sym (same_stores s.0 t.0 did.1.3.0 did.0.1 did.1.3.1)))) did.0.2 taken
   did_answer (Find key) s t hashed a taken did =
       by_tree (Find key) looked root_kept (get_plan (form_of One) s.0.tree.top key) (end_was (end_of a)) s t hashed (Ok a) refl (looked_end a) did.0.1 did.1.3 (ended (get_plan (form_of One) s.0.tree.top key) s t hashed (end_of a) taken did.0.0)
   did_answer (Enter entry) s t hashed a taken did = entered_came entry s t hashed a taken did.0 did.1.3
@@ -223,6 +225,7 @@ module _ {H : Type 0} (strings : H → Option Book) (c d : H → ℕ) (first : A
   was_refused (Save fact) s t hashed e taken off = save_refused fact s t hashed e taken off
   was_refused FreshTree s t hashed e taken off = tree_refused FreshTree done root_after (fresh_plan (form_of One)) s t hashed e refl refl refl off.2 taken off.0
   was_refused (OpenTree seal) s t hashed e taken off = tree_refused (OpenTree seal) done (root_read seal) open_plan s t hashed e refl refl refl off.2 taken off.0
+  was_refused Root s t hashed e taken off = absurd off.0
   was_refused (Find key) s t hashed e taken off = tree_refused (Find key) looked root_kept (get_plan (form_of One) s.0.tree.top key) s t hashed e refl refl refl off.2 taken off.0
   was_refused (Enter entry) s t hashed e taken off = tree_refused (Enter entry) entered root_after (insert_plan (form_of One) s.0.tree.top entry) s t hashed e refl refl refl off.2 taken off.0
   was_refused ScanTree s t hashed e taken off = tree_refused ScanTree whole root_kept (scan_plan (form_of One) s.0.tree.top) s t hashed e refl refl refl off.2 taken off.0
@@ -244,6 +247,7 @@ answered_grows Load h = starts_here h.hashed
 answered_grows (Save fact) h = saved_grows h.hashed (λ (k : Answered (Save fact)). k.held.hashed) h.stores.facts.faults.pending _ _ refl (λ leaves. refl)
 answered_grows FreshTree h = walk_grows (fresh_plan (form_of One)) h.stores.tree.store h.hashed
 answered_grows (OpenTree seal) h = walk_grows open_plan h.stores.tree.store h.hashed
+answered_grows Root h = starts_here h.hashed
 answered_grows (Find key) h = walk_grows (get_plan (form_of One) h.stores.tree.top key) h.stores.tree.store h.hashed
 answered_grows (Enter entry) h = walk_grows (insert_plan (form_of One) h.stores.tree.top entry) h.stores.tree.store h.hashed
 answered_grows ScanTree h = walk_grows (scan_plan (form_of One) h.stores.tree.top) h.stores.tree.store h.hashed

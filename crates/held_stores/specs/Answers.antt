@@ -4,7 +4,7 @@ use Rattle.md5.specs.Md5.{md5}
 use Rattle.ens_outside.specs.Failures.{left_by}
 use Rattle.ens_outside.specs.Maps.{value_at, with_value}
 use Rattle.ens_outside.specs.declared.memory.failing_call.Leaves.{Leaves}
-use Rattle.step_plans.specs.Calls.{Call, Load, Save, FreshTree, OpenTree, Find, Enter, ScanTree, ReadNode, Install, Fetch, Put, Hash, AnswerOf}
+use Rattle.step_plans.specs.Calls.{Call, Load, Save, FreshTree, OpenTree, Root, Find, Enter, ScanTree, ReadNode, Install, Fetch, Put, Hash, AnswerOf}
 use Rattle.step_plans.specs.declared.walked.Walked.{Walked}
 use Rattle.step_plans.specs.declared.walked.Walked.TheVariants.{Reached, Broken}
 use Rattle.step_plans.specs.declared.error.PeerError.{PeerError}
@@ -111,6 +111,7 @@ answered Load h = record { result = Ok h.stores.facts.kept; held = h }
 answered (Save fact) h = after_save (Save fact) tt (record h.stores.facts { kept = Some fact }) h
 answered FreshTree h = by_walk FreshTree done root_after (walked (fresh_plan (form_of One)) h) h
 answered (OpenTree seal) h = by_walk (OpenTree seal) done (root_read seal) (walked open_plan h) h
+answered Root h = record { result = Ok h.stores.tree.top; held = h }
 answered (Find key) h = by_walk (Find key) looked root_kept (walked (get_plan (form_of One) h.stores.tree.top key) h) h
 answered (Enter entry) h = by_walk (Enter entry) entered root_after (walked (insert_plan (form_of One) h.stores.tree.top entry) h) h
 answered ScanTree h = by_walk ScanTree whole root_kept (walked (scan_plan (form_of One) h.stores.tree.top) h) h

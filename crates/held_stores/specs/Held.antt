@@ -6,7 +6,7 @@ use Rattle.ens_hashing.specs.Hashing.{Book, Takes}
 use Rattle.ens_outside.specs.declared.memory.failing_call.Leaves.{Leaves}
 use Rattle.md5.specs.Md5.{md5}
 use Rattle.tree_node.specs.declared.version.TreeVersion.TheVariants.{One}
-use Rattle.peer_core.specs.declared.stores.Stores.{Stores}
+use Rattle.peer_stores.specs.declared.stores.Stores.{Stores}
 use Rattle.world_stores.specs.Faults.{no_faults}
 use Rattle.world_stores.specs.Nodes.{Nodes}
 use Rattle.world_stores.specs.Objects.{Objects}

@@ -7,7 +7,7 @@ use Rattle.step_plans.specs.Calls.{Call, AnswerOf}
 use Rattle.step_plans.specs.Plans.{Plan, Ending, Finished, Stopped, Runs}
 use Rattle.step_plans.specs.declared.error.PeerError.{PeerError}
 use Rattle.step_plans.specs.declared.error.PeerError.TheVariants.{Memory, Clash, BookFull, StoreFault}
-use Rattle.peer_core.specs.Stores.{stores_do, stores_refuse}
+use Rattle.peer_stores.specs.Stores.{stores_do, stores_refuse}
 use Rattle.world_stores.specs.Facts.{FactDoes, FactRefuses, kept_of}
 use Rattle.world_stores.specs.Nodes.{NodesDo, NodesRefuse, top_of}
 use Rattle.world_stores.specs.Objects.{ObjectsDo, ObjectsRefuse}

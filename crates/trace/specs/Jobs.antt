@@ -12,11 +12,11 @@ use Rattle.trace.specs.Text.{trace_text}
 -- the bytes are a sound schedule, its run stays within the limit on messages, and the text is the
 -- list of these messages
 abbrev pub IsTrace : Bool → List ℕ → List ℕ → Type 0
-IsTrace names bytes text = (s : Schedule) × (schedule_of bytes ≡ Ok s) × (first_unsound s ≡ None) × IsWithinMessages (run_of_schedule s.peers s.view s.events) × (text ≡ trace_text names (run_of_schedule s.peers s.view s.events).mail.sent)
+IsTrace names bytes text = (s : Schedule) × (schedule_of bytes ≡ Ok s) × (first_unsound s ≡ None) × IsWithinMessages (run_of_schedule s.form s.peers s.view s.events) × (text ≡ trace_text names (run_of_schedule s.form s.peers s.view s.events).mail.sent)
 
 -- the bytes are a sound schedule, and its run exceeds the limit on messages
 abbrev pub IsPastLimit : List ℕ → Type 0
-IsPastLimit bytes = (s : Schedule) × (schedule_of bytes ≡ Ok s) × (first_unsound s ≡ None) × IsPastMessages (run_of_schedule s.peers s.view s.events)
+IsPastLimit bytes = (s : Schedule) × (schedule_of bytes ≡ Ok s) × (first_unsound s ≡ None) × IsPastMessages (run_of_schedule s.form s.peers s.view s.events)
 
 -- message 500,001 would be sent, and the text reports it
 abbrev pub IsMessageLimit : Option (List ℕ) → List ℕ → Type 0

@@ -30,7 +30,7 @@ fn run_text<R: Threads + Sync>(
     schedule: &Schedule,
 ) -> Result<Option<String>, AllocError>
     requires { IsSchedule schedule.now }
-    ensures { IfOk result (λ o. MatchOption o (IsPastMessages (run_of_schedule schedule.now.peers schedule.now.view schedule.now.events)) (λ text. IsWithinMessages (run_of_schedule schedule.now.peers schedule.now.view schedule.now.events) × (string_bytes text ≡ trace_text names (run_of_schedule schedule.now.peers schedule.now.view schedule.now.events).mail.sent))) }
+    ensures { IfOk result (λ o. MatchOption o (IsPastMessages (run_of_schedule schedule.now.form schedule.now.peers schedule.now.view schedule.now.events)) (λ text. IsWithinMessages (run_of_schedule schedule.now.form schedule.now.peers schedule.now.view schedule.now.events) × (string_bytes text ≡ trace_text names (run_of_schedule schedule.now.form schedule.now.peers schedule.now.view schedule.now.events).mail.sent))) }
 {
     let mut hasher = PlainHasher;
     match World::run(rt, alloc, schedule, &mut hasher) {

@@ -4,7 +4,7 @@ use Rattle.std.specs.Prelude.{slice_get}
 use Rattle.std.proofs.lemmas.List.{append-nil, append_assoc}
 use Rattle.world_spec.proofs.Growth.{changed_mail}
 use Rattle.world_spec.specs.Nodes.{Node}
-use Rattle.world_spec.specs.Runs.{Run, place_of, changed_at, changed}
+use Rattle.world_spec.specs.Runs.{Run, place_of, changed_at, changed, upgraded}
 use Rattle.world_model.specs.Worlds.{run_of, Begins}
 use Rattle.world_model.specs.declared.world.World.{World}
 
@@ -38,4 +38,13 @@ begins_changed w v peer change is = record {
   sent = ap (λ (r : Run). r.mail.sent) is ∙ (ap (λ m. m.sent) (changed_mail peer change (run_of w)) ∙ sym (append-nil w.network.sent));
   more_printed = [];
   printed = ap (λ (r : Run). r.printed) is ∙ (changed_at_printed (slice_get (run_of w).nodes (place_of peer)) peer change (run_of w) ∙ sym (append-nil w.printed.items));
+}
+
+-- nor does a line that upgrades a peer
+pub begins_upgraded : (w v : World) (peer : ℕ) → run_of v ≡ upgraded peer (run_of w) → Begins w v
+begins_upgraded w v peer is = record {
+  more_sent = [];
+  sent = ap (λ (r : Run). r.mail.sent) is ∙ sym (append-nil w.network.sent);
+  more_printed = [];
+  printed = ap (λ (r : Run). r.printed) is ∙ sym (append-nil w.printed.items);
 }

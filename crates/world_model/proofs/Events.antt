@@ -8,6 +8,7 @@ use Rattle.held_stores.specs.Held.{Account, HasHashed}
 use Rattle.network.specs.Mail.{most_messages}
 use Rattle.schedule_text.specs.Spelling.{MayStand, AllMayStand}
 use Rattle.schedule_text.specs.declared.event.ScheduleEvent.{ScheduleEvent}
+use Rattle.schedule_text.specs.declared.form.Form.{Form}
 use Rattle.world_spec.proofs.Fronts.{in_front_none, onward, run_front}
 use Rattle.world_spec.proofs.Growth.{IsFurther, further_front, peers_in, applied_same, run_grows}
 use Rattle.world_spec.specs.Lines.{applied, run_from, run_of_schedule}
@@ -17,18 +18,18 @@ use Rattle.world_model.proofs.Numbers.{succ}
 
 -- some events have been applied, in which the hasher took these strings, and the rest lead from here
 -- to the run of the schedule
-pub record Running (peers : ℕ) (view : List ℕ) (all : List ScheduleEvent) (place : ℕ) (first : Account) (now : Run) (mid : Account) : Type 0 where
+pub record Running (form : Form) (peers : ℕ) (view : List ℕ) (all : List ScheduleEvent) (place : ℕ) (first : Account) (now : Run) (mid : Account) : Type 0 where
   pub strings : List (List ℕ)
-  pub rest : in_front strings (run_from (drop place all) now) ≡ run_of_schedule peers view all
+  pub rest : in_front strings (run_from (drop place all) now) ≡ run_of_schedule form peers view all
   pub many : peers_in now ≡ peers
   pub within : sent_in now ≤ most_messages
   pub has : HasHashed strings first mid
 
-pub running_first : (peers : ℕ) (view : List ℕ) (all : List ScheduleEvent) (first : Account) (now : Run) (mid : Account) → now ≡ unhashed (opening_run peers view) → HasHashed (opening_run peers view).hashed first mid
-    → Running peers view all 0 first now mid
-running_first peers view all first now mid is has = record {
-  strings = (opening_run peers view).hashed;
-  rest = onward (run_from all) (run_front all) [] (opening_run peers view) now (run_of_schedule peers view all) (in_front_none (run_of_schedule peers view all)) is;
+pub running_first : (form : Form) (peers : ℕ) (view : List ℕ) (all : List ScheduleEvent) (first : Account) (now : Run) (mid : Account) → now ≡ unhashed (opening_run form peers view) → HasHashed (opening_run form peers view).hashed first mid
+    → Running form peers view all 0 first now mid
+running_first form peers view all first now mid is has = record {
+  strings = (opening_run form peers view).hashed;
+  rest = onward (run_from all) (run_front all) [] (opening_run form peers view) now (run_of_schedule form peers view all) (in_front_none (run_of_schedule form peers view all)) is;
   many = rw is (length-replicate {A = _} peers _);
   within = rw is (omega arith);
   has = has;
@@ -41,28 +42,28 @@ drop_one all place event here = at all place event here ∙ ap (λ k. event ∷ 
   at (e ∷ es) zero event here = ap (λ x. x ∷ es) (same_Some e event here)
   at (e ∷ es) (suc place) event here = at es place event here
 
-module _ (peers : ℕ) (view : List ℕ) (all : List ScheduleEvent) (place : ℕ) (first : Account) (now : Run) (mid : Account) (event : ScheduleEvent) (here : slice_get all place ≡ Some event)
-    (old : Running peers view all place first now mid) where
-  left : in_front old.strings (run_from (drop (place + 1) all) (applied event now)) ≡ run_of_schedule peers view all
-  left = subst (λ es. in_front old.strings (run_from es now) ≡ run_of_schedule peers view all) (drop_one all place event here) old.rest
+module _ (form : Form) (peers : ℕ) (view : List ℕ) (all : List ScheduleEvent) (place : ℕ) (first : Account) (now : Run) (mid : Account) (event : ScheduleEvent) (here : slice_get all place ≡ Some event)
+    (old : Running form peers view all place first now mid) where
+  left : in_front old.strings (run_from (drop (place + 1) all) (applied event now)) ≡ run_of_schedule form peers view all
+  left = subst (λ es. in_front old.strings (run_from es now) ≡ run_of_schedule form peers view all) (drop_one all place event here) old.rest
 
-  pub running_next : (next : Run) (later : Account) → next ≡ unhashed (applied event now) → HasHashed (applied event now).hashed mid later → sent_in next ≤ most_messages → Running peers view all (place + 1) first next later
+  pub running_next : (next : Run) (later : Account) → next ≡ unhashed (applied event now) → HasHashed (applied event now).hashed mid later → sent_in next ≤ most_messages → Running form peers view all (place + 1) first next later
   running_next next later is has within = record {
     strings = old.strings ++ (applied event now).hashed;
-    rest = onward (run_from (drop (place + 1) all)) (run_front (drop (place + 1) all)) old.strings (applied event now) next (run_of_schedule peers view all) left is;
+    rest = onward (run_from (drop (place + 1) all)) (run_front (drop (place + 1) all)) old.strings (applied event now) next (run_of_schedule form peers view all) left is;
     many = rw is (applied_same event now ∙ old.many);
     within = within;
     has = hashed_all old.strings (applied event now).hashed first mid later old.has has;
   }
 
   -- the whole run sends and hashes no less than the next event
-  pub running_longer : IsFurther (in_front old.strings (applied event now)) (run_of_schedule peers view all)
+  pub running_longer : IsFurther (in_front old.strings (applied event now)) (run_of_schedule form peers view all)
   running_longer = subst (λ (w : Run). IsFurther (in_front old.strings (applied event now)) w) left
       (further_front old.strings (applied event now) (run_from (drop (place + 1) all) (applied event now)) (run_grows (drop (place + 1) all) (applied event now)))
 
 -- the whole run sends and hashes no less than its opening
-pub opening_longer : (peers : ℕ) (view : List ℕ) (all : List ScheduleEvent) → IsFurther (opening_run peers view) (run_of_schedule peers view all)
-opening_longer peers view all = run_grows all (opening_run peers view)
+pub opening_longer : (form : Form) (peers : ℕ) (view : List ℕ) (all : List ScheduleEvent) → IsFurther (opening_run form peers view) (run_of_schedule form peers view all)
+opening_longer form peers view all = run_grows all (opening_run form peers view)
 
 pub drop_past : (all : List ScheduleEvent) (place : ℕ) → length all ≤ place → drop place all ≡ []
 drop_past [] zero le = refl
@@ -71,9 +72,9 @@ drop_past (e ∷ es) zero le = absurd (omega (arith, le))
 drop_past (e ∷ es) (suc place) le = drop_past es place (omega (arith, le))
 
 -- the run after the last event
-pub running_last : (peers : ℕ) (view : List ℕ) (all : List ScheduleEvent) (place : ℕ) (first : Account) (now : Run) (mid : Account) → length all ≤ place → (old : Running peers view all place first now mid)
-    → in_front old.strings now ≡ run_of_schedule peers view all
-running_last peers view all place first now mid le old = subst (λ es. in_front old.strings (run_from es now) ≡ run_of_schedule peers view all) (drop_past all place le) old.rest
+pub running_last : (form : Form) (peers : ℕ) (view : List ℕ) (all : List ScheduleEvent) (place : ℕ) (first : Account) (now : Run) (mid : Account) → length all ≤ place → (old : Running form peers view all place first now mid)
+    → in_front old.strings now ≡ run_of_schedule form peers view all
+running_last form peers view all place first now mid le old = subst (λ es. in_front old.strings (run_from es now) ≡ run_of_schedule form peers view all) (drop_past all place le) old.rest
 
 -- each event of a schedule may stand
 pub stands_at : (peers : ℕ) (all : List ScheduleEvent) (place : ℕ) (event : ScheduleEvent) → AllMayStand peers all → slice_get all place ≡ Some event → MayStand peers event

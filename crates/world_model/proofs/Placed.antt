@@ -10,7 +10,7 @@ use Rattle.step_plans.specs.Plans.{Out}
 use Rattle.world_spec.proofs.Growth.{length_posted_all, changed_hashed}
 use Rattle.world_spec.specs.Messages.{IsPastMessages}
 use Rattle.world_spec.specs.Nodes.{Node, taken, started, hashed_by_start}
-use Rattle.world_spec.specs.Runs.{Run, unhashed, frame_from, place_of, stepped, changed, start_strings, with_start}
+use Rattle.world_spec.specs.Runs.{Run, unhashed, frame_from, place_of, stepped, changed, mode_at, start_strings, with_start}
 use Rattle.world_spec.specs.Steps.{outcome}
 use Rattle.world_model.proofs.Numbers.{shifted, shifted_back}
 use Rattle.world_model.specs.Peers.{node_of, AreNumbered}
@@ -34,17 +34,17 @@ module _ (peers : List WorldPeer) (w : Run) (peer : ℕ) (x new : WorldPeer) (no
   took_strings event me = rw nodes (rw (node_at peers (place_of peer) x here) (rw me refl))
 
   -- the strings that a start hashed
-  pub start_strings_at : (with_start peer w).hashed ≡ w.hashed ++ hashed_by_start w.view (node_of x)
+  pub start_strings_at : (with_start peer w).hashed ≡ w.hashed ++ hashed_by_start (mode_at peer w) w.view (node_of x)
   start_strings_at =
       let found : slice_get w.nodes (place_of peer) ≡ Some (node_of x) = ap (λ (ns : List Node). slice_get ns (place_of peer)) nodes ∙ node_at peers (place_of peer) x here in
-      ap (λ h. h ++ start_strings w.view (slice_get w.nodes (place_of peer))) (changed_hashed peer (started w.view) w) ∙ ap (λ (o : Option Node). w.hashed ++ start_strings w.view o) found
+      ap (λ h. h ++ start_strings (mode_at peer w) w.view (slice_get w.nodes (place_of peer))) (changed_hashed peer (started (mode_at peer w) w.view) w) ∙ ap (λ (o : Option Node). w.hashed ++ start_strings (mode_at peer w) w.view o) found
 
   pub did_change : (change : Node → Node) → node_of new ≡ change (node_of x) → record w { nodes = map node_of (slice_set peers (place_of peer) new) } ≡ changed peer change w
   did_change change did = rw nodes (rw (node_at peers (place_of peer) x here) (rw (← did) (rw (map-set node_of peers (place_of peer) new) (rw (← nodes) refl))))
 
   -- a peer that was started, in a world that keeps no hashed strings
-  pub did_start : node_of new ≡ started w.view (node_of x) → unhashed (record w { nodes = map node_of (slice_set peers (place_of peer) new) }) ≡ unhashed (with_start peer w)
-  did_start did = ap unhashed (did_change (started w.view) did)
+  pub did_start : node_of new ≡ started (mode_at peer w) w.view (node_of x) → unhashed (record w { nodes = map node_of (slice_set peers (place_of peer) new) }) ≡ unhashed (with_start peer w)
+  did_start did = ap unhashed (did_change (started (mode_at peer w) w.view) did)
 
 same_number : (x new p : WorldPeer) (n : ℕ) → Some new ≡ Some p → new.me ≡ x.me → x.me ≡ n → p.me ≡ n
 same_number x new p n is same numbered = rw (← same_Some new p is) (same ∙ numbered)

@@ -9,7 +9,7 @@ use Rattle.world_spec.proofs.Growth.{IsFurther, changed_hashed, changed_mail, fe
 use Rattle.world_spec.specs.Lines.{with_damage}
 use Rattle.world_spec.specs.Messages.{IsPastMessages, IsWithinMessages}
 use Rattle.world_spec.specs.Nodes.{Node, over_stores, started}
-use Rattle.world_spec.specs.Runs.{Run, in_front, unhashed, repeated, changed, with_start}
+use Rattle.world_spec.specs.Runs.{Run, in_front, unhashed, repeated, changed, with_start, mode_at}
 use Rattle.world_spec.specs.Stores.{segment_spoiled}
 use Rattle.world_model.specs.Refusals.{IsCutOff}
 use Rattle.world_model.specs.Worlds.{run_of, MayRefuse, MayStop, Adds, Reaches, RunReaches}
@@ -117,7 +117,7 @@ led_to strings w whole first now is within has =
 -- a call that starts a peer leads to the run in which it has started, or was cut off
 pub reaches_started : {T : Type 0} (first now : Account) (peer : ℕ) (w : Run) (strings : List (List ℕ)) (r : Result T WorldError) (reached : Run) (Did : Type 0) → (with_start peer w).hashed ≡ strings → IsWithinMessages w
     → OnOk r Did → (Did → reached ≡ unhashed (with_start peer w)) → (Did → HasHashed strings first now) → IfErr r (IsCutOff strings first now) → Reaches first (with_start peer w) r reached now
-reaches_started first now peer w strings (Ok x) reached Did are within ok led has cut = (led ok, rw (changed_mail peer (started w.view) w) within, rw are (has ok))
+reaches_started first now peer w strings (Ok x) reached Did are within ok led has cut = (led ok, rw (changed_mail peer (started (mode_at peer w) w.view) w) within, rw are (has ok))
 reaches_started first now peer w strings (Err e) reached Did are within ok led has cut = cut_off_refuses first (with_start peer w) now e (subst (λ h. IsCutOff h first now e) (sym are) cut)
 
 -- a call that hashed a key, and then damages its segment unless memory runs out

@@ -4,6 +4,7 @@ use Rattle.std.proofs.lemmas.List.{map-append, length-append}
 use Rattle.std.proofs.lemmas.Option.{same_Some, none-some}
 use Rattle.held_stores.proofs.Taken.{hashed_none, hashed_all}
 use Rattle.held_stores.specs.Held.{Account, HasHashed, empty_stores}
+use Rattle.peer_state.specs.declared.state.Mode.{Mode}
 use Rattle.world_spec.specs.Nodes.{Down, opening_node, opening_strings}
 use Rattle.world_spec.specs.Runs.{repeated}
 use Rattle.world_spec.specs.Steps.{StartsAs}
@@ -12,14 +13,14 @@ use Rattle.world_model.specs.Peers.{node_of, AreNumbered}
 use Rattle.world_model.specs.declared.peer.WorldPeer.{WorldPeer}
 
 -- the first n peers have started, and the hasher took the strings of the starts
-pub record Started (view : List ℕ) (n : ℕ) (peers : List WorldPeer) (first now : Account) : Type 0 where
-  pub nodes : map node_of peers ≡ replicate n (opening_node view)
+pub record Started (mode : Mode) (view : List ℕ) (n : ℕ) (peers : List WorldPeer) (first now : Account) : Type 0 where
+  pub nodes : map node_of peers ≡ replicate n (opening_node mode view)
   pub numbered : AreNumbered peers
   pub count : length peers ≡ n
-  pub has : HasHashed (repeated n (opening_strings view)) first now
+  pub has : HasHashed (repeated n (opening_strings mode view)) first now
 
-pub none_started : (view : List ℕ) (first : Account) → Started view 0 [] first first
-none_started view first = record { nodes = refl; numbered = λ place p here. absurd (none-some p here); count = refl; has = hashed_none first }
+pub none_started : (mode : Mode) (view : List ℕ) (first : Account) → Started mode view 0 [] first first
+none_started mode view first = record { nodes = refl; numbered = λ place p here. absurd (none-some p here); count = refl; has = hashed_none first }
 
 replicate_more : {A : Type 0} (n : ℕ) (x : A) → replicate n x ++ x ∷ [] ≡ replicate (suc n) x
 replicate_more zero x = refl
@@ -36,11 +37,11 @@ numbered_from base (y ∷ ys) p me numbered zero x here = numbered zero x here
 numbered_from base (y ∷ ys) p me numbered (suc q) x here =
     shifted_back x.me q base (numbered_from (base + 1) ys p (shifted p.me (length ys) base me) (λ r o found. shifted o.me r base (numbered (suc r) o found)) q x here)
 
-pub one_started : (view : List ℕ) (n : ℕ) (peers : List WorldPeer) (p : WorldPeer) (first mid now : Account) → Started view n peers first mid → p.me ≡ n + 1 → StartsAs mid now view (Down empty_stores) (node_of p)
-    → Started view (n + 1) (peers ++ p ∷ []) first now
-one_started view n peers p first mid now old me starts = record {
-  nodes = map-append node_of peers (p ∷ []) ∙ (rw old.nodes (rw starts.is (replicate_more n (opening_node view) ∙ ap (λ k. replicate k (opening_node view)) (sym (succ n)))));
+pub one_started : (mode : Mode) (view : List ℕ) (n : ℕ) (peers : List WorldPeer) (p : WorldPeer) (first mid now : Account) → Started mode view n peers first mid → p.me ≡ n + 1 → StartsAs mid now mode view (Down empty_stores) (node_of p)
+    → Started mode view (n + 1) (peers ++ p ∷ []) first now
+one_started mode view n peers p first mid now old me starts = record {
+  nodes = map-append node_of peers (p ∷ []) ∙ (rw old.nodes (rw starts.is (replicate_more n (opening_node mode view) ∙ ap (λ k. replicate k (opening_node mode view)) (sym (succ n)))));
   numbered = numbered_from 1 peers p (rw old.count me) old.numbered;
   count = length-append peers (p ∷ []) ∙ rw old.count refl;
-  has = subst (λ k. HasHashed (repeated k (opening_strings view)) first now) (sym (succ n)) (hashed_all (repeated n (opening_strings view)) (opening_strings view) first mid now old.has starts.has);
+  has = subst (λ k. HasHashed (repeated k (opening_strings mode view)) first now) (sym (succ n)) (hashed_all (repeated n (opening_strings mode view)) (opening_strings mode view) first mid now old.has starts.has);
 }

@@ -10,6 +10,7 @@ use Rattle.step_plans.specs.declared.outbox.Outbox.{Outbox}
 use Rattle.peer_plan.specs.Drives.{MayCome, step_of}
 use Rattle.peer_plan.specs.Kept.{AllMayGo, MaySend}
 use Rattle.peer_plan.specs.Starts.{start_of}
+use Rattle.peer_state.specs.declared.state.Mode.{Mode}
 use Rattle.peer_state.specs.declared.state.State.{State}
 use Rattle.step_plans.specs.Calls.{Call, AnswerOf}
 use Rattle.step_plans.specs.Plans.{Plan, Out, Finished, Stopped, Runs, nothing}
@@ -122,25 +123,25 @@ module _ (peer : MemPeer) (event : Event) (come : MayCome peer.me event) (up : p
         → IsCutOff (taken peer.me event running).hashed before_it after_it w
     refused_cut {T} e w is halted took = stopped_cut e w is (took (not_halted peer up {T = T} (Err e) halted))
 
-module _ {H : Type 0} (strings : H → Option Book) (c d : H → ℕ) (view : List ℕ) (node : MemNode) (s : HeldStores) (h k : H) (down : node ≡ memory.Down s) where
+module _ {H : Type 0} (strings : H → Option Book) (c d : H → ℕ) (mode : Mode) (view : List ℕ) (node : MemNode) (s : HeldStores) (h k : H) (down : node ≡ memory.Down s) where
   -- a start that ended well is that of the node
-  pub start_ok : (state : State) (t : HeldStores) → Runs (HeldDo strings c d) (HeldRefuse strings c d) (start_of view) (s, h) [] (Finished state nothing) (t, k) []
-      → StartsAs (account strings c d h) (account strings c d k) view (node_by node) (Up state t)
-  start_ok state t ran = rw down (start_taken strings c d view (s, h) (t, k) [] state nothing ran)
+  pub start_ok : (state : State) (t : HeldStores) → Runs (HeldDo strings c d) (HeldRefuse strings c d) (start_of mode view) (s, h) [] (Finished state nothing) (t, k) []
+      → StartsAs (account strings c d h) (account strings c d k) mode view (node_by node) (Up state t)
+  start_ok state t ran = rw down (start_taken strings c d mode view (s, h) (t, k) [] state nothing ran)
 
   -- a start that a store refused leaves the node down
-  pub start_refused : (e : PeerError) (t : HeldStores) → world_error e ≡ None → Runs (HeldDo strings c d) (HeldRefuse strings c d) (start_of view) (s, h) [] (Stopped e) (t, k) []
-      → StartsAs (account strings c d h) (account strings c d k) view (node_by node) (Down t)
-  start_refused e t goes_on ran = elim (start_stopped strings c d view (s, h) (t, k) [] e ran) [
-    | inl cut ↦ absurd (planned (hashed_by_start view (Down s)) (account strings c d h) (account strings c d k) e goes_on cut)
+  pub start_refused : (e : PeerError) (t : HeldStores) → world_error e ≡ None → Runs (HeldDo strings c d) (HeldRefuse strings c d) (start_of mode view) (s, h) [] (Stopped e) (t, k) []
+      → StartsAs (account strings c d h) (account strings c d k) mode view (node_by node) (Down t)
+  start_refused e t goes_on ran = elim (start_stopped strings c d mode view (s, h) (t, k) [] e ran) [
+    | inl cut ↦ absurd (planned (hashed_by_start mode view (Down s)) (account strings c d h) (account strings c d k) e goes_on cut)
     | inr is ↦ rw down is.1
   ]
 
   -- a start that ends the run was cut off
-  pub start_cut : (e : PeerError) (t : HeldStores) (w : WorldError) → world_error e ≡ Some w → Runs (HeldDo strings c d) (HeldRefuse strings c d) (start_of view) (s, h) [] (Stopped e) (t, k) []
-      → IsCutOff (hashed_by_start view (node_by node)) (account strings c d h) (account strings c d k) w
-  start_cut e t w is ran = elim (start_stopped strings c d view (s, h) (t, k) [] e ran) [
-    | inl cut ↦ rw down (cut_off (hashed_by_start view (Down s)) (account strings c d h) (account strings c d k) e w is cut)
+  pub start_cut : (e : PeerError) (t : HeldStores) (w : WorldError) → world_error e ≡ Some w → Runs (HeldDo strings c d) (HeldRefuse strings c d) (start_of mode view) (s, h) [] (Stopped e) (t, k) []
+      → IsCutOff (hashed_by_start mode view (node_by node)) (account strings c d h) (account strings c d k) w
+  start_cut e t w is ran = elim (start_stopped strings c d mode view (s, h) (t, k) [] e ran) [
+    | inl cut ↦ rw down (cut_off (hashed_by_start mode view (Down s)) (account strings c d h) (account strings c d k) e w is cut)
     | inr fault ↦ absurd (no_fault e w fault.0 is)
   ]
 

@@ -118,6 +118,10 @@ impl World {
                 Ok(())
             }
             ScheduleEvent::Start { peer } => self.start(alloc, hasher, *peer),
+            ScheduleEvent::Upgrade { peer } => {
+                self.upgrade(*peer);
+                Ok(())
+            }
             ScheduleEvent::Damage { peer, key, bytes } => {
                 self.damage(alloc, hasher, *peer, key, bytes)
             }

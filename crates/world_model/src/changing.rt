@@ -2,7 +2,7 @@ ghost use Rattle.std.specs.Prelude.{◌≡◌, ◌≤◌, ◌<◌, ◌^◌, leng
 ghost use Rattle.held_stores.specs.Held.{account};
 ghost use Rattle.world_spec.specs.Lines.{with_damage};
 ghost use Rattle.world_spec.specs.Nodes.{over_stores, stopped, while_down};
-ghost use Rattle.world_spec.specs.Runs.{changed, with_start};
+ghost use Rattle.world_spec.specs.Runs.{changed, mode_at, upgraded, with_start};
 ghost use Rattle.world_spec.specs.Stores.{failing, inner_spoiled, leaves_of, spoiled, taken_back};
 ghost use Rattle.world_model.specs.Worlds.{run_of, Adds, Begins, Reaches};
 
@@ -11,6 +11,7 @@ use crate::hashing::hash;
 use crate::world::World;
 use ens_base::{Bytes, Key, PeerId};
 use ens_hashing::Hasher16;
+use peer_core::Mode;
 use schedule_text::{StoreName, Survivor};
 use std::alloc::Global;
 
@@ -21,6 +22,15 @@ impl World {
         ensures { run_of self.new ≡ changed peer stopped (run_of self.old) }
     {
         self.peers[(peer.0 - 1) as usize].stop(alloc);
+    }
+
+    /// How `peer` starts: with sealing on if its starts have that.
+    fn mode_of(&self, peer: PeerId) -> Mode
+        ensures { result ≡ mode_at peer (run_of self.now) }
+    {
+        Mode {
+            sealing: self.sealing.has(peer),
+        }
     }
 
     /// Starts `peer` if it is down.
@@ -35,7 +45,16 @@ impl World {
         ensures begins { Begins self.old self.new }
     {
         let opening = self.opening;
-        self.peers[(peer.0 - 1) as usize].start(alloc, opening, hasher)
+        let mode = self.mode_of(peer);
+        self.peers[(peer.0 - 1) as usize].start(alloc, mode, opening, hasher)
+    }
+
+    /// Makes all later starts of `peer` have sealing on.
+    pub(crate) fn upgrade(&mut self, peer: PeerId)
+        requires { (1 ≤ peer) × (peer ≤ length self.old.peers.items) }
+        ensures { run_of self.new ≡ upgraded peer (run_of self.old) }
+    {
+        self.sealing.insert(peer);
     }
 
     /// Replaces the bytes of an object in the backend of `peer`, or removes the object.
@@ -71,7 +90,8 @@ impl World {
         self.peers[(peer.0 - 1) as usize].damage(alloc, key, bytes)
     }
 
-    /// Replaces the bytes of an inner node in the tree of `peer`, or removes that node.
+    /// Replaces the bytes of an inner node in the tree of `peer`, or removes that node. Changes nothing
+    /// at a level where the tree has no inner node.
     pub(crate) fn inner(
         &mut self,
         alloc: Global,
@@ -81,7 +101,7 @@ impl World {
         bytes: &Option<Bytes>,
     ) -> Result<(), WorldError>
         requires peer { (1 ≤ peer) × (peer ≤ length self.old.peers.items) }
-        requires place { (level ≤ 2) × (index < 16 ^ level) }
+        requires place { (level ≤ 4) × (index < 16 ^ level) }
         ensures reaches { Adds (changed peer (over_stores (inner_spoiled level index bytes.now)) (run_of self.old)) result (run_of self.new) }
         ensures begins { Begins self.old self.new }
     {

@@ -2,56 +2,74 @@ ghost use Rattle.std.specs.Prelude.{◌≡◌, ◌≤◌, length, map, replicate
 ghost use Rattle.ens_base.specs.View.{IsPeer};
 ghost use Rattle.held_stores.specs.Held.{account, empty_stores, HasHashed};
 ghost use Rattle.world_spec.specs.Nodes.{opening_node, opening_strings, Down};
-ghost use Rattle.world_spec.specs.Runs.{opening_run, repeated, unhashed};
+ghost use Rattle.world_spec.specs.Runs.{opening_mode, opening_run, repeated, sealing_first, unhashed};
 ghost use Rattle.world_spec.specs.Steps.{StartsAs};
 ghost use Rattle.world_model.specs.Peers.{AreNumbered, node_of};
 ghost use Rattle.world_model.specs.Refusals.{IsCutOff};
 ghost use Rattle.world_model.specs.Worlds.{run_of};
 
+use crate::applying::all_peers;
 use crate::error::WorldError;
 use crate::peer::WorldPeer;
 use crate::world::World;
-use ens_base::{PeerId, View};
+use ens_base::{PeerId, PeerSet, View};
 use ens_hashing::Hasher16;
 use history_scribe::Scribe;
 use network::Network;
-use schedule_text::Schedule;
+use peer_core::Mode;
+use schedule_text::{Form, Schedule};
 use std::alloc::Global;
 
-/// Starts the peer `me` on empty stores.
+/// Returns the peers whose starts have sealing on before any line: all or none.
+fn sealing_at_opening(form: Form) -> PeerSet
+    ensures { result ≡ sealing_first form }
+{
+    if form.is_sealed() {
+        all_peers()
+    } else {
+        PeerSet::empty()
+    }
+}
+
+/// Starts the peer `me` on empty stores, with sealing on if the form has it on.
 fn started_peer<H: Hasher16>(
     alloc: Global,
     me: PeerId,
+    form: Form,
     view: View,
     hasher: &mut H,
 ) -> Result<WorldPeer, WorldError>
     requires { IsPeer me }
     ensures me { IfOk result (λ p. p.me ≡ me) }
-    ensures node { IfOk result (λ p. StartsAs (account H.kept H.clashes H.fulls hasher.old) (account H.kept H.clashes H.fulls hasher.new) view (Down empty_stores) (node_of p)) }
-    ensures error { IfErr result (IsCutOff (opening_strings view) (account H.kept H.clashes H.fulls hasher.old) (account H.kept H.clashes H.fulls hasher.new)) }
+    ensures node { IfOk result (λ p. StartsAs (account H.kept H.clashes H.fulls hasher.old) (account H.kept H.clashes H.fulls hasher.new) (opening_mode form) view (Down empty_stores) (node_of p)) }
+    ensures error { IfErr result (IsCutOff (opening_strings (opening_mode form) view) (account H.kept H.clashes H.fulls hasher.old) (account H.kept H.clashes H.fulls hasher.new)) }
 {
+    let mode = Mode {
+        sealing: form.is_sealed(),
+    };
     let mut peer = WorldPeer::empty(alloc, me);
-    peer.start(alloc, view, hasher)?;
+    peer.start(alloc, mode, view, hasher)?;
     Ok(peer)
 }
 
-/// Starts the peers 1 to `count` on empty stores.
+/// Starts the peers 1 to `count` on empty stores, with sealing on if the form has it on.
 fn started_peers<H: Hasher16>(
     alloc: Global,
     count: u32,
+    form: Form,
     view: View,
     hasher: &mut H,
 ) -> Result<Vec<WorldPeer>, WorldError>
     requires { count ≤ 31 }
-    ensures nodes { IfOk result (λ v. map node_of v.items ≡ replicate count (opening_node view)) }
+    ensures nodes { IfOk result (λ v. map node_of v.items ≡ replicate count (opening_node (opening_mode form) view)) }
     ensures numbered { IfOk result (λ v. AreNumbered v.items) }
     ensures count { IfOk result (λ v. length v.items ≡ count) }
-    ensures hashed { OnOk result (HasHashed (repeated count (opening_strings view)) (account H.kept H.clashes H.fulls hasher.old) (account H.kept H.clashes H.fulls hasher.new)) }
-    ensures error { IfErr result (IsCutOff (repeated count (opening_strings view)) (account H.kept H.clashes H.fulls hasher.old) (account H.kept H.clashes H.fulls hasher.new)) }
+    ensures hashed { OnOk result (HasHashed (repeated count (opening_strings (opening_mode form) view)) (account H.kept H.clashes H.fulls hasher.old) (account H.kept H.clashes H.fulls hasher.new)) }
+    ensures error { IfErr result (IsCutOff (repeated count (opening_strings (opening_mode form) view)) (account H.kept H.clashes H.fulls hasher.old) (account H.kept H.clashes H.fulls hasher.new)) }
 {
     let mut peers = Vec::new(alloc);
     for below in 0..count {
-        let peer = started_peer(alloc, PeerId(below + 1), view, hasher)?;
+        let peer = started_peer(alloc, PeerId(below + 1), form, view, hasher)?;
         peers.push(peer)?;
     }
     Ok(peers)
@@ -59,8 +77,8 @@ fn started_peers<H: Hasher16>(
 
 impl World {
     /// Opens a world: starts `schedule.peers` peers on empty stores, in an ensemble that opens in
-    /// the view of the schedule. Applies no event. The hasher took the strings that the starts hash,
-    /// in order.
+    /// the view of the schedule, with sealing on if its form has it on. Applies no event. The hasher
+    /// took the strings that the starts hash, in order.
     ///
     /// # Errors
     ///
@@ -72,13 +90,14 @@ impl World {
         hasher: &mut H,
     ) -> Result<World, WorldError>
         requires { schedule.now.peers ≤ 31 }
-        ensures ok { IfOk result (λ w. run_of w ≡ unhashed (opening_run schedule.now.peers schedule.now.view)) }
-        ensures hashed { OnOk result (HasHashed (opening_run schedule.now.peers schedule.now.view).hashed (account H.kept H.clashes H.fulls hasher.old) (account H.kept H.clashes H.fulls hasher.new)) }
-        ensures error { IfErr result (IsCutOff (opening_run schedule.now.peers schedule.now.view).hashed (account H.kept H.clashes H.fulls hasher.old) (account H.kept H.clashes H.fulls hasher.new)) }
+        ensures ok { IfOk result (λ w. run_of w ≡ unhashed (opening_run schedule.now.form schedule.now.peers schedule.now.view)) }
+        ensures hashed { OnOk result (HasHashed (opening_run schedule.now.form schedule.now.peers schedule.now.view).hashed (account H.kept H.clashes H.fulls hasher.old) (account H.kept H.clashes H.fulls hasher.new)) }
+        ensures error { IfErr result (IsCutOff (opening_run schedule.now.form schedule.now.peers schedule.now.view).hashed (account H.kept H.clashes H.fulls hasher.old) (account H.kept H.clashes H.fulls hasher.new)) }
     {
         Ok(World {
             opening: schedule.view,
-            peers: started_peers(alloc, schedule.peers, schedule.view, hasher)?,
+            sealing: sealing_at_opening(schedule.form),
+            peers: started_peers(alloc, schedule.peers, schedule.form, schedule.view, hasher)?,
             network: Network::new(alloc)?,
             printed: Vec::new(alloc),
             scribe: Scribe::new(alloc),

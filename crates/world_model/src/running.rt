@@ -32,8 +32,8 @@ impl World {
         hasher: &mut H,
     ) -> Result<World, WorldError>
         requires { IsSchedule schedule.now }
-        ensures reaches { RunReaches (account H.kept H.clashes H.fulls hasher.old) (run_of_schedule schedule.now.peers schedule.now.view schedule.now.events) result (account H.kept H.clashes H.fulls hasher.new) }
-        ensures apart { KeepsNothing (H.kept hasher.old) → OnOk result (HasNoClash (run_of_schedule schedule.now.peers schedule.now.view schedule.now.events).hashed) }
+        ensures reaches { RunReaches (account H.kept H.clashes H.fulls hasher.old) (run_of_schedule schedule.now.form schedule.now.peers schedule.now.view schedule.now.events) result (account H.kept H.clashes H.fulls hasher.new) }
+        ensures apart { KeepsNothing (H.kept hasher.old) → OnOk result (HasNoClash (run_of_schedule schedule.now.form schedule.now.peers schedule.now.view schedule.now.events).hashed) }
     {
         let mut world = World::open(alloc, schedule, hasher)?;
         let events = schedule.events.as_slice();

@@ -89,8 +89,8 @@ impl WorldPeer {
         damaged
     }
 
-    /// Replaces the bytes of the inner node at this level and index, or removes it. Fails when out
-    /// of memory.
+    /// Replaces the bytes of the inner node at this level and index, or removes it. Changes nothing at
+    /// a level where the tree has no inner node. Fails when out of memory.
     #[inline(never)]
     pub(crate) fn inner(
         &mut self,
@@ -99,7 +99,7 @@ impl WorldPeer {
         index: u32,
         bytes: &Option<Bytes>,
     ) -> Result<(), WorldError>
-        requires { (level ≤ 2) × (index < 16 ^ level) }
+        requires { (level ≤ 4) × (index < 16 ^ level) }
         ensures ok { OnOk result (node_of self.new ≡ over_stores (inner_spoiled level index bytes.now) (node_of self.old)) }
         ensures me { self.new.me ≡ self.old.me }
         ensures memory { IfErr result (λ e. e ≡ WorldError.Memory) }

@@ -86,8 +86,8 @@ pub(crate) fn damage(
     }
 }
 
-/// Replaces the bytes of the inner node at this level and index, or removes it. Fails when out of
-/// memory.
+/// Replaces the bytes of the inner node at this level and index, or removes it. Changes nothing at a
+/// level where the tree has no inner node. Fails when out of memory.
 pub(crate) fn inner(
     alloc: Global,
     stores: &mut MemStores,
@@ -95,10 +95,13 @@ pub(crate) fn inner(
     index: u32,
     bytes: &Option<Bytes>,
 ) -> Result<(), WorldError>
-    requires { (level ≤ 2) × (index < 16 ^ level) }
+    requires { (level ≤ 4) × (index < 16 ^ level) }
     ensures ok { OnOk result (stores.new ≡ inner_spoiled level index bytes.now stores.old) }
     ensures memory { IfErr result (λ e. e ≡ WorldError.Memory) }
 {
+    if level >= TreeVersion::One.levels() {
+        return Ok(());
+    }
     let (mark, mut nodes) = take_nodes(alloc, &mut stores.tree);
     let damaged = node_faults::inner(alloc, &mut nodes, TreeVersion::One, level, index, bytes);
     stores.tree = Tree::join(mark, nodes);

@@ -14,7 +14,7 @@ use crate::node::{MemNode, empty_stores};
 use crate::peer::WorldPeer;
 use ens_base::{PeerId, View};
 use ens_hashing::Hasher16;
-use peer_core::{Event, Peer, StartError};
+use peer_core::{Event, Mode, Peer, StartError};
 use std::alloc::Global;
 use std::thread::Threads;
 use step_plans::{Outbox, PeerError};
@@ -53,23 +53,24 @@ impl WorldPeer {
         self.node.stop(alloc);
     }
 
-    /// Starts the peer if it is down. If the start is refused, the peer stays down.
+    /// Starts the peer in this mode if it is down. If the start is refused, the peer stays down.
     #[inline(never)]
     pub(crate) fn start<H: Hasher16>(
         &mut self,
         alloc: Global,
+        mode: Mode,
         opening: View,
         hasher: &mut H,
     ) -> Result<(), WorldError>
-        ensures ok { OnOk result (StartsAs (account H.kept H.clashes H.fulls hasher.old) (account H.kept H.clashes H.fulls hasher.new) opening (node_of self.old) (node_of self.new)) }
+        ensures ok { OnOk result (StartsAs (account H.kept H.clashes H.fulls hasher.old) (account H.kept H.clashes H.fulls hasher.new) mode opening (node_of self.old) (node_of self.new)) }
         ensures me { self.new.me ≡ self.old.me }
-        ensures error { IfErr result (IsCutOff (hashed_by_start opening (node_of self.old)) (account H.kept H.clashes H.fulls hasher.old) (account H.kept H.clashes H.fulls hasher.new)) }
+        ensures error { IfErr result (IsCutOff (hashed_by_start mode opening (node_of self.old)) (account H.kept H.clashes H.fulls hasher.old) (account H.kept H.clashes H.fulls hasher.new)) }
     {
         let MemNode::Down(held) = &mut self.node else {
             return Ok(());
         };
         let stores = std::mem::replace(held, empty_stores(alloc));
-        match Peer::start(alloc, self.me, opening, stores, hasher) {
+        match Peer::start(alloc, self.me, opening, mode, stores, hasher) {
             Ok(peer) => {
                 self.node = MemNode::Up(peer);
                 Ok(())

@@ -3,7 +3,7 @@ ghost use Rattle.network.specs.Mail.{most_messages};
 ghost use Rattle.world_model.specs.Peers.{AreNumbered};
 
 use crate::peer::WorldPeer;
-use ens_base::{Key, View};
+use ens_base::{Key, PeerSet, View};
 use history_scribe::Scribe;
 use network::Network;
 use register_model::Printed;
@@ -14,6 +14,8 @@ use register_model::Printed;
 pub struct World {
     /// The view in which the ensemble of the peers opens.
     pub(crate) opening: View,
+    /// The peers whose starts have sealing on.
+    pub(crate) sealing: PeerSet,
     pub(crate) peers: Vec<WorldPeer>,
     pub(crate) network: Network,
     pub(crate) printed: Vec<Printed>,

@@ -7,11 +7,12 @@ use Rattle.network.proofs.MailLaws.{oldest_is_sent, oldest_is_beyond, clear_at_f
 use Rattle.peer_state.specs.declared.event.Event.{Event}
 use Rattle.peer_state.specs.declared.event.Event.TheVariants as events
 use Rattle.schedule_text.specs.declared.event.ScheduleEvent.{ScheduleEvent}
-use Rattle.schedule_text.specs.declared.event.ScheduleEvent.TheVariants.{Call, Tick, Deliver, Pass, Lose, Calm, CalmAmong, Change, Stop, Start, Spoil, Damage, Inner, Revert, Fail}
+use Rattle.schedule_text.specs.declared.form.Form.{Form}
+use Rattle.schedule_text.specs.declared.event.ScheduleEvent.TheVariants.{Call, Tick, Deliver, Pass, Lose, Calm, CalmAmong, Change, Stop, Start, Upgrade, Deepen, Spoil, Damage, Inner, Revert, Fail}
 use Rattle.wire_frames.specs.declared.frame.Frame.{Frame}
 use Rattle.world_spec.specs.Lines.{call_of, everyone, set_of, effect, applied, run_from, run_of_schedule}
 use Rattle.world_spec.specs.Nodes.{Node, taken, started, stopped, over_stores, while_down}
-use Rattle.world_spec.specs.Runs.{Run, opening_run, place_of, frame_from, posted_all, stepped_at, stepped, changed, ticked, received_if, delivered, delivered_if, going_on, calmed}
+use Rattle.world_spec.specs.Runs.{Run, opening_run, mode_at, place_of, frame_from, posted_all, stepped_at, stepped, changed, ticked, received_if, delivered, delivered_if, going_on, calmed}
 use Rattle.world_spec.specs.Messages.{sent_in, IsCalm}
 use Rattle.world_spec.specs.Stores.{failing, leaves_of, spoiled, segment_spoiled, inner_spoiled, taken_back}
 use Rattle.world_spec.proofs.Growth.{changed_mail}
@@ -116,7 +117,9 @@ module _ (test : Frame → Bool) (k : ℕ) where
   effect_quiet (CalmAmong members) w quiet = calmed_quiet (set_of members) most_messages w quiet
   effect_quiet (Change peer view) w quiet = stepped_quiet test k peer (events.Change view) w quiet
   effect_quiet (Stop peer) w quiet = changed_quiet test k peer stopped w quiet
-  effect_quiet (Start peer) w quiet = changed_quiet test k peer (started w.view) w quiet
+  effect_quiet (Start peer) w quiet = changed_quiet test k peer (started (mode_at peer w) w.view) w quiet
+  effect_quiet (Upgrade peer) w quiet = quiet
+  effect_quiet Deepen w quiet = quiet
   effect_quiet (Spoil peer key bytes) w quiet = changed_quiet test k peer (over_stores (spoiled key bytes)) w quiet
   effect_quiet (Damage peer key bytes) w quiet = changed_quiet test k peer (over_stores (segment_spoiled key bytes)) w quiet
   effect_quiet (Inner peer level index bytes) w quiet = changed_quiet test k peer (over_stores (inner_spoiled level index bytes)) w quiet
@@ -132,15 +135,15 @@ run_to_last [] last w = refl
 run_to_last (event ∷ more) last w = run_to_last more last (applied event w)
 
 -- in every run there is one flag for each message
-known : (peers : ℕ) (view : List ℕ) (events : List ScheduleEvent) → IsMail (run_of_schedule peers view events).mail
-known peers view events =
+known : (form : Form) (peers : ℕ) (view : List ℕ) (events : List ScheduleEvent) → IsMail (run_of_schedule form peers view events).mail
+known form peers view events =
     let test : Frame → Bool = λ f. true in
-    (run_quiet test 0 events (opening_run peers view) (record { mail = is_mail_at_first; within = omega arith; clear = clear_at_first test no_mail })).mail
+    (run_quiet test 0 events (opening_run form peers view) (record { mail = is_mail_at_first; within = omega arith; clear = clear_at_first test no_mail })).mail
 
 -- a calm line leaves no message waiting
-pub calm_ends : (peers : ℕ) (view : List ℕ) (events : List ScheduleEvent) → IsCalm everyone (run_of_schedule peers view (events ++ Calm ∷ []))
-calm_ends peers view events = rw (run_to_last events Calm (opening_run peers view)) (ends everyone most_messages (run_of_schedule peers view events) (known peers view events))
+pub calm_ends : (form : Form) (peers : ℕ) (view : List ℕ) (events : List ScheduleEvent) → IsCalm everyone (run_of_schedule form peers view (events ++ Calm ∷ []))
+calm_ends form peers view events = rw (run_to_last events Calm (opening_run form peers view)) (ends everyone most_messages (run_of_schedule form peers view events) (known form peers view events))
 
 -- a calm line among some peers leaves none waiting between them
-pub calm_among_ends : (peers : ℕ) (view : List ℕ) (events : List ScheduleEvent) (members : List ℕ) → IsCalm (set_of members) (run_of_schedule peers view (events ++ CalmAmong members ∷ []))
-calm_among_ends peers view events members = rw (run_to_last events (CalmAmong members) (opening_run peers view)) (ends (set_of members) most_messages (run_of_schedule peers view events) (known peers view events))
+pub calm_among_ends : (form : Form) (peers : ℕ) (view : List ℕ) (events : List ScheduleEvent) (members : List ℕ) → IsCalm (set_of members) (run_of_schedule form peers view (events ++ CalmAmong members ∷ []))
+calm_among_ends form peers view events members = rw (run_to_last events (CalmAmong members) (opening_run form peers view)) (ends (set_of members) most_messages (run_of_schedule form peers view events) (known form peers view events))

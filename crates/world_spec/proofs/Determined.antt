@@ -9,6 +9,7 @@ use Rattle.held_stores.specs.Runs.{Ended}
 use Rattle.peer_plan.specs.Drives.{step_of}
 use Rattle.peer_plan.specs.Starts.{start_of}
 use Rattle.peer_state.specs.declared.event.Event.{Event}
+use Rattle.peer_state.specs.declared.state.Mode.{Mode}
 use Rattle.peer_state.specs.declared.state.State.{State}
 use Rattle.step_plans.specs.Plans.{Plan, Out, nothing, Ending, Finished, Stopped, Runs}
 use Rattle.step_plans.specs.declared.error.PeerError.{PeerError}
@@ -66,20 +67,20 @@ module _ {H : Type 0} (strings : H → Option Book) (c d : H → ℕ) where
         → IsUnplanned (taken me event (Up x s.0)).hashed (tells s.1) (tells t.1) e ⊎ ((e ≡ StoreFault) × ComesTo (tells s.1) (tells t.1) (taken me event (Up x s.0)) (Down t.0) nothing ms)
     step_stopped e runs = stopped (step_of me event x) s t e ms runs
 
-  module _ (view : List ℕ) (s t : HeldStores × H) (ms : List Note) where
+  module _ (mode : Mode) (view : List ℕ) (s t : HeldStores × H) (ms : List Note) where
     -- the start of a node that is down, from the outcome of its plan
-    starts_as : (node : Node) (out : Out) → ComesTo (tells s.1) (tells t.1) (taken_of (run_over (start_of view) s.0)) node out ms → StartsAs (tells s.1) (tells t.1) view (Down s.0) node
+    starts_as : (node : Node) (out : Out) → ComesTo (tells s.1) (tells t.1) (taken_of (run_over (start_of mode view) s.0)) node out ms → StartsAs (tells s.1) (tells t.1) mode view (Down s.0) node
     starts_as node out came = record { is = ap (λ k. k.node) came.is; has = came.has }
 
     -- a start that finished leads to a running node
-    pub start_taken : (y : State) (out : Out) → MayRun (start_of view) s (Finished y out) t ms → StartsAs (tells s.1) (tells t.1) view (Down s.0) (Up y t.0)
-    start_taken y out runs = starts_as (Up y t.0) out (finished (start_of view) s t y out ms runs)
+    pub start_taken : (y : State) (out : Out) → MayRun (start_of mode view) s (Finished y out) t ms → StartsAs (tells s.1) (tells t.1) mode view (Down s.0) (Up y t.0)
+    start_taken y out runs = starts_as (Up y t.0) out (finished (start_of mode view) s t y out ms runs)
 
     -- a start that stopped leaves the node down, unless it was cut off
-    pub start_stopped : (e : PeerError) → MayRun (start_of view) s (Stopped e) t ms
-        → IsUnplanned (hashed_by_start view (Down s.0)) (tells s.1) (tells t.1) e ⊎ ((e ≡ StoreFault) × StartsAs (tells s.1) (tells t.1) view (Down s.0) (Down t.0))
-    start_stopped e runs = by_end (stopped (start_of view) s t e ms runs) where
-      by_end : IsUnplanned (taken_of (run_over (start_of view) s.0)).hashed (tells s.1) (tells t.1) e ⊎ ((e ≡ StoreFault) × ComesTo (tells s.1) (tells t.1) (taken_of (run_over (start_of view) s.0)) (Down t.0) nothing ms)
-          → IsUnplanned (hashed_by_start view (Down s.0)) (tells s.1) (tells t.1) e ⊎ ((e ≡ StoreFault) × StartsAs (tells s.1) (tells t.1) view (Down s.0) (Down t.0))
+    pub start_stopped : (e : PeerError) → MayRun (start_of mode view) s (Stopped e) t ms
+        → IsUnplanned (hashed_by_start mode view (Down s.0)) (tells s.1) (tells t.1) e ⊎ ((e ≡ StoreFault) × StartsAs (tells s.1) (tells t.1) mode view (Down s.0) (Down t.0))
+    start_stopped e runs = by_end (stopped (start_of mode view) s t e ms runs) where
+      by_end : IsUnplanned (taken_of (run_over (start_of mode view) s.0)).hashed (tells s.1) (tells t.1) e ⊎ ((e ≡ StoreFault) × ComesTo (tells s.1) (tells t.1) (taken_of (run_over (start_of mode view) s.0)) (Down t.0) nothing ms)
+          → IsUnplanned (hashed_by_start mode view (Down s.0)) (tells s.1) (tells t.1) e ⊎ ((e ≡ StoreFault) × StartsAs (tells s.1) (tells t.1) mode view (Down s.0) (Down t.0))
       by_end (inl cut) = inl cut
       by_end (inr came) = inr (came.0, starts_as (Down t.0) nothing came.1)

@@ -1,5 +1,5 @@
 -- What the run of a plan over stores in memory comes to.
-use Rattle.std.proofs.Common.{◌≡◌, ℕ, List, [], ◌∷◌, ◌++◌, Option, None, Some, Result, Ok, Err, true, refl, sym, subst, arith}
+use Rattle.std.proofs.Common.{◌≡◌, ℕ, List, [], ◌∷◌, ◌++◌, Option, None, Some, Result, Ok, Err, Bool, true, false, refl, sym, subst, arith}
 use Rattle.ens_outside.specs.Stores.{NodeCall, Read, Write, Top, SetTop}
 use Rattle.ens_outside.specs.declared.memory.failing_call.Leaves.{Leaves}
 use Rattle.held_stores.specs.Answers.{answered, looked, entered, whole, done}
@@ -10,8 +10,9 @@ use Rattle.peer_plan.proofs.Inside.{IsInside, get_inside, insert_inside, node_in
 use Rattle.peer_plan.proofs.Whole.{IsWhole, scan_whole, rebuild_whole}
 use Rattle.peer_plan.specs.Kept.{IsStepCall, IsSound, IsInTree, Reaches}
 use Rattle.peer_plan.specs.Starts.{first_state, opening_saved}
+use Rattle.peer_state.specs.declared.state.Mode.{Mode}
 use Rattle.peer_state.specs.declared.state.State.{State}
-use Rattle.step_plans.specs.Calls.{Call, Load, Save, FreshTree, OpenTree, Find, Enter, ScanTree, ReadNode, Install, Fetch, Put, Hash, AnswerOf}
+use Rattle.step_plans.specs.Calls.{Call, Load, Save, FreshTree, OpenTree, Root, Find, Enter, ScanTree, ReadNode, Install, Fetch, Put, Hash, AnswerOf}
 use Rattle.step_plans.specs.Plans.{Plan, Done, Say, Ask, Out, Ending, Finished, Stopped, Follows}
 use Rattle.step_plans.specs.declared.error.PeerError.{PeerError}
 use Rattle.step_plans.specs.declared.walked.Walked.{Walked}
@@ -67,6 +68,7 @@ answered_sound Load h a is = tt
 answered_sound (Save fact) h a is = tt
 answered_sound FreshTree h a is = tt
 answered_sound (OpenTree seal) h a is = tt
+answered_sound Root h a is = tt
 answered_sound ScanTree h a is = tt
 answered_sound (ReadNode at) h a is = λ inside.
     let plan = node_plan (form_of One) h.stores.tree.top at in
@@ -173,6 +175,7 @@ is_answered (Hash bytes) h one none = record { answer = _; is = refl; none = rec
 is_answered Load h one none = absurd one
 is_answered FreshTree h one none = absurd one
 is_answered (OpenTree seal) h one none = absurd one
+is_answered Root h one none = record { answer = _; is = refl; none = none }
 is_answered ScanTree h one none =
     let plan = scan_plan (form_of One) h.stores.tree.top in
     let went = walk_unfailing plan h.stores.tree.store h.hashed none.tree in
@@ -205,13 +208,15 @@ run_finishes P (Ask call next) h ns follows none =
 
 -- ## Start on empty stores
 
--- the peer runs with the opening fact, which its stores keep, and no write is to fail
-pub record IsOpening (view : List ℕ) (node : Node) : Type 0 where
+-- the peer runs with the opening fact, which its stores keep with this seal, and no write is to fail
+pub record IsOpening (mode : Mode) (view : List ℕ) (node : Node) : Type 0 where
+  pub seal : Option (List ℕ)
   pub stores : HeldStores
-  pub is : node ≡ Up (first_state (opening_saved view) true) stores
-  pub kept : stores.facts.kept ≡ Some (opening_saved view)
+  pub is : node ≡ Up (first_state mode (opening_saved view seal) true) stores
+  pub kept : stores.facts.kept ≡ Some (opening_saved view seal)
   pub none : NoneWaits stores
 
-pub opening_is : (view : List ℕ) → IsOpening view (opening_node view)
+pub opening_is : (seals : Bool) (view : List ℕ) → IsOpening (record { sealing = seals }) view (opening_node (record { sealing = seals }) view)
 unfolding walk
-opening_is view = record { stores = _; is = refl; kept = refl; none = record { facts = refl; tree = refl; backend = refl } }
+opening_is false view = record { seal = None; stores = _; is = refl; kept = refl; none = record { facts = refl; tree = refl; backend = refl } }
+opening_is true view = record { seal = _; stores = _; is = refl; kept = refl; none = record { facts = refl; tree = refl; backend = refl } }

@@ -6,11 +6,11 @@ use Rattle.network.specs.Mail.{settled, goes, is_among, oldest, most_messages}
 use Rattle.peer_state.specs.declared.event.Event.{Event}
 use Rattle.peer_state.specs.declared.event.Event.TheVariants as events
 use Rattle.schedule_text.specs.declared.event.ScheduleEvent.{ScheduleEvent}
-use Rattle.schedule_text.specs.declared.event.ScheduleEvent.TheVariants.{Call, Tick, Deliver, Pass, Lose, Calm, CalmAmong, Change, Stop, Start, Spoil, Damage, Inner, Revert, Fail}
+use Rattle.schedule_text.specs.declared.event.ScheduleEvent.TheVariants.{Call, Tick, Deliver, Pass, Lose, Calm, CalmAmong, Change, Stop, Start, Upgrade, Deepen, Spoil, Damage, Inner, Revert, Fail}
 use Rattle.wire_frames.specs.declared.frame.Frame.{Frame}
 use Rattle.world_spec.specs.Lines.{call_of, everyone, set_of, with_damage, effect, counted, applied, run_from}
 use Rattle.world_spec.specs.Nodes.{Node, Taken, taken, started, stopped, over_stores, while_down}
-use Rattle.world_spec.specs.Runs.{Run, in_front, unhashed, place_of, with_taken, stepped_at, stepped, changed_at, changed, start_strings, hashing, with_start, ticked, received_if, delivered, delivered_if, going_on, calmed}
+use Rattle.world_spec.specs.Runs.{Run, in_front, unhashed, place_of, with_taken, stepped_at, stepped, changed_at, changed, mode_at, start_strings, hashing, with_start, ticked, received_if, delivered, delivered_if, going_on, calmed}
 use Rattle.world_spec.specs.Stores.{failing, leaves_of, spoiled, segment_spoiled, inner_spoiled, taken_back}
 
 taken_front : (xs : List (List ℕ)) (peer : ℕ) (t : Taken) (w : Run) → with_taken peer t (in_front xs w) ≡ in_front xs (with_taken peer t w)
@@ -57,9 +57,9 @@ changed_front xs peer change w = changed_at_front xs (slice_get w.nodes (place_o
 
 start_front : (xs : List (List ℕ)) (peer : ℕ) (w : Run) → with_start peer (in_front xs w) ≡ in_front xs (with_start peer w)
 start_front xs peer w =
-    let strings = start_strings w.view (slice_get w.nodes (place_of peer)) in
-    let v = changed peer (started w.view) w in
-    ap (hashing strings) (changed_front xs peer (started w.view) w) ∙ ap (λ h. record v { hashed = h }) (append_assoc xs v.hashed strings)
+    let strings = start_strings (mode_at peer w) w.view (slice_get w.nodes (place_of peer)) in
+    let v = changed peer (started (mode_at peer w) w.view) w in
+    ap (hashing strings) (changed_front xs peer (started (mode_at peer w) w.view) w) ∙ ap (λ h. record v { hashed = h }) (append_assoc xs v.hashed strings)
 
 damage_front : (xs : List (List ℕ)) (peer : ℕ) (key : List ℕ) (bytes : Option (List ℕ)) (w : Run) → with_damage peer key bytes (in_front xs w) ≡ in_front xs (with_damage peer key bytes w)
 damage_front xs peer key bytes w =
@@ -77,6 +77,8 @@ effect_front (CalmAmong members) xs w = calmed_front (set_of members) most_messa
 effect_front (Change peer view) xs w = stepped_front xs peer (events.Change view) w
 effect_front (Stop peer) xs w = changed_front xs peer stopped w
 effect_front (Start peer) xs w = start_front xs peer w
+effect_front (Upgrade peer) xs w = refl
+effect_front Deepen xs w = refl
 effect_front (Spoil peer key bytes) xs w = changed_front xs peer (over_stores (spoiled key bytes)) w
 effect_front (Damage peer key bytes) xs w = damage_front xs peer key bytes w
 effect_front (Inner peer level index bytes) xs w = changed_front xs peer (over_stores (inner_spoiled level index bytes)) w

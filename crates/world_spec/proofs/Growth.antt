@@ -6,14 +6,14 @@ use Rattle.network.specs.Mail.{Mail, posted, settled, goes, is_among, oldest, mo
 use Rattle.peer_state.specs.declared.event.Event.{Event}
 use Rattle.peer_state.specs.declared.event.Event.TheVariants as events
 use Rattle.schedule_text.specs.declared.event.ScheduleEvent.{ScheduleEvent}
-use Rattle.schedule_text.specs.declared.event.ScheduleEvent.TheVariants.{Call, Tick, Deliver, Pass, Lose, Calm, CalmAmong, Change, Stop, Start, Spoil, Damage, Inner, Revert, Fail}
+use Rattle.schedule_text.specs.declared.event.ScheduleEvent.TheVariants.{Call, Tick, Deliver, Pass, Lose, Calm, CalmAmong, Change, Stop, Start, Upgrade, Deepen, Spoil, Damage, Inner, Revert, Fail}
 use Rattle.wire_frames.specs.declared.frame.Frame.{Frame}
 use Rattle.held_stores.proofs.Taken.{starts_here, starts_later}
 use Rattle.held_stores.specs.Held.{StartsWith}
 use Rattle.world_spec.specs.Lines.{call_of, everyone, set_of, with_damage, effect, applied, run_from}
 use Rattle.world_spec.specs.Messages.{sent_in}
 use Rattle.world_spec.specs.Nodes.{Node, Taken, taken, started, stopped, over_stores, while_down}
-use Rattle.world_spec.specs.Runs.{Run, in_front, repeated, place_of, frame_from, posted_all, with_taken, stepped_at, stepped, changed_at, changed, start_strings, with_start, ticked, received_if, delivered, delivered_if, going_on, calmed}
+use Rattle.world_spec.specs.Runs.{Run, in_front, repeated, place_of, frame_from, posted_all, with_taken, stepped_at, stepped, changed_at, changed, mode_at, start_strings, with_start, ticked, received_if, delivered, delivered_if, going_on, calmed}
 use Rattle.world_spec.specs.Stores.{failing, leaves_of, spoiled, segment_spoiled, inner_spoiled, taken_back}
 
 length_posted : (m : Mail) (f : Frame) → length (posted m f).sent ≡ length m.sent + 1
@@ -91,9 +91,9 @@ changed_grows peer change w = changed_at_grows (slice_get w.nodes (place_of peer
 
 start_grows : (peer : ℕ) (w : Run) → IsFurther w (with_start peer w)
 start_grows peer w =
-    let change = changed_grows peer (started w.view) w in
-    let strings = start_strings w.view (slice_get w.nodes (place_of peer)) in
-    record { sent = change.sent; hashed = starts_later w.hashed (changed peer (started w.view) w).hashed (with_start peer w).hashed change.hashed (strings, refl) }
+    let change = changed_grows peer (started (mode_at peer w) w.view) w in
+    let strings = start_strings (mode_at peer w) w.view (slice_get w.nodes (place_of peer)) in
+    record { sent = change.sent; hashed = starts_later w.hashed (changed peer (started (mode_at peer w) w.view) w).hashed (with_start peer w).hashed change.hashed (strings, refl) }
 
 -- the number of peers
 abbrev pub peers_in : Run → ℕ
@@ -148,7 +148,9 @@ applied_same Calm w = calmed_same everyone most_messages w
 applied_same (CalmAmong members) w = calmed_same (set_of members) most_messages w
 applied_same (Change peer view) w = stepped_same peer (events.Change view) w
 applied_same (Stop peer) w = changed_same peer stopped w
-applied_same (Start peer) w = changed_same peer (started w.view) w
+applied_same (Start peer) w = changed_same peer (started (mode_at peer w) w.view) w
+applied_same (Upgrade peer) w = refl
+applied_same Deepen w = refl
 applied_same (Spoil peer key bytes) w = changed_same peer (over_stores (spoiled key bytes)) w
 applied_same (Damage peer key bytes) w = changed_same peer (over_stores (segment_spoiled key bytes)) w
 applied_same (Inner peer level index bytes) w = changed_same peer (over_stores (inner_spoiled level index bytes)) w
@@ -177,6 +179,8 @@ effect_grows (CalmAmong members) w = calmed_grows (set_of members) most_messages
 effect_grows (Change peer view) w = stepped_grows peer (events.Change view) w
 effect_grows (Stop peer) w = changed_grows peer stopped w
 effect_grows (Start peer) w = start_grows peer w
+effect_grows (Upgrade peer) w = record { sent = omega arith; hashed = starts_here w.hashed }
+effect_grows Deepen w = further_same w
 effect_grows (Spoil peer key bytes) w = changed_grows peer (over_stores (spoiled key bytes)) w
 effect_grows (Damage peer key bytes) w = damage_grows peer key bytes w
 effect_grows (Inner peer level index bytes) w = changed_grows peer (over_stores (inner_spoiled level index bytes)) w

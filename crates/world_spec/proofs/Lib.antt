@@ -4,4 +4,5 @@ pub mod Ending
 pub mod Growth
 pub mod Fronts
 pub mod Obeying
+pub mod Sealing
 pub mod Turns

@@ -1,5 +1,5 @@
 -- Every message of a run goes from a peer to another and obeys the grammar of frames.
-use Rattle.std.proofs.Common.{◌≡◌, ◌≤◌, ◌-◌, arith, refl, sym, subst, ap, inl, inr, ◌⊎◌, ℕ, zero, suc, Bool, List, [], ◌∷◌, map, replicate, Option, None, Some}
+use Rattle.std.proofs.Common.{◌≡◌, ◌≤◌, ◌-◌, arith, refl, sym, subst, ap, inl, inr, ◌⊎◌, ℕ, zero, suc, Bool, true, false, List, [], ◌∷◌, map, replicate, Option, None, Some}
 use Rattle.std.specs.Prelude.{All, IfSome, slice_get, slice_set}
 use Rattle.std.proofs.lemmas.List.Elements.{All-nil, All-cons, All-head, All-tail, All-push}
 use Rattle.std.proofs.lemmas.Option.{none-some, same_Some}
@@ -13,20 +13,22 @@ use Rattle.peer_fact.specs.declared.saved.SavedFact.{SavedFact}
 use Rattle.peer_plan.proofs.Passing.{steps_keep}
 use Rattle.peer_plan.specs.Drives.{step_of, MayCome}
 use Rattle.peer_plan.specs.Kept.{IsOwn, MaySend, AllMayGo, Reaches}
-use Rattle.peer_plan.specs.Starts.{start_of, opened}
+use Rattle.peer_plan.specs.Starts.{start_of, opened, seals_opening}
 use Rattle.peer_state.specs.declared.event.Event.{Event}
 use Rattle.peer_state.specs.declared.event.Event.TheVariants as events
+use Rattle.peer_state.specs.declared.state.Mode.{Mode}
 use Rattle.peer_state.specs.declared.state.State.{State}
 use Rattle.step_plans.specs.Plans.{Plan, Ending, Finished, Stopped}
 use Rattle.register_model.specs.declared.note.Note.{Note}
 use Rattle.schedule_text.specs.Spelling.{MayStand, AllMayStand}
 use Rattle.schedule_text.specs.declared.event.ScheduleEvent.{ScheduleEvent}
-use Rattle.schedule_text.specs.declared.event.ScheduleEvent.TheVariants.{Call, Tick, Deliver, Pass, Lose, Calm, CalmAmong, Change, Stop, Start, Spoil, Damage, Inner, Revert, Fail}
+use Rattle.schedule_text.specs.declared.form.Form.{Form}
+use Rattle.schedule_text.specs.declared.event.ScheduleEvent.TheVariants.{Call, Tick, Deliver, Pass, Lose, Calm, CalmAmong, Change, Stop, Start, Upgrade, Deepen, Spoil, Damage, Inner, Revert, Fail}
 use Rattle.wire_frames.specs.declared.frame.Frame.{Frame}
 use Rattle.world_spec.proofs.Ending.{EndsIn, run_reaches}
 use Rattle.world_spec.specs.Lines.{call_of, everyone, set_of, effect, applied, run_from, run_of_schedule}
 use Rattle.world_spec.specs.Nodes.{Node, Up, Down, Taken, taken, taken_by, taken_of, run_over, started, stopped, over_stores, while_down, opening_node}
-use Rattle.world_spec.specs.Runs.{Run, opening_run, place_of, frame_from, posted_all, with_taken, stepped_at, stepped, changed_at, changed, ticked, received, received_if, delivered, delivered_if, going_on, calmed}
+use Rattle.world_spec.specs.Runs.{Run, opening_mode, opening_run, mode_at, place_of, frame_from, posted_all, with_taken, stepped_at, stepped, changed_at, changed, ticked, received, received_if, delivered, delivered_if, going_on, calmed}
 use Rattle.world_spec.specs.Stores.{failing, leaves_of, spoiled, segment_spoiled, inner_spoiled, taken_back}
 
 -- a running peer that leads sends as itself, and a sync that it runs asks other peers alone
@@ -59,13 +61,17 @@ taken_fine me event (Up x s) peer come own = run_fine me (step_of me event x) s 
 taken_fine me event (Down s) peer come own = record { node = tt; out = All-nil (MaySend me) }
 
 -- a peer that starts leads nobody, and runs no sync
-opened_reaches : (me : ℕ) (view : List ℕ) (kept : Option SavedFact) → Reaches (λ y out. IsOwn me y × AllMayGo me out) (opened view kept)
-opened_reaches me view None = λ a sound b kept. ((tt, tt), All-nil (MaySend me))
-opened_reaches me view (Some fact) = λ a sound. ((tt, tt), All-nil (MaySend me))
+sealing_reaches : (me : ℕ) (mode : Mode) (view : List ℕ) (seals : Bool) → Reaches (λ y out. IsOwn me y × AllMayGo me out) (seals_opening seals mode view)
+sealing_reaches me mode view true = λ root told a saved. ((tt, tt), All-nil (MaySend me))
+sealing_reaches me mode view false = λ a saved. ((tt, tt), All-nil (MaySend me))
 
-pub started_own : (me : ℕ) (view : List ℕ) (node : Node) → IsOwnNode me node → IsOwnNode me (started view node)
-started_own me view (Up x s) own = own
-started_own me view (Down s) own = (run_fine me (start_of view) s (λ kept sound. opened_reaches me view kept)).node
+opened_reaches : (me : ℕ) (mode : Mode) (view : List ℕ) (kept : Option SavedFact) → Reaches (λ y out. IsOwn me y × AllMayGo me out) (opened mode view kept)
+opened_reaches me mode view None = λ a sound. sealing_reaches me mode view mode.sealing
+opened_reaches me mode view (Some fact) = λ a sound. ((tt, tt), All-nil (MaySend me))
+
+pub started_own : (me : ℕ) (mode : Mode) (view : List ℕ) (node : Node) → IsOwnNode me node → IsOwnNode me (started mode view node)
+started_own me mode view (Up x s) own = own
+started_own me mode view (Down s) own = (run_fine me (start_of mode view) s (λ kept sound. opened_reaches me mode view kept)).node
 
 pub stopped_own : (me : ℕ) (node : Node) → IsOwnNode me node → IsOwnNode me (stopped node)
 stopped_own me (Up x s) own = tt
@@ -179,8 +185,10 @@ effect_fine peers (CalmAmong members) w few stand old = calmed_fine (set_of memb
 effect_fine peers (Change peer view) w few stand old = stepped_fine peer (events.Change view) w (stand.0.first, omega (arith, few, stand.0.last)) tt old
 effect_fine peers (Stop peer) w few stand old = changed_fine peer stopped w (stand.first, omega (arith, few, stand.last)) (stopped_own peer) old
 effect_fine peers (Start peer) w few stand old =
-    let now = changed_fine peer (started w.view) w (stand.first, omega (arith, few, stand.last)) (started_own peer w.view) old in
+    let now = changed_fine peer (started (mode_at peer w) w.view) w (stand.first, omega (arith, few, stand.last)) (started_own peer (mode_at peer w) w.view) old in
     record { mail = now.mail; nodes = now.nodes }
+effect_fine peers (Upgrade peer) w few stand old = record { mail = old.mail; nodes = old.nodes }
+effect_fine peers Deepen w few stand old = old
 effect_fine peers (Spoil peer key bytes) w few stand old = changed_fine peer (over_stores (spoiled key bytes)) w (stand.0.first, omega (arith, few, stand.0.last)) (over_stores_own (spoiled key bytes) peer) old
 effect_fine peers (Damage peer key bytes) w few stand old =
     let now = changed_fine peer (over_stores (segment_spoiled key bytes)) w (stand.0.first, omega (arith, few, stand.0.last)) (over_stores_own (segment_spoiled key bytes) peer) old in
@@ -200,12 +208,12 @@ replicated zero place x y at = absurd (none-some y at)
 replicated (suc n) zero x y at = same_Some x y at
 replicated (suc n) (suc place) x y at = replicated n place x y at
 
-pub opening_fine : (peers : ℕ) (view : List ℕ) → IsFine (opening_run peers view)
-opening_fine peers view = record {
+pub opening_fine : (form : Form) (peers : ℕ) (view : List ℕ) → IsFine (opening_run form peers view)
+opening_fine form peers view = record {
   mail = All-nil MayBeSent;
-  nodes = λ place node at. subst (λ n. IsOwnNode (suc place) n) (replicated peers place (opening_node view) node at) (started_own (suc place) view (Down empty_stores) tt);
+  nodes = λ place node at. subst (λ n. IsOwnNode (suc place) n) (replicated peers place (opening_node (opening_mode form) view) node at) (started_own (suc place) (opening_mode form) view (Down empty_stores) tt);
 }
 
 -- every message in the run of a schedule may be sent
-pub run_may : (peers : ℕ) (view : List ℕ) (events : List ScheduleEvent) → peers ≤ 31 → AllMayStand peers events → All MayBeSent (run_of_schedule peers view events).mail.sent
-run_may peers view events few stand = (run_from_fine peers events (opening_run peers view) few stand (opening_fine peers view)).mail
+pub run_may : (form : Form) (peers : ℕ) (view : List ℕ) (events : List ScheduleEvent) → peers ≤ 31 → AllMayStand peers events → All MayBeSent (run_of_schedule form peers view events).mail.sent
+run_may form peers view events few stand = (run_from_fine peers events (opening_run form peers view) few stand (opening_fine form peers view)).mail

@@ -6,6 +6,7 @@ use Rattle.held_stores.specs.Runs.{Ended, run}
 use Rattle.peer_plan.specs.Drives.{step_of}
 use Rattle.peer_plan.specs.Starts.{start_of}
 use Rattle.peer_state.specs.declared.event.Event.{Event}
+use Rattle.peer_state.specs.declared.state.Mode.{Mode}
 use Rattle.peer_state.specs.declared.state.State.{State}
 use Rattle.step_plans.specs.Plans.{Plan, Out, nothing, Ending, Finished, Stopped}
 use Rattle.register_model.specs.declared.note.Note.{Note}
@@ -41,16 +42,16 @@ abbrev pub taken : ℕ → Event → Node → Taken
 taken me event (Up x s) = taken_of (run_over (step_of me event x) s)
 taken me event (Down s) = record { node = Down s; out = nothing; notes = []; hashed = [] }
 
--- a peer that is down starts over what it keeps, in an ensemble that opens in this view; if the
--- start is refused it stays down, and a running peer goes on
-abbrev pub started : List ℕ → Node → Node
-started view (Up x s) = Up x s
-started view (Down s) = (taken_of (run_over (start_of view) s)).node
+-- a peer that is down starts in this mode over what it keeps, in an ensemble that opens in this view;
+-- if the start is refused it stays down, and a running peer goes on
+abbrev pub started : Mode → List ℕ → Node → Node
+started mode view (Up x s) = Up x s
+started mode view (Down s) = (taken_of (run_over (start_of mode view) s)).node
 
 -- the strings that this start hashes, in order
-abbrev pub hashed_by_start : List ℕ → Node → List (List ℕ)
-hashed_by_start view (Up x s) = []
-hashed_by_start view (Down s) = (taken_of (run_over (start_of view) s)).hashed
+abbrev pub hashed_by_start : Mode → List ℕ → Node → List (List ℕ)
+hashed_by_start mode view (Up x s) = []
+hashed_by_start mode view (Down s) = (taken_of (run_over (start_of mode view) s)).hashed
 
 -- the peer is down, and keeps its stores
 abbrev pub stopped : Node → Node
@@ -67,10 +68,10 @@ abbrev pub while_down : (HeldStores → HeldStores) → Node → Node
 while_down f (Up x s) = Up x s
 while_down f (Down s) = Down (f s)
 
--- a peer started on empty stores, in an ensemble that opens in this view
-abbrev pub opening_node : List ℕ → Node
-opening_node view = started view (Down empty_stores)
+-- a peer started in this mode on empty stores, in an ensemble that opens in this view
+abbrev pub opening_node : Mode → List ℕ → Node
+opening_node mode view = started mode view (Down empty_stores)
 
 -- the strings that this start hashed
-abbrev pub opening_strings : List ℕ → List (List ℕ)
-opening_strings view = hashed_by_start view (Down empty_stores)
+abbrev pub opening_strings : Mode → List ℕ → List (List ℕ)
+opening_strings mode view = hashed_by_start mode view (Down empty_stores)

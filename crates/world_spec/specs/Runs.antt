@@ -1,22 +1,28 @@
 -- The state of a world, and how deliveries and ticks change it.
 use Rattle.std.specs.Prelude.{ℕ, zero, suc, ◌+◌, ◌-◌, Bool, Option, Some, None, List, [], ◌∷◌, ◌++◌, map, replicate, slice_get, slice_set, min, ◌^◌}
+use Rattle.ens_base.specs.PeerSet.{holds}
 use Rattle.network.specs.Mail.{Mail, no_mail, posted, settled, is_among, oldest}
 use Rattle.peer_state.specs.declared.event.Event.{Event}
 use Rattle.peer_state.specs.declared.event.Event.TheVariants as events
+use Rattle.peer_state.specs.declared.state.Mode.{Mode}
+use Rattle.phase_rows.specs.Peers.{joined, those}
 use Rattle.register_model.specs.declared.note.Note.{Note}
 use Rattle.register_model.specs.declared.printed.Printed.{Printed}
 use Rattle.register_model.specs.declared.printed.Printed.TheVariants as lines
+use Rattle.schedule_text.specs.Forms.{is_sealed}
+use Rattle.schedule_text.specs.declared.form.Form.{Form}
 use Rattle.step_plans.specs.Plans.{Out}
 use Rattle.leader_words.specs.declared.out.AnswerOut.{AnswerOut}
 use Rattle.leader_words.specs.declared.out.Outgoing.{Outgoing}
 use Rattle.wire_frames.specs.declared.frame.Frame.{Frame}
 use Rattle.world_spec.specs.Nodes.{Node, Taken, taken, started, hashed_by_start, opening_node, opening_strings}
 
--- the view in which the ensemble opens, the peers 1, 2, .. in this order, the messages, the lines
--- printed, the notes of leaders, the strings hashed by any peer in order, the number of events
--- applied, and the keys of the call lines in order
+-- the view in which the ensemble opens, the set of the peers whose starts have sealing on, the peers
+-- 1, 2, .. in this order, the messages, the lines printed, the notes of leaders, the strings hashed by
+-- any peer in order, the number of events applied, and the keys of the call lines in order
 pub record Run : Type 0 where
   pub view : List ℕ
+  pub sealing : List Bool
   pub nodes : List Node
   pub mail : Mail
   pub printed : List Printed
@@ -30,15 +36,24 @@ abbrev pub repeated : ℕ → List (List ℕ) → List (List ℕ)
 repeated zero strings = []
 repeated (suc n) strings = repeated n strings ++ strings
 
+-- how the peers of an ensemble of this form start before the first event
+abbrev pub opening_mode : Form → Mode
+opening_mode form = record { sealing = is_sealed form }
+
+-- the peers whose starts have sealing on before the first event: all or none
+abbrev pub sealing_first : Form → List Bool
+sealing_first form = those (λ p. is_sealed form)
+
 -- the state before the first event: the peers 1 to `peers` have started on empty stores
-abbrev pub opening_run : ℕ → List ℕ → Run
-opening_run peers view = record {
+abbrev pub opening_run : Form → ℕ → List ℕ → Run
+opening_run form peers view = record {
   view = view;
-  nodes = replicate peers (opening_node view);
+  sealing = sealing_first form;
+  nodes = replicate peers (opening_node (opening_mode form) view);
   mail = no_mail;
   printed = [];
   notes = [];
-  hashed = repeated peers (opening_strings view);
+  hashed = repeated peers (opening_strings (opening_mode form) view);
   events = 0;
   called = [];
 }
@@ -108,10 +123,18 @@ changed_at (Some node) peer change w = record w { nodes = slice_set w.nodes (pla
 abbrev pub changed : ℕ → (Node → Node) → Run → Run
 changed peer change w = changed_at (slice_get w.nodes (place_of peer)) peer change w
 
--- the strings that a peer hashes when it is started, if there is such a peer
-abbrev pub start_strings : List ℕ → Option Node → List (List ℕ)
-start_strings view None = []
-start_strings view (Some node) = hashed_by_start view node
+-- the world in which all later starts of the peer have sealing on
+abbrev pub upgraded : ℕ → Run → Run
+upgraded peer w = record w { sealing = joined peer w.sealing }
+
+-- how a peer starts here
+abbrev pub mode_at : ℕ → Run → Mode
+mode_at peer w = record { sealing = holds w.sealing peer }
+
+-- the strings that a peer hashes when it is started in this mode, if there is such a peer
+abbrev pub start_strings : Mode → List ℕ → Option Node → List (List ℕ)
+start_strings mode view None = []
+start_strings mode view (Some node) = hashed_by_start mode view node
 
 -- the world after these strings were hashed
 abbrev pub hashing : List (List ℕ) → Run → Run
@@ -119,7 +142,7 @@ hashing strings w = record w { hashed = w.hashed ++ strings }
 
 -- the world after a start of a peer; a running peer goes on
 abbrev pub with_start : ℕ → Run → Run
-with_start peer w = hashing (start_strings w.view (slice_get w.nodes (place_of peer))) (changed peer (started w.view) w)
+with_start peer w = hashing (start_strings (mode_at peer w) w.view (slice_get w.nodes (place_of peer))) (changed peer (started (mode_at peer w) w.view) w)
 
 -- the world after so many ticks of a peer
 unfoldable pub ticked : ℕ → ℕ → Run → Run

@@ -1,11 +1,12 @@
 -- What the lines of a schedule do to the stores of a peer.
-use Rattle.std.specs.Prelude.{ℕ, List, Option}
+use Rattle.std.specs.Prelude.{ℕ, nat_lt, if◌then◌else◌, List, Option, None}
 use Rattle.ens_outside.specs.declared.memory.failing_call.Leaves.{Leaves}
 use Rattle.ens_outside.specs.declared.memory.failing_call.Leaves.TheVariants as left
 use Rattle.held_stores.specs.Held.{HeldStores}
+use Rattle.tree_node.specs.TreeVersions.{levels}
 use Rattle.tree_node.specs.declared.version.TreeVersion.TheVariants.{One}
-use Rattle.node_faults.specs.Faults.{place_at, replaced, spoiled_node}
-use Rattle.node_faults.specs.Naming.{segment_place}
+use Rattle.node_faults.specs.Faults.{place_at, replaced, replaced_if, spoiled_node}
+use Rattle.node_faults.specs.Naming.{named_at, segment_place}
 use Rattle.schedule_text.specs.declared.keyword.StoreName.{StoreName}
 use Rattle.schedule_text.specs.declared.keyword.StoreName.TheVariants as names
 use Rattle.schedule_text.specs.declared.keyword.Survivor.{Survivor}
@@ -37,9 +38,14 @@ spoiled key bytes s = record s { backend = record s.backend { entries = replaced
 abbrev pub segment_spoiled : List ℕ → Option (List ℕ) → HeldStores → HeldStores
 segment_spoiled key bytes s = with_nodes (spoiled_node One (segment_place (form_of One) key) bytes s.tree.store) s
 
+-- the digest of the inner node at this level and index, as the stored nodes name it; there is none at the
+-- level of the segments and below it
+abbrev pub inner_named : ℕ → ℕ → Nodes → Option (List ℕ)
+inner_named level index s = if nat_lt level (levels One) then named_at (form_of One) s (place_at level index) else None
+
 -- the same of the inner node at this level and index
 abbrev pub inner_spoiled : ℕ → ℕ → Option (List ℕ) → HeldStores → HeldStores
-inner_spoiled level index bytes s = with_nodes (spoiled_node One (place_at level index) bytes s.tree.store) s
+inner_spoiled level index bytes s = with_nodes (record s.tree.store { entries = replaced_if (inner_named level index s.tree.store) bytes s.tree.store.entries }) s
 
 -- the last n writes of the top record are taken back, but not the first write
 abbrev pub taken_back : ℕ → HeldStores → HeldStores

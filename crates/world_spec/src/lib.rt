@@ -9,10 +9,14 @@
 //! down keeps its stores until it starts again. The state of a world is in `specs/Runs`, the effect
 //! of each line in `specs/Lines`; node_faults says which node a line damages. `laws.rt` states what
 //! holds of every run.
+//!
+//! Trees have version 1 in every form. So a schedule of form 3 runs as one of form 2 does, and a line
+//! `deepen` changes nothing.
 #![tactic(auto)]
 
 mod laws;
 
 pub use laws::{
-    a_calm_leaves_none_waiting, hashed_strings_are_forgotten, messages_obey, steps_end_well,
+    a_calm_leaves_none_waiting, hashed_strings_are_forgotten, messages_obey,
+    starts_seal_by_the_lines, steps_end_well,
 };

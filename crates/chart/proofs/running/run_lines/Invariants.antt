@@ -8,5 +8,5 @@ use Rattle.chart.proofs.running.run_lines.Given as goal
 
 abbrev pub invariant-loop-place : goal.invariant-loop-place
 invariant-loop-place g l =
-    Running l.schedule.peers l.schedule.view l.schedule.events l.place (account g.H.Hasher16.kept g.H.Hasher16.clashes g.H.Hasher16.fulls l.fn.hasher) (run_of l.world) (account g.H.Hasher16.kept g.H.Hasher16.clashes g.H.Hasher16.fulls l.hasher)
+    Running l.schedule.form l.schedule.peers l.schedule.view l.schedule.events l.place (account g.H.Hasher16.kept g.H.Hasher16.clashes g.H.Hasher16.fulls l.fn.hasher) (run_of l.world) (account g.H.Hasher16.kept g.H.Hasher16.clashes g.H.Hasher16.fulls l.hasher)
     × IsDrawn l.schedule.events l.place l.lines (run_of l.world) (run_lines l.schedule)

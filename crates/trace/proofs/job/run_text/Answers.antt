@@ -10,4 +10,4 @@ pub write_trace-requires : goal.write_trace-requires
 write_trace-requires g c =
     let s = c.args.schedule.now in
     let P : List Frame → Type 0 = λ sent. All MayBeSent sent in
-    subst P (sym (c.sent.ensures.sent ∙ ap (λ (w : Run). w.mail.sent) c.in-Ok.ensures.reaches.0)) (run_may s.peers s.view s.events c.requires.peers.1 c.requires.events)
+    subst P (sym (c.sent.ensures.sent ∙ ap (λ (w : Run). w.mail.sent) c.in-Ok.ensures.reaches.0)) (run_may s.form s.peers s.view s.events c.requires.peers.1 c.requires.events)

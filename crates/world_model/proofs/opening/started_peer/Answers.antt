@@ -1,21 +1,31 @@
-use Rattle.std.proofs.Common.{subst}
-use Rattle.held_stores.specs.Held.{account}
-use Rattle.world_spec.specs.Nodes.{Node, hashed_by_start, opening_strings}
+use Rattle.std.proofs.Common.{◌≡◌, ap, subst, Bool}
+use Rattle.held_stores.specs.Held.{account, empty_stores}
+use Rattle.peer_state.specs.declared.state.Mode.{Mode}
+use Rattle.world_spec.specs.Nodes.{Node, Down, hashed_by_start, opening_strings}
+use Rattle.world_spec.specs.Runs.{opening_mode}
 use Rattle.world_spec.specs.Steps.{StartsAs}
 use Rattle.world_model.specs.Peers.{node_of}
 use Rattle.world_model.specs.Refusals.{IsCutOff}
 use Rattle.world_model.proofs.Reached.{errs}
 use Rattle.world_model.proofs.opening.started_peer.Goals as goal
 
+-- the mode of a start that has sealing on if this is so
+abbrev by_flag : Bool → Mode
+by_flag seals = record { sealing = seals }
+
 pub returns-in_err-start-clause-error : goal.returns-in_err-start-clause-error
 returns-in_err-start-clause-error g c =
     let first = account g.H.Hasher16.kept g.H.Hasher16.clashes g.H.Hasher16.fulls c.args.hasher.now in
     let now = account g.H.Hasher16.kept g.H.Hasher16.clashes g.H.Hasher16.fulls c.start.new.hasher in
-    errs (IsCutOff (opening_strings c.args.view) first now) c.from_residual.result _ c.in_err-start.field-0.0 c.from_residual.ensures.1 (λ d h. h)
-    (subst (λ (n : Node). IsCutOff (hashed_by_start c.args.view n) first now c.in_err-start.field-0.0) c.empty-peer.ensures.node c.in_err-start.ensures.error)
+    let mode : by_flag c.is_sealed.result ≡ opening_mode c.args.form = ap by_flag c.is_sealed.ensures in
+    errs (IsCutOff (opening_strings (opening_mode c.args.form) c.args.view) first now) c.from_residual.result _ c.in_err-start.field-0.0 c.from_residual.ensures.1 (λ d h. h)
+    (subst (λ (m : Mode). IsCutOff (opening_strings m c.args.view) first now c.in_err-start.field-0.0) mode
+    (subst (λ (n : Node). IsCutOff (hashed_by_start (by_flag c.is_sealed.result) c.args.view n) first now c.in_err-start.field-0.0) c.empty-peer.ensures.node c.in_err-start.ensures.error))
 
 pub returns-clause-node : goal.returns-clause-node
 returns-clause-node g c =
     let first = account g.H.Hasher16.kept g.H.Hasher16.clashes g.H.Hasher16.fulls c.args.hasher.now in
     let now = account g.H.Hasher16.kept g.H.Hasher16.clashes g.H.Hasher16.fulls c.start.new.hasher in
-    subst (λ (n : Node). StartsAs first now c.args.view n (node_of c.start.new.self)) c.empty-peer.ensures.node c.in_ok-start.ensures.ok
+    let mode : by_flag c.is_sealed.result ≡ opening_mode c.args.form = ap by_flag c.is_sealed.ensures in
+    subst (λ (m : Mode). StartsAs first now m c.args.view (Down empty_stores) (node_of c.start.new.self)) mode
+    (subst (λ (n : Node). StartsAs first now (by_flag c.is_sealed.result) c.args.view n (node_of c.start.new.self)) c.empty-peer.ensures.node c.in_ok-start.ensures.ok)
