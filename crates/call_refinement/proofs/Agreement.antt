@@ -29,7 +29,7 @@ use Rattle.wire_frames.specs.declared.frame.Frame.{Frame}
 use Rattle.world_spec.proofs.Growth.{IsFurther}
 use Rattle.world_spec.specs.Lines.{call_of}
 use Rattle.world_spec.specs.Nodes.{Node, Up, Down, taken, started, hashed_by_start, stopped, over_stores, while_down}
-use Rattle.world_spec.specs.Runs.{Run, hashing, place_of, with_taken}
+use Rattle.world_spec.specs.Runs.{Run, hashing, mode_at, place_of, with_taken}
 use Rattle.world_spec.specs.Stores.{taken_back}
 use Rattle.call_refinement.proofs.ChangedStores.{SparesRecords, altered_fits, altered_role, started_fits, started_role, reverted_fits}
 use Rattle.step_refinement.specs.Scenes.{MessageComes}
@@ -40,8 +40,9 @@ use Rattle.call_refinement.proofs.ChangedNodes.{frame_at, said_at}
 use Rattle.call_refinement.proofs.Schedules.{IsInRun, AreAlike, TakesStep, GoesAlong, Changes, Starts, IsCarried, next_call}
 use Rattle.step_refinement.proofs.Stretches.{elsewhere_none}
 use Rattle.call_refinement.proofs.LaterWorlds.{elsewhere_stays, node_fits}
-use Rattle.call_refinement.proofs.StepsInWorlds.{own_fits, NodesGo, renewed, stops, puts_back, scene, StepGoes, stepped_goes, called_goes}
+use Rattle.call_refinement.proofs.StepsInWorlds.{own_fits, NodesGo, renewed, stops, takes_back, scene, StepGoes, stepped_goes, called_goes}
 use Rattle.step_refinement.specs.Peers.{AsksFit, FrameFits}
+use Rattle.call_refinement.specs.Lines.{MayBeReverted}
 use Rattle.call_refinement.specs.Roles.{role_of, roles_of, said_in}
 use Rattle.call_refinement.specs.Worlds.{NodeFits, PartsHold, RolesFit, WorldHolds, IsSafe}
 
@@ -194,8 +195,8 @@ module _ (lines : Lines) (view : List ℕ) (strings : List (List ℕ)) where
     starts_along p node among w steps holds at =
         let peer : IsPeer p = is_peer peers p small among in
         let fits : NodeFits lines strings w.hashed (state_after view steps) p node = fits_at p peer node w steps holds at in
-        let g = renewed lines view strings p peer steps w.nodes w.mail.sent w.hashed w.notes holds.parts holds.roles (w.hashed ++ hashed_by_start w.view node) node (started w.view node) at (started_role lines strings w.hashed (state_after view steps) p w.view node fits)
-        (λ x i. in_left w.hashed (hashed_by_start w.view node) x i) (started_fits lines strings w.hashed (state_after view steps) p w.view node fits) in
+        let g = renewed lines view strings p peer steps w.nodes w.mail.sent w.hashed w.notes holds.parts holds.roles (w.hashed ++ hashed_by_start (mode_at p w) w.view node) node (started (mode_at p w) w.view node) at (started_role lines strings w.hashed (state_after view steps) p (mode_at p w) w.view node fits)
+        (λ x i. in_left w.hashed (hashed_by_start (mode_at p w) w.view node) x i) (started_fits lines strings w.hashed (state_after view steps) p (mode_at p w) w.view node fits) in
         record { next = state_after view g.steps; holds = record { steps = g.steps; is = refl; holds = record { parts = g.parts; roles = g.roles } }; quiet = g.quiet }
 
     -- stores change, but for the top records
@@ -204,11 +205,11 @@ module _ (lines : Lines) (view : List ℕ) (strings : List (List ℕ)) where
         same_role p peer node (over_stores f node) w steps holds at (altered_role f node) (altered_fits lines strings p f spares w.hashed (state_after view steps) node (fits_at p peer node w steps holds at))
 
     -- a tree is put back, if its peer is down
-    reverts_along : (p n : ℕ) (node : Node) → lines.firm p ≡ false → IsAmong peers p → OfRun (λ w s. slice_get w.nodes (place_of p) ≡ Some node → Changes Stands p (while_down (taken_back n) node) w s)
-    reverts_along p n (Up x stores) soft among w steps holds at = let peer : IsPeer p = is_peer peers p small among in same_role p peer (Up x stores) (Up x stores) w steps holds at refl (fits_at p peer (Up x stores) w steps holds at)
-    reverts_along p n (Down stores) soft among w steps holds at = let peer : IsPeer p = is_peer peers p small among in
+    reverts_along : (p n : ℕ) (node : Node) → MayBeReverted lines p → IsAmong peers p → OfRun (λ w s. slice_get w.nodes (place_of p) ≡ Some node → Changes Stands p (while_down (taken_back n) node) w s)
+    reverts_along p n (Up x stores) may among w steps holds at = let peer : IsPeer p = is_peer peers p small among in same_role p peer (Up x stores) (Up x stores) w steps holds at refl (fits_at p peer (Up x stores) w steps holds at)
+    reverts_along p n (Down stores) may among w steps holds at = let peer : IsPeer p = is_peer peers p small among in
         changes p peer (Down (taken_back n stores)) w steps
-        (puts_back lines view strings p peer steps w.nodes w.mail.sent w.hashed w.notes holds.parts holds.roles stores (taken_back n stores) soft at (reverted_fits lines strings w.hashed (state_after view steps) p n stores (fits_at p peer (Down stores) w steps holds at)))
+        (takes_back lines view strings p peer steps w.nodes w.mail.sent w.hashed w.notes holds.parts holds.roles stores (taken_back n stores) may at (reverted_fits lines strings w.hashed (state_after view steps) p n stores (fits_at p peer (Down stores) w steps holds at)))
 
     -- strings are hashed
     hashes_along : (xs : List (List ℕ)) → OfRun (λ w s. Stands (hashing xs w) s)

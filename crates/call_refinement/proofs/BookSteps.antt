@@ -14,6 +14,7 @@ use Rattle.register_model.specs.declared.note.Note.{Note}
 use Rattle.register_model.specs.declared.printed.Printed.{Printed}
 use Rattle.register_model.specs.declared.printed.Printed.TheVariants as printed
 use Rattle.schedule_text.specs.declared.event.ScheduleEvent.{ScheduleEvent}
+use Rattle.schedule_text.specs.declared.form.Form.{Form}
 use Rattle.schedule_text.specs.declared.event.ScheduleEvent.TheVariants as line
 use Rattle.step_plans.specs.Plans.{Out}
 use Rattle.world_spec.specs.Lines.{counted}
@@ -111,8 +112,8 @@ ask_opens s c = record { now = refl; called = refl; notes = refl; answers = refl
 -- ## The steps of a line
 
 -- before the first line
-pub opening_agrees : (peers : ℕ) (view : List ℕ) → BookAgrees [] (opening_run peers view) opening_book
-opening_agrees peers view = record { counted = refl; now = refl; notes = refl; calls = same_itself []; answers = same_itself []; many = refl }
+pub opening_agrees : (form : Form) (peers : ℕ) (view : List ℕ) → BookAgrees [] (opening_run form peers view) opening_book
+opening_agrees form peers view = record { counted = refl; now = refl; notes = refl; calls = same_itself []; answers = same_itself []; many = refl }
 
 -- a line begins
 pub line_begins : (events : List ScheduleEvent) (event : ScheduleEvent) (w : Run) (b next : Book) → BookAgrees events w b → Opens (call_at event (b.now + 1) []) b next → Within (events ++ event ∷ []) w next

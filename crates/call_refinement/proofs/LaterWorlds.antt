@@ -12,7 +12,7 @@ use Rattle.election_refinement.specs.Refinement.{IsSaved, IsKept, NodeHolds, Fra
 use Rattle.held_stores.specs.Laws.{held_with}
 use Rattle.peer_fact.specs.declared.fact.Fact.{Fact}
 use Rattle.request_refinement.specs.Naming.{hash_of}
-use Rattle.seal_stores.specs.Held.{kept_seal}
+use Rattle.step_plans.specs.Saved.{bare, kept_seal}
 use Rattle.sync_laws.specs.Facts.{Lines}
 use Rattle.tree_refinement.specs.Tops.{tops_of}
 use Rattle.tree_refinement.specs.Trees.{AreAmong}
@@ -22,7 +22,6 @@ use Rattle.step_refinement.specs.Scenes.{Elsewhere}
 use Rattle.step_refinement.proofs.ShownMaps.{tree_behind, tree_stays, last_over, last_stays}
 use Rattle.call_refinement.specs.Worlds.{NodeFits, MessagesFit}
 use Rattle.step_refinement.proofs.LaterStates.{sync_stays, phase_stays, frames_fit}
-use Rattle.step_plans.specs.Saved.{bare}
 
 -- ## Peers
 
@@ -65,7 +64,8 @@ module _ (lines : Lines) (strings hashed more : List (List ℕ)) (q : ℕ) (s t 
     listed = f.listed;
     trust = stays_for.trusted ∙ f.trust;
     tree = tree_behind t strings q x.seal stores hashed more among (tree_stays s t strings q x.seal (held_with stores hashed) stays_for.entries stays_for.visible stays_for.map (λ blind. stays_for.trusted ∙ blind) f.tree);
-    sync = sync_stays lines s t strings q x.fact x.trusted f.tree.last.map x.sync stays_for.entries f.holds.saved.ballot f.sync;
+    seal = f.seal;
+    sync = sync_stays lines s t strings q x.fact x.trusted f.tree.last.map stores.tree.top x.sync stays_for.entries f.holds.saved.ballot f.sync;
     fits = phase_stays hash_of s t q x.fact x.phase stays_for.entries stays_for.views f.holds.phase f.fits;
     rests = f.rests;
   }
@@ -74,6 +74,7 @@ module _ (lines : Lines) (strings hashed more : List (List ℕ)) (q : ℕ) (s t 
     kept = f.kept;
     saved = saved_stays f.fact f.kept (stays_for.node (Down stores) (record { fact = f.fact; kept = f.kept; saved = f.saved }));
     listed = f.listed;
+    seal = f.seal;
     blind = stays_for.trusted ∙ f.blind;
     last = last_over strings q t hashed more (kept_seal stores.facts.kept) (tops_of stores) (tops_of stores) among refl (last_stays strings q s t hashed (kept_seal stores.facts.kept) (tops_of stores) stays_for.entries stays_for.visible stays_for.map f.last);
   }

@@ -8,6 +8,7 @@ use Rattle.history_scribe.specs.Histories.{AreHistories}
 use Rattle.register_model.specs.declared.history.History.{History}
 use Rattle.schedule_text.specs.Spelling.{AllMayStand, call_ids}
 use Rattle.schedule_text.specs.declared.event.ScheduleEvent.{ScheduleEvent}
+use Rattle.schedule_text.specs.declared.form.Form.{Form}
 use Rattle.sync_laws.specs.Facts.{AreFirm, Lines}
 use Rattle.world_spec.specs.Lines.{run_of_schedule}
 use Rattle.call_refinement.specs.Causes.{HaveCauses}
@@ -35,34 +36,34 @@ free_of strings apart a b in_a in_b same = apart a b (in_contains strings a in_a
 
 -- ## A whole schedule
 
-module _ (peers : ℕ) (view : List ℕ) (events : List ScheduleEvent) (small : peers ≤ 31) (is_view : IsView view) (few : length events < 2 ^ 32) (sound : AreFirm (lines_of view events)) (may : AllMayStand peers events) (distinct : AreDistinct (call_ids events))
-    (apart : HasNoClash (run_of_schedule peers view events).hashed) where
+module _ (form : Form) (peers : ℕ) (view : List ℕ) (events : List ScheduleEvent) (small : peers ≤ 31) (is_view : IsView view) (few : length events < 2 ^ 32) (sound : AreFirm (lines_of form view events)) (may : AllMayStand peers events) (distinct : AreDistinct (call_ids events))
+    (apart : HasNoClash (run_of_schedule form peers view events).hashed) where
   -- what its lines say, and all strings that it hashes
   abbrev Said : Lines
-  Said = lines_of view events
+  Said = lines_of form view events
 
   abbrev Strings : List (List ℕ)
-  Strings = (run_of_schedule peers view events).hashed
+  Strings = (run_of_schedule form peers view events).hashed
 
-  opens : Stands Said view Strings (opening_run peers view) (opening view)
-  opens = record { steps = []; is = refl; holds = opening_holds view Said peers Strings is_view (inl refl) }
+  opens : Stands Said view Strings (opening_run form peers view) (opening view)
+  opens = record { steps = []; is = refl; holds = opening_holds form view Said peers Strings refl is_view (inl refl) }
 
-  carries : IsCarried peers Said (run_of_schedule peers view events) (Stands Said view Strings)
-  carries = carried Said view Strings sound (free_of Strings apart) peers small (run_of_schedule peers view events) (λ x at. at)
+  carries : IsCarried peers Said (run_of_schedule form peers view events) (Stands Said view Strings)
+  carries = carried Said view Strings sound (free_of Strings apart) peers small (run_of_schedule form peers view events) (λ x at. at)
 
   -- the world after the schedule agrees with a run of the abstract protocol, in its book too
-  schedule_stands : IsAfter peers (Stands Said view Strings) events (run_of_schedule peers view events)
-  schedule_stands = schedule_agrees peers view events (Stands Said view Strings) carries opens small few may distinct
+  schedule_stands : IsAfter peers (Stands Said view Strings) events (run_of_schedule form peers view events)
+  schedule_stands = schedule_agrees form peers view events (Stands Said view Strings) carries opens small few may distinct
 
   -- the world of a schedule agrees with a run
-  pub schedules_run : HasRun Said view Strings (run_of_schedule peers view events)
-  schedules_run = let a : Stands Said view Strings (run_of_schedule peers view events) schedule_stands.state = schedule_stands.holds in record { steps = a.steps; holds = a.holds; safe = is_safe view a.steps a.holds.parts.run }
+  pub schedules_run : HasRun Said view Strings (run_of_schedule form peers view events)
+  schedules_run = let a : Stands Said view Strings (run_of_schedule form peers view events) schedule_stands.state = schedule_stands.holds in record { steps = a.steps; holds = a.holds; safe = is_safe view a.steps a.holds.parts.run }
 
   -- its histories are legal
-  pub schedules_are_legal : (histories : List History) → AreHistories (run_of_schedule peers view events).notes (run_of_schedule peers view events).called histories → AreLegal events (run_of_schedule peers view events).printed histories
-  schedules_are_legal = schedule_legal peers view events (Stands Said view Strings) carries opens small few may distinct
+  pub schedules_are_legal : (histories : List History) → AreHistories (run_of_schedule form peers view events).notes (run_of_schedule form peers view events).called histories → AreLegal events (run_of_schedule form peers view events).printed histories
+  schedules_are_legal = schedule_legal form peers view events (Stands Said view Strings) carries opens small few may distinct
 
   -- each answer printed has its cause
-  pub schedules_have_causes : HaveCauses events (run_of_schedule peers view events).printed (run_of_schedule peers view events).notes
-  schedules_have_causes = let a : Stands Said view Strings (run_of_schedule peers view events) schedule_stands.state = schedule_stands.holds in
-      causes_of view a.steps events (run_of_schedule peers view events) a.holds.parts.run (subst (λ (s : State). BookAgrees events (run_of_schedule peers view events) s.book) (sym a.is) schedule_stands.agrees)
+  pub schedules_have_causes : HaveCauses events (run_of_schedule form peers view events).printed (run_of_schedule form peers view events).notes
+  schedules_have_causes = let a : Stands Said view Strings (run_of_schedule form peers view events) schedule_stands.state = schedule_stands.holds in
+      causes_of view a.steps events (run_of_schedule form peers view events) a.holds.parts.run (subst (λ (s : State). BookAgrees events (run_of_schedule form peers view events) s.book) (sym a.is) schedule_stands.agrees)

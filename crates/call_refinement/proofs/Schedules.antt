@@ -1,6 +1,6 @@
 -- A world and a run of the abstract protocol go through the lines of a schedule together, given what each
 -- step of a peer, each start, and each change of its stores does to the run.
-use Rattle.std.proofs.Common.{◌≡◌, ℕ, zero, suc, ◌+◌, ◌-◌, ◌<◌, ◌^◌, ◌≤◌, Bool, true, false, not, List, [], ◌∷◌, ◌++◌, length, Option, None, Some, slice_get, slice_set, arith, ap, refl, inl, inr, sym, ◌∙◌, subst}
+use Rattle.std.proofs.Common.{◌≡◌, ℕ, zero, suc, ◌+◌, ◌-◌, ◌<◌, ◌^◌, ◌≤◌, Bool, true, false, not, ◌||◌, ◌⊎◌, List, [], ◌∷◌, ◌++◌, length, Option, None, Some, slice_get, slice_set, arith, ap, refl, inl, inr, sym, ◌∙◌, subst}
 use Rattle.std.proofs.lemmas.List.{append-nil, append_assoc, length-append, length-replicate}
 use Rattle.ens_base.specs.Lists.{◌∈◌, AreDistinct}
 use Rattle.ens_base.specs.View.{IsPeer}
@@ -18,8 +18,11 @@ use Rattle.register_model.specs.declared.history.History.{History}
 use Rattle.history_scribe.specs.Histories.{AreHistories}
 use Rattle.safety_laws.proofs.Noted.{run_listed}
 use Rattle.schedule_premise.proofs.Lines.{by_change, by_revert}
+use Rattle.schedule_premise.specs.Premise.{is_firm, is_reverted}
+use Rattle.schedule_text.specs.Forms.{is_sealed}
 use Rattle.schedule_text.specs.Spelling.{MayStand, AllMayStand, call_ids}
 use Rattle.schedule_text.specs.declared.event.ScheduleEvent.{ScheduleEvent}
+use Rattle.schedule_text.specs.declared.form.Form.{Form}
 use Rattle.schedule_text.specs.declared.event.ScheduleEvent.TheVariants as line
 use Rattle.schedule_words.specs.Spelling.{IsAmong}
 use Rattle.sync_laws.specs.Facts.{Lines}
@@ -27,9 +30,9 @@ use Rattle.wire_frames.specs.declared.frame.Frame.{Frame}
 use Rattle.world_spec.proofs.Growth.{IsFurther, further_same, further_later, ticked_grows, calmed_grows, counted_grows, run_grows, applied_same}
 use Rattle.world_spec.specs.Lines.{call_of, set_of, everyone, with_loss, effect, applied, run_from, run_of_schedule}
 use Rattle.world_spec.specs.Nodes.{Node, Taken, taken, started, hashed_by_start, stopped, over_stores, while_down, opening_node}
-use Rattle.world_spec.specs.Runs.{Run, opening_run, place_of, with_taken, stepped, stepped_at, changed, changed_at, start_strings, hashing, with_start, ticked, received_if, delivered, delivered_if, going_on, calmed}
+use Rattle.world_spec.specs.Runs.{Run, opening_mode, opening_run, mode_at, upgraded, place_of, with_taken, stepped, stepped_at, changed, changed_at, start_strings, hashing, with_start, ticked, received_if, delivered, delivered_if, going_on, calmed}
 use Rattle.world_spec.specs.Stores.{failing, leaves_of, spoiled, segment_spoiled, inner_spoiled, taken_back}
-use Rattle.call_refinement.specs.Lines.{lines_of, AreLegal, call_at, calls_from, BookAgrees, Within, Opens, StepAgrees, IsQuiet}
+use Rattle.call_refinement.specs.Lines.{lines_of, MayBeReverted, AreLegal, call_at, calls_from, BookAgrees, Within, Opens, StepAgrees, IsQuiet}
 use Rattle.call_refinement.proofs.ChangedStores.{SparesRecords, failing_spares, spoiled_spares, segment_spares, inner_spares}
 use Rattle.call_refinement.proofs.Histories.{histories_are_legal_of}
 use Rattle.call_refinement.proofs.WorldGrammar.{IsIntact, IsHarmless, stopped_harmless, over_harmless, while_down_harmless, is_peer, frame_comes, taken_intact, changed_intact, started_intact, alike_intact, opening_intact}
@@ -78,7 +81,7 @@ pub record Changes (P : Run → State → Type 0) (p : ℕ) (new : Node) (w : Ru
 
 -- the world after the peer with this node has started
 abbrev pub after_start : ℕ → Node → Run → Run
-after_start p node w = hashing (hashed_by_start w.view node) (record w { nodes = slice_set w.nodes (place_of p) (started w.view node) })
+after_start p node w = hashing (hashed_by_start (mode_at p w) w.view node) (record w { nodes = slice_set w.nodes (place_of p) (started (mode_at p w) w.view node) })
 
 -- the abstract protocol goes along as a peer starts
 pub record Starts (P : Run → State → Type 0) (p : ℕ) (node : Node) (w : Run) (s : State) : Type 0 where
@@ -92,10 +95,10 @@ next_call s id key command = record { id = id; key = key; command = command; eve
 
 -- ## What the lines of a schedule say
 
--- no line reverts a firm peer, and each view that a line asks for may vote
+-- a line reverts no firm peer unless every peer has a seal, and each view that a line asks for may vote
 abbrev pub IsOfLines : Lines → ScheduleEvent → Type 0
 IsOfLines lines (line.Change p view) = view ∈ lines.voting
-IsOfLines lines (line.Revert p changes) = lines.firm p ≡ false
+IsOfLines lines (line.Revert p changes) = MayBeReverted lines p
 IsOfLines lines other = Unit {0}
 
 -- the same of each line
@@ -103,18 +106,22 @@ abbrev pub AreOfLines : Lines → List ScheduleEvent → Type 0
 AreOfLines lines [] = Unit {0}
 AreOfLines lines (event ∷ more) = IsOfLines lines event × AreOfLines lines more
 
-is_of_lines : (view : List ℕ) (events : List ScheduleEvent) (event : ScheduleEvent) → event ∈ events → IsOfLines (lines_of view events) event
-is_of_lines view events (line.Change p asked) at = inr (by_change p asked events at)
-is_of_lines view events (line.Revert p changes) at = ap not (by_revert p changes events at)
-is_of_lines view events _ at = tt
+is_of_lines : (form : Form) (view : List ℕ) (events : List ScheduleEvent) (event : ScheduleEvent) → event ∈ events → IsOfLines (lines_of form view events) event
+is_of_lines form view events (line.Change p asked) at = inr (by_change p asked events at)
+is_of_lines form view events (line.Revert p changes) at = by (is_sealed form) refl
+  where
+    by : (seals : Bool) → is_sealed form ≡ seals → (is_sealed form ≡ true) ⊎ (is_firm form events p ≡ false)
+    by true is = inl is
+    by false is = inr (ap (λ b. b || not (is_reverted events p)) is ∙ ap not (by_revert p changes events at))
+is_of_lines form view events _ at = tt
 
-some_of_lines : (view : List ℕ) (events some : List ScheduleEvent) → ((event : ScheduleEvent) → event ∈ some → event ∈ events) → AreOfLines (lines_of view events) some
-some_of_lines view events [] among = tt
-some_of_lines view events (event ∷ more) among = (is_of_lines view events event (among event (inl refl)), some_of_lines view events more (λ later at. among later (inr at)))
+some_of_lines : (form : Form) (view : List ℕ) (events some : List ScheduleEvent) → ((event : ScheduleEvent) → event ∈ some → event ∈ events) → AreOfLines (lines_of form view events) some
+some_of_lines form view events [] among = tt
+some_of_lines form view events (event ∷ more) among = (is_of_lines form view events event (among event (inl refl)), some_of_lines form view events more (λ later at. among later (inr at)))
 
 -- so it is with the lines themselves
-pub are_of_lines : (view : List ℕ) (events : List ScheduleEvent) → AreOfLines (lines_of view events) events
-are_of_lines view events = some_of_lines view events events (λ event at. at)
+pub are_of_lines : (form : Form) (view : List ℕ) (events : List ScheduleEvent) → AreOfLines (lines_of form view events) events
+are_of_lines form view events = some_of_lines form view events events (λ event at. at)
 
 -- A relation of worlds and states is carried through the lines of a schedule: through the begin of an
 -- event, each step of a peer, each stop and start, each change of stores that spares the top records, each
@@ -132,7 +139,7 @@ pub record IsCarried (peers : ℕ) (lines : Lines) (whole : Run) (P : Run → St
   pub starts : (p : ℕ) (node : Node) (w : Run) (s : State) → IsAmong peers p → slice_get w.nodes (place_of p) ≡ Some node → P w s → Starts P p node w s
   pub hashes : (strings : List (List ℕ)) (w : Run) (s : State) → P w s → P (hashing strings w) s
   pub alters : (p : ℕ) (f : HeldStores → HeldStores) (node : Node) (w : Run) (s : State) → SparesRecords f → IsAmong peers p → slice_get w.nodes (place_of p) ≡ Some node → P w s → Changes P p (over_stores f node) w s
-  pub reverts : (p changes : ℕ) (node : Node) (w : Run) (s : State) → lines.firm p ≡ false → IsAmong peers p → slice_get w.nodes (place_of p) ≡ Some node → P w s → Changes P p (while_down (taken_back changes) node) w s
+  pub reverts : (p changes : ℕ) (node : Node) (w : Run) (s : State) → MayBeReverted lines p → IsAmong peers p → slice_get w.nodes (place_of p) ≡ Some node → P w s → Changes P p (while_down (taken_back changes) node) w s
 
 -- ## Ids of calls
 
@@ -274,7 +281,7 @@ module _ (peers : ℕ) (lines : Lines) (whole : Run) (P : Run → State → Type
           intact = started_intact p node w (is_peer peers p small among) at a.intact;
         }
 
-        by_node : (o : Option Node) → slice_get w.nodes (place_of p) ≡ o → Reached P events (hashing (start_strings w.view o) (changed_at o p (started w.view) w))
+        by_node : (o : Option Node) → slice_get w.nodes (place_of p) ≡ o → Reached P events (hashing (start_strings (mode_at p w) w.view o) (changed_at o p (started (mode_at p w) w.view) w))
         by_node None at = alike_reached w (hashing [] w) (record { view = refl; nodes = refl; sent = refl; printed = refl; notes = refl; hashed = append-nil w.hashed }) refl a
         by_node (Some node) at = by_start node at (carried.starts p node w a.state among at a.holds)
 
@@ -357,6 +364,9 @@ module _ (peers : ℕ) (lines : Lines) (whole : Run) (P : Run → State → Type
       stepped_reached (done ++ line.Change p view ∷ []) few p (does.Change view) w (is_peer peers p small may.0) tt (λ node s. carried.takes_change p view node w s says) far (begun done (line.Change p view) few w a (λ n. refl))
   effect_reached done (line.Stop p) few w a says may fresh far = changed_reached (done ++ line.Stop p ∷ []) few p stopped may (stopped_harmless p) (λ node v s. carried.stops p node v s may) w (begun done (line.Stop p) few w a (λ n. refl))
   effect_reached done (line.Start p) few w a says may fresh far = start_reached (done ++ line.Start p ∷ []) few p may w (begun done (line.Start p) few w a (λ n. refl))
+  effect_reached done (line.Upgrade p) few w a says may fresh far =
+      alike_reached (done ++ line.Upgrade p ∷ []) few w (upgraded p w) (record { view = refl; nodes = refl; sent = refl; printed = refl; notes = refl; hashed = refl }) refl (begun done (line.Upgrade p) few w a (λ n. refl))
+  effect_reached done line.Deepen few w a says may fresh far = begun done line.Deepen few w a (λ n. refl)
   effect_reached done (line.Spoil p key bytes) few w a says may fresh far = altered_reached (done ++ line.Spoil p key bytes ∷ []) few p (spoiled key bytes) (spoiled_spares key bytes) may.0 w (begun done (line.Spoil p key bytes) few w a (λ n. refl))
   effect_reached done (line.Damage p key bytes) few w a says may fresh far =
       hashed_reached (done ++ line.Damage p key bytes ∷ []) (key ∷ []) (changed p (over_stores (segment_spoiled key bytes)) w)
@@ -392,19 +402,19 @@ module _ (peers : ℕ) (lines : Lines) (whole : Run) (P : Run → State → Type
 
 -- ## A whole schedule
 
-module _ (peers : ℕ) (view : List ℕ) (events : List ScheduleEvent) (P : Run → State → Type 0) (carried : IsCarried peers (lines_of view events) (run_of_schedule peers view events) P) (opens : P (opening_run peers view) (opening view))
+module _ (form : Form) (peers : ℕ) (view : List ℕ) (events : List ScheduleEvent) (P : Run → State → Type 0) (carried : IsCarried peers (lines_of form view events) (run_of_schedule form peers view events) P) (opens : P (opening_run form peers view) (opening view))
     (small : peers ≤ 31) (few : length events < 2 ^ 32) (may : AllMayStand peers events) (distinct : AreDistinct (call_ids events)) where
   -- the world after the schedule, and the run that went along
-  pub schedule_agrees : IsAfter peers P events (run_of_schedule peers view events)
-  schedule_agrees = lines_agree peers (lines_of view events) (run_of_schedule peers view events) P carried small [] events (opening_run peers view) few (are_of_lines view events) may distinct (further_same (run_of_schedule peers view events))
-      (record { state = opening view; holds = opens; agrees = opening_agrees peers view; size = length-replicate peers (opening_node view); intact = opening_intact peers view })
+  pub schedule_agrees : IsAfter peers P events (run_of_schedule form peers view events)
+  schedule_agrees = lines_agree peers (lines_of form view events) (run_of_schedule form peers view events) P carried small [] events (opening_run form peers view) few (are_of_lines form view events) may distinct (further_same (run_of_schedule form peers view events))
+      (record { state = opening view; holds = opens; agrees = opening_agrees form peers view; size = length-replicate peers (opening_node (opening_mode form) view); intact = opening_intact form peers view })
 
   -- its histories are legal
-  pub schedule_legal : (histories : List History) → AreHistories (run_of_schedule peers view events).notes (run_of_schedule peers view events).called histories → AreLegal events (run_of_schedule peers view events).printed histories
+  pub schedule_legal : (histories : List History) → AreHistories (run_of_schedule form peers view events).notes (run_of_schedule form peers view events).called histories → AreLegal events (run_of_schedule form peers view events).printed histories
   schedule_legal histories are = by_after schedule_agrees
     where
-      by_run : (a : IsAfter peers P events (run_of_schedule peers view events)) → IsInRun a.state → AreLegal events (run_of_schedule peers view events).printed histories
-      by_run a r = histories_are_legal_of r.view r.steps events (run_of_schedule peers view events) histories r.run (subst (λ (s : State). BookAgrees events (run_of_schedule peers view events) s.book) (sym r.is) a.agrees) are
+      by_run : (a : IsAfter peers P events (run_of_schedule form peers view events)) → IsInRun a.state → AreLegal events (run_of_schedule form peers view events).printed histories
+      by_run a r = histories_are_legal_of r.view r.steps events (run_of_schedule form peers view events) histories r.run (subst (λ (s : State). BookAgrees events (run_of_schedule form peers view events) s.book) (sym r.is) a.agrees) are
 
-      by_after : IsAfter peers P events (run_of_schedule peers view events) → AreLegal events (run_of_schedule peers view events).printed histories
-      by_after a = by_run a (carried.run (run_of_schedule peers view events) a.state a.holds)
+      by_after : IsAfter peers P events (run_of_schedule form peers view events) → AreLegal events (run_of_schedule form peers view events).printed histories
+      by_after a = by_run a (carried.run (run_of_schedule form peers view events) a.state a.holds)

@@ -38,7 +38,7 @@ use Rattle.version_laws.proofs.Maps.{put_other, put_then}
 use Rattle.wire_frames.specs.declared.frame.Frame.{Frame}
 use Rattle.world_spec.specs.Nodes.{Node, Up, Down, Taken, taken, taken_by, taken_of, run_over}
 use Rattle.world_spec.specs.Runs.{Run, place_of, frame_from, with_taken}
-use Rattle.call_refinement.proofs.ChangedStores.{stopped_fits, taken_strings, PutsBack}
+use Rattle.call_refinement.proofs.ChangedStores.{stopped_fits, taken_strings, PutsBack, TakesBack}
 use Rattle.call_refinement.proofs.HashedBefore.{behind, run_behind}
 use Rattle.step_refinement.proofs.CallByCall.{rest_task}
 use Rattle.step_refinement.specs.Scenes.{Scene, Elsewhere, Reached, Here, EventComes, EndsBy}
@@ -53,7 +53,7 @@ use Rattle.election_refinement.proofs.Worlds.{get_put, posted_all_hold}
 use Rattle.call_refinement.proofs.ChangedNodes.{number, apart, role_there, role_put, said_posted}
 use Rattle.step_refinement.proofs.LaterStates.{acks_stay}
 use Rattle.call_refinement.proofs.LaterWorlds.{StaysFor, elsewhere_stays, node_fits, messages_same, messages_elsewhere}
-use Rattle.call_refinement.specs.Lines.{AreSame, given_at, StepAgrees, IsQuiet}
+use Rattle.call_refinement.specs.Lines.{AreSame, MayBeReverted, given_at, StepAgrees, IsQuiet}
 use Rattle.step_refinement.specs.Peers.{AcksSay, AsksFit, EpochsFit, PhaseFits, IsAtRest, SendFits, FrameFits}
 use Rattle.call_refinement.specs.Roles.{role_of, roles_of, said_in}
 use Rattle.step_refinement.specs.Roles.{role_in, said_in_sends}
@@ -176,8 +176,8 @@ module _ (lines : Lines) (view : List ℕ) (strings : List (List ℕ)) (p : ℕ)
         t : State
         t = happens reached_state (Lose p)
 
-    -- the tree of a peer that is down is put back, which no line does to a firm peer
-    pub puts_back : (old stores : HeldStores) → lines.firm p ≡ false → slice_get nodes (place_of p) ≡ Some (Down old) → PutsBack lines strings hashed reached_state p stores → NodesGo steps (slice_set nodes (place_of p) (Down stores)) sent hashed notes
+    -- the tree of a peer that is down is put back to another map, which no line does to a firm peer
+    puts_back : (old stores : HeldStores) → lines.firm p ≡ false → slice_get nodes (place_of p) ≡ Some (Down old) → PutsBack lines strings hashed reached_state p stores → NodesGo steps (slice_set nodes (place_of p) (Down stores)) sent hashed notes
     puts_back old stores soft at back = record {
       steps = e ∷ steps;
       parts = parts_replaced steps (e ∷ steps) nodes sent sent hashed hashed notes notes (Down stores) parts (parts.run, back.may)
@@ -201,6 +201,12 @@ module _ (lines : Lines) (view : List ℕ) (strings : List (List ℕ)) (p : ℕ)
 
         firm : FirmAreKept lines t
         firm = put_then reached_state.objects.reverted p true (λ q was. lines.firm q ≡ true → was ≡ false) (λ is. absurd (true≢false (sym is ∙ soft))) (λ q other. parts.firm q)
+
+    -- or, under a seal, to the same
+    pub takes_back : (old stores : HeldStores) → MayBeReverted lines p → slice_get nodes (place_of p) ≡ Some (Down old) → TakesBack lines strings hashed reached_state p stores → NodesGo steps (slice_set nodes (place_of p) (Down stores)) sent hashed notes
+    takes_back old stores may at (inl down) = renewed hashed (Down old) (Down stores) at refl (λ x i. i) down
+    takes_back old stores (inl sealed) at (inr back) = absurd (back.0 sealed)
+    takes_back old stores (inr soft) at (inr back) = puts_back old stores soft at back.1
 
 -- ## A step in a world
 
@@ -252,6 +258,7 @@ module _ (lines : Lines) (sound : AreFirm lines) (view : List ℕ) (strings : Li
       listed = fits.listed;
       trust = fits.trust;
       tree = fits.tree;
+      seal = fits.seal;
       sync = fits.sync;
       fits = subst (λ hash. PhaseFits hash s x.phase) (sym holds.roles.hash) fits.fits;
       task = rest_task s [] x.phase fits.rests;
@@ -340,7 +347,7 @@ module _ (lines : Lines) (sound : AreFirm lines) (view : List ℕ) (strings : Li
         }
 
         own : UpFits lines strings (w.hashed ++ held.hashed) t p y held.stores
-        own = record { holds = is.peer; listed = is.listed; trust = is.trust; tree = is.tree; sync = is.sync; fits = subst (λ hash. PhaseFits hash t y.phase) r.hash is.fits; rests = ends.1 }
+        own = record { holds = is.peer; listed = is.listed; trust = is.trust; tree = is.tree; seal = is.seal; sync = is.sync; fits = subst (λ hash. PhaseFits hash t y.phase) r.hash is.fits; rests = ends.1 }
 
         after_step : PartsHold lines view strings r.steps v.nodes v.mail.sent v.hashed v.notes
         after_step = parts_replaced lines view strings p peer before r.steps w.nodes w.mail.sent v.mail.sent w.hashed v.hashed w.notes v.notes (Up y held.stores) parts r.run

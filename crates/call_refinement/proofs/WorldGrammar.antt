@@ -1,6 +1,6 @@
 -- In a schedule every message obeys the grammar, every peer sends as itself, and no running peer has waited
 -- long.
-use Rattle.std.proofs.Common.{◌≡◌, ℕ, ◌≤◌, ◌⊎◌, List, [], ◌∷◌, ◌++◌, Option, None, Some, Result, Ok, Err, slice_get, slice_set, refl, ap, inl, inr, sym, ◌∙◌, subst, lit<, le_trans}
+use Rattle.std.proofs.Common.{◌≡◌, ℕ, ◌≤◌, ◌⊎◌, Bool, true, false, List, [], ◌∷◌, ◌++◌, Option, None, Some, Result, Ok, Err, slice_get, slice_set, refl, ap, inl, inr, sym, ◌∙◌, subst, lit<, le_trans}
 use Rattle.std.specs.Prelude.{All}
 use Rattle.ens_base.specs.View.{IsPeer}
 use Rattle.held_stores.specs.Answers.{answered}
@@ -12,9 +12,10 @@ use Rattle.peer_plan.proofs.Aging.{steps_young}
 use Rattle.peer_state.specs.Ages.{IsYoung}
 use Rattle.peer_plan.specs.Drives.{step_of, MayCome}
 use Rattle.peer_plan.specs.Kept.{IsStepCall, Reaches}
-use Rattle.peer_plan.specs.Starts.{start_of, opened}
+use Rattle.peer_plan.specs.Starts.{start_of, opened, seals_opening}
 use Rattle.peer_state.specs.declared.event.Event.{Event}
 use Rattle.peer_state.specs.declared.event.Event.TheVariants as does
+use Rattle.peer_state.specs.declared.state.Mode.{Mode}
 use Rattle.peer_state.specs.declared.state.State.{State}
 use Rattle.peer_fact.specs.declared.saved.SavedFact.{SavedFact}
 use Rattle.register_model.specs.declared.note.Note.{Note}
@@ -22,11 +23,13 @@ use Rattle.schedule_words.specs.Spelling.{IsAmong}
 use Rattle.step_plans.specs.Calls.{AnswerOf}
 use Rattle.step_plans.specs.Plans.{Plan, Done, Say, Ask, Out, Ending, Finished, Stopped, Follows}
 use Rattle.step_plans.specs.declared.error.PeerError.{PeerError}
+use Rattle.schedule_text.specs.Forms.{is_sealed}
+use Rattle.schedule_text.specs.declared.form.Form.{Form}
 use Rattle.wire_frames.specs.declared.frame.Frame.{Frame}
 use Rattle.world_spec.proofs.Ending.{EndsIn, run_reaches, opening_is}
 use Rattle.world_spec.proofs.Obeying.{IsOwnNode, IsFine, opening_fine, stepped_fine, changed_fine, started_own, stopped_own, over_stores_own, while_down_own}
 use Rattle.world_spec.specs.Nodes.{Node, Up, Down, taken, taken_by, run_over, started, hashed_by_start, stopped, over_stores, while_down, opening_node}
-use Rattle.world_spec.specs.Runs.{Run, opening_run, place_of, with_taken, stepped_at, changed_at, hashing}
+use Rattle.world_spec.specs.Runs.{Run, opening_mode, opening_run, mode_at, place_of, with_taken, stepped_at, changed_at, hashing}
 use Rattle.election_refinement.proofs.Worlds.{get_put}
 use Rattle.election_refinement.proofs.Openings.{replicated}
 
@@ -88,13 +91,17 @@ while_down_ready f (Up x st) ready = ready
 while_down_ready f (Down st) ready = tt
 
 -- a peer that starts has not waited yet
-opened_ready : (view : List ℕ) (kept : Option SavedFact) → Reaches (λ y out. IsYoung y.phase) (opened view kept)
-opened_ready view None = λ a sound b kept. lit< tt
-opened_ready view (Some fact) = λ a sound. lit< tt
+sealing_ready : (mode : Mode) (view : List ℕ) (seals : Bool) → Reaches (λ y out. IsYoung y.phase) (seals_opening seals mode view)
+sealing_ready mode view true = λ root told a saved. lit< tt
+sealing_ready mode view false = λ a saved. lit< tt
 
-started_ready : (view : List ℕ) (node : Node) → IsReady node → IsReady (started view node)
-started_ready view (Up x st) ready = ready
-started_ready view (Down st) ready = let e : Ended State = run_over (start_of view) st in ended_ready e.ending e.held e.notes (run_reaches (λ y out. IsYoung y.phase) (start_of view) (held_with st []) [] (λ kept sound. opened_ready view kept))
+opened_ready : (mode : Mode) (view : List ℕ) (kept : Option SavedFact) → Reaches (λ y out. IsYoung y.phase) (opened mode view kept)
+opened_ready mode view None = λ a sound. sealing_ready mode view mode.sealing
+opened_ready mode view (Some saved) = λ a sound. lit< tt
+
+started_ready : (mode : Mode) (view : List ℕ) (node : Node) → IsReady node → IsReady (started mode view node)
+started_ready mode view (Up x st) ready = ready
+started_ready mode view (Down st) ready = let e : Ended State = run_over (start_of mode view) st in ended_ready e.ending e.held e.notes (run_reaches (λ y out. IsYoung y.phase) (start_of mode view) (held_with st []) [] (λ kept sound. opened_ready mode view kept))
 
 -- a change of a node that a line makes: the peer sends as itself as before, and has not waited longer
 pub record IsHarmless (p : ℕ) (change : Node → Node) : Type 0 where
@@ -113,8 +120,8 @@ over_harmless f p = record { own = over_stores_own f p; ready = over_ready f }
 pub while_down_harmless : (f : HeldStores → HeldStores) (p : ℕ) → IsHarmless p (while_down f)
 while_down_harmless f p = record { own = while_down_own f p; ready = while_down_ready f }
 
-started_harmless : (view : List ℕ) (p : ℕ) → IsHarmless p (started view)
-started_harmless view p = record { own = started_own p view; ready = started_ready view }
+started_harmless : (mode : Mode) (view : List ℕ) (p : ℕ) → IsHarmless p (started mode view)
+started_harmless mode view p = record { own = started_own p mode view; ready = started_ready mode view }
 
 -- a step of a peer keeps the world intact
 pub taken_intact : (p : ℕ) (event : Event) (node : Node) (w : Run) → IsPeer p → MayCome p event → slice_get w.nodes (place_of p) ≡ Some node → IsIntact w → IsIntact (with_taken p (taken p event node) w)
@@ -138,14 +145,14 @@ alike_intact w v nodes sent i = record {
 }
 
 -- a peer starts, and strings are hashed
-pub started_intact : (p : ℕ) (node : Node) (w : Run) → IsPeer p → slice_get w.nodes (place_of p) ≡ Some node → IsIntact w → IsIntact (hashing (hashed_by_start w.view node) (record w { nodes = slice_set w.nodes (place_of p) (started w.view node) }))
+pub started_intact : (p : ℕ) (node : Node) (w : Run) → IsPeer p → slice_get w.nodes (place_of p) ≡ Some node → IsIntact w → IsIntact (hashing (hashed_by_start (mode_at p w) w.view node) (record w { nodes = slice_set w.nodes (place_of p) (started (mode_at p w) w.view node) }))
 started_intact p node w peer at i =
-    let v : Run = record w { nodes = slice_set w.nodes (place_of p) (started w.view node) } in
-    alike_intact v (hashing (hashed_by_start w.view node) v) refl refl (changed_intact (started w.view) p node w (started_harmless w.view p) peer at i)
+    let v : Run = record w { nodes = slice_set w.nodes (place_of p) (started (mode_at p w) w.view node) } in
+    alike_intact v (hashing (hashed_by_start (mode_at p w) w.view node) v) refl refl (changed_intact (started (mode_at p w) w.view) p node w (started_harmless (mode_at p w) w.view p) peer at i)
 
-opening_ready : (view : List ℕ) → IsReady (opening_node view)
-opening_ready view = let o = opening_is view in subst IsReady (sym o.is) (lit< tt)
+opening_ready : (form : Form) (view : List ℕ) → IsReady (opening_node (opening_mode form) view)
+opening_ready form view = let o = opening_is (is_sealed form) view in subst IsReady (sym o.is) (lit< tt)
 
 -- the world is intact before the first event
-pub opening_intact : (peers : ℕ) (view : List ℕ) → IsIntact (opening_run peers view)
-opening_intact peers view = record { fine = opening_fine peers view; ready = λ place node at. subst IsReady (replicated peers place (opening_node view) node at) (opening_ready view) }
+pub opening_intact : (form : Form) (peers : ℕ) (view : List ℕ) → IsIntact (opening_run form peers view)
+opening_intact form peers view = record { fine = opening_fine form peers view; ready = λ place node at. subst IsReady (replicated peers place (opening_node (opening_mode form) view) node at) (opening_ready form view) }

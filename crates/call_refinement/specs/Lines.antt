@@ -1,5 +1,5 @@
 -- How a world agrees with the book of the abstract protocol, line by line.
-use Rattle.std.specs.Prelude.{◌≡◌, ◌↔◌, ℕ, ◌+◌, not, List, [], ◌∷◌, ◌++◌, length, map}
+use Rattle.std.specs.Prelude.{◌≡◌, ◌↔◌, ◌⊎◌, ℕ, true, false, ◌+◌, List, [], ◌∷◌, ◌++◌, length, map}
 use Rattle.ens_base.specs.Lists.{◌∈◌}
 use Rattle.abstract_protocol.specs.Book.{Book}
 use Rattle.leader_words.specs.declared.out.AnswerOut.{AnswerOut}
@@ -11,17 +11,24 @@ use Rattle.register_model.specs.declared.printed.Printed.{Printed}
 use Rattle.register_model.specs.declared.printed.Printed.TheVariants as printed
 use Rattle.schedule_text.specs.declared.event.ScheduleEvent.{ScheduleEvent}
 use Rattle.schedule_text.specs.declared.event.ScheduleEvent.TheVariants as line
-use Rattle.schedule_premise.specs.Premise.{is_reverted, changed_views}
+use Rattle.schedule_text.specs.Forms.{is_sealed}
+use Rattle.schedule_text.specs.declared.form.Form.{Form}
+use Rattle.schedule_premise.specs.Premise.{is_firm, changed_views}
 use Rattle.sync_laws.specs.Facts.{Lines}
 use Rattle.world_spec.specs.Nodes.{Taken}
 use Rattle.world_spec.specs.Runs.{Run}
 
 -- ## Calls and answers of a schedule
 
--- what the lines of a schedule say, which opens in this view: firm are the peers that no line reverts, and
--- the views that may vote are the opening one and those that a line asks for
-abbrev pub lines_of : List ℕ → List ScheduleEvent → Lines
-lines_of view events = record { firm = λ q. not (is_reverted events q); voting = view ∷ changed_views events }
+-- what the lines of a schedule of this form say, which opens in this view: firm are the peers that have a
+-- seal by the form or that no line reverts, and the views that may vote are the opening one and those that a
+-- line asks for
+abbrev pub lines_of : Form → List ℕ → List ScheduleEvent → Lines
+lines_of form view events = record { sealed = is_sealed form; firm = is_firm form events; voting = view ∷ changed_views events }
+
+-- a line may revert the tree of the peer: each peer has a seal, or this one is not firm
+abbrev pub MayBeReverted : Lines → ℕ → Type 0
+MayBeReverted lines p = (lines.sealed ≡ true) ⊎ (lines.firm p ≡ false)
 
 -- the call of a line with this number, in front of the rest
 abbrev pub call_at : ScheduleEvent → ℕ → List Call → List Call

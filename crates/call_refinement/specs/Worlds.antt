@@ -15,12 +15,11 @@ use Rattle.register_model.specs.declared.note.Note.{Note}
 use Rattle.request_refinement.specs.Naming.{hash_of}
 use Rattle.sync_laws.specs.Facts.{Lines}
 use Rattle.sync_refinement.specs.Laws.{FirmAreKept}
-use Rattle.sync_refinement.specs.Syncs.{SyncMaySay}
 use Rattle.version_laws.specs.Versions.{VersionsAreSafe}
 use Rattle.wire_frames.specs.declared.frame.Frame.{Frame}
 use Rattle.world_spec.specs.Nodes.{Node, Up, Down}
 use Rattle.world_spec.specs.Runs.{Run}
-use Rattle.step_refinement.specs.Peers.{TreeHolds, DownHolds, AcksSay, AsksFit, EpochsFit, PhaseFits, IsAtRest, FrameFits}
+use Rattle.step_refinement.specs.Peers.{TreeHolds, DownHolds, SealFits, AcksSay, AsksFit, EpochsFit, PhaseFits, IsAtRest, FrameFits, SyncFits}
 use Rattle.call_refinement.specs.Roles.{roles_of, said_in}
 use Rattle.step_plans.specs.Saved.{bare}
 
@@ -32,14 +31,15 @@ pub record UpFits (lines : Lines) (strings hashed : List (List ℕ)) (s : State)
   pub listed : IsListedPeer lines.voting q x
   pub trust : s.objects.trusted q ≡ x.trusted
   pub tree : TreeHolds s strings q x.seal (held_with stores hashed)
-  pub sync : SyncMaySay lines s strings q x.fact x.trusted tree.last.map x.sync
+  pub seal : SealFits lines x.seal
+  pub sync : SyncFits lines s strings q x.fact x.trusted tree.last.map stores.tree.top x.sync
   pub fits : PhaseFits hash_of s x.phase
   pub rests : IsAtRest x.phase
 
 -- a running peer, or one that is down
 abbrev pub NodeFits : Lines → List (List ℕ) → List (List ℕ) → State → ℕ → Node → Type 0
 NodeFits lines strings hashed s q (Up x stores) = UpFits lines strings hashed s q x stores
-NodeFits lines strings hashed s q (Down stores) = DownHolds lines.voting s strings hashed q stores
+NodeFits lines strings hashed s q (Down stores) = DownHolds lines s strings hashed q stores
 
 -- ## Messages
 

@@ -7,6 +7,7 @@ ghost use Rattle.history_scribe.specs.Histories.{AreHistories};
 ghost use Rattle.register_model.specs.declared.history.History.{History};
 ghost use Rattle.schedule_text.specs.Spelling.{AllMayStand, call_ids};
 ghost use Rattle.schedule_text.specs.declared.event.ScheduleEvent.{ScheduleEvent};
+ghost use Rattle.schedule_text.specs.declared.form.Form.{Form};
 ghost use Rattle.sync_laws.specs.Facts.{AreFirm};
 ghost use Rattle.world_spec.specs.Lines.{run_of_schedule};
 ghost use Rattle.call_refinement.specs.Causes.{HaveCauses};
@@ -15,17 +16,18 @@ ghost use Rattle.call_refinement.specs.Lines.{AreLegal, lines_of};
 ghost use Rattle.call_refinement.specs.Worlds.{HasRun};
 
 /// The world after a schedule agrees with a run of the abstract protocol, in its peers, its messages
-/// and its notes, if no two different strings that it hashed have the same MD5, and of each view that
-/// it names more than half of the members are never reverted.
+/// and its notes, if no two different strings that it hashed have the same MD5, and, in a schedule of
+/// form 1, of each view that it names more than half of the members are never reverted. In the other
+/// forms every peer has a seal, and nothing is asked of the lines that revert trees.
 pub fn schedules_refine_the_protocol()
-    ensures { (peers : ℕ) (view : List ℕ) (events : List ScheduleEvent) → peers ≤ 31 → IsView view → length events < 2 ^ 32 → AreFirm (lines_of view events) → AllMayStand peers events → AreDistinct (call_ids events) → HasNoClash (run_of_schedule peers view events).hashed → HasRun (lines_of view events) view (run_of_schedule peers view events).hashed (run_of_schedule peers view events) }
+    ensures { (form : Form) (peers : ℕ) (view : List ℕ) (events : List ScheduleEvent) → peers ≤ 31 → IsView view → length events < 2 ^ 32 → AreFirm (lines_of form view events) → AllMayStand peers events → AreDistinct (call_ids events) → HasNoClash (run_of_schedule form peers view events).hashed → HasRun (lines_of form view events) view (run_of_schedule form peers view events).hashed (run_of_schedule form peers view events) }
 {}
 
 /// So the histories that its notes give are legal, for the calls of the schedule and the answers
 /// printed.
 pub fn schedules_have_legal_histories()
-    ensures { (peers : ℕ) (view : List ℕ) (events : List ScheduleEvent) → peers ≤ 31 → IsView view → length events < 2 ^ 32 → AreFirm (lines_of view events) → AllMayStand peers events → AreDistinct (call_ids events) → HasNoClash (run_of_schedule peers view events).hashed
-        → (histories : List History) → AreHistories (run_of_schedule peers view events).notes (run_of_schedule peers view events).called histories → AreLegal events (run_of_schedule peers view events).printed histories }
+    ensures { (form : Form) (peers : ℕ) (view : List ℕ) (events : List ScheduleEvent) → peers ≤ 31 → IsView view → length events < 2 ^ 32 → AreFirm (lines_of form view events) → AllMayStand peers events → AreDistinct (call_ids events) → HasNoClash (run_of_schedule form peers view events).hashed
+        → (histories : List History) → AreHistories (run_of_schedule form peers view events).notes (run_of_schedule form peers view events).called histories → AreLegal events (run_of_schedule form peers view events).printed histories }
 {}
 
 /// Each answer printed is to a call of the schedule and has its cause in the notes, and no call is
@@ -35,8 +37,8 @@ pub fn schedules_have_legal_histories()
 /// and for a refused call no version was proposed and no read was noted. The notes name calls of the
 /// schedule alone.
 pub fn answers_have_causes()
-    ensures { (peers : ℕ) (view : List ℕ) (events : List ScheduleEvent) → peers ≤ 31 → IsView view → length events < 2 ^ 32 → AreFirm (lines_of view events) → AllMayStand peers events → AreDistinct (call_ids events) → HasNoClash (run_of_schedule peers view events).hashed
-        → HaveCauses events (run_of_schedule peers view events).printed (run_of_schedule peers view events).notes }
+    ensures { (form : Form) (peers : ℕ) (view : List ℕ) (events : List ScheduleEvent) → peers ≤ 31 → IsView view → length events < 2 ^ 32 → AreFirm (lines_of form view events) → AllMayStand peers events → AreDistinct (call_ids events) → HasNoClash (run_of_schedule form peers view events).hashed
+        → HaveCauses events (run_of_schedule form peers view events).printed (run_of_schedule form peers view events).notes }
 {}
 
 /// In each run of the abstract protocol some call is on the key of each proposed version. So there are

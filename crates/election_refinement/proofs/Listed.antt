@@ -35,6 +35,7 @@ use Rattle.peer_state.specs.declared.state.ChangeState.TheVariants.{Settled, Wan
 use Rattle.peer_state.specs.declared.state.Leadership.{Leadership}
 use Rattle.peer_state.specs.declared.state.Phase.{Phase}
 use Rattle.peer_state.specs.declared.state.Phase.TheVariants as phases
+use Rattle.peer_state.specs.declared.state.Mode.{Mode}
 use Rattle.peer_state.specs.declared.state.State.{State}
 use Rattle.peer_fact.specs.Facts.{changed_views, views_after, without_old}
 use Rattle.peer_fact.specs.declared.fact.Change.{Change}
@@ -549,9 +550,9 @@ module _ {voting : List (List ℕ)} {trusted : Bool} {l : Leadership} (h : IsLis
 -- ## Starts
 
 -- a peer that starts from a listed fact, with any seal
-pub listed_started : (voting : List (List ℕ)) (p : ℕ) (saved : SavedFact) (trusted : Bool) → IsListedFact voting saved.fact → IsListedPeer voting p (first_state saved trusted)
-listed_started voting p saved trusted listed = record { fact = listed; phase = tt; sync = tt }
+pub listed_started : (voting : List (List ℕ)) (p : ℕ) (mode : Mode) (saved : SavedFact) (trusted : Bool) → IsListedFact voting saved.fact → IsListedPeer voting p (first_state mode saved trusted)
+listed_started voting p mode saved trusted listed = record { fact = listed; phase = tt; sync = tt }
 
 -- a peer that starts over nothing kept, in a view that may vote
-pub listed_opening : (voting : List (List ℕ)) (p : ℕ) (view : List ℕ) → view ∈ voting → IsListedPeer voting p (first_state (opening_saved view) true)
-listed_opening voting p view votes = listed_started voting p (opening_saved view) true (record { views = one_voting voting view votes; first = votes; change = tt; count = lit< tt; epoch = lit< tt })
+pub listed_opening : (voting : List (List ℕ)) (p : ℕ) (mode : Mode) (view : List ℕ) (seal : Option (List ℕ)) → view ∈ voting → IsListedPeer voting p (first_state mode (opening_saved view seal) true)
+listed_opening voting p mode view seal votes = listed_started voting p mode (opening_saved view seal) true (record { views = one_voting voting view votes; first = votes; change = tt; count = lit< tt; epoch = lit< tt })

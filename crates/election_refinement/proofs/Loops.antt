@@ -1,5 +1,6 @@
 -- A whole step of a peer: each row is performed alike, and the tasks of a step run one after
 -- another.
+use Rattle.std.specs.Option.{is_some}
 use Rattle.std.proofs.Common.{◌≡◌, ℕ, zero, suc, Bool, true, false, List, [], ◌∷◌, ◌++◌, Option, Some, None, arith, refl, ap, ◌∙◌, sym, subst}
 use Rattle.std.specs.Prelude.{All}
 use Rattle.std.proofs.lemmas.List.Elements.{All-nil, All-append, All-weaker}
@@ -27,10 +28,10 @@ use Rattle.leading.specs.Starts.{row_27}
 use Rattle.leading.specs.Ticks.{row_5_calls as calls_of_tick}
 use Rattle.leading.specs.declared.leader.Leader.{Leader}
 use Rattle.peer_plan.specs.Drives.{row_done, owned, followed_up, and_row, lead_done, lead, reminded, task_done, driven, most_turns, led_in, ticked, shown, after_put, put_done, delivered, unavailable, called, and_change, first, concluded, step_of}
-use Rattle.peer_plan.specs.Syncs.{saved, and_sends, with_sync, installed, accepted, accepted_in, end_sync, by_outcome, go_on, start_sync, resume_sync, followed_on, reached, own_node, body_of, shown_node, needs_node, take_give}
+use Rattle.peer_plan.specs.Syncs.{saved, sealed_if, and_sends, with_sync, installed, accepted, accepted_in, end_sync, by_outcome, go_on, start_sync, resume_sync, followed_on, reached, own_node, body_of, shown_node, needs_node, take_give}
 use Rattle.peer_state.specs.Leading.{begins, end_of, older, row_5_calls, ticks, wished}
-use Rattle.peer_state.specs.Moves.{electing, left, left_answers, and_answers, without_sync, leading, with_leader, turned, ends_leading, turned_answers}
-use Rattle.peer_plan.specs.Owns.{digested, read, kept, fetched, held, looked_at, looked, found_at, found, entered, written, confirmed}
+use Rattle.peer_state.specs.Moves.{electing, keeps_seal, left, left_answers, and_answers, without_sync, leading, with_leader, turned, ends_leading, turned_answers}
+use Rattle.peer_plan.specs.Owns.{digested, read, kept, fetched, held, looked_at, looked, found_at, found, stored, resealed, entered, written, confirmed}
 use Rattle.peer_state.specs.Rows.{aged, asked_change, changes, leads, phase_row, received}
 use Rattle.peer_plan.specs.Starts.{opened, start_of}
 use Rattle.peer_state.specs.declared.event.CallIn.{CallIn}
@@ -39,6 +40,7 @@ use Rattle.peer_state.specs.declared.event.Event.TheVariants as events
 use Rattle.peer_state.specs.declared.state.Leadership.{Leadership}
 use Rattle.peer_state.specs.declared.state.Phase.{Phase}
 use Rattle.peer_state.specs.declared.state.Phase.TheVariants as phases
+use Rattle.peer_state.specs.declared.state.Mode.{Mode}
 use Rattle.peer_state.specs.declared.state.State.{State}
 use Rattle.peer_fact.specs.declared.fact.Fact.{Fact}
 use Rattle.peer_fact.specs.declared.saved.SavedFact.{SavedFact}
@@ -160,6 +162,30 @@ module _ (c : Course) (before : Ledger) where
   saved_good None x stored out next old new good = good
   saved_good (Some fact) x stored out next old new good = (old, (new, good))
 
+  -- with another seal the peer agrees with the same ledger
+  abbrev anew : (x : State) (stored : Option Fact) (out : Out) (seal : Option (List ℕ)) → Here x stored out → Here (record x { seal = seal }) stored out
+  anew x stored out seal h = record {
+    ledger = h.ledger;
+    keeps = h.keeps;
+    fits = record { reaches = h.fits.reaches; peer = record { saved = h.fits.peer.saved; kept = h.fits.peer.kept; phase = h.fits.peer.phase; sync = h.fits.peer.sync } };
+    sends = h.sends;
+  }
+
+  -- the fact is saved, with a new seal or with the old one
+  sealed_good : (seals : Bool) (fact : Fact) (x : State) (stored : Option Fact) (out : Out) (next : Rest State (Unit {0})) → Rests stored
+      → ((seal : Option (List ℕ)) → Rests (Some fact) × Good (next tt (record x { fact = fact; seal = seal }) out) (Some fact)) → Good (sealed_if seals fact x out next) stored
+  unfolding asked
+  sealed_good true fact x stored out next old goes = (old, λ root. (old, goes root))
+  sealed_good false fact x stored out next old goes = (old, goes x.seal)
+
+  -- a peer with a seal saves its own fact again
+  resealed_good : (seals : Bool) → Passes (resealed seals)
+  resealed_good true x stored out next h go = sealed_good true x.fact x stored out next (rests x stored out h) (λ seal. let here = kept_here seal in (rests (record x { seal = seal }) (Some x.fact) out here, go tt (record x { seal = seal }) (Some x.fact) out here))
+    where
+      kept_here : (seal : Option (List ℕ)) → Here (record x { seal = seal }) (Some x.fact) out
+      kept_here seal = subst (λ (o : Option Fact). Here (record x { seal = seal }) o out) h.fits.peer.kept (anew x stored out seal h)
+  resealed_good false x stored out next h go = go tt x stored out h
+
   -- ## Syncs
 
   -- no sync runs
@@ -207,10 +233,9 @@ module _ (c : Course) (before : Ledger) where
         → Good (end_sync p r entries x out next) stored
     end_sync_good r entries x stored out next h may go =
         installed_good (needs_build r.sync.scan entries) entries (without_sync x) stored out _ (rests (without_sync x) stored out h)
-        (λ u. saved_good (Some r.fact) (without_sync x) stored out (λ v z o. accepted_in p r.fact z.phase (record z { trusted = true }) o next)
-        (rests (without_sync x) stored out h)
-        (rests (without_sync now) (Some r.fact) out there)
-        (accepted_good x.phase now (Some r.fact) out next there there.fits.peer.phase may.first.own_ballot go))
+        (λ u. sealed_good (keeps_seal (without_sync x)) r.fact (without_sync x) stored out (λ v z o. accepted_in p r.fact z.phase (record z { trusted = true }) o next) (rests (without_sync x) stored out h)
+        (λ seal. let here = anew (without_sync now) (Some r.fact) out seal there in
+        (rests (record (without_sync now) { seal = seal }) (Some r.fact) out here, accepted_good x.phase (record now { seal = seal }) (Some r.fact) out next here here.fits.peer.phase may.first.own_ballot go)))
       where
         now : State
         now = record x { fact = r.fact; trusted = true }
@@ -335,7 +360,8 @@ module _ (c : Course) (before : Ledger) where
 
     entered_good : (o : Object) (bytes digest : List ℕ) (walked : Walked (Unit {0})) → Passes (entered o bytes digest walked)
     entered_good o bytes digest (Broken at) x stored out next h go = go (seens.Damaged at) x stored out h
-    entered_good o bytes digest (Reached u) x stored out next h go = asked_good (Put o.key bytes) tt x stored out _ h (λ v y s q there. go (seens.Stored digest) y s q there)
+    entered_good o bytes digest (Reached u) x stored out next h go =
+        resealed_good (is_some x.seal) x stored out _ h (λ u y s q there. asked_good (Put o.key bytes) tt y s q _ there (λ v z t r end. go (seens.Stored digest) z t r end))
 
     written_good : (o : Object) → Passes (written o)
     written_good o x stored out next h go =
@@ -531,10 +557,10 @@ module _ (c : Course) (before : Ledger) where
         task_good (tasks.Phase phase_rules.EndEpoch) y s o (driving (λ v z q. Done z q)) there (driving_goes (λ v z q. Done z q) (λ v z t q end. end))))
 
   -- rule 1, a start from a kept fact: the peer follows, and does not trust its tree
-  pub start_good : (view : List ℕ) (stored : Option Fact) → Rests stored → Good (start_of view) stored
-  start_good view stored r = (r, opens)
+  pub start_good : (mode : Mode) (view : List ℕ) (stored : Option Fact) → Rests stored → Good (start_of mode view) stored
+  start_good mode view stored r = (r, opens)
     where
-      opens : (kept : Option SavedFact) → bare kept ≡ stored → Good (opened view kept) stored
+      opens : (kept : Option SavedFact) → bare kept ≡ stored → Good (opened mode view kept) stored
       opens None is = absurd (none-some r.kept.fact (is ∙ r.kept.kept))
       opens (Some k) is = (
         r,

@@ -7,14 +7,16 @@ use Rattle.abstract_protocol.specs.Ledger.{opening_ledger}
 use Rattle.abstract_protocol.specs.Protocol.{Step}
 use Rattle.ens_base.specs.View.{IsView}
 use Rattle.peer_fact.specs.Facts.{opening_fact}
+use Rattle.schedule_text.specs.Forms.{is_sealed}
 use Rattle.schedule_text.specs.Spelling.{MayStand, AllMayStand}
 use Rattle.schedule_text.specs.declared.event.ScheduleEvent.{ScheduleEvent}
+use Rattle.schedule_text.specs.declared.form.Form.{Form}
 use Rattle.step_plans.specs.Saved.{bare}
 use Rattle.world_spec.proofs.Ending.{opening_is}
 use Rattle.world_spec.proofs.Obeying.{IsFine, opening_fine}
 use Rattle.world_spec.specs.Lines.{applied, run_from, run_of_schedule}
 use Rattle.world_spec.specs.Nodes.{Node, opening_node}
-use Rattle.world_spec.specs.Runs.{Run, opening_run}
+use Rattle.world_spec.specs.Runs.{Run, opening_mode, opening_run}
 use Rattle.election_refinement.proofs.Numbers.{number_zero}
 use Rattle.election_refinement.proofs.Worlds.{IsSpared, AreSpared, SparesAll, applied_refines}
 use Rattle.election_refinement.specs.Refinement.{IsKnown, IsSaved, NodeHolds, FrameHolds, IsOrderly}
@@ -42,9 +44,9 @@ module _ (view : List ℕ) where
   pub saved_first : (p : ℕ) → IsSaved (opening_ledger view) p (opening_fact view)
   saved_first p = record { known = known_first; ballot = sym number_zero; place = rw number_zero refl }
 
-  started : (p : ℕ) → NodeHolds (opening_ledger view) p (opening_node view)
-  started p =
-      let o = opening_is view in
+  started : (form : Form) (p : ℕ) → NodeHolds (opening_ledger view) p (opening_node (opening_mode form) view)
+  started form p =
+      let o = opening_is (is_sealed form) view in
       subst (NodeHolds (opening_ledger view) p) (sym o.is) (record { saved = saved_first p; kept = ap bare o.kept; phase = tt; sync = tt })
 
   pub orderly_first : IsOrderly (opening_ledger view)
@@ -56,10 +58,10 @@ module _ (view : List ℕ) where
       zero_only : (d : ℕ) → (opening_ledger view).elected d ≡ true → d ≤ 0
       zero_only d h = grind (arith, nat_tests)
 
-  opening_refines : (peers : ℕ) → IsView view → IsRefinement view [] (opening_run peers view)
-  opening_refines peers is_view = record {
+  opening_refines : (form : Form) (peers : ℕ) → IsView view → IsRefinement view [] (opening_run form peers view)
+  opening_refines form peers is_view = record {
     run = is_view.size.0;
-    refines = record { orderly = orderly_first; nodes = λ place node at. subst (NodeHolds (opening_ledger view) (suc place)) (replicated peers place (opening_node view) node at) (started (suc place)); sent = All-nil (FrameHolds (opening_ledger view)) };
+    refines = record { orderly = orderly_first; nodes = λ place node at. subst (NodeHolds (opening_ledger view) (suc place)) (replicated peers place (opening_node (opening_mode form) view) node at) (started form (suc place)); sent = All-nil (FrameHolds (opening_ledger view)) };
   }
 
   -- the world after an event refines an extension of the run
@@ -84,22 +86,22 @@ module _ (view : List ℕ) where
     from_runs (event ∷ more) w may spare h =
         from_runs more (applied event w) may.1 (λ place is_spared. (spare place is_spared).1) (next_runs event w may.0 (λ place is_spared. (spare place is_spared).0) h)
 
-    opening_spared : IsSpared (opening_node view)
-    opening_spared = let o = opening_is view in subst IsSpared (sym o.is) (o.none, lit< tt)
+    opening_spared : (form : Form) → IsSpared (opening_node (opening_mode form) view)
+    opening_spared form = let o = opening_is (is_sealed form) view in subst IsSpared (sym o.is) (o.none, lit< tt)
 
-    opening_runs : IsView view → Runs spared (opening_run peers view)
-    opening_runs is_view = record {
-      has = record { steps = []; refinement = opening_refines peers is_view };
-      up = λ place node is_spared at. subst IsSpared (replicated peers place (opening_node view) node at) opening_spared;
-      fine = λ place is_spared. opening_fine peers view;
+    opening_runs : (form : Form) → IsView view → Runs spared (opening_run form peers view)
+    opening_runs form is_view = record {
+      has = record { steps = []; refinement = opening_refines form peers is_view };
+      up = λ place node is_spared at. subst IsSpared (replicated peers place (opening_node (opening_mode form) view) node at) (opening_spared form);
+      fine = λ place is_spared. opening_fine form peers view;
     }
 
-  pub schedule_refines : (peers : ℕ) (events : List ScheduleEvent) → peers ≤ 31 → IsView view → AllMayStand peers events → HasRun view (run_of_schedule peers view events)
-  schedule_refines peers events few is_view may =
-      (from_runs (λ place. ⊥) peers few events (opening_run peers view) may (λ place none. absurd none) (opening_runs (λ place. ⊥) peers few is_view)).has
+  pub schedule_refines : (form : Form) (peers : ℕ) (events : List ScheduleEvent) → peers ≤ 31 → IsView view → AllMayStand peers events → HasRun view (run_of_schedule form peers view events)
+  schedule_refines form peers events few is_view may =
+      (from_runs (λ place. ⊥) peers few events (opening_run form peers view) may (λ place none. absurd none) (opening_runs (λ place. ⊥) peers few form is_view)).has
 
   -- the peer at this place runs, if no line stops it or makes one of its writes fail
-  pub spared_runs : (peers : ℕ) (events : List ScheduleEvent) (place : ℕ) → peers ≤ 31 → IsView view → AllMayStand peers events → AllSpare (suc place) events
-      → (node : Node) → slice_get (run_of_schedule peers view events).nodes place ≡ Some node → IsSpared node
-  spared_runs peers events place few is_view may spare node at =
-      (from_runs (λ q. place ≡ q) peers few events (opening_run peers view) may (λ q same. subst (λ n. AllSpare (suc n) events) same spare) (opening_runs (λ q. place ≡ q) peers few is_view)).up place node refl at
+  pub spared_runs : (form : Form) (peers : ℕ) (events : List ScheduleEvent) (place : ℕ) → peers ≤ 31 → IsView view → AllMayStand peers events → AllSpare (suc place) events
+      → (node : Node) → slice_get (run_of_schedule form peers view events).nodes place ≡ Some node → IsSpared node
+  spared_runs form peers events place few is_view may spare node at =
+      (from_runs (λ q. place ≡ q) peers few events (opening_run form peers view) may (λ q same. subst (λ n. AllSpare (suc n) events) same spare) (opening_runs (λ q. place ≡ q) peers few form is_view)).up place node refl at

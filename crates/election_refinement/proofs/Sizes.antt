@@ -3,16 +3,18 @@ use Rattle.std.proofs.Common.{◌≡◌, ℕ, zero, suc, ◌<◌, ◌-◌, Bool,
 use Rattle.std.proofs.lemmas.List.{length-set, length-replicate}
 use Rattle.std.proofs.lemmas.Option.{slice_get-get_or}
 use Rattle.abstract_protocol.specs.Ledger.{Ledger}
+use Rattle.held_stores.specs.Held.{empty_stores}
 use Rattle.network.specs.Mail.{settled, goes, oldest, is_among, most_messages}
 use Rattle.peer_state.specs.declared.event.Event.{Event}
 use Rattle.peer_state.specs.declared.event.Event.TheVariants as events
 use Rattle.schedule_text.specs.declared.event.ScheduleEvent.{ScheduleEvent}
-use Rattle.schedule_text.specs.declared.event.ScheduleEvent.TheVariants.{Call, Tick, Deliver, Pass, Lose, Calm, CalmAmong, Change, Stop, Start, Spoil, Damage, Inner, Revert, Fail}
+use Rattle.schedule_text.specs.declared.event.ScheduleEvent.TheVariants.{Call, Tick, Deliver, Pass, Lose, Calm, CalmAmong, Change, Stop, Start, Upgrade, Deepen, Spoil, Damage, Inner, Revert, Fail}
+use Rattle.schedule_text.specs.declared.form.Form.{Form}
 use Rattle.wire_frames.specs.declared.frame.Frame.{Frame}
 use Rattle.world_spec.specs.Lines.{call_of, set_of, everyone, effect, applied, run_from, run_of_schedule}
 use Rattle.world_spec.specs.Nodes.{Node, Up, Down, taken, started, stopped, over_stores, while_down, opening_node}
 use Rattle.world_spec.specs.Stores.{failing, leaves_of, spoiled, segment_spoiled, inner_spoiled, taken_back}
-use Rattle.world_spec.specs.Runs.{Run, opening_run, place_of, stepped, stepped_at, changed, changed_at, ticked, received_if, delivered, delivered_if, going_on, calmed}
+use Rattle.world_spec.specs.Runs.{Run, opening_mode, opening_run, mode_at, place_of, stepped, stepped_at, changed, changed_at, ticked, received_if, delivered, delivered_if, going_on, calmed}
 use Rattle.election_refinement.proofs.Worlds.{IsSpared}
 use Rattle.election_refinement.specs.Refinement.{NodeHolds}
 use Rattle.election_refinement.specs.Worlds.{Refines, KeepsFact, IsKeeping, IsRunning}
@@ -70,7 +72,9 @@ effect_size Calm w = calmed_size everyone most_messages w
 effect_size (CalmAmong members) w = calmed_size (set_of members) most_messages w
 effect_size (Change peer view) w = stepped_size peer (events.Change view) w
 effect_size (Stop peer) w = changed_size peer stopped w
-effect_size (Start peer) w = changed_size peer (started w.view) w
+effect_size (Start peer) w = changed_size peer (started (mode_at peer w) w.view) w
+effect_size (Upgrade peer) w = refl
+effect_size Deepen w = refl
 effect_size (Spoil peer key bytes) w = changed_size peer (over_stores (spoiled key bytes)) w
 effect_size (Damage peer key bytes) w = changed_size peer (over_stores (segment_spoiled key bytes)) w
 effect_size (Inner peer level index bytes) w = changed_size peer (over_stores (inner_spoiled level index bytes)) w
@@ -81,13 +85,13 @@ run_from_size : (events : List ScheduleEvent) (w : Run) → size (run_from event
 run_from_size [] w = refl
 run_from_size (event ∷ more) w = run_from_size more (applied event w) ∙ effect_size event w
 
-pub schedule_size : (peers : ℕ) (view : List ℕ) (events : List ScheduleEvent) → size (run_of_schedule peers view events) ≡ peers
-schedule_size peers view events = run_from_size events (opening_run peers view) ∙ length-replicate peers (opening_node view)
+pub schedule_size : (form : Form) (peers : ℕ) (view : List ℕ) (events : List ScheduleEvent) → size (run_of_schedule form peers view events) ≡ peers
+schedule_size form peers view events = run_from_size events (opening_run form peers view) ∙ length-replicate peers (opening_node (opening_mode form) view)
 
 module _ (view : List ℕ) (l : Ledger) (w : Run) (refines : Refines l w) where
   -- the node at a place
-  at_place : (place : ℕ) → place < size w → slice_get w.nodes place ≡ Some (get_or w.nodes place (opening_node view))
-  at_place place below = slice_get-get_or w.nodes place (opening_node view) below
+  at_place : (place : ℕ) → place < size w → slice_get w.nodes place ≡ Some (get_or w.nodes place (Down empty_stores))
+  at_place place below = slice_get-get_or w.nodes place (Down empty_stores) below
 
   keeps_fact : (place : ℕ) (node : Node) → NodeHolds l (suc place) node → KeepsFact node
   keeps_fact place (Up x st) holds = holds.kept
@@ -95,9 +99,9 @@ module _ (view : List ℕ) (l : Ledger) (w : Run) (refines : Refines l w) where
 
   pub is_keeping : (place : ℕ) → place < size w → IsKeeping w place
   is_keeping place below = record {
-    node = get_or w.nodes place (opening_node view);
+    node = get_or w.nodes place (Down empty_stores);
     at = at_place place below;
-    keeps = keeps_fact place (get_or w.nodes place (opening_node view)) (refines.nodes place (get_or w.nodes place (opening_node view)) (at_place place below));
+    keeps = keeps_fact place (get_or w.nodes place (Down empty_stores)) (refines.nodes place (get_or w.nodes place (Down empty_stores)) (at_place place below));
   }
 
   running : (place : ℕ) (node : Node) → slice_get w.nodes place ≡ Some node → NodeHolds l (suc place) node → IsSpared node → IsRunning w place
@@ -106,5 +110,5 @@ module _ (view : List ℕ) (l : Ledger) (w : Run) (refines : Refines l w) where
 
   pub is_running : (place : ℕ) → place < size w → ((node : Node) → slice_get w.nodes place ≡ Some node → IsSpared node) → IsRunning w place
   is_running place below up =
-      let node = get_or w.nodes place (opening_node view) in
+      let node = get_or w.nodes place (Down empty_stores) in
       running place node (at_place place below) (refines.nodes place node (at_place place below)) (up node (at_place place below))

@@ -21,16 +21,17 @@ use Rattle.peer_plan.specs.Drives.{step_of, MayCome}
 use Rattle.peer_plan.specs.Starts.{start_of}
 use Rattle.peer_state.specs.declared.event.Event.{Event}
 use Rattle.peer_state.specs.declared.event.Event.TheVariants as events
+use Rattle.peer_state.specs.declared.state.Mode.{Mode}
 use Rattle.peer_state.specs.declared.state.State.{State}
 use Rattle.register_model.specs.declared.note.Note.{Note}
 use Rattle.schedule_text.specs.Spelling.{MayStand}
 use Rattle.schedule_text.specs.declared.event.ScheduleEvent.{ScheduleEvent}
-use Rattle.schedule_text.specs.declared.event.ScheduleEvent.TheVariants.{Call, Tick, Deliver, Pass, Lose, Calm, CalmAmong, Change, Stop, Start, Spoil, Damage, Inner, Revert, Fail}
+use Rattle.schedule_text.specs.declared.event.ScheduleEvent.TheVariants.{Call, Tick, Deliver, Pass, Lose, Calm, CalmAmong, Change, Stop, Start, Upgrade, Deepen, Spoil, Damage, Inner, Revert, Fail}
 use Rattle.schedule_text.specs.declared.keyword.StoreName.{StoreName}
 use Rattle.schedule_text.specs.declared.keyword.StoreName.TheVariants as names
 use Rattle.peer_fact.specs.declared.fact.Fact.{Fact}
 use Rattle.peer_fact.specs.declared.saved.SavedFact.{SavedFact}
-use Rattle.step_plans.specs.Calls.{Call as StoreCall, AnswerOf, Load, Save, FreshTree, OpenTree, Find, Enter, ScanTree, ReadNode, Install, Fetch, Put, Hash}
+use Rattle.step_plans.specs.Calls.{Call as StoreCall, AnswerOf, Load, Save, FreshTree, OpenTree, Root, Find, Enter, ScanTree, ReadNode, Install, Fetch, Put, Hash}
 use Rattle.step_plans.specs.declared.error.PeerError.{PeerError}
 use Rattle.step_plans.specs.declared.error.PeerError.TheVariants.{StoreFault}
 use Rattle.step_plans.specs.Plans.{Plan, Done, Say, Ask, Ending, Stopped, nothing}
@@ -44,7 +45,7 @@ use Rattle.world_stores.specs.Objects.{Objects}
 use Rattle.world_spec.specs.Lines.{call_of, set_of, everyone, with_loss, with_damage, effect, counted, applied}
 use Rattle.world_spec.specs.Nodes.{Node, Up, Down, Taken, taken, taken_by, taken_of, run_over, started, stopped, over_stores, while_down}
 use Rattle.world_spec.specs.Stores.{failing, leaves_of, spoiled, segment_spoiled, inner_spoiled, taken_back}
-use Rattle.world_spec.specs.Runs.{Run, place_of, frame_from, posted_all, with_taken, stepped, stepped_at, changed, changed_at, with_start, ticked, received_if, delivered, delivered_if, going_on, calmed}
+use Rattle.world_spec.specs.Runs.{Run, mode_at, upgraded, place_of, frame_from, posted_all, with_taken, stepped, stepped_at, changed, changed_at, with_start, ticked, received_if, delivered, delivered_if, going_on, calmed}
 use Rattle.election_refinement.proofs.Keeps.{keeps_none, node_keeps, frames_keep}
 use Rattle.election_refinement.specs.Keeps.{Keeps}
 use Rattle.election_refinement.proofs.Loops.{EventHolds, Here, Rests, Good, LeavesFact, step_good, start_good}
@@ -128,6 +129,7 @@ module _ (c : Course) (before : Ledger) where
   fact_stays (Save fact) h leaves = absurd leaves
   fact_stays FreshTree h leaves = refl
   fact_stays (OpenTree seal) h leaves = refl
+  fact_stays Root h leaves = refl
   fact_stays (Find key) h leaves = refl
   fact_stays (Enter entry) h leaves = refl
   fact_stays ScanTree h leaves = refl
@@ -172,6 +174,7 @@ module _ (c : Course) (before : Ledger) where
       saved_end h.stores.facts.faults.pending fact next h ns good.0 good.1.0 (every_end (next tt) (with_facts (record h.stores.facts { kept = Some fact }) h) ns good.1.1)
   every_end (Ask FreshTree next) h ns good = asked_end FreshTree next h ns tt good.0 (λ a. every_end (next a) (answered FreshTree h).held ns (subst (Good c before (next a)) (sym (bare_stays FreshTree h tt)) (good.1 a)))
   every_end (Ask (OpenTree seal) next) h ns good = asked_end (OpenTree seal) next h ns tt good.0 (λ a. every_end (next a) (answered (OpenTree seal) h).held ns (subst (Good c before (next a)) (sym (bare_stays (OpenTree seal) h tt)) (good.1 a)))
+  every_end (Ask Root next) h ns good = asked_end Root next h ns tt good.0 (λ a. every_end (next a) (answered Root h).held ns (subst (Good c before (next a)) (sym (bare_stays Root h tt)) (good.1 a)))
   every_end (Ask (Find key) next) h ns good = asked_end (Find key) next h ns tt good.0 (λ a. every_end (next a) (answered (Find key) h).held ns (subst (Good c before (next a)) (sym (bare_stays (Find key) h tt)) (good.1 a)))
   every_end (Ask (Enter entry) next) h ns good = asked_end (Enter entry) next h ns tt good.0 (λ a. every_end (next a) (answered (Enter entry) h).held ns (subst (Good c before (next a)) (sym (bare_stays (Enter entry) h tt)) (good.1 a)))
   every_end (Ask ScanTree next) h ns good = asked_end ScanTree next h ns tt good.0 (λ a. every_end (next a) (answered ScanTree h).held ns (subst (Good c before (next a)) (sym (bare_stays ScanTree h tt)) (good.1 a)))
@@ -272,11 +275,11 @@ module _ (view : List ℕ) (steps : List Step) (spared : ℕ → Type 0) where
     taken_spared event (Down st) come spare = absurd spare
 
     -- a start from the kept fact
-    started_agrees : (opening : List ℕ) (node : Node) → NodeHolds (ledger_of w g) p node → Agrees (course p peer w g) (ledger_of w g) (silent (started opening node))
-    started_agrees opening (Up x st) holds = still (Up x st) holds
-    started_agrees opening (Down st) holds =
-        silenced (course p peer w g) (ledger_of w g) (taken_of (run_over (start_of opening) st)) (every_end (course p peer w g) (ledger_of w g) (start_of opening) (held_with st []) []
-        (start_good (course p peer w g) (ledger_of w g) opening (bare st.facts.kept) (record {
+    started_agrees : (mode : Mode) (opening : List ℕ) (node : Node) → NodeHolds (ledger_of w g) p node → Agrees (course p peer w g) (ledger_of w g) (silent (started mode opening node))
+    started_agrees mode opening (Up x st) holds = still (Up x st) holds
+    started_agrees mode opening (Down st) holds =
+        silenced (course p peer w g) (ledger_of w g) (taken_of (run_over (start_of mode opening) st)) (every_end (course p peer w g) (ledger_of w g) (start_of mode opening) (held_with st []) []
+        (start_good (course p peer w g) (ledger_of w g) mode opening (bare st.facts.kept) (record {
           ledger = ledger_of w g;
           keeps = keeps_none (ledger_of w g) p;
           reaches = begins;
@@ -402,9 +405,9 @@ module _ (view : List ℕ) (steps : List Step) (spared : ℕ → Type 0) where
         spares is_spared (Up x st) spare = (same is_spared st spare.0, spare.1)
         spares is_spared (Down st) down = absurd down
 
-    started_spared : (opening : List ℕ) (node : Node) → IsSpared node → IsSpared (started opening node)
-    started_spared opening (Up x st) none = none
-    started_spared opening (Down st) down = absurd down
+    started_spared : (mode : Mode) (opening : List ℕ) (node : Node) → IsSpared node → IsSpared (started mode opening node)
+    started_spared mode opening (Up x st) none = none
+    started_spared mode opening (Down st) down = absurd down
 
     while_spared : (f : HeldStores → HeldStores) (node : Node) → IsSpared node → IsSpared (while_down f node)
     while_spared f (Up x st) none = none
@@ -427,8 +430,10 @@ module _ (view : List ℕ) (steps : List Step) (spared : ℕ → Type 0) where
     effect_refines (Stop peer) w may spares a =
         changed_refines peer (is_peer peer may.first may.last) stopped w a (stopped_agrees peer (is_peer peer may.first may.last) w a.on) (λ is_spared node up. absurd (not_spared peer (is_peer peer may.first may.last) (spares (place_of peer) is_spared))) (stopped_own peer)
     effect_refines (Start peer) w may spares a =
-        resent (changed peer (started w.view) w) (with_start peer w) refl refl
-        (changed_refines peer (is_peer peer may.first may.last) (started w.view) w a (started_agrees peer (is_peer peer may.first may.last) w a.on w.view) (λ is_spared. started_spared w.view) (started_own peer w.view))
+        resent (changed peer (started (mode_at peer w) w.view) w) (with_start peer w) refl refl
+        (changed_refines peer (is_peer peer may.first may.last) (started (mode_at peer w) w.view) w a (started_agrees peer (is_peer peer may.first may.last) w a.on (mode_at peer w) w.view) (λ is_spared. started_spared (mode_at peer w) w.view) (started_own peer (mode_at peer w) w.view))
+    effect_refines (Upgrade peer) w may spares a = resent w (upgraded peer w) refl refl a
+    effect_refines Deepen w may spares a = a
     effect_refines (Spoil peer key bytes) w may spares a = over_refines peer (is_peer peer may.0.first may.0.last) (spoiled key bytes) (λ st. refl) (λ is_spared st none. record { facts = none.facts; tree = none.tree; backend = none.backend }) w a
     effect_refines (Damage peer key bytes) w may spares a =
         resent (changed peer (over_stores (segment_spoiled key bytes)) w) (with_damage peer key bytes w) refl refl

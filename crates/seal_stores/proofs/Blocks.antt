@@ -11,7 +11,7 @@ use Rattle.held_stores.specs.Answers.{Answered, answered, with_facts, facts_fail
 use Rattle.held_stores.specs.Held.{Held, unless_failing}
 use Rattle.peer_fact.specs.declared.fact.Fact.{Fact}
 use Rattle.step_plans.specs.Calls.{Save, Enter, Install, Put, OpenTree}
-use Rattle.step_plans.specs.Saved.{with_seal}
+use Rattle.step_plans.specs.Saved.{kept_seal, with_seal}
 use Rattle.step_plans.specs.declared.error.PeerError.{PeerError}
 use Rattle.step_plans.specs.declared.error.PeerError.TheVariants.{StoreFault}
 use Rattle.step_plans.specs.declared.walked.Walked.{Walked}
@@ -29,7 +29,7 @@ use Rattle.version_laws.proofs.Maps.{put_here}
 use Rattle.version_laws.proofs.Stays.{versions_step}
 use Rattle.world_stores.specs.Nodes.{top_of}
 use Rattle.world_stores.specs.declared.fact.HeldFact.{HeldFact}
-use Rattle.seal_stores.specs.Held.{Ranks, kept_seal, SealHolds, IsUnderSeal, RootIsSeal}
+use Rattle.seal_stores.specs.Held.{Ranks, SealHolds, IsUnderSeal, RootIsSeal}
 use Rattle.seal_stores.specs.Blocks.{Stops, Left, after_call, put_bytes, save_sealed, after_entered, go_on}
 use Rattle.seal_stores.specs.Laws.{Refines, Adds, PutsRefine, EndsRefine, Starts, StartsRefine}
 

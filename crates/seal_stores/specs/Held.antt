@@ -1,19 +1,14 @@
 -- What ties the stores in memory of a peer with a seal to the protocol.
-use Rattle.std.specs.Prelude.{◌≡◌, ℕ, false, ◌⊎◌, List, Option, None, Some}
+use Rattle.std.specs.Prelude.{◌≡◌, ℕ, false, ◌⊎◌, List, None, Some}
 use Rattle.abstract_protocol.specs.Objects.{Map, Objects, IsHonest}
 use Rattle.ens_base.specs.declared.entry.Entry.{Entry}
 use Rattle.held_stores.specs.Held.{Held, HeldStores}
-use Rattle.peer_fact.specs.declared.saved.SavedFact.{SavedFact}
+use Rattle.step_plans.specs.Saved.{kept_seal}
 use Rattle.tree_refinement.specs.Tops.{IsNamed}
 
 -- the versions of a map, each by its rank
 abbrev pub Ranks : Type 0
 Ranks = List Entry → Map
-
--- the seal that is kept with the fact, if there is one
-abbrev pub kept_seal : Option SavedFact → Option (List ℕ)
-kept_seal None = None
-kept_seal (Some saved) = saved.seal
 
 -- The seal in the saved fact of peer q names the map that it wrote last, which is the one that its
 -- tree shows in the protocol. Nothing is said of its top records and its nodes.

@@ -11,7 +11,8 @@ use Rattle.step_plans.specs.Calls.{Call, Enter, OpenTree}
 use Rattle.tree_maps.specs.Entries.{IsMap, put}
 use Rattle.tree_refinement.specs.Rooted.{Sees}
 use Rattle.tree_refinement.specs.Trees.{AreAmong, AreFree}
-use Rattle.seal_stores.specs.Held.{Ranks, kept_seal, SealHolds, IsUnderSeal, RootIsSeal}
+use Rattle.step_plans.specs.Saved.{kept_seal}
+use Rattle.seal_stores.specs.Held.{Ranks, SealHolds, IsUnderSeal, RootIsSeal}
 use Rattle.seal_stores.specs.Blocks.{Ending, GoesOn, Damaged, Stops, Left, put_block, end_block}
 
 -- where the block goes on, the root is the seal

@@ -26,7 +26,7 @@ use Rattle.leading.specs.Leaders.{is_spent, next_version, with_task}
 use Rattle.leading.specs.Puts.{row_31, row_32, row_35, written_for, rewritten, proposed}
 use Rattle.leading.specs.Rounds.{row_29, asked_for}
 use Rattle.leading.specs.Rules.{lead_row}
-use Rattle.leading.specs.Steps.{Runs}
+use Rattle.leading_laws.specs.Steps.{Runs}
 use Rattle.leading.specs.Ticks.{left_answer}
 use Rattle.leading.specs.declared.leader.Leader.{Leader}
 use Rattle.leading.specs.declared.pending.Pending.{Pending}

@@ -25,7 +25,7 @@ use Rattle.probe.specs.Probing.{row_7}
 use Rattle.probe.specs.declared.probing.Probing.{Probing}
 use Rattle.running_sync.specs.Running.{Running}
 use Rattle.sync_laws.specs.Facts.{Lines}
-use Rattle.sync_refinement.specs.Syncs.{SyncMaySay}
+use Rattle.step_refinement.specs.Peers.{SyncFits}
 use Rattle.view_change.specs.Changes.{may_change}
 use Rattle.wire_frames.specs.declared.message.Message.{Message}
 use Rattle.wire_frames.specs.declared.message.Message.TheVariants as messages
@@ -116,38 +116,43 @@ settled_seal me row y = turned_seal row.then (saved_in row.save (left row.leave 
 -- ## The sync
 
 -- a running sync says what it said after the peer saved another fact on which it may run
-sync_resaved : (lines : Lines) (s : Protocol) (strings : List (List ℕ)) (l : Ledger) (p : ℕ) (old new : Fact) (trusted : Bool) (m : List Entry) (waiting : Bool) (sync : Option Running) → SyncHolds l p new waiting sync → SyncMaySay lines s strings p old trusted m sync → SyncMaySay lines s strings p new trusted m sync
-sync_resaved lines s strings l p old new trusted m waiting None holds says = tt
-sync_resaved lines s strings l p old new trusted m waiting (Some r) holds says = record {
-  me = says.me;
-  trust = says.trust;
-  view = says.view;
-  scan = says.scan;
-  hashed = says.hashed;
-  distinct = says.distinct;
-  others = says.others;
-  sources = says.sources;
-  received = says.received;
-  holds = record {
-    first = says.holds.first;
-    stands = ap epoch_number holds.may.promised;
-    newer = holds.may.newer;
-    found = says.holds.found;
-    scanned = says.holds.scanned;
-    whole = says.holds.whole;
-    asks = says.holds.asks;
-  };
-}
+sync_resaved : (lines : Lines) (s : Protocol) (strings : List (List ℕ)) (l : Ledger) (p : ℕ) (old new : Fact) (trusted : Bool) (m : List Entry) (root : Option (List ℕ)) (waiting : Bool) (sync : Option Running) → SyncHolds l p new waiting sync
+    → SyncFits lines s strings p old trusted m root sync → SyncFits lines s strings p new trusted m root sync
+sync_resaved lines s strings l p old new trusted m root waiting None holds fits = tt
+sync_resaved lines s strings l p old new trusted m root waiting (Some r) holds fits = let says = fits.0 in (
+  record {
+    me = says.me;
+    trust = says.trust;
+    view = says.view;
+    scan = says.scan;
+    hashed = says.hashed;
+    distinct = says.distinct;
+    others = says.others;
+    sources = says.sources;
+    received = says.received;
+    holds = record {
+      first = says.holds.first;
+      stands = ap epoch_number holds.may.promised;
+      newer = holds.may.newer;
+      found = says.holds.found;
+      scanned = says.holds.scanned;
+      whole = says.holds.whole;
+      asks = says.holds.asks;
+    };
+  },
+  fits.1,
+)
 
 -- so does the sync of a peer whose trust stays, if it runs on
-pub sync_spared : (lines : Lines) (s : Protocol) (strings : List (List ℕ)) (l : Ledger) (p : ℕ) (m : List Entry) (waiting : Bool) (x y : State) → Spares x y → SyncHolds l p y.fact waiting y.sync → SyncMaySay lines s strings p x.fact x.trusted m x.sync → SyncMaySay lines s strings p y.fact y.trusted m y.sync
-sync_spared lines s strings l p m waiting x y spares holds says = by_sync spares.sync
+pub sync_spared : (lines : Lines) (s : Protocol) (strings : List (List ℕ)) (l : Ledger) (p : ℕ) (m : List Entry) (root : Option (List ℕ)) (waiting : Bool) (x y : State) → Spares x y → SyncHolds l p y.fact waiting y.sync
+    → SyncFits lines s strings p x.fact x.trusted m root x.sync → SyncFits lines s strings p y.fact y.trusted m root y.sync
+sync_spared lines s strings l p m root waiting x y spares holds says = by_sync spares.sync
   where
-    by_sync : (y.sync ≡ x.sync) ⊎ (y.sync ≡ None) → SyncMaySay lines s strings p y.fact y.trusted m y.sync
+    by_sync : (y.sync ≡ x.sync) ⊎ (y.sync ≡ None) → SyncFits lines s strings p y.fact y.trusted m root y.sync
     by_sync (inl same) =
-        sync_resaved lines s strings l p x.fact y.fact y.trusted m waiting y.sync holds
-        (subst (λ (sync : Option Running). SyncMaySay lines s strings p x.fact y.trusted m sync) (sym same) (subst (λ (trusted : Bool). SyncMaySay lines s strings p x.fact trusted m x.sync) (sym spares.trusted) says))
-    by_sync (inr ended) = subst (λ (sync : Option Running). SyncMaySay lines s strings p y.fact y.trusted m sync) (sym ended) tt
+        sync_resaved lines s strings l p x.fact y.fact y.trusted m root waiting y.sync holds
+        (subst (λ (sync : Option Running). SyncFits lines s strings p x.fact y.trusted m root sync) (sym same) (subst (λ (trusted : Bool). SyncFits lines s strings p x.fact trusted m root x.sync) (sym spares.trusted) says))
+    by_sync (inr ended) = subst (λ (sync : Option Running). SyncFits lines s strings p y.fact y.trusted m root sync) (sym ended) tt
 
 -- ## The rows
 

@@ -29,7 +29,7 @@ use Rattle.leader_refinement.specs.Seen.{rank, content_of, owed_after}
 use Rattle.leader_words.specs.Outs.{rests, and_own, and_note}
 use Rattle.leader_words.specs.declared.out.LeadOut.{LeadOut}
 use Rattle.leader_words.specs.declared.out.Own.TheVariants as owns
-use Rattle.leading.proofs.Steps.{lead_step}
+use Rattle.leading_laws.proofs.Steps.{lead_step}
 use Rattle.leading.specs.Rules.{lead_row}
 use Rattle.leading.specs.declared.leader.Leader.{Leader}
 use Rattle.leading.specs.declared.pending.Pending.{Pending}
@@ -182,24 +182,24 @@ module _ (c : Scene) (grounds : Grounds c) where
     task_then : TaskFits (happens s (Write p (rank o.version))) key (phases.Leading l)
     task_then = subst (λ q. TaskFits (happens s (Write q (rank o.version))) key (phases.Leading l)) (own_peer c l x here) goes_in.work.task
 
-    -- the version has gone into the tree
-    abbrev there : (t : Held) → Stored c here o t → Here c key (leading l x) t out notes
-    there t stored = write_here c here o (epoch_number l.leader.fact.epoch) store t stored task_then
+    -- the version is written, and the peer may have another seal
+    abbrev there : (seal : Option (List ℕ)) (t : Held) → Stored c here o seal t → Here c key (leading l (record x { seal = seal })) t out notes
+    there seal t stored = write_here c here o (epoch_number l.leader.fact.epoch) store seal t stored task_then
 
-    hashed : (t : Held) → (stored : Stored c here o t) → digest ≡ here.reached.ghosts.hash o.version key o.stamp o.value
-    hashed t stored = subst (λ (f : Hash). digest ≡ f o.version key o.stamp o.value) (sym here.reached.hash) (ap (λ k. hash_of o.version k o.stamp o.value) on_key)
+    hashed : digest ≡ here.reached.ghosts.hash o.version key o.stamp o.value
+    hashed = subst (λ (f : Hash). digest ≡ f o.version key o.stamp o.value) (sym here.reached.hash) (ap (λ k. hash_of o.version k o.stamp o.value) on_key)
 
     shown : (happens s (Write p (rank o.version))).objects.visible l.leader.me key ≡ rank o.version
     shown = subst (λ q. (happens s (Write q (rank o.version))).objects.visible l.leader.me key ≡ rank o.version) (own_peer c l x here) goes_in.shows
 
-    stored_half : (t : Held) → Stored c here o t → Half c key_rules.Put key (seens.Stored digest) ts (leading l x) t out notes
-    stored_half t stored = let now_there = there t stored in record {
+    stored_half : (seal : Option (List ℕ)) (t : Held) → Stored c here o seal t → Half c key_rules.Put key (seens.Stored digest) ts (leading l (record x { seal = seal })) t out notes
+    stored_half seal t stored = let y : PeerState = record x { seal = seal } in let now_there = there seal t stored in record {
       before = l;
       leader = l.leader;
       is = refl;
       here = now_there;
-      goes = run_stored view now_there.reached.steps now_there.reached.run now_there.reached.ghosts key owes l.leader o parent call (seens.Stored digest) (at_work c l x now_there) task (own_ballot c l x now_there) (own_trust c l x now_there) (own_accepted c l x now_there)
-          (hashed t stored, shown);
+      goes = run_stored view now_there.reached.steps now_there.reached.run now_there.reached.ghosts key owes l.leader o parent call (seens.Stored digest) (at_work c l y now_there) task (own_ballot c l y now_there) (own_trust c l y now_there) (own_accepted c l y now_there)
+          (hashed, shown);
       way = inl (tame_35 o parent call digest key l.leader task obeys);
       apart = apart;
       idle = idle;
@@ -222,10 +222,11 @@ module _ (c : Scene) (grounds : Grounds c) where
     put_ends : (next mark : Rest PeerState (List Task)) → Onward c (There c ts) next mark
         → Ends c (written o (leading l x) out (λ seen z q. next (tasks.Again key_rules.Put o.key seen ∷ []) z q)) (written o (leading l x) out (λ seen z q. mark (tasks.Again key_rules.Put o.key seen ∷ []) z q)) h notes
     put_ends next mark go = written_ends c here few o (epoch_number l.leader.fact.epoch) store (λ seen z q. next (tasks.Again key_rules.Put o.key seen ∷ []) z q) (λ seen z q. mark (tasks.Again key_rules.Put o.key seen ∷ []) z q)
-        (λ t stored. goes_again (seens.Stored digest) t (stored_half t stored)) (λ at t over. goes_again (seens.Damaged at) t (damaged_half at t over))
+        (λ seal t stored. goes_again (seens.Stored digest) (record x { seal = seal }) t (stored_half seal t stored)) (λ at t over. goes_again (seens.Damaged at) x t (damaged_half at t over))
       where
-        goes_again : (seen : Seen) (t : Held) → Half c key_rules.Put key seen ts (leading l x) t out notes → Ends c (next (tasks.Again key_rules.Put o.key seen ∷ []) (leading l x) out) (mark (tasks.Again key_rules.Put o.key seen ∷ []) (leading l x) out) t notes
-        goes_again seen t half = go (tasks.Again key_rules.Put o.key seen ∷ []) key (leading l x) t out notes (inr (subst (λ k. Half c key_rules.Put k seen ts (leading l x) t out notes) (sym on_key) half))
+        goes_again : (seen : Seen) (y : PeerState) (t : Held) → Half c key_rules.Put key seen ts (leading l y) t out notes
+            → Ends c (next (tasks.Again key_rules.Put o.key seen ∷ []) (leading l y) out) (mark (tasks.Again key_rules.Put o.key seen ∷ []) (leading l y) out) t notes
+        goes_again seen y t half = go (tasks.Again key_rules.Put o.key seen ∷ []) key (leading l y) t out notes (inr (subst (λ k. Half c key_rules.Put k seen ts (leading l y) t out notes) (sym on_key) half))
 
   -- ## A task at hand
 

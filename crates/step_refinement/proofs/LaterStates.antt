@@ -19,11 +19,10 @@ use Rattle.request_refinement.specs.Naming.{EntryMaySay}
 use Rattle.running_sync.specs.Running.{Running}
 use Rattle.sync_laws.specs.Facts.{Lines}
 use Rattle.sync_refinement.proofs.Staying.{stays, version_stays, entry_stays}
-use Rattle.sync_refinement.specs.Syncs.{SyncMaySay}
 use Rattle.wire_frames.specs.declared.frame.Frame.{Frame}
 use Rattle.wire_frames.specs.declared.message.Message.{Message}
 use Rattle.wire_frames.specs.declared.message.Message.TheVariants as messages
-use Rattle.step_refinement.specs.Peers.{AcksSay, PhaseFits, MessageFits, SendFits, FrameFits}
+use Rattle.step_refinement.specs.Peers.{AcksSay, PhaseFits, MessageFits, SendFits, FrameFits, SyncFits}
 
 -- ## Messages
 
@@ -49,9 +48,10 @@ module _ (s t : State) (strings : List (List ℕ)) (stay : EntriesStay s t) wher
 -- ## Peers
 
 -- a running sync says what it said
-pub sync_stays : (lines : Lines) (s t : State) (strings : List (List ℕ)) (p : ℕ) (fact : Fact) (trusted : Bool) (m : List Entry) (sync : Option Running) → EntriesStay s t → s.objects.ledger.ballot p ≡ epoch_number fact.ballot → SyncMaySay lines s strings p fact trusted m sync → SyncMaySay lines t strings p fact trusted m sync
-sync_stays lines s t strings p fact trusted m None stay stands says = tt
-sync_stays lines s t strings p fact trusted m (Some r) stay stands says = (stays lines s t stay).syncs strings p fact trusted m r stands says
+pub sync_stays : (lines : Lines) (s t : State) (strings : List (List ℕ)) (p : ℕ) (fact : Fact) (trusted : Bool) (m : List Entry) (root : Option (List ℕ)) (sync : Option Running) → EntriesStay s t → s.objects.ledger.ballot p ≡ epoch_number fact.ballot
+    → SyncFits lines s strings p fact trusted m root sync → SyncFits lines t strings p fact trusted m root sync
+sync_stays lines s t strings p fact trusted m root None stay stands says = tt
+sync_stays lines s t strings p fact trusted m root (Some r) stay stands says = ((stays lines s t stay).syncs strings p fact trusted m r stands says.0, says.1)
 
 -- what fits of a leader stays so
 pub phase_stays : (hash : Hash) (s t : State) (q : ℕ) (fact : Fact) (phase : Phase) → EntriesStay s t → ((d : ℕ) → s.objects.ledger.elected d ≡ true → t.objects.ledger.views d ≡ s.objects.ledger.views d) → PhaseHolds s.objects.ledger q fact phase

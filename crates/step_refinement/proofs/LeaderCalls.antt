@@ -172,7 +172,8 @@ module _ (c : Scene) (call : CallIn) (few : length (state_after c.view (Ask (ask
     listed = old.standing.listed;
     trust = old.standing.trust;
     tree = tree_stays s t strings p x.seal h called_later refl refl (λ blind. blind) old.standing.tree;
-    sync = sync_stays lines s t strings p x.fact x.trusted old.standing.tree.last.map x.sync called_later old.standing.peer.saved.ballot old.standing.sync;
+    seal = old.standing.seal;
+    sync = sync_stays lines s t strings p x.fact x.trusted old.standing.tree.last.map h.stores.tree.top x.sync called_later old.standing.peer.saved.ballot old.standing.sync;
     noted = sym (append-nil t.book.notes);
     sends = All-nil (SendHolds t.objects.ledger p);
     listed_sends = All-nil (λ (o : Outgoing). IsListedMessage lines.voting o.message);
@@ -197,6 +198,7 @@ module _ (c : Scene) (call : CallIn) (few : length (state_after c.view (Ask (ask
     listed = now_stands.listed;
     trust = now_stands.trust;
     tree = now_stands.tree;
+    seal = now_stands.seal;
     sync = now_stands.sync;
     noted = now_stands.noted;
     sends = now_stands.sends;

@@ -19,11 +19,11 @@ use Rattle.leader_words.specs.Outs.{rests, and_own, and_note}
 use Rattle.leader_words.specs.declared.out.LeadOut.{LeadOut}
 use Rattle.leader_words.specs.declared.out.Own.TheVariants as owns
 use Rattle.leading.specs.Rules.{lead_row}
-use Rattle.leading.specs.Steps.{Fits, IsReady, KeepsOthers, Runs}
+use Rattle.leading_laws.specs.Steps.{Fits, IsReady, KeepsOthers, Runs}
 use Rattle.leading.specs.declared.leader.Leader.{Leader}
 use Rattle.leading.specs.declared.pending.Pending.{Pending}
 use Rattle.leading.specs.declared.pending.Pending.TheVariants as pendings
-use Rattle.leading.proofs.Moves.{no_task}
+use Rattle.leading_laws.proofs.Moves.{no_task}
 use Rattle.peer_state.specs.Moves.{leading, with_leader}
 use Rattle.peer_state.specs.declared.state.Leadership.{Leadership}
 use Rattle.peer_state.specs.declared.state.Phase.{Phase}

@@ -224,6 +224,7 @@ module _ (c : Scene) where
     listed = record { fact = here.listed.fact; phase = record { fact = here.listed.phase.fact; wish = (listed_calls here.listed.phase x.fact).wish; sees = here.listed.phase.sees }; sync = here.listed.sync };
     trust = here.trust;
     tree = here.tree;
+    seal = here.seal;
     sync = here.sync;
     fits = here.fits;
     task = here.task;

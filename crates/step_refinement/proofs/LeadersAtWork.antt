@@ -50,7 +50,6 @@ use Rattle.running_sync.specs.Running.{Running}
 use Rattle.step_plans.specs.Plans.{Out}
 use Rattle.step_plans.specs.Saved.{bare}
 use Rattle.sync_refinement.proofs.Gives.{trusted_maps}
-use Rattle.sync_refinement.specs.Syncs.{SyncMaySay}
 use Rattle.version_laws.proofs.Maps.{put_here}
 use Rattle.step_refinement.specs.Scenes.{Scene, state_before, Elsewhere, now, Here, AtRest}
 use Rattle.step_refinement.proofs.Stretches.{role_here, role_replaced, role_once, owed_both, elsewhere_then}
@@ -58,7 +57,7 @@ use Rattle.step_refinement.proofs.SentMessages.{says_more}
 use Rattle.step_refinement.proofs.LeaderMessages.{AskFits, AcksShow, asks_say, call_holds, call_listed, call_fits, acks_later}
 use Rattle.step_refinement.proofs.LaterStates.{sync_stays, sends_stay}
 use Rattle.step_refinement.proofs.ShownMaps.{tree_stays}
-use Rattle.step_refinement.specs.Peers.{TreeHolds, AcksSay, PhaseFits, TaskFits, IsAtRest, SendFits}
+use Rattle.step_refinement.specs.Peers.{TreeHolds, SealFits, AcksSay, PhaseFits, TaskFits, IsAtRest, SendFits, SyncFits}
 use Rattle.step_refinement.specs.Roles.{role_in, said_in_sends}
 
 -- ## A leader of the epoch
@@ -91,7 +90,8 @@ module _ (c : Scene) where
     pub listed : IsListedPeer lines.voting p x
     pub trust : t.objects.trusted p ≡ x.trusted
     pub tree : TreeHolds t strings p x.seal h
-    pub sync : SyncMaySay lines t strings p x.fact x.trusted tree.last.map x.sync
+    pub seal : SealFits lines x.seal
+    pub sync : SyncFits lines t strings p x.fact x.trusted tree.last.map h.stores.tree.top x.sync
     pub noted : t.book.notes ≡ (state_before c).book.notes ++ notes
     pub sends : All (SendHolds t.objects.ledger p) out.sends
     pub listed_sends : All (λ (o : Outgoing). IsListedMessage lines.voting o.message) out.sends
@@ -115,6 +115,7 @@ module _ (c : Scene) where
     listed = here.listed;
     trust = here.trust;
     tree = here.tree;
+    seal = here.seal;
     sync = here.sync;
     noted = here.noted;
     sends = here.sends;
@@ -131,6 +132,7 @@ module _ (c : Scene) where
     listed = standing.listed;
     trust = standing.trust;
     tree = standing.tree;
+    seal = standing.seal;
     sync = standing.sync;
     fits = there.fits;
     task = there.task;
@@ -212,7 +214,8 @@ module _ (c : Scene) where
       listed = new_listed;
       trust = ap (λ (t : ℕ → Bool). t p) kept.trusted ∙ old.trust;
       tree = tree_stays s later strings p x.seal h (stay_after s steps may) (ap (λ (m : ℕ → Map). m p) kept.visible) (ap (λ (m : ℕ → Map). m p) kept.map) (λ blind. ap (λ (t : ℕ → Bool). t p) kept.trusted ∙ blind) old.tree;
-      sync = sync_stays lines s later strings p x.fact x.trusted old.tree.last.map x.sync (stay_after s steps may) old.peer.saved.ballot old.sync;
+      seal = old.seal;
+      sync = sync_stays lines s later strings p x.fact x.trusted old.tree.last.map h.stores.tree.top x.sync (stay_after s steps may) old.peer.saved.ballot old.sync;
       noted = told_notes ∙ ap (λ ns. ns ++ r.1.notes) old.noted ∙ append_assoc (state_before c).book.notes notes r.1.notes;
       sends = new_sends asks;
       listed_sends = new_listed_sends asks;
@@ -299,6 +302,7 @@ module _ (c : Scene) where
       listed = here.listed;
       trust = here.trust;
       tree = here.tree;
+      seal = here.seal;
       sync = here.sync;
       fits = here.fits;
       task = work.task;
@@ -336,6 +340,7 @@ module _ (c : Scene) where
       listed = record { fact = here.listed.fact; phase = tt; sync = here.listed.sync };
       trust = here.trust;
       tree = here.tree;
+      seal = here.seal;
       sync = here.sync;
       fits = tt;
       task = tt;
@@ -362,9 +367,9 @@ module _ (c : Scene) where
 
   rekeyed_phase : (key k : List ℕ) (x : PeerState) (h : Held) (out : Out) (notes : List Note) (phase : Phase) → Here c key (record x { phase = phase }) h out notes → IsAtRest phase → Here c k (record x { phase = phase }) h out notes
   rekeyed_phase key k x h out notes (phases.Leading l) here free = rekeyed_leader l x here k free
-  rekeyed_phase key k x h out notes (phases.Following f) here free = record { reached = here.reached; roles = here.roles; peer = here.peer; listed = here.listed; trust = here.trust; tree = here.tree; sync = here.sync; fits = tt; task = tt; noted = here.noted; sends = here.sends; listed_sends = here.listed_sends; fits_sends = here.fits_sends }
-  rekeyed_phase key k x h out notes (phases.Probing b) here free = record { reached = here.reached; roles = here.roles; peer = here.peer; listed = here.listed; trust = here.trust; tree = here.tree; sync = here.sync; fits = tt; task = tt; noted = here.noted; sends = here.sends; listed_sends = here.listed_sends; fits_sends = here.fits_sends }
-  rekeyed_phase key k x h out notes (phases.Electing e) here free = record { reached = here.reached; roles = here.roles; peer = here.peer; listed = here.listed; trust = here.trust; tree = here.tree; sync = here.sync; fits = tt; task = tt; noted = here.noted; sends = here.sends; listed_sends = here.listed_sends; fits_sends = here.fits_sends }
+  rekeyed_phase key k x h out notes (phases.Following f) here free = record { reached = here.reached; roles = here.roles; peer = here.peer; listed = here.listed; trust = here.trust; tree = here.tree; seal = here.seal; sync = here.sync; fits = tt; task = tt; noted = here.noted; sends = here.sends; listed_sends = here.listed_sends; fits_sends = here.fits_sends }
+  rekeyed_phase key k x h out notes (phases.Probing b) here free = record { reached = here.reached; roles = here.roles; peer = here.peer; listed = here.listed; trust = here.trust; tree = here.tree; seal = here.seal; sync = here.sync; fits = tt; task = tt; noted = here.noted; sends = here.sends; listed_sends = here.listed_sends; fits_sends = here.fits_sends }
+  rekeyed_phase key k x h out notes (phases.Electing e) here free = record { reached = here.reached; roles = here.roles; peer = here.peer; listed = here.listed; trust = here.trust; tree = here.tree; seal = here.seal; sync = here.sync; fits = tt; task = tt; noted = here.noted; sends = here.sends; listed_sends = here.listed_sends; fits_sends = here.fits_sends }
 
   -- without a task at hand the key says nothing
   pub rekeyed : (key k : List ℕ) (x : PeerState) (h : Held) (out : Out) (notes : List Note) → AtRest c key x h out notes → AtRest c k x h out notes

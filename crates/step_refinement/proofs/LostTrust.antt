@@ -25,7 +25,6 @@ use Rattle.running_sync.specs.Running.{Running}
 use Rattle.step_plans.specs.Plans.{Out}
 use Rattle.step_plans.specs.Saved.{bare}
 use Rattle.sync_refinement.proofs.Staying.{version_stays}
-use Rattle.sync_refinement.specs.Syncs.{SyncMaySay}
 use Rattle.version_laws.proofs.Maps.{put_here, put_other}
 use Rattle.phase_rows.specs.declared.phase.Then.TheVariants as thens
 use Rattle.step_refinement.proofs.CallByCall.{rest_task}
@@ -34,7 +33,7 @@ use Rattle.step_refinement.proofs.Stretches.{elsewhere_then, owed_both, role_her
 use Rattle.step_refinement.proofs.LaterStates.{phase_stays, sends_stay}
 use Rattle.step_refinement.proofs.ShownMaps.{tree_stays}
 use Rattle.step_refinement.proofs.PhaseRoles.{part_stands, PhaseStands, untrusted_stands}
-use Rattle.step_refinement.specs.Peers.{TreeHolds, PhaseFits, IsAtRest, SendFits}
+use Rattle.step_refinement.specs.Peers.{TreeHolds, SealFits, PhaseFits, IsAtRest, SendFits, SyncFits}
 use Rattle.step_refinement.specs.Roles.{role_in, said_in_sends}
 
 -- the step leaves all others as they were
@@ -75,6 +74,7 @@ module _ (c : Scene) where
     pub peer : PeerHolds (now c reached).objects.ledger p x (bare h.stores.facts.kept)
     pub listed : IsListedPeer lines.voting p x
     pub tree : TreeHolds (now c reached) strings p x.seal h
+    pub seal : SealFits lines x.seal
     pub fits : PhaseFits reached.ghosts.hash (now c reached) x.phase
     pub rests : IsAtRest x.phase
     pub noted : (now c reached).book.notes ≡ (state_before c).book.notes ++ notes
@@ -103,7 +103,8 @@ module _ (c : Scene) where
         listed = near.listed;
         trust = put_here s.objects.trusted p false ∙ sym blind;
         tree = tree_stays s u strings p x.seal h stay refl refl (λ is. put_here s.objects.trusted p false) near.tree;
-        sync = subst (λ (sync : Option Running). SyncMaySay lines u strings p x.fact x.trusted near.tree.last.map sync) (sym none) tt;
+        seal = near.seal;
+        sync = subst (λ (sync : Option Running). SyncFits lines u strings p x.fact x.trusted near.tree.last.map h.stores.tree.top sync) (sym none) tt;
         fits = phase_stays near.reached.ghosts.hash s u p x.fact x.phase stay (λ d elected. refl) near.peer.phase near.fits;
         task = rest_task u key x.phase near.rests;
         noted = near.noted;
@@ -134,6 +135,7 @@ module _ (c : Scene) where
       peer = (turned_fits thens.Untrust x tt (here view r.steps p c.is_peer r.run r.orderly at.0.peer)).peer;
       listed = listed_untrusted at.0.listed;
       tree = at.0.tree;
+      seal = at.0.seal;
       fits = stands.fits;
       rests = stands.rests;
       noted = at.0.noted;

@@ -40,7 +40,6 @@ use Rattle.step_plans.specs.Tasks.{named}
 use Rattle.step_plans.specs.declared.error.PeerError.TheVariants.{StoreFault}
 use Rattle.step_plans.specs.declared.tasks.Task.{Task}
 use Rattle.step_plans.specs.Saved.{with_seal, bare}
-use Rattle.sync_refinement.specs.Syncs.{SyncMaySay}
 use Rattle.sync_rule.specs.Syncs.{outcome_of}
 use Rattle.sync_rule.specs.declared.sync.Outcome.{Outcome}
 use Rattle.sync_rule.specs.declared.sync.Outcome.TheVariants.{Pending, Trusted}
@@ -67,7 +66,7 @@ use Rattle.step_refinement.proofs.SyncSteps.{begun_good, resumed_good}
 use Rattle.step_refinement.proofs.LeaderTasks.{PhasesNext}
 use Rattle.step_refinement.proofs.ShownMaps.{tree_saved, tree_under}
 use Rattle.step_refinement.proofs.PhaseRoles.{part_stands, PartStands, PhaseStands, turn_stands, left_stands, left_begun, turned_stands}
-use Rattle.step_refinement.specs.Peers.{TreeHolds, MessageFits, SendFits}
+use Rattle.step_refinement.specs.Peers.{TreeHolds, SealFits, MessageFits, SendFits, SyncFits}
 use Rattle.step_refinement.specs.Roles.{role_in, said_in_sends}
 use Rattle.election_refinement.proofs.Loops.{answers_send_nothing}
 
@@ -90,6 +89,11 @@ tree_after s strings q seal (Some fact) h tree = tree_saved s strings q seal fac
 map_after : (s : State) (strings : List (List ℕ)) (q : ℕ) (seal : Option (List ℕ)) (save : Option Fact) (h : Held) (tree : TreeHolds s strings q seal h) → tree.last.map ≡ (tree_after s strings q seal save h tree).last.map
 map_after s strings q seal None h tree = refl
 map_after s strings q seal (Some fact) h tree = refl
+
+-- and has the same root
+root_after : (seal : Option (List ℕ)) (save : Option Fact) (h : Held) → h.stores.tree.top ≡ (held_after seal save h).stores.tree.top
+root_after seal None h = refl
+root_after seal (Some fact) h = refl
 
 -- the stores keep the same fact and the same top records
 record IsOver (h t : Held) : Type 0 where
@@ -307,6 +311,7 @@ module _ (c : Scene) where
       peer = peer_there;
       listed = good.listed.peer;
       tree = tree_then;
+      seal = subst (SealFits lines) (sym (settled_seal p row.1 row.0 ∙ seal_same)) at.0.seal;
       fits = stands.fits;
       rests = stands.rests;
       noted = (spared_there view es steps kinds).notes ∙ at.0.noted;
@@ -316,10 +321,10 @@ module _ (c : Scene) where
     }
 
     -- a sync that runs on says what it said
-    sync_there : Spares x end → SyncMaySay lines t strings p end.fact end.trusted tree.last.map end.sync
+    sync_there : Spares x end → SyncFits lines t strings p end.fact end.trusted tree.last.map h.stores.tree.top end.sync
     sync_there spares =
-        sync_spared lines t strings t.objects.ledger p tree.last.map (may_wait end.phase) x end spares peer_there.sync
-        (sync_stays lines (now c at.0.reached) t strings p x.fact x.trusted at.0.tree.last.map x.sync (entries_there view es steps good.goes.run) at.0.peer.saved.ballot at.0.sync)
+        sync_spared lines t strings t.objects.ledger p tree.last.map h.stores.tree.top (may_wait end.phase) x end spares peer_there.sync
+        (sync_stays lines (now c at.0.reached) t strings p x.fact x.trusted at.0.tree.last.map h.stores.tree.top x.sync (entries_there view es steps good.goes.run) at.0.peer.saved.ballot at.0.sync)
 
     -- the peer agrees with the run at the end of the row
     row_there : RowEnds key end (held_after seal row.1.save h) (out_after row.1 row.0 out) notes t.objects.ledger
@@ -336,7 +341,9 @@ module _ (c : Scene) where
               listed = nearly.listed;
               trust = ap (λ (f : ℕ → Bool). f p) (spared_there view es steps kinds).trusted ∙ (at.0.trust ∙ sym spares.trusted);
               tree = tree_then;
-              sync = subst (λ (m : List Entry). SyncMaySay lines t strings p end.fact end.trusted m end.sync) (map_after t strings p seal row.1.save h tree) (sync_there spares);
+              seal = nearly.seal;
+              sync = subst (λ (root : Option (List ℕ)). SyncFits lines t strings p end.fact end.trusted tree_then.last.map root end.sync) (root_after seal row.1.save h)
+                  (subst (λ (m : List Entry). SyncFits lines t strings p end.fact end.trusted m h.stores.tree.top end.sync) (map_after t strings p seal row.1.save h tree) (sync_there spares));
               fits = nearly.fits;
               task = rest_task t key end.phase nearly.rests;
               noted = nearly.noted;

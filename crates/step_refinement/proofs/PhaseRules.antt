@@ -130,6 +130,7 @@ module _ (c : Scene) where
         listed = listed_leading reminders.0.listed wants (listed_reminded listed);
         trust = reminders.0.trust;
         tree = reminders.0.tree;
+        seal = reminders.0.seal;
         sync = reminders.0.sync;
         fits = subst (PhaseFits reminders.0.reached.ghosts.hash (now c reminders.0.reached)) is reminders.0.fits;
         task = rest_task (now c reminders.0.reached) key (phases.Leading wants) (subst IsAtRest is at.1);
@@ -226,6 +227,7 @@ module _ (c : Scene) where
       listed = at.0.listed;
       trust = at.0.trust;
       tree = at.0.tree;
+      seal = at.0.seal;
       sync = at.0.sync;
       fits = at.0.fits;
       task = at.0.task;

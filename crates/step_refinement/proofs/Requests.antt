@@ -243,10 +243,14 @@ module _ (c : Scene) where
 
   module _ {key : List ℕ} {x : PeerState} {h : Held} {out : Out} {notes : List Note} (here : Here c key x h out notes) (rest : IsAtRest x.phase) (next mark : Rest PeerState (List Task))
       (go : (y : PeerState) (t : Held) (o : Out) → AtRest c key y t o notes → Ends c (next [] y o) (mark [] y o) t notes) where
-    -- the peer, whatever was read, replies what holds
+    -- the peer, in any state at rest, replies what holds
+    replied_ends : (y : PeerState) → IsAtRest y.phase → (t : Held) (there : Here c key y t out notes) (row : PhaseOut) → IsReply row → MayReply there.reached.ghosts (now c there.reached) strings p row.message → Ends c (row_done p row y out next) (row_done p row y out mark) t notes
+    replied_ends y rests t there row reply says = row_ends row y t out notes next mark reply
+        (go y t (and_sends out (posted_to row.to row.message)) (tells_here there (posted_to row.to row.message) (replies_tell there.reached.ghosts (now c there.reached) row.to row.message says), rests))
+
+    -- and whatever was read
     reply_ends : (t : Held) (there : Here c key x t out notes) (row : PhaseOut) → IsReply row → MayReply there.reached.ghosts (now c there.reached) strings p row.message → Ends c (row_done p row x out next) (row_done p row x out mark) t notes
-    reply_ends t there row reply says = row_ends row x t out notes next mark reply
-        (go x t (and_sends out (posted_to row.to row.message)) (tells_here there (posted_to row.to row.message) (replies_tell there.reached.ghosts (now c there.reached) row.to row.message says), rest))
+    reply_ends t there row reply says = replied_ends x rest t there row reply says
 
     -- the peer reports damage, and no longer trusts its tree
     report_ends : (t : Held) (there : Here c key x t out notes) (from : ℕ) (ballot : Epoch) (at : Position)
@@ -344,7 +348,7 @@ module _ (c : Scene) where
       write_ends : (row : PhaseOut) (t : Held) → Over c here t → IsReady c x → PutComes from ballot o → TakesVersion here.reached.ghosts (now c here.reached) strings p here.tree.last.map from ballot o row
           → Ends c (put_done row.then p from ballot o row x out next) (put_done row.then p from ballot o row x out mark) t notes
       write_ends row t over able comes takes = subst (λ (turn : Then). Ends c (put_done turn p from ballot o row x out next) (put_done turn p from ballot o row x out mark) t notes) (sym (ap (λ (r : PhaseOut). r.then) takes.is))
-          (written_ends c there few o (epoch_number ballot) store (replied next) (replied mark) (λ u stored. reply_ends u (acknowledged u stored) row (subst IsReply (sym takes.is) (acknowledges_replies from ballot o)) takes.says)
+          (written_ends c there few o (epoch_number ballot) store (replied next) (replied mark) (λ seal u stored. replied_ends (record x { seal = seal }) rest u (acknowledged seal u stored) row (subst IsReply (sym takes.is) (acknowledges_replies from ballot o)) takes.says)
           (λ at u damaged. report_ends u (over_here c there u damaged) from ballot at))
         where
           replied : Rest PeerState (List Task) → Rest PeerState Seen
@@ -356,11 +360,11 @@ module _ (c : Scene) where
           store : MayStore c there o (epoch_number ballot)
           store = record { ready = able; may = takes.may.0; says = comes.says; obeys = comes.obeys }
 
-          written : (u : Held) → Stored c there o u → Here c key x u out notes
-          written u stored = write_here c there o (epoch_number ballot) store u stored (rest_task (happens (now c here.reached) (Write p (rank o.version))) key x.phase rest)
+          written : (seal : Option (List ℕ)) (u : Held) → Stored c there o seal u → Here c key (record x { seal = seal }) u out notes
+          written seal u stored = write_here c there o (epoch_number ballot) store seal u stored (rest_task (happens (now c here.reached) (Write p (rank o.version))) key x.phase rest)
 
-          acknowledged : (u : Held) → Stored c there o u → Here c key x u out notes
-          acknowledged u stored = acknowledge_here c (written u stored) (rank o.version) able.trusts takes.may.1.0
+          acknowledged : (seal : Option (List ℕ)) (u : Held) → Stored c there o seal u → Here c key (record x { seal = seal }) u out notes
+          acknowledged seal u stored = acknowledge_here c (written seal u stored) (rank o.version) able.trusts takes.may.1.0
               (rest_task (happens (happens (now c here.reached) (Write p (rank o.version))) (Acknowledge p (rank o.version))) key x.phase rest)
 
       -- after the tree was asked

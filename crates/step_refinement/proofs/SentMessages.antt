@@ -141,6 +141,7 @@ tells_more c key x h out notes more here hold listed fit say = record {
   listed = here.listed;
   trust = here.trust;
   tree = here.tree;
+  seal = here.seal;
   sync = here.sync;
   fits = here.fits;
   task = here.task;

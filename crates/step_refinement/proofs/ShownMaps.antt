@@ -2,10 +2,11 @@
 -- its tree shows, and which maps its top records name.
 use Rattle.std.proofs.Common.{◌≡◌, ◌⊎◌, inl, inr, ℕ, true, false, List, [], ◌∷◌, ◌++◌, Option, None, Some, refl, sym, ap, subst, ◌∙◌}
 use Rattle.std.proofs.lemmas.Bool.{true≢false}
+use Rattle.std.proofs.lemmas.Option.{none-some}
 use Rattle.ens_base.proofs.Lists.{in_append}
 use Rattle.ens_base.specs.Lists.{◌∈◌}
 use Rattle.ens_base.specs.declared.entry.Entry.{Entry}
-use Rattle.abstract_protocol.specs.Objects.{Map, Objects}
+use Rattle.abstract_protocol.specs.Objects.{Map, Objects, IsHonest}
 use Rattle.abstract_protocol.specs.Protocol.{State}
 use Rattle.entry_laws.specs.Stays.{EntriesStay}
 use Rattle.held_stores.specs.Answers.{answered, with_facts}
@@ -14,9 +15,9 @@ use Rattle.held_stores.specs.Laws.{held_with}
 use Rattle.peer_fact.specs.declared.fact.Fact.{Fact}
 use Rattle.seal_laws.proofs.Moves.{unsealed_not}
 use Rattle.seal_laws.specs.Kept.{IsSealed, RootHolds, named_by}
-use Rattle.seal_stores.specs.Held.{kept_seal}
-use Rattle.step_plans.specs.Calls.{Call, Load, Save, FreshTree, OpenTree, Find, Enter, ScanTree, ReadNode, Install, Fetch, Put, Hash}
-use Rattle.step_plans.specs.Saved.{with_seal}
+use Rattle.step_plans.specs.Saved.{kept_seal, with_seal}
+use Rattle.step_plans.specs.Calls.{Call, Load, Save, FreshTree, OpenTree, Root, Find, Enter, ScanTree, ReadNode, Install, Fetch, Put, Hash}
+use Rattle.sync_laws.specs.Facts.{Lines}
 use Rattle.sync_refinement.proofs.Staying.{stays, tree_says_stay}
 use Rattle.sync_refinement.specs.Syncs.{TreeSays, MayReturn}
 use Rattle.tree_refinement.proofs.Keeping as keeping
@@ -29,9 +30,14 @@ use Rattle.tree_refinement.specs.Rooted.{Sees}
 use Rattle.tree_refinement.specs.Tops.{IsNamed, NamesNext, IsWritten, tops_of}
 use Rattle.tree_refinement.specs.Trees.{AreAmong, Shows}
 use Rattle.world_stores.specs.Nodes.{top_of}
-use Rattle.step_refinement.specs.Peers.{TopReturns, TopsReturn, LastMap, TreeHolds}
+use Rattle.step_refinement.specs.Peers.{TopReturns, TopsReturn, LastMap, SealFits, TreeHolds}
 
 -- ## Top records
+
+-- a peer that gets a seal, or keeps the one that it has, has the seal that it must have
+pub seal_on : (lines : Lines) (old new : Option (List ℕ)) → (new ≡ None → old ≡ None) → SealFits lines old → SealFits lines new
+seal_on lines old None same fits = λ sealed. absurd (unsealed_not old (same refl) (fits sealed))
+seal_on lines old (Some seal) same fits = λ sealed. tt
 
 -- more strings were hashed
 pub tops_behind : (s : State) (strings hashed more : List (List ℕ)) (q : ℕ) (tops : List (List ℕ)) → AreAmong hashed more → TopsReturn s strings hashed q tops → TopsReturn s strings more q tops
@@ -39,7 +45,7 @@ tops_behind s strings hashed more q tops among return digest at = let top = retu
 
 -- in a later state
 pub tops_stay : (s t : State) (strings hashed : List (List ℕ)) (q : ℕ) (tops : List (List ℕ)) → EntriesStay s t → TopsReturn s strings hashed q tops → TopsReturn t strings hashed q tops
-tops_stay s t strings hashed q tops stay return digest at = let top = return digest at in record { map = top.map; named = top.named; returns = (stays (record { firm = λ p. true; voting = [] }) s t stay).returns strings q top.map top.returns }
+tops_stay s t strings hashed q tops stay return digest at = let top = return digest at in record { map = top.map; named = top.named; returns = (stays (record { sealed = false; firm = λ p. true; voting = [] }) s t stay).returns strings q top.map top.returns }
 
 -- one more record, which names this map
 pub tops_next : (s : State) (strings hashed : List (List ℕ)) (q : ℕ) (tops : List (List ℕ)) (digest : List ℕ) (m : List Entry) → IsNamed hashed digest m → MayReturn s strings q m → TopsReturn s strings hashed q tops → TopsReturn s strings hashed q (tops ++ digest ∷ [])
@@ -56,6 +62,25 @@ tops_next s strings hashed q tops digest m named returns return d at = by_place 
 pub named_top : (top seal : Option (List ℕ)) → seal ≡ None → named_by top seal ≡ top
 named_top top seal none = ap (λ (x : Option (List ℕ)). named_by top x) none
 
+-- a seal names what it named whatever the top record is
+pub sealed_names : (top other seal : Option (List ℕ)) (digest : List ℕ) → IsSealed seal → named_by top seal ≡ Some digest → named_by other seal ≡ Some digest
+sealed_names top other None digest sealed is = absurd sealed
+sealed_names top other (Some x) digest sealed is = is
+
+-- there is no seal, or it is this digest
+abbrev pub IsSealOf : Option (List ℕ) → List ℕ → Type 0
+IsSealOf seal digest = (seal ≡ None) ⊎ (seal ≡ Some digest)
+
+-- such a seal, or the top record, names the map
+pub seal_names : (top seal : Option (List ℕ)) (digest : List ℕ) → top ≡ Some digest → IsSealOf seal digest → named_by top seal ≡ Some digest
+seal_names top None digest is fits = is
+seal_names top (Some x) digest is (inl none) = absurd (none-some x (sym none))
+seal_names top (Some x) digest is (inr same) = same
+
+-- the digest in the top record that was written
+pub next_top : (h t : Held) (m : List Entry) → (next : NamesNext m h t) → top_of (tops_of t.stores) ≡ Some next.digest
+next_top h t m next = ap top_of next.tops ∙ last_top (tops_of h.stores) next.digest
+
 module _ (strings : List (List ℕ)) (q : ℕ) where
   -- more strings were hashed, and the top records are the same
   abbrev pub last_over : (s : State) (hashed more : List (List ℕ)) (seal : Option (List ℕ)) (tops others : List (List ℕ)) → AreAmong hashed more → others ≡ tops → LastMap s strings hashed q seal tops → LastMap s strings more q seal others
@@ -67,7 +92,6 @@ module _ (strings : List (List ℕ)) (q : ℕ) where
     says = last.says;
     honest = last.honest;
     returns = λ none. subst (λ (records : List (List ℕ)). TopsReturn s strings more q records) (sym same) (tops_behind s strings hashed more q tops among (last.returns none));
-    unsealed = last.unsealed;
   }
 
   -- in a later state in which the peer shows the same and wrote the same last
@@ -80,7 +104,6 @@ module _ (strings : List (List ℕ)) (q : ℕ) where
     says = tree_says_stay s t strings stay q last.map visible last.says;
     honest = λ sealed k. ap (λ (m : Map). m k) visible ∙ (last.honest sealed k ∙ sym (ap (λ (m : Map). m k) written));
     returns = λ none. tops_stay s t strings hashed q tops stay (last.returns none);
-    unsealed = last.unsealed;
   }
 
   -- under an equal seal
@@ -93,20 +116,31 @@ module _ (strings : List (List ℕ)) (q : ℕ) where
     says = last.says;
     honest = λ sealed. last.honest (subst IsSealed same sealed);
     returns = λ none. last.returns (sym same ∙ none);
-    unsealed = same ∙ last.unsealed;
   }
 
-  -- one more top record names this map, which is that of the protocol, and there is no seal
-  abbrev pub last_written : (s : State) (h t : Held) (seal : Option (List ℕ)) (m : List Entry) → seal ≡ None → NamesNext m h t → AreAmong h.hashed t.hashed → TreeSays s strings q m → MayReturn s strings q m → TopsReturn s strings h.hashed q (tops_of h.stores) → LastMap s strings t.hashed q seal (tops_of t.stores)
-  last_written s h t seal m none next among says returns return = record {
+  -- under a seal over any top records
+  abbrev pub last_sealed : (s : State) (hashed more : List (List ℕ)) (seal : Option (List ℕ)) (tops others : List (List ℕ)) → IsSealed seal → AreAmong hashed more → LastMap s strings hashed q seal tops → LastMap s strings more q seal others
+  last_sealed s hashed more seal tops others sealed among last = record {
+    digest = last.digest;
+    is = sealed_names (top_of tops) (top_of others) seal last.digest sealed last.is;
+    map = last.map;
+    named = named_behind hashed more last.digest last.map among last.named;
+    says = last.says;
+    honest = last.honest;
+    returns = λ none. absurd (unsealed_not seal none sealed);
+  }
+
+  -- one more top record names this map, which is that of the protocol, and so does the seal, if there is one
+  abbrev pub last_written : (s : State) (h t : Held) (seal : Option (List ℕ)) (m : List Entry) → (next : NamesNext m h t) → IsSealOf seal next.digest → AreAmong h.hashed t.hashed → TreeSays s strings q m → IsHonest s.objects q → MayReturn s strings q m
+      → (seal ≡ None → TopsReturn s strings h.hashed q (tops_of h.stores)) → LastMap s strings t.hashed q seal (tops_of t.stores)
+  last_written s h t seal m next fits among says honest returns return = record {
     digest = next.digest;
-    is = named_top (top_of (tops_of t.stores)) seal none ∙ (ap top_of next.tops ∙ last_top (tops_of h.stores) next.digest);
+    is = seal_names (top_of (tops_of t.stores)) seal next.digest (next_top h t m next) fits;
     map = m;
     named = next.named;
     says = says;
-    honest = λ sealed. absurd (unsealed_not seal none sealed);
-    returns = λ is. subst (λ (tops : List (List ℕ)). TopsReturn s strings t.hashed q tops) (sym next.tops) (tops_next s strings t.hashed q (tops_of h.stores) next.digest m next.named returns (tops_behind s strings h.hashed t.hashed q (tops_of h.stores) among return));
-    unsealed = none;
+    honest = λ sealed. honest;
+    returns = λ none. subst (λ (tops : List (List ℕ)). TopsReturn s strings t.hashed q tops) (sym next.tops) (tops_next s strings t.hashed q (tops_of h.stores) next.digest m next.named returns (tops_behind s strings h.hashed t.hashed q (tops_of h.stores) among (return none)));
   }
 
 -- ## Roots
@@ -122,6 +156,7 @@ root_same Load h k = refl
 root_same (Save fact) h k = after_saving fact h (λ (t : Held). t.stores.tree.top ≡ h.stores.tree.top) (λ facts. refl)
 root_same FreshTree h k = absurd k
 root_same (OpenTree seal) h k = absurd k
+root_same Root h k = refl
 root_same (Find key) h k = refl
 root_same (Enter entry) h k = absurd k
 root_same ScanTree h k = refl
@@ -170,12 +205,13 @@ module _ (s : State) (strings : List (List ℕ)) (q : ℕ) (seal : Option (List 
   abbrev pub tree_behind : (stores : HeldStores) (hashed more : List (List ℕ)) → AreAmong hashed more → TreeHolds s strings q seal (held_with stores hashed) → TreeHolds s strings q seal (held_with stores more)
   tree_behind stores hashed more among tree = tree_over (held_with stores hashed) (held_with stores more) refl refl refl among tree
 
-  -- another map was written, which is that of the protocol, in a peer without a seal
-  abbrev pub tree_written : (h t : Held) (m : List Entry) → seal ≡ None → kept_seal t.stores.facts.kept ≡ seal → IsWritten m h t → AreAmong h.hashed t.hashed → TreeSays s strings q m → MayReturn s strings q m → TopsReturn s strings h.hashed q (tops_of h.stores) → TreeHolds s strings q seal t
-  tree_written h t m none sealed written among says returns return = record {
-    last = last_written strings q s h t seal m none written.next among says returns return;
+  -- another map was written, which is that of the protocol
+  abbrev pub tree_written : (h t : Held) (m : List Entry) → (written : IsWritten m h t) → IsSealOf seal written.next.digest → kept_seal t.stores.facts.kept ≡ seal → AreAmong h.hashed t.hashed → TreeSays s strings q m → IsHonest s.objects q → MayReturn s strings q m
+      → (seal ≡ None → TopsReturn s strings h.hashed q (tops_of h.stores)) → TreeHolds s strings q seal t
+  tree_written h t m written fits sealed among says honest returns return = record {
+    last = last_written strings q s h t seal m written.next fits among says honest returns return;
     sealed = sealed;
-    root = inl (sym written.recorded, sym written.recorded ∙ sym (named_top (top_of (tops_of t.stores)) seal none));
+    root = inl (sym written.recorded, sym written.recorded ∙ (next_top h t m written.next ∙ sym (seal_names (top_of (tops_of t.stores)) seal written.next.digest (next_top h t m written.next) fits)));
   }
 
   -- an equal seal
@@ -186,6 +222,10 @@ module _ (s : State) (strings : List (List ℕ)) (q : ℕ) (seal : Option (List 
     root = subst (λ (x : Option (List ℕ)). RootHolds s.objects q (top_of (tops_of h.stores)) x h.stores.tree.top) (sym same) tree.root;
   }
 
+-- the root of a tree that was written is the digest in its new top record
+pub written_root : (h t : Held) (m : List Entry) → (written : IsWritten m h t) → t.stores.tree.top ≡ Some written.next.digest
+written_root h t m written = sym written.recorded ∙ next_top h t m written.next
+
 -- a top record that was written, seen from earlier stores with the same top records
 pub names_from : (h s t : Held) (m : List Entry) → tops_of s.stores ≡ tops_of h.stores → NamesNext m s t → NamesNext m h t
 names_from h s t m same next = record { digest = next.digest; tops = next.tops ∙ ap (λ (tops : List (List ℕ)). tops ++ next.digest ∷ []) same; named = next.named }
@@ -195,7 +235,7 @@ pub written_from : (h s t : Held) (m : List Entry) → tops_of s.stores ≡ tops
 written_from h s t m same written = record { next = names_from h s t m same written.next; shows = written.shows; recorded = written.recorded }
 
 -- a call that leaves the root leaves a written tree
-pub written_kept : (call : Call) (h t : Held) (m : List Entry) → KeepsRoot call → IsWritten m h t → IsWritten m h (answered call t).held
+abbrev pub written_kept : (call : Call) (h t : Held) (m : List Entry) → KeepsRoot call → IsWritten m h t → IsWritten m h (answered call t).held
 written_kept call h t m root written = record {
   next = record {
     digest = written.next.digest;

@@ -26,7 +26,7 @@ use Rattle.peer_state.specs.declared.state.State.{State as PeerState}
 use Rattle.peer_fact.specs.declared.fact.Fact.{Fact}
 use Rattle.phase_rows.specs.Orders.{is_below, is_same}
 use Rattle.register_model.specs.declared.note.Note.{Note}
-use Rattle.running_sync.proofs.Keeping.{fact_stays}
+use Rattle.running_sync.proofs.Keeping.{fact_stays, scan_stays}
 use Rattle.running_sync.proofs.Messages.{take_go, take_ask}
 use Rattle.running_sync.proofs.Others.{taken_are}
 use Rattle.running_sync.specs.Rows.{row_take}
@@ -40,12 +40,13 @@ use Rattle.step_plans.specs.declared.walked.Walked.{Walked}
 use Rattle.step_plans.specs.declared.walked.Walked.TheVariants.{Reached as Came, Broken}
 use Rattle.step_plans.specs.Saved.{bare}
 use Rattle.sync_refinement.specs.Laws.{HasWalked}
-use Rattle.sync_refinement.specs.Syncs.{GiveFits, SyncMaySay}
+use Rattle.sync_refinement.specs.Syncs.{GiveFits}
 use Rattle.tree_maps.specs.Paths.{node_of}
 use Rattle.tree_maps.specs.Sixteen.{form_of}
 use Rattle.tree_node.specs.Positions.{IsPosition}
 use Rattle.tree_node.specs.declared.body.TreeBody.{TreeBody}
 use Rattle.tree_node.specs.declared.body.TreeBody.TheVariants as bodies
+use Rattle.tree_node.specs.declared.body.Scan.{Scan}
 use Rattle.tree_node.specs.declared.position.Position.{Position}
 use Rattle.tree_refinement.proofs.Keeping as keeping
 use Rattle.tree_refinement.proofs.Rooted as rooted
@@ -67,7 +68,7 @@ use Rattle.step_refinement.proofs.KeptTrust.{spares_same}
 use Rattle.step_refinement.proofs.LaterStates.{message_stays}
 use Rattle.step_refinement.proofs.SyncSteps.{firm_here, gone_good, laws_here, read_here}
 use Rattle.step_refinement.proofs.LeaderTasks.{PhasesNext}
-use Rattle.step_refinement.specs.Peers.{MessageFits}
+use Rattle.step_refinement.specs.Peers.{MessageFits, IsRooted, SyncFits}
 
 -- ## Rows that begin nothing
 
@@ -215,13 +216,17 @@ module _ (c : Scene) where
       takes own t is there shows same None none = go [] key x t out notes (tt, there)
       takes own t is there shows same (Some r) runs = gone_good c there next mark go (row_take from give own r) r
           (record { may = subst (MaySync (now c there.0.reached).objects.ledger x.fact (may_wait x.phase)) (sym (fact_stays from give own r)) syncing.may; asks = taken_are p from give own r syncing.asks })
-          (subst (IsListedFact lines.voting) (sym (fact_stays from give own r)) (subst (IsListedSync lines.voting) runs there.0.listed.sync))
-          ((laws_here c there.0.reached).takes strings p x.fact x.trusted there.0.tree.last.map r from give own c.free position syncing.asks shows (subst (λ m. (own ≡ None) ⊎ (own ≡ node_of (form_of One) at m)) (sym same) is)
-          (subst (SyncMaySay lines (now c there.0.reached) strings p x.fact x.trusted there.0.tree.last.map) runs there.0.sync))
+          (subst (IsListedFact lines.voting) (sym (fact_stays from give own r)) (subst (IsListedSync lines.voting) runs there.0.listed.sync)) (
+            (laws_here c there.0.reached).takes strings p x.fact x.trusted there.0.tree.last.map r from give own c.free position syncing.asks shows (subst (λ m. (own ≡ None) ⊎ (own ≡ node_of (form_of One) at m)) (sym same) is) says.0,
+            subst (λ (scan : Scan). IsRooted scan t.stores.tree.top) (sym (scan_stays from give own r)) says.1,
+          )
           (take_go p from give own r syncing.asks) (take_ask p from give own r syncing.asks)
         where
           syncing : IsSyncing (now c there.0.reached).objects.ledger p x.fact (may_wait x.phase) r
           syncing = subst (ledgers.SyncHolds (now c there.0.reached).objects.ledger p x.fact (may_wait x.phase)) runs there.0.peer.sync
+
+          says : SyncFits lines (now c there.0.reached) strings p x.fact x.trusted there.0.tree.last.map t.stores.tree.top (Some r)
+          says = subst (SyncFits lines (now c there.0.reached) strings p x.fact x.trusted there.0.tree.last.map t.stores.tree.top) runs there.0.sync
 
       read_ends : Ends c (own_node true at x out (λ own y o. take_give p from give own y.sync y o next)) (own_node true at x out (λ own y o. take_give p from give own y.sync y o mark)) h notes
       read_ends = ask_ends keeping.grows c (ReadNode at) _ _ h notes (λ among. by_walk (answered (ReadNode at) h).result refl (rooted.reads strings h rest.0.tree.last.map at c.free among (tree_sees (now c rest.0.reached) strings p x.seal h rest.0.tree) position))

@@ -1,8 +1,11 @@
 -- A sync in the step of a peer: it begins, asks again, takes what a source sends, and ends. At its end the
 -- peer installs the merged map and accepts the epoch that it promised.
-use Rattle.std.specs.Prelude.{All, nat_le, not, ◌&&◌, ◌==◌}
+use Rattle.std.specs.Option.{is_some}
+use Rattle.std.specs.Prelude.{All, nat_le, not, ◌&&◌, ◌||◌, ◌==◌}
 use Rattle.std.proofs.Common.{◌≡◌, ◌⊎◌, inl, inr, ◌<◌, ◌≤◌, ◌^◌, ℕ, Bool, true, false, List, [], ◌∷◌, ◌++◌, get_or, length, map, Option, None, Some, Result, Ok, Err, arith, refl, ap, sym, subst, ◌∙◌}
+use Rattle.std.proofs.lemmas.Bool.{true≢false}
 use Rattle.std.proofs.lemmas.List.Elements.{All-nil, All-cons}
+use Rattle.std.proofs.lemmas.Option.{none-some}
 use Rattle.ens_base.specs.Views.{last_view}
 use Rattle.ens_base.specs.declared.entry.Entry.{Entry}
 use Rattle.ens_base.specs.declared.epoch.Epoch.{Epoch}
@@ -24,14 +27,15 @@ use Rattle.election_refinement.specs.Refinement as ledgers
 use Rattle.election_refinement.specs.Refinement.{PhaseHolds, IsFirst, IsSaved, IsOrderly, IsSyncing, MaySync, change_at, may_wait}
 use Rattle.entry_laws.proofs.Later.{stay_step}
 use Rattle.entry_laws.specs.Stays.{EntriesStay}
-use Rattle.held_stores.specs.Answers.{Answered, answered, with_facts}
+use Rattle.held_stores.specs.Answers.{Answered, answered, with_facts, walked, whole}
 use Rattle.held_stores.specs.Held.{Held}
+use Rattle.held_stores.specs.Walks.{walk}
 use Rattle.leader_laws.proofs.Roles.{run_roles}
 use Rattle.leader_laws.specs.Roles.{RolesHold}
 use Rattle.leader_refinement.specs.Seen.{rank, owed_after}
 use Rattle.leader_words.specs.declared.out.Outgoing.{Outgoing}
-use Rattle.peer_state.specs.Moves.{electing, without_sync}
-use Rattle.peer_plan.specs.Syncs.{saved, and_sends, with_sync, installed, accepted, accepted_in, end_sync, by_outcome, go_on, start_sync, resume_sync}
+use Rattle.peer_state.specs.Moves.{electing, keeps_seal, without_sync}
+use Rattle.peer_plan.specs.Syncs.{sealed_if, and_sends, with_sync, installed, accepted, accepted_in, end_sync, by_outcome, go_on, start_sync, resume_sync}
 use Rattle.peer_state.specs.declared.state.Phase.{Phase}
 use Rattle.peer_state.specs.declared.state.Phase.TheVariants as phases
 use Rattle.peer_state.specs.declared.state.State.{State as PeerState}
@@ -46,16 +50,14 @@ use Rattle.running_sync.proofs.Others.{asks_are, resumed_are}
 use Rattle.running_sync.specs.Rows.{row_start, row_resume}
 use Rattle.running_sync.specs.Running.{Running}
 use Rattle.running_sync.specs.Sends.{MayGo, AsksAt, IsQuestion}
-use Rattle.seal_laws.proofs.Moves.{unsealed_not}
-use Rattle.seal_laws.specs.Kept.{RootHolds}
-use Rattle.seal_stores.specs.Held.{kept_seal}
-use Rattle.step_plans.specs.Calls.{Call, ScanTree, Install as InstallTree, Save}
-use Rattle.step_plans.specs.Plans.{Out, Rest, asked}
+use Rattle.seal_laws.specs.Kept.{IsSealed, RootHolds}
+use Rattle.step_plans.specs.Saved.{bare, kept_seal, with_seal}
+use Rattle.step_plans.specs.Calls.{Call, ScanTree, Install as InstallTree, Save, Root}
+use Rattle.step_plans.specs.Plans.{Ask, Out, Rest, asked}
 use Rattle.step_plans.specs.declared.error.PeerError.{PeerError}
 use Rattle.step_plans.specs.declared.error.PeerError.TheVariants.{StoreFault}
 use Rattle.step_plans.specs.declared.tasks.Task.{Task}
 use Rattle.step_plans.specs.declared.tasks.Task.TheVariants as tasks
-use Rattle.step_plans.specs.Saved.{with_seal, bare}
 use Rattle.sync_laws.proofs.Gives.{may_end}
 use Rattle.sync_laws.specs.Facts as facts
 use Rattle.sync_laws.specs.Peers as Theory
@@ -64,18 +66,21 @@ use Rattle.sync_refinement.proofs.Firsts.{seen_first}
 use Rattle.sync_refinement.proofs.Staying.{version_stays, entries_stay}
 use Rattle.sync_refinement.specs.Laws.{AreFewKeys, FirmAreKept, SyncEnds, SyncLaws}
 use Rattle.sync_refinement.specs.Seen.{ranks, seen_fact, seen_tree}
-use Rattle.sync_refinement.specs.Syncs.{SyncSays, SyncMaySay, TreeSays, MayReturn}
-use Rattle.sync_rule.specs.Syncs.{outcome_of, needs_build}
+use Rattle.sync_refinement.specs.Syncs.{TreeSays, MayReturn}
+use Rattle.sync_rule.specs.Syncs.{outcome_of, needs_build, is_clean, same_entries}
 use Rattle.sync_rule.specs.declared.sync.Outcome.{Outcome}
 use Rattle.sync_rule.specs.declared.sync.Outcome.TheVariants.{Pending, Trusted}
+use Rattle.tree_maps.specs.Sixteen.{form_of}
 use Rattle.tree_node.specs.declared.body.Scan.{Scan}
 use Rattle.tree_node.specs.declared.position.Position.{Position}
+use Rattle.tree_node.specs.declared.version.TreeVersion.TheVariants.{One}
+use Rattle.tree_verify.specs.Levels.{scan_plan}
 use Rattle.tree_refinement.proofs.Damage.{scan_positions}
 use Rattle.tree_refinement.proofs.Keeping as keeping
 use Rattle.tree_refinement.proofs.Rooted as rooted
-use Rattle.tree_refinement.proofs.Tops.{installs as installs_tops}
+use Rattle.tree_refinement.proofs.Tops.{installs as installs_tops, named_behind}
 use Rattle.tree_refinement.specs.Laws.{IsScanned, KeepsRoot}
-use Rattle.tree_refinement.specs.Tops.{HasBuilt, IsTorn, IsWritten, NamesNext, tops_of}
+use Rattle.tree_refinement.specs.Tops.{HasBuilt, IsNamed, IsTorn, IsWritten, NamesNext, tops_of}
 use Rattle.tree_refinement.specs.Trees.{AreAmong}
 use Rattle.version_laws.proofs.Maps.{put_here, put_other}
 use Rattle.version_laws.proofs.Trees.{run_versions}
@@ -89,12 +94,12 @@ use Rattle.step_refinement.specs.Scenes.{Scene, Reached, state_before, now, Else
 use Rattle.step_refinement.proofs.CalledKeys.{run_keys_few, length_keys, key_from}
 use Rattle.step_refinement.proofs.Stretches.{elsewhere_then}
 use Rattle.step_refinement.proofs.StoreAnswers.{HasEither, SaveEnds, Saves, Refuses, save_ends}
-use Rattle.step_refinement.proofs.Refusals.{Halts, rests_down, rests_over}
+use Rattle.step_refinement.proofs.Refusals.{Halts, rests_down, rests_over, rests_sealed}
 use Rattle.step_refinement.proofs.SentMessages.{SaysSo, SendSaysSo, says_nothing, tells_more}
 use Rattle.step_refinement.proofs.LaterStates.{phase_stays, sends_stay}
 use Rattle.step_refinement.proofs.LeaderTasks.{PhasesNext}
-use Rattle.step_refinement.proofs.ShownMaps.{tops_stay, last_stays, last_under, last_written, tree_kept, tree_sees, tree_written}
-use Rattle.step_refinement.specs.Peers.{MessageFits, SendFits, TreeHolds, TopsReturn}
+use Rattle.step_refinement.proofs.ShownMaps.{IsSealOf, seal_on, tops_behind, tops_next, tops_stay, seal_names, next_top, last_stays, last_under, last_written, root_same, tree_kept, tree_sees, written_root}
+use Rattle.step_refinement.specs.Peers.{MessageFits, SendFits, TopsReturn, LastMap, SealFits, IsRooted, SyncFits}
 use Rattle.step_refinement.specs.Roles.{role_in, said_in_sends}
 
 -- ## Questions
@@ -116,6 +121,31 @@ first_change l f first = first.known.change ∙ ap (λ (n : ℕ). change_at l (r
 
 first_seen : (l : Ledger) (f : Fact) → IsFirst l f → facts.IsFirst l (seen_fact f)
 first_seen l f first = seen_first l f first.known.below first.known.elected first.seq first.later first.own_ballot first.known.views (first_change l f first)
+
+-- ## Scans and seals
+
+-- the entries stay as they are only if the scan was clean
+clean_kept : (a b : Bool) → not (a && b) ≡ false → a ≡ true
+clean_kept true b is = refl
+clean_kept false b is = absurd (true≢false is)
+
+-- a peer that is to keep no seal has none
+seals_none : (sealing : Bool) (seal : Option (List ℕ)) → (sealing || is_some seal) ≡ false → seal ≡ None
+seals_none true seal keeps = absurd (true≢false keeps)
+seals_none false None keeps = refl
+seals_none false (Some seal) keeps = absurd (true≢false keeps)
+
+-- a scan without a root is not clean
+abbrev clean_of : Result Scan PeerError → Bool
+clean_of (Ok scan) = is_clean scan
+clean_of (Err e) = false
+
+unclean_none : (h : Held) → clean_of (whole (walked (scan_plan (form_of One) None) h).end) ≡ false
+unfolding walk form_of
+unclean_none h = refl
+
+unclean : (h : Held) (scan : Scan) → (answered ScanTree h).result ≡ Ok scan → h.stores.tree.top ≡ None → is_clean scan ≡ true → ⊥
+unclean h scan is none clean = true≢false (sym clean ∙ (sym (ap clean_of is) ∙ subst (λ (top : Option (List ℕ)). clean_of (whole (walked (scan_plan (form_of One) top) h).end) ≡ false) (sym none) (unclean_none h)))
 
 -- ## Steps of the end of a sync
 
@@ -193,7 +223,7 @@ module _ (c : Scene) where
 
   module _ {key : List ℕ} {x : PeerState} {h : Held} {out : Out} {notes : List Note} (here : Here c key x h out notes) where
     -- this sync runs
-    abbrev pub runs_here : (r : Running) → IsSyncing (now c here.reached).objects.ledger p x.fact (may_wait x.phase) r → IsListedFact lines.voting r.fact → SyncSays lines (now c here.reached) strings p x.fact x.trusted here.tree.last.map r → Here c key (with_sync r x) h out notes
+    abbrev pub runs_here : (r : Running) → IsSyncing (now c here.reached).objects.ledger p x.fact (may_wait x.phase) r → IsListedFact lines.voting r.fact → SyncFits lines (now c here.reached) strings p x.fact x.trusted here.tree.last.map h.stores.tree.top (Some r) → Here c key (with_sync r x) h out notes
     runs_here r syncing listed says = record {
       reached = here.reached;
       roles = here.roles;
@@ -201,6 +231,7 @@ module _ (c : Scene) where
       listed = listed_sync (Some r) listed here.listed;
       trust = here.trust;
       tree = here.tree;
+      seal = here.seal;
       sync = says;
       fits = here.fits;
       task = here.task;
@@ -219,6 +250,7 @@ module _ (c : Scene) where
       listed = listed_sync None tt here.listed;
       trust = here.trust;
       tree = here.tree;
+      seal = here.seal;
       sync = tt;
       fits = here.fits;
       task = here.task;
@@ -228,15 +260,17 @@ module _ (c : Scene) where
       fits_sends = here.fits_sends;
     }
 
-  -- ## The merged map is installed
+  -- ## The end of a sync, until its fact is saved
 
-  module _ {key : List ℕ} {x : PeerState} {h : Held} {out : Out} {notes : List Note} (at : AtRest c key x h out notes) (r : Running) (entries : List Entry) (alone : x.sync ≡ None) (may : MaySync (now c at.0.reached).objects.ledger x.fact (may_wait x.phase) r.fact)
-      (ends : SyncEnds (now c at.0.reached) strings p at.0.tree.last.map r entries) where
+  module _ {key : List ℕ} {x : PeerState} {h : Held} {out : Out} {notes : List Note} (at : AtRest c key x h out notes) (r : Running) (entries : List Entry) (may : MaySync (now c at.0.reached).objects.ledger x.fact (may_wait x.phase) r.fact) (listed : IsListedFact lines.voting r.fact)
+      (ends : SyncEnds (now c at.0.reached) strings p at.0.tree.last.map r entries) (rooted : IsRooted r.sync.scan h.stores.tree.top) where
     abbrev s : State
     s = now c at.0.reached
 
     abbrev d : ℕ
     d = epoch_number r.fact.epoch
+
+    -- ## The steps
 
     may_install : MayCome s (Install p d (ranks entries))
     may_install = (ends.may, tt)
@@ -253,6 +287,37 @@ module _ (c : Scene) where
     roles_on : RolesHold at.0.reached.ghosts t (put c.roles p (role_in key x.phase (owed_after [] out.answers))) (said_in_sends p out.sends ++ c.said)
     roles_on = (run_roles view at.0.reached.steps at.0.reached.run).silent at.0.reached.ghosts (put c.roles p (role_in key x.phase (owed_after [] out.answers))) (said_in_sends p out.sends ++ c.said) (Install p d (ranks entries)) may_install tt at.0.roles
 
+    -- the sync may end then
+    finishes : MayEndSync t.objects p d
+    finishes = may_end lines s (run_versions view at.0.reached.steps at.0.reached.run) p (seen_fact x.fact) (seen_tree at.0.tree.last.map) x.trusted Theory.Following d (ranks entries) ends.may
+
+    stands : t.objects.ledger.ballot p ≡ d
+    stands = at.0.peer.saved.ballot ∙ ap epoch_number (sym may.promised)
+
+    may_join : MayCome t (EndSync p d)
+    may_join = ((record { elected = may.first.known.elected; stands = stands; newer = subst (λ (place : Place). place.epoch < d) (sym at.0.peer.saved.place) may.newer }, finishes), tt)
+
+    abbrev later : State
+    later = happens t (EndSync p d)
+
+    stay_on : EntriesStay t later
+    stay_on = stay_step t (EndSync p d) may_join
+
+    -- the ledger stays orderly
+    abbrev course : Course
+    course = record { view = view; steps = reached.steps; peer = p; is_peer = c.is_peer; joins = Unit {0} }
+
+    orderly : IsOrderly later.objects.ledger
+    orderly = (join_reaches course t.objects.ledger (record { more = []; kinds = tt; run = reached.run; same = refl; orderly = reached.orderly }) tt d may.first.later may.first.known.elected stands (subst (λ (place : Place). place.epoch < d) (sym at.0.peer.saved.place) may.newer)).orderly
+
+    abbrev reached_on : Reached c
+    reached_on = goes_on reached (EndSync p d) may_join (elsewhere_end p d t stands may_join) orderly refl
+
+    roles_joined : RolesHold at.0.reached.ghosts later (put c.roles p (role_in key x.phase (owed_after [] out.answers))) (said_in_sends p out.sends ++ c.said)
+    roles_joined = (run_roles view reached.steps reached.run).silent at.0.reached.ghosts (put c.roles p (role_in key x.phase (owed_after [] out.answers))) (said_in_sends p out.sends ++ c.said) (EndSync p d) may_join tt roles_on
+
+    -- ## The stores
+
     -- what the tree shows then
     says_merged : TreeSays t strings p entries
     says_merged = record { entries = entries_stay s t strings stay entries ends.entries_say; visible = λ k. ap (λ (m : Map). m k) (put_here s.objects.visible p (ranks entries)) }
@@ -260,182 +325,198 @@ module _ (c : Scene) where
     return_merged : MayReturn t strings p entries
     return_merged = (run_syncs lines view reached.steps reached.run).may_return strings p entries ends.is_map says_merged
 
-    abbrev halted : Halts c x notes
-    halted = record { reached = reached; role = role_in key x.phase (owed_after [] out.answers); sends = out.sends; roles = roles_on; saved = at.0.peer.saved; listed = at.0.listed.fact; noted = at.0.noted }
-
-    -- the peer agrees with the run, over stores whose tree shows the merged map
-    abbrev installed_here : (u : Held) → u.stores.facts.kept ≡ h.stores.facts.kept → TreeHolds t strings p x.seal u → Here c key x u out notes
-    installed_here u kept tree = record {
-      reached = reached;
-      roles = roles_on;
-      peer = record { saved = at.0.peer.saved; kept = ap bare kept ∙ at.0.peer.kept; phase = at.0.peer.phase; sync = at.0.peer.sync };
-      listed = at.0.listed;
-      trust = at.0.trust;
-      tree = tree;
-      sync = subst (λ (sync : Option Running). SyncMaySay lines t strings p x.fact x.trusted tree.last.map sync) (sym alone) tt;
-      fits = phase_stays at.0.reached.ghosts.hash s t p x.fact x.phase stay (λ e elected. refl) at.0.peer.phase at.0.fits;
-      task = rest_task t key x.phase at.1;
-      noted = at.0.noted;
-      sends = at.0.sends;
-      listed_sends = at.0.listed_sends;
-      fits_sends = sends_stay s t strings stay lines p out.sends at.0.fits_sends;
-    }
-
     honest_merged : IsHonest t.objects p
     honest_merged k = ap (λ (m : Map). m k) (put_here s.objects.visible p (ranks entries)) ∙ sym (ap (λ (m : Map). m k) (put_here s.objects.map p (ranks entries)))
 
-    -- the own tree is already that of the merged map
-    kept_tree : entries ≡ at.0.tree.last.map → TreeHolds t strings p x.seal h
-    kept_tree same = let last = at.0.tree.last in record {
-      last = record {
-        digest = last.digest;
-        is = last.is;
-        map = last.map;
-        named = last.named;
-        says = subst (TreeSays t strings p) same says_merged;
-        honest = λ sealed. honest_merged;
-        returns = λ none. tops_stay s t strings h.hashed p (tops_of h.stores) stay (last.returns none);
-        unsealed = last.unsealed;
-      };
-      sealed = at.0.tree.sealed;
-      root = at.0.tree.root;
+    -- without a seal each map that a top record names may still return
+    tops_on : x.seal ≡ None → TopsReturn t strings h.hashed p (tops_of h.stores)
+    tops_on none = tops_stay s t strings h.hashed p (tops_of h.stores) stay (at.0.tree.last.returns none)
+
+    -- the tree has the merged map
+    record Merged (u : Held) : Type 0 where
+      hashed : AreAmong h.hashed u.hashed
+      digest : List ℕ
+      root : u.stores.tree.top ≡ Some digest
+      top : top_of (tops_of u.stores) ≡ Some digest
+      named : IsNamed u.hashed digest entries
+      returns : x.seal ≡ None → TopsReturn t strings u.hashed p (tops_of u.stores)
+
+    -- more strings were hashed
+    abbrev merged_over : (u v : Held) → tops_of v.stores ≡ tops_of u.stores → v.stores.tree.top ≡ u.stores.tree.top → AreAmong u.hashed v.hashed → Merged u → Merged v
+    merged_over u v tops root among m = record {
+      hashed = λ a i. among a (m.hashed a i);
+      digest = m.digest;
+      root = root ∙ m.root;
+      top = ap top_of tops ∙ m.top;
+      named = named_behind u.hashed v.hashed m.digest entries among m.named;
+      returns = λ none. subst (λ (all : List (List ℕ)). TopsReturn t strings v.hashed p all) (sym tops) (tops_behind t strings u.hashed v.hashed p (tops_of u.stores) among (m.returns none));
     }
 
-    -- each map that a top record names may still return
-    tops_on : TopsReturn t strings h.hashed p (tops_of h.stores)
-    tops_on = tops_stay s t strings h.hashed p (tops_of h.stores) stay (at.0.tree.last.returns at.0.tree.last.unsealed)
+    -- the peer keeps the merged map under this seal, or without one
+    abbrev last_merged : (seal : Option (List ℕ)) (u : Held) (m : Merged u) → IsSealOf seal m.digest → (seal ≡ None → x.seal ≡ None) → LastMap t strings u.hashed p seal (tops_of u.stores)
+    last_merged seal u m names unsealed = record {
+      digest = m.digest;
+      is = seal_names (top_of (tops_of u.stores)) seal m.digest m.top names;
+      map = entries;
+      named = m.named;
+      says = says_merged;
+      honest = λ sealed. honest_merged;
+      returns = λ none. m.returns (unsealed none);
+    }
 
-    -- the tree is built, or its building is refused
+    -- ## The peer is down
+
+    abbrev halted : Halts c x notes
+    halted = record { reached = reached; role = role_in key x.phase (owed_after [] out.answers); sends = out.sends; roles = roles_on; saved = at.0.peer.saved; listed = at.0.listed.fact; noted = at.0.noted }
+
+    -- the fact that it had has the seal that it had
+    seal_kept : (u : Held) → u.stores.facts.kept ≡ h.stores.facts.kept → SealFits lines (kept_seal u.stores.facts.kept)
+    seal_kept u same = subst (SealFits lines) (sym (ap kept_seal same ∙ at.0.tree.sealed)) at.0.seal
+
+    -- over the fact that it had: without a seal the map was installed, and with one nothing has happened
+    rests_merged : (u : Held) → u.stores.facts.kept ≡ h.stores.facts.kept → Merged u → Rests c u notes
+    rests_merged u same m = by_seal x.seal refl
+      where
+        by_seal : (seal : Option (List ℕ)) → x.seal ≡ seal → Rests c u notes
+        by_seal None none = rests_down c halted u (ap bare same ∙ at.0.peer.kept) (seal_kept u same) (last_under strings p t u.hashed x.seal (kept_seal u.stores.facts.kept) (tops_of u.stores) (ap kept_seal same ∙ at.0.tree.sealed) (last_merged x.seal u m (inl none) (λ is. is)))
+        by_seal (Some seal) is = rests_sealed c at.0 u same m.hashed (subst IsSealed (sym is) tt)
+
+    -- the building of the tree is refused
     spared : (answered (InstallTree entries) h).held.stores.facts.kept ≡ h.stores.facts.kept
     spared = ap (λ (f : HeldFact). f.kept) (keeping.spares (InstallTree entries) h).1
 
     torn_rests : (e : PeerError) → IsTorn entries h e (answered (InstallTree entries) h).held → Rests c (answered (InstallTree entries) h).held notes
     torn_rests e torn = by_tops torn.1
       where
-        by_tops : (tops_of (answered (InstallTree entries) h).held.stores ≡ tops_of h.stores) ⊎ NamesNext entries h (answered (InstallTree entries) h).held → Rests c (answered (InstallTree entries) h).held notes
-        by_tops (inl same) = rests_over c at.0 (answered (InstallTree entries) h).held spared same (keeping.grows (InstallTree entries) h)
-        by_tops (inr next) = let u : Held = (answered (InstallTree entries) h).held in
-            rests_down c halted u (ap bare spared ∙ at.0.peer.kept) (last_under strings p t u.hashed x.seal (kept_seal u.stores.facts.kept) (tops_of u.stores) (ap kept_seal spared ∙ at.0.tree.sealed)
-            (last_written strings p t h u x.seal entries at.0.tree.last.unsealed next (keeping.grows (InstallTree entries) h) says_merged return_merged tops_on))
+        u : Held
+        u = (answered (InstallTree entries) h).held
 
-    built_tree : IsWritten entries h (answered (InstallTree entries) h).held → TreeHolds t strings p x.seal (answered (InstallTree entries) h).held
-    built_tree written = tree_written t strings p x.seal h (answered (InstallTree entries) h).held entries at.0.tree.last.unsealed (ap kept_seal spared ∙ at.0.tree.sealed) written (keeping.grows (InstallTree entries) h) says_merged return_merged tops_on
+        left_new : NamesNext entries h u → (seal : Option (List ℕ)) → x.seal ≡ seal → Rests c u notes
+        left_new next None none = rests_down c halted u (ap bare spared ∙ at.0.peer.kept) (seal_kept u spared) (last_under strings p t u.hashed x.seal (kept_seal u.stores.facts.kept) (tops_of u.stores) (ap kept_seal spared ∙ at.0.tree.sealed)
+            (last_written strings p t h u x.seal entries next (inl none) (keeping.grows (InstallTree entries) h) says_merged honest_merged return_merged tops_on))
+        left_new next (Some seal) is = rests_sealed c at.0 u spared (keeping.grows (InstallTree entries) h) (subst IsSealed (sym is) tt)
 
-    -- the sync may end then
-    pub record MayAccept (there : Reached c) : Type 0 where
-      pub syncs : MaySync (now c there).objects.ledger x.fact (may_wait x.phase) r.fact
-      pub finishes : MayEndSync (now c there).objects p (epoch_number r.fact.epoch)
+        by_tops : (tops_of u.stores ≡ tops_of h.stores) ⊎ NamesNext entries h u → Rests c u notes
+        by_tops (inl same) = rests_over c at.0 u spared same (keeping.grows (InstallTree entries) h)
+        by_tops (inr next) = left_new next x.seal refl
 
-    may_accept : MayAccept reached
-    may_accept = record { syncs = may; finishes = may_end lines s (run_versions view at.0.reached.steps at.0.reached.run) p (seen_fact x.fact) (seen_tree at.0.tree.last.map) x.trusted Theory.Following d (ranks entries) ends.may }
+    -- ## The tree is built if that is needed
 
-    -- the tree is built if that is needed
-    installed_ends : (builds : Bool) → needs_build r.sync.scan entries ≡ builds → (next mark : Rest PeerState (Unit {0})) → ((u : Held) → (there : Here c key x u out notes) → MayAccept there.reached → Ends c (next tt x out) (mark tt x out) u notes)
+    built_merged : IsWritten entries h (answered (InstallTree entries) h).held → Merged (answered (InstallTree entries) h).held
+    built_merged written = let u : Held = (answered (InstallTree entries) h).held in record {
+      hashed = keeping.grows (InstallTree entries) h;
+      digest = written.next.digest;
+      root = written_root h u entries written;
+      top = next_top h u entries written.next;
+      named = written.next.named;
+      returns = λ none. subst (λ (tops : List (List ℕ)). TopsReturn t strings u.hashed p tops) (sym written.next.tops)
+          (tops_next t strings u.hashed p (tops_of h.stores) written.next.digest entries written.next.named return_merged (tops_behind t strings h.hashed u.hashed p (tops_of h.stores) (keeping.grows (InstallTree entries) h) (tops_on none)));
+    }
+
+    -- a tree that is not built has the merged map already, and a root, since its scan was clean
+    kept_merged : needs_build r.sync.scan entries ≡ false → Merged h
+    kept_merged is = by_root at.0.tree.root
+      where
+        by_root : RootHolds s.objects p (top_of (tops_of h.stores)) x.seal h.stores.tree.top → Merged h
+        by_root (inl root) = let last = at.0.tree.last in record {
+          hashed = λ a i. i;
+          digest = last.digest;
+          root = root.1 ∙ last.is;
+          top = sym root.0 ∙ (root.1 ∙ last.is);
+          named = subst (λ (m : List Entry). IsNamed h.hashed last.digest m) (sym (ends.kept is)) last.named;
+          returns = tops_on;
+        }
+        by_root (inr none) = absurd (rooted (clean_kept (is_clean r.sync.scan) (same_entries r.sync.scan.entries entries) is) none.0)
+
+    installed_ends : (builds : Bool) → needs_build r.sync.scan entries ≡ builds → (next mark : Rest PeerState (Unit {0})) → ((u : Held) → u.stores.facts.kept ≡ h.stores.facts.kept → Merged u → Ends c (next tt x out) (mark tt x out) u notes)
         → Ends c (installed builds entries x out next) (installed builds entries x out mark) h notes
     unfolding asked
-    installed_ends false is next mark go = go h (installed_here h refl (kept_tree (ends.kept is))) may_accept
+    installed_ends false is next mark go = go h refl (kept_merged is)
     installed_ends true is next mark go = ask_may_end keeping.grows c (InstallTree entries) (λ u. next u x out) (λ u. mark u x out) h notes (λ among. by_end (answered (InstallTree entries) h).result refl (installs_tops h entries ends.is_map))
       where
         by_end : (result : Result (Unit {0}) PeerError) → (answered (InstallTree entries) h).result ≡ result → HasBuilt entries h result (answered (InstallTree entries) h).held
             → Answers c (InstallTree entries) (λ u. next u x out) (λ u. mark u x out) h notes ⊎ IsRefused c (InstallTree entries) h notes
-        by_end (Ok done) is written = inl (record { answer = tt; is = is; goes = go (answered (InstallTree entries) h).held (installed_here (answered (InstallTree entries) h).held spared (built_tree written)) may_accept })
+        by_end (Ok done) is written = inl (record { answer = tt; is = is; goes = go (answered (InstallTree entries) h).held spared (built_merged written) })
         by_end (Err e) is torn = inr (record { error = e; is = is; rests = torn_rests e torn })
 
-  -- ## The epoch is accepted
+    -- ## The fact is saved
 
-  -- a peer whose tree shows what a sync merged accepts the epoch that it promised, and trusts its tree
-  module _ {key : List ℕ} {x : PeerState} {h : Held} {out : Out} {notes : List Note} (at : AtRest c key x h out notes) (new : Fact) (listed : IsListedFact lines.voting new) (may : MaySync (now c at.0.reached).objects.ledger x.fact (may_wait x.phase) new)
-      (may_end : MayEndSync (now c at.0.reached).objects p (epoch_number new.epoch)) where
-    abbrev merged : State
-    merged = now c at.0.reached
+    -- the peer then: it accepted the epoch that it promised, and trusts its tree
+    abbrev joined_state : Option (List ℕ) → PeerState
+    joined_state seal = record x { fact = r.fact; seal = seal; trusted = true; sync = None }
 
-    abbrev epoch : ℕ
-    epoch = epoch_number new.epoch
+    saved_new : IsSaved later.objects.ledger p r.fact
+    saved_new = first_saved t.objects.ledger later.objects.ledger p r.fact (join_keeps t.objects.ledger p d stands) may.first stands (put_here t.objects.ledger.fact p (record { epoch = d; seq = 1 }))
 
-    stands : merged.objects.ledger.ballot p ≡ epoch
-    stands = at.0.peer.saved.ballot ∙ ap epoch_number (sym may.promised)
+    listed_new : (seal : Option (List ℕ)) → IsListedPeer lines.voting p (joined_state seal)
+    listed_new seal = let l = listed_synced r.fact listed at.0.listed in record { fact = l.fact; phase = l.phase; sync = l.sync }
 
-    may_join : MayCome merged (EndSync p epoch)
-    may_join = ((record { elected = may.first.known.elected; stands = stands; newer = subst (λ (place : Place). place.epoch < epoch) (sym at.0.peer.saved.place) may.newer }, may_end), tt)
-
-    abbrev later : State
-    later = happens merged (EndSync p epoch)
-
-    stay_on : EntriesStay merged later
-    stay_on = stay_step merged (EndSync p epoch) may_join
-
-    -- the ledger stays orderly
-    abbrev course : Course
-    course = record { view = view; steps = at.0.reached.steps; peer = p; is_peer = c.is_peer; joins = Unit {0} }
-
-    orderly : IsOrderly later.objects.ledger
-    orderly = (join_reaches course merged.objects.ledger (record { more = []; kinds = tt; run = at.0.reached.run; same = refl; orderly = at.0.reached.orderly }) tt epoch may.first.later may.first.known.elected stands (subst (λ (place : Place). place.epoch < epoch) (sym at.0.peer.saved.place) may.newer)).orderly
-
-    abbrev reached_on : Reached c
-    reached_on = goes_on at.0.reached (EndSync p epoch) may_join (elsewhere_end p epoch merged stands may_join) orderly refl
-
-    roles_joined : RolesHold at.0.reached.ghosts later (put c.roles p (role_in key x.phase (owed_after [] out.answers))) (said_in_sends p out.sends ++ c.said)
-    roles_joined = (run_roles view at.0.reached.steps at.0.reached.run).silent at.0.reached.ghosts (put c.roles p (role_in key x.phase (owed_after [] out.answers))) (said_in_sends p out.sends ++ c.said) (EndSync p epoch) may_join tt at.0.roles
-
-    -- the peer then, once the fact is saved
-    abbrev joined_state : PeerState
-    joined_state = record x { fact = new; trusted = true; sync = None }
-
-    abbrev held : Held
-    held = with_facts (record h.stores.facts { kept = Some (with_seal x.seal new) }) h
-
-    saved_new : IsSaved later.objects.ledger p new
-    saved_new = first_saved merged.objects.ledger later.objects.ledger p new (join_keeps merged.objects.ledger p epoch stands) may.first stands (put_here merged.objects.ledger.fact p (record { epoch = epoch; seq = 1 }))
-
-    listed_new : IsListedPeer lines.voting p joined_state
-    listed_new = listed_synced new listed at.0.listed
-
-    tree_new : TreeHolds later strings p x.seal held
-    tree_new = record { last = last_stays strings p merged later h.hashed x.seal (tops_of h.stores) stay_on refl refl at.0.tree.last; sealed = refl; root = by_root at.0.tree.root }
-      where
-        by_root : RootHolds merged.objects p (top_of (tops_of h.stores)) x.seal h.stores.tree.top → RootHolds later.objects p (top_of (tops_of h.stores)) x.seal h.stores.tree.top
-        by_root (inl is) = inl is
-        by_root (inr none) = absurd (unsealed_not x.seal at.0.tree.last.unsealed none.1)
-
-    abbrev joined_here : AtRest c key joined_state held out notes
-    joined_here = (
+    abbrev joined_here : (seal : Option (List ℕ)) (u : Held) → u.stores.facts.kept ≡ Some (with_seal seal r.fact) → (m : Merged u) → IsSealOf seal m.digest → (seal ≡ None → x.seal ≡ None) → AtRest c key (joined_state seal) u out notes
+    joined_here seal u kept m names unsealed = (
       record {
         reached = reached_on;
         roles = roles_joined;
-        peer = record { saved = saved_new; kept = refl; phase = phase_joins merged.objects.ledger p x.fact new x.phase stands may at.0.peer.phase; sync = tt };
-        listed = listed_new;
-        trust = put_here merged.objects.trusted p true;
-        tree = tree_new;
+        peer = record { saved = saved_new; kept = ap bare kept; phase = phase_joins t.objects.ledger p x.fact r.fact x.phase stands may at.0.peer.phase; sync = tt };
+        listed = listed_new seal;
+        trust = put_here t.objects.trusted p true;
+        seal = seal_on lines x.seal seal unsealed at.0.seal;
+        tree = record {
+          last = last_stays strings p t later u.hashed seal (tops_of u.stores) stay_on refl refl (last_merged seal u m names unsealed);
+          sealed = ap kept_seal kept;
+          root = inl (m.root ∙ sym m.top, m.root ∙ sym (seal_names (top_of (tops_of u.stores)) seal m.digest m.top names));
+        };
         sync = tt;
-        fits = phase_stays at.0.reached.ghosts.hash merged later p x.fact x.phase stay_on (λ e elected. refl) at.0.peer.phase at.0.fits;
+        fits = phase_stays at.0.reached.ghosts.hash t later p x.fact x.phase stay_on (λ e elected. refl) at.0.peer.phase (phase_stays at.0.reached.ghosts.hash s t p x.fact x.phase stay (λ e elected. refl) at.0.peer.phase at.0.fits);
         task = rest_task later key x.phase at.1;
         noted = at.0.noted;
-        sends = sends_keep merged.objects.ledger later.objects.ledger p (join_keeps merged.objects.ledger p epoch stands) p out.sends at.0.sends;
+        sends = sends_keep t.objects.ledger later.objects.ledger p (join_keeps t.objects.ledger p d stands) p out.sends at.0.sends;
         listed_sends = at.0.listed_sends;
-        fits_sends = sends_stay merged later strings stay_on lines p out.sends at.0.fits_sends;
+        fits_sends = sends_stay t later strings stay_on lines p out.sends (sends_stay s t strings stay lines p out.sends at.0.fits_sends);
       },
       at.1,
     )
 
-    -- the fact is saved, or the save is refused
-    accepts_ends : (next mark : Rest PeerState (Unit {0})) → Ends c (next tt (record x { fact = new }) out) (mark tt (record x { fact = new }) out) held notes → Ends c (saved (Some new) x out next) (saved (Some new) x out mark) h notes
-    unfolding asked
-    accepts_ends next mark goes = ask_may_end keeping.grows c (Save (with_seal x.seal new)) (λ u. next u (record x { fact = new }) out) (λ u. mark u (record x { fact = new }) out) h notes (λ among. by_end (save_ends (with_seal x.seal new) h))
+    -- what follows once the fact is saved
+    abbrev Saved : Rest PeerState (Unit {0}) → Rest PeerState (Unit {0}) → Type 0
+    Saved next mark = (seal : Option (List ℕ)) (u : Held) → AtRest c key (joined_state seal) u out notes → Ends c (next tt (record x { fact = r.fact; seal = seal }) out) (mark tt (record x { fact = r.fact; seal = seal }) out) u notes
+
+    -- the fact is saved with this seal, or the save is refused
+    saves_end : (seal : Option (List ℕ)) (u : Held) → u.stores.facts.kept ≡ h.stores.facts.kept → (m : Merged u) → IsSealOf seal m.digest → (seal ≡ None → x.seal ≡ None) → (next mark : Rest PeerState (Unit {0})) → Saved next mark
+        → Ends c (Ask (Save (with_seal seal r.fact)) (λ v. next tt (record x { fact = r.fact; seal = seal }) out)) (Ask (Save (with_seal seal r.fact)) (λ v. mark tt (record x { fact = r.fact; seal = seal }) out)) u notes
+    saves_end seal u same m names unsealed next mark go =
+        ask_may_end keeping.grows c (Save (with_seal seal r.fact)) (λ v. next tt (record x { fact = r.fact; seal = seal }) out) (λ v. mark tt (record x { fact = r.fact; seal = seal }) out) u notes (λ among. by_end (save_ends (with_seal seal r.fact) u))
       where
-        tops_same : tops_of (answered (Save (with_seal x.seal new)) h).held.stores ≡ tops_of h.stores
-        tops_same = ap (λ tree. tree.store.tops) (keeping.spares (Save (with_seal x.seal new)) h).1
+        v : Held
+        v = (answered (Save (with_seal seal r.fact)) u).held
 
-        rests_either : HasEither (with_seal x.seal new) h (answered (Save (with_seal x.seal new)) h).held → Rests c (answered (Save (with_seal x.seal new)) h).held notes
-        rests_either (inl same) = rests_over c at.0 (answered (Save (with_seal x.seal new)) h).held same tops_same (keeping.grows (Save (with_seal x.seal new)) h)
-        rests_either (inr is) = rests_over c joined_here.0 (answered (Save (with_seal x.seal new)) h).held is tops_same (keeping.grows (Save (with_seal x.seal new)) h)
+        merged_left : Merged v
+        merged_left = merged_over u v (ap (λ tree. tree.store.tops) (keeping.spares (Save (with_seal seal r.fact)) u).1) (ap (λ tree. tree.top) (keeping.spares (Save (with_seal seal r.fact)) u).1) (keeping.grows (Save (with_seal seal r.fact)) u) m
 
-        by_end : SaveEnds (with_seal x.seal new) h (answered (Save (with_seal x.seal new)) h) → Answers c (Save (with_seal x.seal new)) (λ u. next u (record x { fact = new }) out) (λ u. mark u (record x { fact = new }) out) h notes ⊎ IsRefused c (Save (with_seal x.seal new)) h notes
+        either_rests : HasEither (with_seal seal r.fact) u v → Rests c v notes
+        either_rests (inl old) = rests_merged v (old ∙ same) merged_left
+        either_rests (inr new) = rests_over c (joined_here seal v new merged_left names unsealed).0 v refl refl (λ a i. i)
+
+        by_end : SaveEnds (with_seal seal r.fact) u (answered (Save (with_seal seal r.fact)) u)
+            → Answers c (Save (with_seal seal r.fact)) (λ v. next tt (record x { fact = r.fact; seal = seal }) out) (λ v. mark tt (record x { fact = r.fact; seal = seal }) out) u notes ⊎ IsRefused c (Save (with_seal seal r.fact)) u notes
         by_end (Saves is) = inl (record {
           answer = tt;
-          is = ap (λ (a : Answered (Save (with_seal x.seal new))). a.result) is;
-          goes = subst (λ (u : Held). Ends c (next tt (record x { fact = new }) out) (mark tt (record x { fact = new }) out) u notes) (sym (ap (λ (a : Answered (Save (with_seal x.seal new))). a.held) is)) goes;
+          is = ap (λ (a : Answered (Save (with_seal seal r.fact))). a.result) is;
+          goes = subst (λ (w : Held). Ends c (next tt (record x { fact = r.fact; seal = seal }) out) (mark tt (record x { fact = r.fact; seal = seal }) out) w notes) (sym (ap (λ (a : Answered (Save (with_seal seal r.fact))). a.held) is))
+              (go seal after (joined_here seal after refl (merged_over u after refl refl (λ a i. i) m) names unsealed));
         })
-        by_end (Refuses is left) = inr (record { error = StoreFault; is = is; rests = rests_either left })
+          where
+            after : Held
+            after = with_facts (record u.stores.facts { kept = Some (with_seal seal r.fact) }) u
+        by_end (Refuses is left) = inr (record { error = StoreFault; is = is; rests = either_rests left })
+
+    accepts_ends : (seals : Bool) → keeps_seal x ≡ seals → (u : Held) → u.stores.facts.kept ≡ h.stores.facts.kept → Merged u → (next mark : Rest PeerState (Unit {0})) → Saved next mark → Ends c (sealed_if seals r.fact x out next) (sealed_if seals r.fact x out mark) u notes
+    unfolding asked
+    accepts_ends true keeps u same m next mark go = ask_ends keeping.grows c Root (λ seal. Ask (Save (with_seal seal r.fact)) (λ v. next tt (record x { fact = r.fact; seal = seal }) out)) (λ seal. Ask (Save (with_seal seal r.fact)) (λ v. mark tt (record x { fact = r.fact; seal = seal }) out)) u notes (λ among. record {
+      answer = u.stores.tree.top;
+      is = refl;
+      goes = saves_end u.stores.tree.top u same m (inr m.root) (λ none. absurd (none-some m.digest (sym none ∙ m.root))) next mark go;
+    })
+    accepts_ends false keeps u same m next mark go = saves_end x.seal u same m (inl (seals_none x.mode.sealing x.seal keeps)) (λ none. none) next mark go
 
   -- ## What follows the acceptance
 
@@ -458,6 +539,7 @@ module _ (c : Scene) where
             listed = listed_counts_itself new accepts age trusts is at.0.listed;
             trust = at.0.trust;
             tree = at.0.tree;
+            seal = at.0.seal;
             sync = at.0.sync;
             fits = tt;
             task = tt;
@@ -500,34 +582,35 @@ module _ (c : Scene) where
     abbrev alone : AtRest c key (without_sync x) h out notes
     alone = (alone_here at.0, at.1)
 
-    end_sync_good : (r : Running) (entries : List Entry) → IsSyncing (now c at.0.reached).objects.ledger p x.fact (may_wait x.phase) r → IsListedFact lines.voting r.fact → SyncEnds (now c at.0.reached) strings p at.0.tree.last.map r entries → Ends c (end_sync p r entries x out next) (end_sync p r entries x out mark) h notes
-    end_sync_good r entries syncing listed ends =
-        installed_ends alone r entries refl syncing.may ends (needs_build r.sync.scan entries) refl (saves next) (saves mark) (λ u there may.
-        accepts_ends (there, at.1) r.fact listed may.syncs may.finishes (accepts next) (accepts mark)
-        (accepted_good x.phase (record x { fact = r.fact; trusted = true; sync = None }) refl refl refl syncing.may.first.own_ballot (joined_here (there, at.1) r.fact listed may.syncs may.finishes) next mark go))
+    end_sync_good : (r : Running) (entries : List Entry) → IsSyncing (now c at.0.reached).objects.ledger p x.fact (may_wait x.phase) r → IsListedFact lines.voting r.fact → SyncEnds (now c at.0.reached) strings p at.0.tree.last.map r entries → IsRooted r.sync.scan h.stores.tree.top
+        → Ends c (end_sync p r entries x out next) (end_sync p r entries x out mark) h notes
+    end_sync_good r entries syncing listed ends rooted =
+        installed_ends alone r entries syncing.may listed ends rooted (needs_build r.sync.scan entries) refl (saves next) (saves mark) (λ u same m.
+        accepts_ends alone r entries syncing.may listed ends rooted (keeps_seal (without_sync x)) refl u same m (accepts next) (accepts mark) (λ seal v joined.
+        accepted_good x.phase (record x { fact = r.fact; seal = seal; trusted = true; sync = None }) refl refl refl syncing.may.first.own_ballot joined next mark go))
       where
         accepts : Rest PeerState (List Task) → Rest PeerState (Unit {0})
         accepts rest done z out = accepted_in p r.fact z.phase (record z { trusted = true }) out rest
 
         saves : Rest PeerState (List Task) → Rest PeerState (Unit {0})
-        saves rest done y out = saved (Some r.fact) y out (accepts rest)
+        saves rest done y out = sealed_if (keeps_seal y) r.fact y out (accepts rest)
 
     -- the fact of a sync has a view
     has_view : (r : Running) → IsSyncing (now c at.0.reached).objects.ledger p x.fact (may_wait x.phase) r → 0 < length r.fact.views
     has_view r syncing = let l = (now c at.0.reached).objects.ledger in
         subst (λ (views : List (List ℕ)). 0 < length views) (sym syncing.may.first.known.views) (not_empty l (run_sound view at.0.reached.steps at.0.reached.run) (epoch_number r.fact.epoch) syncing.may.first.known.elected)
 
-    ended_good : (r : Running) (outcome : Outcome) → outcome_of r.sync ≡ outcome → IsSyncing (now c at.0.reached).objects.ledger p x.fact (may_wait x.phase) r → IsListedFact lines.voting r.fact → SyncSays lines (now c at.0.reached) strings p x.fact x.trusted at.0.tree.last.map r
+    ended_good : (r : Running) (outcome : Outcome) → outcome_of r.sync ≡ outcome → IsSyncing (now c at.0.reached).objects.ledger p x.fact (may_wait x.phase) r → IsListedFact lines.voting r.fact → SyncFits lines (now c at.0.reached) strings p x.fact x.trusted at.0.tree.last.map h.stores.tree.top (Some r)
         → Ends c (by_outcome p r outcome x out next) (by_outcome p r outcome x out mark) h notes
     ended_good r Pending is syncing listed says = go [] key (with_sync r x) h out notes (tt, (runs_here at.0 r syncing listed says, at.1))
     ended_good r (Trusted entries) is syncing listed says = end_sync_good r entries syncing listed
-        ((laws_here at.0.reached).ends strings p x.fact x.trusted at.0.tree.last.map r entries c.sound (listed.views (last_view r.fact.views) (last_view_in r.fact.views (has_view r syncing))) (few_here at.0.reached) at.0.peer.saved.ballot (ap (λ (place : Place). place.epoch) at.0.peer.saved.place) at.0.tree.last.says says is)
+        ((laws_here at.0.reached).ends strings p x.fact x.trusted at.0.tree.last.map r entries c.sound (listed.views (last_view r.fact.views) (last_view_in r.fact.views (has_view r syncing))) (few_here at.0.reached) at.0.peer.saved.ballot (ap (λ (place : Place). place.epoch) at.0.peer.saved.place) at.0.tree.last.says says.0 is) says.1
 
   -- ## What a sync does
 
   -- a sync sends its questions, and goes on, or ends
   pub gone_good : {key : List ℕ} {x : PeerState} {h : Held} {out : Out} {notes : List Note} (at : AtRest c key x h out notes) (next mark : Rest PeerState (List Task)) → Onward c (PhasesNext c) next mark → (r : Running × List Outgoing) (of : Running) → IsSyncing (now c at.0.reached).objects.ledger p x.fact (may_wait x.phase) r.0
-      → IsListedFact lines.voting r.0.fact → SyncSays lines (now c at.0.reached) strings p x.fact x.trusted at.0.tree.last.map r.0 → All (MayGo p) r.1 → All (IsQuestion of) r.1 → Ends c (go_on p r x out next) (go_on p r x out mark) h notes
+      → IsListedFact lines.voting r.0.fact → SyncFits lines (now c at.0.reached) strings p x.fact x.trusted at.0.tree.last.map h.stores.tree.top (Some r.0) → All (MayGo p) r.1 → All (IsQuestion of) r.1 → Ends c (go_on p r x out next) (go_on p r x out mark) h notes
   gone_good at next mark go r of syncing listed says may ask = ended_good (asks_here at.0 of r.1 may ask, at.1) next mark go r.0 (outcome_of r.0.sync) refl syncing listed says
 
   -- the stores after a call that leaves the root of the tree and the fact
@@ -539,7 +622,8 @@ module _ (c : Scene) where
     listed = here.listed;
     trust = here.trust;
     tree = tree_kept (now c here.reached) strings p x.seal call h root kept here.tree;
-    sync = here.sync;
+    seal = here.seal;
+    sync = subst (λ (top : Option (List ℕ)). SyncFits lines (now c here.reached) strings p x.fact x.trusted here.tree.last.map top x.sync) (sym (root_same call h root)) here.sync;
     fits = here.fits;
     task = here.task;
     noted = here.noted;
@@ -558,9 +642,12 @@ module _ (c : Scene) where
       same : (answered ScanTree h).held.stores.facts.kept ≡ h.stores.facts.kept
       same = ap (λ (f : HeldFact). f.kept) (keeping.spares ScanTree h).1
 
-      starts : AreAmong (answered ScanTree h).held.hashed strings → (scan : Scan) → (answered ScanTree h).result ≡ Ok scan → IsScanned at.0.tree.last.map (Ok scan) → SyncSays lines (now c at.0.reached) strings p x.fact x.trusted at.0.tree.last.map (row_start new p x.trusted scan).0
-      starts among scan is entries = (laws_here at.0.reached).starts strings p x.fact new x.trusted at.0.tree.last.map scan (firm_here at.0.reached) at.0.trust at.0.peer.saved.ballot (first_seen (now c at.0.reached).objects.ledger new may.first) (ap epoch_number may.promised) may.newer
-          (λ node within. among node (keeping.grows ScanTree h node (at.0.tree.last.named.texts node within))) at.0.tree.last.says (record { is_map = at.0.tree.last.named.stands.is_map; entries = entries; positions = scan_positions h scan is })
+      starts : AreAmong (answered ScanTree h).held.hashed strings → (scan : Scan) → (answered ScanTree h).result ≡ Ok scan → IsScanned at.0.tree.last.map (Ok scan) → SyncFits lines (now c at.0.reached) strings p x.fact x.trusted at.0.tree.last.map (answered ScanTree h).held.stores.tree.top (Some (row_start new p x.trusted scan).0)
+      starts among scan is entries = (
+        (laws_here at.0.reached).starts strings p x.fact new x.trusted at.0.tree.last.map scan (firm_here at.0.reached) at.0.trust at.0.peer.saved.ballot (first_seen (now c at.0.reached).objects.ledger new may.first) (ap epoch_number may.promised) may.newer
+            (λ node within. among node (keeping.grows ScanTree h node (at.0.tree.last.named.texts node within))) at.0.tree.last.says (record { is_map = at.0.tree.last.named.stands.is_map; entries = entries; positions = scan_positions h scan is }),
+        λ clean none. unclean h scan is none clean,
+      )
 
       by_scan : AreAmong (answered ScanTree h).held.hashed strings → (result : Result Scan PeerError) → (answered ScanTree h).result ≡ result → IsScanned at.0.tree.last.map result → Answers c ScanTree (λ scan. go_on p (row_start new p x.trusted scan) x out next) (λ scan. go_on p (row_start new p x.trusted scan) x out mark) h notes
       by_scan among (Ok scan) is entries = record {
@@ -575,12 +662,12 @@ module _ (c : Scene) where
   pub resumed_good : {key : List ℕ} {x : PeerState} {h : Held} {out : Out} {notes : List Note} (at : AtRest c key x h out notes) (next mark : Rest PeerState (List Task)) → Onward c (PhasesNext c) next mark → Ends c (resume_sync x.sync x out next) (resume_sync x.sync x out mark) h notes
   resumed_good {key} {x} {h} {out} {notes} at next mark go = by_sync x.sync refl
     where
-      asks_again : (r : Running) → x.sync ≡ Some r → IsSyncing (now c at.0.reached).objects.ledger p x.fact (may_wait x.phase) r → IsListedFact lines.voting r.fact → SyncSays lines (now c at.0.reached) strings p x.fact x.trusted at.0.tree.last.map r
+      asks_again : (r : Running) → x.sync ≡ Some r → IsSyncing (now c at.0.reached).objects.ledger p x.fact (may_wait x.phase) r → IsListedFact lines.voting r.fact → SyncFits lines (now c at.0.reached) strings p x.fact x.trusted at.0.tree.last.map h.stores.tree.top (Some r)
           → Ends c (next [] (with_sync (row_resume r).0 x) (and_sends out (row_resume r).1)) (mark [] (with_sync (row_resume r).0 x) (and_sends out (row_resume r).1)) h notes
       asks_again r is syncing listed says = go [] key (with_sync (row_resume r).0 x) h (and_sends out (row_resume r).1) notes (
         tt,
         (
-          runs_here (asks_here at.0 r (row_resume r).1 (resume_go p r syncing.asks) (resume_ask p r syncing.asks)) (row_resume r).0 (record { may = syncing.may; asks = resumed_are p r syncing.asks }) listed ((laws_here at.0.reached).resumes strings p x.fact x.trusted at.0.tree.last.map r says),
+          runs_here (asks_here at.0 r (row_resume r).1 (resume_go p r syncing.asks) (resume_ask p r syncing.asks)) (row_resume r).0 (record { may = syncing.may; asks = resumed_are p r syncing.asks }) listed ((laws_here at.0.reached).resumes strings p x.fact x.trusted at.0.tree.last.map r says.0, says.1),
           at.1,
         ),
       )
@@ -588,4 +675,4 @@ module _ (c : Scene) where
       by_sync : (sync : Option Running) → x.sync ≡ sync → Ends c (resume_sync sync x out next) (resume_sync sync x out mark) h notes
       by_sync None is = go [] key x h out notes (tt, at)
       by_sync (Some r) is = asks_again r is (subst (ledgers.SyncHolds (now c at.0.reached).objects.ledger p x.fact (may_wait x.phase)) is at.0.peer.sync) (subst (IsListedSync lines.voting) is at.0.listed.sync)
-          (subst (SyncMaySay lines (now c at.0.reached) strings p x.fact x.trusted at.0.tree.last.map) is at.0.sync)
+          (subst (SyncFits lines (now c at.0.reached) strings p x.fact x.trusted at.0.tree.last.map h.stores.tree.top) is at.0.sync)

@@ -2,6 +2,7 @@
 -- path; an object of the backend comes with the digest of its bytes; and an object that is written is
 -- stored, unless its path is damaged. The steps of the abstract protocol that belong to this are those
 -- of the peer's own tree: a write, and an acknowledgement.
+use Rattle.std.specs.Option.{is_some}
 use Rattle.std.proofs.Common.{◌≡◌, ◌⊎◌, inl, inr, ◌<◌, ◌≤◌, ◌^◌, ℕ, Bool, true, false, ◌&&◌, if◌then◌else◌, List, [], ◌∷◌, ◌++◌, length, map, Option, None, Some, Ok, Err, arith, refl, sym, ap, subst, ◌∙◌}
 use Rattle.std.proofs.lemmas.Bool.{and_parts, cases_order}
 use Rattle.std.proofs.lemmas.Bool.Decides.{nat_tests}
@@ -23,18 +24,18 @@ use Rattle.abstract_protocol.proofs.Ranks.{version_within}
 use Rattle.abstract_protocol.specs.Book.{version_of}
 use Rattle.abstract_protocol.specs.Ledger as ledger
 use Rattle.abstract_protocol.specs.Numbers.{epoch_number, IsVersion}
-use Rattle.abstract_protocol.specs.Objects.{epoch_of, set_entry, IsGenuine, MayAcknowledge}
+use Rattle.abstract_protocol.specs.Objects.{epoch_of, set_entry, IsGenuine, MayAcknowledge, Map, IsHonest}
 use Rattle.abstract_protocol.specs.Protocol.{State, Step, Write, Acknowledge, IsRun, state_after, happens, MayCome}
 use Rattle.election_laws.proofs.Epochs.{not_empty}
 use Rattle.election_laws.proofs.Sound.{Sound, run_sound}
-use Rattle.version_laws.proofs.Maps.{epoch_mono, put_other}
+use Rattle.version_laws.proofs.Maps.{epoch_mono, put_other, put_here}
 use Rattle.version_laws.proofs.Trees.{run_versions}
 use Rattle.version_laws.specs.Versions.{VersionsAreSafe, IsSettled}
 use Rattle.entry_laws.proofs.Later.{stay_step, stay_then as stays_then}
 use Rattle.entry_laws.specs.Stays.{EntriesStay}
 use Rattle.election_refinement.specs.Refinement.{may_wait, SyncHolds}
 use Rattle.call_table.specs.Best.{better}
-use Rattle.held_stores.specs.Answers.{answered}
+use Rattle.held_stores.specs.Answers.{answered, Answered, with_facts}
 use Rattle.held_stores.specs.Held.{Held, and_hashed}
 use Rattle.leader_laws.proofs.Roles.{run_roles}
 use Rattle.leader_laws.specs.Leaders.{IsObjectOf}
@@ -45,7 +46,8 @@ use Rattle.leader_refinement.proofs.Numbers.{rank_back, rank_some}
 use Rattle.leader_refinement.specs.Follows.{Hash as Digests}
 use Rattle.leader_refinement.specs.Laws.{BackendSays, FoundSays, LookSays, LookNames}
 use Rattle.leader_refinement.specs.Seen.{rank, content_of, entry_rank, shown, owed_after}
-use Rattle.peer_plan.specs.Owns.{digested, read, kept, fetched, held, looked_at, looked, found_at, found, entered, written, confirmed}
+use Rattle.peer_plan.specs.Syncs.{sealed}
+use Rattle.peer_plan.specs.Owns.{digested, read, kept, fetched, held, looked_at, looked, found_at, found, stored as stored_bytes, resealed, entered, written, confirmed}
 use Rattle.peer_state.specs.declared.state.State.{State as PeerState}
 use Rattle.register_model.specs.declared.note.Note.{Note}
 use Rattle.register_model.specs.declared.call.Call.{Call as BookCall}
@@ -57,16 +59,19 @@ use Rattle.request_refinement.proofs.Staying.{put_entry, write_shows}
 use Rattle.request_refinement.specs.Naming.{hash_of, version_string, object_of_version, VersionSays, EntrySays, EntryMaySay, MayBeDecoded}
 use Rattle.request_refinement.specs.Replies.{MapSays, LookSees, IsShown, found_in}
 use Rattle.running_sync.specs.Running.{Running}
-use Rattle.seal_stores.specs.Held.{kept_seal}
-use Rattle.step_plans.specs.Calls.{Call, Find, Enter, Fetch, Put, Hash}
+use Rattle.step_plans.specs.Saved.{bare, kept_seal, with_seal}
+use Rattle.peer_fact.specs.declared.fact.Fact.{Fact}
+use Rattle.peer_fact.specs.declared.saved.SavedFact.{SavedFact}
+use Rattle.seal_laws.proofs.Moves.{set_same}
+use Rattle.seal_laws.specs.Kept.{IsSealed}
+use Rattle.step_plans.specs.Calls.{Call, Find, Enter, Fetch, Put, Hash, Root, Save}
 use Rattle.step_plans.specs.Plans.{Plan, Ask, Out, Rest, asked}
 use Rattle.step_plans.specs.declared.error.PeerError.TheVariants.{StoreFault}
 use Rattle.step_plans.specs.declared.walked.Walked.TheVariants.{Reached as Came, Broken}
-use Rattle.step_plans.specs.Saved.{bare}
 use Rattle.sync_refinement.proofs.Ends.{distinct_keys}
 use Rattle.sync_refinement.proofs.Gives.{trusted_maps, may_return}
 use Rattle.sync_refinement.proofs.Staying.{version_stays}
-use Rattle.sync_refinement.specs.Syncs.{TreeSays, MayReturn, SyncMaySay}
+use Rattle.sync_refinement.specs.Syncs.{TreeSays, MayReturn}
 use Rattle.tree_maps.proofs.Names.{md5_run}
 use Rattle.tree_maps.proofs.Parts.{ascends-put}
 use Rattle.tree_maps.specs.Entries.{lookup, put, IsMap}
@@ -82,12 +87,12 @@ use Rattle.world_stores.specs.declared.fact.HeldFact.{HeldFact}
 use Rattle.step_refinement.proofs.CallByCall.{Ends, Answers, IsRefused, ask_ends, ask_may_end}
 use Rattle.step_refinement.specs.Scenes.{Scene, state_before, Reached, now, Here, Rests}
 use Rattle.step_refinement.proofs.CalledKeys.{length_keys, key_from}
-use Rattle.step_refinement.proofs.StoreAnswers.{Looks, Finds, Breaks, find_ends, put_ends, EnterEnds, Enters, Stops, Tears, enter_ends, broken_root}
-use Rattle.step_refinement.proofs.Refusals.{rests_down, rests_over}
+use Rattle.step_refinement.proofs.StoreAnswers.{Looks, Finds, Breaks, find_ends, put_ends, EnterEnds, Enters, Stops, Tears, enter_ends, broken_root, HasEither, SaveEnds, Saves, Refuses, save_ends}
+use Rattle.step_refinement.proofs.Refusals.{rests_down, rests_over, rests_sealed}
 use Rattle.step_refinement.proofs.LaterStates.{sends_stay, sync_stays, phase_stays}
-use Rattle.step_refinement.proofs.ShownMaps.{tops_stay, last_under, last_written, root_same, tree_sees, tree_shows, tree_over, tree_written, tree_stays, names_from, written_from, written_kept}
+use Rattle.step_refinement.proofs.ShownMaps.{seal_on, tops_stay, last_under, last_written, root_same, tree_sees, tree_shows, tree_over, tree_written, tree_stays, names_from, written_from, written_kept, IsSealOf, written_root}
 use Rattle.step_refinement.specs.Keys.{KeysAreFew}
-use Rattle.step_refinement.specs.Peers.{TopsReturn, TreeHolds, AcksSay, TaskFits}
+use Rattle.step_refinement.specs.Peers.{TopsReturn, TreeHolds, AcksSay, TaskFits, LastMap, SealFits, SyncFits}
 use Rattle.step_refinement.specs.Roles.{role_in, said_in_sends}
 
 -- ## Settled versions
@@ -262,6 +267,13 @@ module _ (g : theory.Ghosts) (s : State) (strings : List (List ℕ)) (q d r : �
       own : (o.version ≡ e.version) × (e.digest ≡ g.hash e.version k o.stamp o.value)
       own = (match.version, subst (λ (f : Digests). e.digest ≡ f e.version k o.stamp o.value) (sym hash) plain)
 
+-- ## What is kept
+
+-- a fact that is kept with this seal
+both_kept : (kept : Option SavedFact) (fact : Fact) (seal : Option (List ℕ)) → bare kept ≡ Some fact → kept_seal kept ≡ seal → kept ≡ Some (with_seal seal fact)
+both_kept None fact seal is same = absurd (none-some fact is)
+both_kept (Some saved) fact seal is same = ap (λ (f : Fact). Some (with_seal saved.seal f)) (same_Some saved.fact fact is) ∙ ap (λ (x : Option (List ℕ)). Some (with_seal x fact)) same
+
 -- ## A scene
 
 module _ (c : Scene) where
@@ -354,11 +366,15 @@ module _ (c : Scene) where
     abbrev s : State
     s = now c here.reached
 
-    -- such a peer shows the map that it wrote last
+    -- a peer that trusts its tree shows the map that it wrote last
     pub shown_map : x.trusted ≡ true → MapSays s strings p here.tree.last.map
     shown_map trusts = trusted_maps view here.reached.steps here.reached.run strings p here.tree.last.map (here.trust ∙ trusts) here.tree.last.says
 
-    -- and runs no sync
+    -- the fact and the seal that its stores keep are its own
+    kept_whole : h.stores.facts.kept ≡ Some (with_seal x.seal x.fact)
+    kept_whole = both_kept h.stores.facts.kept x.fact x.seal here.peer.kept here.tree.sealed
+
+    -- and it runs no sync
     pub no_sync : IsReady x → x.sync ≡ None
     no_sync ready = none x.sync here.peer.sync
       where
@@ -376,12 +392,22 @@ module _ (c : Scene) where
       pub tops : tops_of t.stores ≡ tops_of h.stores
       pub hashed : AreAmong h.hashed t.hashed
 
-    -- the stores, after the object was written
-    pub record Stored (o : Object) (t : Held) : Type 0 where
-      pub kept_fact : t.stores.facts.kept ≡ h.stores.facts.kept
+    -- the stores, after the entry of the object went into the tree
+    record Entered (o : Object) (t : Held) : Type 0 where
+      kept_fact : t.stores.facts.kept ≡ h.stores.facts.kept
+      spelled : object_spelling o ∈ strings
+      hashed : AreAmong h.hashed t.hashed
+      written : IsWritten (put (entry_of o (md5 (object_spelling o))) here.tree.last.map) h t
+
+    -- the stores, after the object was written: its entry is in the tree, and a peer with a seal has saved its
+    -- fact with the new top record as its seal
+    pub record Stored (o : Object) (seal : Option (List ℕ)) (t : Held) : Type 0 where
+      pub kept_fact : t.stores.facts.kept ≡ Some (with_seal seal x.fact)
+      pub unsealed : seal ≡ None → x.seal ≡ None
       pub spelled : object_spelling o ∈ strings
       pub hashed : AreAmong h.hashed t.hashed
       pub written : IsWritten (put (entry_of o (md5 (object_spelling o))) here.tree.last.map) h t
+      pub names : IsSealOf seal written.next.digest
 
     -- one more call that leaves the tree
     over_call : (call : Call) (t : Held) → KeepsRoot call → (answered call t).held.stores.facts.kept ≡ t.stores.facts.kept → Over t → Over (answered call t).held
@@ -393,7 +419,7 @@ module _ (c : Scene) where
     }
 
     -- the peer agrees with the run over other stores too, with the same fact and a tree that agrees
-    abbrev pub here_over : (t : Held) → t.stores.facts.kept ≡ h.stores.facts.kept → (tree : TreeHolds s strings p x.seal t) → SyncMaySay lines s strings p x.fact x.trusted tree.last.map x.sync → Here c key x t out notes
+    abbrev pub here_over : (t : Held) → t.stores.facts.kept ≡ h.stores.facts.kept → (tree : TreeHolds s strings p x.seal t) → SyncFits lines s strings p x.fact x.trusted tree.last.map t.stores.tree.top x.sync → Here c key x t out notes
     here_over t kept_fact tree sync = record {
       reached = here.reached;
       roles = here.roles;
@@ -401,6 +427,7 @@ module _ (c : Scene) where
       listed = here.listed;
       trust = here.trust;
       tree = tree;
+      seal = here.seal;
       sync = sync;
       fits = here.fits;
       task = here.task;
@@ -412,7 +439,8 @@ module _ (c : Scene) where
 
     -- so it does after calls that leave the tree
     abbrev pub over_here : (t : Held) → Over t → Here c key x t out notes
-    over_here t over = here_over t over.kept_fact (tree_over s strings p x.seal h t over.kept_fact over.tops over.root over.hashed here.tree) here.sync
+    over_here t over = here_over t over.kept_fact (tree_over s strings p x.seal h t over.kept_fact over.tops over.root over.hashed here.tree)
+        (subst (λ (root : Option (List ℕ)). SyncFits lines s strings p x.fact x.trusted here.tree.last.map root x.sync) (sym over.root) here.sync)
 
     -- before any call the stores are such stores
     abbrev pub nothing_read : Over h
@@ -457,17 +485,28 @@ module _ (c : Scene) where
       pub map_returns : object_spelling o ∈ strings → IsMap map_then → MayReturn t strings p map_then
       map_returns spelled is_map = may_return view reached_then.steps reached_then.run strings p map_then is_map (tree_says spelled)
 
-      -- each map that a top record names may still return
-      pub tops_then : TopsReturn t strings h.hashed p (tops_of h.stores)
-      tops_then = tops_stay s t strings h.hashed p (tops_of h.stores) stay (here.tree.last.returns here.tree.last.unsealed)
+      -- the map that the peer shows then is the one that it wrote last
+      pub honest_then : IsHonest t.objects p
+      honest_then k =
+          ap (λ (m : Map). m k) (put_here s.objects.visible p (set_entry (s.objects.visible p) (s.objects.key (rank o.version)) (rank o.version)))
+          ∙ (set_same (s.objects.visible p) (s.objects.map p) (s.objects.key (rank o.version)) (rank o.version) k (store.may.0.honest k)
+          ∙ sym (ap (λ (m : Map). m k) (put_here s.objects.map p (set_entry (s.objects.map p) (s.objects.key (rank o.version)) (rank o.version)))))
+
+      -- without a seal each map that a top record names may still return
+      pub tops_then : x.seal ≡ None → TopsReturn t strings h.hashed p (tops_of h.stores)
+      tops_then none = tops_stay s t strings h.hashed p (tops_of h.stores) stay (here.tree.last.returns none)
 
       -- the roles of the peers still hold
       pub roles_then : RolesHold here.reached.ghosts t (ledger.put c.roles p (role_in key x.phase (owed_after [] out.answers))) (said_in_sends p out.sends ++ c.said)
       roles_then = (run_roles view here.reached.steps here.reached.run).silent here.reached.ghosts (ledger.put c.roles p (role_in key x.phase (owed_after [] out.answers))) (said_in_sends p out.sends ++ c.said) (Write p (rank o.version)) store.may tt here.roles
 
-      -- a call is refused after a top record was written that names the map with the entry
-      rests_written : (u : Held) → u.stores.facts.kept ≡ h.stores.facts.kept → object_spelling o ∈ strings → AreAmong h.hashed u.hashed → NamesNext map_then h u → Rests c u notes
-      rests_written u kept_fact spelled among next = rests_down c {x = x} {notes = notes}
+      -- the peer keeps the map with the entry under this seal, or without one
+      abbrev last_then : (seal : Option (List ℕ)) (u : Held) → object_spelling o ∈ strings → AreAmong h.hashed u.hashed → (next : NamesNext map_then h u) → IsSealOf seal next.digest → (seal ≡ None → x.seal ≡ None) → LastMap t strings u.hashed p seal (tops_of u.stores)
+      last_then seal u spelled among next names unsealed = last_written strings p t h u seal map_then next names among (tree_says spelled) honest_then (map_returns spelled next.named.stands.is_map) (λ none. tops_then (unsealed none))
+
+      -- a call is refused after the version was written
+      rests_written : (seal : Option (List ℕ)) (u : Held) → u.stores.facts.kept ≡ Some (with_seal seal x.fact) → object_spelling o ∈ strings → AreAmong h.hashed u.hashed → (next : NamesNext map_then h u) → IsSealOf seal next.digest → (seal ≡ None → x.seal ≡ None) → Rests c u notes
+      rests_written seal u kept_fact spelled among next names unsealed = rests_down c {x = x} {notes = notes}
           (record {
             reached = reached_then;
             role = role_in key x.phase (owed_after [] out.answers);
@@ -477,19 +516,19 @@ module _ (c : Scene) where
             listed = here.listed.fact;
             noted = here.noted;
           })
-          u (ap bare kept_fact ∙ here.peer.kept) (last_under strings p t u.hashed x.seal (kept_seal u.stores.facts.kept) (tops_of u.stores) (ap kept_seal kept_fact ∙ here.tree.sealed)
-          (last_written strings p t h u x.seal map_then here.tree.last.unsealed next among (tree_says spelled) (map_returns spelled next.named.stands.is_map) tops_then))
+          u (ap bare kept_fact) (subst (SealFits lines) (sym (ap kept_seal kept_fact)) (seal_on lines x.seal seal unsealed here.seal)) (last_under strings p t u.hashed seal (kept_seal u.stores.facts.kept) (tops_of u.stores) (ap kept_seal kept_fact) (last_then seal u spelled among next names unsealed))
 
       -- the object was written: its version is in the peer's tree
-      abbrev pub write_here : (u : Held) → Stored o u → TaskFits t key x.phase → Here c key x u out notes
-      write_here u stored task = record {
+      abbrev pub write_here : (seal : Option (List ℕ)) (u : Held) → Stored o seal u → TaskFits t key x.phase → Here c key (record x { seal = seal }) u out notes
+      write_here seal u stored task = record {
         reached = reached_then;
         roles = roles_then;
-        peer = record { saved = here.peer.saved; kept = ap bare stored.kept_fact ∙ here.peer.kept; phase = here.peer.phase; sync = here.peer.sync };
-        listed = here.listed;
+        peer = record { saved = here.peer.saved; kept = ap bare stored.kept_fact; phase = here.peer.phase; sync = here.peer.sync };
+        listed = record { fact = here.listed.fact; phase = here.listed.phase; sync = here.listed.sync };
         trust = here.trust;
-        tree = tree_written t strings p x.seal h u map_then here.tree.last.unsealed (ap kept_seal stored.kept_fact ∙ here.tree.sealed) stored.written stored.hashed (tree_says stored.spelled) (map_returns stored.spelled stored.written.next.named.stands.is_map) tops_then;
-        sync = subst (λ (sync : Option Running). SyncMaySay lines t strings p x.fact x.trusted map_then sync) (sym (no_sync store.ready)) tt;
+        tree = tree_written t strings p seal h u map_then stored.written stored.names (ap kept_seal stored.kept_fact) stored.hashed (tree_says stored.spelled) honest_then (map_returns stored.spelled stored.written.next.named.stands.is_map) (λ none. tops_then (stored.unsealed none));
+        seal = seal_on lines x.seal seal stored.unsealed here.seal;
+        sync = subst (λ (sync : Option Running). SyncFits lines t strings p x.fact x.trusted map_then u.stores.tree.top sync) (sym (no_sync store.ready)) tt;
         fits = phase_stays here.reached.ghosts.hash s t p x.fact x.phase stay (λ e elected. refl) here.peer.phase here.fits;
         task = task;
         noted = here.noted;
@@ -509,7 +548,8 @@ module _ (c : Scene) where
       listed = here.listed;
       trust = here.trust;
       tree = tree_stays s (happens s (Acknowledge p v)) strings p x.seal h (stay_step s (Acknowledge p v) may) refl refl (λ blind. blind) here.tree;
-      sync = sync_stays lines s (happens s (Acknowledge p v)) strings p x.fact x.trusted here.tree.last.map x.sync (stay_step s (Acknowledge p v) may) here.peer.saved.ballot here.sync;
+      seal = here.seal;
+      sync = sync_stays lines s (happens s (Acknowledge p v)) strings p x.fact x.trusted here.tree.last.map h.stores.tree.top x.sync (stay_step s (Acknowledge p v) may) here.peer.saved.ballot here.sync;
       fits = phase_stays here.reached.ghosts.hash s (happens s (Acknowledge p v)) p x.fact x.phase (stay_step s (Acknowledge p v) may) (λ d elected. refl) here.peer.phase here.fits;
       task = task;
       noted = here.noted;
@@ -662,30 +702,103 @@ module _ (c : Scene) where
         abbrev e : Entry
         e = entry_of o (md5 bytes)
 
-        -- the object is in the tree; now its bytes go into the backend
-        bytes_end : (t : Held) → Stored o t → ((u : Held) → Stored o u → Ends c (next (seens.Stored (md5 bytes)) x out) (mark (seens.Stored (md5 bytes)) x out) u notes)
-            → Ends c (entered o bytes (md5 bytes) (Came tt) x out next) (entered o bytes (md5 bytes) (Came tt) x out mark) t notes
+        -- what follows where the object was written
+        abbrev Onwards : Type 0
+        Onwards = (seal : Option (List ℕ)) (u : Held) → Stored o seal u → Ends c (next (seens.Stored (md5 bytes)) (record x { seal = seal }) out) (mark (seens.Stored (md5 bytes)) (record x { seal = seal }) out) u notes
+
+        -- the object is written; now its bytes go into the backend
+        bytes_end : (seal : Option (List ℕ)) (t : Held) → Stored o seal t → Onwards
+            → Ends c (stored_bytes o bytes (md5 bytes) (record x { seal = seal }) out next) (stored_bytes o bytes (md5 bytes) (record x { seal = seal }) out mark) t notes
         unfolding asked
-        bytes_end t stored go = ask_may_end grows c (Put o.key bytes) (λ u. next (seens.Stored (md5 bytes)) x out) (λ u. mark (seens.Stored (md5 bytes)) x out) t notes (λ among. by_end (put_ends o.key bytes t))
+        bytes_end seal t stored go = ask_may_end grows c (Put o.key bytes) (λ u. next (seens.Stored (md5 bytes)) (record x { seal = seal }) out) (λ u. mark (seens.Stored (md5 bytes)) (record x { seal = seal }) out) t notes (λ among. by_end (put_ends o.key bytes t))
           where
             u : Held
             u = (answered (Put o.key bytes) t).held
 
-            still : Stored o u
+            still : Stored o seal u
             still = record {
               kept_fact = ap (λ (f : HeldFact). f.kept) (spares (Put o.key bytes) t).1 ∙ stored.kept_fact;
+              unsealed = stored.unsealed;
               spelled = stored.spelled;
               hashed = λ a at. grows (Put o.key bytes) t a (stored.hashed a at);
               written = written_kept (Put o.key bytes) h t (put e here.tree.last.map) tt stored.written;
+              names = stored.names;
             }
 
             by_end : ((answered (Put o.key bytes) t).result ≡ Ok tt) ⊎ ((answered (Put o.key bytes) t).result ≡ Err StoreFault)
-                → Answers c (Put o.key bytes) (λ u. next (seens.Stored (md5 bytes)) x out) (λ u. mark (seens.Stored (md5 bytes)) x out) t notes ⊎ IsRefused c (Put o.key bytes) t notes
-            by_end (inl is) = inl (record { answer = tt; is = is; goes = go u still })
-            by_end (inr is) = inr (record { error = StoreFault; is = is; rests = rests_written o d store u still.kept_fact still.spelled still.hashed still.written.next })
+                → Answers c (Put o.key bytes) (λ u. next (seens.Stored (md5 bytes)) (record x { seal = seal }) out) (λ u. mark (seens.Stored (md5 bytes)) (record x { seal = seal }) out) t notes ⊎ IsRefused c (Put o.key bytes) t notes
+            by_end (inl is) = inl (record { answer = tt; is = is; goes = go seal u still })
+            by_end (inr is) = inr (record { error = StoreFault; is = is; rests = rests_written o d store seal u still.kept_fact still.spelled still.hashed still.written.next still.names still.unsealed })
+
+        -- a peer with a seal saves its fact again, and then the object is written
+        saved_end : (t : Held) → Entered o t → IsSealed x.seal → Onwards → Ends c (sealed x.fact x out (λ v y q. stored_bytes o bytes (md5 bytes) y q next)) (sealed x.fact x out (λ v y q. stored_bytes o bytes (md5 bytes) y q mark)) t notes
+        unfolding asked
+        saved_end t at is_sealed go = ask_ends grows c Root (λ seal. Ask (Save (with_seal seal x.fact)) (λ v. bytes_then seal next)) (λ seal. Ask (Save (with_seal seal x.fact)) (λ v. bytes_then seal mark)) t notes (λ among. record {
+          answer = root;
+          is = refl;
+          goes = ask_may_end grows c (Save (with_seal root x.fact)) (λ v. bytes_then root next) (λ v. bytes_then root mark) t notes (λ more. by_end (save_ends (with_seal root x.fact) t));
+        })
+          where
+            root : Option (List ℕ)
+            root = t.stores.tree.top
+
+            bytes_then : Option (List ℕ) → Rest PeerState Seen → Plan PeerState
+            bytes_then seal rest = stored_bytes o bytes (md5 bytes) (record x { seal = seal }) out rest
+
+            is_root : root ≡ Some at.written.next.digest
+            is_root = written_root h t (put e here.tree.last.map) at.written
+
+            -- over these stores the object is written
+            saved_so : (u : Held) → u.stores.facts.kept ≡ Some (with_seal root x.fact) → AreAmong t.hashed u.hashed → (written : IsWritten (put e here.tree.last.map) h u) → written.next.digest ≡ at.written.next.digest → Stored o root u
+            saved_so u kept among written same = record {
+              kept_fact = kept;
+              unsealed = λ none. absurd (none-some at.written.next.digest (sym none ∙ is_root));
+              spelled = at.spelled;
+              hashed = λ a i. among a (at.hashed a i);
+              written = written;
+              names = inr (is_root ∙ ap (λ (x : List ℕ). Some x) (sym same));
+            }
+
+            v : Held
+            v = (answered (Save (with_seal root x.fact)) t).held
+
+            stopped : Stored o root v → Rests c v notes
+            stopped stored = rests_written o d store root v stored.kept_fact stored.spelled stored.hashed stored.written.next stored.names stored.unsealed
+
+            either_rests : HasEither (with_seal root x.fact) t v → Rests c v notes
+            either_rests (inl same) = rests_sealed c here v (same ∙ at.kept_fact) (λ a i. grows (Save (with_seal root x.fact)) t a (at.hashed a i)) is_sealed
+            either_rests (inr is) = stopped (saved_so v is (grows (Save (with_seal root x.fact)) t) (written_kept (Save (with_seal root x.fact)) h t (put e here.tree.last.map) tt at.written) refl)
+
+            by_end : SaveEnds (with_seal root x.fact) t (answered (Save (with_seal root x.fact)) t) → Answers c (Save (with_seal root x.fact)) (λ v. bytes_then root next) (λ v. bytes_then root mark) t notes ⊎ IsRefused c (Save (with_seal root x.fact)) t notes
+            by_end (Saves is) = inl (record {
+              answer = tt;
+              is = ap (λ (a : Answered (Save (with_seal root x.fact))). a.result) is;
+              goes = subst (λ (u : Held). Ends c (bytes_then root next) (bytes_then root mark) u notes) (sym (ap (λ (a : Answered (Save (with_seal root x.fact))). a.held) is))
+                  (bytes_end root (with_facts (record t.stores.facts { kept = Some (with_seal root x.fact) }) t)
+                  (saved_so (with_facts (record t.stores.facts { kept = Some (with_seal root x.fact) }) t) refl (λ a i. i)
+                  (record { next = record { digest = at.written.next.digest; tops = at.written.next.tops; named = at.written.next.named }; shows = record { digest = at.written.shows.digest; top = at.written.shows.top; stands = at.written.shows.stands; texts = at.written.shows.texts }; recorded = at.written.recorded }) refl)
+                  go);
+            })
+            by_end (Refuses is left) = inr (record { error = StoreFault; is = is; rests = either_rests left })
+
+        -- the entry is in the tree
+        entered_end : (t : Held) → Entered o t → Onwards → Ends c (entered o bytes (md5 bytes) (Came tt) x out next) (entered o bytes (md5 bytes) (Came tt) x out mark) t notes
+        entered_end t at go = by_seal x.seal refl
+          where
+            by_seal : (seal : Option (List ℕ)) → x.seal ≡ seal
+                → Ends c (resealed (is_some seal) x out (λ v y q. stored_bytes o bytes (md5 bytes) y q next)) (resealed (is_some seal) x out (λ v y q. stored_bytes o bytes (md5 bytes) y q mark)) t notes
+            by_seal None none = bytes_end x.seal t (record {
+              kept_fact = at.kept_fact ∙ kept_whole;
+              unsealed = λ is. is;
+              spelled = at.spelled;
+              hashed = at.hashed;
+              written = at.written;
+              names = inl none;
+            }) go
+            by_seal (Some seal) is = saved_end t at (subst IsSealed (sym is) tt) go
 
         -- the entry goes into the tree
-        entry_ends : (t : Held) → bytes ∈ strings → Over t → ((u : Held) → Stored o u → Ends c (next (seens.Stored (md5 bytes)) x out) (mark (seens.Stored (md5 bytes)) x out) u notes) → EndsDamaged next mark
+        entry_ends : (t : Held) → bytes ∈ strings → Over t → Onwards → EndsDamaged next mark
             → Ends c (Ask (Enter e) (λ end. entered o bytes (md5 bytes) end x out next)) (Ask (Enter e) (λ end. entered o bytes (md5 bytes) end x out mark)) t notes
         entry_ends t spelled over go damaged = ask_may_end grows c (Enter e) (λ end. entered o bytes (md5 bytes) end x out next) (λ end. entered o bytes (md5 bytes) end x out mark) t notes (λ among.
             by_end (enter_ends strings t here.tree.last.map e c.free among (tree_shows s strings p x.seal t (over_here t over).tree (here.trust ∙ store.ready.trusts)) (record { key = store.obeys.key; version = store.obeys.version; digest = md5_run bytes }) (few_entries o d (md5 bytes) store.says)))
@@ -699,16 +812,20 @@ module _ (c : Scene) where
             hashed : AreAmong h.hashed u.hashed
             hashed a at = grows (Enter e) t a (over.hashed a at)
 
-            -- the write of the top record was refused
+            -- the write of the top record was refused, and left the new one: that is a write without a seal alone
+            left_new : NamesNext (put e here.tree.last.map) h u → (seal : Option (List ℕ)) → x.seal ≡ seal → Rests c u notes
+            left_new named None none = rests_written o d store x.seal u (still ∙ kept_whole) spelled hashed named (inl none) (λ is. is)
+            left_new named (Some seal) is = rests_sealed c here u still hashed (subst IsSealed (sym is) tt)
+
             torn : (tops_of u.stores ≡ tops_of t.stores) ⊎ NamesNext (put e here.tree.last.map) t u → Rests c u notes
             torn (inl same) = rests_over c here u still (same ∙ over.tops) hashed
-            torn (inr named) = rests_written o d store u still spelled hashed (names_from h t u (put e here.tree.last.map) over.tops named)
+            torn (inr named) = left_new (names_from h t u (put e here.tree.last.map) over.tops named) x.seal refl
 
             by_end : EnterEnds e here.tree.last.map t (answered (Enter e) t).result u → Answers c (Enter e) (λ end. entered o bytes (md5 bytes) end x out next) (λ end. entered o bytes (md5 bytes) end x out mark) t notes ⊎ IsRefused c (Enter e) t notes
             by_end (Enters is written) = inl (record {
               answer = Came tt;
               is = is;
-              goes = bytes_end u (record { kept_fact = still; spelled = spelled; hashed = hashed; written = written_from h t u (put e here.tree.last.map) over.tops written }) go;
+              goes = entered_end u (record { kept_fact = still; spelled = spelled; hashed = hashed; written = written_from h t u (put e here.tree.last.map) over.tops written }) go;
             })
             by_end (Stops at is tops) = inl (record {
               answer = Broken at;
@@ -718,7 +835,7 @@ module _ (c : Scene) where
             by_end (Tears is either) = inr (record { error = StoreFault; is = is; rests = torn either })
 
         -- rules 22 and 35: the object is written
-        pub written_ends : ((u : Held) → Stored o u → Ends c (next (seens.Stored (md5 bytes)) x out) (mark (seens.Stored (md5 bytes)) x out) u notes) → EndsDamaged next mark
+        pub written_ends : Onwards → EndsDamaged next mark
             → Ends c (written o x out next) (written o x out mark) h notes
         unfolding asked
         written_ends go damaged = ask_ends grows c (Hash bytes) (λ digest. asks digest next) (λ digest. asks digest mark) h notes (λ among. record {

@@ -1,5 +1,5 @@
 -- What holds of a peer and its stores besides its part in elections, and what messages say besides.
-use Rattle.std.specs.Prelude.{◌≡◌, ◌<◌, ◌^◌, ℕ, true, false, List, Option, None, Some}
+use Rattle.std.specs.Prelude.{◌≡◌, ◌<◌, ◌^◌, ℕ, Bool, true, false, List, Option, None, Some}
 use Rattle.ens_base.specs.Limits.{IsKey, IsCommand}
 use Rattle.ens_base.specs.Lists.{◌∈◌}
 use Rattle.ens_base.specs.declared.entry.Entry.{Entry}
@@ -26,12 +26,14 @@ use Rattle.wire_frames.specs.declared.frame.Frame.{Frame}
 use Rattle.wire_frames.specs.declared.message.Message.{Message}
 use Rattle.wire_frames.specs.declared.message.Message.TheVariants as messages
 use Rattle.seal_laws.specs.Kept.{IsSealed, RootHolds, named_by}
-use Rattle.seal_stores.specs.Held.{kept_seal}
+use Rattle.step_plans.specs.Saved.{bare, kept_seal}
 use Rattle.request_refinement.specs.Naming.{VersionSays, EntryMaySay}
-use Rattle.sync_refinement.specs.Syncs.{TreeSays, MayReturn, GiveFits}
+use Rattle.sync_refinement.specs.Syncs.{TreeSays, MayReturn, GiveFits, SyncSays}
+use Rattle.running_sync.specs.Running.{Running}
+use Rattle.sync_rule.specs.Syncs.{is_clean}
+use Rattle.tree_node.specs.declared.body.Scan.{Scan}
 use Rattle.tree_refinement.specs.Tops.{IsNamed, tops_of}
 use Rattle.world_stores.specs.Nodes.{top_of}
-use Rattle.step_plans.specs.Saved.{bare}
 
 -- ## Trees
 
@@ -48,7 +50,7 @@ TopsReturn s strings hashed q tops = (digest : List ℕ) → digest ∈ tops →
 -- What the stores of peer q keep of the map that the peer wrote last, under this seal, if there is one, and
 -- these top records, the oldest first. The seal, or without a seal the top record, names the map that the
 -- protocol shows. Under a seal that is the map of the last write, and nothing is said of the top records;
--- without one the tree may be put back to each map that a top record ever named. No peer makes a seal yet.
+-- without one the tree may be put back to each map that a top record ever named.
 pub record LastMap (s : State) (strings hashed : List (List ℕ)) (q : ℕ) (seal : Option (List ℕ)) (tops : List (List ℕ)) : Type 0 where
   pub digest : List ℕ
   pub is : named_by (top_of tops) seal ≡ Some digest
@@ -57,7 +59,6 @@ pub record LastMap (s : State) (strings hashed : List (List ℕ)) (q : ℕ) (sea
   pub says : TreeSays s strings q map
   pub honest : IsSealed seal → IsHonest s.objects q
   pub returns : seal ≡ None → TopsReturn s strings hashed q tops
-  pub unsealed : seal ≡ None
 
 -- The tree of the running peer q, whose saved fact has this seal, if it has one. Its root is the top record,
 -- and names the map that the peer wrote last; or it has no root, and then the peer has a seal and does not
@@ -67,15 +68,32 @@ pub record TreeHolds (s : State) (strings : List (List ℕ)) (q : ℕ) (seal : O
   pub sealed : kept_seal h.stores.facts.kept ≡ seal
   pub root : RootHolds s.objects q (top_of (tops_of h.stores)) seal h.stores.tree.top
 
+-- where every start has sealing on, the saved fact has a seal
+abbrev pub SealFits : Lines → Option (List ℕ) → Type 0
+SealFits lines seal = lines.sealed ≡ true → IsSealed seal
+
 -- the stores of peer q, which is down: they keep its fact and the map that it wrote last, and the peer does
 -- not trust its tree
-pub record DownHolds (voting : List (List ℕ)) (s : State) (strings hashed : List (List ℕ)) (q : ℕ) (stores : HeldStores) : Type 0 where
+pub record DownHolds (lines : Lines) (s : State) (strings hashed : List (List ℕ)) (q : ℕ) (stores : HeldStores) : Type 0 where
   pub fact : Fact
   pub kept : bare stores.facts.kept ≡ Some fact
   pub saved : IsSaved s.objects.ledger q fact
-  pub listed : IsListedFact voting fact
+  pub listed : IsListedFact lines.voting fact
+  pub seal : SealFits lines (kept_seal stores.facts.kept)
   pub blind : s.objects.trusted q ≡ false
   pub last : LastMap s strings hashed q (kept_seal stores.facts.kept) (tops_of stores)
+
+-- ## Syncs
+
+-- a clean scan is that of a tree with a root
+abbrev pub IsRooted : Scan → Option (List ℕ) → Type 0
+IsRooted scan root = is_clean scan ≡ true → root ≡ None → ⊥
+
+-- what a running sync of peer p says, over a tree with this root that shows the map; its scan was clean only
+-- if there was a root
+abbrev pub SyncFits : Lines → State → List (List ℕ) → ℕ → Fact → Bool → List Entry → Option (List ℕ) → Option Running → Type 0
+SyncFits lines s strings p fact trusted m root None = Unit {0}
+SyncFits lines s strings p fact trusted m root (Some r) = SyncSays lines s strings p fact trusted m r × IsRooted r.sync.scan root
 
 -- ## Versions and calls
 

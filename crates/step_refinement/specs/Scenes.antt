@@ -22,12 +22,11 @@ use Rattle.step_plans.specs.Plans.{Ending, Finished, Stopped, Out}
 use Rattle.step_plans.specs.Saved.{bare}
 use Rattle.wire_frames.specs.Messages.{Obeys}
 use Rattle.wire_frames.specs.declared.message.Message.{Message}
-use Rattle.step_refinement.specs.Peers.{TreeHolds, DownHolds, AcksSay, AsksFit, PhaseFits, TaskFits, IsAtRest, MessageFits, SendFits}
+use Rattle.step_refinement.specs.Peers.{TreeHolds, DownHolds, SealFits, AcksSay, AsksFit, PhaseFits, TaskFits, IsAtRest, MessageFits, SendFits, SyncFits}
 use Rattle.step_refinement.specs.Roles.{role_in, said_of, said_in_sends}
 use Rattle.request_refinement.specs.Naming.{hash_of}
 use Rattle.sync_laws.specs.Facts.{Lines, AreFirm}
 use Rattle.sync_refinement.specs.Laws.{FirmAreKept}
-use Rattle.sync_refinement.specs.Syncs.{SyncMaySay}
 use Rattle.tree_refinement.specs.Trees.{AreFree}
 
 -- what is fixed during a step: what the lines of the schedule say, the opening view, the run before it,
@@ -95,7 +94,8 @@ module _ (c : Scene) where
     pub listed : IsListedPeer lines.voting p x
     pub trust : (now reached).objects.trusted p ≡ x.trusted
     pub tree : TreeHolds (now reached) strings p x.seal h
-    pub sync : SyncMaySay lines (now reached) strings p x.fact x.trusted tree.last.map x.sync
+    pub seal : SealFits lines x.seal
+    pub sync : SyncFits lines (now reached) strings p x.fact x.trusted tree.last.map h.stores.tree.top x.sync
     pub fits : PhaseFits reached.ghosts.hash (now reached) x.phase
     pub task : TaskFits (now reached) key x.phase
     pub noted : (now reached).book.notes ≡ (state_before c).book.notes ++ notes
@@ -130,7 +130,7 @@ module _ (c : Scene) where
   pub record Rests (h : Held) (notes : List Note) : Type 0 where
     pub reached : Reached
     pub roles : RolesHold reached.ghosts (now reached) (put c.roles p (Follows [])) c.said
-    pub down : DownHolds lines.voting (now reached) strings h.hashed p h.stores
+    pub down : DownHolds lines (now reached) strings h.hashed p h.stores
     pub noted : (now reached).book.notes ≡ (state_before c).book.notes ++ notes
 
   -- the step has ended well, and no task is at hand; or the peer is down

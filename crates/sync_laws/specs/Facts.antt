@@ -15,9 +15,11 @@ pub record Fact : Type 0 where
 abbrev pub place_of : Fact → Place
 place_of f = record { epoch = f.epoch; seq = f.seq }
 
--- what the lines of a schedule say: the firm peers, which are in no revert line or have a seal, and
--- the views that may vote, which are those of the opening and of change lines
+-- what the lines of a schedule say: whether every start has sealing on, the firm peers, which are all of
+-- them then, and else those in no revert line, and the views that may vote, which are those of the opening
+-- and of change lines
 pub record Lines : Type 0 where
+  pub sealed : Bool
   pub firm : ℕ → Bool
   pub voting : List (List ℕ)
 

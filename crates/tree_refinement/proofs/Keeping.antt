@@ -9,7 +9,7 @@ use Rattle.ens_outside.specs.declared.memory.failing_call.Leaves.{Leaves}
 use Rattle.held_stores.specs.Answers.{Answered, answered, looked, entered, whole, done, root_after, with_facts, with_backend, with_tree, walked, facts_failed, objects_failed}
 use Rattle.held_stores.specs.Held.{Held, unless_failing}
 use Rattle.held_stores.specs.Walks.{End, Came, Broke, Failed, Walk, walk}
-use Rattle.step_plans.specs.Calls.{Load, Save, FreshTree, OpenTree, Find, Enter, ScanTree, ReadNode, Install, Fetch, Put, Hash}
+use Rattle.step_plans.specs.Calls.{Load, Save, FreshTree, OpenTree, Root, Find, Enter, ScanTree, ReadNode, Install, Fetch, Put, Hash}
 use Rattle.peer_fact.specs.declared.saved.SavedFact.{SavedFact}
 use Rattle.step_plans.specs.declared.error.PeerError.TheVariants.{StoreFault}
 use Rattle.tree_node.specs.declared.version.TreeVersion.TheVariants.{One}
@@ -178,6 +178,7 @@ keeps Load h m k shows = shows
 keeps (Save fact) h m k shows = after_saving fact h (λ t. Shows t m) (λ facts. shows)
 keeps FreshTree h m k shows = absurd k
 keeps (OpenTree seal) h m k shows = absurd k
+keeps Root h m k shows = shows
 keeps (Find key) h m k shows = still_shows (get_plan (form_of One) h.stores.tree.top key) h m shows
 keeps (Enter entry) h m k shows = absurd k
 keeps ScanTree h m k shows = still_shows (scan_plan (form_of One) h.stores.tree.top) h m shows
@@ -192,6 +193,7 @@ grows Load h x i = i
 grows (Save fact) h x i = after_saving fact h (λ t. x ∈ t.hashed) (λ facts. i)
 grows FreshTree h x i = walk_grows (fresh_plan (form_of One)) h.stores.tree.store h.hashed x i
 grows (OpenTree seal) h x i = walk_grows open_plan h.stores.tree.store h.hashed x i
+grows Root h x i = i
 grows (Find key) h x i = walk_grows (get_plan (form_of One) h.stores.tree.top key) h.stores.tree.store h.hashed x i
 grows (Enter entry) h x i = walk_grows (insert_plan (form_of One) h.stores.tree.top entry) h.stores.tree.store h.hashed x i
 grows ScanTree h x i = walk_grows (scan_plan (form_of One) h.stores.tree.top) h.stores.tree.store h.hashed x i
@@ -209,6 +211,7 @@ spares Load h = refl
 spares (Save fact) h = after_saving fact h (λ t. SparesOthers (Save fact) h.stores t.stores) (λ facts. (refl, refl))
 spares FreshTree h = (refl, refl)
 spares (OpenTree seal) h = (refl, refl)
+spares Root h = (refl, refl)
 spares (Find key) h = (refl, refl)
 spares (Enter entry) h = (refl, refl)
 spares ScanTree h = (refl, refl)

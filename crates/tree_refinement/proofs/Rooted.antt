@@ -6,7 +6,7 @@ use Rattle.ens_base.specs.declared.entry.Entry.{Entry}
 use Rattle.held_stores.specs.Answers.{answered, looked, entered, whole, root_after, with_tree, walked}
 use Rattle.held_stores.specs.Held.{Held}
 use Rattle.held_stores.specs.Walks.{walk}
-use Rattle.step_plans.specs.Calls.{Call, Load, Save, FreshTree, OpenTree, Find, Enter, ScanTree, ReadNode, Install, Fetch, Put, Hash}
+use Rattle.step_plans.specs.Calls.{Call, Load, Save, FreshTree, OpenTree, Root, Find, Enter, ScanTree, ReadNode, Install, Fetch, Put, Hash}
 use Rattle.step_plans.specs.declared.error.PeerError.{PeerError}
 use Rattle.step_plans.specs.declared.walked.Walked.{Walked}
 use Rattle.step_plans.specs.declared.walked.Walked.TheVariants.{Reached, Broken}
@@ -79,6 +79,7 @@ root_kept_so Load h k none = none
 root_kept_so (Save fact) h k none = after_saving fact h (λ t. t.stores.tree.top ≡ None) (λ facts. none)
 root_kept_so FreshTree h k none = absurd k
 root_kept_so (OpenTree seal) h k none = absurd k
+root_kept_so Root h k none = none
 root_kept_so (Find key) h k none = none
 root_kept_so (Enter entry) h k none = absurd k
 root_kept_so ScanTree h k none = none

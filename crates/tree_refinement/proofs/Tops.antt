@@ -8,7 +8,7 @@ use Rattle.ens_fields.specs.Entries.{IsEntry}
 use Rattle.held_stores.specs.Answers.{entered, done, root_after, with_tree, walked}
 use Rattle.held_stores.specs.Held.{Held}
 use Rattle.held_stores.specs.Walks.{End, Came, Broke, Failed, Walk, walk}
-use Rattle.step_plans.specs.Calls.{Load, Save, FreshTree, OpenTree, Find, Enter, ScanTree, ReadNode, Install, Fetch, Put, Hash}
+use Rattle.step_plans.specs.Calls.{Load, Save, FreshTree, OpenTree, Root, Find, Enter, ScanTree, ReadNode, Install, Fetch, Put, Hash}
 use Rattle.step_plans.specs.declared.error.PeerError.TheVariants.{StoreFault}
 use Rattle.tree_node.specs.declared.version.TreeVersion.TheVariants.{One}
 use Rattle.synctree.specs.Nodes.{node_plan}
@@ -182,6 +182,7 @@ keeps Load h k = (refl, λ is. is)
 keeps (Save fact) h k = after_saving fact h (KeepsThem h) (λ facts. (refl, λ is. is))
 keeps FreshTree h k = absurd k
 keeps (OpenTree seal) h k = absurd k
+keeps Root h k = (refl, λ is. is)
 keeps (Find key) h k = reads_them (get_plan (form_of One) h.stores.tree.top key) h (get_only h.stores.tree.top key)
 keeps (Enter entry) h k = absurd k
 keeps ScanTree h k = reads_them (scan_plan (form_of One) h.stores.tree.top) h (scan_only h.stores.tree.top)

@@ -7,7 +7,7 @@ use Rattle.ens_outside.specs.declared.memory.failing_call.Leaves.{Leaves}
 use Rattle.held_stores.specs.Answers.{Answered, answered, looked, entered, whole as all_of, done, with_tree, with_facts, with_backend, walked, facts_failed, objects_failed}
 use Rattle.held_stores.specs.Held.{Held, unless_failing}
 use Rattle.held_stores.specs.Walks.{walk}
-use Rattle.step_plans.specs.Calls.{Load, Save, FreshTree, OpenTree, Find, Enter, ScanTree, ReadNode, Install, Fetch, Put, Hash}
+use Rattle.step_plans.specs.Calls.{Load, Save, FreshTree, OpenTree, Root, Find, Enter, ScanTree, ReadNode, Install, Fetch, Put, Hash}
 use Rattle.step_plans.specs.declared.error.PeerError.TheVariants.{StoreFault}
 use Rattle.step_plans.specs.declared.walked.Walked.TheVariants.{Reached}
 use Rattle.tree_node.specs.declared.version.TreeVersion.TheVariants.{One}
@@ -49,6 +49,7 @@ serves (Save fact) h none = served h.stores.facts.faults.pending (record { resul
     (λ leaves. record { result = Err StoreFault; held = with_facts (facts_failed h.stores.facts (record h.stores.facts { kept = Some fact }) leaves) h }) none.facts
 serves FreshTree h none = tt
 serves (OpenTree seal) h none = tt
+serves Root h none = tt
 serves (Find key) h none = tt
 serves (Enter entry) h none = tt
 serves ScanTree h none = tt
@@ -189,6 +190,7 @@ keeps (Save fact) h m k whole = subst (λ (a : Answered (Save fact)). IsWhole a.
 })
 keeps FreshTree h m k whole = absurd k
 keeps (OpenTree seal) h m k whole = absurd k
+keeps Root h m k whole = whole
 keeps (Find key) h m k whole = still_whole (get_plan (form_of One) h.stores.tree.top key) h m (get_only h.stores.tree.top key) (keeping.keeps (Find key) h m tt whole.shows) whole
 keeps (Enter entry) h m k whole = absurd k
 keeps ScanTree h m k whole = still_whole (scan_plan (form_of One) h.stores.tree.top) h m (scan_only h.stores.tree.top) (keeping.keeps ScanTree h m tt whole.shows) whole
@@ -218,6 +220,7 @@ records (Save fact) h none own is = subst (λ (a : Answered (Save fact)). IsReco
 records FreshTree h none own is = root_recorded (fresh_plan (form_of One)) h.stores.tree.store h.hashed h.stores.tree.top none.tree (fresh_last (form_of One)) is
 records (OpenTree None) h none own is = open_recorded h
 records (OpenTree (Some seal)) h none own is = absurd own
+records Root h none own is = is
 records (Find key) h none own is = still_recorded (get_plan (form_of One) h.stores.tree.top key) h (get_only h.stores.tree.top key) is
 records (Enter e) h none own is = root_recorded (insert_plan (form_of One) h.stores.tree.top e) h.stores.tree.store h.hashed h.stores.tree.top none.tree (insert_last (form_of One) h.stores.tree.top e) is
 records ScanTree h none own is = still_recorded (scan_plan (form_of One) h.stores.tree.top) h (scan_only h.stores.tree.top) is

@@ -4,4 +4,4 @@ use Rattle.election_refinement.proofs.Openings.{schedule_refines}
 use Rattle.election_refinement.proofs.laws.facts_agree.Goals as goal
 
 pub returns : goal.returns
-returns c = λ peers view events few is_view may. let h = schedule_refines view peers events few is_view may in agrees view h.steps (run_of_schedule peers view events) h.refinement
+returns c = λ form peers view events few is_view may. let h = schedule_refines view form peers events few is_view may in agrees view h.steps (run_of_schedule form peers view events) h.refinement
