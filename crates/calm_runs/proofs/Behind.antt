@@ -9,7 +9,7 @@ use Rattle.held_stores.specs.Runs.{Ended, run, either}
 use Rattle.held_stores.specs.Walks.{Failed, Walk, walk, nodes_failed}
 use Rattle.peer_state.specs.declared.state.State.{State}
 use Rattle.register_model.specs.declared.note.Note.{Note}
-use Rattle.step_plans.specs.Calls.{Call, AnswerOf, Load, Save, FreshTree, OpenTree, Find, Enter, ScanTree, ReadNode, Install, Fetch, Put, Hash}
+use Rattle.step_plans.specs.Calls.{Call, AnswerOf, Load, Save, FreshTree, OpenTree, Root, Find, Enter, ScanTree, ReadNode, Install, Fetch, Put, Hash}
 use Rattle.step_plans.specs.Plans.{Plan, Done, Say, Ask, Stopped}
 use Rattle.step_plans.specs.declared.error.PeerError.{PeerError}
 use Rattle.step_plans.specs.declared.error.PeerError.TheVariants.{StoreFault}
@@ -61,6 +61,7 @@ answers_behind (Save fact) xs h = written_behind xs h.stores.facts.faults.pendin
     (λ leaves. record { result = Err StoreFault; held = with_facts (facts_failed h.stores.facts (record h.stores.facts { kept = Some fact }) leaves) h })
 answers_behind FreshTree xs h = ap (λ w. by_walk FreshTree done root_after w (behind xs h)) (walks_behind (fresh_plan (form_of One)) h.stores.tree.store xs h.hashed)
 answers_behind (OpenTree seal) xs h = ap (λ w. by_walk (OpenTree seal) done (root_read seal) w (behind xs h)) (walks_behind open_plan h.stores.tree.store xs h.hashed)
+answers_behind Root xs h = refl
 answers_behind (Find key) xs h = ap (λ w. by_walk (Find key) looked root_kept w (behind xs h)) (walks_behind (get_plan (form_of One) h.stores.tree.top key) h.stores.tree.store xs h.hashed)
 answers_behind (Enter entry) xs h = ap (λ w. by_walk (Enter entry) entered root_after w (behind xs h)) (walks_behind (insert_plan (form_of One) h.stores.tree.top entry) h.stores.tree.store xs h.hashed)
 answers_behind ScanTree xs h = ap (λ w. by_walk ScanTree whole root_kept w (behind xs h)) (walks_behind (scan_plan (form_of One) h.stores.tree.top) h.stores.tree.store xs h.hashed)

@@ -16,7 +16,6 @@ use Rattle.network.proofs.MailLaws.{oldest_waits}
 use Rattle.network.specs.Mail.{Mail, oldest, is_among}
 use Rattle.peer_fact.specs.declared.fact.Fact.{Fact}
 use Rattle.peer_state.specs.declared.event.Event.TheVariants as events
-use Rattle.peer_state.specs.declared.state.State.{State}
 use Rattle.phase_rows.specs.Peers.{alone}
 use Rattle.step_plans.specs.Plans.{nothing}
 use Rattle.tree_refinement.specs.Trees.{AreAmong}
@@ -26,6 +25,7 @@ use Rattle.wire_frames.specs.declared.message.Message.TheVariants as messages
 use Rattle.world_spec.proofs.Growth.{ticked_grows}
 use Rattle.world_spec.specs.Runs.{Run, received, stepped, ticked, calmed}
 use Rattle.calm_steps.proofs.CandidateSteps.{ballot, opened, promised, accepted, and_probes, ticks_quietly, ticks_at_last}
+use Rattle.calm_steps.proofs.Keeping.{Standing}
 use Rattle.calm_steps.proofs.Lands.{Aim}
 use Rattle.calm_runs.proofs.Waits.{Waits}
 use Rattle.calm_runs.proofs.Counted.{all_counted, everyone_has}
@@ -118,16 +118,16 @@ module _ (me : ℕ) (view : List ℕ) (is_peer : IsPeer me) (peers : (q : ℕ) �
     pub one_more_tick : (ticks + 1 == 6) ≡ false → Elects me view (Quiet (ticks + 1)) (stepped me events.Tick w)
     one_more_tick early =
         let h : Held = held_with e.leader.stores w.hashed in
-        step_grows me events.Tick strings Quietly (Elects me view (Quiet (ticks + 1))) w (candidate me view (Quiet ticks)) e.leader.stores e.leader.at
-        (ticks_quietly me view strings Quietly (member me view is_peer peers listed) ticks h early (λ grows. record {
+        step_grows me events.Tick strings Quietly (Elects me view (Quiet (ticks + 1))) w (candidate me view (Quiet ticks) e.leader.keep) e.leader.stores e.leader.at
+        (ticks_quietly me view strings Quietly (member me view is_peer peers listed) e.leader.keep ticks h early (λ grows. record {
           printed = append-nil w.printed ∙ e.printed;
-          leader = stands_here me (candidate me view (Quiet (ticks + 1))) h nothing [] w (candidate me view (Quiet ticks)) e.leader.stores [] e.leader.at e.leader.whole;
+          leader = stands_here me (candidate me view (Quiet (ticks + 1))) e.leader.keep h nothing [] w (candidate me view (Quiet ticks) e.leader.keep) e.leader.stores [] e.leader.at e.leader.whole;
           under = tt;
           crowd = record {
             mail = e.crowd.mail;
             others = λ q is. let o = e.crowd.others q is in record {
               fact = o.fact;
-              stands = stands_other me (candidate me view (Quiet (ticks + 1))) h nothing [] w q (rests o.fact) [] is_peer (peers q is.0) is.1 grows o.stands;
+              stands = stands_other me (candidate me view (Quiet (ticks + 1))) e.leader.keep h nothing [] w q (rests o.fact) [] is_peer (peers q is.0) is.1 grows o.stands;
               may = o.may;
               heard = tt;
             };
@@ -143,10 +143,10 @@ module _ (me : ℕ) (view : List ℕ) (is_peer : IsPeer me) (peers : (q : ℕ) �
   pub last_tick : (w : Run) → Elects me view (Quiet 5) w → AreAmong (stepped me events.Tick w).hashed strings → IsElecting me view is_peer peers listed (stepped me events.Tick w)
   last_tick w e among =
       let h : Held = held_with e.leader.stores w.hashed in
-      let x : State = candidate me view (Quiet 5) in
+      let x : Standing = candidate me view (Quiet 5) in
       let P : Aim = Moves me view is_peer peers listed strings w w.mail e.printed x e.leader in
-      step_grows me events.Tick strings P (IsElecting me view is_peer peers listed) w x e.leader.stores e.leader.at
-      (ticks_at_last me view strings P (member me view is_peer peers listed) h e.leader.whole.no_faults
+      step_grows me events.Tick strings P (IsElecting me view is_peer peers listed) w (x e.leader.keep) e.leader.stores e.leader.at
+      (ticks_at_last me view strings P (member me view is_peer peers listed) e.leader.keep h e.leader.whole.no_faults
       (probes_end me view is_peer peers listed strings w w.mail e.printed x e.leader (alone me) (and_probes me view nothing) h (record { answers = refl; changes = refl }) e.leader.whole (first_own me view is_peer peers listed strings w w.mail e.printed x e.leader)
       (begins_probes me view is_peer peers 5 w.mail w e.crowd))) among (λ y g out ms grows meets. meets grows)
 

@@ -29,6 +29,7 @@ use Rattle.wire_frames.specs.declared.message.Message.TheVariants as messages
 use Rattle.world_spec.specs.Runs.{Run, frame_from, posted_all, received}
 use Rattle.calm_steps.proofs.Bystanders.{tells, on_probe, on_prepare, on_new_epoch}
 use Rattle.calm_steps.proofs.CandidateSteps.{ballot, opened, promised, accepted}
+use Rattle.calm_steps.proofs.Keeping.{Keeping, Standing}
 use Rattle.calm_steps.proofs.Lands.{Aim, Lands}
 use Rattle.calm_steps.proofs.MemberSteps.{on_prepare_again, on_epoch_again}
 use Rattle.calm_runs.proofs.Elections.{Step, Quiet, Probes, Prepares, Starts, Led, rests, candidate, MayHave, IsHeard, MayAsk, MayReply, IsOther, MayWait, Other, Elects, asking, replying}
@@ -45,8 +46,8 @@ pub record IsQuiet (out : Out) : Type 0 where
   pub changes : out.changes ≡ []
 
 -- a peer stands where it stood, whatever messages wait
-pub at_mail : (w : Run) (m : Mail) (q : ℕ) (x : State) → Stands w q x [] → Stands (record w { mail = m }) q x []
-at_mail w m q x s = record { stores = s.stores; at = s.at; whole = s.whole }
+pub at_mail : (w : Run) (m : Mail) (q : ℕ) (x : Standing) → Stands w q x [] → Stands (record w { mail = m }) q x []
+at_mail w m q x s = record { keep = s.keep; stores = s.stores; at = s.at; whole = s.whole }
 
 module _ (me : ℕ) (view : List ℕ) (is_peer : IsPeer me) (peers : (q : ℕ) → q ∈ view → IsPeer q) where
   -- the one message of a member goes to the candidate
@@ -69,11 +70,11 @@ module _ (me : ℕ) (view : List ℕ) (is_peer : IsPeer me) (peers : (q : ℕ) �
     after out = posted_all (frames out) (settled w.mail n)
 
     -- the world after the step of the member
-    moves : (now : Fact) (g : Held) (out : Out) (ms : List Note) → AreAmong w.hashed g.hashed → IsWhole g [] → IsQuiet out → MayHave me view step now → IsHeard me view step (after out) now q → ((f : Frame) → f ∈ frames out → MayWait me view step f)
-        → Elects me view step (moved q (rests now) g out ms (record w { mail = settled w.mail n }))
-    moves now g out ms grown whole quiet may heard sent = record {
+    moves : (now : Fact) (keep : Keeping) (g : Held) (out : Out) (ms : List Note) → AreAmong w.hashed g.hashed → IsWhole g [] → IsQuiet out → MayHave me view step now → IsHeard me view step (after out) now q → ((f : Frame) → f ∈ frames out → MayWait me view step f)
+        → Elects me view step (moved q (rests now keep) g out ms (record w { mail = settled w.mail n }))
+    moves now keep g out ms grown whole quiet may heard sent = record {
       printed = rw (quiet.answers, quiet.changes) (append-nil w.printed ∙ e.printed);
-      leader = stands_other q (rests now) g out ms (record w { mail = settled w.mail n }) me (candidate me view step) [] (peers q other.0) is_peer (λ same. other.1 (sym same)) grown (at_mail w (settled w.mail n) me (candidate me view step) e.leader);
+      leader = stands_other q (rests now) keep g out ms (record w { mail = settled w.mail n }) me (candidate me view step) [] (peers q other.0) is_peer (λ same. other.1 (sym same)) grown (at_mail w (settled w.mail n) me (candidate me view step) e.leader);
       under = e.under;
       crowd = record {
         mail = is_mail_all (frames out) (settled w.mail n) (is_mail_settled w.mail n e.crowd.mail);
@@ -85,32 +86,32 @@ module _ (me : ℕ) (view : List ℕ) (is_peer : IsPeer me) (peers : (q : ℕ) �
         was : Other me view step w.mail w q
         was = e.crowd.others q other
 
-        by : (k : ℕ) → IsOther me view k → (b : Bool) → (k == q) ≡ b → Other me view step (after out) (moved q (rests now) g out ms (record w { mail = settled w.mail n })) k
-        by k is true same = subst (λ j. Other me view step (after out) (moved q (rests now) g out ms (record w { mail = settled w.mail n })) j) (sym (eqb-true k q same)) (record {
+        by : (k : ℕ) → IsOther me view k → (b : Bool) → (k == q) ≡ b → Other me view step (after out) (moved q (rests now keep) g out ms (record w { mail = settled w.mail n })) k
+        by k is true same = subst (λ j. Other me view step (after out) (moved q (rests now keep) g out ms (record w { mail = settled w.mail n })) j) (sym (eqb-true k q same)) (record {
           fact = now;
-          stands = stands_here q (rests now) g out ms (record w { mail = settled w.mail n }) (rests was.fact) was.stands.stores [] was.stands.at whole;
+          stands = stands_here q (rests now) keep g out ms (record w { mail = settled w.mail n }) (rests was.fact was.stands.keep) was.stands.stores [] was.stands.at whole;
           may = may;
           heard = heard;
         })
         by k is false apart = let o = e.crowd.others k is in record {
           fact = o.fact;
-          stands = stands_other q (rests now) g out ms (record w { mail = settled w.mail n }) k (rests o.fact) [] (peers q other.0) (peers k is.0) (eqb-false k q apart) grown (at_mail w (settled w.mail n) k (rests o.fact) o.stands);
+          stands = stands_other q (rests now) keep g out ms (record w { mail = settled w.mail n }) k (rests o.fact) [] (peers q other.0) (peers k is.0) (eqb-false k q apart) grown (at_mail w (settled w.mail n) k (rests o.fact) o.stands);
           may = o.may;
           heard = stays_heard me view step w.mail n k (asking me view q ask) (frames out) o.fact at
               (λ message same. eqb-false k q apart (sym (ap (λ (f : Frame). f.to) same))) (λ message same. is.1 (sym (ap (λ (f : Frame). f.from) same))) o.heard;
         }
 
     abbrev Comes : Fact → Out → Aim
-    Comes now out y g o ms = (y ≡ rests now) × ((o ≡ out) × IsWhole g [])
+    Comes now out y g o ms = (keep : Keeping) × ((y ≡ rests now keep) × ((o ≡ out) × IsWhole g []))
 
     -- a step of the member that lands so
-    lands : (was now : Fact) (out : Out) (s : Stands w q (rests was) []) → Lands strings (Comes now out) (step_of q (events.Deliver me ask) (rests was)) (held_with s.stores w.hashed) []
+    lands : (was now : Fact) (out : Out) (s : Stands w q (rests was) []) → Lands strings (Comes now out) (step_of q (events.Deliver me ask) (rests was s.keep)) (held_with s.stores w.hashed) []
         → IsQuiet out → MayHave me view step now → IsHeard me view step (after out) now q → ((f : Frame) → f ∈ frames out → MayWait me view step f) → AreAmong (received (asking me view q ask) n w).hashed strings
         → Elects me view step (received (asking me view q ask) n w)
     lands was now out s ends quiet may heard sent among =
-        step_grows q (events.Deliver me ask) strings (Comes now out) (Elects me view step) (record w { mail = settled w.mail n }) (rests was) s.stores s.at ends among
-        (λ y g o ms grown meets. subst (λ (x : State). Elects me view step (moved q x g o ms (record w { mail = settled w.mail n }))) (sym meets.0)
-        (subst (λ (p : Out). Elects me view step (moved q (rests now) g p ms (record w { mail = settled w.mail n }))) (sym meets.1.0) (moves now g out ms grown meets.1.1 quiet may heard sent)))
+        step_grows q (events.Deliver me ask) strings (Comes now out) (Elects me view step) (record w { mail = settled w.mail n }) (rests was s.keep) s.stores s.at ends among
+        (λ y g o ms grown meets. subst (λ (x : State). Elects me view step (moved q x g o ms (record w { mail = settled w.mail n }))) (sym meets.1.0)
+        (subst (λ (p : Out). Elects me view step (moved q (rests now meets.0) g p ms (record w { mail = settled w.mail n }))) (sym meets.1.1.0) (moves now meets.0 g out ms grown meets.1.1.1 quiet may heard sent)))
 
     -- what a member replies may wait
     reply_kind : (reply : Message) → MayReply me view step reply → (f : Frame) → f ∈ frames (tells me reply) → MayWait me view step f
@@ -129,8 +130,8 @@ module _ (me : ℕ) (view : List ℕ) (is_peer : IsPeer me) (peers : (q : ℕ) �
     probed is may among =
         let o = e.crowd.others q other in
         lands o.fact o.fact (tells me (messages.ProbeReply o.fact)) o.stands
-        (subst (λ (message : Message). Lands strings (Comes o.fact (tells me (messages.ProbeReply o.fact))) (step_of q (events.Deliver me message) (rests o.fact)) (held_with o.stands.stores w.hashed) []) (sym is)
-        (on_probe q me strings (Comes o.fact (tells me (messages.ProbeReply o.fact))) o.fact (held_with o.stands.stores w.hashed) (refl, (refl, o.stands.whole))))
+        (subst (λ (message : Message). Lands strings (Comes o.fact (tells me (messages.ProbeReply o.fact))) (step_of q (events.Deliver me message) (rests o.fact o.stands.keep)) (held_with o.stands.stores w.hashed) []) (sym is)
+        (on_probe q me strings (Comes o.fact (tells me (messages.ProbeReply o.fact))) o.stands.keep o.fact (held_with o.stands.stores w.hashed) (o.stands.keep, (refl, (refl, o.stands.whole)))))
         (record { answers = refl; changes = refl }) o.may
         (probe_heard me view w.mail n q (frames (tells me (messages.ProbeReply o.fact))) e.crowd.mail other.1 step o.fact (subst (λ (message : Message). slice_get w.mail.sent n ≡ Some (asking me view q message)) is at) o.may (tells_it q (messages.ProbeReply o.fact)) o.heard)
         (reply_kind (messages.ProbeReply o.fact) (probe_kind step o.fact may o.may)) among
@@ -177,8 +178,8 @@ module _ (me : ℕ) (view : List ℕ) (is_peer : IsPeer me) (peers : (q : ℕ) �
       late : (fact : Fact) → was.fact ≡ fact → is_below fact.ballot (ballot me view) ≡ false → is_same (ballot me view) fact.ballot ≡ true → (was.fact ≡ opened me view → ⊥) → Elects me view step (received (asking me view q ask) n w)
       late fact has below same past =
           lands was.fact was.fact nothing was.stands
-          (ask_is (Comes was.fact nothing) (rests was.fact) (held_with was.stands.stores w.hashed)
-          (on_prepare_again q me strings (Comes was.fact nothing) was.fact (ballot me view) (held_with was.stands.stores w.hashed) (ap (λ (f : Fact). is_below f.ballot (ballot me view)) has ∙ below) (ap (λ (f : Fact). is_same (ballot me view) f.ballot) has ∙ same) (refl, (refl, was.stands.whole))))
+          (ask_is (Comes was.fact nothing) (rests was.fact was.stands.keep) (held_with was.stands.stores w.hashed)
+          (on_prepare_again q me strings (Comes was.fact nothing) was.stands.keep was.fact (ballot me view) (held_with was.stands.stores w.hashed) (ap (λ (f : Fact). is_below f.ballot (ballot me view)) has ∙ below) (ap (λ (f : Fact). is_same (ballot me view) f.ballot) has ∙ same) (was.stands.keep, (refl, (refl, was.stands.whole)))))
           quiet was.may (ignored_heard me view w.mail n q [] e.crowd.mail other.1 here step was.fact past may was.heard) (λ f none. absurd none) among
 
       by : (was.fact ≡ opened me view) ⊎ ((was.fact ≡ promised me view) ⊎ (was.fact ≡ accepted me view)) → Elects me view step (received (asking me view q ask) n w)
@@ -186,8 +187,8 @@ module _ (me : ℕ) (view : List ℕ) (is_peer : IsPeer me) (peers : (q : ℕ) �
           let s : Stands w q (rests (opened me view)) [] = subst (λ (f : Fact). Stands w q (rests f) []) has was.stands in
           let h : Held = held_with s.stores w.hashed in
           lands (opened me view) (promised me view) (tells me promise) s
-          (ask_is (Comes (promised me view) (tells me promise)) (rests (opened me view)) h
-          (on_prepare q me strings (Comes (promised me view) (tells me promise)) (opened me view) (ballot me view) h s.whole.no_faults refl (refl, (refl, whole_saved (promised me view) h [] s.whole))))
+          (ask_is (Comes (promised me view) (tells me promise)) (rests (opened me view) s.keep) h
+          (on_prepare q me strings (Comes (promised me view) (tells me promise)) s.keep (opened me view) (ballot me view) h s.whole.no_faults refl (s.keep, (refl, (refl, whole_saved s.keep.seal (promised me view) h [] s.whole)))))
           (record { answers = refl; changes = refl }) (promise_kind step may).1
           (promise_heard me view w.mail n q (frames (tells me promise)) e.crowd.mail other.1 here step was.fact has may (tells_it q promise) was.heard)
           (reply_kind promise (promise_kind step may).0) among
@@ -213,10 +214,10 @@ module _ (me : ℕ) (view : List ℕ) (is_peer : IsPeer me) (peers : (q : ℕ) �
       new : Fact
       new = accepted me view
 
-      ends_so : (fact : Fact) (s : Stands w q (rests fact) []) → Lands strings (Comes (accepted me view) (tells me (messages.Accepted (ballot me view) 1))) (step_of q (events.Deliver me (messages.NewEpoch (accepted me view))) (rests fact)) (held_with s.stores w.hashed) [] → Elects me view step (received (asking me view q ask) n w)
+      ends_so : (fact : Fact) (s : Stands w q (rests fact) []) → Lands strings (Comes (accepted me view) (tells me (messages.Accepted (ballot me view) 1))) (step_of q (events.Deliver me (messages.NewEpoch (accepted me view))) (rests fact s.keep)) (held_with s.stores w.hashed) [] → Elects me view step (received (asking me view q ask) n w)
       ends_so fact s ends =
           lands fact (accepted me view) (tells me (messages.Accepted (ballot me view) 1)) s
-          (subst (λ (message : Message). Lands strings (Comes (accepted me view) (tells me (messages.Accepted (ballot me view) 1))) (step_of q (events.Deliver me message) (rests fact)) (held_with s.stores w.hashed) []) (sym is) ends)
+          (subst (λ (message : Message). Lands strings (Comes (accepted me view) (tells me (messages.Accepted (ballot me view) 1))) (step_of q (events.Deliver me message) (rests fact s.keep)) (held_with s.stores w.hashed) []) (sym is) ends)
           (record { answers = refl; changes = refl }) (accept_kind step may).1
           (acceptance_heard me view w.mail n q (frames (tells me (messages.Accepted (ballot me view) 1))) e.crowd.mail other.1 step may (tells_it q (messages.Accepted (ballot me view) 1)))
           (reply_kind (messages.Accepted (ballot me view) 1) (accept_kind step may).0) among
@@ -224,14 +225,14 @@ module _ (me : ℕ) (view : List ℕ) (is_peer : IsPeer me) (peers : (q : ℕ) �
       accepts : (fact : Fact) (s : Stands w q (rests fact) []) → is_below (ballot me view) fact.ballot ≡ false → is_same (ballot me view) fact.epoch ≡ false → Elects me view step (received (asking me view q ask) n w)
       accepts fact s below new_one =
           let h : Held = held_with s.stores w.hashed in
-          ends_so fact s (on_new_epoch q me strings (Comes (accepted me view) (tells me (messages.Accepted (ballot me view) 1))) fact (accepted me view) h s.whole.no_faults below new_one refl (refl, (refl, whole_saved (accepted me view) h [] s.whole)))
+          ends_so fact s (on_new_epoch q me strings (Comes (accepted me view) (tells me (messages.Accepted (ballot me view) 1))) s.keep fact (accepted me view) h s.whole.no_faults below new_one refl (s.keep, (refl, (refl, whole_saved s.keep.seal (accepted me view) h [] s.whole))))
 
       by : (was.fact ≡ opened me view) ⊎ ((was.fact ≡ promised me view) ⊎ (was.fact ≡ accepted me view)) → Elects me view step (received (asking me view q ask) n w)
       by (inl has) = accepts (opened me view) (subst (λ (f : Fact). Stands w q (rests f) []) has was.stands) refl refl
       by (inr (inl has)) = accepts (promised me view) (subst (λ (f : Fact). Stands w q (rests f) []) has was.stands) not_below refl
       by (inr (inr has)) =
           let s : Stands w q (rests (accepted me view)) [] = subst (λ (f : Fact). Stands w q (rests f) []) has was.stands in
-          ends_so (accepted me view) s (on_epoch_again q me strings (Comes (accepted me view) (tells me (messages.Accepted (ballot me view) 1))) (accepted me view) (accepted me view) (held_with s.stores w.hashed) not_below same_ballot (refl, (refl, s.whole)))
+          ends_so (accepted me view) s (on_epoch_again q me strings (Comes (accepted me view) (tells me (messages.Accepted (ballot me view) 1))) s.keep (accepted me view) (accepted me view) (held_with s.stores w.hashed) not_below same_ballot (s.keep, (refl, (refl, s.whole))))
 
     -- ## All requests
 

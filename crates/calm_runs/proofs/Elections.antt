@@ -7,12 +7,12 @@ use Rattle.ens_base.specs.PeerSet.{holds}
 use Rattle.network.specs.Mail.{Mail, IsMail}
 use Rattle.peer_fact.specs.declared.fact.Fact.{Fact}
 use Rattle.peer_state.specs.Moves.{follower}
-use Rattle.peer_state.specs.declared.state.State.{State}
 use Rattle.wire_frames.specs.declared.frame.Frame.{Frame}
 use Rattle.wire_frames.specs.declared.message.Message.{Message}
 use Rattle.wire_frames.specs.declared.message.Message.TheVariants as messages
 use Rattle.world_spec.specs.Runs.{Run}
 use Rattle.calm_steps.proofs.CandidateSteps.{ballot, opened, promised, accepted, quiet, probing, preparing, starting, led, has_quorum, may_lead}
+use Rattle.calm_steps.proofs.Keeping.{Standing}
 use Rattle.calm_runs.proofs.Waits.{Waits, AllWaiting}
 use Rattle.calm_runs.proofs.Standing.{Stands}
 
@@ -25,11 +25,11 @@ pub data Step : Type 0 where
   Starts : (accepts : List Bool) → Step
   Led : (accepts : List Bool) → Step
 
-abbrev pub rests : Fact → State
-rests fact = record { fact = fact; seal = None; trusted = true; phase = follower; sync = None }
+abbrev pub rests : Fact → Standing
+rests fact keep = record { fact = fact; seal = keep.seal; mode = keep.mode; trusted = true; phase = follower; sync = None }
 
 module _ (me : ℕ) (view : List ℕ) where
-  abbrev pub candidate : Step → State
+  abbrev pub candidate : Step → Standing
   candidate (Quiet ticks) = quiet me view ticks
   candidate (Probes heard) = probing me view heard
   candidate (Prepares promises) = preparing me view promises

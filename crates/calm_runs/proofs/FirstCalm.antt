@@ -5,14 +5,15 @@ use Rattle.ens_base.specs.Lists.{◌∈◌}
 use Rattle.ens_base.specs.View.{IsPeer}
 use Rattle.joint_views.specs.Members.{those}
 use Rattle.network.specs.Mail.{most_messages, oldest, is_among}
-use Rattle.peer_state.specs.declared.state.State.{State}
 use Rattle.schedule_text.specs.declared.event.ScheduleEvent.{ScheduleEvent}
 use Rattle.schedule_text.specs.declared.event.ScheduleEvent.TheVariants.{Tick, Calm}
 use Rattle.tree_refinement.specs.Trees.{AreAmong}
+use Rattle.schedule_text.specs.declared.form.Form.{Form}
 use Rattle.world_spec.proofs.Growth.{calmed_grows}
 use Rattle.world_spec.specs.Lines.{counted, run_of_schedule}
 use Rattle.world_spec.specs.Runs.{Run, opening_run, ticked, calmed}
 use Rattle.calm_steps.proofs.CandidateSteps.{accepted}
+use Rattle.calm_steps.proofs.Keeping.{Standing}
 use Rattle.calm_runs.proofs.ElectionCalm.{election_calm, ticks_on}
 use Rattle.calm_runs.proofs.ElectionReplies.{IsElecting}
 use Rattle.calm_runs.proofs.Elections.{Step, Led, Elects, IsOther, rests, candidate}
@@ -20,8 +21,8 @@ use Rattle.calm_runs.proofs.Opening.{opening_elects}
 use Rattle.calm_runs.proofs.Standing.{Stands}
 
 -- counting a line moves nothing
-counted_stands : (e : ScheduleEvent) (w : Run) (q : ℕ) (x : State) → Stands w q x [] → Stands (counted e w) q x []
-counted_stands e w q x s = record { stores = s.stores; at = s.at; whole = s.whole }
+counted_stands : (e : ScheduleEvent) (w : Run) (q : ℕ) (x : Standing) → Stands w q x [] → Stands (counted e w) q x []
+counted_stands e w q x s = record { keep = s.keep; stores = s.stores; at = s.at; whole = s.whole }
 
 counted_elects : (me : ℕ) (view : List ℕ) (step : Step) (e : ScheduleEvent) (w : Run) → Elects me view step w → Elects me view step (counted e w)
 counted_elects me view step e w it = record {
@@ -42,24 +43,24 @@ pub record HasLeader (me : ℕ) (view : List ℕ) (w : Run) : Type 0 where
   pub others : (q : ℕ) → IsOther me view q → Stands w q (rests (accepted me view)) []
   pub none : oldest (is_among (those (λ p. true))) w.mail ≡ None
 
-module _ (me peers : ℕ) (view : List ℕ) (listed : me ∈ view) (all : (q : ℕ) → q ∈ view → IsPeer q × (q ≤ peers)) (filled : 0 < length view) (strings : List (List ℕ)) where
+module _ (form : Form) (me peers : ℕ) (view : List ℕ) (listed : me ∈ view) (all : (q : ℕ) → q ∈ view → IsPeer q × (q ≤ peers)) (filled : 0 < length view) (strings : List (List ℕ)) where
   are_peers : (q : ℕ) → q ∈ view → IsPeer q
   are_peers q is = (all q is).0
 
   -- the world after the ticks
   abbrev ticking : Run
-  ticking = counted (Tick me 6) (ticked me 6 (opening_run peers view))
+  ticking = counted (Tick me 6) (ticked me 6 (opening_run form peers view))
 
   abbrev pub first_world : Run
-  first_world = run_of_schedule peers view (Tick me 6 ∷ Calm ∷ [])
+  first_world = run_of_schedule form peers view (Tick me 6 ∷ Calm ∷ [])
 
-  among_ticks : AreAmong first_world.hashed strings → AreAmong (ticked me 6 (opening_run peers view)).hashed strings
+  among_ticks : AreAmong first_world.hashed strings → AreAmong (ticked me 6 (opening_run form peers view)).hashed strings
   among_ticks among s there = let far = (calmed_grows (those (λ p. true)) most_messages ticking).hashed in among s (subst (λ (hs : List (List ℕ)). s ∈ hs) (sym far.1) (in_left ticking.hashed far.0 s there))
 
   begun : AreAmong first_world.hashed strings → IsElecting me view (all me listed).0 are_peers listed ticking
   begun among =
-      let it = ticks_on me view (all me listed).0 are_peers listed strings 5 0 (opening_run peers view) refl (opening_elects view me peers listed all) (among_ticks among) in
-      (it.0, (it.1.0, counted_elects me view it.0 (Tick me 6) (ticked me 6 (opening_run peers view)) it.1.1))
+      let it = ticks_on me view (all me listed).0 are_peers listed strings 5 0 (opening_run form peers view) refl (opening_elects form view me peers listed all) (among_ticks among) in
+      (it.0, (it.1.0, counted_elects me view it.0 (Tick me 6) (ticked me 6 (opening_run form peers view)) it.1.1))
 
   pub first_calm : AreAmong first_world.hashed strings → oldest (is_among (those (λ p. true))) first_world.mail ≡ None → HasLeader me view first_world
   first_calm among none =

@@ -9,9 +9,10 @@ use Rattle.history_scribe.specs.Histories.{AreHistories}
 use Rattle.register_model.specs.declared.history.History.{History}
 use Rattle.schedule_text.specs.Spelling.{AllMayStand, call_ids}
 use Rattle.schedule_text.specs.declared.event.ScheduleEvent.{ScheduleEvent}
+use Rattle.schedule_text.specs.declared.form.Form.{Form}
 use Rattle.sync_laws.specs.Facts.{AreFirm}
 use Rattle.world_spec.specs.Lines.{run_of_schedule}
 
-pub legal : (peers : ℕ) (view : List ℕ) (events : List ScheduleEvent) → peers ≤ 31 → IsView view → length events < 2 ^ 32 → AreFirm (lines_of view events) → AllMayStand peers events → AreDistinct (call_ids events) → HasNoClash (run_of_schedule peers view events).hashed
-    → (histories : List History) → AreHistories (run_of_schedule peers view events).notes (run_of_schedule peers view events).called histories → AreLegal events (run_of_schedule peers view events).printed histories
+pub legal : (form : Form) (peers : ℕ) (view : List ℕ) (events : List ScheduleEvent) → peers ≤ 31 → IsView view → length events < 2 ^ 32 → AreFirm (lines_of form view events) → AllMayStand peers events → AreDistinct (call_ids events) → HasNoClash (run_of_schedule form peers view events).hashed
+    → (histories : List History) → AreHistories (run_of_schedule form peers view events).notes (run_of_schedule form peers view events).called histories → AreLegal events (run_of_schedule form peers view events).printed histories
 legal = schedules_are_legal

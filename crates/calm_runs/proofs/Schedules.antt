@@ -26,6 +26,7 @@ use Rattle.schedule_text.specs.declared.schedule.Schedule.{Schedule}
 use Rattle.schedule_words.specs.Spelling.{AscendFrom}
 use Rattle.tree_refinement.specs.Trees.{AreAmong, AreFree}
 use Rattle.wire_frames.specs.declared.frame.Frame.{Frame}
+use Rattle.schedule_text.specs.declared.form.Form.{Form}
 use Rattle.world_spec.proofs.Calming.{calm_ends}
 use Rattle.world_spec.proofs.Growth.{calmed_grows, run_grows}
 use Rattle.world_spec.specs.Lines.{call_of, counted, applied, run_from, run_of_schedule}
@@ -106,8 +107,8 @@ module _ (me : ℕ) (view : List ℕ) (n : Scene) (e : ScheduleEvent) (w : Run) 
       self = led.self;
       task = led.task;
       map = led.map;
-      leader = record { stores = led.leader.stores; at = led.leader.at; whole = led.leader.whole };
-      others = λ q is. let s = led.others q is in record { stores = s.stores; at = s.at; whole = s.whole };
+      leader = record { keep = led.leader.keep; stores = led.leader.stores; at = led.leader.at; whole = led.leader.whole };
+      others = λ q is. let s = led.others q is in record { keep = s.keep; stores = s.stores; at = s.at; whole = s.whole };
       runs = led.runs;
       holds_well = led.holds_well;
       standing = goes_on led.runs led.standing;
@@ -125,7 +126,7 @@ module _ (me : ℕ) (view : List ℕ) (n : Scene) (e : ScheduleEvent) (w : Run) 
 
 -- ## A call and a calm
 
-module _ (me peers : ℕ) (view : List ℕ) (listed : me ∈ view) (all : (q : ℕ) → q ∈ view → IsPeer q × (q ≤ peers)) (filled : 0 < length view) (strings : List (List ℕ)) (free : AreFree strings) where
+module _ (form : Form) (me peers : ℕ) (view : List ℕ) (listed : me ∈ view) (all : (q : ℕ) → q ∈ view → IsPeer q × (q ≤ peers)) (filled : 0 < length view) (strings : List (List ℕ)) (free : AreFree strings) where
   are_peers : (q : ℕ) → q ∈ view → IsPeer q
   are_peers q is = (all q is).0
 
@@ -133,7 +134,7 @@ module _ (me peers : ℕ) (view : List ℕ) (listed : me ∈ view) (all : (q : �
   is_peer = (all me listed).0
 
   abbrev ran : List ScheduleEvent → Run
-  ran done = run_of_schedule peers view done
+  ran done = run_of_schedule form peers view done
 
   -- these lines were run, and each call among them was completed before the next one
   record Past (done : List ScheduleEvent) : Type 0 where
@@ -154,7 +155,7 @@ module _ (me peers : ℕ) (view : List ℕ) (listed : me ∈ view) (all : (q : �
     w2 = calmed (those (λ p. true)) most_messages w1
 
     last_is : ran (done ++ Call q id key command ∷ Calm ∷ []) ≡ counted Calm w2
-    last_is = run_more done (Call q id key command ∷ Calm ∷ []) (opening_run peers view)
+    last_is = run_more done (Call q id key command ∷ Calm ∷ []) (opening_run form peers view)
 
     small : suc past.n.count < 2 ^ 32
     small = let few : past.n.count ≤ length done = past.few in omega (arith, few, room)
@@ -175,7 +176,7 @@ module _ (me peers : ℕ) (view : List ℕ) (listed : me ∈ view) (all : (q : �
 
     none_waits : oldest (is_among (those (λ p. true))) w2.mail ≡ None
     none_waits = subst (λ (v : Run). oldest (is_among (those (λ p. true))) v.mail ≡ None) last_is
-        (subst (λ (es : List ScheduleEvent). IsWithinMessages (ran es) → oldest (is_among (those (λ p. true))) (ran es).mail ≡ None) (append_assoc done (Call q id key command ∷ []) (Calm ∷ [])) (calm_ends peers view (done ++ Call q id key command ∷ [])) within)
+        (subst (λ (es : List ScheduleEvent). IsWithinMessages (ran es) → oldest (is_among (those (λ p. true))) (ran es).mail ≡ None) (append_assoc done (Call q id key command ∷ []) (Calm ∷ [])) (calm_ends form peers view (done ++ Call q id key command ∷ [])) within)
 
     after_calm : IsServed me view m w2
     after_calm = calm_serves me view is_peer are_peers listed strings free m filled most_messages w1 after_call among_2 none_waits
@@ -250,7 +251,7 @@ module _ (me peers : ℕ) (view : List ℕ) (listed : me ∈ view) (all : (q : �
         shorter k j all is few = omega (arith, is, few)
 
       goes_on : ran (done ++ Call q id key command ∷ Calm ∷ more) ≡ run_from more (ran (done ++ Call q id key command ∷ Calm ∷ []))
-      goes_on = ap (λ (es : List ScheduleEvent). ran es) (sym whole) ∙ run_more (done ++ Call q id key command ∷ Calm ∷ []) more (opening_run peers view)
+      goes_on = ap (λ (es : List ScheduleEvent). ran es) (sym whole) ∙ run_more (done ++ Call q id key command ∷ Calm ∷ []) more (opening_run form peers view)
 
       among_now : AreAmong (ran (done ++ Call q id key command ∷ Calm ∷ [])).hashed strings
       among_now s there =
@@ -269,14 +270,14 @@ module _ (me peers : ℕ) (view : List ℕ) (listed : me ∈ view) (all : (q : �
   start among within = record {
     n = first_scene me view is_peer are_peers;
     served = served;
-    lines = ap (λ k. next_event k) (calmed_events (those (λ p. true)) most_messages (counted (Tick me 6) (ticked me 6 (opening_run peers view))) ∙ ap (λ k. next_event k) (ticked_events me 6 (opening_run peers view)));
+    lines = ap (λ k. next_event k) (calmed_events (those (λ p. true)) most_messages (counted (Tick me 6) (ticked me 6 (opening_run form peers view))) ∙ ap (λ k. next_event k) (ticked_events me 6 (opening_run form peers view)));
     few = omega arith;
     in_order = subst (λ (ps : List Printed). AreServed [] (answers_in ps)) (sym none_printed) tt;
     early = λ a is. absurd (subst (λ (ps : List Printed). a ∈ answers_in ps) none_printed is);
   }
     where
       served : IsServed me view (first_scene me view is_peer are_peers) (ran (Tick me 6 ∷ Calm ∷ []))
-      served = serves_from_now me view is_peer are_peers (ran (Tick me 6 ∷ Calm ∷ [])) (first_calm me peers view listed all filled strings among (calm_ends peers view (Tick me 6 ∷ []) within))
+      served = serves_from_now me view is_peer are_peers (ran (Tick me 6 ∷ Calm ∷ [])) (first_calm form me peers view listed all filled strings among (calm_ends form peers view (Tick me 6 ∷ []) within))
 
       none_printed : (ran (Tick me 6 ∷ Calm ∷ [])).printed ≡ []
       none_printed = (subst (λ (x : Option (List ℕ × Wait me view)). Runs me view (first_scene me view is_peer are_peers) served.led.l served.led.leader.stores (ran (Tick me 6 ∷ Calm ∷ [])) x) served.rests served.led.standing).1
@@ -324,5 +325,5 @@ few_lines n lines = omega (arith, lines)
 -- each call is completed before the next one begins
 pub calls_complete : (s : Schedule) → RunsUndisturbed s → AreServed (calls_from 1 s.events) (answers_in (run_of s).printed)
 calls_complete s runs =
-    completes runs.undisturbed.peer s.peers s.view runs.undisturbed.member (members_are 1 s.peers s.view (omega arith) runs.schedule.peers.1 runs.schedule.view.0) runs.schedule.view.1.size.0 (run_of s).hashed (free_of (run_of s).hashed runs.apart)
+    completes s.form runs.undisturbed.peer s.peers s.view runs.undisturbed.member (members_are 1 s.peers s.view (omega arith) runs.schedule.peers.1 runs.schedule.view.0) runs.schedule.view.1.size.0 (run_of s).hashed (free_of (run_of s).hashed runs.apart)
     s.events runs.undisturbed.calm runs.schedule.events (few_lines (length s.events) runs.schedule.lines) (λ x at. at) runs.within

@@ -22,7 +22,7 @@ use Rattle.joint_views.specs.Members.{those}
 use Rattle.key_commands.specs.Commands.{verdict_of, register_of}
 use Rattle.key_commands.specs.declared.verdict.Verdict.{Verdict}
 use Rattle.key_commands.specs.declared.verdict.Verdict.TheVariants.{Write, Answer}
-use Rattle.leading.proofs.Lookups.{stage_here}
+use Rattle.leading_laws.proofs.Lookups.{stage_here}
 use Rattle.leading.specs.Leaders.{settled_as}
 use Rattle.leading.specs.declared.leader.Leader.{Leader}
 use Rattle.leading.specs.declared.pending.Pending.TheVariants as pendings
@@ -46,6 +46,7 @@ use Rattle.world_spec.specs.Lines.{client, call_of}
 use Rattle.world_spec.specs.Runs.{Run, frame_from, stepped}
 use Rattle.calm_steps.proofs.CandidateSteps.{ballot, accepted}
 use Rattle.calm_steps.proofs.Contents.{RegisterFits, OutcomeFits, outcome_fits}
+use Rattle.calm_steps.proofs.Keeping.{Keeping}
 use Rattle.calm_steps.proofs.Lands.{Aim, Lands}
 use Rattle.calm_steps.proofs.LeaderSteps.{ending, ends_here, on_call}
 use Rattle.calm_steps.proofs.Leads.{leads, told}
@@ -230,7 +231,7 @@ module _ (me : ℕ) (view : List ℕ) (is_peer : IsPeer me) (peers : (q : ℕ) �
       abbrev out_read : Out
       out_read = told nothing (to_others me view peers (messages.Get (ballot me view) (served.led.l.round + 1) key)) []
 
-      read_waiting : state_of (begun (view ∷ []) me) ≡ Open → (ms : List Note) → Comes (leads (accepted me view) (G served.led.l.seq (served.led.l.round + 1) u)) h_read out_read ms
+      read_waiting : state_of (begun (view ∷ []) me) ≡ Open → (ms : List Note) (keep : Keeping) → Comes (leads (accepted me view) (G served.led.l.seq (served.led.l.round + 1) u) keep) h_read out_read ms
       read_waiting is ms =
           waits_now me view is_peer peers listed strings free n served.led.l.accepts w w.mail served.led.mail refl (leads (accepted me view) served.led.l) served.led.map served.led.leader served.led.others
           call wait served.led.l.seq (served.led.l.round + 1) u h_read out_read ms (served.led.map me) (record { answers = refl; changes = refl }) whole_read
@@ -289,7 +290,7 @@ module _ (me : ℕ) (view : List ℕ) (is_peer : IsPeer me) (peers : (q : ℕ) �
 
     pub called : AreAmong (stepped me (events.Call (call_of id key command)) w).hashed strings → Leading me view n (stepped me (events.Call (call_of id key command)) w)
     called among =
-        step_grows me (events.Call (call_of id key command)) strings Comes (Leading me view n) w (leads (accepted me view) served.led.l) served.led.leader.stores served.led.leader.at
-        (subst (λ (x : Leader). Lands strings Comes (step_of me (events.Call (call_of id key command)) (leads (accepted me view) x)) (held_with served.led.leader.stores w.hashed) []) (sym (as_parts served.led.l me view served.led.fact served.led.self served.led.task))
-        (on_call me (accepted me view) strings Comes free key call (runs_here call) (G served.led.l.seq served.led.l.round served.led.l.table) (held_with served.led.leader.stores w.hashed) no_calls refl started))
+        step_grows me (events.Call (call_of id key command)) strings Comes (Leading me view n) w (leads (accepted me view) served.led.l served.led.leader.keep) served.led.leader.stores served.led.leader.at
+        (subst (λ (x : Leader). Lands strings Comes (step_of me (events.Call (call_of id key command)) (leads (accepted me view) x served.led.leader.keep)) (held_with served.led.leader.stores w.hashed) []) (sym (as_parts served.led.l me view served.led.fact served.led.self served.led.task))
+        (on_call me (accepted me view) strings Comes free key call (runs_here call) (G served.led.l.seq served.led.l.round served.led.l.table) (held_with served.led.leader.stores w.hashed) no_calls refl started served.led.leader.keep))
         among (λ y g out ms grown meets. meets grown)

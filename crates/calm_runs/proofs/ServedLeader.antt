@@ -30,7 +30,7 @@ use Rattle.key_commands.specs.declared.verdict.Verdict.TheVariants.{Write, Answe
 use Rattle.kept_objects.specs.Kept.{entry_of}
 use Rattle.leader_words.specs.declared.out.AnswerOut.{AnswerOut}
 use Rattle.leader_words.specs.declared.out.Outgoing.{Outgoing}
-use Rattle.leading.proofs.Lookups.{stage_here}
+use Rattle.leading_laws.proofs.Lookups.{stage_here}
 use Rattle.leading.specs.Leaders.{settled_as, is_spent}
 use Rattle.leading.specs.declared.leader.Leader.{Leader}
 use Rattle.leading.specs.declared.pending.Pending.{Pending}
@@ -61,6 +61,7 @@ use Rattle.calm_steps.proofs.CandidateSteps.{ballot, accepted}
 use Rattle.calm_steps.proofs.CheckReplies.{ended_calls}
 use Rattle.calm_steps.proofs.Contents.{OutcomeFits, outcome_fits}
 use Rattle.calm_steps.proofs.LeaderSteps.{ending, ends_here}
+use Rattle.calm_steps.proofs.Keeping.{Keeping, Standing}
 use Rattle.calm_steps.proofs.Lands.{Aim}
 use Rattle.calm_steps.proofs.Leads.{leads, told}
 use Rattle.calm_steps.proofs.Requests.{HasWritten}
@@ -106,7 +107,7 @@ module _ (me : ℕ) (view : List ℕ) (is_peer : IsPeer me) (peers : (q : ℕ) �
 
   -- ## A step in a world in which these messages wait, and whose peers stand so
 
-  module _ (w : Run) (base : Mail) (base_mail : IsMail base) (lines : w.printed ≡ n.before) (x : State) (maps : ℕ → List Entry) (own : Stands w me x (maps me)) (others : (q : ℕ) → IsOther me view q → Stands w q (rests (accepted me view)) (maps q)) where
+  module _ (w : Run) (base : Mail) (base_mail : IsMail base) (lines : w.printed ≡ n.before) (x : Standing) (maps : ℕ → List Entry) (own : Stands w me x (maps me)) (others : (q : ℕ) → IsOther me view q → Stands w q (rests (accepted me view)) (maps q)) where
     abbrev v : Run
     v = record w { mail = base }
 
@@ -116,6 +117,10 @@ module _ (me : ℕ) (view : List ℕ) (is_peer : IsPeer me) (peers : (q : ℕ) �
     abbrev pub Moves : Aim
     Moves y g out ms = AreAmong w.hashed g.hashed → Leading me view n (moved me y g out ms v)
 
+    -- the step is to come to this leader, whatever its seal and its mode are
+    abbrev pub MovesTo : Leader → Held → Out → List Note → Type 0
+    MovesTo l g out ms = (keep : Keeping) → Moves (leads (accepted me view) l keep) g out ms
+
     abbrev Now : ℕ → ℕ → Rows → Held → (ℕ → List Entry) → Option (List ℕ) → Type 0
     Now seq round rows h all busy = Holds me view n seq round rows h.stores all busy
 
@@ -124,8 +129,8 @@ module _ (me : ℕ) (view : List ℕ) (is_peer : IsPeer me) (peers : (q : ℕ) �
 
     -- the step leads to this leader, and what the world then holds
     pub made : (seq round : ℕ) (t : CallTable) (runs : Option (List ℕ × Wait me view)) (g : Held) (out : Out) (ms : List Note) (m : List Entry) → IsWhole g m → Now seq round t.rows g (with_map me m maps) (busy_with me view runs)
-        → Runs me view n (F seq round t) g.stores (moved me (leads (accepted me view) (F seq round t)) g out ms v) runs → AllKinds (F seq round t) runs (sent out) → Moves (leads (accepted me view) (F seq round t)) g out ms
-    made seq round t runs g out ms m whole holds_so standing kinds grown = record {
+        → ((keep : Keeping) → Runs me view n (F seq round t) g.stores (moved me (leads (accepted me view) (F seq round t) keep) g out ms v) runs) → AllKinds (F seq round t) runs (sent out) → MovesTo (F seq round t) g out ms
+    made seq round t runs g out ms m whole holds_so standing kinds = λ keep grown. record {
       mail = is_mail_all (map (frame_from me) out.sends) base base_mail;
       l = F seq round t;
       fact = refl;
@@ -133,15 +138,16 @@ module _ (me : ℕ) (view : List ℕ) (is_peer : IsPeer me) (peers : (q : ℕ) �
       task = refl;
       map = with_map me m maps;
       leader = record {
+        keep = keep;
         stores = g.stores;
-        at = set_same w.nodes (place_of me) (Up (leads (accepted me view) (F seq round t)) g.stores) (Up x own.stores) own.at;
+        at = set_same w.nodes (place_of me) (Up (leads (accepted me view) (F seq round t) keep) g.stores) (Up (x own.keep) own.stores) own.at;
         whole = subst (λ es. IsWhole g es) (sym (map_here me m maps)) whole;
       };
-      others = λ q is. subst (λ es. Stands (moved me (leads (accepted me view) (F seq round t)) g out ms v) q (rests (accepted me view)) es) (sym (map_other me m maps q is.1))
-          (stands_other me (leads (accepted me view) (F seq round t)) g out ms v q (rests (accepted me view)) (maps q) is_peer (peers q is.0) is.1 grown (at_mail w base q (rests (accepted me view)) (maps q) (others q is)));
+      others = λ q is. subst (λ es. Stands (moved me (leads (accepted me view) (F seq round t) keep) g out ms v) q (rests (accepted me view)) es) (sym (map_other me m maps q is.1))
+          (stands_other me (leads (accepted me view) (F seq round t)) keep g out ms v q (rests (accepted me view)) (maps q) is_peer (peers q is.0) is.1 grown (at_mail w base q (rests (accepted me view)) (maps q) (others q is)));
       runs = runs;
       holds_well = holds_so;
-      standing = standing;
+      standing = standing keep;
       kinds = kinds;
     }
 
@@ -152,14 +158,14 @@ module _ (me : ℕ) (view : List ℕ) (is_peer : IsPeer me) (peers : (q : ℕ) �
     -- the step ends with the call answered
     pub answers_now : (call : Waiting) (seq round : ℕ) (t : CallTable) (reply : Reply) (g : Held) (out : Out) (ms : List Note) (m : List Entry) → t.calls ≡ call ∷ [] → n.call ≡ Some call.id → IsDone reply
         → out.answers ≡ answer_to call reply ∷ [] → out.changes ≡ [] → IsWhole g m → Now seq round t.rows g (with_map me m maps) (Some call.key) → Knows me view t.rows g.stores call.key
-        → AllKinds (F seq round (ended call.key t)) None (sent out) → Moves (leads (accepted me view) (F seq round (ended call.key t))) g out ms
+        → AllKinds (F seq round (ended call.key t)) None (sent out) → MovesTo (F seq round (ended call.key t)) g out ms
     answers_now call seq round t reply g out ms m calls named done given unchanged whole holds_so known kinds =
         made seq round (ended call.key t) None g out ms m whole
-        (subst (λ (rows : Rows). Now seq round rows g (with_map me m maps) None) (sym (ended_rows call.key t)) (freed me view n seq round t.rows g.stores (with_map me m maps) call.key known holds_so)) (
+        (subst (λ (rows : Rows). Now seq round rows g (with_map me m maps) None) (sym (ended_rows call.key t)) (freed me view n seq round t.rows g.stores (with_map me m maps) call.key known holds_so)) (λ keep. (
           ended_calls call.key t ∙ (ap (λ cs. without_running call.key cs) calls ∙ gone call),
-          subst (λ (o : Option ℕ). IsTold n o (moved me (leads (accepted me view) (F seq round (ended call.key t))) g out ms v)) (sym named)
+          subst (λ (o : Option ℕ). IsTold n o (moved me (leads (accepted me view) (F seq round (ended call.key t)) keep) g out ms v)) (sym named)
               (record { answer = record { id = call.id; event = next_event w.events; reply = reply }; named = refl; done = done; early = omega arith; shown = shown }),
-        )
+        ))
         kinds
       where
         shown : w.printed ++ (map (λ (a : AnswerOut). printed.Answer (record { id = a.id; event = next_event w.events; reply = a.reply })) out.answers ++ map (λ (taken : Bool). printed.Change (next_event w.events) me taken) out.changes)
@@ -168,9 +174,9 @@ module _ (me : ℕ) (view : List ℕ) (is_peer : IsPeer me) (peers : (q : ℕ) �
 
     -- the step ends in a round that waits
     pub waits_now : (call : Waiting) (wait : Wait me view) (seq round : ℕ) (t : CallTable) (g : Held) (out : Out) (ms : List Note) (m : List Entry) → IsQuiet out → IsWhole g m → Now seq round t.rows g (with_map me m maps) (Some call.key)
-        → Serves me view n (F seq round t) g.stores (sent out) call wait → AllKinds (F seq round t) (Some (call.key, wait)) (sent out) → Moves (leads (accepted me view) (F seq round t)) g out ms
+        → Serves me view n (F seq round t) g.stores (sent out) call wait → AllKinds (F seq round t) (Some (call.key, wait)) (sent out) → MovesTo (F seq round t) g out ms
     waits_now call wait seq round t g out ms m quiet whole holds_so serves kinds =
-        made seq round t (Some (call.key, wait)) g out ms m whole holds_so (rw (quiet.answers, quiet.changes) (append-nil w.printed ∙ lines), (call, refl, serves)) kinds
+        made seq round t (Some (call.key, wait)) g out ms m whole holds_so (λ keep. (rw (quiet.answers, quiet.changes) (append-nil w.printed ∙ lines), (call, refl, serves))) kinds
 
     -- ## In the middle of a step
 
@@ -262,7 +268,7 @@ module _ (me : ℕ) (view : List ℕ) (is_peer : IsPeer me) (peers : (q : ℕ) �
 
           -- the put waits for acknowledgements
           puts_waiting : state_of (begun (view ∷ []) me) ≡ Open → (ms : List Note)
-              → Moves (leads (accepted me view) (F (seq + 1) round (at_stage call.key (Puts o (begun (view ∷ []) me)) t))) g (told out (to_others me view peers (messages.Put (ballot me view) o)) []) ms
+              → MovesTo (F (seq + 1) round (at_stage call.key (Puts o (begun (view ∷ []) me)) t)) g (told out (to_others me view peers (messages.Put (ballot me view) o)) []) ms
           puts_waiting is ms =
               let wait : Wait me view = Puts o (begun (view ∷ []) me) in
               let u : CallTable = at_stage call.key wait t in
@@ -287,7 +293,7 @@ module _ (me : ℕ) (view : List ℕ) (is_peer : IsPeer me) (peers : (q : ℕ) �
               (kinds_after (F (seq + 1) round u) (Some (call.key, wait)) round out (messages.Put (ballot me view) o) [] mid.kinds (omega arith) (λ r. r) (refl, valid, refl, not, mid.was_called, λ r. r))
 
           -- the put is settled at once
-          puts_settled : (ms : List Note) → Moves (leads (accepted me view) (F (seq + 1) round (ended call.key (at_known call.key (settled_as o.version o (md5 (object_spelling o))) t)))) g
+          puts_settled : (ms : List Note) → MovesTo (F (seq + 1) round (ended call.key (at_known call.key (settled_as o.version o (md5 (object_spelling o))) t))) g
               (told out (to_others me view peers (messages.Put (ballot me view) o)) (answer_to call (replies.Ok o.stamp) ∷ [])) ms
           puts_settled ms =
               let known_as : Known = settled_as o.version o (md5 (object_spelling o)) in
@@ -318,7 +324,7 @@ module _ (me : ℕ) (view : List ℕ) (is_peer : IsPeer me) (peers : (q : ℕ) �
         so_rounded = rounded me view n seq round t.rows h.stores (with_map me (maps me) maps) (Some call.key) more (same_maps seq round t.rows h (Some call.key) mid.so)
 
         checks_waiting : state_of (begun (view ∷ []) me) ≡ Open → (ms : List Note)
-            → Moves (leads (accepted me view) (F seq (round + 1) (record (at_stage call.key (Checks (round + 1) (begun (view ∷ []) me) reply) t) { checks = with_check (round + 1) call.key t.checks }))) h (told out (to_others me view peers (messages.Check (ballot me view) (round + 1))) []) ms
+            → MovesTo (F seq (round + 1) (record (at_stage call.key (Checks (round + 1) (begun (view ∷ []) me) reply) t) { checks = with_check (round + 1) call.key t.checks })) h (told out (to_others me view peers (messages.Check (ballot me view) (round + 1))) []) ms
         checks_waiting is ms =
             let wait : Wait me view = Checks (round + 1) (begun (view ∷ []) me) reply in
             let u : CallTable = record (at_stage call.key wait t) { checks = with_check (round + 1) call.key t.checks } in
@@ -341,7 +347,7 @@ module _ (me : ℕ) (view : List ℕ) (is_peer : IsPeer me) (peers : (q : ℕ) �
             })
             (kinds_after (F seq (round + 1) u) (Some (call.key, wait)) round out (messages.Check (ballot me view) (round + 1)) [] mid.kinds (omega arith) (λ r. r) (refl, omega arith))
 
-        checks_answered : (ms : List Note) → Moves (leads (accepted me view) (F seq (round + 1) (ended call.key t))) h (told out (to_others me view peers (messages.Check (ballot me view) (round + 1))) (answer_to call reply ∷ [])) ms
+        checks_answered : (ms : List Note) → MovesTo (F seq (round + 1) (ended call.key t)) h (told out (to_others me view peers (messages.Check (ballot me view) (round + 1))) (answer_to call reply ∷ [])) ms
         checks_answered ms =
             answers_now call seq (round + 1) t reply h (told out (to_others me view peers (messages.Check (ballot me view) (round + 1))) (answer_to call reply ∷ [])) ms (maps me) mid.calls mid.named done (with_answer out (answer_to call reply) mid.quiet) mid.quiet.changes mid.whole so_rounded known
             (kinds_after (F seq (round + 1) (ended call.key t)) None round out (messages.Check (ballot me view) (round + 1)) (answer_to call reply ∷ []) mid.kinds (omega arith) (λ r. r) (refl, omega arith))
@@ -373,7 +379,7 @@ module _ (me : ℕ) (view : List ℕ) (is_peer : IsPeer me) (peers : (q : ℕ) �
         kinds = mid.kinds;
       }
 
-      answers_absent : (reply : Reply) → IsDone reply → (ms : List Note) → Moves (leads (accepted me view) (F seq round (ended call.key (at_known call.key knowns.Absent t)))) h (told out [] (answer_to call reply ∷ [])) ms
+      answers_absent : (reply : Reply) → IsDone reply → (ms : List Note) → MovesTo (F seq round (ended call.key (at_known call.key knowns.Absent t))) h (told out [] (answer_to call reply ∷ [])) ms
       answers_absent reply done ms =
           let u : CallTable = at_known call.key knowns.Absent t in
           answers_now call seq round u reply h (told out [] (answer_to call reply ∷ [])) ms (maps me) mid.calls mid.named done (with_answer out (answer_to call reply) mid.quiet) mid.quiet.changes mid.whole

@@ -12,7 +12,6 @@ use Rattle.held_stores.specs.Held.{Held}
 use Rattle.held_stores.specs.Laws.{held_with}
 use Rattle.network.proofs.MailLaws.{is_mail_settled}
 use Rattle.network.specs.Mail.{Mail, settled}
-use Rattle.peer_state.specs.declared.state.State.{State}
 use Rattle.register_model.specs.declared.note.Note.{Note}
 use Rattle.step_plans.specs.Plans.{Out}
 use Rattle.tree_maps.specs.Entries.{lookup}
@@ -22,6 +21,7 @@ use Rattle.wire_frames.specs.declared.frame.Frame.{Frame}
 use Rattle.wire_frames.specs.declared.message.Message.{Message}
 use Rattle.world_spec.specs.Nodes.{Up}
 use Rattle.world_spec.specs.Runs.{Run, place_of, frame_from}
+use Rattle.calm_steps.proofs.Keeping.{Keeping, Standing}
 use Rattle.calm_steps.proofs.CandidateSteps.{accepted}
 use Rattle.calm_runs.proofs.UnderWay.{Round, IsUnderWay, reply_of}
 use Rattle.calm_runs.proofs.ElectionRequests.{IsQuiet}
@@ -55,8 +55,8 @@ module _ (q : ℕ) (now : List Entry) (maps : ℕ → List Entry) where
     by false apart = old (eqb-false k q apart)
 
 -- a peer stands where it stood, whatever messages wait
-pub at_mail : (w : Run) (m : Mail) (q : ℕ) (x : State) (es : List Entry) → Stands w q x es → Stands (record w { mail = m }) q x es
-at_mail w m q x es s = record { stores = s.stores; at = s.at; whole = s.whole }
+pub at_mail : (w : Run) (m : Mail) (q : ℕ) (x : Standing) (es : List Entry) → Stands w q x es → Stands (record w { mail = m }) q x es
+at_mail w m q x es s = record { keep = s.keep; stores = s.stores; at = s.at; whole = s.whole }
 
 module _ (me : ℕ) (view : List ℕ) (is_peer : IsPeer me) (peers : (q : ℕ) → q ∈ view → IsPeer q) where
   module _ (n : Scene) (w : Run) (served : Leading me view n w) (i q : ℕ) (ask : Message) (other : IsOther me view q) (at : slice_get w.mail.sent i ≡ Some (asking me view q ask)) where
@@ -65,9 +65,9 @@ module _ (me : ℕ) (view : List ℕ) (is_peer : IsPeer me) (peers : (q : ℕ) �
     Replies out None = Unit {0}
     Replies out (Some it) = ask ≡ (round_for me view it.0 it.1).ask → reply_of (round_for me view it.0 it.1) q ∈ map (frame_from q) out.sends
 
-    module _ (now : List Entry) (g : Held) (out : Out) (ms : List Note) (grown : AreAmong w.hashed g.hashed) (whole : IsWhole g now) (quiet : IsQuiet out) where
+    module _ (now : List Entry) (keep : Keeping) (g : Held) (out : Out) (ms : List Note) (grown : AreAmong w.hashed g.hashed) (whole : IsWhole g now) (quiet : IsQuiet out) where
       abbrev after : Run
-      after = moved q (rests (accepted me view)) g out ms (record w { mail = settled w.mail i })
+      after = moved q (rests (accepted me view) keep) g out ms (record w { mail = settled w.mail i })
 
       under_way : (r : Round) (votes : ℕ → Bool) (k : ℕ) → r.leader ≡ me → k ≢ me → (ask ≡ r.ask → reply_of r q ∈ map (frame_from q) out.sends) → IsUnderWay r (λ j. true) w.mail votes k → IsUnderWay r (λ j. true) after.mail votes k
       under_way r votes k leads_it apart replies way =
@@ -121,8 +121,9 @@ module _ (me : ℕ) (view : List ℕ) (is_peer : IsPeer me) (peers : (q : ℕ) �
         task = served.task;
         map = with_map q now served.map;
         leader = record {
+          keep = served.leader.keep;
           stores = served.leader.stores;
-          at = set_other w.nodes (place_of q) (place_of me) (Up (rests (accepted me view)) g.stores) (places_apart q me (peers q other.0) is_peer other.1) ∙ served.leader.at;
+          at = set_other w.nodes (place_of q) (place_of me) (Up (rests (accepted me view) keep) g.stores) (places_apart q me (peers q other.0) is_peer other.1) ∙ served.leader.at;
           whole = subst (λ es. IsWhole (held_with served.leader.stores g.hashed) es) (sym (map_other q now served.map me (λ same. other.1 (sym same)))) (whole_grows served.leader.stores w.hashed g.hashed (served.map me) grown served.leader.whole);
         };
         others = λ k is. by k is (k == q) refl;
@@ -144,7 +145,7 @@ module _ (me : ℕ) (view : List ℕ) (is_peer : IsPeer me) (peers : (q : ℕ) �
 
           by : (k : ℕ) → IsOther me view k → (b : Bool) → (k == q) ≡ b → Stands after k (rests (accepted me view)) (with_map q now served.map k)
           by k is true same = subst (λ j. Stands after j (rests (accepted me view)) (with_map q now served.map j)) (sym (eqb-true k q same))
-              (subst (λ es. Stands after q (rests (accepted me view)) es) (sym (map_here q now served.map)) (stands_here q (rests (accepted me view)) g out ms (record w { mail = settled w.mail i }) (rests (accepted me view)) was.stores now was.at whole))
+              (subst (λ es. Stands after q (rests (accepted me view)) es) (sym (map_here q now served.map)) (stands_here q (rests (accepted me view)) keep g out ms (record w { mail = settled w.mail i }) (rests (accepted me view) was.keep) was.stores now was.at whole))
           by k is false apart = subst (λ es. Stands after k (rests (accepted me view)) es) (sym (map_other q now served.map k (eqb-false k q apart)))
-              (stands_other q (rests (accepted me view)) g out ms (record w { mail = settled w.mail i }) k (rests (accepted me view)) (served.map k) (peers q other.0) (peers k is.0) (eqb-false k q apart) grown
+              (stands_other q (rests (accepted me view)) keep g out ms (record w { mail = settled w.mail i }) k (rests (accepted me view)) (served.map k) (peers q other.0) (peers k is.0) (eqb-false k q apart) grown
               (at_mail w (settled w.mail i) k (rests (accepted me view)) (served.map k) (served.others k is)))

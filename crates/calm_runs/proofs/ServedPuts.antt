@@ -73,17 +73,17 @@ module _ (me : ℕ) (view : List ℕ) (is_peer : IsPeer me) (peers : (q : ℕ) �
       writes : puts_at me (ballot me view) o (lookup o.key (served.map q)) ≡ acknowledges me (ballot me view) o thens.Put → Leading me view n (received (asking me view q ask) i w)
       writes takes =
           lands me view is_peer peers strings n w served i q ask other at (put entry (served.map q))
-          (subst (λ (m : Message). Lands strings (Comes me view is_peer peers strings n w served i q ask other at (put entry (served.map q))) (step_of q (events.Deliver me m) (rests (accepted me view))) (held_with (served.others q other).stores w.hashed) []) (sym is)
-          (on_put q me strings (Comes me view is_peer peers strings n w served i q ask other at (put entry (served.map q))) free (accepted me view) (ballot me view) o (held_with (served.others q other).stores w.hashed) (served.map q) (not_below me view is_peer peers strings n w served i q ask other at) (same_ballot me view is_peer peers strings n w served i q ask other at) (served.others q other).whole fits.0 fits.1 takes
-          (λ f g has. (refl, (has.whole, (quiet_reply me view is_peer peers strings n w served i q ask other at (messages.PutReply (ballot me view) o.key o.version), (put_replies served.runs, reply_kind me view is_peer peers strings n w served i q ask other at (messages.PutReply (ballot me view) o.key o.version) refl)))))))
+          (subst (λ (m : Message). Lands strings (Comes me view is_peer peers strings n w served i q ask other at (put entry (served.map q))) (step_of q (events.Deliver me m) (rests (accepted me view) (served.others q other).keep)) (held_with (served.others q other).stores w.hashed) []) (sym is)
+          (on_put q me strings (Comes me view is_peer peers strings n w served i q ask other at (put entry (served.map q))) free (served.others q other).keep (accepted me view) (ballot me view) o (held_with (served.others q other).stores w.hashed) (served.map q) (not_below me view is_peer peers strings n w served i q ask other at) (same_ballot me view is_peer peers strings n w served i q ask other at) (served.others q other).whole fits.0 fits.1 takes
+          (λ seal f g has. (record (served.others q other).keep { seal = seal }, (refl, (has.whole, (quiet_reply me view is_peer peers strings n w served i q ask other at (messages.PutReply (ballot me view) o.key o.version), (put_replies served.runs, reply_kind me view is_peer peers strings n w served i q ask other at (messages.PutReply (ballot me view) o.key o.version) refl))))))))
           new_past new_unknown among
 
       keeps_it : puts_at me (ballot me view) o (lookup o.key (served.map q)) ≡ acknowledges me (ballot me view) o thens.Stay → Leading me view n (received (asking me view q ask) i w)
       keeps_it stays =
           lands me view is_peer peers strings n w served i q ask other at (served.map q)
-          (subst (λ (m : Message). Lands strings (Comes me view is_peer peers strings n w served i q ask other at (served.map q)) (step_of q (events.Deliver me m) (rests (accepted me view))) (held_with (served.others q other).stores w.hashed) []) (sym is)
-          (on_put_again q me strings (Comes me view is_peer peers strings n w served i q ask other at (served.map q)) (accepted me view) (ballot me view) o (held_with (served.others q other).stores w.hashed) (served.map q) (not_below me view is_peer peers strings n w served i q ask other at) (same_ballot me view is_peer peers strings n w served i q ask other at) (served.others q other).whole stays
-          (λ g whole. (refl, (whole, (quiet_reply me view is_peer peers strings n w served i q ask other at (messages.PutReply (ballot me view) o.key o.version), (put_replies served.runs, reply_kind me view is_peer peers strings n w served i q ask other at (messages.PutReply (ballot me view) o.key o.version) refl)))))))
+          (subst (λ (m : Message). Lands strings (Comes me view is_peer peers strings n w served i q ask other at (served.map q)) (step_of q (events.Deliver me m) (rests (accepted me view) (served.others q other).keep)) (held_with (served.others q other).stores w.hashed) []) (sym is)
+          (on_put_again q me strings (Comes me view is_peer peers strings n w served i q ask other at (served.map q)) (served.others q other).keep (accepted me view) (ballot me view) o (held_with (served.others q other).stores w.hashed) (served.map q) (not_below me view is_peer peers strings n w served i q ask other at) (same_ballot me view is_peer peers strings n w served i q ask other at) (served.others q other).whole stays
+          (λ g whole. ((served.others q other).keep, (refl, (whole, (quiet_reply me view is_peer peers strings n w served i q ask other at (messages.PutReply (ballot me view) o.key o.version), (put_replies served.runs, reply_kind me view is_peer peers strings n w served i q ask other at (messages.PutReply (ballot me view) o.key o.version) refl))))))))
           (old_past me view is_peer peers strings n w served i q ask other at) (unknown_there me view is_peer peers strings n w served i q ask other at) among
 
       pub taken : Leading me view n (received (asking me view q ask) i w)

@@ -31,7 +31,7 @@ use Rattle.held_stores.specs.Held.{Held}
 use Rattle.held_stores.specs.Laws.{held_with}
 use Rattle.key_commands.specs.Commands.{verdict_of}
 use Rattle.leader_words.specs.Outs.{rests as rests_out}
-use Rattle.leading.proofs.Lookups.{stage_here, known_other}
+use Rattle.leading_laws.proofs.Lookups.{stage_here, known_other}
 use Rattle.leading.specs.Leaders.{settled_as, base}
 use Rattle.leading.specs.Puts.{row_35_reply, acknowledged_by}
 use Rattle.leading.specs.Rounds.{row_29_reply, row_33_reply, heard, stood, stood_at, counts}
@@ -60,9 +60,10 @@ use Rattle.world_spec.specs.Nodes.{Up}
 use Rattle.world_spec.specs.Runs.{Run, place_of, received}
 use Rattle.calm_steps.proofs.CandidateSteps.{ballot, accepted}
 use Rattle.calm_steps.proofs.CheckReplies.{heard_open, heard_met}
-use Rattle.calm_steps.proofs.Lands.{Aim, Lands}
+use Rattle.calm_steps.proofs.Keeping.{Keeping}
+use Rattle.calm_steps.proofs.Lands.{Aim}
 use Rattle.calm_steps.proofs.LeaderSteps.{ending, ends_here, heard_read, heard_put, late_read, late_put, late_check}
-use Rattle.calm_steps.proofs.Leads.{leads, told}
+use Rattle.calm_steps.proofs.Leads.{leads, told, LandsFrom}
 use Rattle.calm_steps.proofs.Serving.{Goes, AppliesEnd, missing, by_round}
 use Rattle.calm_runs.proofs.UnderWay.{Round, IsUnderWay}
 use Rattle.calm_runs.proofs.Elections.{IsOther, rests, replying}
@@ -133,9 +134,9 @@ module _ (me : ℕ) (view : List ℕ) (is_peer : IsPeer me) (peers : (q : ℕ) �
     abbrev pub Comes : Aim
     Comes y g out ms = AreAmong w.hashed g.hashed → Leading me view n (moved me y g out ms (record w { mail = settled w.mail i }))
 
-    finish : Lands strings Comes (step_of me (events.Deliver q reply) (leads (accepted me view) led.l)) (held_with led.leader.stores w.hashed) [] → Leading me view n (received (replying me view q reply) i w)
+    finish : LandsFrom me (accepted me view) strings Comes (λ y. step_of me (events.Deliver q reply) y) led.l (held_with led.leader.stores w.hashed) [] → Leading me view n (received (replying me view q reply) i w)
     finish lands =
-        step_grows me (events.Deliver q reply) strings Comes (Leading me view n) (record w { mail = settled w.mail i }) (leads (accepted me view) led.l) led.leader.stores led.leader.at lands among (λ y g out ms grown meets. meets grown)
+        step_grows me (events.Deliver q reply) strings Comes (Leading me view n) (record w { mail = settled w.mail i }) (leads (accepted me view) led.l led.leader.keep) led.leader.stores led.leader.at (lands led.leader.keep) among (λ y g out ms grown meets. meets grown)
 
     -- ## Replies that are ignored
 
@@ -155,9 +156,9 @@ module _ (me : ℕ) (view : List ℕ) (is_peer : IsPeer me) (peers : (q : ℕ) �
     round_of_leader key (Checks round votes reply) = refl
     round_of_leader key (Puts o votes) = refl
 
-    module _ (g : Held) (ms : List Note) where
+    module _ (g : Held) (ms : List Note) (keep : Keeping) where
       abbrev after : Run
-      after = moved me (leads (accepted me view) led.l) g nothing ms (record w { mail = settled w.mail i })
+      after = moved me (leads (accepted me view) led.l keep) g nothing ms (record w { mail = settled w.mail i })
 
       still_told : (call : Option ℕ) → IsTold n call w → IsTold n call after
       still_told None is = append-nil w.printed ∙ is
@@ -187,7 +188,7 @@ module _ (me : ℕ) (view : List ℕ) (is_peer : IsPeer me) (peers : (q : ℕ) �
         ),
       )
 
-      idle_moves : Misses led.runs → g.stores ≡ led.leader.stores → Comes (leads (accepted me view) led.l) g nothing ms
+      idle_moves : Misses led.runs → g.stores ≡ led.leader.stores → Comes (leads (accepted me view) led.l keep) g nothing ms
       idle_moves misses same grown = record {
         mail = is_mail_settled w.mail i led.mail;
         l = led.l;
@@ -196,11 +197,12 @@ module _ (me : ℕ) (view : List ℕ) (is_peer : IsPeer me) (peers : (q : ℕ) �
         task = led.task;
         map = led.map;
         leader = record {
+          keep = keep;
           stores = led.leader.stores;
-          at = set_same w.nodes (place_of me) (Up (leads (accepted me view) led.l) g.stores) (Up (leads (accepted me view) led.l) led.leader.stores) led.leader.at ∙ ap (λ s. Some (Up (leads (accepted me view) led.l) s)) same;
+          at = set_same w.nodes (place_of me) (Up (leads (accepted me view) led.l keep) g.stores) (Up (leads (accepted me view) led.l led.leader.keep) led.leader.stores) led.leader.at ∙ ap (λ s. Some (Up (leads (accepted me view) led.l keep) s)) same;
           whole = whole_grows led.leader.stores w.hashed g.hashed (led.map me) grown led.leader.whole;
         };
-        others = λ k is. stands_other me (leads (accepted me view) led.l) g nothing ms (record w { mail = settled w.mail i }) k (rests (accepted me view)) (led.map k) is_peer (peers k is.0) is.1 grown (at_mail w (settled w.mail i) k (rests (accepted me view)) (led.map k) (led.others k is));
+        others = λ k is. stands_other me (leads (accepted me view) led.l) keep g nothing ms (record w { mail = settled w.mail i }) k (rests (accepted me view)) (led.map k) is_peer (peers k is.0) is.1 grown (at_mail w (settled w.mail i) k (rests (accepted me view)) (led.map k) (led.others k is));
         runs = led.runs;
         holds_well = led.holds_well;
         standing = runs_on led.runs misses led.standing;
@@ -212,21 +214,21 @@ module _ (me : ℕ) (view : List ℕ) (is_peer : IsPeer me) (peers : (q : ℕ) �
     ignored_get : (d : Epoch) (r : ℕ) (k : List ℕ) (entry : Option Entry) (object : Option Object) → reply ≡ messages.GetReply d r k entry object → (runs : Option (List ℕ × Wait me view)) → led.runs ≡ runs → Misses runs
         → ((o : Option Object) → row_29_reply q d r k entry o led.l ≡ (led.l, rests_out)) → Leading me view n (received (replying me view q reply) i w)
     ignored_get d r k entry object is runs same misses ignored =
-        finish (subst (λ (m : Message). Lands strings Comes (step_of me (events.Deliver q m) (leads (accepted me view) led.l)) (held_with led.leader.stores w.hashed) []) (sym is)
+        finish (subst (λ (m : Message). LandsFrom me (accepted me view) strings Comes (λ y. step_of me (events.Deliver q m) y) led.l (held_with led.leader.stores w.hashed) []) (sym is)
         (late_read me (accepted me view) strings Comes free q d r k led.l entry object (held_with led.leader.stores w.hashed) (led.map me) ignored led.leader.whole
-        (λ g whole stores. idle_moves g [] (subst (λ (x : Option (List ℕ × Wait me view)). Misses x) (sym same) misses) stores)))
+        (λ g whole stores keep. idle_moves g [] keep (subst (λ (x : Option (List ℕ × Wait me view)). Misses x) (sym same) misses) stores)))
 
     ignored_check : (d : Epoch) (r : ℕ) → reply ≡ messages.CheckReply d r → (runs : Option (List ℕ × Wait me view)) → led.runs ≡ runs → Misses runs → row_33_reply q d r led.l ≡ (led.l, rests_out) → Leading me view n (received (replying me view q reply) i w)
     ignored_check d r is runs same misses ignored =
-        finish (subst (λ (m : Message). Lands strings Comes (step_of me (events.Deliver q m) (leads (accepted me view) led.l)) (held_with led.leader.stores w.hashed) []) (sym is)
+        finish (subst (λ (m : Message). LandsFrom me (accepted me view) strings Comes (λ y. step_of me (events.Deliver q m) y) led.l (held_with led.leader.stores w.hashed) []) (sym is)
         (late_check me (accepted me view) strings Comes free q d r led.l (held_with led.leader.stores w.hashed) ignored
-        (idle_moves (held_with led.leader.stores w.hashed) [] (subst (λ (x : Option (List ℕ × Wait me view)). Misses x) (sym same) misses) refl)))
+        (λ keep. idle_moves (held_with led.leader.stores w.hashed) [] keep (subst (λ (x : Option (List ℕ × Wait me view)). Misses x) (sym same) misses) refl)))
 
     ignored_put : (d : Epoch) (k : List ℕ) (version : Version) → reply ≡ messages.PutReply d k version → (runs : Option (List ℕ × Wait me view)) → led.runs ≡ runs → Misses runs → row_35_reply q d k version led.l ≡ (led.l, rests_out) → Leading me view n (received (replying me view q reply) i w)
     ignored_put d k version is runs same misses ignored =
-        finish (subst (λ (m : Message). Lands strings Comes (step_of me (events.Deliver q m) (leads (accepted me view) led.l)) (held_with led.leader.stores w.hashed) []) (sym is)
+        finish (subst (λ (m : Message). LandsFrom me (accepted me view) strings Comes (λ y. step_of me (events.Deliver q m) y) led.l (held_with led.leader.stores w.hashed) []) (sym is)
         (late_put me (accepted me view) strings Comes free q d k version led.l (held_with led.leader.stores w.hashed) ignored
-        (idle_moves (held_with led.leader.stores w.hashed) [] (subst (λ (x : Option (List ℕ × Wait me view)). Misses x) (sym same) misses) refl)))
+        (λ keep. idle_moves (held_with led.leader.stores w.hashed) [] keep (subst (λ (x : Option (List ℕ × Wait me view)). Misses x) (sym same) misses) refl)))
 
     -- ## Replies that count
 
@@ -237,10 +239,10 @@ module _ (me : ℕ) (view : List ℕ) (is_peer : IsPeer me) (peers : (q : ℕ) �
     tabled key wait = at_stage me view is_peer peers listed strings free n led.l.accepts key wait led.l.table
 
     -- a step of the leader, told by its parts, on a reply
-    on_reply : (m : Message) → reply ≡ m → Lands strings Comes (step_of me (events.Deliver q m) (leads (accepted me view) (G led.l.seq led.l.round led.l.table))) (held_with led.leader.stores w.hashed) [] → Leading me view n (received (replying me view q reply) i w)
+    on_reply : (m : Message) → reply ≡ m → LandsFrom me (accepted me view) strings Comes (λ y. step_of me (events.Deliver q m) y) (G led.l.seq led.l.round led.l.table) (held_with led.leader.stores w.hashed) [] → Leading me view n (received (replying me view q reply) i w)
     on_reply m is lands =
-        finish (subst (λ (r : Message). Lands strings Comes (step_of me (events.Deliver q r) (leads (accepted me view) led.l)) (held_with led.leader.stores w.hashed) []) (sym is)
-        (subst (λ (x : Leader). Lands strings Comes (step_of me (events.Deliver q m) (leads (accepted me view) x)) (held_with led.leader.stores w.hashed) []) (sym (as_parts led.l me view led.fact led.self led.task)) lands))
+        finish (subst (λ (r : Message). LandsFrom me (accepted me view) strings Comes (λ y. step_of me (events.Deliver q r) y) led.l (held_with led.leader.stores w.hashed) []) (sym is)
+        (subst (λ (x : Leader). LandsFrom me (accepted me view) strings Comes (λ y. step_of me (events.Deliver q m) y) x (held_with led.leader.stores w.hashed) []) (sym (as_parts led.l me view led.fact led.self led.task)) lands))
 
     -- the member is counted
     way_counted : (r : Round) (votes now : ℕ → Bool) (k : ℕ) → r.leader ≡ me → ((j : ℕ) → votes j ≡ true → now j ≡ true) → now q ≡ true → IsUnderWay r (λ j. true) w.mail votes k → IsUnderWay r (λ j. true) (settled w.mail i) now k
@@ -252,7 +254,7 @@ module _ (me : ℕ) (view : List ℕ) (is_peer : IsPeer me) (peers : (q : ℕ) �
       -- the round still waits, with one more vote
       module _ (wait now : Wait me view) (s : Serves me view n led.l led.leader.stores w.mail call wait) (again : round_for me view call.key now ≡ round_for me view call.key wait) (more : IsCounted view q (votes_of me view wait) (votes_of me view now)) (is : state_of (votes_of me view now) ≡ Open)
           (fits : IsFitting me view n (G led.l.seq led.l.round (tabled call.key now)) led.leader.stores call.key now) (kinds : (f : Frame) → Kind me view n led.l led.runs f → Kind me view n (G led.l.seq led.l.round (tabled call.key now)) (Some (call.key, now)) f) where
-        counts_on : (ms : List Note) → Comes (leads (accepted me view) (G led.l.seq led.l.round (tabled call.key now))) (held_with led.leader.stores w.hashed) nothing ms
+        counts_on : (ms : List Note) (keep : Keeping) → Comes (leads (accepted me view) (G led.l.seq led.l.round (tabled call.key now)) keep) (held_with led.leader.stores w.hashed) nothing ms
         counts_on ms =
             waits_now me view is_peer peers listed strings free n led.l.accepts w (settled w.mail i) (is_mail_settled w.mail i led.mail) lines (leads (accepted me view) led.l) led.map led.leader led.others
             call now led.l.seq led.l.round (tabled call.key now) (held_with led.leader.stores w.hashed) nothing ms (led.map me) (record { answers = refl; changes = refl }) led.leader.whole
@@ -350,7 +352,7 @@ module _ (me : ℕ) (view : List ℕ) (is_peer : IsPeer me) (peers : (q : ℕ) �
       check_kinds : (f : Frame) → Kind me view n led.l led.runs f → Kind me view n (G led.l.seq led.l.round (tabled call.key check_now)) (Some (call.key, check_now)) f
       check_kinds f kind = kind_stays n led.l (G led.l.seq led.l.round (tabled call.key check_now)) led.runs (Some (call.key, check_now)) f (omega arith) refl (unknown_staged call.key check_now) (λ reading. absurd reading) (λ k is. absurd is) kind
 
-      check_answers : (ms : List Note) → Comes (leads (accepted me view) (G led.l.seq led.l.round (ended call.key led.l.table))) (held_with led.leader.stores w.hashed) (told nothing [] (record { from = call.from; id = call.id; reply = given } ∷ [])) ms
+      check_answers : (ms : List Note) (keep : Keeping) → Comes (leads (accepted me view) (G led.l.seq led.l.round (ended call.key led.l.table)) keep) (held_with led.leader.stores w.hashed) (told nothing [] (record { from = call.from; id = call.id; reply = given } ∷ [])) ms
       check_answers ms =
           answers_now me view is_peer peers listed strings free n led.l.accepts w (settled w.mail i) (is_mail_settled w.mail i led.mail) lines (leads (accepted me view) led.l) led.map led.leader led.others
           call led.l.seq led.l.round led.l.table given (held_with led.leader.stores w.hashed) (told nothing [] (record { from = call.from; id = call.id; reply = given } ∷ [])) ms (led.map me) s.calls s.named s.fits.1 refl refl led.leader.whole
@@ -360,12 +362,12 @@ module _ (me : ℕ) (view : List ℕ) (is_peer : IsPeer me) (peers : (q : ℕ) �
 
       counted_check : reply ≡ messages.CheckReply (ballot me view) round → Leading me view n (received (replying me view q reply) i w)
       counted_check is = on_reply (messages.CheckReply (ballot me view) round) is (by (state_of (heard_from q votes)) refl) where
-        answered : (state : RoundState) → state_of (heard_from q votes) ≡ state → (state ≡ Open → ⊥) → Lands strings Comes (step_of me (events.Deliver q (messages.CheckReply (ballot me view) round)) (leads (accepted me view) (G led.l.seq led.l.round led.l.table))) (held_with led.leader.stores w.hashed) []
+        answered : (state : RoundState) → state_of (heard_from q votes) ≡ state → (state ≡ Open → ⊥) → LandsFrom me (accepted me view) strings Comes (λ y. step_of me (events.Deliver q (messages.CheckReply (ballot me view) round)) y) (G led.l.seq led.l.round led.l.table) (held_with led.leader.stores w.hashed) []
         answered state met not =
             heard_met me q (accepted me view) (ballot me view) round call.key call votes given (G led.l.seq led.l.round led.l.table) strings Comes s.calls (runs_here call) s.stage s.fits.0 (own_counts round) (held_with led.leader.stores w.hashed) state met not
             (check_answers (Read call.id call.key (base call.key led.l) ∷ []))
 
-        by : (state : RoundState) → state_of (heard_from q votes) ≡ state → Lands strings Comes (step_of me (events.Deliver q (messages.CheckReply (ballot me view) round)) (leads (accepted me view) (G led.l.seq led.l.round led.l.table))) (held_with led.leader.stores w.hashed) []
+        by : (state : RoundState) → state_of (heard_from q votes) ≡ state → LandsFrom me (accepted me view) strings Comes (λ y. step_of me (events.Deliver q (messages.CheckReply (ballot me view) round)) y) (G led.l.seq led.l.round led.l.table) (held_with led.leader.stores w.hashed) []
         by Open waits =
             heard_open me q (accepted me view) (ballot me view) round call.key call votes given (G led.l.seq led.l.round led.l.table) strings Comes s.calls (runs_here call) s.stage s.fits.0 (own_counts round) (held_with led.leader.stores w.hashed) waits
             (counts_on call lines so_check (Checks round votes given) check_now s refl more_check waits (s.fits.0, s.fits.1, rw (known_stays call.key call.key (stage_of me view check_now) led.l.table.rows) s.fits.2) check_kinds [])
@@ -407,7 +409,7 @@ module _ (me : ℕ) (view : List ℕ) (is_peer : IsPeer me) (peers : (q : ℕ) �
         by true here is = absurd (some_then (sym (known_here call.key known_then led.l.table.rows) ∙ subst (λ (j : List ℕ). IsUnknown me view table_then.rows j) (sym (bytes_same call.key k here)) is))
         by false apart is = ap (λ (row : KeyRow). row.known) (sym (known_other call.key k known_then led.l.table.rows apart)) ∙ is
 
-      put_answers : (ms : List Note) → Comes (leads (accepted me view) (G led.l.seq led.l.round (ended call.key table_then))) (held_with led.leader.stores w.hashed) (told nothing [] (record { from = call.from; id = call.id; reply = replies.Ok o.stamp } ∷ [])) ms
+      put_answers : (ms : List Note) (keep : Keeping) → Comes (leads (accepted me view) (G led.l.seq led.l.round (ended call.key table_then)) keep) (held_with led.leader.stores w.hashed) (told nothing [] (record { from = call.from; id = call.id; reply = replies.Ok o.stamp } ∷ [])) ms
       put_answers ms =
           answers_now me view is_peer peers listed strings free n led.l.accepts w (settled w.mail i) (is_mail_settled w.mail i led.mail) lines (leads (accepted me view) led.l) led.map led.leader led.others
           call led.l.seq led.l.round table_then (replies.Ok o.stamp) (held_with led.leader.stores w.hashed) (told nothing [] (record { from = call.from; id = call.id; reply = replies.Ok o.stamp } ∷ [])) ms (led.map me) s.calls s.named tt refl refl led.leader.whole
@@ -416,8 +418,8 @@ module _ (me : ℕ) (view : List ℕ) (is_peer : IsPeer me) (peers : (q : ℕ) �
           (inr (inr (record { object = o; valid = s.fits.0; keyed = s.fits.1; is = known_here call.key known_then led.l.table.rows; has = s.fits.4 })))
           (λ f v. kind_stays n led.l (G led.l.seq led.l.round (ended call.key table_then)) led.runs None f (omega arith) refl unknown_settled (λ reading. absurd reading) (λ k is. absurd is) (led.kinds f (was_settled w.mail i f v)))
 
-      put_ends : (state : RoundState) → state_of (heard_from q votes) ≡ state → by_round state ((ms : List Note) → Comes (leads (accepted me view) (G led.l.seq led.l.round (tabled call.key put_now))) (held_with led.leader.stores w.hashed) nothing ms)
-          ((ms : List Note) → Comes (leads (accepted me view) (G led.l.seq led.l.round (ended call.key table_then))) (held_with led.leader.stores w.hashed) (told nothing [] (record { from = call.from; id = call.id; reply = replies.Ok o.stamp } ∷ [])) ms)
+      put_ends : (state : RoundState) → state_of (heard_from q votes) ≡ state → by_round state ((ms : List Note) (keep : Keeping) → Comes (leads (accepted me view) (G led.l.seq led.l.round (tabled call.key put_now)) keep) (held_with led.leader.stores w.hashed) nothing ms)
+          ((ms : List Note) (keep : Keeping) → Comes (leads (accepted me view) (G led.l.seq led.l.round (ended call.key table_then)) keep) (held_with led.leader.stores w.hashed) (told nothing [] (record { from = call.from; id = call.id; reply = replies.Ok o.stamp } ∷ [])) ms)
       put_ends Open is = counts_on call lines so_put (Puts o votes) put_now s refl more_put is (s.fits.0, s.fits.1, s.fits.2, not_unknown, s.fits.4) put_kinds
       put_ends Met is = put_answers
       put_ends AllAnswered is = put_answers

@@ -24,6 +24,7 @@ use Rattle.wire_frames.specs.declared.message.Message.TheVariants as messages
 use Rattle.world_spec.specs.Runs.{Run, frame_from, received}
 use Rattle.calm_steps.proofs.Bystanders.{tells, on_check}
 use Rattle.calm_steps.proofs.CandidateSteps.{ballot, accepted}
+use Rattle.calm_steps.proofs.Keeping.{Keeping}
 use Rattle.calm_steps.proofs.Lands.{Aim, Lands}
 use Rattle.calm_steps.proofs.MemberSteps.{on_get_found}
 use Rattle.calm_steps.proofs.Requests.{on_get}
@@ -42,18 +43,18 @@ module _ (me : ℕ) (view : List ℕ) (is_peer : IsPeer me) (peers : (q : ℕ) �
 
     -- the member follows, its tree shows this map, and what it sent may wait
     abbrev pub Comes : List Entry → Aim
-    Comes now y g o ms = (y ≡ rests (accepted me view)) × (IsWhole g now × (IsQuiet o × (Replies me view is_peer peers n w served i q ask other at o served.runs × ((f : Frame) → f ∈ map (frame_from q) o.sends → Kind me view n served.l served.runs f))))
+    Comes now y g o ms = (keep : Keeping) × ((y ≡ rests (accepted me view) keep) × (IsWhole g now × (IsQuiet o × (Replies me view is_peer peers n w served i q ask other at o served.runs × ((f : Frame) → f ∈ map (frame_from q) o.sends → Kind me view n served.l served.runs f)))))
 
     pub quiet_reply : (reply : Message) → IsQuiet (tells me reply)
     quiet_reply reply = record { answers = refl; changes = refl }
 
-    pub lands : (now : List Entry) → Lands strings (Comes now) (step_of q (events.Deliver me ask) (rests (accepted me view))) (held_with stands.stores w.hashed) []
+    pub lands : (now : List Entry) → Lands strings (Comes now) (step_of q (events.Deliver me ask) (rests (accepted me view) stands.keep)) (held_with stands.stores w.hashed) []
         → ((e : Entry) → e ∈ now → IsPast me view served.l.seq n.called e) → ((k : List ℕ) → IsUnknown me view served.l.table.rows k → lookup k now ≡ None)
         → AreAmong (received (asking me view q ask) i w).hashed strings → Leading me view n (received (asking me view q ask) i w)
     lands now ends past new among =
-        step_grows q (events.Deliver me ask) strings (Comes now) (Leading me view n) (record w { mail = settled w.mail i }) (rests (accepted me view)) stands.stores stands.at ends among
-        (λ y g o ms grown meets. subst (λ (x : State). Leading me view n (moved q x g o ms (record w { mail = settled w.mail i }))) (sym meets.0)
-        (member_moves me view is_peer peers n w served i q ask other at now g o ms grown meets.1.0 meets.1.1.0 meets.1.1.1.0 past new meets.1.1.1.1))
+        step_grows q (events.Deliver me ask) strings (Comes now) (Leading me view n) (record w { mail = settled w.mail i }) (rests (accepted me view) stands.keep) stands.stores stands.at ends among
+        (λ y g o ms grown meets. subst (λ (x : State). Leading me view n (moved q x g o ms (record w { mail = settled w.mail i }))) (sym meets.1.0)
+        (member_moves me view is_peer peers n w served i q ask other at now meets.0 g o ms grown meets.1.1.0 meets.1.1.1.0 meets.1.1.1.1.0 past new meets.1.1.1.1.1))
 
     -- what a member replies may wait
     pub reply_kind : (reply : Message) → MayReply me view served.l served.runs reply → (f : Frame) → f ∈ map (frame_from q) (tells me reply).sends → Kind me view n served.l served.runs f
@@ -89,9 +90,9 @@ module _ (me : ℕ) (view : List ℕ) (is_peer : IsPeer me) (peers : (q : ℕ) �
     checked r is within among =
         let h : Held = held_with stands.stores w.hashed in
         lands (served.map q)
-        (subst (λ (m : Message). Lands strings (Comes (served.map q)) (step_of q (events.Deliver me m) (rests (accepted me view))) h []) (sym is)
-        (on_check q me strings (Comes (served.map q)) (accepted me view) (ballot me view) r h not_below same_ballot
-        (refl, (stands.whole, (quiet_reply (messages.CheckReply (ballot me view) r), (check_replies r is served.runs, reply_kind (messages.CheckReply (ballot me view) r) (refl, within)))))))
+        (subst (λ (m : Message). Lands strings (Comes (served.map q)) (step_of q (events.Deliver me m) (rests (accepted me view) stands.keep)) h []) (sym is)
+        (on_check q me strings (Comes (served.map q)) stands.keep (accepted me view) (ballot me view) r h not_below same_ballot
+        (stands.keep, (refl, (stands.whole, (quiet_reply (messages.CheckReply (ballot me view) r), (check_replies r is served.runs, reply_kind (messages.CheckReply (ballot me view) r) (refl, within))))))))
         old_past unknown_there among
 
     -- ## Reads
@@ -136,23 +137,26 @@ module _ (me : ℕ) (view : List ℕ) (is_peer : IsPeer me) (peers : (q : ℕ) �
       by : (found : Option Entry) → lookup k (served.map q) ≡ found → Leading me view n (received (asking me view q ask) i w)
       by None absent =
           lands (served.map q)
-          (subst (λ (m : Message). Lands strings (Comes (served.map q)) (step_of q (events.Deliver me m) (rests (accepted me view))) (held_with stands.stores w.hashed) []) (sym is)
-          (on_get q me strings (Comes (served.map q)) (accepted me view) (ballot me view) r k (held_with stands.stores w.hashed) (served.map q) not_below same_ballot whole absent
-          (refl, (keeps (Find k) (held_with stands.stores w.hashed) (served.map q) tt whole, (quiet_reply (messages.GetReply (ballot me view) r k None None), (get_replies r k is served.runs, reply_kind (messages.GetReply (ballot me view) r k None None) (refl, within, λ reading. (refl, refl))))))))
+          (subst (λ (m : Message). Lands strings (Comes (served.map q)) (step_of q (events.Deliver me m) (rests (accepted me view) stands.keep)) (held_with stands.stores w.hashed) []) (sym is)
+          (on_get q me strings (Comes (served.map q)) stands.keep (accepted me view) (ballot me view) r k (held_with stands.stores w.hashed) (served.map q) not_below same_ballot whole absent
+          (stands.keep, (refl, (keeps (Find k) (held_with stands.stores w.hashed) (served.map q) tt whole, (quiet_reply (messages.GetReply (ballot me view) r k None None), (get_replies r k is served.runs, reply_kind (messages.GetReply (ballot me view) r k None None) (refl, within, λ reading. (refl, refl)))))))))
           old_past unknown_there among
       by (Some e) has =
           lands (served.map q)
-          (subst (λ (m : Message). Lands strings (Comes (served.map q)) (step_of q (events.Deliver me m) (rests (accepted me view))) (held_with stands.stores w.hashed) []) (sym is)
-          (on_get_found q me strings (Comes (served.map q)) (accepted me view) (ballot me view) r k e (served.map q) not_below same_ballot
+          (subst (λ (m : Message). Lands strings (Comes (served.map q)) (step_of q (events.Deliver me m) (rests (accepted me view) stands.keep)) (held_with stands.stores w.hashed) []) (sym is)
+          (on_get_found q me strings (Comes (served.map q)) stands.keep (accepted me view) (ballot me view) r k e (served.map q) not_below same_ballot
           (λ object g whole_g. (
-            refl,
+            stands.keep,
             (
-              whole_g,
+              refl,
               (
-                quiet_reply (messages.GetReply (ballot me view) r k (Some e) object),
+                whole_g,
                 (
-                  found_replies r k e object is has served.runs refl,
-                  reply_kind (messages.GetReply (ballot me view) r k (Some e) object) (refl, within, λ reading. absurd (none-some e (sym (reads_nothing k reading) ∙ has))),
+                  quiet_reply (messages.GetReply (ballot me view) r k (Some e) object),
+                  (
+                    found_replies r k e object is has served.runs refl,
+                    reply_kind (messages.GetReply (ballot me view) r k (Some e) object) (refl, within, λ reading. absurd (none-some e (sym (reads_nothing k reading) ∙ has))),
+                  ),
                 ),
               ),
             ),

@@ -24,7 +24,7 @@ use Rattle.ens_outside.proofs.MapLaws.{others_after}
 use Rattle.ens_outside.specs.Maps.{value_at}
 use Rattle.held_stores.specs.Held.{Held, HeldStores}
 use Rattle.kept_objects.specs.Kept.{entry_of}
-use Rattle.leading.proofs.Lookups.{row_here, known_other, stage_here, stage_other}
+use Rattle.leading_laws.proofs.Lookups.{row_here, known_other, stage_here, stage_other}
 use Rattle.md5.specs.Md5.{md5}
 use Rattle.request_refinement.proofs.Lookups.{lookup_put, in_put}
 use Rattle.step_refinement.proofs.DistinctItems.{images_few}

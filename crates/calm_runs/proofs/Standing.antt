@@ -1,5 +1,5 @@
 -- Where the peers of a calm run stand, and to whom a message to all other members goes.
-use Rattle.std.proofs.Common.{◌≡◌, ◌≤◌, ◌==◌, ◌&&◌, refl, ap, sym, ◌∙◌, subst, arith, ℕ, zero, suc, Bool, true, false, not, List, [], ◌∷◌, map, None, Some}
+use Rattle.std.proofs.Common.{◌≡◌, ◌≤◌, ◌==◌, ◌&&◌, refl, ap, sym, ◌∙◌, subst, arith, ℕ, zero, suc, Bool, true, false, not, List, [], ◌∷◌, map, Option, Some}
 use Rattle.std.specs.Prelude.{◌≢◌, slice_get}
 use Rattle.std.proofs.lemmas.Bool.{and_parts, eqb-true, eqb-false, false≢true}
 use Rattle.std.proofs.lemmas.List.FromFn.{get_or-map-range_with_len}
@@ -27,32 +27,35 @@ use Rattle.wire_frames.specs.declared.frame.Frame.{Frame}
 use Rattle.wire_frames.specs.declared.message.Message.{Message}
 use Rattle.world_spec.specs.Nodes.{Up}
 use Rattle.world_spec.specs.Runs.{Run, place_of, frame_from}
-use Rattle.calm_steps.proofs.RowsLand.{held_saved}
+use Rattle.calm_steps.proofs.Keeping.{Keeping, Standing}
+use Rattle.calm_steps.proofs.RowsLand.{held_under}
 use Rattle.calm_steps.proofs.TreeCalls.{keeps, serves}
 use Rattle.calm_runs.proofs.Parts.{set_same, set_other, places_apart}
 use Rattle.calm_runs.proofs.Posting.{frame_sent, posted_only, posted_high, told_each}
 use Rattle.calm_runs.proofs.Worlds.{moved, whole_grows}
 
--- peer q is in this state, over stores whose tree is whole and shows this map
-pub record Stands (w : Run) (q : ℕ) (x : State) (m : List Entry) : Type 0 where
+-- peer q is in this state, with some seal and mode, over stores whose tree is whole and shows this map
+pub record Stands (w : Run) (q : ℕ) (x : Standing) (m : List Entry) : Type 0 where
+  pub keep : Keeping
   pub stores : HeldStores
-  pub at : slice_get w.nodes (place_of q) ≡ Some (Up x stores)
+  pub at : slice_get w.nodes (place_of q) ≡ Some (Up (x keep) stores)
   pub whole : IsWhole (held_with stores w.hashed) m
 
 -- a saved fact leaves the tree whole
-pub whole_saved : (fact : Fact) (h : Held) (m : List Entry) → IsWhole h m → IsWhole (held_saved (Some fact) h) m
-whole_saved fact h m whole = subst (λ g. IsWhole g m) (ap (λ a. a.held) (serves (Save (with_seal None fact)) h whole.no_faults)) (keeps (Save (with_seal None fact)) h m tt whole)
+pub whole_saved : (seal : Option (List ℕ)) (fact : Fact) (h : Held) (m : List Entry) → IsWhole h m → IsWhole (held_under seal (Some fact) h) m
+whole_saved seal fact h m whole = subst (λ g. IsWhole g m) (ap (λ a. a.held) (serves (Save (with_seal seal fact)) h whole.no_faults)) (keeps (Save (with_seal seal fact)) h m tt whole)
 
-module _ (p : ℕ) (y : State) (g : Held) (out : Out) (ms : List Note) (w : Run) where
+module _ (p : ℕ) (y : Standing) (keep : Keeping) (g : Held) (out : Out) (ms : List Note) (w : Run) where
   -- the peer that took the step
-  pub stands_here : (x : State) (s : HeldStores) (m : List Entry) → slice_get w.nodes (place_of p) ≡ Some (Up x s) → IsWhole g m → Stands (moved p y g out ms w) p y m
-  stands_here x s m at whole = record { stores = g.stores; at = set_same w.nodes (place_of p) (Up y g.stores) (Up x s) at; whole = whole }
+  pub stands_here : (x : State) (s : HeldStores) (m : List Entry) → slice_get w.nodes (place_of p) ≡ Some (Up x s) → IsWhole g m → Stands (moved p (y keep) g out ms w) p y m
+  stands_here x s m at whole = record { keep = keep; stores = g.stores; at = set_same w.nodes (place_of p) (Up (y keep) g.stores) (Up x s) at; whole = whole }
 
   -- and any other peer
-  pub stands_other : (q : ℕ) (x : State) (m : List Entry) → IsPeer p → IsPeer q → q ≢ p → AreAmong w.hashed g.hashed → Stands w q x m → Stands (moved p y g out ms w) q x m
+  pub stands_other : (q : ℕ) (x : Standing) (m : List Entry) → IsPeer p → IsPeer q → q ≢ p → AreAmong w.hashed g.hashed → Stands w q x m → Stands (moved p (y keep) g out ms w) q x m
   stands_other q x m pp qq other grown s = record {
+    keep = s.keep;
     stores = s.stores;
-    at = set_other w.nodes (place_of p) (place_of q) (Up y g.stores) (places_apart p q pp qq (λ same. other (sym same))) ∙ s.at;
+    at = set_other w.nodes (place_of p) (place_of q) (Up (y keep) g.stores) (places_apart p q pp qq (λ same. other (sym same))) ∙ s.at;
     whole = whole_grows s.stores w.hashed g.hashed m grown s.whole;
   }
 

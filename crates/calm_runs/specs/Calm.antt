@@ -30,7 +30,7 @@ pub record IsUndisturbed (s : Schedule) : Type 0 where
 
 -- the run of the schedule
 abbrev pub run_of : Schedule → Run
-run_of s = run_of_schedule s.peers s.view s.events
+run_of s = run_of_schedule s.form s.peers s.view s.events
 
 -- The run is that of an undisturbed schedule, it stays within the limit on messages, and no two different
 -- strings that it hashed have the same MD5.

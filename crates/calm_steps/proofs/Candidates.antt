@@ -34,8 +34,9 @@ use Rattle.phase_rows.specs.declared.phase.PhaseOut.{PhaseOut}
 use Rattle.phase_rows.specs.declared.rules.PhaseRule.{PhaseRule}
 use Rattle.phase_rows.specs.declared.rules.PhaseRule.TheVariants as phase_rules
 use Rattle.calm_steps.proofs.Ends.{driven_none}
+use Rattle.calm_steps.proofs.Keeping.{Keeping}
 use Rattle.calm_steps.proofs.Lands.{Aim, Lands}
-use Rattle.calm_steps.proofs.RowsLand.{with_saved, held_under, held_saved, IsPlain, lands_row}
+use Rattle.calm_steps.proofs.RowsLand.{with_saved, held_under, IsPlain, lands_row}
 
 same_sends : (out : Out) → and_sends out [] ≡ out
 same_sends out = ap (λ s. record out { sends = s }) (append-nil out.sends)
@@ -43,7 +44,7 @@ same_sends out = ap (λ s. record out { sends = s }) (append-nil out.sends)
 same_answers : (out : Out) → and_answers out [] ≡ out
 same_answers out = ap (λ a. record out { answers = a }) (append-nil out.answers)
 
-module _ (me : ℕ) (strings : List (List ℕ)) (P : Aim) (next : Rest State (List Task)) where
+module _ (me : ℕ) (strings : List (List ℕ)) (P : Aim) (next : Rest State (List Task)) (keep : Keeping) where
   -- one rule of a phase
   phase_task : (n : ℕ) (k : PhaseRule) (x : State) (out : Out) (h : Held) (ns : List Note) → HasNoFaults h.stores → IsPlain (phase_row k me x).1.then
       → (let row : PhaseOut = (phase_row k me x).1 in let y : State = with_saved row.save (left row.leave (phase_row k me x).0) in
@@ -58,10 +59,10 @@ module _ (me : ℕ) (strings : List (List ℕ)) (P : Aim) (next : Rest State (Li
 
   -- the state of a candidate
   abbrev pub stands : Fact → Election → State
-  stands fact e = record { fact = fact; seal = None; trusted = true; phase = phases.Electing e; sync = None }
+  stands fact e = record { fact = fact; seal = keep.seal; mode = keep.mode; trusted = true; phase = phases.Electing e; sync = None }
 
   abbrev pub probes : Fact → Probing → State
-  probes fact b = record { fact = fact; seal = None; trusted = true; phase = phases.Probing b; sync = None }
+  probes fact b = record { fact = fact; seal = keep.seal; mode = keep.mode; trusted = true; phase = phases.Probing b; sync = None }
 
   -- rule 14: without a quorum the peer goes on waiting
   pub waits_14 : (n : ℕ) (fact new : Fact) (accepts : List Bool) (age : ℕ) (out : Out) (h : Held) (ns : List Note) → HasNoFaults h.stores → (holds accepts me && is_quorum (holds accepts) new.views) ≡ false
@@ -84,7 +85,7 @@ module _ (me : ℕ) (strings : List (List ℕ)) (P : Aim) (next : Rest State (Li
   -- and with one the epoch begins; rule 14 runs
   pub elects_13 : (n : ℕ) (fact base : Fact) (promises asked : List Bool) (age : ℕ) (out : Out) (h : Held) (ns : List Note) → HasNoFaults h.stores → is_quorum (holds promises) base.views ≡ true → is_member (views_after base) me ≡ true
       → (let new : Fact = first_fact fact me (views_after base) in (may_accept true me new ≡ true)
-      × Lands strings P (driven me n (tasks.Phase phase_rules.EnoughAccepted ∷ []) (stands new (Starting new (alone me) 0)) (and_sends out (posted_to (others_of me (members new.views)) (Some (messages.NewEpoch new)))) next) (held_saved (Some new) h) ns)
+      × Lands strings P (driven me n (tasks.Phase phase_rules.EnoughAccepted ∷ []) (stands new (Starting new (alone me) 0)) (and_sends out (posted_to (others_of me (members new.views)) (Some (messages.NewEpoch new)))) next) (held_under keep.seal (Some new) h) ns)
       → Lands strings P (driven me (suc n) (tasks.Phase phase_rules.EnoughPromised ∷ []) (stands fact (Preparing base promises asked age)) out next) h ns
   unfolding starts
   elects_13 n fact base promises asked age out h ns none quorum member lands =
@@ -93,7 +94,7 @@ module _ (me : ℕ) (strings : List (List ℕ)) (P : Aim) (next : Rest State (Li
   -- rule 10: the next ballot is prepared; rule 13 runs
   pub prepares_10 : (n : ℕ) (fact : Fact) (b : Probing) (out : Out) (h : Held) (ns : List Note) → HasNoFaults h.stores → is_member (views_after b.best) me ≡ true → (b.count == 2 ^ 64 - 1) ≡ false
       → (let saved : Fact = at_ballot fact (next_ballot b.count me) in
-      Lands strings P (driven me n (tasks.Phase phase_rules.EnoughPromised ∷ []) (stands saved (Preparing b.best (alone me) (members b.best.views) 0)) (and_sends out (posted_to (others_of me (members b.best.views)) (Some (messages.Prepare (next_ballot b.count me))))) next) (held_saved (Some saved) h) ns)
+      Lands strings P (driven me n (tasks.Phase phase_rules.EnoughPromised ∷ []) (stands saved (Preparing b.best (alone me) (members b.best.views) 0)) (and_sends out (posted_to (others_of me (members b.best.views)) (Some (messages.Prepare (next_ballot b.count me))))) next) (held_under keep.seal (Some saved) h) ns)
       → Lands strings P (driven me (suc n) (tasks.Phase phase_rules.Prepare ∷ []) (probes fact b) out next) h ns
   prepares_10 n fact b out h ns none member few lands =
       phase_task n phase_rules.Prepare (probes fact b) out h ns none (rw (member, few) tt) (rw (member, few) lands)

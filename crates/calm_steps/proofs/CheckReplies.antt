@@ -33,8 +33,9 @@ use Rattle.phase_rows.specs.declared.phase.Then.TheVariants as thens
 use Rattle.phase_rows.specs.declared.rules.KeyRule.TheVariants as key_rules
 use Rattle.calm_steps.proofs.Ends.{concludes, over}
 use Rattle.calm_steps.proofs.KeyRows.{row_36_ends}
+use Rattle.calm_steps.proofs.Keeping.{Keeping}
 use Rattle.calm_steps.proofs.Lands.{Aim, Lands}
-use Rattle.calm_steps.proofs.Leads.{plain, leads, told, row_goes, key_goes, rests_there}
+use Rattle.calm_steps.proofs.Leads.{plain, leads, told, LandsFrom, row_goes, key_goes, rests_there}
 
 pub most_is_some : most_turns ≡ suc (2 ^ 64 - 2)
 unfolding most_turns
@@ -69,10 +70,10 @@ module _ (me q : ℕ) (fact : Fact) (d : Epoch) (r : ℕ) (key : List ℕ) (w : 
   abbrev pub waiting : Leader
   waiting = stands key (stages.Checking r (heard_from q votes) reply) l
 
-  pub heard_open : (h : Held) → state_of (heard_from q votes) ≡ Open → P (leads fact waiting) h nothing [] → Lands strings P (step_of me (events.Deliver q (messages.CheckReply d r)) (leads fact l)) h []
+  pub heard_open : (h : Held) → state_of (heard_from q votes) ≡ Open → ((keep : Keeping) → P (leads fact waiting keep) h nothing []) → LandsFrom me fact strings P (λ x. step_of me (events.Deliver q (messages.CheckReply d r)) x) l h []
   heard_open h still holds =
       row_goes me fact strings P (row_33_reply q d r) l waiting nothing [] [] [] thens.Stay [] following h [] (rw (at, calls, runs, stage, epoch, still) refl) tt
-      (subst (λ z. Lands strings P z h []) (sym (over me (leads fact waiting) nothing refl)) (λ among. holds))
+      (λ keep. subst (λ z. Lands strings P z h []) (sym (over me (leads fact waiting keep) nothing refl)) (λ among. holds keep))
 
   abbrev pub answered : Leader
   answered = record l { table = ended key l.table }
@@ -80,18 +81,22 @@ module _ (me q : ℕ) (fact : Fact) (d : Epoch) (r : ℕ) (key : List ℕ) (w : 
   abbrev pub answer : AnswerOut
   answer = record { from = w.from; id = w.id; reply = reply }
 
+  -- the step ends with the answer
+  abbrev pub Answers : Held → Type 0
+  Answers h = (keep : Keeping) → P (leads fact answered keep) h (told nothing [] (answer ∷ [])) (Read w.id key (base key l) ∷ [])
+
   -- the call is answered, and none is left
-  answers_call : (h : Held) → row_33_reply q d r l ≡ (answered, plain [] (answer ∷ []) (Read w.id key (base key l) ∷ []) (thens.OnKeys key_rules.StartNextCall) (key ∷ [])) → P (leads fact answered) h (told nothing [] (answer ∷ [])) (Read w.id key (base key l) ∷ []) → Lands strings P (step_of me (events.Deliver q (messages.CheckReply d r)) (leads fact l)) h []
+  answers_call : (h : Held) → row_33_reply q d r l ≡ (answered, plain [] (answer ∷ []) (Read w.id key (base key l) ∷ []) (thens.OnKeys key_rules.StartNextCall) (key ∷ [])) → Answers h → LandsFrom me fact strings P (λ x. step_of me (events.Deliver q (messages.CheckReply d r)) x) l h []
   answers_call h is holds =
       row_goes me fact strings P (row_33_reply q d r) l answered nothing [] (answer ∷ []) (Read w.id key (base key l) ∷ []) (thens.OnKeys key_rules.StartNextCall) (key ∷ []) following h [] is tt
-      (subst (λ n. Lands strings P (driven me n (tasks.Key key_rules.StartNextCall key ∷ []) (leads fact answered) (told nothing [] (answer ∷ [])) (λ left z k. concluded me z k (λ u v e. Done v e))) h (Read w.id key (base key l) ∷ [])) (sym most_is_some)
+      (subst (λ n. LandsFrom me fact strings P (λ x. driven me n (tasks.Key key_rules.StartNextCall key ∷ []) x (told nothing [] (answer ∷ [])) (λ left z k. concluded me z k (λ u v e. Done v e))) answered h (Read w.id key (base key l) ∷ [])) (sym most_is_some)
       (key_goes me fact strings P (λ left z k. concluded me z k (λ u v e. Done v e)) (2 ^ 64 - 2) key_rules.StartNextCall key answered answered (told nothing [] (answer ∷ [])) [] [] [] thens.Stay [] h (Read w.id key (base key l) ∷ [])
       (row_36_ends key answered (ap (λ cs. running key cs) (ended_calls key l.table ∙ ap (λ cs. without_running key cs) calls) ∙ none_left key w runs)) tt
-      (rests_there me fact strings P (λ left z k. concluded me z k (λ u v e. Done v e)) (2 ^ 64 - 2) (leads fact answered) (told nothing [] (answer ∷ [])) h (Read w.id key (base key l) ∷ [])
-      (subst (λ z. Lands strings P z h (Read w.id key (base key l) ∷ [])) (sym (concludes me (leads fact answered) (told nothing [] (answer ∷ [])) (λ u v e. Done v e) refl)) (λ among. holds)))))
+      (rests_there me fact strings P (λ left z k. concluded me z k (λ u v e. Done v e)) (2 ^ 64 - 2) answered (told nothing [] (answer ∷ [])) h (Read w.id key (base key l) ∷ [])
+      (λ keep. subst (λ z. Lands strings P z h (Read w.id key (base key l) ∷ [])) (sym (concludes me (leads fact answered keep) (told nothing [] (answer ∷ [])) (λ u v e. Done v e) refl)) (λ among. holds keep)))))
 
   -- the reply makes a quorum
-  pub heard_met : (h : Held) (state : RoundState) → state_of (heard_from q votes) ≡ state → (state ≡ Open → ⊥) → P (leads fact answered) h (told nothing [] (answer ∷ [])) (Read w.id key (base key l) ∷ []) → Lands strings P (step_of me (events.Deliver q (messages.CheckReply d r)) (leads fact l)) h []
+  pub heard_met : (h : Held) (state : RoundState) → state_of (heard_from q votes) ≡ state → (state ≡ Open → ⊥) → Answers h → LandsFrom me fact strings P (λ x. step_of me (events.Deliver q (messages.CheckReply d r)) x) l h []
   heard_met h Open met not holds = absurd (not refl)
   heard_met h Met met not holds = answers_call h (rw (at, calls, runs, stage, epoch, met) refl) holds
   heard_met h AllAnswered met not holds = answers_call h (rw (at, calls, runs, stage, epoch, met) refl) holds

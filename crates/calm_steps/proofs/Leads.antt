@@ -25,6 +25,7 @@ use Rattle.phase_rows.specs.declared.phase.Then.{Then}
 use Rattle.phase_rows.specs.declared.phase.Then.TheVariants as thens
 use Rattle.phase_rows.specs.declared.rules.KeyRule.{KeyRule}
 use Rattle.calm_steps.proofs.Ends.{driven_none}
+use Rattle.calm_steps.proofs.Keeping.{Keeping, Standing}
 use Rattle.calm_steps.proofs.Lands.{Aim, Lands}
 
 -- the answer of a rule that goes on with rules on a key, or ends
@@ -49,8 +50,8 @@ all_noted ns [] = ns
 all_noted ns (n ∷ more) = all_noted (ns ++ n ∷ []) more
 
 -- a leader of the epoch of this fact, with no change
-abbrev pub leads : Fact → Leader → State
-leads fact l = record { fact = fact; seal = None; trusted = true; phase = phases.Leading (record { leader = l; change = Settled }); sync = None }
+abbrev pub leads : Fact → Leader → Standing
+leads fact l keep = record { fact = fact; seal = keep.seal; mode = keep.mode; trusted = true; phase = phases.Leading (record { leader = l; change = Settled }); sync = None }
 
 pub told_nothing : (out : Out) → told out [] [] ≡ out
 told_nothing out = ap (λ s. record out { sends = s; answers = out.answers ++ [] }) (append-nil out.sends) ∙ ap (λ a. record out { answers = a }) (append-nil out.answers)
@@ -71,42 +72,46 @@ module _ (me : ℕ) (fact : Fact) (strings : List (List ℕ)) (P : Aim) where
   followed thens.Resume keys x out next h ns simple lands = absurd simple
   followed (thens.SyncOn f) keys x out next h ns simple lands = absurd simple
 
+  -- the plan lands from this leader, whatever its seal and its mode are
+  abbrev pub LandsFrom : (State → Plan State) → Leader → Held → List Note → Type 0
+  LandsFrom plan l h ns = (keep : Keeping) → Lands strings P (plan (leads fact l keep)) h ns
+
   -- a row of a leader that goes on with rules on a key, or ends
   pub row_goes : (row : Leader → Leader × LeadOut) (l m : Leader) (out : Out) (sends : List Outgoing) (answers : List AnswerOut) (notes : List Note) (then : Then) (keys : List (List ℕ)) (next : Rest State (List Task)) (h : Held) (ns : List Note)
-      → row l ≡ (m, plain sends answers notes then keys) → IsSimple then → Lands strings P (next (keyed then keys) (leads fact m) (told out sends answers)) h (all_noted ns notes)
-      → Lands strings P (lead row me (leads fact l).phase (leads fact l) out next) h ns
-  row_goes row l m out sends answers notes then keys next h ns is simple lands =
-      subst (λ (r : Leader × LeadOut). Lands strings P (lead_done me r.1 (leads fact r.0) out next) h ns) (sym is)
-      (lands_noted notes (followed_up me None then keys (leads fact m) (told out sends answers) next) h ns (followed then keys (leads fact m) (told out sends answers) next h (all_noted ns notes) simple lands))
+      → row l ≡ (m, plain sends answers notes then keys) → IsSimple then → LandsFrom (λ x. next (keyed then keys) x (told out sends answers)) m h (all_noted ns notes)
+      → LandsFrom (λ x. lead row me x.phase x out next) l h ns
+  row_goes row l m out sends answers notes then keys next h ns is simple lands = λ keep.
+      subst (λ (r : Leader × LeadOut). Lands strings P (lead_done me r.1 (leads fact r.0 keep) out next) h ns) (sym is)
+      (lands_noted notes (followed_up me None then keys (leads fact m keep) (told out sends answers) next) h ns (followed then keys (leads fact m keep) (told out sends answers) next h (all_noted ns notes) simple (lands keep)))
 
   -- a row of a leader that asks the own stores
   pub row_asks : (row : Leader → Leader × LeadOut) (l m : Leader) (out : Out) (notes : List Note) (own : Own) (next : Rest State (List Task)) (h : Held) (ns : List Note)
-      → row l ≡ (m, asks notes own) → Lands strings P (owned own (leads fact m) out (λ seen y o. next (tasks.Again (asked_by own) (own_key own) seen ∷ []) y o)) h (all_noted ns notes)
-      → Lands strings P (lead row me (leads fact l).phase (leads fact l) out next) h ns
-  row_asks row l m out notes own next h ns is lands =
-      subst (λ (r : Leader × LeadOut). Lands strings P (lead_done me r.1 (leads fact r.0) out next) h ns) (sym is)
-      (lands_noted notes (followed_up me (Some own) thens.Stay [] (leads fact m) (told out [] []) next) h ns
-      (subst (λ o. Lands strings P (owned own (leads fact m) o (λ seen y p. next (tasks.Again (asked_by own) (own_key own) seen ∷ []) y p)) h (all_noted ns notes)) (sym (told_nothing out)) lands))
+      → row l ≡ (m, asks notes own) → LandsFrom (λ x. owned own x out (λ seen y o. next (tasks.Again (asked_by own) (own_key own) seen ∷ []) y o)) m h (all_noted ns notes)
+      → LandsFrom (λ x. lead row me x.phase x out next) l h ns
+  row_asks row l m out notes own next h ns is lands = λ keep.
+      subst (λ (r : Leader × LeadOut). Lands strings P (lead_done me r.1 (leads fact r.0 keep) out next) h ns) (sym is)
+      (lands_noted notes (followed_up me (Some own) thens.Stay [] (leads fact m keep) (told out [] []) next) h ns
+      (subst (λ o. Lands strings P (owned own (leads fact m keep) o (λ seen y p. next (tasks.Again (asked_by own) (own_key own) seen ∷ []) y p)) h (all_noted ns notes)) (sym (told_nothing out)) (lands keep)))
 
   module _ (next : Rest State (List Task)) where
     -- rules on a key, in the loop of a step
     pub key_goes : (n : ℕ) (k : KeyRule) (key : List ℕ) (l m : Leader) (out : Out) (sends : List Outgoing) (answers : List AnswerOut) (notes : List Note) (then : Then) (keys : List (List ℕ)) (h : Held) (ns : List Note)
-        → lead_row k key seens.Nothing l ≡ (m, plain sends answers notes then keys) → IsSimple then → Lands strings P (driven me n (keyed then keys ++ []) (leads fact m) (told out sends answers) next) h (all_noted ns notes)
-        → Lands strings P (driven me (suc n) (tasks.Key k key ∷ []) (leads fact l) out next) h ns
+        → lead_row k key seens.Nothing l ≡ (m, plain sends answers notes then keys) → IsSimple then → LandsFrom (λ x. driven me n (keyed then keys ++ []) x (told out sends answers) next) m h (all_noted ns notes)
+        → LandsFrom (λ x. driven me (suc n) (tasks.Key k key ∷ []) x out next) l h ns
     unfolding driven
     key_goes n k key l m out sends answers notes then keys h ns is simple lands = row_goes (lead_row k key seens.Nothing) l m out sends answers notes then keys (λ more y o. driven me n (more ++ []) y o next) h ns is simple lands
 
     pub key_asks : (n : ℕ) (k : KeyRule) (key : List ℕ) (l m : Leader) (out : Out) (notes : List Note) (own : Own) (h : Held) (ns : List Note)
-        → lead_row k key seens.Nothing l ≡ (m, asks notes own) → Lands strings P (owned own (leads fact m) out (λ seen y o. driven me n (tasks.Again (asked_by own) (own_key own) seen ∷ []) y o next)) h (all_noted ns notes)
-        → Lands strings P (driven me (suc n) (tasks.Key k key ∷ []) (leads fact l) out next) h ns
+        → lead_row k key seens.Nothing l ≡ (m, asks notes own) → LandsFrom (λ x. owned own x out (λ seen y o. driven me n (tasks.Again (asked_by own) (own_key own) seen ∷ []) y o next)) m h (all_noted ns notes)
+        → LandsFrom (λ x. driven me (suc n) (tasks.Key k key ∷ []) x out next) l h ns
     unfolding driven
     key_asks n k key l m out notes own h ns is lands = row_asks (lead_row k key seens.Nothing) l m out notes own (λ more y o. driven me n (more ++ []) y o next) h ns is lands
 
     pub again_goes : (n : ℕ) (k : KeyRule) (key : List ℕ) (seen : Seen) (l m : Leader) (out : Out) (sends : List Outgoing) (answers : List AnswerOut) (notes : List Note) (then : Then) (keys : List (List ℕ)) (h : Held) (ns : List Note)
-        → lead_row k key seen l ≡ (m, plain sends answers notes then keys) → IsSimple then → Lands strings P (driven me n (keyed then keys ++ []) (leads fact m) (told out sends answers) next) h (all_noted ns notes)
-        → Lands strings P (driven me (suc n) (tasks.Again k key seen ∷ []) (leads fact l) out next) h ns
+        → lead_row k key seen l ≡ (m, plain sends answers notes then keys) → IsSimple then → LandsFrom (λ x. driven me n (keyed then keys ++ []) x (told out sends answers) next) m h (all_noted ns notes)
+        → LandsFrom (λ x. driven me (suc n) (tasks.Again k key seen ∷ []) x out next) l h ns
     unfolding driven
     again_goes n k key seen l m out sends answers notes then keys h ns is simple lands = row_goes (lead_row k key seen) l m out sends answers notes then keys (λ more y o. driven me n (more ++ []) y o next) h ns is simple lands
 
-    pub rests_there : (n : ℕ) (x : State) (out : Out) (h : Held) (ns : List Note) → Lands strings P (next [] x out) h ns → Lands strings P (driven me n [] x out next) h ns
-    rests_there n x out h ns lands = subst (λ plan. Lands strings P plan h ns) (sym (driven_none me n x out next)) lands
+    pub rests_there : (n : ℕ) (l : Leader) (out : Out) (h : Held) (ns : List Note) → LandsFrom (λ x. next [] x out) l h ns → LandsFrom (λ x. driven me n [] x out next) l h ns
+    rests_there n l out h ns lands = λ keep. subst (λ plan. Lands strings P plan h ns) (sym (driven_none me n (leads fact l keep) out next)) (lands keep)

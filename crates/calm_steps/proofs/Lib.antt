@@ -1,4 +1,5 @@
 pub mod TreeCalls
+pub mod Keeping
 pub mod Lands
 pub mod Ends
 pub mod RowsLand

@@ -29,12 +29,13 @@ use Rattle.tree_refinement.specs.Whole.{IsWhole}
 use Rattle.wire_frames.specs.declared.message.Message.TheVariants as messages
 use Rattle.calm_steps.proofs.Bystanders.{tells, rest, following, lands_done}
 use Rattle.calm_steps.proofs.Ends.{over}
+use Rattle.calm_steps.proofs.Keeping.{Keeping}
 use Rattle.calm_steps.proofs.Lands.{Aim, Lands, lands_ask}
 use Rattle.calm_steps.proofs.TreeCalls.{finds, keeps, serves}
 
-module _ (q p : ℕ) (strings : List (List ℕ)) (P : Aim) where
+module _ (q p : ℕ) (strings : List (List ℕ)) (P : Aim) (keep : Keeping) where
   abbrev x : Fact → State
-  x fact = rest q p strings P fact
+  x fact = rest q p strings P fact keep
 
   -- rule 11: the promised ballot again is not answered
   pub on_prepare_again : (fact : Fact) (d : Epoch) (h : Held) → is_below fact.ballot d ≡ false → is_same d fact.ballot ≡ true → P (x fact) h nothing [] → Lands strings P (step_of q (events.Deliver p (messages.Prepare d)) (x fact)) h []

@@ -12,7 +12,7 @@ use Rattle.leader_words.specs.Outs.{leads_on}
 use Rattle.leader_words.specs.Sends.{is_other, sent_up_to, tells_all}
 use Rattle.leader_words.specs.declared.out.Outgoing.{Outgoing}
 use Rattle.leader_words.specs.declared.out.Own.TheVariants as owns
-use Rattle.leading.proofs.Lookups.{stage_here}
+use Rattle.leading_laws.proofs.Lookups.{stage_here}
 use Rattle.leading.specs.Leaders.{stands, is_spent}
 use Rattle.leading.specs.Rounds.{row_29}
 use Rattle.leading.specs.declared.leader.Leader.{Leader}
@@ -68,10 +68,10 @@ module _ (me : ℕ) (fact : Fact) (strings : List (List ℕ)) (P : Aim) (free : 
       let g : Held = (answered (Find key) h).held in
       let n7 : ℕ = suc (suc (suc (suc (suc (suc n))))) in
       key_asks me fact strings P next (suc n7) key_rules.Read key l k out [] (owns.Look key) h ns (row_29_begins key w l (runs me fact strings P free next key w mine l calls) fresh)
-      (lands_ask strings P (Find key) (λ found. looked_at key found (leads fact k) out (λ seen y o. driven me (suc n7) (tasks.Again key_rules.Read key seen ∷ []) y o next)) h ns (λ among. record {
+      (λ keep. lands_ask strings P (Find key) (λ found. looked_at key found (leads fact k keep) out (λ seen y o. driven me (suc n7) (tasks.Again key_rules.Read key seen ∷ []) y o next)) h ns (λ among. record {
         answer = Reached None;
         is = finds h m key whole ∙ ap (λ (e : Option Entry). Ok (Reached e)) absent;
         goes = again_goes me fact strings P next n7 key_rules.Read key (seens.Held None None) k (reading l) out (asks_get l) [] [] (thens.OnKeys key_rules.EnoughReplies) (key ∷ []) g ns (row_29_held key w k (runs me fact strings P free next key w mine l calls)) tt
             (reads_30 me fact strings P free next key w mine n (reading l) (l.round + 1) (begun l.fact.views l.me) state verdict (told out (asks_get l) []) g m ns state calls (ap (λ s. s) (stage_here key (stages.Reading (l.round + 1) (begun l.fact.views l.me) None) k.table.rows)) begins is begins
-            (keeps (Find key) h m tt whole) ends);
+            (keeps (Find key) h m tt whole) ends) keep;
       }))

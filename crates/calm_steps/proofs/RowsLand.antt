@@ -32,10 +32,6 @@ abbrev pub held_under : Option (List ℕ) → Option Fact → Held → Held
 held_under seal None h = h
 held_under seal (Some fact) h = with_facts (record h.stores.facts { kept = Some (with_seal seal fact) }) h
 
--- the same without a seal
-abbrev pub held_saved : Option Fact → Held → Held
-held_saved save h = held_under None save h
-
 -- no sync begins or resumes
 abbrev pub IsPlain : Then → Type 0
 IsPlain (thens.SyncOn fact) = ⊥

@@ -52,7 +52,7 @@ use Rattle.phase_rows.specs.declared.rules.KeyRule.TheVariants as key_rules
 use Rattle.calm_steps.proofs.CheckReplies.{ended_calls, none_left}
 use Rattle.calm_steps.proofs.KeyRows.{row_30_waits, row_30_absent, row_30_all, row_33_checks, row_34_writes, row_34_reads, row_31_proposes, row_35_asks, row_35_stored, row_36_ends}
 use Rattle.calm_steps.proofs.Lands.{Aim, Lands}
-use Rattle.calm_steps.proofs.Leads.{leads, told, told_nothing, key_goes, key_asks, again_goes, rests_there}
+use Rattle.calm_steps.proofs.Leads.{leads, told, told_nothing, LandsFrom, key_goes, key_asks, again_goes, rests_there}
 use Rattle.calm_steps.proofs.Requests.{HasWritten, written_lands}
 
 -- the one type for a round that is open, and the other for a round that is not
@@ -64,11 +64,11 @@ by_round AllAnswered waits ends = ends
 module _ (me : ℕ) (fact : Fact) (strings : List (List ℕ)) (P : Aim) (free : AreFree strings) (next : Rest State (List Task)) (key : List ℕ) (w : Waiting) (mine : running key (w ∷ []) ≡ Some w) where
   -- the step ends with this leader, output and stores
   abbrev pub Goes : Leader → Out → Held → Type 0
-  Goes l out h = (ns : List Note) → Lands strings P (next [] (leads fact l) out) h ns
+  Goes l out h = (ns : List Note) → LandsFrom me fact strings P (λ x. next [] x out) l h ns
 
   -- this rule still runs on the key
   abbrev pub Runs : ℕ → KeyRule → Leader → Out → Held → List Note → Type 0
-  Runs n k l out h ns = Lands strings P (driven me n (tasks.Key k key ∷ []) (leads fact l) out next) h ns
+  Runs n k l out h ns = LandsFrom me fact strings P (λ x. driven me n (tasks.Key k key ∷ []) x out next) l h ns
 
   -- the call is the only one
   abbrev pub HasCall : Leader → Type 0
@@ -91,7 +91,7 @@ module _ (me : ℕ) (fact : Fact) (strings : List (List ℕ)) (P : Aim) (free : 
   pub rests_36 : (n : ℕ) (l : Leader) (out : Out) (h : Held) (ns : List Note) → HasCall l → Goes (replied l) out h → Runs (suc n) key_rules.StartNextCall (replied l) out h ns
   rests_36 n l out h ns calls goes =
       key_goes me fact strings P next n key_rules.StartNextCall key (replied l) (replied l) out [] [] [] thens.Stay [] h ns (row_36_ends key (replied l) (none_runs l calls)) tt
-      (rests_there me fact strings P next n (leads fact (replied l)) (told out [] []) h ns (subst (λ o. Lands strings P (next [] (leads fact (replied l)) o) h ns) (sym (told_nothing out)) (goes ns)))
+      (rests_there me fact strings P next n (replied l) (told out [] []) h ns (subst (λ o. LandsFrom me fact strings P (λ x. next [] x o) (replied l) h ns) (sym (told_nothing out)) (goes ns)))
 
   -- ## Checks
 
@@ -115,7 +115,7 @@ module _ (me : ℕ) (fact : Fact) (strings : List (List ℕ)) (P : Aim) (free : 
       → ChecksEnd state reply l out h → Runs (suc (suc n)) key_rules.Check l out h ns
   checks_33 n l reply out h ns Open calls task fresh is ends =
       key_goes me fact strings P next (suc n) key_rules.Check key l (checking reply l) out (asks_check l) [] [] thens.Stay [] h ns (row_33_checks key w l (runs l calls) reply task fresh ∙ rw is refl) tt
-      (rests_there me fact strings P next (suc n) (leads fact (checking reply l)) (told out (asks_check l) []) h ns (ends ns))
+      (rests_there me fact strings P next (suc n) (checking reply l) (told out (asks_check l) []) h ns (ends ns))
   checks_33 n l reply out h ns Met calls task fresh is ends =
       key_goes me fact strings P next (suc n) key_rules.Check key l (replied (rounded l)) out (asks_check l) (answer reply) (Read w.id key (base key l) ∷ []) (thens.OnKeys key_rules.StartNextCall) (key ∷ []) h ns (row_33_checks key w l (runs l calls) reply task fresh ∙ rw is refl) tt
       (rests_36 n (rounded l) (told out (asks_check l) (answer reply)) h (ns ++ Read w.id key (base key l) ∷ []) calls ends)
@@ -144,10 +144,10 @@ module _ (me : ℕ) (fact : Fact) (strings : List (List ℕ)) (P : Aim) (free : 
 
   stored_35 : (n : ℕ) (l : Leader) (o : Object) (parent : Option Version) (out : Out) (g : Held) (ns : List Note) (state : RoundState) → HasCall l → l.task ≡ pendings.Propose o parent (Some w.id) → state_of (begun l.fact.views l.me) ≡ state
       → by_round state (Goes (putting o l) (told out (asks_put o l) []) g) (Goes (settled o l) (told out (asks_put o l) (answer (replies.Ok o.stamp))) g)
-      → Lands strings P (driven me (suc (suc n)) (tasks.Again key_rules.Put key (seens.Stored (digest_of o)) ∷ []) (leads fact l) out next) g ns
+      → LandsFrom me fact strings P (λ x. driven me (suc (suc n)) (tasks.Again key_rules.Put key (seens.Stored (digest_of o)) ∷ []) x out next) l g ns
   stored_35 n l o parent out g ns Open calls task is ends =
       again_goes me fact strings P next (suc n) key_rules.Put key (seens.Stored (digest_of o)) l (putting o l) out (asks_put o l) [] [] thens.Stay [] g ns (row_35_stored key l o parent w.id (digest_of o) task ∙ rw is refl) tt
-      (rests_there me fact strings P next (suc n) (leads fact (putting o l)) (told out (asks_put o l) []) g ns (ends ns))
+      (rests_there me fact strings P next (suc n) (putting o l) (told out (asks_put o l) []) g ns (ends ns))
   stored_35 n l o parent out g ns Met calls task is ends =
       again_goes me fact strings P next (suc n) key_rules.Put key (seens.Stored (digest_of o)) l (settled o l) out (asks_put o l) (answer (replies.Ok o.stamp)) (Settled key o.version ∷ []) (thens.OnKeys key_rules.StartNextCall) (key ∷ []) g ns
       (row_35_stored key l o parent w.id (digest_of o) task ∙ rw (is, runs l calls) refl) tt
@@ -168,9 +168,9 @@ module _ (me : ℕ) (fact : Fact) (strings : List (List ℕ)) (P : Aim) (free : 
       let k : Leader = with_task (pendings.Propose o parent (Some w.id)) l in
       let noted : List Note = ns ++ Proposed key o.version parent (Some w.id) ∷ [] in
       key_asks me fact strings P next (suc (suc n)) key_rules.Put key l k out (Proposed key o.version parent (Some w.id) ∷ []) (owns.Put o) h ns (row_35_asks key l o parent (Some w.id) task)
-      (written_lands strings P free o (leads fact k) out (λ seen y p. driven me (suc (suc n)) (tasks.Again key_rules.Put o.key seen ∷ []) y p next) h m noted whole fits.0 fits.1
-      (λ g has. subst (λ (j : List ℕ). Lands strings P (driven me (suc (suc n)) (tasks.Again key_rules.Put j (seens.Stored (digest_of o)) ∷ []) (leads fact k) out next) g noted) (sym same)
-      (stored_35 n k o parent out g noted state calls refl is (ends g has))))
+      (λ keep. written_lands strings P free o (leads fact k keep) out (λ seen y p. driven me (suc (suc n)) (tasks.Again key_rules.Put o.key seen ∷ []) y p next) h m noted whole fits.0 fits.1
+      (λ seal g has. subst (λ (j : List ℕ). Lands strings P (driven me (suc (suc n)) (tasks.Again key_rules.Put j (seens.Stored (digest_of o)) ∷ []) (leads fact k (record keep { seal = seal })) out next) g noted) (sym same)
+      (stored_35 n k o parent out g noted state calls refl is (ends g has) (record keep { seal = seal }))))
 
   -- the object of a write by a leader
   abbrev pub written_by : Leader → Option (List ℕ) → Object
@@ -224,7 +224,7 @@ module _ (me : ℕ) (fact : Fact) (strings : List (List ℕ)) (P : Aim) (free : 
       → ReadsEnd heard state verdict l out h m → Runs (suc (suc (suc (suc (suc (suc n)))))) key_rules.EnoughReplies l out h ns
   reads_30 n l round votes Open verdict out h m ns state calls stage heard is begins whole ends =
       key_goes me fact strings P next (suc (suc (suc (suc (suc n))))) key_rules.EnoughReplies key l l out [] [] [] thens.Stay [] h ns (row_30_waits key w l (runs l calls) round votes stage heard) tt
-      (rests_there me fact strings P next (suc (suc (suc (suc (suc n))))) (leads fact l) (told out [] []) h ns (subst (λ o. Lands strings P (next [] (leads fact l) o) h ns) (sym (told_nothing out)) (ends ns)))
+      (rests_there me fact strings P next (suc (suc (suc (suc (suc n))))) l (told out [] []) h ns (subst (λ o. LandsFrom me fact strings P (λ x. next [] x o) l h ns) (sym (told_nothing out)) (ends ns)))
   reads_30 n l round votes Met verdict out h m ns state calls stage heard is begins whole ends =
       key_goes me fact strings P next (suc (suc (suc (suc (suc n))))) key_rules.EnoughReplies key l (missing l) out [] [] [] (thens.OnKeys key_rules.Apply) (key ∷ []) h ns (row_30_absent key w l (runs l calls) round votes stage heard) tt
       (subst (λ o. Runs (suc (suc (suc (suc (suc n))))) key_rules.Apply (missing l) o h ns) (sym (told_nothing out)) (applies_34 n (missing l) verdict out h m ns state calls refl is begins whole ends))

@@ -53,8 +53,8 @@ use Rattle.phase_rows.specs.declared.rules.KeyRule.{KeyRule}
 use Rattle.phase_rows.specs.declared.rules.KeyRule.TheVariants as key_rules
 use Rattle.calm_steps.proofs.Backends.{fetched_lands}
 use Rattle.calm_steps.proofs.KeyRows.{row_28_unknown}
-use Rattle.calm_steps.proofs.Lands.{Aim, Lands}
-use Rattle.calm_steps.proofs.Leads.{leads, told, told_nothing, key_goes, key_asks, again_goes}
+use Rattle.calm_steps.proofs.Lands.{Aim}
+use Rattle.calm_steps.proofs.Leads.{leads, told, told_nothing, LandsFrom, key_goes, key_asks, again_goes}
 use Rattle.calm_steps.proofs.Reading.{reads_29, reading, asks_get}
 use Rattle.calm_steps.proofs.Serving.{Runs, HasCall, runs, ReadsEnd, WritesEnd, ChecksEnd, writes_31, checks_33}
 use Rattle.calm_steps.proofs.TreeCalls.{keeps}
@@ -139,7 +139,7 @@ module _ (me : ℕ) (fact : Fact) (strings : List (List ℕ)) (P : Aim) (free : 
   -- the rule runs again, after the own backend returned the object
   decides_again : (n : ℕ) (l : Leader) (parent : Option Version) (verdict : Verdict) (o : Object) (out : Out) (h : Held) (m : List Entry) (ns : List Note) (state : RoundState) → Call l → state_of (begun l.fact.views l.me) ≡ state → IsWhole h m
       → row_28 key (seens.Kept (Some (o, md5 (object_spelling o)))) l ≡ decided parent verdict key l → DecidesEnd state verdict l out h m
-      → Lands strings P (driven me (suc (suc (suc (suc (suc n))))) (tasks.Again key_rules.StartCall key (seens.Kept (Some (o, md5 (object_spelling o)))) ∷ []) (leads fact l) out next) h ns
+      → LandsFrom me fact strings P (λ x. driven me (suc (suc (suc (suc (suc n))))) (tasks.Again key_rules.StartCall key (seens.Kept (Some (o, md5 (object_spelling o)))) ∷ []) x out next) l h ns
   decides_again n l parent (Write content) o out h m ns state calls begins whole is ends =
       again_goes me fact strings P next (suc (suc (suc (suc n)))) key_rules.StartCall key (seens.Kept (Some (o, md5 (object_spelling o)))) l (with_task (pendings.Write content parent) l) out [] [] [] (thens.OnKeys key_rules.Write) (key ∷ []) h ns is tt (writes n l parent content out h m ns state calls begins whole ends)
   decides_again n l parent (Answer reply) o out h m ns state calls begins whole is ends =
@@ -174,9 +174,9 @@ module _ (me : ℕ) (fact : Fact) (strings : List (List ℕ)) (P : Aim) (free : 
         let g : Held = (answered (Hash (object_spelling o)) h).held in
         let whole_g : IsWhole g m = keeps (Hash (object_spelling o)) h m tt whole in
         key_asks me fact strings P next (suc (suc (suc (suc (suc n))))) key_rules.StartCall key l l out [] (owns.Fetch key) h ns (row_fetches key w l (runs me fact strings P free next key w mine l calls) o.version o.stamp (md5 (object_spelling o)) known undecided)
-        (fetched_lands strings P o key (leads fact l) out (λ seen y p. driven me (suc (suc (suc (suc (suc n))))) (tasks.Again key_rules.StartCall key seen ∷ []) y p next) h ns valid has
+        (λ keep. fetched_lands strings P o key (leads fact l keep) out (λ seen y p. driven me (suc (suc (suc (suc (suc n))))) (tasks.Again key_rules.StartCall key seen ∷ []) y p next) h ns valid has
         (decides_again n l (base key l) (verdict_of (outcome w.command (register_of o))) o out g m ns state calls begins whole_g
-        (row_sees key w l (runs me fact strings P free next key w mine l calls) o same known undecided) (ends g whole_g refl)))
+        (row_sees key w l (runs me fact strings P free next key w mine l calls) o same known undecided) (ends g whole_g refl) keep))
 
     by_content : (n : ℕ) (ns : List Note) (content : Option (List ℕ)) → o.value ≡ content → (row_at key l.table.rows).known ≡ settled_as o.version o (md5 (object_spelling o)) → value_at key h.stores.backend.entries ≡ Some (object_spelling o)
         → KeptEnd state (verdict_of (outcome w.command (register_of o))) l out h m → Step (suc (suc (suc (suc (suc (suc n)))))) key_rules.StartCall l out h ns

@@ -16,13 +16,13 @@ use Rattle.register_model.specs.declared.note.Note.{Note}
 use Rattle.register_model.specs.declared.printed.Printed.{Printed}
 use Rattle.register_model.specs.declared.printed.Printed.TheVariants as lines
 use Rattle.schedule_text.specs.declared.event.ScheduleEvent.{ScheduleEvent}
-use Rattle.schedule_text.specs.declared.event.ScheduleEvent.TheVariants.{Call, Tick, Deliver, Pass, Lose, Calm, CalmAmong, Change, Stop, Start, Spoil, Damage, Inner, Revert, Fail}
+use Rattle.schedule_text.specs.declared.event.ScheduleEvent.TheVariants.{Call, Tick, Deliver, Pass, Lose, Calm, CalmAmong, Change, Stop, Start, Upgrade, Deepen, Spoil, Damage, Inner, Revert, Fail}
 use Rattle.step_plans.specs.Plans.{Plan, Done, Say, Ask, Out, Ending, Finished, Follows, Stopped}
 use Rattle.wire_frames.specs.declared.frame.Frame.{Frame}
 use Rattle.world_spec.proofs.Ending.{EndsIn, run_reaches}
 use Rattle.world_spec.specs.Lines.{call_of, everyone, set_of, effect, applied, keys_in, run_from}
 use Rattle.world_spec.specs.Nodes.{Node, Up, Down, taken, taken_by, run_over, started, stopped, over_stores, while_down}
-use Rattle.world_spec.specs.Runs.{Run, next_event, answer_line, change_line, printed_by, place_of, stepped_at, stepped, changed_at, changed, ticked, received_if, delivered, delivered_if, going_on, calmed}
+use Rattle.world_spec.specs.Runs.{Run, mode_at, next_event, answer_line, change_line, printed_by, place_of, stepped_at, stepped, changed_at, changed, ticked, received_if, delivered, delivered_if, going_on, calmed}
 use Rattle.world_spec.specs.Stores.{failing, leaves_of, spoiled, segment_spoiled, inner_spoiled, taken_back}
 use Rattle.record_laws.proofs.Replied.{HasReplies, step_replies}
 use Rattle.record_laws.proofs.Told.{Follow, itself, differs}
@@ -207,7 +207,9 @@ module _ (asked : ℕ → Option ℕ) where
     effect_prints (CalmAmong members) w is asks = later w (effect (CalmAmong members) w) (calmed_prints (set_of members) most_messages w is)
     effect_prints (Change peer view) w is asks = asked_prints peer view w is asks
     effect_prints (Stop peer) w is asks = later w (effect (Stop peer) w) (changed_prints peer stopped w)
-    effect_prints (Start peer) w is asks = later w (effect (Start peer) w) (hashing_prints peer (started w.view) _ w)
+    effect_prints (Start peer) w is asks = later w (effect (Start peer) w) (hashing_prints peer (started (mode_at peer w) w.view) _ w)
+    effect_prints (Upgrade peer) w is asks = prints_none n (n + 1) w (effect (Upgrade peer) w) (omega arith) refl refl refl
+    effect_prints Deepen w is asks = prints_none n (n + 1) w w (omega arith) refl refl refl
     effect_prints (Spoil peer key bytes) w is asks = later w (effect (Spoil peer key bytes) w) (changed_prints peer (over_stores (spoiled key bytes)) w)
     effect_prints (Damage peer key bytes) w is asks = later w (effect (Damage peer key bytes) w) (hashing_prints peer (over_stores (segment_spoiled key bytes)) _ w)
     effect_prints (Inner peer level index bytes) w is asks = later w (effect (Inner peer level index bytes) w) (changed_prints peer (over_stores (inner_spoiled level index bytes)) w)

@@ -152,8 +152,8 @@ module _ (s : Schedule) (is : IsSchedule s) (sound : first_unsound s ≡ None) (
   few : length s.events < 2 ^ 32
   few = few_events s is sound apart
 
-  prints : PrintsOn 1 s.events (opening_run s.peers s.view)
-  prints = run_prints s.events (opening_run s.peers s.view) 1 refl (omega (arith, is.lines))
+  prints : PrintsOn 1 s.events (opening_run s.form s.peers s.view)
+  prints = run_prints s.events (opening_run s.form s.peers s.view) 1 refl (omega (arith, is.lines))
 
   answer_told : (b : HasBook s) (a : Answer) → a ∈ answers_in run.printed → IsTimely s.events a × LineFits (lines.Answer a)
   answer_told b a m = by (causes.caused a m)
@@ -217,7 +217,7 @@ module _ (s : Schedule) (is : IsSchedule s) (sound : first_unsound s ≡ None) (
   )
 
   legal : AreLegal s.events run.printed histories
-  legal = schedules_are_legal s.peers s.view s.events is.peers.1 is.view.1 few (firm_lines s sound) is.events is.distinct apart histories are_histories
+  legal = schedules_are_legal s.form s.peers s.view s.events is.peers.1 is.view.1 few (firm_lines s is sound) is.events is.distinct apart histories are_histories
 
   history_fits : (h : History) → h ∈ histories → HistoryFits h
   history_fits h m =

@@ -18,12 +18,12 @@ use Rattle.leading.specs.Starts.{row_27}
 use Rattle.leading.specs.declared.leader.Leader.{Leader}
 use Rattle.peer_fact.specs.declared.fact.Fact.{Fact}
 use Rattle.peer_plan.specs.Drives.{row_done, own_key, followed_up, and_row, lead_done, lead, reminded, task_done, driven, led_in, ticked, after_put, put_done, delivered, unavailable, and_change, most_turns, concluded, step_of}
-use Rattle.peer_plan.proofs.Aging.{asked_asks, confirmed_asks, found_asks, if_follows, installed_asks, looked_asks, noted_follows, own_node_asks, owned_asks, shown_asks, shown_node_asks, written_asks}
+use Rattle.peer_plan.proofs.Aging.{asked_asks, confirmed_asks, found_asks, if_follows, installed_asks, looked_asks, noted_follows, own_node_asks, owned_asks, shown_asks, shown_node_asks, written_asks, sealed_asks}
 use Rattle.peer_plan.specs.Kept.{IsStepCall}
 use Rattle.peer_plan.specs.Owns.{looked, found}
-use Rattle.peer_plan.specs.Syncs.{saved, and_sends, with_sync, accepted, accepted_own, accepted_in, by_outcome, go_on, resume_sync, followed_on, needs_node, take_give}
+use Rattle.peer_plan.specs.Syncs.{saved, and_sends, with_sync, accepted, accepted_own, accepted_in, by_outcome, go_on, resume_sync, followed_on, needs_node, take_give, sealed_if}
 use Rattle.peer_state.specs.Leading.{ticks, row_5_calls, wished, begins}
-use Rattle.peer_state.specs.Moves.{left, left_answers, turned, turned_answers, ends_leading, leading, with_leader, and_answers, electing, without_sync}
+use Rattle.peer_state.specs.Moves.{left, left_answers, turned, turned_answers, ends_leading, leading, with_leader, and_answers, electing, without_sync, keeps_seal}
 use Rattle.peer_state.specs.Rows.{aged, phase_row, received, asked_change, leads, changes}
 use Rattle.peer_state.specs.declared.event.Event.{Event}
 use Rattle.peer_state.specs.declared.event.Event.TheVariants as events
@@ -66,6 +66,10 @@ module _ (me : ℕ) (P : State → Out → Type 0) (replies : List Bool) where
   saved_passes None x out next is go = go tt x out is
   saved_passes (Some fact) x out next is go = asked_asks P (Save (with_seal x.seal fact)) tt x out (λ u y o. next tt (record y { fact = fact }) o) (λ u. go tt (record x { fact = fact }) out is)
 
+  sealed_if_passes : (seals : Bool) (fact : Fact) → Passes (sealed_if seals fact)
+  sealed_if_passes true fact x out next is go = sealed_asks P fact x out next (λ seal. go tt (record x { fact = fact; seal = seal }) out is)
+  sealed_if_passes false fact x out next is go = saved_passes (Some fact) x out next is go
+
   -- ## Syncs
 
   accepted_own_passes : (e : Election) → Passes (accepted_own me e)
@@ -82,8 +86,8 @@ module _ (me : ℕ) (P : State → Out → Type 0) (replies : List Bool) where
   by_outcome_passes r Pending x out next is go = go [] (with_sync r x) out is
   by_outcome_passes r (Trusted entries) x out next is go =
       installed_asks P (needs_build r.sync.scan entries) entries (without_sync x) out
-      (λ u y o. saved (Some r.fact) y o (λ v z p. accepted_in me r.fact z.phase (record z { trusted = true }) p next))
-      (λ u. saved_passes (Some r.fact) (without_sync x) out (λ v z p. accepted_in me r.fact z.phase (record z { trusted = true }) p next) is
+      (λ u y o. sealed_if (keeps_seal y) r.fact y o (λ v z p. accepted_in me r.fact z.phase (record z { trusted = true }) p next))
+      (λ u. sealed_if_passes (keeps_seal (without_sync x)) r.fact (without_sync x) out (λ v z p. accepted_in me r.fact z.phase (record z { trusted = true }) p next) is
       (λ v z p alike. accepted_in_passes r.fact z.phase (record z { trusted = true }) p next alike go))
 
   go_on_passes : (r : Running × List Outgoing) → Passes (go_on me r)
@@ -124,7 +128,7 @@ module _ (me : ℕ) (P : State → Out → Type 0) (replies : List Bool) where
   followed_up_passes : (own : Option Own) (turn : Then) (keys : List (List ℕ)) → Passes (followed_up me own turn keys)
   followed_up_passes None turn keys x out next is go = go (keyed turn keys) (turned me turn x) (turned_answers turn x out) (left_same (ends_leading turn) x out is)
   followed_up_passes (Some own) turn keys x out next is go =
-      owned_asks P own x out (λ seen y o. next (tasks.Again (asked_by own) (own_key own) seen ∷ []) y o) (λ seen. go (tasks.Again (asked_by own) (own_key own) seen ∷ []) x out is)
+      owned_asks P own x out (λ seen y o. next (tasks.Again (asked_by own) (own_key own) seen ∷ []) y o) (λ seen seal. go (tasks.Again (asked_by own) (own_key own) seen ∷ []) (record x { seal = seal }) out is)
 
   lead_done_passes : (row : LeadOut) → Passes (lead_done me row)
   lead_done_passes row x out next is go =
@@ -170,7 +174,7 @@ module _ (me : ℕ) (P : State → Out → Type 0) (replies : List Bool) where
 
   put_done_passes : (turn : Then) (from : ℕ) (ballot : Epoch) (o : Object) (row : PhaseOut) → Passes (put_done turn me from ballot o row)
   put_done_passes thens.Put from ballot o row x out next is go =
-      written_asks P o x out (λ seen y p. row_done me (after_put from ballot row seen) y p next) (λ seen. row_done_passes (after_put from ballot row seen) x out next is go)
+      written_asks P o x out (λ seen y p. row_done me (after_put from ballot row seen) y p next) (λ seen seal. row_done_passes (after_put from ballot row seen) (record x { seal = seal }) out next is go)
   put_done_passes thens.Stay from ballot o row x out next is go = row_done_passes row x out next is go
   put_done_passes thens.Follow from ballot o row x out next is go = row_done_passes row x out next is go
   put_done_passes (thens.Lead fact) from ballot o row x out next is go = row_done_passes row x out next is go

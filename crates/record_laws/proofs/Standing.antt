@@ -1,6 +1,5 @@
 -- The world after a sound schedule agrees with a run of the abstract protocol, in its calls and its answers.
-use Rattle.std.proofs.Common.{◌≡◌, ℕ, suc, ◌<◌, ◌^◌, Bool, true, false, not, List, [], ◌∷◌, length, None, refl, sym, subst, inl, inr, arith}
-use Rattle.std.proofs.lemmas.Bool.{false≢true}
+use Rattle.std.proofs.Common.{◌≡◌, ℕ, suc, ◌<◌, ◌^◌, List, [], ◌∷◌, length, None, refl, sym, subst, inl, inr, arith}
 use Rattle.std.specs.Prelude.{Contains}
 use Rattle.abstract_protocol.specs.Protocol.{State, Step, IsRun, opening, state_after}
 use Rattle.call_refinement.proofs.Agreement.{Stands, carried}
@@ -11,8 +10,8 @@ use Rattle.ens_base.specs.Lists.{◌∈◌}
 use Rattle.held_stores.specs.Held.{HasNoClash}
 use Rattle.replay.specs.Jobs.{hashed_by}
 use Rattle.replay.specs.Worlds.{schedule_run}
-use Rattle.schedule_premise.proofs.Searches.{none_passes}
-use Rattle.schedule_premise.specs.Premise.{first_unsound, fails, is_reverted, keeps_majority, views_named}
+use Rattle.schedule_premise.proofs.Soundness.{majority_firm, named_in, none_is_sound}
+use Rattle.schedule_premise.specs.Premise.{first_unsound}
 use Rattle.schedule_text.specs.Spelling.{IsSchedule}
 use Rattle.schedule_text.specs.declared.schedule.Schedule.{Schedule}
 use Rattle.step_refinement.specs.Peers.{AsksFit, EpochsFit}
@@ -28,13 +27,9 @@ pub record HasBook (s : Schedule) : Type 0 where
   pub epochs : EpochsFit (state_after s.view steps)
   pub agrees : BookAgrees s.events (schedule_run s) (state_after s.view steps).book
 
--- of each view that a sound schedule names more than half of the members are never reverted
-pub firm_lines : (s : Schedule) → first_unsound s ≡ None → AreFirm (lines_of s.view s.events)
-firm_lines s sound view named = kept (keeps_majority (is_reverted s.events) view) (none_passes (fails (is_reverted s.events)) (views_named s) sound view named)
-  where
-    kept : (b : Bool) → not b ≡ false → b ≡ true
-    kept true is = refl
-    kept false is = absurd (false≢true (sym is))
+-- of each view that a sound schedule names more than half of the members have seals or are never reverted
+pub firm_lines : (s : Schedule) → IsSchedule s → first_unsound s ≡ None → AreFirm (lines_of s.form s.view s.events)
+firm_lines s of sound view named = majority_firm s view of (none_is_sound s sound) (named_in s view named)
 
 in_contains : (strings : List (List ℕ)) (x : List ℕ) → x ∈ strings → Contains strings x
 in_contains [] x at = absurd at
@@ -43,7 +38,7 @@ in_contains (y ∷ strings) x (inr at) = let there = in_contains strings x at in
 
 module _ (s : Schedule) (is : IsSchedule s) (sound : first_unsound s ≡ None) (apart : HasNoClash (hashed_by s)) where
   abbrev Said : Lines
-  Said = lines_of s.view s.events
+  Said = lines_of s.form s.view s.events
 
   abbrev Agreed : Run → State → Type 0
   Agreed = Stands Said s.view (hashed_by s)
@@ -54,14 +49,14 @@ module _ (s : Schedule) (is : IsSchedule s) (sound : first_unsound s ≡ None) (
   free : AreFree (hashed_by s)
   free a b in_a in_b same = apart a b (in_contains (hashed_by s) a in_a) (in_contains (hashed_by s) b in_b) same
 
-  opens : Agreed (opening_run s.peers s.view) (opening s.view)
-  opens = record { steps = []; is = refl; holds = opening_holds s.view Said s.peers (hashed_by s) is.view.1 (inl refl) }
+  opens : Agreed (opening_run s.form s.peers s.view) (opening s.view)
+  opens = record { steps = []; is = refl; holds = opening_holds s.form s.view Said s.peers (hashed_by s) refl is.view.1 (inl refl) }
 
   carries : IsCarried s.peers Said (schedule_run s) Agreed
-  carries = carried Said s.view (hashed_by s) (firm_lines s sound) free s.peers is.peers.1 (schedule_run s) (λ x at. at)
+  carries = carried Said s.view (hashed_by s) (firm_lines s is sound) free s.peers is.peers.1 (schedule_run s) (λ x at. at)
 
   pub has_book : HasBook s
-  has_book = by (schedule_agrees s.peers s.view s.events Agreed carries opens is.peers.1 few_events is.events is.distinct)
+  has_book = by (schedule_agrees s.form s.peers s.view s.events Agreed carries opens is.peers.1 few_events is.events is.distinct)
     where
       by : IsAfter s.peers Agreed s.events (schedule_run s) → HasBook s
       by after =

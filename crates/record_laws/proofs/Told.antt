@@ -22,7 +22,7 @@ use Rattle.schedule_words.specs.declared.cause.Cause.TheVariants.{Heading, Unkno
 use Rattle.schedule_words.specs.Spelling.{member_words}
 use Rattle.schedule_words.specs.Words.{parts_of}
 use Rattle.schedule_text.proofs.OneLine.{event_line-one, has-join, members_word}
-use Rattle.schedule_text.proofs.SchedulesAgain.{schedule_of-text}
+use Rattle.schedule_text.proofs.SchedulesAgain.{form_one, schedule_of-text}
 use Rattle.schedule_text.specs.Progress.{Progress, Blank, Titled, Counted, Running, lines_so_far}
 use Rattle.schedule_text.specs.Reading as schedule
 use Rattle.schedule_text.specs.Spelling.{AllMayStand, IsSchedule, event_line, schedule_lines, schedule_text}
@@ -85,7 +85,7 @@ schedule_are_lines s h =
     let few : s.peers ≤ 31 = h.peers.1 in
     let peers = has-join 10 (codes "peers" ∷ decimal s.peers ∷ []) (omega arith) (has-letters 10 (codes "peers") (omega arith) refl, omega arith, (has-decimal 10 s.peers (omega arith) (omega arith), length-decimal s.peers (omega arith), tt)) in
     let view = has-join 10 (codes "view" ∷ member_words s.view) (omega arith) (has-letters 10 (codes "view") (omega arith) refl, omega arith, members_word 10 1 s.peers s.view (omega arith) few h.view.0) in
-    (refl, (peers, (view, events_lines s.peers s.events few h.events)))
+    (form_one s.form, (peers, (view, events_lines s.peers s.events few h.events)))
 
 printed_lines : (printed : List Printed) → AllByRecursion LineFits printed → AreLines (map line_text printed)
 printed_lines [] h = tt
@@ -117,9 +117,9 @@ neither false e f q h = cc h
 -- the line `answers` is none of a schedule
 not_answers : (p q : Progress) → schedule.next_line p answers_line ≡ Ok q → ⊥
 not_answers Blank q h = neither (lines_so_far Blank == schedule.most_lines) Lines (Bad (lines_so_far Blank + 1) (cause_number Heading)) q h
-not_answers Titled q h = neither (lines_so_far Titled == schedule.most_lines) Lines (Bad (lines_so_far Titled + 1) (cause_number Heading)) q h
-not_answers (Counted peers) q h = neither (lines_so_far (Counted peers) == schedule.most_lines) Lines (Bad (lines_so_far (Counted peers) + 1) (cause_number Heading)) q h
-not_answers (Running peers view events) q h = neither (lines_so_far (Running peers view events) == schedule.most_lines) Lines (Bad (lines_so_far (Running peers view events) + 1) (cause_number Unknown)) q h
+not_answers (Titled form) q h = neither (lines_so_far (Titled form) == schedule.most_lines) Lines (Bad (lines_so_far (Titled form) + 1) (cause_number Heading)) q h
+not_answers (Counted form peers) q h = neither (lines_so_far (Counted form peers) == schedule.most_lines) Lines (Bad (lines_so_far (Counted form peers) + 1) (cause_number Heading)) q h
+not_answers (Running form peers view events) q h = neither (lines_so_far (Running form peers view events) == schedule.most_lines) Lines (Bad (lines_so_far (Running form peers view events) + 1) (cause_number Unknown)) q h
 
 schedule_line : (p q : Progress) (text : List ℕ) → schedule.next_line p text ≡ Ok q → next_stage (Before p) text ≡ Ok (Before q)
 schedule_line p q text e = by (same_bytes text answers_line) refl

@@ -54,7 +54,7 @@ in_kept (y ∷ ys) kept x at = by (in_kept ys (added kept y) x at)
 
 -- ---- no end but the last has a cause
 
-no_clash : (strings : List (List ℕ)) (now : Account) (kept new : List ℕ) → HasClashed strings nothing_hashed kept new now → HasNoClash strings → ⊥
+pub no_clash : (strings : List (List ℕ)) (now : Account) (kept new : List ℕ) → HasClashed strings nothing_hashed kept new now → HasNoClash strings → ⊥
 no_clash strings now kept new has apart = has.1.differ (apart kept new (Contains_from_in strings kept kept_in) (Contains_from_in strings new new_in) has.1.same)
   where
     book : now.kept ≡ Some (record { strings = once has.0.before; limit = 1073741824 })

@@ -1,7 +1,6 @@
 -- How a replay ends, for each way in which the run of its schedule ends.
-use Rattle.std.proofs.Common.{◌≡◌, ◌<◌, ◌^◌, ℕ, Bool, true, false, not, length, List, [], ◌∷◌, ◌++◌, Option, None, Some, Result, Ok, Err, refl, sym, subst, ◌∙◌, inl, inr, arith, string_bytes}
+use Rattle.std.proofs.Common.{◌≡◌, ◌<◌, ◌^◌, ℕ, length, List, [], ◌∷◌, ◌++◌, Option, None, Some, Result, Ok, Err, refl, sym, subst, ◌∙◌, inl, inr, arith, string_bytes}
 use Rattle.std.specs.Prelude.{IfOk, IfSome, codes}
-use Rattle.std.proofs.lemmas.Bool.{false≢true}
 use Rattle.calm_runs.proofs.Histories.{histories_in_order}
 use Rattle.calm_runs.proofs.Schedules.{calls_complete}
 use Rattle.calm_runs.specs.Calm.{RunsUndisturbed}
@@ -14,9 +13,8 @@ use Rattle.held_stores.proofs.Books.{filled_beyond, kept_once}
 use Rattle.held_stores.specs.Held.{Account, account, HasHashed, HasNoClash, HasTaken}
 use Rattle.held_stores.specs.Laws.{HasClashed, HasFilled}
 use Rattle.schedule_input.specs.declared.ending.Ending.{Ending}
-use Rattle.schedule_premise.proofs.Searches.{none_passes}
-use Rattle.schedule_premise.proofs.Soundness.{unreverted_is_none}
-use Rattle.schedule_premise.specs.Premise.{first_unsound, fails, is_reverted, keeps_majority, views_named}
+use Rattle.schedule_premise.proofs.Soundness.{majority_firm, named_in, none_is_sound, unreverted_is_none}
+use Rattle.schedule_premise.specs.Premise.{first_unsound}
 use Rattle.schedule_text.specs.Reading.{schedule_of}
 use Rattle.schedule_text.specs.Spelling as schedule
 use Rattle.schedule_text.specs.declared.event.ScheduleEvent.TheVariants as line
@@ -31,20 +29,16 @@ use Rattle.replay.proofs.Stops.{passes_whole, rejects_whole}
 pub forward_sound : (s : Schedule) → schedule.IsSchedule s → ((peer changes : ℕ) → line.Revert peer changes ∈ s.events → ⊥) → first_unsound s ≡ None
 forward_sound s of none = unreverted_is_none s of (λ p reverted. none p reverted.0 reverted.1)
 
--- of each view that a sound schedule names more than half of the members are never reverted
-firm_lines : (s : Schedule) → first_unsound s ≡ None → AreFirm (lines_of s.view s.events)
-firm_lines s sound view named = kept (keeps_majority (is_reverted s.events) view) (none_passes (fails (is_reverted s.events)) (views_named s) sound view named)
-  where
-    kept : (b : Bool) → not b ≡ false → b ≡ true
-    kept true is = refl
-    kept false is = absurd (false≢true (sym is))
+-- of each view that a sound schedule names more than half of the members have seals or are never reverted
+firm_lines : (s : Schedule) → schedule.IsSchedule s → first_unsound s ≡ None → AreFirm (lines_of s.form s.view s.events)
+firm_lines s of sound view named = majority_firm s view of (none_is_sound s sound) (named_in s view named)
 
 -- a sound schedule of whose strings no two clash has legal histories, its answers have causes, and if nothing
 -- disturbs it each call is completed
 sound_legal : (s : Schedule) → schedule.IsSchedule s → first_unsound s ≡ None → HasNoClash (hashed_by s) → HasLegalHistories s × HasCausedAnswers s × CompletesCalls s
 sound_legal s of sound apart = (
-  schedules_are_legal s.peers s.view s.events of.peers.1 of.view.1 few (firm_lines s sound) of.events of.distinct apart,
-  schedules_have_causes s.peers s.view s.events of.peers.1 of.view.1 few (firm_lines s sound) of.events of.distinct apart,
+  schedules_are_legal s.form s.peers s.view s.events of.peers.1 of.view.1 few (firm_lines s of sound) of.events of.distinct apart,
+  schedules_have_causes s.form s.peers s.view s.events of.peers.1 of.view.1 few (firm_lines s of sound) of.events of.distinct apart,
   λ undisturbed within. let runs : RunsUndisturbed s = record { schedule = of; undisturbed = undisturbed; within = within; apart = apart } in (calls_complete s runs, histories_in_order s runs),
 )
   where

@@ -71,7 +71,7 @@ module _ (s : Schedule) where
   module _ (done : List ScheduleEvent) (line : ScheduleEvent) (rest : List ScheduleEvent) (are : s.events ≡ done ++ line ∷ rest) where
     -- the whole run goes on from the run after the line
     goes_on : IsFurther (applied line (run_after s done)) (schedule_run s)
-    goes_on = subst (λ (w : Run). IsFurther (applied line (run_after s done)) w) (sym (ap (λ (lines : List ScheduleEvent). run_from lines (opening_run s.peers s.view)) are ∙ run_parts done line rest (opening_run s.peers s.view)))
+    goes_on = subst (λ (w : Run). IsFurther (applied line (run_after s done)) w) (sym (ap (λ (lines : List ScheduleEvent). run_from lines (opening_run s.form s.peers s.view)) are ∙ run_parts done line rest (opening_run s.form s.peers s.view)))
         (run_grows rest (applied line (run_after s done)))
 
     line_strings : StartsWith ((run_after s done).hashed ++ hashed_in s done line) (hashed_by s)
@@ -79,12 +79,12 @@ module _ (s : Schedule) where
 
   pub passes_whole : (first : Account) → PassesLimit s first → IsPastMessages (schedule_run s)
   passes_whole first p =
-      let past : IsPastMessages (applied p.line (run_after s p.done)) = subst IsPastMessages (run_last p.done p.line (opening_run s.peers s.view)) p.past in
+      let past : IsPastMessages (applied p.line (run_after s p.done)) = subst IsPastMessages (run_last p.done p.line (opening_run s.form s.peers s.view)) p.past in
       omega (arith, past, (goes_on p.done p.line p.came.rest p.came.are).sent)
 
   -- a string of a line that was rejected is one of the run
   pub rejects_whole : (first now : Account) (e : WorldError) → RejectsIn s first (λ strings mid. IsCutOff strings mid now e) → IsCutOff (hashed_by s) first now e
-  rejects_whole first now e (inl cut) = cut_off_further (run_after s []).hashed (hashed_by s) first now e (run_grows s.events (opening_run s.peers s.view)).hashed cut
+  rejects_whole first now e (inl cut) = cut_off_further (run_after s []).hashed (hashed_by s) first now e (run_grows s.events (opening_run s.form s.peers s.view)).hashed cut
   rejects_whole first now e (inr (done, line, mid, came, cut)) =
       cut_off_further ((run_after s done).hashed ++ hashed_in s done line) (hashed_by s) first now e (line_strings done line came.rest came.are)
       (cut_off_after (run_after s done).hashed (hashed_in s done line) first mid now e came.has cut)
@@ -99,7 +99,7 @@ pub record Doing (s : Schedule) (place : ℕ) (first : Account) (now : Run) (mid
   pub within : IsWithinMessages (run_after s (take place s.events))
   pub has : HasHashed (run_after s (take place s.events)).hashed first mid
 
-pub doing_first : (s : Schedule) (first : Account) (now : Run) (mid : Account) → now ≡ unhashed (opening_run s.peers s.view) → HasHashed (opening_run s.peers s.view).hashed first mid → Doing s 0 first now mid
+pub doing_first : (s : Schedule) (first : Account) (now : Run) (mid : Account) → now ≡ unhashed (opening_run s.form s.peers s.view) → HasHashed (opening_run s.form s.peers s.view).hashed first mid → Doing s 0 first now mid
 doing_first s first now mid is has = record { is = is; many = rw is (length-replicate {A = _} s.peers _); within = omega arith; has = has }
 
 module _ (s : Schedule) (place : ℕ) (first : Account) (now : Run) (mid : Account) (event : ScheduleEvent) (here : slice_get s.events place ≡ Some event) (old : Doing s place first now mid) where
@@ -111,7 +111,7 @@ module _ (s : Schedule) (place : ℕ) (first : Account) (now : Run) (mid : Accou
 
   -- the run after the line, with the strings before it in front
   line_after : in_front (run_after s done).hashed (applied event (unhashed (run_after s done))) ≡ run_after s (done ++ event ∷ [])
-  line_after = sym (run_last done event (opening_run s.peers s.view) ∙ after_strings event (run_after s done))
+  line_after = sym (run_last done event (opening_run s.form s.peers s.view) ∙ after_strings event (run_after s done))
 
   next_after : run_after s (done ++ event ∷ []) ≡ run_after s (take (place + 1) s.events)
   next_after = ap (λ (lines : List ScheduleEvent). run_after s lines) (sym (take_one s.events place event here))
@@ -136,13 +136,13 @@ module _ (s : Schedule) (place : ℕ) (first : Account) (now : Run) (mid : Accou
   stops_in r G e later and same may = errs (StopsIn s first later) r G e and same (stops later e may)
 
 -- an error before the first line was passed on
-pub opening_stops : (s : Schedule) (first now : Account) (e : WorldError) → IsCutOff (opening_run s.peers s.view).hashed first now e → StopsIn s first now e
+pub opening_stops : (s : Schedule) (first now : Account) (e : WorldError) → IsCutOff (opening_run s.form s.peers s.view).hashed first now e → StopsIn s first now e
 opening_stops s first now MessageLimit cut = absurd cut
 opening_stops s first now Memory cut = inl tt
 opening_stops s first now (Clash kept new) cut = inl cut
 opening_stops s first now (BookFull bytes) cut = inl cut
 
-pub opening_stops_in : {T : Type 0} (s : Schedule) (first now : Account) (r : Result T WorldError) (G : WorldError → Type 0) (e : WorldError) → IsErrAnd r G → ((d : WorldError) → G d → d ≡ e) → IsCutOff (opening_run s.peers s.view).hashed first now e → IfErr r (StopsIn s first now)
+pub opening_stops_in : {T : Type 0} (s : Schedule) (first now : Account) (r : Result T WorldError) (G : WorldError → Type 0) (e : WorldError) → IsErrAnd r G → ((d : WorldError) → G d → d ≡ e) → IsCutOff (opening_run s.form s.peers s.view).hashed first now e → IfErr r (StopsIn s first now)
 opening_stops_in s first now r G e and same cut = errs (StopsIn s first now) r G e and same (opening_stops s first now e cut)
 
 -- the world after the last line

@@ -12,7 +12,7 @@ use Rattle.world_spec.specs.Runs.{Run, unhashed}
 
 -- the run of a schedule after these lines of it
 abbrev pub run_after : Schedule → List ScheduleEvent → Run
-run_after s lines = run_of_schedule s.peers s.view lines
+run_after s lines = run_of_schedule s.form s.peers s.view lines
 
 -- the strings that a line hashes, after these lines
 abbrev pub hashed_in : Schedule → List ScheduleEvent → ScheduleEvent → List (List ℕ)

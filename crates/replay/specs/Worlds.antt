@@ -5,4 +5,4 @@ use Rattle.world_spec.specs.Runs.{Run}
 
 -- the run of a schedule, in a world with all its peers
 abbrev pub schedule_run : Schedule → Run
-schedule_run s = run_of_schedule s.peers s.view s.events
+schedule_run s = run_of_schedule s.form s.peers s.view s.events
