@@ -7,7 +7,7 @@ use Rattle.ens_base.specs.declared.peer_words.ClusterWords.{ClusterWords}
 use Rattle.ens_outside.specs.declared.errors.LinkError.{LinkError}
 use Rattle.cluster_spec.proofs.Recorded.{recorded_run}
 use Rattle.cluster_spec.specs.Messages.{AllRecorded, MayBeRecorded, mail_before}
-use Rattle.cluster_spec.specs.Recordings.{Recording, frame_out, frames_of, recorded}
+use Rattle.cluster_spec.specs.Recordings.{Recording, frame_out, frames_of, recorded, recorded_form}
 use Rattle.frame_index.specs.declared.index.FrameIndex.{FrameIndex}
 use Rattle.held_stores.specs.Held.{Account, HasHashed}
 use Rattle.replay.proofs.Stops.{Doing, doing_last, doing_next, stops}
@@ -69,7 +69,7 @@ module _ {L : Type 0} (sent : L → Option (List (ℕ × List ℕ))) (given : L 
 
       -- the run before the event
       run_then : run_before w next ≡ r.run
-      run_then = ap (run_of_schedule w.peers w.view) (without_the_last r.events event) ∙ sym reached.is
+      run_then = ap (run_of_schedule recorded_form w.peers w.view) (without_the_last r.events event) ∙ sym reached.is
 
       came : IsWithinMessages (schedule_run c.schedule) → CameThere first w next
       came within = inr (record { mid = mid; within = subst IsWithinMessages (run_is ∙ sym run_then) within; has = subst (λ (v : Run). HasHashed v.hashed first mid) (sym run_then) reached.took })
@@ -93,7 +93,7 @@ module _ {L : Type 0} (sent : L → Option (List (ℕ × List ℕ))) (given : L 
         due = recorded_schedule w next
 
         run_at : run_after due (take (length r.events) due.events) ≡ r.run
-        run_at = ap (run_of_schedule w.peers w.view) (take_front r.events (event ∷ [])) ∙ sym reached.is
+        run_at = ap (run_of_schedule recorded_form w.peers w.view) (take_front r.events (event ∷ [])) ∙ sym reached.is
 
         doing : Doing due (length r.events) first (run_of c.world) mid
         doing = record {

@@ -3,6 +3,7 @@ use Rattle.std.proofs.Common.{◌≡◌, ◌≤◌, ◌<◌, ◌+◌, ◌∙◌,
 use Rattle.std.specs.Prelude.{IfErr, IsErrAnd}
 use Rattle.std.proofs.lemmas.List.{length-map, length-replicate}
 use Rattle.ens_base.specs.declared.peer_words.ClusterWords.{ClusterWords}
+use Rattle.cluster_spec.specs.Recordings.{recorded_form}
 use Rattle.cluster_spec.proofs.Mails.{Posts, applied_posts, mail_before_is, posted_mail, sent_after, sent_before}
 use Rattle.cluster_spec.specs.Messages.{AllRecorded, IsRecorded, MayBeRecorded, mail_before}
 use Rattle.frame_index.specs.Indexes.{Indexes, queue_at}
@@ -38,7 +39,7 @@ abbrev pub and_event : Schedule → ScheduleEvent → Schedule
 and_event s event = record s { events = s.events ++ event ∷ [] }
 
 pub run_and_event : (s : Schedule) (event : ScheduleEvent) → schedule_run (and_event s event) ≡ applied event (schedule_run s)
-run_and_event s event = run_last s.events event (opening_run s.peers s.view)
+run_and_event s event = run_last s.events event (opening_run s.form s.peers s.view)
 
 -- what was hashed before makes no difference
 unhashed_after : (event : ScheduleEvent) (v : Run) → unhashed (applied event (unhashed v)) ≡ unhashed (applied event v)
@@ -149,15 +150,15 @@ opening_refused w first now (Err s) G e and same cut = subst (λ (x : Stop). IsU
 -- ---- the peers have just started
 
 abbrev schedule_with : ClusterWords → List ScheduleEvent → Schedule
-schedule_with w events = record { peers = w.peers; view = w.view; events = events }
+schedule_with w events = record { form = recorded_form; peers = w.peers; view = w.view; events = events }
 
 pub opened_schedule : (w : ClusterWords) (events : List ScheduleEvent) → events ≡ [] → schedule_with w events ≡ recorded_schedule w (opening w)
 opened_schedule w events none = ap (schedule_with w) none
 
-no_strings : (peers : ℕ) (view : List ℕ) (w : World) → run_of w ≡ unhashed (opening_run peers view) → length w.peers.items ≡ peers
+no_strings : (peers : ℕ) (view : List ℕ) (w : World) → run_of w ≡ unhashed (opening_run recorded_form peers view) → length w.peers.items ≡ peers
 no_strings peers view w is = sym (many_peers w) ∙ ap peers_in is ∙ length-replicate {A = _} peers _
 
-pub opening_step : (w : ClusterWords) (c : Recorder) → c.schedule ≡ recorded_schedule w (opening w) → run_of c.world ≡ unhashed (opening_run w.peers w.view) → ((bytes : List ℕ) → queue_at c.index bytes ≡ []) → IsInStep c (mail_in c)
+pub opening_step : (w : ClusterWords) (c : Recorder) → c.schedule ≡ recorded_schedule w (opening w) → run_of c.world ≡ unhashed (opening_run recorded_form w.peers w.view) → ((bytes : List ℕ) → queue_at c.index bytes ≡ []) → IsInStep c (mail_in c)
 opening_step w c same is none = record {
   world = is ∙ ap (λ (s : Schedule). unhashed (schedule_run s)) (sym same);
   many = no_strings w.peers w.view c.world is ∙ ap (λ (s : Schedule). s.peers) (sym same);

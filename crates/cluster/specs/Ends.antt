@@ -7,7 +7,7 @@ use Rattle.ens_base.specs.declared.peer_words.ClusterWords.{ClusterWords}
 use Rattle.ens_base.specs.declared.status.Status.{Status}
 use Rattle.cluster_script.specs.Scripts.{IsScript, ended, next_line, script_of}
 use Rattle.cluster_script.specs.declared.line.ScriptLine.{ScriptLine}
-use Rattle.cluster_spec.specs.Recordings.{Follows, IsPart, Recording, frames_of, nothing_recorded}
+use Rattle.cluster_spec.specs.Recordings.{Follows, IsPart, Recording, frames_of, nothing_recorded, recorded_form}
 use Rattle.held_stores.specs.Held.{Account, HasHashed}
 use Rattle.line_reading.specs.Reading.{WasCutOff}
 use Rattle.replay.specs.Jobs.{PrintsWith, nothing_hashed}
@@ -33,7 +33,7 @@ opening w = nothing_recorded w.peers w.view
 
 -- what was recorded, as a schedule
 abbrev pub recorded_schedule : ClusterWords → Recording → Schedule
-recorded_schedule w r = record { peers = w.peers; view = w.view; events = r.events }
+recorded_schedule w r = record { form = recorded_form; peers = w.peers; view = w.view; events = r.events }
 
 -- all but the last
 abbrev pub without_last : {A : Type 0} → List A → List A
@@ -43,7 +43,7 @@ without_last (x ∷ y ∷ more) = x ∷ without_last (y ∷ more)
 
 -- the run of the lines before the one that was recorded last
 abbrev pub run_before : ClusterWords → Recording → Run
-run_before w r = run_of_schedule w.peers w.view (without_last r.events)
+run_before w r = run_of_schedule recorded_form w.peers w.view (without_last r.events)
 
 -- the messages that were sent before the line that was recorded last, as they are handed to the link
 abbrev pub frames_before : ClusterWords → Recording → List (ℕ × List ℕ)

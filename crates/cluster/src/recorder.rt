@@ -19,7 +19,7 @@ use ens_hashing::Hasher16;
 use ens_outside::{Link, LinkError};
 use frame_index::FrameIndex;
 use replay::run_text;
-use schedule_text::{Schedule, ScheduleEvent, write_schedule};
+use schedule_text::{Form, Schedule, ScheduleEvent, write_schedule};
 use std::alloc::{AllocError, Global};
 use std::thread::Threads;
 use world_model::World;
@@ -51,6 +51,7 @@ impl Recorder {
     {
         let events = Seq::new(Vec::new(alloc));
         let schedule = Schedule {
+            form: Form::Two,
             peers: words.peers,
             view: words.view,
             events,

@@ -22,7 +22,7 @@ use Rattle.schedule_text.specs.Spelling.{call_ids, event_line, event_words}
 use Rattle.schedule_text.specs.declared.error.ScheduleError.{ScheduleError}
 use Rattle.schedule_text.specs.declared.error.ScheduleError.TheVariants.{Lines}
 use Rattle.schedule_text.specs.declared.event.ScheduleEvent.{ScheduleEvent}
-use Rattle.schedule_text.specs.declared.event.ScheduleEvent.TheVariants.{Call, Tick, Deliver, Pass, Lose, Calm, CalmAmong, Change, Stop, Start, Spoil, Damage, Inner, Revert, Fail}
+use Rattle.schedule_text.specs.declared.event.ScheduleEvent.TheVariants.{Call, Tick, Deliver, Pass, Lose, Calm, CalmAmong, Change, Stop, Start, Upgrade, Deepen, Spoil, Damage, Inner, Revert, Fail}
 use Rattle.schedule_text.proofs.EventsRead.{event_of-ok}
 use Rattle.schedule_text.proofs.Ids.{distinct_with}
 use Rattle.schedule_text.proofs.OneLine.{event_are_words}
@@ -50,6 +50,8 @@ scripted_words (CalmAmong members) first words same is = no_word _ first _ words
 scripted_words (Change peer view) first words same is = tt
 scripted_words (Stop peer) first words same is = tt
 scripted_words (Start peer) first words same is = tt
+scripted_words (Upgrade peer) first words same is = no_word _ first _ words refl same is
+scripted_words Deepen first words same is = no_word _ first _ words refl same is
 scripted_words (Spoil peer key bytes) first words same is = no_word _ first _ words refl same is
 scripted_words (Damage peer key bytes) first words same is = no_word _ first _ words refl same is
 scripted_words (Inner peer level index bytes) first words same is = no_word _ first _ words refl same is
@@ -68,6 +70,8 @@ words_again (CalmAmong members) are = parts_of-join 32 _ _ are
 words_again (Change peer view) are = parts_of-join 32 _ _ are
 words_again (Stop peer) are = parts_of-join 32 _ _ are
 words_again (Start peer) are = parts_of-join 32 _ _ are
+words_again (Upgrade peer) are = parts_of-join 32 _ _ are
+words_again Deepen are = parts_of-join 32 _ _ are
 words_again (Spoil peer key bytes) are = parts_of-join 32 _ _ are
 words_again (Damage peer key bytes) are = parts_of-join 32 _ _ are
 words_again (Inner peer level index bytes) are = parts_of-join 32 _ _ are

@@ -9,7 +9,7 @@ use Rattle.schedule_text.specs.declared.event.ScheduleEvent.TheVariants.{Call, T
 use Rattle.wire_frames.specs.declared.frame.Frame.{Frame}
 use Rattle.world_spec.specs.Lines.{applied, call_of}
 use Rattle.world_spec.specs.Nodes.{Node, started, stopped, taken}
-use Rattle.world_spec.specs.Runs.{Run, frame_from, place_of, posted_all, received_if, stepped, stepped_at, ticked}
+use Rattle.world_spec.specs.Runs.{Run, mode_at, frame_from, place_of, posted_all, received_if, stepped, stepped_at, ticked}
 use Rattle.world_spec.proofs.Growth.{changed_mail}
 use Rattle.cluster_spec.specs.Messages.{MayBeRecorded, mail_before}
 
@@ -61,7 +61,7 @@ applied_posts peers (Deliver message) w may =
     received_posts (slice_get w.mail.sent (message - 1)) at.0 (message - 1) w at.1
 applied_posts peers (Change peer view) w may = stepped_posts peer (events.Change view) w
 applied_posts peers (Stop peer) w may = posts_none w.mail (applied (Stop peer) w).mail (changed_mail peer stopped w)
-applied_posts peers (Start peer) w may = posts_none w.mail (applied (Start peer) w).mail (changed_mail peer (started w.view) w)
+applied_posts peers (Start peer) w may = posts_none w.mail (applied (Start peer) w).mail (changed_mail peer (started (mode_at peer w) w.view) w)
 applied_posts peers event w may = absurd may.0
 
 -- ---- the messages that were sent

@@ -3,7 +3,7 @@ use Rattle.std.proofs.Common.{◌≡◌, ◌∙◌, ◌+◌, ℕ, List, [], ◌�
 use Rattle.cluster_script.specs.declared.line.ScriptLine.{ScriptLine}
 use Rattle.cluster_script.specs.declared.line.ScriptLine.TheVariants.{Event, Turn}
 use Rattle.cluster_script.specs.Scripts.{script_events}
-use Rattle.cluster_spec.specs.Recordings.{Follows, IsRunOf, Recording, delivering, found, heard, heard_all, recorded, without_deliveries}
+use Rattle.cluster_spec.specs.Recordings.{Follows, IsRunOf, Recording, delivering, found, heard, heard_all, recorded, recorded_form, without_deliveries}
 use Rattle.schedule_text.specs.declared.event.ScheduleEvent.{ScheduleEvent}
 use Rattle.schedule_text.specs.declared.event.ScheduleEvent.TheVariants.{Deliver}
 use Rattle.world_spec.specs.Lines.{applied, run_from}
@@ -15,7 +15,7 @@ run_last (e ∷ lines) line w = run_last lines line (applied e w)
 
 module _ (peers : ℕ) (view : List ℕ) where
   pub recorded_run : (event : ScheduleEvent) (r : Recording) → IsRunOf peers view r → IsRunOf peers view (recorded event r)
-  recorded_run event r is = ap (applied event) is ∙ sym (run_last r.events event (opening_run peers view))
+  recorded_run event r is = ap (applied event) is ∙ sym (run_last r.events event (opening_run recorded_form peers view))
 
   pub delivering_run : (n : Option ℕ) (r : Recording) → IsRunOf peers view r → IsRunOf peers view (delivering n r)
   delivering_run None r is = is

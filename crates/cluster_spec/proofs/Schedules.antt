@@ -1,19 +1,18 @@
--- What was recorded is a schedule that reverts no tree.
+-- What was recorded is a schedule.
 use Rattle.std.proofs.Common.{◌≡◌, ◌≤◌, ◌+◌, ◌∙◌, ℕ, List, [], ◌∷◌, ◌++◌, length, Option, None, refl, sym, ap, subst, inl, inr}
 use Rattle.ens_base.specs.Lists.{AreDistinct, ◌∈◌}
 use Rattle.ens_base.specs.View.{IsView}
 use Rattle.cluster_script.specs.Scripts.{IsScript, script_events}
 use Rattle.cluster_script.specs.declared.line.ScriptLine.{ScriptLine}
 use Rattle.cluster_script.specs.declared.line.ScriptLine.TheVariants.{Event, Turn}
-use Rattle.schedule_premise.proofs.Soundness.{unreverted_is_none}
 use Rattle.schedule_premise.specs.Premise.{first_unsound}
 use Rattle.schedule_text.specs.Spelling.{AllMayStand, IsSchedule, call_ids}
 use Rattle.schedule_text.specs.declared.event.ScheduleEvent.{ScheduleEvent}
-use Rattle.schedule_text.specs.declared.event.ScheduleEvent.TheVariants.{Call, Deliver, Revert}
+use Rattle.schedule_text.specs.declared.event.ScheduleEvent.TheVariants.{Call, Deliver}
 use Rattle.schedule_text.specs.declared.schedule.Schedule.{Schedule}
 use Rattle.schedule_words.specs.Spelling.{AreMembers}
-use Rattle.cluster_spec.specs.Messages.{AllRecorded, IsRecorded}
-use Rattle.cluster_spec.specs.Recordings.{Follows, IsPart, Recording, nothing_recorded, without_deliveries}
+use Rattle.cluster_spec.specs.Messages.{AllRecorded}
+use Rattle.cluster_spec.specs.Recordings.{Follows, IsPart, Recording, nothing_recorded, recorded_form, without_deliveries}
 use Rattle.cluster_spec.proofs.Recorded.{keeps_script}
 
 -- ---- the ids of calls
@@ -64,19 +63,11 @@ all_stand : (peers : ℕ) (events : List ScheduleEvent) → AllRecorded peers ev
 all_stand peers [] all = tt
 all_stand peers (event ∷ events) all = (all.0.1, all_stand peers events all.1)
 
-no_revert : (peer changes : ℕ) (event : ScheduleEvent) → IsRecorded event → Revert peer changes ≡ event → ⊥
-no_revert peer changes event is same = subst IsRecorded (sym same) is
-
-none_reverts : (peers peer changes : ℕ) (events : List ScheduleEvent) → AllRecorded peers events → Revert peer changes ∈ events → ⊥
-none_reverts peers peer changes [] all m = m
-none_reverts peers peer changes (event ∷ events) all (inl same) = no_revert peer changes event all.0.0 same
-none_reverts peers peer changes (event ∷ events) all (inr m) = none_reverts peers peer changes events all.1 m
-
 module _ (peers : ℕ) (view : List ℕ) (script part : List ScriptLine) (looks : List (Option (List ℕ))) (r : Recording)
     (few : (1 ≤ peers) × (peers ≤ 31)) (members : AreMembers peers view × IsView view) (is : IsScript peers script) (is_part : IsPart part script)
     (follows : Follows part looks (nothing_recorded peers view) r) (all : AllRecorded peers r.events) (lines : length r.events + 3 ≤ 200000) where
   abbrev schedule : Schedule
-  schedule = record { peers = peers; view = view; events = r.events }
+  schedule = record { form = recorded_form; peers = peers; view = view; events = r.events }
 
   same_ids : call_ids r.events ≡ call_ids (script_events part)
   same_ids = sym (ids_kept r.events) ∙ ap call_ids (keeps_script part looks (nothing_recorded peers view) r follows) ∙ ids_kept (script_events part)
@@ -90,5 +81,6 @@ module _ (peers : ℕ) (view : List ℕ) (script part : List ScriptLine) (looks 
   pub recorded_is : IsSchedule schedule
   recorded_is = record { peers = few; view = members; events = all_stand peers r.events all; distinct = distinct; lines = lines }
 
+  -- every start has sealing on, so nothing is asked of trees that are put back
   pub recorded_sound : first_unsound schedule ≡ None
-  recorded_sound = unreverted_is_none schedule recorded_is (λ p reverted. none_reverts peers p reverted.0 r.events all reverted.1)
+  recorded_sound = refl

@@ -6,6 +6,8 @@ use Rattle.frame_index.specs.Indexes.{is_spelled}
 use Rattle.network.specs.Mail.{oldest}
 use Rattle.schedule_text.specs.declared.event.ScheduleEvent.{ScheduleEvent}
 use Rattle.schedule_text.specs.declared.event.ScheduleEvent.TheVariants.{Deliver}
+use Rattle.schedule_text.specs.declared.form.Form.{Form}
+use Rattle.schedule_text.specs.declared.form.Form.TheVariants.{Two}
 use Rattle.wire_frames.specs.Frames.{frame_spelling}
 use Rattle.wire_frames.specs.declared.frame.Frame.{Frame}
 use Rattle.world_spec.specs.Lines.{applied, run_of_schedule}
@@ -21,9 +23,13 @@ pub record Recording : Type 0 where
   pub events : List ScheduleEvent
   pub run : Run
 
+-- the form of the schedule that a cluster records: every start has sealing on
+abbrev pub recorded_form : Form
+recorded_form = Two
+
 -- nothing is recorded yet: so many peers opened with this view
 abbrev pub nothing_recorded : ℕ → List ℕ → Recording
-nothing_recorded peers view = record { events = []; run = opening_run peers view }
+nothing_recorded peers view = record { events = []; run = opening_run recorded_form peers view }
 
 -- one more event is recorded, and applied
 abbrev pub recorded : ScheduleEvent → Recording → Recording
@@ -80,4 +86,4 @@ frames_of w = map frame_out w.mail.sent
 
 -- the run that was recorded is that of the events, as a schedule
 abbrev pub IsRunOf : ℕ → List ℕ → Recording → Type 0
-IsRunOf peers view r = r.run ≡ run_of_schedule peers view r.events
+IsRunOf peers view r = r.run ≡ run_of_schedule recorded_form peers view r.events

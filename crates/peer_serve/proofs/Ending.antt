@@ -38,7 +38,7 @@ use Rattle.peer_serve.specs.DiskPeers.{KeepsNodes, KeepsObjects, Of, OnDisks, di
 use Rattle.peer_serve.specs.Faults.{Between, IsCause, IsStoreCause, peer_status, status_of}
 use Rattle.peer_serve.specs.Saves.{IsOneOf, LeavesFacts, Saves, no_saves, saved_in, saves_at, saves_in}
 use Rattle.peer_serve.specs.Serving.{Interrupted, Served, saves_of, saves_until}
-use Rattle.peer_serve.specs.Starting.{Began, Opened, Unstarted, saved_at_start}
+use Rattle.peer_serve.specs.Starting.{Began, Opened, Unstarted, saved_at_start, served_mode}
 use Rattle.peer_serve.specs.Turning.{Broke, Fell, FellAt, Looked, Looking, Place, RanInto, Ticked, Took, TurnsBroke, TurnsMade, events_before, looks_at}
 use Rattle.peer_serve.specs.declared.disks.Disks.{Disks}
 use Rattle.peer_serve.specs.declared.error.ServeError.{ServeError}
@@ -123,18 +123,18 @@ module _ {D : Type 0} (seen : D → Option (List ℕ)) (may_leave : D → List �
       (λ d known moments. told_less (seen d) (λ (file : List ℕ). IsAtRest seen may_leave first.0.facts.slots × (file_kept first.0.facts ≡ file_fact file)) (Q d) (λ file held. less d file (opened_rests d file first held moments)) known.0)
       opened.facts opened.moments
 
-  start_left : (view : List ℕ) (disks : Disks D) (first end : OnDisks D) (status : Status) → Opened seen may_leave moment left_since faults disks first → (into : RanInto Does Refuses status (start_of view) first end)
-      → Of disks.facts (λ d. Told (seen d) (λ file. LeavesFacts may_leave moment left_since d end.0.facts.slots.disk file (saves_in Does Refuses (start_of view) first [] (Stopped into.error) end into.notes into.ran)))
+  start_left : (view : List ℕ) (disks : Disks D) (first end : OnDisks D) (status : Status) → Opened seen may_leave moment left_since faults disks first → (into : RanInto Does Refuses status (start_of served_mode view) first end)
+      → Of disks.facts (λ d. Told (seen d) (λ file. LeavesFacts may_leave moment left_since d end.0.facts.slots.disk file (saves_in Does Refuses (start_of served_mode view) first [] (Stopped into.error) end into.notes into.ran)))
   start_left view disks first end status opened into =
-      facts_told disks first (λ (d : D) (file : List ℕ). LeavesFacts may_leave moment left_since d end.0.facts.slots.disk file (saves_in Does Refuses (start_of view) first [] (Stopped into.error) end into.notes into.ran))
-      (λ d file rests. run_left seen may_leave moment left_since faults counts_now d file (start_of view) first [] (Stopped into.error) end into.notes into.ran [] rests) opened
+      facts_told disks first (λ (d : D) (file : List ℕ). LeavesFacts may_leave moment left_since d end.0.facts.slots.disk file (saves_in Does Refuses (start_of served_mode view) first [] (Stopped into.error) end into.notes into.ran))
+      (λ d file rests. run_left seen may_leave moment left_since faults counts_now d file (start_of served_mode view) first [] (Stopped into.error) end into.notes into.ran [] rests) opened
 
   -- a start that was stopped by a fault of the stores
-  start_cause : (view : List ℕ) (disks : Disks D) (first end : OnDisks D) → Opened seen may_leave moment left_since faults disks first → RanInto Does Refuses statuses.StoreFault (start_of view) first end → IsStoreCause faults disks (disks_under end.0) end.0.facts
-  start_cause view disks first end opened into = from_disks disks first end opened (stopped_caused seen may_leave moment left_since faults (start_of view) first [] into.error end into.notes into.ran into.is)
+  start_cause : (view : List ℕ) (disks : Disks D) (first end : OnDisks D) → Opened seen may_leave moment left_since faults disks first → RanInto Does Refuses statuses.StoreFault (start_of served_mode view) first end → IsStoreCause faults disks (disks_under end.0) end.0.facts
+  start_cause view disks first end opened into = from_disks disks first end opened (stopped_caused seen may_leave moment left_since faults (start_of served_mode view) first [] into.error end into.notes into.ran into.is)
 
   -- the peer did not start
-  pub unstarted : (w : PeerWords) (disks : Disks D) (first end : OnDisks D) (e : ServeError) → Opened seen may_leave moment left_since faults disks first → RanInto Does Refuses (status_of e) (start_of w.view) first end
+  pub unstarted : (w : PeerWords) (disks : Disks D) (first end : OnDisks D) (e : ServeError) → Opened seen may_leave moment left_since faults disks first → RanInto Does Refuses (status_of e) (start_of served_mode w.view) first end
       → Unstarted seen may_leave moment left_since faults w (status_of e) disks (disks_under end.0)
   unstarted w disks first end serves.Store opened into = record { first = first; opened = opened; end = end; stops = into; disks_end = refl; facts = start_left w.view disks first end statuses.StoreFault opened into; cause = start_cause w.view disks first end opened into }
   unstarted w disks first end serves.Link opened into = absurd (never_link into.error into.is)
@@ -145,7 +145,7 @@ module _ {D : Type 0} (seen : D → Option (List ℕ)) (may_leave : D → List �
     later_from : (a b : Point (OnDisks D) L) (looks : List (Option (List ℕ))) (events : List Event) → (began : Began seen may_leave moment left_since faults w disks a.state a.stores) → Took Does Refuses sent given w.me looks events a b → Later faults began.first b.stores
     later_from a b looks events began took =
         did_keeps Does Refuses (Later faults began.first) (on_later began.first) w.me took.deeds a.state b.state a.stores b.stores took.went.did
-        (run_keeps Does Refuses (Later faults began.first) (on_later began.first) (start_of w.view) began.first [] a.state nothing a.stores [] began.starts (later_none faults began.first))
+        (run_keeps Does Refuses (Later faults began.first) (on_later began.first) (start_of served_mode w.view) began.first [] a.state nothing a.stores [] began.starts (later_none faults began.first))
 
     fell_cause : (a m b : Point (OnDisks D) L) (looks : List (Option (List ℕ))) (events : List Event) (last : Option Event) → (began : Began seen may_leave moment left_since faults w disks a.state a.stores) → Took Does Refuses sent given w.me looks events a m
         → Fell Does Refuses sent given w.me statuses.StoreFault last m b → IsStoreCause faults disks (disks_under b.stores.0) b.stores.0.facts
@@ -171,13 +171,13 @@ module _ {D : Type 0} (seen : D → Option (List ℕ)) (may_leave : D → List �
     all_keep : (I : OnDisks D → Type 0) → ((s t : OnDisks D) (call : Call) (r : AnswerOf call) → Does s call r t → I s → I t) → (a b : Point (OnDisks D) L) (looks : List (Option (List ℕ))) (events : List Event) → (began : Began seen may_leave moment left_since faults w disks a.state a.stores)
         → Took Does Refuses sent given w.me looks events a b → I began.first → I b.stores
     all_keep I keeps a b looks events began took holds =
-        did_keeps Does Refuses I keeps w.me took.deeds a.state b.state a.stores b.stores took.went.did (run_keeps Does Refuses I keeps (start_of w.view) began.first [] a.state nothing a.stores [] began.starts holds)
+        did_keeps Does Refuses I keeps w.me took.deeds a.state b.state a.stores b.stores took.went.did (run_keeps Does Refuses I keeps (start_of served_mode w.view) began.first [] a.state nothing a.stores [] began.starts holds)
 
     facts_left : (a b : Point (OnDisks D) L) (looks : List (Option (List ℕ))) (events : List Event) → (began : Began seen may_leave moment left_since faults w disks a.state a.stores) → Took Does Refuses sent given w.me looks events a b
         → IsAtRest seen may_leave began.first.0.facts.slots → (c : List ℕ) → may_leave b.stores.0.facts.slots.disk c → file_fact c ≡ Some (Ok (saved_by b.state))
     facts_left a b looks events began took at_rest =
         crash_leaves b.stores (saved_by b.state)
-        (steps_keep seen may_leave moment left_since faults w.me took.deeds a.state b.state a.stores b.stores took.went.did (start_keeps seen may_leave moment left_since faults w.view began.first a.stores a.state began.starts at_rest))
+        (steps_keep seen may_leave moment left_since faults w.me took.deeds a.state b.state a.stores b.stores took.went.did (start_keeps seen may_leave moment left_since faults served_mode w.view began.first a.stores a.state began.starts at_rest))
 
     -- after the steps the file of facts rests
     facts_rest : (a b : Point (OnDisks D) L) (looks : List (Option (List ℕ))) (events : List Event) → (began : Began seen may_leave moment left_since faults w disks a.state a.stores) → (took : Took Does Refuses sent given w.me looks events a b) (d : D) (file : List ℕ)
@@ -186,7 +186,7 @@ module _ {D : Type 0} (seen : D → Option (List ℕ)) (may_leave : D → List �
         (saved_at_start seen may_leave moment left_since faults w disks a.state a.stores began ++ saved_in Does Refuses w.me a.state a.stores took.deeds b.state b.stores took.went.did) b.stores
     facts_rest a b looks events began took d file rests =
         steps_rest seen may_leave moment left_since faults counts_now d file w.me a.state a.stores took.deeds b.state b.stores took.went.did (saved_at_start seen may_leave moment left_since faults w disks a.state a.stores began)
-        (run_rests seen may_leave moment left_since faults counts_now d file (start_of w.view) began.first [] a.state nothing a.stores [] began.starts [] rests)
+        (run_rests seen may_leave moment left_since faults counts_now d file (start_of served_mode w.view) began.first [] a.state nothing a.stores [] began.starts [] rests)
 
     all_left : (a b : Point (OnDisks D) L) (looks : List (Option (List ℕ))) (events : List Event) (began : Began seen may_leave moment left_since faults w disks a.state a.stores) (took : Took Does Refuses sent given w.me looks events a b) (d : D) (file : List ℕ)
         → Rests seen may_leave moment left_since faults counts_now d file [] began.first

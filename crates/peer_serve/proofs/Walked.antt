@@ -6,7 +6,7 @@ use Rattle.peer_plan.specs.Drives.{step_of}
 use Rattle.peer_plan.specs.TreeCalls.{TreeDoes, Walks, end_of}
 use Rattle.peer_state.specs.declared.state.State.{State}
 use Rattle.register_model.specs.declared.note.Note.{Note}
-use Rattle.step_plans.specs.Calls.{Call, FreshTree, OpenTree, Find, Enter, ScanTree, ReadNode, Install, AnswerOf}
+use Rattle.step_plans.specs.Calls.{Call, FreshTree, OpenTree, Root, Find, Enter, ScanTree, ReadNode, Install, AnswerOf}
 use Rattle.step_plans.specs.Plans.{Plan, Done, Say, Ask, Out, Finished, Runs}
 use Rattle.step_plans.specs.declared.error.PeerError.{PeerError}
 use Rattle.step_plans.specs.declared.walked.Walked.TheVariants as walks
@@ -41,6 +41,7 @@ module _ {N H : Type 0} (does : N × H → (call : TreeCall) → TreeAnswer call
   pub tree_keeps : (s t : Tree N × H) (call : Call) (a : AnswerOf call) → TreeDoes does s call a t → I (s.0.store, s.1) → I (t.0.store, t.1)
   tree_keeps s t FreshTree a did holds = from_some t.0.top (λ (root : List ℕ). Walks does (fresh_plan (form_of One)) s (Ok root) t) did (λ root walks. walk_keeps (fresh_plan (form_of One)) s t (Ok root) walks holds)
   tree_keeps s t (OpenTree seal) a did holds = walk_keeps open_plan s t (Ok did.0) did.1 holds
+  tree_keeps s t Root a did holds = subst (λ (y : H). I (t.0.store, y)) (sym did.2) (subst (λ (x : Tree N). I (x.store, s.1)) (sym did.1) holds)
   tree_keeps s t (Find key) a did holds = walk_keeps (get_plan (form_of One) s.0.top key) s t (end_of a) did.0 holds
   tree_keeps s t (Enter entry) (walks.Reached x) did holds =
       from_some t.0.top (λ (root : List ℕ). Walks does (insert_plan (form_of One) s.0.top entry) s (Ok root) t) did (λ root walks. walk_keeps (insert_plan (form_of One) s.0.top entry) s t (Ok root) walks holds)

@@ -1,5 +1,5 @@
 -- How a peer starts on its disks.
-use Rattle.std.specs.Prelude.{◌≡◌, ◌⊎◌, ℕ, List, [], Option, None}
+use Rattle.std.specs.Prelude.{◌≡◌, ◌⊎◌, ℕ, true, List, [], Option, None}
 use Rattle.disk_log.specs.LogFiles.{IsClean}
 use Rattle.disk_log.specs.Records.{entries_of}
 use Rattle.disk_stores.specs.DiskCalls.{HoldsNodes, HoldsObjects}
@@ -11,6 +11,7 @@ use Rattle.fact_store.specs.Files.{file_kept}
 use Rattle.fact_store.specs.Keeping.{file_fact}
 use Rattle.peer_fact.specs.declared.saved.SavedFact.{SavedFact}
 use Rattle.peer_plan.specs.Starts.{start_of}
+use Rattle.peer_state.specs.declared.state.Mode.{Mode}
 use Rattle.peer_state.specs.declared.state.State.{State}
 use Rattle.slot_disk.specs.Crash.{LeavesOnly, SeenIn, Told}
 use Rattle.slot_disk.specs.SlotFiles.{IsAtRest}
@@ -20,6 +21,10 @@ use Rattle.peer_serve.specs.Faults.{Between, DiskRose, IsCause, IsStoreCause}
 use Rattle.peer_serve.specs.Saves.{LeavesFacts, Saves, saves_in}
 use Rattle.peer_serve.specs.Turning.{RanInto}
 use Rattle.peer_serve.specs.declared.disks.Disks.{Disks}
+
+-- how a peer on disks is started: it keeps a seal
+abbrev pub served_mode : Mode
+served_mode = record { sealing = true }
 
 module _ {D : Type 0} (seen : D → Option (List ℕ)) (may_leave : D → List ℕ → Type 0) (moment : D → ℕ) (left_since : D → ℕ → List ℕ → Type 0) (faults : D → ℕ) where
   -- The logs of nodes and objects were opened, and no fault was counted. The root of the tree is not
@@ -65,7 +70,7 @@ module _ {D : Type 0} (seen : D → Option (List ℕ)) (may_leave : D → List �
   pub record Began (w : PeerWords) (disks : Disks D) (x : State) (s : OnDisks D) : Type 0 where
     pub first : OnDisks D
     pub opened : Opened disks first
-    pub starts : Runs (disks_do seen may_leave moment left_since faults) (disks_refuse seen may_leave moment left_since faults) (start_of w.view) first [] (Finished x nothing) s []
+    pub starts : Runs (disks_do seen may_leave moment left_since faults) (disks_refuse seen may_leave moment left_since faults) (start_of served_mode w.view) first [] (Finished x nothing) s []
 
   -- what a crash leaves of a disk of facts that told its bytes, and these stores are on it now
   abbrev pub FactsLeft : Disks D → OnDisks D → Saves → Type 0
@@ -74,16 +79,16 @@ module _ {D : Type 0} (seen : D → Option (List ℕ)) (may_leave : D → List �
   -- the facts that the start saved
   abbrev pub saved_at_start : (w : PeerWords) (disks : Disks D) (x : State) (s : OnDisks D) → Began w disks x s → List SavedFact
   saved_at_start w disks x s began =
-      (saves_in (disks_do seen may_leave moment left_since faults) (disks_refuse seen may_leave moment left_since faults) (start_of w.view) began.first [] (Finished x nothing) s [] began.starts).saved
+      (saves_in (disks_do seen may_leave moment left_since faults) (disks_refuse seen may_leave moment left_since faults) (start_of served_mode w.view) began.first [] (Finished x nothing) s [] began.starts).saved
 
   -- the peer opened its stores, and its start was stopped
   pub record Unstarted (w : PeerWords) (status : Status) (disks disks_after : Disks D) : Type 0 where
     pub first : OnDisks D
     pub opened : Opened disks first
     pub end : OnDisks D
-    pub stops : RanInto (disks_do seen may_leave moment left_since faults) (disks_refuse seen may_leave moment left_since faults) status (start_of w.view) first end
+    pub stops : RanInto (disks_do seen may_leave moment left_since faults) (disks_refuse seen may_leave moment left_since faults) status (start_of served_mode w.view) first end
     pub disks_end : disks_after ≡ disks_under end.0
-    pub facts : FactsLeft disks end (saves_in (disks_do seen may_leave moment left_since faults) (disks_refuse seen may_leave moment left_since faults) (start_of w.view) first [] (Stopped stops.error) end stops.notes stops.ran)
+    pub facts : FactsLeft disks end (saves_in (disks_do seen may_leave moment left_since faults) (disks_refuse seen may_leave moment left_since faults) (start_of served_mode w.view) first [] (Stopped stops.error) end stops.notes stops.ran)
     pub cause : IsCause (IsStoreCause faults disks disks_after end.0.facts) ⊥ status
 
   -- the peer made no turn

@@ -11,7 +11,7 @@ use disk_stores::{DiskBackend, DiskNodes};
 use ens_base::{PeerWords, Refused};
 use ens_hashing::PlainHasher;
 use fact_store::FactFile;
-use peer_core::{Peer, Stores};
+use peer_core::{Mode, Peer, Stores};
 use slot_disk::Disk;
 use std::alloc::Global;
 use synctree::Tree;
@@ -102,7 +102,8 @@ pub(crate) fn start<D: Disk>(
     ensures refused { IfErr result (λ r. IsRefused D.seen D.may_leave D.moment D.left_since D.fault_count words.now (status_of r.error) (all_there disks) (all_there r.held)) }
 {
     let stores = open(alloc, disks)?;
-    match Peer::start(alloc, words.me, words.view, stores, &mut PlainHasher) {
+    let mode = Mode { sealing: true };
+    match Peer::start(alloc, words.me, words.view, mode, stores, &mut PlainHasher) {
         Ok(peer) => Ok(peer),
         Err(refused) => Err(Refused {
             error: peer_error(refused.error),
