@@ -1,0 +1,4 @@
+mod Numbered
+mod Counting
+mod Refusing
+pub mod Scripts

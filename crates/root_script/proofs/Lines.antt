@@ -1,0 +1,74 @@
+-- The words of a line, taken from its front.
+use Rattle.std.proofs.Common.{◌≡◌, ℕ, ◌+◌, ◌<◌, ◌≤◌, ◌==◌, ◌||◌, nat_lt, Bool, true, false, if◌then◌else◌, List, [], ◌∷◌, ◌++◌, length, codes, map, Option, Some, None, Result, Ok, Err, refl, sym, ap, ◌∙◌, arith, lit<}
+use Rattle.std.proofs.lemmas.Bool.Decides.{nat_tests}
+use Rattle.schedule_words.specs.Words.{words_of}
+use Rattle.schedule_words.specs.declared.cause.Cause.{Cause}
+use Rattle.schedule_words.specs.declared.cause.Cause.TheVariants.{Unknown, Words}
+use Rattle.schedule_words.proofs.Joined.{has, parts_of-more}
+use Rattle.schedule_text.specs.Events.{event_of, line_limit, words_event}
+use Rattle.schedule_text.specs.declared.event.ScheduleEvent.{ScheduleEvent}
+use Rattle.schedule_text.proofs.Lookups.{find_word}
+use Rattle.root_script.specs.Events.{at_of, in_ensemble, is_barred, keyword_event, own_event, root_event_of, words_root_event}
+use Rattle.root_script.specs.Keywords.{keyword_of, keyword_word, keywords, lone_cause}
+use Rattle.root_script.specs.declared.event.RootEvent.{RootEvent}
+use Rattle.root_script.specs.declared.keyword.Keyword.{Keyword}
+use Rattle.root_script.specs.declared.keyword.Keyword.TheVariants as line
+use Rattle.root_script.proofs.Splits.{parts_of_some}
+
+not_long : (n : ℕ) → n ≤ line_limit → nat_lt line_limit n ≡ false
+not_long n h = grind (arith, nat_tests)
+
+-- a line that is not too long is read by its words
+pub by_words : (peers : ℕ) (text : List ℕ) → length text ≤ line_limit → event_of peers text ≡ words_event peers (words_of text)
+by_words peers text h = rw (not_long (length text) h) refl
+
+-- ---- behind `at`
+
+pub own_barred : (peers : ℕ) (words : List (List ℕ)) (first : List ℕ) (more : List (List ℕ)) → words ≡ first ∷ more → is_barred first ≡ true → own_event peers words ≡ Err Unknown
+own_barred peers words first more e h = ap (own_event peers) e ∙ rw h refl
+
+pub own_plain : (peers : ℕ) (words : List (List ℕ)) (first : List ℕ) (more : List (List ℕ)) → words ≡ first ∷ more → is_barred first ≡ false → own_event peers words ≡ words_event peers words
+own_plain peers words first more e h = ap (own_event peers) e ∙ rw h (ap (words_event peers) (sym e))
+
+pub at_lone : (peers : ℕ) (words : List (List ℕ)) (word : List ℕ) → words ≡ word ∷ [] → at_of peers words ≡ Err Words
+at_lone peers words word e = ap (at_of peers) e
+
+pub at_words : (peers : ℕ) (words : List (List ℕ)) (word text : List ℕ) → words ≡ word ∷ words_of text → at_of peers words ≡ in_ensemble word (own_event peers (words_of text))
+at_words peers words word text e =
+    let some = parts_of_some 32 text in
+    ap (at_of peers) (e ∙ ap (λ (ws : List (List ℕ)). word ∷ ws) some.2) ∙ sym (ap (λ (ws : List (List ℕ)). in_ensemble word (own_event peers ws)) some.2)
+
+-- ---- a call
+
+pub call_words : (text : List ℕ) → words_of (codes "call " ++ text) ≡ codes "call" ∷ words_of text
+call_words text = parts_of-more 32 (codes "call") text refl
+
+-- ---- the keyword
+
+pub lone_word : (peers : ℕ) (words : List (List ℕ)) (word : List ℕ) (keyword : Option Keyword) → words ≡ word ∷ [] → keyword_of word ≡ keyword → words_root_event peers words ≡ Err (lone_cause keyword)
+lone_word peers words word keyword e h = ap (words_root_event peers) e ∙ by keyword h
+  where
+    -- no keyword stands alone
+    nothing : (k : Keyword) → keyword_event peers k [] ≡ Err Words
+    nothing line.At = refl
+    nothing line.Open = refl
+    nothing line.Look = refl
+    nothing line.Route = refl
+
+    by : (keyword : Option Keyword) → keyword_of word ≡ keyword → words_root_event peers (word ∷ []) ≡ Err (lone_cause keyword)
+    by None h = rw h refl
+    by (Some k) h = rw h (nothing k)
+
+-- a line of one word, which is not too long
+pub lone_line : (peers : ℕ) (text : List ℕ) → length text ≤ line_limit → words_of text ≡ text ∷ [] → root_event_of peers text ≡ Err (lone_cause (keyword_of text))
+lone_line peers text short lone = rw (not_long (length text) short) (lone_word peers (words_of text) text (keyword_of text) lone refl)
+
+pub no_keyword : (peers : ℕ) (words : List (List ℕ)) (first : List ℕ) (more : List (List ℕ)) → words ≡ first ∷ more → keyword_of first ≡ None → words_root_event peers words ≡ Err Unknown
+no_keyword peers words first more e h = ap (words_root_event peers) e ∙ rw h refl
+
+pub with_keyword : (peers : ℕ) (words : List (List ℕ)) (first : List ℕ) (more : List (List ℕ)) (keyword : Keyword) → words ≡ first ∷ more → keyword_of first ≡ Some keyword
+    → words_root_event peers words ≡ keyword_event peers keyword more
+with_keyword peers words first more keyword e h = ap (words_root_event peers) e ∙ rw h refl
+
+pub length-keyword : (first : List ℕ) (keyword : Keyword) → keyword_of first ≡ Some keyword → length (keyword_word keyword) ≡ length first
+length-keyword first keyword h = sym (ap (λ (l : List ℕ). length l) (find_word keyword_word keywords first keyword h))
