@@ -1,15 +1,18 @@
 -- The map of a log after a put, and after one that failed.
-use Rattle.std.proofs.Common.{◌≡◌, ℕ, ◌+◌, ◌<◌, ◌≤◌, ◌^◌, List, ◌++◌, length, take, Option, Some, sym, ap, ◌∙◌, arith}
+use Rattle.std.proofs.Common.{◌≡◌, ◌≢◌, ℕ, ◌+◌, ◌<◌, ◌≤◌, ◌^◌, List, ◌++◌, length, take, Option, Some, sym, ap, ◌∙◌, subst, arith}
 use Rattle.std.proofs.lemmas.List.{length-take}
 use Rattle.std.specs.BTreeMap.{get}
 use Rattle.ens_base.specs.Lists.{bytes_cmp}
-use Rattle.ens_outside.specs.Maps.{Entries, with_value}
+use Rattle.ens_outside.specs.Maps.{Entries, value_at, with_value}
+use Rattle.ens_outside.proofs.MapLaws.{found_after, others_after}
 use Rattle.disk_log.specs.Records.{record_bytes}
 use Rattle.disk_log.specs.LogFiles.{Begins}
 use Rattle.disk_log.specs.Logs.{Holds}
+use Rattle.disk_log.specs.Recents.{Remembers}
 use Rattle.disk_log.specs.declared.file.LogFile.{LogFile}
 use Rattle.disk_log.specs.declared.log.Log.{Log}
 use Rattle.disk_log.specs.declared.place.Place.{Place}
+use Rattle.disk_log.specs.declared.recent.Recent.{Recent}
 use Rattle.disk_log.proofs.Fronts.{record_reads, record_size, record_holds}
 use Rattle.disk_log.proofs.RecordLaws.{ReadsAs, entries_more}
 use Rattle.disk_log.proofs.Indexing.{Places, index_more, index_same}
@@ -19,12 +22,15 @@ front_size seen f bytes on = ap length (sym on.front) ∙ (let e : length (take 
 
 pub put_holds : {D : Type 0} (seen : D → Option (List ℕ)) (old new : Log D) (es : Entries) (name content : List ℕ) (p : Place) → Holds seen old es → length name ≤ 255 → length content < 2 ^ 64
     → ((front : List ℕ) → Begins seen old.file front → Begins seen new.file (front ++ record_bytes name content)) → p.at ≡ old.file.end + 10 + length name → p.len ≡ length content
-    → Places name (Some p) old.places new.places → Holds seen new (with_value name content es)
-put_holds seen old new es name content p holds short small appends at len places = record {
+    → Places name (Some p) old.places new.places
+    → ((before after : Entries) → Remembers old.recent.slots.items before → value_at name after ≡ Some content → ((q : List ℕ) → q ≢ name → value_at q after ≡ value_at q before) → Remembers new.recent.slots.items after)
+    → Holds seen new (with_value name content es)
+put_holds seen old new es name content p holds short small appends at len places keeps = record {
   bytes = holds.bytes ++ chunk;
   on = appends holds.bytes holds.on;
   indexed = index_more holds.bytes chunk name content p old.places new.places holds.indexed reads
       (record { at = omega (arith, at, front_size seen old.file holds.bytes holds.on); len = len; size = record_size name content; holds = record_holds name content }) places;
+  recent = keeps es (with_value name content es) holds.recent (found_after name content es) (λ q other. others_after name q content es other);
   map = entries_more holds.bytes chunk name content holds.indexed.whole reads ∙ ap (with_value name content) holds.map;
 }
   where
@@ -36,10 +42,11 @@ put_holds seen old new es name content p holds short small appends at len places
 
 -- a call that left the log and the places of the index as they were
 pub keeps_holds : {D : Type 0} (seen : D → Option (List ℕ)) (old new : Log D) (es : Entries) → Holds seen old es → ((front : List ℕ) → Begins seen old.file front → Begins seen new.file front)
-    → ((q : List ℕ) → get bytes_cmp new.places q ≡ get bytes_cmp old.places q) → Holds seen new es
-keeps_holds seen old new es holds stays same = record {
+    → ((q : List ℕ) → get bytes_cmp new.places q ≡ get bytes_cmp old.places q) → new.recent ≡ old.recent → Holds seen new es
+keeps_holds seen old new es holds stays same kept = record {
   bytes = holds.bytes;
   on = stays holds.bytes holds.on;
   indexed = index_same old.places new.places holds.bytes same holds.indexed;
+  recent = subst (λ (r : Recent). Remembers r.slots.items es) (sym kept) holds.recent;
   map = holds.map;
 }

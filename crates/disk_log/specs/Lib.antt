@@ -1,4 +1,5 @@
 pub mod Records
 pub mod LogFiles
 pub mod Logs
+pub mod Recents
 pub mod Scans

@@ -9,6 +9,7 @@ use Rattle.ens_base.specs.Causes.{Rose}
 use Rattle.ens_base.specs.declared.refused.Refused.{Refused}
 use Rattle.disk_log.specs.Records.{entries_of, IsWhole}
 use Rattle.disk_log.specs.LogFiles.{Begins}
+use Rattle.disk_log.specs.Recents.{Remembers}
 use Rattle.disk_log.specs.declared.place.Place.{Place}
 use Rattle.disk_log.specs.declared.log.Log.{Log}
 
@@ -27,6 +28,7 @@ pub record Holds {D : Type 0} (seen : D → Option (List ℕ)) (log : Log D) (es
   pub bytes : List ℕ
   pub on : Begins seen log.file bytes
   pub indexed : Indexes log.places bytes
+  pub recent : Remembers log.recent.slots.items es
   pub map : entries_of bytes ≡ es
 
 -- the disk of an opened log, or the one that a failed call hands back

@@ -13,6 +13,7 @@ mod header;
 mod laws;
 mod log;
 mod place;
+mod recent;
 mod scan;
 
 pub use file::LogFile;

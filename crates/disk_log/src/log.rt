@@ -10,6 +10,7 @@ ghost use Rattle.disk_log.specs.Records.{entries_of};
 use crate::file::LogFile;
 use crate::header::spell;
 use crate::place::Place;
+use crate::recent::Recent;
 use crate::scan::scan_and_cut;
 use ens_base::{Bytes, Refused};
 use ens_outside::StoreError;
@@ -21,13 +22,15 @@ use std::collections::BTreeMap;
 pub const NAME_LIMIT: usize = 255;
 
 /// A finite map from names to bytes on a disk. Names have at most 255 bytes. The log grows with each
-/// put and is never rewritten.
+/// put and is never rewritten. Contents that were put lately are kept in memory too, and found there
+/// without a call of the disk.
 #[derive(Drop)]
 pub struct Log<D: Disk> {
     alloc: Global,
     file: LogFile<D>,
     places: BTreeMap<Bytes, Place>,
     record: Vec<u8>,
+    recent: Recent,
 }
 
 /// Puts the place that a name had, or none, back into the index.
@@ -76,6 +79,7 @@ impl<D: Disk> Log<D> {
                 },
                 places: index.places,
                 record: Vec::new(alloc),
+                recent: Recent::new(alloc),
             }),
             Err(error) => Err(Refused { error, held: disk }),
         }
@@ -87,7 +91,7 @@ impl<D: Disk> Log<D> {
     ///
     /// `Failed` only if the fault count of the disk rose; `Memory` when out of memory, before
     /// anything is read.
-    pub fn find(&mut self, alloc: Global, name: &Bytes) -> Result<Option<Vec<u8>>, StoreError>
+    pub fn find(&mut self, alloc: Global, name: &[u8]) -> Result<Option<Vec<u8>>, StoreError>
         ensures found { IfOk result (λ o. (es : Entries) → Holds D.seen self.old es → bytes_of o ≡ value_at name.now es) }
         ensures holds { (es : Entries) → Holds D.seen self.old es → Holds D.seen self.new es }
         ensures clean { IsClean self.old.file → IsClean self.new.file }
@@ -95,7 +99,11 @@ impl<D: Disk> Log<D> {
         ensures good { OnOk result (D.fault_count self.new.file.disk ≡ D.fault_count self.old.file.disk) }
         ensures counts { StoreCounts (D.fault_count self.old.file.disk) (D.fault_count self.new.file.disk) result }
     {
-        let Some(place) = self.places.get(name) else {
+        if let Some(content) = self.recent.find(name) {
+            return Ok(Some(Vec::from_slice(alloc, content)?));
+        }
+        let name = Bytes::from_slice(alloc, name)?;
+        let Some(place) = self.places.get(&name) else {
             return Ok(None);
         };
         let place = *place;
@@ -129,7 +137,10 @@ impl<D: Disk> Log<D> {
         let again = name.copy(self.alloc)?;
         let before = self.places.insert(name, place)?;
         match self.file.append(&self.record) {
-            Ok(()) => Ok(()),
+            Ok(()) => {
+                self.recent.keep(again, content);
+                Ok(())
+            }
             Err(_failed) => {
                 restore(&mut self.places, &again, before);
                 Err(StoreError::Failed)

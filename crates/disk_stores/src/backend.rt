@@ -65,8 +65,7 @@ impl<D: Disk> Backend for DiskBackend<D> {
     }
 
     fn get(&mut self, alloc: Global, key: &Key) -> Result<Option<Vec<u8>>, StoreError> {
-        let name = Bytes::from_slice(alloc, key.bytes())?;
-        self.log.find(alloc, &name)
+        self.log.find(alloc, key.bytes())
     }
 
     fn put(&mut self, alloc: Global, key: &Key, bytes: &[u8]) -> Result<(), StoreError> {

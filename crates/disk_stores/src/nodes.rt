@@ -42,7 +42,7 @@ fn read_top<D: Disk>(alloc: Global, log: &mut Log<D>) -> Result<Option<Digest>, 
     ensures good { OnOk result (D.fault_count log.new.file.disk ≡ D.fault_count log.old.file.disk) }
     ensures counts { StoreCounts (D.fault_count log.old.file.disk) (D.fault_count log.new.file.disk) result }
 {
-    let found = log.find(alloc, &Bytes::new(Vec::new(alloc)))?;
+    let found = log.find(alloc, &[])?;
     Ok(digest_of(found))
 }
 
@@ -107,8 +107,7 @@ impl<D: Disk> NodeStore for DiskNodes<D> {
     }
 
     fn read(&mut self, alloc: Global, digest: &Digest) -> Result<Option<Vec<u8>>, StoreError> {
-        let name = Bytes::from_slice(alloc, &digest.0)?;
-        self.log.find(alloc, &name)
+        self.log.find(alloc, &digest.0)
     }
 
     fn write(&mut self, alloc: Global, digest: &Digest, bytes: &[u8]) -> Result<(), StoreError> {

@@ -25,10 +25,7 @@ fn log(alloc: Global, bytes: &[u8]) -> Result<Log<MemDisk>, Fail> {
 
 /// Whether the log has these bytes under this name.
 fn finds(alloc: Global, log: &mut Log<MemDisk>, name: &[u8], content: &[u8]) -> bool {
-    let Ok(name) = Bytes::from_slice(alloc, name) else {
-        return false;
-    };
-    match log.find(alloc, &name) {
+    match log.find(alloc, name) {
         Ok(Some(held)) => held.as_slice() == content,
         Ok(None) => false,
         Err(_) => false,

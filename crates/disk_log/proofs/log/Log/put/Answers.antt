@@ -1,15 +1,17 @@
-use Rattle.std.proofs.Common.{◌≡◌, List, ℕ, length, Option, ap, ◌∙◌, subst, ◌++◌, cond, arith}
+use Rattle.std.proofs.Common.{◌≡◌, ◌≢◌, List, ℕ, length, Option, Some, refl, ap, ◌∙◌, subst, ◌++◌, cond, arith}
 use Rattle.std.specs.BTreeMap.{get, is_at}
 use Rattle.ens_base.specs.Lists.{bytes_cmp}
+use Rattle.ens_outside.specs.Maps.{Entries, value_at}
 use Rattle.disk_log.specs.Records.{record_bytes}
+use Rattle.disk_log.specs.Recents.{Remembers}
 use Rattle.disk_log.specs.LogFiles.{Begins}
 use Rattle.disk_log.specs.declared.place.Place.{Place}
 use Rattle.disk_log.proofs.Appending.{put_holds, keeps_holds}
 use Rattle.disk_log.proofs.Indexing.{restored}
 use Rattle.disk_log.proofs.log.Log.put.Goals as goal
 
-pub returns-clause-err : goal.returns-clause-err
-returns-clause-err g c es holds =
+pub returns-in-Err-clause-err : goal.returns-in-Err-clause-err
+returns-in-Err-clause-err g c es holds =
     let name = c.args.name in
     let old = c.args.self.now.places in
     let middle = c.insert.new.self in
@@ -18,6 +20,7 @@ returns-clause-err g c es holds =
     (λ q. c.restore.ensures q
     ∙ ap (λ (n : List ℕ). cond (is_at (bytes_cmp n) q) c.in_ok-before.before (get bytes_cmp middle q)) c.in_ok-again.ensures
     ∙ ap (λ (o : Option Place). cond (is_at (bytes_cmp name) q) o (get bytes_cmp middle q)) c.in_ok-before.ensures.old))
+    refl
 
 pub returns-in-Ok-clause-holds : goal.returns-in-Ok-clause-holds
 returns-in-Ok-clause-holds g c es holds =
@@ -29,3 +32,5 @@ returns-in-Ok-clause-holds g c es holds =
     put_holds g.D.Disk.seen c.args.self.now _ es name content c.in_ok-place.place holds c.requires (omega (arith, c.in_ok-place.ensures.within, placed.1))
     (λ front on. subst (λ (l : List ℕ). Begins g.D.Disk.seen c.append.new.self (front ++ l)) spelled (c.in-Ok.ensures.ok front on))
     (omega (arith, placed.0, size)) placed.1 c.in_ok-before.ensures.updates.0
+    (subst (λ (l : List ℕ). (before after : Entries) → Remembers c.args.self.now.recent.slots.items before → value_at l after ≡ Some content → ((q : List ℕ) → q ≢ l → value_at q after ≡ value_at q before) → Remembers c.keep.new.self.slots.items after)
+    c.in_ok-again.ensures c.keep.ensures)
