@@ -36,5 +36,5 @@ runs_out (Some bytes) Status.Done text free does calm = inl refl
 runs_out (Some bytes) Status.Memory text free does calm = inr refl
 runs_out (Some bytes) Status.ReadFault text free does calm = absurd (calm refl)
 runs_out (Some bytes) Status.Limit text free does calm = absurd (omega (arith, free.few, does.0))
-runs_out (Some bytes) Status.Backup text free does calm = absurd (not_both free.content does.error (sym free.passes ∙ ap check_of does.whole.known ∙ does.fails))
+runs_out (Some bytes) Status.Backup text free does calm = absurd (not_both free.content does.error (sym free.passes ∙ ap check_of does.gave.whole.known ∙ does.gave.fails))
 runs_out (Some bytes) status text free does calm = absurd does

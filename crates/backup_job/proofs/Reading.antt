@@ -1,65 +1,92 @@
 -- What a job on a backup read, and what it prints.
-use Rattle.std.proofs.Common.{◌≡◌, ◌≤◌, ◌<◌, ℕ, List, ◌++◌, length, Option, None, Some, Result, Ok, Err, refl, sym, ap, subst, ◌∙◌, arith, append-nil, length-append}
-use Rattle.std.specs.Prelude.{IfOk}
-use Rattle.std.specs.Io.KnownBytes.{IsAtEnd, Keeps, prepend_known}
+use Rattle.std.proofs.Common.{◌≡◌, ℕ, List, Option, Result, Ok, Err, refl, subst, inl}
+use Rattle.std.specs.Prelude.{IfOk, string_bytes}
+use Rattle.std.specs.Io.KnownBytes.{IsAtEnd}
+use Rattle.std.specs.declared.alloc.AllocError.{AllocError}
+use Rattle.ens_base.specs.Causes.{Rose}
 use Rattle.ens_base.specs.declared.status.Status.{Status}
-use Rattle.tree_backup.specs.Causes.{cause_of}
-use Rattle.tree_backup.specs.Checks.{Refuses}
 use Rattle.tree_backup.specs.declared.error.BackupError.{BackupError}
 use Rattle.tree_backup.specs.declared.error.BackupError.TheVariants as errors
-use Rattle.tree_backup.specs.declared.item.Content.{Content}
-use Rattle.backup_job.specs.Printed.{BeginsLong, IsWhole, PrintsCheck, Tests, Unread}
+use Rattle.backup_job.specs.Printed.{EndsAs, HasRead, PrintsCheck, Reads, Reports, Stops, Unread, memory_text}
+use Rattle.backup_job.specs.Restored.{Restored, RestoresTo}
+use Rattle.backup_job.specs.declared.checking.ReadError.{ReadError}
+use Rattle.backup_job.specs.declared.checking.ReadError.TheVariants as reads
+use Rattle.backup_job.specs.declared.disks.Pair.{Pair}
+use Rattle.backup_job.specs.declared.ending.Ending.{Ending}
 use Rattle.backup_job.specs.declared.input.InputError.{InputError}
 use Rattle.backup_job.specs.declared.input.InputError.TheVariants as inputs
 
--- the source gave these bytes and no others
-pub whole_of : (source left : Option (List ℕ)) (bytes : List ℕ) → Keeps source (prepend_known bytes left) → IsAtEnd left → length bytes ≤ 268435456 → IsWhole source bytes
-whole_of None left bytes kept end few = record { known = tt; few = few }
-whole_of (Some xs) None bytes kept end few = absurd kept
-whole_of (Some xs) (Some ys) bytes kept end few = record { known = sym kept ∙ ap (λ (l : List ℕ). bytes ++ l) end ∙ append-nil bytes; few = few }
+-- an input that was not read
+unread_prints : (source : Option (List ℕ)) (e : InputError) (status : Status) (text : List ℕ) → Reads source (Err (reads.Input e)) → Unread e status text → PrintsCheck source status text
+unread_prints source inputs.Failed Status.ReadFault text read h = h
+unread_prints source inputs.TooLong Status.Limit text read h = (read, h)
+unread_prints source e status text read h = absurd h
 
--- the source gave more bytes than a backup may have
-pub long_of : (source left : Option (List ℕ)) (bytes : List ℕ) → Keeps source (prepend_known bytes left) → 268435456 < length bytes → BeginsLong source
-long_of None left bytes kept many = tt
-long_of (Some xs) None bytes kept many = absurd kept
-long_of (Some xs) (Some ys) bytes kept many = omega (arith, ap length kept, length-append bytes ys)
+-- bytes that do not pass
+refused_prints : (source : Option (List ℕ)) (e : BackupError) (status : Status) (text : List ℕ) → Reads source (Err (reads.Backup e)) → Reports e status text → PrintsCheck source status text
+refused_prints source (errors.Damaged at) status text read h = absurd read.0
+refused_prints source errors.Failed status text read h = absurd read.0
+refused_prints source (errors.Clash first second) status text read h = absurd h
+refused_prints source (errors.BookFull n) status text read h = absurd h
+refused_prints source errors.Memory status text read h = absurd h
+refused_prints source e Status.Backup text read h = record { error = e; gave = record { bytes = read.1.0; whole = read.1.1; fails = read.1.2 }; named = h }
+refused_prints source e status text read h = absurd h
 
--- a test of all the bytes of a source
-pub tested_prints : (source : Option (List ℕ)) (bytes : List ℕ) (status : Status) (text : List ℕ) → IsWhole source bytes → Tests bytes status text → PrintsCheck source status text
-tested_prints source bytes Status.Done text whole h = record { bytes = bytes; whole = whole; content = h.0; passes = h.1; counted = h.2 }
-tested_prints source bytes Status.Backup text whole h = record { bytes = bytes; whole = whole; error = h.0; fails = h.1; named = h.2 }
-tested_prints source bytes status text whole h = absurd h
-
-pub unread_prints : (source : Option (List ℕ)) (e : InputError) (status : Status) (text : List ℕ) → (e ≡ inputs.TooLong → BeginsLong source) → Unread e status text → PrintsCheck source status text
-unread_prints source inputs.Failed Status.ReadFault text long h = h
-unread_prints source inputs.TooLong Status.Limit text long h = (long refl, h)
-unread_prints source e status text long h = absurd h
-
--- a test says which error it was, if it was none of the hasher
-pub refused_for : (e : BackupError) (checked : Result Content BackupError) → cause_of e ≤ 10 → Refuses e checked → checked ≡ Err e
-refused_for (errors.Clash first second) checked low h = absurd (omega (arith, low))
-refused_for (errors.BookFull n) checked low h = absurd (omega (arith, low))
-refused_for errors.Memory checked low h = absurd (omega (arith, low))
-refused_for e checked low h = h
+pub stopped_prints : (source : Option (List ℕ)) (e : ReadError) (status : Status) (text : List ℕ) → Reads source (Err e) → Stops e status text → PrintsCheck source status text
+stopped_prints source (reads.Input e) status text read h = unread_prints source e status text read h
+stopped_prints source (reads.Backup e) status text read h = refused_prints source e status text read h
 
 pub ok_weaker : {A E : Type 0} (r : Result A E) (P Q : A → Type 0) → ((x : A) → P x → Q x) → IfOk r P → IfOk r Q
 ok_weaker (Ok x) P Q k h = k x h
 ok_weaker (Err e) P Q k h = tt
 
-pub tested_is : (bytes : List ℕ) (status other : Status) (text : List ℕ) → (Tests bytes other text → ⊥) → Tests bytes status text → status ≡ other → ⊥
-tested_is bytes status other text none h e = none (subst (λ (s : Status). Tests bytes s text) e h)
+-- what ended a test of a source that gave no content
+done_unread : (e : ReadError) (text : List ℕ) → Stops e Status.Done text → ⊥
+done_unread (reads.Input inputs.Failed) text h = h
+done_unread (reads.Input inputs.TooLong) text h = h
+done_unread (reads.Input inputs.Memory) text h = h
+done_unread (reads.Backup e) text h = by e h
+  where
+    by : (e : BackupError) → Reports e Status.Done text → ⊥
+    by errors.Failed h = h
+    by (errors.Clash first second) h = h
+    by (errors.BookFull n) h = h
+    by errors.Memory h = h
+    by e h = h
 
-pub unread_done : (e : InputError) (status : Status) (text : List ℕ) → Unread e status text → status ≡ Status.Done → ⊥
-unread_done inputs.Failed status text h is = subst (λ (s : Status). Unread inputs.Failed s text) is h
-unread_done inputs.TooLong status text h is = subst (λ (s : Status). Unread inputs.TooLong s text) is h
-unread_done inputs.Memory status text h is = subst (λ (s : Status). Unread inputs.Memory s text) is h
+pub stops_done : (e : ReadError) (status : Status) (text : List ℕ) → Stops e status text → status ≡ Status.Done → ⊥
+stops_done e status text h is = done_unread e text (subst (λ (s : Status). Stops e s text) is h)
 
-pub unread_failed : (e : InputError) (status : Status) (text : List ℕ) → Unread e status text → status ≡ Status.ReadFault → e ≡ inputs.Failed
-unread_failed inputs.Failed status text h is = refl
-unread_failed inputs.TooLong status text h is = absurd (subst (λ (s : Status). Unread inputs.TooLong s text) is h)
-unread_failed inputs.Memory status text h is = absurd (subst (λ (s : Status). Unread inputs.Memory s text) is h)
+-- an ending of this kind
+pub as_ok : (ending : Result Ending AllocError) (e : Ending) (text : List ℕ) → ending ≡ Ok e → text ≡ string_bytes e.text → EndsAs ending e.status text
+as_ok ending e text is spelled = rw is (refl, spelled)
 
-pub unread_wrote : (e : InputError) (status : Status) (text : List ℕ) → Unread e status text → status ≡ Status.WriteFault → ⊥
-unread_wrote inputs.Failed status text h is = subst (λ (s : Status). Unread inputs.Failed s text) is h
-unread_wrote inputs.TooLong status text h is = subst (λ (s : Status). Unread inputs.TooLong s text) is h
-unread_wrote inputs.Memory status text h is = subst (λ (s : Status). Unread inputs.Memory s text) is h
+pub as_err : (ending : Result Ending AllocError) (x : AllocError) → ending ≡ Err x → EndsAs ending Status.Memory memory_text
+as_err ending x is = rw is (refl, refl)
+
+memory_done : ◌≡◌ {A = Status} Status.Memory Status.Done → ⊥
+memory_done e = cc
+
+memory_fault : ◌≡◌ {A = Status} Status.Memory Status.ReadFault → ⊥
+memory_fault e = cc
+
+-- how far a job read that ends so
+pub read_as : (ending : Result Ending AllocError) (source left : Option (List ℕ)) (before now : ℕ) (status : Status) (text : List ℕ) → IfOk ending (λ e. e.status ≡ Status.Done → IsAtEnd left) → IfOk ending (λ e. e.status ≡ Status.ReadFault → Rose before now) → EndsAs ending status text → HasRead source left before now status
+read_as (Ok e) source left before now status text end fault (is, spelled) = rw is (record { end = end; fault = fault })
+read_as (Err e) source left before now status text end fault (is, spelled) = rw is (record { end = λ x. absurd (memory_done x); fault = λ x. absurd (memory_fault x) })
+
+module _ {D : Type 0} (seen : D → Option (List ℕ)) (faults : D → ℕ) where
+  -- a source that did not pass touched no disk
+  not_done : (source : Option (List ℕ)) (old : Pair D) (status : Status) (text : List ℕ) → (status ≡ Status.Done → ⊥) → PrintsCheck source status text → Restored seen faults source old old status text
+  not_done source old Status.Done text other h = absurd (other refl)
+  not_done source old Status.StoreFault text other h = absurd h
+  not_done source old Status.Memory text other h = (inl refl, h)
+  not_done source old status text other h = (h, refl)
+
+  pub not_restored : (source : Option (List ℕ)) (old : Pair D) (e : ReadError) (ending : Result Ending AllocError) → Reads source (Err e) → IfOk ending (λ x. Stops e x.status (string_bytes x.text)) → RestoresTo seen faults source old old ending
+  not_restored source old e (Ok x) read stops = not_done source old x.status (string_bytes x.text) (λ is. stops_done e x.status (string_bytes x.text) stops is) (stopped_prints source e x.status (string_bytes x.text) read stops)
+  not_restored source old e (Err x) read stops = (inl refl, refl)
+
+  pub restored_as : (source : Option (List ℕ)) (old new : Pair D) (ending : Result Ending AllocError) (status : Status) (text : List ℕ) → RestoresTo seen faults source old new ending → EndsAs ending status text → Restored seen faults source old new status text
+  restored_as source old new (Ok e) status text h (is, spelled) = rw (is, spelled) h
+  restored_as source old new (Err e) status text h (is, spelled) = rw (is, spelled) h

@@ -1,1 +1,4 @@
 pub mod Printed
+pub mod Disks
+pub mod Backed
+pub mod Restored

@@ -1,91 +1,53 @@
-ghost use Rattle.std.specs.Prelude.{◌≡◌, ◌≢◌, List, ℕ, Result, Err, IfOk, string_bytes};
+ghost use Rattle.std.specs.Prelude.{◌≡◌, ◌≢◌, ◌≤◌, List, ℕ, [], map, IfOk, IsErrOf, string_bytes};
 ghost use Rattle.std.specs.Io.KnownBytes.{Appends, IsAtEnd};
 ghost use Rattle.ens_base.specs.Causes.{Rose};
 ghost use Rattle.ens_base.specs.declared.status.Status.{Status};
 ghost use Rattle.ens_outside.specs.Written.{AppendsFront};
-ghost use Rattle.tree_backup.specs.Causes.{cause_of};
-ghost use Rattle.tree_backup.specs.Checks.{Refuses, check_of};
-ghost use Rattle.tree_backup.specs.declared.error.BackupError.{BackupError};
-ghost use Rattle.tree_backup.specs.declared.item.Content.{Content};
-ghost use Rattle.backup_job.specs.Printed.{PrintsCheck, Tests, Unread, backup_text, content_text};
+ghost use Rattle.tree_maps.specs.Entries.{IsMap};
+ghost use Rattle.tree_node.specs.Entries.{AreAbove};
+ghost use Rattle.tree_backup.specs.Items.{KeysAbove};
+ghost use Rattle.backup_job.specs.Printed.{PrintsCheck, Reads};
 
+use crate::ending::{Ending, counted, print_ending, stopped};
 use crate::input::{InputError, read_all};
 use ens_base::Status;
 use ens_hashing::PlainHasher;
-use ens_outside::{Sink, Source, finish};
+use ens_outside::{Sink, Source};
 use std::alloc::{AllocError, Global};
 use std::thread::Threads;
 use tree_backup::{BackupError, Content, check};
 use tree_verify::NoGate;
 
-/// How a job ends: its status, and the text that it prints.
+/// Why no content was read.
 #[derive(Drop)]
-struct Ending {
-    status: Status,
-    text: String,
+pub(crate) enum ReadError {
+    /// The input was not read to its end.
+    Input(InputError),
+    /// Its bytes do not pass, or out of memory.
+    Backup(BackupError),
 }
 
-/// Returns the line that counts what a backup holds.
-fn content_line(alloc: Global, content: &Content) -> Result<String, AllocError>
-    ensures { IfOk result (λ t. string_bytes t ≡ content_text content.now) }
+/// Reads a backup from the input, to its end, and returns what it holds.
+pub(crate) fn read_content<S: Source, R: Threads + Sync>(
+    rt: &R,
+    alloc: Global,
+    input: &mut S,
+) -> Result<Content, ReadError>
+    ensures reads { Reads (S.left input.old) result }
+    ensures end { IfOk result (λ _. IsAtEnd (S.left input.new)) }
+    ensures later { S.fault_count input.old ≤ S.fault_count input.new }
+    ensures failed { IsErrOf result (ReadError.Input InputError.Failed) → Rose (S.fault_count input.old) (S.fault_count input.new) }
+    ensures map { IfOk result (λ c. IsMap c.entries) }
+    ensures entries { IfOk result (λ c. AreAbove [] c.entries) }
+    ensures objects { IfOk result (λ c. KeysAbove [] (map (λ o. o.key) c.objects)) }
 {
-    let entries = content.entries.as_slice().len();
-    let objects = content.objects.as_slice().len();
-    format!(in alloc; "entries {entries} objects {objects}\n")
-}
-
-/// Returns the line of a backup that is refused for this cause.
-fn cause_line(alloc: Global, cause: u8) -> Result<String, AllocError>
-    ensures { IfOk result (λ t. string_bytes t ≡ backup_text cause) }
-{
-    format!(in alloc; "backup {cause}\n")
-}
-
-/// Returns how the test of a backup ends that does not pass. Fails when out of memory, and for an error of
-/// the hasher, which one that keeps nothing never has.
-fn refused(alloc: Global, error: &BackupError) -> Result<Ending, AllocError>
-    ensures status { IfOk result (λ e. e.status ≡ Status.Backup) }
-    ensures text { IfOk result (λ e. string_bytes e.text ≡ backup_text (cause_of error.now)) }
-    ensures error { IfOk result (λ _. (checked : Result Content BackupError) → Refuses error.now checked → checked ≡ Err error.now) }
-{
-    match error {
-        BackupError::Clash { .. } | BackupError::BookFull(_) | BackupError::Memory => {
-            Err(AllocError)
-        }
-        _ => Ok(Ending {
-            status: Status::Backup,
-            text: cause_line(alloc, error.cause())?,
-        }),
-    }
-}
-
-/// Returns how the test of these bytes ends. Fails when out of memory.
-fn tested<R: Threads + Sync>(rt: &R, alloc: Global, bytes: &[u8]) -> Result<Ending, AllocError>
-    ensures { IfOk result (λ e. Tests bytes.now e.status (string_bytes e.text)) }
-{
-    match check(rt, alloc, bytes, &mut PlainHasher, &NoGate) {
-        Ok(content) => Ok(Ending {
-            status: Status::Done,
-            text: content_line(alloc, &content)?,
-        }),
-        Err(error) => refused(alloc, &error),
-    }
-}
-
-/// Returns how a job ends that could not read a backup. Fails when out of memory.
-fn unread(alloc: Global, error: InputError) -> Result<Ending, AllocError>
-    ensures { IfOk result (λ e. Unread error e.status (string_bytes e.text)) }
-{
-    match error {
-        InputError::Failed => Ok(Ending {
-            status: Status::ReadFault,
-            text: String::from_str(alloc, "read fault\n")?,
-        }),
-        InputError::TooLong => Ok(Ending {
-            status: Status::Limit,
-            text: String::from_str(alloc, "limit backup 268435456\n")?,
-        }),
-        InputError::Memory => Err(AllocError),
+    let bytes = match read_all(alloc, input) {
+        Ok(bytes) => bytes,
+        Err(error) => return Err(ReadError::Input(error)),
+    };
+    match check(rt, alloc, &bytes, &mut PlainHasher, &NoGate) {
+        Ok(content) => Ok(content),
+        Err(error) => Err(ReadError::Backup(error)),
     }
 }
 
@@ -98,11 +60,10 @@ fn check_ending<S: Source, R: Threads + Sync>(
     ensures printed { IfOk result (λ e. PrintsCheck (S.left input.old) e.status (string_bytes e.text)) }
     ensures end { IfOk result (λ e. e.status ≡ Status.Done → IsAtEnd (S.left input.new)) }
     ensures read { IfOk result (λ e. e.status ≡ Status.ReadFault → Rose (S.fault_count input.old) (S.fault_count input.new)) }
-    ensures status { IfOk result (λ e. e.status ≢ Status.WriteFault) }
 {
-    match read_all(alloc, input) {
-        Ok(bytes) => tested(rt, alloc, &bytes),
-        Err(error) => unread(alloc, error),
+    match read_content(rt, alloc, input) {
+        Ok(content) => counted(alloc, &content),
+        Err(error) => stopped(alloc, &error),
     }
 }
 
@@ -124,8 +85,6 @@ pub fn print_check<S: Source, O: Sink, R: Threads + Sync>(
     ensures read { result ≡ Status.ReadFault → Rose (S.fault_count input.old) (S.fault_count input.new) }
     ensures write { result ≡ Status.WriteFault → Rose (O.fault_count output.old) (O.fault_count output.new) }
 {
-    match check_ending(rt, alloc, input) {
-        Ok(ending) => finish(output, ending.text.as_str(), ending.status),
-        Err(_) => finish(output, "memory\n", Status::Memory),
-    }
+    let ending = check_ending(rt, alloc, input);
+    print_ending(ending, output)
 }

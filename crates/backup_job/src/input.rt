@@ -1,7 +1,7 @@
 ghost use Rattle.std.specs.Prelude.{◌≡◌, ◌≢◌, ◌≤◌, ◌<◌, [], length, true, false, vec_len, IfOk, IfErr, OnErr, IsErrOf};
 ghost use Rattle.std.specs.Io.KnownBytes.{prepend_known, Keeps, IsAtEnd};
 ghost use Rattle.ens_base.specs.Causes.{Rose};
-ghost use Rattle.backup_job.specs.Printed.{BeginsLong};
+ghost use Rattle.backup_job.specs.Printed.{IsTooLong};
 
 use ens_base::Failed;
 use ens_outside::Source;
@@ -54,7 +54,7 @@ pub(crate) fn read_all<S: Source>(alloc: Global, input: &mut S) -> Result<Vec<u8
     ensures read { IfOk result (λ v. Keeps (S.left input.old) (prepend_known v.items (S.left input.new))) }
     ensures end { IfOk result (λ v. IsAtEnd (S.left input.new)) }
     ensures most { IfOk result (λ v. length v.items ≤ 268435456) }
-    ensures long { IsErrOf result InputError.TooLong → BeginsLong (S.left input.old) }
+    ensures long { IsErrOf result InputError.TooLong → IsTooLong (S.left input.old) }
     ensures later { S.fault_count input.old ≤ S.fault_count input.new }
     ensures failed { IsErrOf result InputError.Failed → Rose (S.fault_count input.old) (S.fault_count input.new) }
 {
