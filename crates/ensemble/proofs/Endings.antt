@@ -1,5 +1,5 @@
 -- What a job prints is what the program prints.
-use Rattle.std.proofs.Common.{◌≡◌, ℕ, true, false, List, Option, Result, Ok, Err, refl, inl, inr, sym, ap, subst, ◌∙◌, arith}
+use Rattle.std.proofs.Common.{◌≡◌, ℕ, true, false, List, Option, Result, Ok, Err, sym, ap, subst, ◌∙◌}
 use Rattle.ens_base.specs.declared.status.Status.{Status}
 use Rattle.ens_words.specs.Forms.{AskFor, Reads}
 use Rattle.ens_words.specs.declared.job.Job.{Job}
@@ -7,19 +7,20 @@ use Rattle.ens_words.specs.declared.job.Job.TheVariants.{Replay, Peer, Cluster, 
 use Rattle.ens_words.specs.declared.job.WordsError.TheVariants.{Usage}
 use Rattle.ens_words.proofs.Exactly.{job_back}
 use Rattle.ens_words.specs.Reading.{job_of}
-use Rattle.backup_job.proofs.Completing.{memory_read as check_memory_read, runs_out as check_runs_out, usage_read as check_usage_read}
+use Rattle.backup_job.proofs.Completing.{memory_read as check_memory_read, usage_read as check_usage_read}
 use Rattle.backup_job.specs.Printed.{HasRead as HasReadBackup}
-use Rattle.record_report.proofs.Printing.{runs_out as report_runs_out}
-use Rattle.replay.proofs.Completing.{memory_read, runs_out, usage_read}
-use Rattle.replay.specs.Jobs.{HasRead, RanOut}
+use Rattle.generated_laws.proofs.Short.{completed}
+use Rattle.replay.proofs.Completing.{memory_read, usage_read}
+use Rattle.replay.specs.Jobs.{HasRead}
 use Rattle.replay.specs.Summary.{EndsInSummary}
 use Rattle.schedule_generator.specs.Generated.{generate}
-use Rattle.ensemble.specs.Top.{AskForNone, AskToRead, DidRead, Does, Ends, EndsGiven, EndsUnread, GivenFor, GivenToRead, HasReadRecord, IsUnhindered, PrintsSummary, ReadsInput}
+use Rattle.ensemble.specs.Top.{AskForNone, AskToRead, DidRead, Does, Ends, EndsGiven, EndsUnread, GivenFor, GivenToRead, HasReadRecord, PrintsSummary, ReadsInput}
 use Rattle.ensemble.specs.declared.arguments.ArgumentsError.{ArgumentsError}
 use Rattle.ensemble.proofs.Recording.{record_memory, record_usage}
 
 pub summary_prints : (number calls : ℕ) (status : Status) (text : List ℕ) → EndsInSummary (generate number calls) status text → PrintsSummary number calls status text
 summary_prints number calls Status.Memory text h = absurd h
+summary_prints number calls Status.Done text h = (h, λ few apart. completed number calls few h.0 apart)
 summary_prints number calls status text h = h
 
 pub job_ends : (words : List (List ℕ)) (source : Option (List ℕ)) (job : Job) (status : Status) (text : List ℕ) → AskFor words job → Does job source status text
@@ -48,27 +49,6 @@ asked_one words job other asks also = same (sym (job_back job asks.0) ∙ ap job
   where
     same : {C : Type 0} → ◌≡◌ {A = Result Job C} (Ok job) (Ok other) → job ≡ other
     same h = cc h
-
--- a job that nothing ends early runs to its end
-unhindered : (source : Option (List ℕ)) (job : Job) (status : Status) (text : List ℕ) → IsUnhindered job source → Does job source status text → (status ≡ Status.ReadFault → ⊥) → RanOut status
-unhindered source Replay status text free does calm = runs_out source status text free does calm
-unhindered source (Peer w) status text free does calm = absurd free
-unhindered source (Cluster w) status text free does calm = absurd free
-unhindered source Audit status text free does calm = report_runs_out source status text free does calm
-unhindered source Check status text free does calm = check_runs_out source status text free does calm
-unhindered source (Generate number calls false) Status.Done text free does calm = inl refl
-unhindered source (Generate number calls false) Status.Memory text free does calm = inr refl
-unhindered source (Generate number calls false) status text free does calm = absurd does
-unhindered source (Generate number calls true) Status.Done text free does calm = inl refl
-unhindered source (Generate number calls true) Status.Memory text free does calm = inr refl
-unhindered source (Generate number calls true) Status.Limit text free does calm = absurd (omega (arith, free, does.0))
-unhindered source (Generate number calls true) status text free does calm = absurd does
-
-pub job_completes : (words : List (List ℕ)) (source : Option (List ℕ)) (status : Status) (text : List ℕ) (job : Job) → AskFor words job → IsUnhindered job source → Ends words source status text
-    → (status ≡ Status.ReadFault → ⊥) → RanOut status
-job_completes words source Status.Usage text job asks free ends calm = absurd (ends.0 job asks)
-job_completes words source Status.Memory text job asks free ends calm = inr refl
-job_completes words source status text job asks free ends calm = unhindered source job status text free (subst (λ (j : Job). Does j source status text) (asked_one words ends.0 job ends.1 asks) ends.2) calm
 
 -- words that ask for a job that reads the input ask to read
 pub asked_reads : (words : List (List ℕ)) (job : Job) → AskFor words job → ReadsInput job → AskToRead words

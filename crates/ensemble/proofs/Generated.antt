@@ -20,4 +20,4 @@ pub generated_summed : (number calls : ℕ) (summary text : List ℕ) → calls 
 generated_summed number calls summary text few h p =
     let run = schedule_run (generate number calls) in
     let ran = generated_replayed number calls Status.Done text few p in
-    h.1.2 ∙ ap (summary_text (generate number calls) run.printed) (one_text run h.1.0 text h.1.1 ran.0.1)
+    h.0.1.2 ∙ ap (summary_text (generate number calls) run.printed) (one_text run h.0.1.0 text h.0.1.1 ran.0.1)

@@ -2,3 +2,4 @@ pub mod Endings
 pub mod Generated
 pub mod Serving
 pub mod Recording
+pub mod Completing

@@ -1,6 +1,7 @@
 -- The jobs that use a link, and what they leave of the disks, the link and the ticker.
 use Rattle.std.specs.Prelude.{◌≡◌, ◌⊎◌, ℕ, Bool, List, Option, None, Some, Result}
 use Rattle.cluster.specs.Ends.{EndsOverBook}
+use Rattle.ens_base.specs.Causes.{Rose}
 use Rattle.ens_base.specs.declared.peer_words.ClusterWords.{ClusterWords}
 use Rattle.ens_base.specs.declared.peer_words.PeerWords.{PeerWords}
 use Rattle.ens_base.specs.declared.status.Status.{Status}
@@ -8,7 +9,7 @@ use Rattle.ens_words.specs.Forms.{AskFor}
 use Rattle.ens_words.specs.declared.job.Job.{Job}
 use Rattle.ens_words.specs.declared.job.Job.TheVariants.{Peer, Cluster}
 use Rattle.peer_serve.specs.Faults.{fault_text}
-use Rattle.peer_serve.specs.Serving.{Ended, Printed}
+use Rattle.peer_serve.specs.Serving.{Ended, Failed, Printed}
 use Rattle.peer_serve.specs.declared.disks.Disks.{Disks}
 use Rattle.ensemble.specs.declared.arguments.ArgumentsError.{ArgumentsError}
 use Rattle.ensemble.specs.Top.{GivenFor}
@@ -68,3 +69,14 @@ module _ {D L T : Type 0} (seen : D → Option (List ℕ)) (may_leave : D → Li
   CameToRecord disks disks_after link link_after ticker ticker_after source old new before now result w =
       HasRecorded disks disks_after link link_after ticker ticker_after source old new before now result w
       ⊎ (AreUntouched disks disks_after link link_after ticker ticker_after × Printed old new before now Status.Memory (fault_text Status.Memory) result)
+
+  -- no store of the peer failed, and its link counted no fault
+  abbrev pub StoresHold : Disks D → Disks D → L → L → T → T → PeerWords → Type 0
+  StoresHold disks disks_after link link_after ticker ticker_after w =
+      (¬ Failed seen may_leave moment left_since faults sent given link_faults coming w Status.StoreFault disks disks_after link link_after ticker ticker_after) × (¬ Rose (link_faults link) (link_faults link_after))
+
+  -- nothing outside failed under the job: under a peer neither its stores nor its link, and under a cluster not its
+  -- link
+  abbrev pub AreSound : Disks D → Disks D → L → L → T → T → Job → Type 0
+  AreSound disks disks_after link link_after ticker ticker_after job =
+      OnLink job (StoresHold disks disks_after link link_after ticker ticker_after) (λ w. ¬ Rose (link_faults link) (link_faults link_after)) (Unit {0})

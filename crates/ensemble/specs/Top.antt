@@ -1,11 +1,15 @@
 -- The jobs, and what the program prints.
-use Rattle.std.specs.Prelude.{◌≡◌, ℕ, true, false, List, [], ◌∷◌, ◌++◌, codes, Option, Result, Ok, Err, IsSomeAnd}
+use Rattle.std.specs.Prelude.{◌≡◌, ◌<◌, ℕ, true, false, List, [], ◌∷◌, ◌++◌, codes, Option, Result, Ok, Err, IsSomeAnd}
 use Rattle.std.specs.Io.KnownBytes.{IsAtEnd}
 use Rattle.ens_base.specs.Causes.{Rose}
 use Rattle.backup_job.specs.Printed.{IsCheckable, PrintsCheck}
 use Rattle.backup_job.specs.Printed.{HasRead as HasReadBackup}
-use Rattle.cluster.specs.Ends.{PrintsRecord}
+use Rattle.cluster.specs.Ends.{IsPastLines, PrintsRecord, opening, recorded_schedule}
 use Rattle.cluster.specs.Ends.{HasRead as HasReadScript}
+use Rattle.cluster_script.specs.Scripts.{script_of}
+use Rattle.cluster_script.specs.declared.line.ScriptLine.{ScriptLine}
+use Rattle.cluster_spec.specs.Recordings.{Follows, IsPart, Recording}
+use Rattle.ens_base.specs.declared.peer_words.ClusterWords.{ClusterWords}
 use Rattle.ens_base.specs.declared.peer_words.PeerWords.{PeerWords}
 use Rattle.ens_base.specs.declared.status.Status.{Status}
 use Rattle.ens_words.specs.Forms.{AskFor}
@@ -15,7 +19,9 @@ use Rattle.peer_serve.specs.Faults.{fault_text}
 use Rattle.peer_serve.specs.Serving.{counts_text}
 use Rattle.record_input.specs.Reading.{WasCutOff}
 use Rattle.record_report.specs.Printed.{IsAuditable, PrintsReport}
-use Rattle.replay.specs.Jobs.{HasRead, IsRunnable, Prints}
+use Rattle.generated_laws.specs.Completed.{CompletesAll}
+use Rattle.held_stores.specs.Held.{HasNoClash}
+use Rattle.replay.specs.Jobs.{HasRead, IsRunnable, Prints, hashed_by}
 use Rattle.replay.specs.Summary.{EndsInSummary, StaysWithin}
 use Rattle.schedule_generator.specs.Generated.{generate}
 use Rattle.schedule_text.specs.Spelling.{schedule_text}
@@ -67,9 +73,15 @@ PrintsSchedule number calls Status.Done text = text ≡ schedule_text (generate 
 PrintsSchedule number calls Status.Memory text = IsMemoryText text
 PrintsSchedule number calls status text = ⊥
 
+-- what the summary of a schedule that is generated for fewer than 500 calls counts: each of its calls is
+-- completed, if no two different strings of the run have the same MD5
+abbrev pub CountsAllDone : ℕ → ℕ → Type 0
+CountsAllDone number calls = calls < 500 → HasNoClash (hashed_by (generate number calls)) → CompletesAll (generate number calls)
+
 -- the summary of the run of that schedule
 abbrev pub PrintsSummary : ℕ → ℕ → Status → List ℕ → Type 0
 PrintsSummary number calls Status.Memory text = IsMemoryText text
+PrintsSummary number calls Status.Done text = EndsInSummary (generate number calls) Status.Done text × CountsAllDone number calls
 PrintsSummary number calls status text = EndsInSummary (generate number calls) status text
 
 -- a peer counts its frames after its last turn, or reports a fault
@@ -97,13 +109,20 @@ Ends words source Status.Usage text = AskForNone words × IsUsageText text
 Ends words source Status.Memory text = IsMemoryText text
 Ends words source status text = (job : Job) × AskFor words job × Does job source status text
 
--- Nothing ends the job early: a replay, an audit and the test of a backup have a source whose bytes are known,
--- and which nothing in them ends early; and the run that is summed up stays within the limit on messages. What
--- a peer and a cluster do rests on their link, which tells nothing beforehand.
+-- these bytes are a script, and whatever the link gives, what a part of it records is a schedule of at most
+-- 200,000 lines, of which nothing ends a replay early
+abbrev pub IsRecordable : ClusterWords → List ℕ → Type 0
+IsRecordable w bytes =
+    (script : List ScriptLine) × (script_of w.peers bytes ≡ Ok script)
+    × ((part : List ScriptLine) (looks : List (Option (List ℕ))) (r : Recording) → IsPart part script → Follows part looks (opening w) r → ¬ IsPastLines r × IsRunnable (schedule_text (recorded_schedule w r)))
+
+-- Nothing in its source ends the job early: a replay, an audit, a cluster and the test of a backup have a source
+-- whose bytes are known, and which nothing in them ends early; and the run that is summed up stays within the
+-- limit on messages. A peer reads no source.
 abbrev pub IsUnhindered : Job → Option (List ℕ) → Type 0
 IsUnhindered Replay source = IsSomeAnd source IsRunnable
-IsUnhindered (Peer words) source = ⊥
-IsUnhindered (Cluster words) source = ⊥
+IsUnhindered (Peer words) source = Unit {0}
+IsUnhindered (Cluster words) source = IsSomeAnd source (IsRecordable words)
 IsUnhindered Audit source = IsSomeAnd source IsAuditable
 IsUnhindered Check source = IsSomeAnd source IsCheckable
 IsUnhindered (Generate number calls false) source = Unit {0}

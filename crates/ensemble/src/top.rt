@@ -9,7 +9,7 @@ ghost use Rattle.ens_words.specs.Forms.{AskFor, IsJob};
 ghost use Rattle.ens_words.specs.declared.job.Job.{Job};
 ghost use Rattle.ens_words.specs.declared.job.Job.TheVariants as jobs;
 ghost use Rattle.ensemble.specs.Arguments.{words_given};
-ghost use Rattle.ensemble.specs.Peers.{AreUntouched, AskForLink, CameToRecord, CameToServe, GivenForLink, HasRecorded, HasServed, OnLink};
+ghost use Rattle.ensemble.specs.Peers.{AreSound, AreUntouched, AskForLink, CameToRecord, CameToServe, GivenForLink, HasRecorded, HasServed, OnLink};
 ghost use Rattle.ensemble.specs.Top.{AskToRead, DidRead, Does, Ends, EndsGiven, GivenFor, GivenToRead, IsUnhindered, ReadsInput};
 ghost use Rattle.peer_serve.specs.DiskPeers.{AreThere};
 ghost use Rattle.replay.specs.Jobs.{RanOut};
@@ -107,7 +107,8 @@ pub fn ensemble_main<S: Source, O: Sink, L: Link, D: Disk + Drop, T: Ticker, R: 
     ensures read { result ≡ Status.ReadFault → Rose (S.fault_count input.old) (S.fault_count input.new) }
     ensures write { result ≡ Status.WriteFault → Rose (O.fault_count output.old) (O.fault_count output.new) }
     // If no other end has a cause, the job runs to its end, unless out of memory.
-    ensures completes { (job : Job) → AskFor (map (λ w. w.now) words.now) job → IsUnhindered job (S.left input.old) → ¬ Rose (S.fault_count input.old) (S.fault_count input.new) → ¬ Rose (O.fault_count output.old) (O.fault_count output.new) → RanOut result }
+    ensures completes { (job : Job) → AskFor (map (λ w. w.now) words.now) job → IsUnhindered job (S.left input.old) → AreSound D.seen D.may_leave D.moment D.left_since D.fault_count L.sent L.given L.fault_count T.coming disks.old disks.new link.old link.new ticker.old ticker.new job
+        → ¬ Rose (S.fault_count input.old) (S.fault_count input.new) → ¬ Rose (O.fault_count output.old) (O.fault_count output.new) → RanOut result }
     // What became of a peer: its turns, its steps and what they sent, its disks, and what it printed.
     ensures served { (w : Words) → AskFor (map (λ w. w.now) words.now) (jobs.Peer w) → CameToServe D.seen D.may_leave D.moment D.left_since D.fault_count L.sent L.given L.fault_count T.coming disks.old disks.new link.old link.new ticker.old ticker.new (O.written output.old) (O.written output.new) (O.fault_count output.old) (O.fault_count output.new) result w }
     // What became of a cluster: its script, its looks, what was handed to the link, and what it printed.
@@ -146,7 +147,8 @@ pub fn run_program<S: Source, O: Sink, L: Link, D: Disk + Drop, T: Ticker, R: Th
     ensures read { result ≡ Status.ReadFault → Rose (S.fault_count input.old) (S.fault_count input.new) }
     ensures write { result ≡ Status.WriteFault → Rose (O.fault_count output.old) (O.fault_count output.new) }
     // If no other end has a cause, the job runs to its end, unless out of memory.
-    ensures completes { (job : Job) → GivenFor (words_given all.now) job → IsUnhindered job (S.left input.old) → ¬ Rose (S.fault_count input.old) (S.fault_count input.new) → ¬ Rose (O.fault_count output.old) (O.fault_count output.new) → RanOut result }
+    ensures completes { (job : Job) → GivenFor (words_given all.now) job → IsUnhindered job (S.left input.old) → AreSound D.seen D.may_leave D.moment D.left_since D.fault_count L.sent L.given L.fault_count T.coming disks.old disks.new link.old link.new ticker.old ticker.new job
+        → ¬ Rose (S.fault_count input.old) (S.fault_count input.new) → ¬ Rose (O.fault_count output.old) (O.fault_count output.new) → RanOut result }
     // What became of a peer, unless memory ran out before its words were read.
     ensures served { (w : Words) → GivenFor (words_given all.now) (jobs.Peer w) → CameToServe D.seen D.may_leave D.moment D.left_since D.fault_count L.sent L.given L.fault_count T.coming disks.old disks.new link.old link.new ticker.old ticker.new (O.written output.old) (O.written output.new) (O.fault_count output.old) (O.fault_count output.new) result w }
     // What became of a cluster, unless memory ran out before its words were read.

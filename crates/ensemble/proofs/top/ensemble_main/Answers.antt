@@ -1,7 +1,8 @@
 use Rattle.std.proofs.Common.{refl, inl, inr}
 use Rattle.ens_base.specs.declared.status.Status.TheVariants as Status
 use Rattle.ens_words.specs.declared.job.Job.TheVariants as jobs
-use Rattle.ensemble.proofs.Endings.{asked_did_read, asked_reads, did_read_at, job_completes, job_ends, memory_did_read, refused_words, usage_did_read}
+use Rattle.ensemble.proofs.Completing.{job_completes}
+use Rattle.ensemble.proofs.Endings.{asked_did_read, asked_reads, did_read_at, job_ends, memory_did_read, refused_words, usage_did_read}
 use Rattle.ensemble.proofs.Serving.{finished, on_cluster, on_none, on_peer}
 use Rattle.ensemble.proofs.top.ensemble_main.Goals as goal
 
@@ -22,9 +23,11 @@ pub returns-in-Err-Memory-clause-front : goal.returns-in-Err-Memory-clause-front
 returns-in-Err-Memory-clause-front g c = λ fault. (Status.Memory, _, refl, λ job asks. memory_did_read job _ _ _, c.finish-in-Err-Memory.ensures.front fault)
 
 pub returns-in-Ok-clause-completes : goal.returns-in-Ok-clause-completes
-returns-in-Ok-clause-completes g c = λ job asks free calm quiet.
+returns-in-Ok-clause-completes g c = λ job asks free sound calm quiet.
     let p = c.run_job.ensures.printed (λ fault. quiet (c.run_job.ensures.write fault)) in
-    job_completes _ _ c.run_job.result p.0 job asks free (job_ends _ _ c.in-Ok.job _ p.0 c.in-Ok.ensures p.1) (λ fault. calm (c.run_job.ensures.read fault))
+    job_completes (g.O.Sink.written c.args.output.now) (g.O.Sink.written c.run_job.new.output) (g.O.Sink.fault_count c.args.output.now) (g.O.Sink.fault_count c.run_job.new.output) c.run_job.result quiet
+    g.D.Disk.seen g.D.Disk.may_leave g.D.Disk.moment g.D.Disk.left_since g.D.Disk.fault_count g.L.Link.sent g.L.Link.given g.L.Link.fault_count g.T.Ticker.coming c.args.disks.now c.run_job.new.disks c.args.link.now c.run_job.new.link c.args.ticker.now c.run_job.new.ticker
+    _ (g.S.Source.left c.args.input.now) _ p.0 c.in-Ok.job job c.in-Ok.ensures asks free sound c.run_job.ensures.linked p.1 (λ fault. calm (c.run_job.ensures.read fault))
 
 pub returns-in-Ok-clause-input : goal.returns-in-Ok-clause-input
 returns-in-Ok-clause-input g c = λ wrote job asks. asked_did_read _ c.in-Ok.job job _ _ _ _ _ c.in-Ok.ensures asks (c.run_job.ensures.input wrote)

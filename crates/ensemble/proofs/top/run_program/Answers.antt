@@ -16,6 +16,9 @@ returns-in-Ok-words_of-clause-front g c = λ fault. front_given _ _ _ _ _ (c.ens
 pub returns-in-Ok-words_of-clause-input : goal.returns-in-Ok-words_of-clause-input
 returns-in-Ok-words_of-clause-input g c = λ wrote. given_did_read (words_given c.args.all.now) _ _ (c.ensemble_main.ensures.input wrote) (search rules)
 
+pub returns-in-Ok-words_of-clause-completes : goal.returns-in-Ok-words_of-clause-completes
+returns-in-Ok-words_of-clause-completes g c = given_did_read (words_given c.args.all.now) _ _ c.ensemble_main.ensures.completes (search rules)
+
 pub returns-in-Ok-words_of-clause-untouched : goal.returns-in-Ok-words_of-clause-untouched
 returns-in-Ok-words_of-clause-untouched g c = not_to_read (words_given c.args.all.now) _ _ c.ensemble_main.ensures.untouched (search rules)
 
