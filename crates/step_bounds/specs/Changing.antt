@@ -1,5 +1,5 @@
 -- When a peer takes a request to change the view, in the words of the rule.
-use Rattle.std.specs.Prelude.{◌≡◌, List, [], ◌∷◌, ℕ}
+use Rattle.std.specs.Prelude.{◌≡◌, List, ◌∷◌, ℕ}
 use Rattle.ens_base.specs.Views.{first_view}
 use Rattle.peer_state.specs.declared.state.ChangeState.TheVariants.{Settled}
 use Rattle.peer_state.specs.declared.state.Phase.{Phase}
