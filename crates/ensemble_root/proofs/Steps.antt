@@ -1,0 +1,427 @@
+-- One line of a script after another.
+use Rattle.std.proofs.Common.{◌≡◌, ℕ, ◌+◌, ◌≤◌, ◌==◌, Bool, true, false, cond, if◌then◌else◌, List, [], ◌∷◌, ◌++◌, length, map, drop, take, slice_get, Option, Some, None, Result, Ok, Err, refl, sym, ap, subst, ◌∙◌, append-nil, append_assoc, length-append, arith, string_bytes}
+use Rattle.std.specs.Prelude.{is_some}
+use Rattle.std.specs.BTreeMap.{get, is_at}
+use Rattle.std.specs.List.{flat_map}
+use Rattle.std.specs.Map.{lookup}
+use Rattle.std.specs.Ordering.{nat_cmp}
+use Rattle.std.specs.Result.{IsErrAnd}
+use Rattle.held_stores.specs.Held.{Account, HasHashed, StartsWith}
+use Rattle.held_stores.proofs.Taken.{hashed_all, hashed_none}
+use Rattle.register_model.specs.declared.printed.Printed.{Printed}
+use Rattle.root_runs.specs.Lines.{ensemble_of, own_event}
+use Rattle.root_runs.specs.Openings.{Opening}
+use Rattle.root_runs.specs.Runs.{by}
+use Rattle.root_runs.specs.Steps.{Branch, Roots, at_first, in_slot, open_lines, open_slot, printed_next, put, refusal, said, step, steps}
+use Rattle.root_runs.specs.Text.{printed_line}
+use Rattle.root_script.specs.declared.event.RootEvent.{RootEvent}
+use Rattle.root_script.specs.declared.script.RootScript.{RootScript}
+use Rattle.root_script.specs.declared.slots.Ensemble.TheVariants.{Root, Slot}
+use Rattle.schedule_text.specs.declared.event.ScheduleEvent.{ScheduleEvent}
+use Rattle.world_model.proofs.Reached.{cut_off_after, cut_off_further}
+use Rattle.world_model.specs.Refusals.{IsCutOff}
+use Rattle.world_model.specs.Worlds.{MayRefuse, Reaches, run_of}
+use Rattle.world_model.specs.declared.error.WorldError.{WorldError}
+use Rattle.world_model.specs.declared.error.WorldError.TheVariants.{BookFull, Clash, Memory, MessageLimit}
+use Rattle.world_model.specs.declared.world.World.{World}
+use Rattle.world_spec.specs.Lines.{applied}
+use Rattle.world_spec.specs.Messages.{IsWithinMessages}
+use Rattle.world_spec.specs.Runs.{Run, opening_run, unhashed}
+use Rattle.ensemble_root.specs.Ends.{IsStopped, PassesWith, as_opening}
+use Rattle.ensemble_root.specs.Hashed.{hashed_by, line_hashed, lines_hashed, opened_hashed, opened_since, own_hashed}
+use Rattle.ensemble_root.specs.Standing.{Goes, RunsSlot, Stands, line_at, open_line}
+use Rattle.ensemble_root.specs.Worlds.{branch_run, events_in, newest, world, worlds}
+use Rattle.ensemble_root.specs.declared.worlds.RootWorlds.{RootWorlds}
+use Rattle.ensemble_root.proofs.Lists.{at_number, drop_append, drop_past, length_take, parted, split_at, take_one, take_size, take_whole}
+use Rattle.ensemble_root.proofs.Running.{hashed_more, line_opens, lines_both, lines_one, lines_open, said_text, since_none, slot_hashed, slot_kept, slot_stands, text_more, world_next, world_prints, world_refused}
+
+-- ## Calls after one another
+
+module _ (s : RootScript) (next : Roots) (Passes : Type 0) where
+  -- an error that was passed on
+  pub goes_err : {T : Type 0} (strings : List (List ℕ)) (first now : Account) (w : RootWorlds) (r : Result T WorldError) (G : WorldError → Type 0) (e : WorldError) → IsErrAnd r G → ((d : WorldError) → G d → d ≡ e)
+      → Goes {T = T} s next strings Passes first now w (Err e) → Goes s next strings Passes first now w r
+  goes_err strings first now w (Ok x) G e and same goes = absurd and
+  goes_err {T = T} strings first now w (Err d) G e and same goes = subst (λ (x : WorldError). Goes {T = T} s next strings Passes first now w (Err x)) (sym (same d and)) goes
+
+  -- the hasher was cut off
+  pub cut_goes : (T : Type 0) (strings : List (List ℕ)) (first now : Account) (w : RootWorlds) (e : WorldError) → IsCutOff strings first now e → Goes {T = T} s next strings Passes first now w (Err e)
+  cut_goes T strings first now w MessageLimit cut = absurd cut
+  cut_goes T strings first now w Memory cut = cut
+  cut_goes T strings first now w (Clash kept new) cut = cut
+  cut_goes T strings first now w (BookFull bytes) cut = cut
+
+  -- out of memory
+  pub memory_goes : (T : Type 0) (strings : List (List ℕ)) (first now : Account) (w : RootWorlds) (e : WorldError) → e ≡ Memory → Goes {T = T} s next strings Passes first now w (Err e)
+  memory_goes T strings first now w e is = subst (λ (x : WorldError). Goes {T = T} s next strings Passes first now w (Err x)) (sym is) tt
+
+  -- cut off in the first of more strings
+  pub cut_sooner : (T : Type 0) (strings more : List (List ℕ)) (first now : Account) (w : RootWorlds) (e : WorldError) → IsCutOff strings first now e → Goes {T = T} s next (strings ++ more) Passes first now w (Err e)
+  cut_sooner T strings more first now w e cut = cut_goes T (strings ++ more) first now w e (cut_off_further strings (strings ++ more) first now e (more, refl) cut)
+
+  -- a call behind strings that were taken
+  pub goes_after : {T : Type 0} (strings more : List (List ℕ)) (first mid now : Account) (w : RootWorlds) (r : Result T WorldError) → HasHashed strings first mid → Goes s next more Passes mid now w r → Goes s next (strings ++ more) Passes first now w r
+  goes_after strings more first mid now w (Ok x) has goes = (goes.0, hashed_all strings more first mid now has goes.1)
+  goes_after strings more first mid now w (Err MessageLimit) has goes = goes
+  goes_after strings more first mid now w (Err Memory) has goes = tt
+  goes_after strings more first mid now w (Err (Clash kept new)) has goes = cut_off_after strings more first mid now (Clash kept new) has goes
+  goes_after strings more first mid now w (Err (BookFull bytes)) has goes = cut_off_after strings more first mid now (BookFull bytes) has goes
+
+  -- a call that is not refused at the limit on messages
+  pub goes_within : {T : Type 0} (Other : Type 0) (strings : List (List ℕ)) (first now : Account) (w : RootWorlds) (r : Result T WorldError) → (r ≡ Err MessageLimit → ⊥) → Goes s next strings Other first now w r → Goes s next strings Passes first now w r
+  goes_within Other strings first now w (Ok x) not goes = goes
+  goes_within Other strings first now w (Err MessageLimit) not goes = absurd (not refl)
+  goes_within Other strings first now w (Err Memory) not goes = tt
+  goes_within Other strings first now w (Err (Clash kept new)) not goes = goes
+  goes_within Other strings first now w (Err (BookFull bytes)) not goes = goes
+
+  -- the strings are the same
+  pub goes_same : {T : Type 0} (strings others : List (List ℕ)) (first now : Account) (w : RootWorlds) (r : Result T WorldError) → strings ≡ others → Goes s next strings Passes first now w r → Goes s next others Passes first now w r
+  goes_same strings others first now w r same goes = subst (λ (l : List (List ℕ)). Goes s next l Passes first now w r) same goes
+
+-- ## An event of one ensemble
+
+module _ (s : RootScript) (number : ℕ) (event : ScheduleEvent) (r : Roots) (old new : RootWorlds) (h : Stands s r old) where
+  -- the root took the event, and the text has what it printed
+  abbrev pub lines : List Printed
+  lines = printed_next worlds s.peers s.view r.root event
+
+  abbrev pub root_mid : Roots
+  root_mid = record r { root = r.root ++ event ∷ []; printed = r.printed ++ said number Root lines }
+
+  module _ (first later : Account) (reaches : (run_of new.root ≡ unhashed (applied event (run_of old.root))) × IsWithinMessages (applied event (run_of old.root)) × HasHashed (applied event (run_of old.root)).hashed first later) where
+    went : (run_of new.root ≡ unhashed (world s.peers s.view (r.root ++ event ∷ []))) × IsWithinMessages (world s.peers s.view (r.root ++ event ∷ [])) × HasHashed (applied event (unhashed (world s.peers s.view r.root))).hashed first later
+    went = world_next s.peers s.view r.root event (run_of old.root) h.root (run_of new.root) first later reaches
+
+    pub root_hashed : HasHashed (own_hashed s event (events_in s r Root)) first later
+    root_hashed = went.2
+
+    pub root_prints : drop (length (run_of old.root).printed) (run_of new.root).printed ≡ lines
+    root_prints = world_prints s.peers s.view r.root event (run_of old.root) h.root (run_of new.root) reaches.0
+
+    pub root_stands : new.slots ≡ old.slots → new.opened ≡ old.opened → string_bytes new.text ≡ string_bytes old.text ++ flat_map (line_at number Root) (drop (length (run_of old.root).printed) (run_of new.root).printed) → Stands s root_mid new
+    root_stands same_slots same_opened same_text = record {
+      root = went.0;
+      within = went.1;
+      slots = λ q. subst (λ m. RunsSlot s (r.slots q) (get nat_cmp m q)) (sym same_slots) (h.slots q);
+      opened = ap (λ v. map as_opening v.items) same_opened ∙ h.opened;
+      text = text_more (string_bytes old.text) (string_bytes new.text) _ r.printed (said number Root lines) h.text same_text (ap (flat_map (line_at number Root)) root_prints ∙ sym (said_text number Root lines));
+    }
+
+  -- the root refused the event
+  pub root_refused : (T : Type 0) (e : WorldError) (first later : Account) (next : Roots) (more : List (List ℕ)) → MayRefuse first (applied event (run_of old.root)) later e → Goes {T = T} s next (own_hashed s event (events_in s r Root) ++ more) (PassesWith s r Root event) first later new (Err e)
+  root_refused T e first later next more may = by e (world_refused s.peers s.view r.root event (run_of old.root) h.root e first later may)
+    where
+      by : (e : WorldError) → MayRefuse first (record (world s.peers s.view (r.root ++ event ∷ [])) { hashed = own_hashed s event (events_in s r Root) }) later e → Goes {T = T} s next (own_hashed s event (events_in s r Root) ++ more) (PassesWith s r Root event) first later new (Err e)
+      by MessageLimit past = record { branch = record { opening = record { event = 0; view = s.view }; events = r.root }; runs = refl; past = past }
+      by Memory cut = tt
+      by (Clash kept new) cut = cut_off_further (own_hashed s event (events_in s r Root)) (own_hashed s event (events_in s r Root) ++ more) first later (Clash kept new) (more, refl) cut
+      by (BookFull bytes) cut = cut_off_further (own_hashed s event (events_in s r Root)) (own_hashed s event (events_in s r Root) ++ more) first later (BookFull bytes) (more, refl) cut
+
+-- an event of the ensemble of a slot
+module _ (s : RootScript) (number slot : ℕ) (event : ScheduleEvent) (r : Roots) (old new : RootWorlds) (h : Stands s r old) where
+  -- the slot is open
+  module _ (w : World) (there : get nat_cmp old.slots slot ≡ Some w) where
+    pub branch : (b : Branch) × (r.slots slot ≡ Some b) × (run_of w ≡ unhashed (branch_run s b)) × IsWithinMessages (branch_run s b)
+    branch = at (r.slots slot) refl (subst (λ (x : Option World). RunsSlot s (r.slots slot) x) there (h.slots slot))
+      where
+        at : (o : Option Branch) → r.slots slot ≡ o → RunsSlot s (r.slots slot) (Some w) → (b : Branch) × (r.slots slot ≡ Some b) × (run_of w ≡ unhashed (branch_run s b)) × IsWithinMessages (branch_run s b)
+        at None e k = absurd (subst (λ (x : Option Branch). RunsSlot s x (Some w)) e k)
+        at (Some b) e k = let both = subst (λ (x : Option Branch). RunsSlot s x (Some w)) e k in (b, e, both.0, both.1)
+
+    abbrev b : Branch
+    b = branch.0
+
+    abbrev own : List Printed
+    own = printed_next worlds s.peers b.opening.view b.events event
+
+    own_is : own_hashed s event (events_in s r (Slot slot)) ≡ (applied event (unhashed (branch_run s b))).hashed
+    own_is = ap (own_hashed s event) branch.1
+
+    in_is : in_slot worlds s number slot event (r.slots slot) r ≡ in_slot worlds s number slot event (Some b) r
+    in_is = ap (λ (o : Option Branch). in_slot worlds s number slot event o r) branch.1
+
+    longer : Branch
+    longer = record b { events = b.events ++ event ∷ [] }
+
+    module _ (v : World) (first later : Account) (reaches : (run_of v ≡ unhashed (applied event (run_of w))) × IsWithinMessages (applied event (run_of w)) × HasHashed (applied event (run_of w)).hashed first later) where
+      went_on : (run_of v ≡ unhashed (world s.peers b.opening.view (b.events ++ event ∷ []))) × IsWithinMessages (world s.peers b.opening.view (b.events ++ event ∷ [])) × HasHashed (applied event (unhashed (world s.peers b.opening.view b.events))).hashed first later
+      went_on = world_next s.peers b.opening.view b.events event (run_of w) branch.2 (run_of v) first later reaches
+
+      prints : drop (length (run_of w).printed) (run_of v).printed ≡ own
+      prints = world_prints s.peers b.opening.view b.events event (run_of w) branch.2 (run_of v) reaches.0
+
+      pub slot_goes : ((q : ℕ) → get nat_cmp new.slots q ≡ cond (is_at (nat_cmp slot) q) (Some v) (get nat_cmp old.slots q)) → new.root ≡ old.root → new.opened ≡ old.opened
+          → string_bytes new.text ≡ string_bytes old.text ++ flat_map (line_at number (Slot slot)) (drop (length (run_of w).printed) (run_of v).printed)
+          → Stands s (in_slot worlds s number slot event (r.slots slot) r) new × HasHashed (own_hashed s event (events_in s r (Slot slot))) first later
+      unfolding longer branch
+      slot_goes puts same_root same_opened same_text = (
+        subst (λ (x : Roots). Stands s x new) (sym in_is) (record {
+          root = ap run_of same_root ∙ h.root;
+          within = h.within;
+          slots = λ q. by q (slot == q) refl;
+          opened = ap (λ v. map as_opening v.items) same_opened ∙ h.opened;
+          text = text_more (string_bytes old.text) (string_bytes new.text) _ r.printed (said number (Slot slot) own) h.text same_text (ap (flat_map (line_at number (Slot slot))) prints ∙ sym (said_text number (Slot slot) own));
+        }),
+        subst (λ (l : List (List ℕ)). HasHashed l first later) (sym own_is) went_on.2,
+      )
+        where
+          by : (q : ℕ) (c : Bool) → (slot == q) ≡ c → RunsSlot s (put slot longer r.slots q) (get nat_cmp new.slots q)
+          by q true e =
+              let is : put slot longer r.slots q ≡ Some longer = ap (λ (c : Bool). if c then Some longer else r.slots q) e in
+              let held : get nat_cmp new.slots q ≡ Some v = puts q ∙ ap (λ (c : Bool). cond c (Some v) (get nat_cmp old.slots q)) (at_number slot q ∙ e) in
+              subst (λ (x : Option Branch). RunsSlot s x (get nat_cmp new.slots q)) (sym is) (subst (λ (x : Option World). RunsSlot s (Some longer) x) (sym held) (went_on.0, went_on.1))
+          by q false e =
+              let is : put slot longer r.slots q ≡ r.slots q = ap (λ (c : Bool). if c then Some longer else r.slots q) e in
+              let held : get nat_cmp new.slots q ≡ get nat_cmp old.slots q = puts q ∙ ap (λ (c : Bool). cond c (Some v) (get nat_cmp old.slots q)) (at_number slot q ∙ e) in
+              subst (λ (x : Option Branch). RunsSlot s x (get nat_cmp new.slots q)) (sym is) (subst (λ (x : Option World). RunsSlot s (r.slots q) x) (sym held) (h.slots q))
+
+    -- it refused the event
+    pub slot_refused : (T : Type 0) (e : WorldError) (first later : Account) (next : Roots) → MayRefuse first (applied event (run_of w)) later e → Goes {T = T} s next (own_hashed s event (events_in s r (Slot slot))) (PassesWith s r (Slot slot) event) first later new (Err e)
+    slot_refused T e first later next may = by e (world_refused s.peers b.opening.view b.events event (run_of w) branch.2 e first later may)
+      where
+        by : (e : WorldError) → MayRefuse first (record (world s.peers b.opening.view (b.events ++ event ∷ [])) { hashed = (applied event (unhashed (branch_run s b))).hashed }) later e
+            → Goes {T = T} s next (own_hashed s event (events_in s r (Slot slot))) (PassesWith s r (Slot slot) event) first later new (Err e)
+        by MessageLimit past = record { branch = b; runs = branch.1; past = past }
+        by Memory cut = tt
+        by (Clash kept new) cut = subst (λ (l : List (List ℕ)). IsCutOff l first later (Clash kept new)) (sym own_is) cut
+        by (BookFull bytes) cut = subst (λ (l : List (List ℕ)). IsCutOff l first later (BookFull bytes)) (sym own_is) cut
+
+  -- the slot is shut
+  module _ (none : get nat_cmp old.slots slot ≡ None) where
+    shut : r.slots slot ≡ None
+    shut = at (r.slots slot) refl (subst (λ (x : Option World). RunsSlot s (r.slots slot) x) none (h.slots slot))
+      where
+        at : (o : Option Branch) → r.slots slot ≡ o → RunsSlot s (r.slots slot) None → r.slots slot ≡ None
+        at None e k = e
+        at (Some b) e k = absurd (subst (λ (x : Option Branch). RunsSlot s x None) e k)
+
+    pub shut_goes : (now : Account) → new.slots ≡ old.slots → new.root ≡ old.root → new.opened ≡ old.opened → string_bytes new.text ≡ string_bytes old.text ++ flat_map printed_line (map (by (Slot slot)) (refusal number event))
+        → Stands s (in_slot worlds s number slot event (r.slots slot) r) new × HasHashed (own_hashed s event (events_in s r (Slot slot))) now now
+    shut_goes now same_slots same_root same_opened same_text = (
+      subst (λ (o : Option Branch). Stands s (in_slot worlds s number slot event o r) new) (sym shut) (record {
+        root = ap run_of same_root ∙ h.root;
+        within = h.within;
+        slots = λ q. subst (λ m. RunsSlot s (r.slots q) (get nat_cmp m q)) (sym same_slots) (h.slots q);
+        opened = ap (λ v. map as_opening v.items) same_opened ∙ h.opened;
+        text = text_more (string_bytes old.text) (string_bytes new.text) _ r.printed (map (by (Slot slot)) (refusal number event)) h.text same_text refl;
+      }),
+      subst (λ (o : Option Branch). HasHashed (own_hashed s event o) now now) (sym shut) (hashed_none now),
+    )
+
+-- ## Lines of the script
+
+steps_last : (s : RootScript) (n : ℕ) (lines : List RootEvent) (line : RootEvent) (r : Roots) → steps worlds s n (lines ++ line ∷ []) r ≡ step worlds s (n + length lines) line (steps worlds s n lines r)
+steps_last s n [] line r = let same : n ≡ n + 0 = omega arith in ap (λ (k : ℕ). step worlds s k line r) same
+steps_last s n (x ∷ lines) line r =
+    let same : n + 1 + length lines ≡ n + length (x ∷ lines) = omega arith in
+    let later : Roots = steps worlds s (n + 1) lines (step worlds s n x r) in
+    steps_last s (n + 1) lines line (step worlds s n x r) ∙ ap (λ (k : ℕ). step worlds s k line later) same
+
+hashed_last : (s : RootScript) (n : ℕ) (lines : List RootEvent) (line : RootEvent) (r : Roots) → lines_hashed s n (lines ++ line ∷ []) r ≡ lines_hashed s n lines r ++ line_hashed s (n + length lines) line (steps worlds s n lines r)
+hashed_last s n [] line r = let same : n ≡ n + 0 = omega arith in append-nil (line_hashed s n line r) ∙ ap (λ (k : ℕ). line_hashed s k line r) same
+hashed_last s n (x ∷ lines) line r =
+    let same : n + 1 + length lines ≡ n + length (x ∷ lines) = omega arith in
+    let next : Roots = step worlds s n x r in
+    ap (λ (l : List (List ℕ)). line_hashed s n x r ++ l) (hashed_last s (n + 1) lines line next ∙ ap (λ (k : ℕ). lines_hashed s (n + 1) lines next ++ line_hashed s k line (steps worlds s (n + 1) lines next)) same)
+    ∙ sym (append_assoc (line_hashed s n x r) (lines_hashed s (n + 1) lines next) (line_hashed s (n + length (x ∷ lines)) line (steps worlds s (n + 1) lines next)))
+
+hashed_parts : (s : RootScript) (n : ℕ) (lines : List RootEvent) (line : RootEvent) (rest : List RootEvent) (r : Roots) → StartsWith (lines_hashed s n (lines ++ line ∷ []) r) (lines_hashed s n (lines ++ line ∷ rest) r)
+hashed_parts s n [] line rest r = (lines_hashed s (n + 1) rest (step worlds s n line r), ap (λ (l : List (List ℕ)). l ++ lines_hashed s (n + 1) rest (step worlds s n line r)) (sym (append-nil (line_hashed s n line r))))
+hashed_parts s n (x ∷ lines) line rest r =
+    let later = hashed_parts s (n + 1) lines line rest (step worlds s n x r) in
+    (later.0, ap (λ (l : List (List ℕ)). line_hashed s n x r ++ l) later.1 ∙ sym (append_assoc (line_hashed s n x r) (lines_hashed s (n + 1) (lines ++ line ∷ []) (step worlds s n x r)) later.0))
+
+-- the worlds have run the lines so far, and the hasher took their strings
+pub record Doing (s : RootScript) (place : ℕ) (first : Account) (w : RootWorlds) (now : Account) : Type 0 where
+  pub stands : Stands s (steps worlds s 1 (take place s.events) at_first) w
+  pub has : HasHashed ((opening_run newest s.peers s.view).hashed ++ lines_hashed s 1 (take place s.events) at_first) first now
+
+pub doing_first : (s : RootScript) (first : Account) (w : RootWorlds) (now : Account) → Stands s at_first w → HasHashed (opening_run newest s.peers s.view).hashed first now → Doing s 0 first w now
+doing_first s first w now stands has = record { stands = stands; has = subst (λ (l : List (List ℕ)). HasHashed l first now) (sym (append-nil (opening_run newest s.peers s.view).hashed)) has }
+
+module _ (s : RootScript) (place : ℕ) (first : Account) (old new : RootWorlds) (mid now : Account) (line : RootEvent) (here : slice_get s.events place ≡ Some line) (few : place ≤ length s.events) (doing : Doing s place first old mid) where
+  abbrev before : List RootEvent
+  before = take place s.events
+
+  abbrev pub so_far : Roots
+  so_far = steps worlds s 1 before at_first
+
+  abbrev opens : List (List ℕ)
+  opens = (opening_run newest s.peers s.view).hashed
+
+  number : 1 + length before ≡ place + 1
+  number = omega (arith, length_take s.events place few)
+
+  next_steps : steps worlds s 1 (take (place + 1) s.events) at_first ≡ step worlds s (place + 1) line so_far
+  next_steps = ap (λ (l : List RootEvent). steps worlds s 1 l at_first) (take_one s.events place line here) ∙ steps_last s 1 before line at_first ∙ ap (λ (k : ℕ). step worlds s k line so_far) number
+
+  next_strings : lines_hashed s 1 (take (place + 1) s.events) at_first ≡ lines_hashed s 1 before at_first ++ line_hashed s (place + 1) line so_far
+  next_strings = ap (λ (l : List RootEvent). lines_hashed s 1 l at_first) (take_one s.events place line here) ∙ hashed_last s 1 before line at_first ∙ ap (λ (k : ℕ). lines_hashed s 1 before at_first ++ line_hashed s k line so_far) number
+
+  more_strings : opens ++ lines_hashed s 1 (take (place + 1) s.events) at_first ≡ (opens ++ lines_hashed s 1 before at_first) ++ line_hashed s (place + 1) line so_far
+  more_strings = ap (λ (l : List (List ℕ)). opens ++ l) next_strings ∙ sym (append_assoc opens (lines_hashed s 1 before at_first) (line_hashed s (place + 1) line so_far))
+
+  pub doing_next : Stands s (step worlds s (place + 1) line so_far) new × HasHashed (line_hashed s (place + 1) line so_far) mid now → Doing s (place + 1) first new now
+  doing_next goes = record {
+    stands = subst (λ (r : Roots). Stands s r new) (sym next_steps) goes.0;
+    has = subst (λ (l : List (List ℕ)). HasHashed l first now) (sym more_strings) (hashed_all (opens ++ lines_hashed s 1 before at_first) (line_hashed s (place + 1) line so_far) first mid now doing.has goes.1);
+  }
+
+  -- the strings up to this line come first
+  whole : StartsWith ((opens ++ lines_hashed s 1 before at_first) ++ line_hashed s (place + 1) line so_far) (hashed_by s)
+  whole =
+      let parts = hashed_parts s 1 before line (drop (place + 1) s.events) at_first in
+      let all : lines_hashed s 1 s.events at_first ≡ lines_hashed s 1 (before ++ line ∷ drop (place + 1) s.events) at_first = ap (λ (l : List RootEvent). lines_hashed s 1 l at_first) (split_at s.events place line here) in
+      let last : lines_hashed s 1 (before ++ line ∷ []) at_first ≡ lines_hashed s 1 before at_first ++ line_hashed s (place + 1) line so_far = hashed_last s 1 before line at_first ∙ ap (λ (k : ℕ). lines_hashed s 1 before at_first ++ line_hashed s k line so_far) number in (
+        parts.0,
+        ap (λ (l : List (List ℕ)). opens ++ l) (all ∙ parts.1 ∙ ap (λ (l : List (List ℕ)). l ++ parts.0) last)
+            ∙ sym (append_assoc opens (lines_hashed s 1 before at_first ++ line_hashed s (place + 1) line so_far) parts.0)
+            ∙ ap (λ (l : List (List ℕ)). l ++ parts.0) (sym (append_assoc opens (lines_hashed s 1 before at_first) (line_hashed s (place + 1) line so_far))),
+      )
+
+  pub stops : (T : Type 0) (e : WorldError) → Goes {T = T} s (step worlds s (place + 1) line so_far) (line_hashed s (place + 1) line so_far) (PassesWith s so_far (ensemble_of line) (own_event line)) mid now new (Err e) → IsStopped s first now e
+  stops T MessageLimit passes = record { done = before; line = line; rest = drop (place + 1) s.events; are = split_at s.events place line here; passes = passes }
+  stops T Memory goes = tt
+  stops T (Clash kept new) goes = cut_off_further _ (hashed_by s) first now (Clash kept new) whole (cut_off_after (opens ++ lines_hashed s 1 before at_first) (line_hashed s (place + 1) line so_far) first mid now (Clash kept new) doing.has goes)
+  stops T (BookFull bytes) goes = cut_off_further _ (hashed_by s) first now (BookFull bytes) whole (cut_off_after (opens ++ lines_hashed s 1 before at_first) (line_hashed s (place + 1) line so_far) first mid now (BookFull bytes) doing.has goes)
+
+-- the opening was cut off
+pub opening_stops : (s : RootScript) (first now : Account) (e : WorldError) → IsCutOff (opening_run newest s.peers s.view).hashed first now e → IsStopped s first now e
+opening_stops s first now MessageLimit cut = absurd cut
+opening_stops s first now Memory cut = tt
+opening_stops s first now (Clash kept new) cut = cut_off_further (opening_run newest s.peers s.view).hashed (hashed_by s) first now (Clash kept new) (lines_hashed s 1 s.events at_first, refl) cut
+opening_stops s first now (BookFull bytes) cut = cut_off_further (opening_run newest s.peers s.view).hashed (hashed_by s) first now (BookFull bytes) (lines_hashed s 1 s.events at_first, refl) cut
+
+-- after the last line
+pub doing_last : (s : RootScript) (place : ℕ) (first : Account) (w : RootWorlds) (now : Account) → length s.events ≤ place → Doing s place first w now → Stands s (steps worlds s 1 s.events at_first) w × HasHashed (hashed_by s) first now
+doing_last s place first w now le doing =
+    let whole : take place s.events ≡ s.events = take_whole s.events place le in (
+      subst (λ (l : List RootEvent). Stands s (steps worlds s 1 l at_first) w) whole doing.stands,
+      subst (λ (l : List RootEvent). HasHashed ((opening_run newest s.peers s.view).hashed ++ lines_hashed s 1 l at_first) first now) whole doing.has,
+    )
+
+-- ## Worlds that open
+
+-- a call that was passed on
+pub reaches_err : {T : Type 0} (first : Account) (due : Run) (r : Result T WorldError) (reached : Run) (now : Account) (G : WorldError → Type 0) (e : WorldError) → IsErrAnd r G → ((d : WorldError) → G d → d ≡ e) → MayRefuse first due now e → Reaches first due r reached now
+reaches_err first due (Ok x) reached now G e and same may = absurd and
+reaches_err first due (Err d) reached now G e and same may = subst (λ (x : WorldError). MayRefuse first due now x) (sym (same d and)) may
+
+-- nothing was read yet
+pub stands_first : (s : RootScript) (w : RootWorlds) → run_of w.root ≡ unhashed (opening_run newest s.peers s.view) → w.slots.entries ≡ [] → w.opened.items ≡ [] → string_bytes w.text ≡ [] → Stands s at_first w
+stands_first s w opens none shut silent = record {
+  root = opens;
+  within = omega arith;
+  slots = λ slot. subst (λ (es : List (ℕ × World)). RunsSlot s None (lookup (is_at (nat_cmp slot)) es)) (sym none) tt;
+  opened = ap (map as_opening) shut;
+  text = silent;
+}
+
+module _ (s : RootScript) (number slot : ℕ) (view : List ℕ) (r : Roots) (old : RootWorlds) (h : Stands s r old) where
+  abbrev next : Roots
+  next = open_slot number slot view (r.slots slot) r
+
+  -- the slot is open already
+  pub kept_goes : (w : World) (now : Account) → get nat_cmp old.slots slot ≡ Some w → Stands s next old × HasHashed (opened_hashed s (opened_since r next)) now now
+  kept_goes w now there =
+      let same : next ≡ r = slot_kept s number slot view r old old w there h in (
+        subst (λ (x : Roots). Stands s x old) (sym same) h,
+        subst (λ (x : Roots). HasHashed (opened_hashed s (opened_since r x)) now now) (sym same) (subst (λ (l : List (ℕ × Opening)). HasHashed (opened_hashed s l) now now) (sym (since_none r)) (hashed_none now)),
+      )
+
+  -- it opens
+  pub opened_goes : (new : RootWorlds) (w : World) (first now : Account) → get nat_cmp old.slots slot ≡ None → run_of w ≡ unhashed (opening_run newest s.peers view)
+      → ((q : ℕ) → get nat_cmp new.slots q ≡ cond (is_at (nat_cmp slot) q) (Some w) (get nat_cmp old.slots q)) → new.root ≡ old.root → new.opened.items ≡ old.opened.items ++ (slot, view, number) ∷ [] → string_bytes new.text ≡ string_bytes old.text
+      → HasHashed (opening_run newest s.peers view).hashed first now → Stands s next new × HasHashed (opened_hashed s (opened_since r next)) first now
+  opened_goes new w first now none opens puts same_root more same_text has = (
+    slot_stands s number slot view r old new w none opens puts same_root more same_text h,
+    subst (λ (l : List (List ℕ)). HasHashed l first now) (sym (slot_hashed s number slot view r old old none h)) has,
+  )
+
+  -- it would open
+  pub cut_opening : (T : Type 0) (new : RootWorlds) (first now : Account) (e : WorldError) (Passes : Type 0) → get nat_cmp old.slots slot ≡ None → IsCutOff (opening_run newest s.peers view).hashed first now e → Goes {T = T} s next (opened_hashed s (opened_since r next)) Passes first now new (Err e)
+  cut_opening T new first now e Passes none cut =
+      cut_goes s next Passes T (opened_hashed s (opened_since r next)) first now new e (subst (λ (l : List (List ℕ)). IsCutOff l first now e) (sym (slot_hashed s number slot view r old old none h)) cut)
+
+-- ## Lines of the root, one after another
+
+module _ (s : RootScript) (number before : ℕ) (printed_by : List Printed) (r : Roots) where
+  -- after the lines up to this place
+  abbrev pub after_lines : ℕ → Roots
+  after_lines place = open_lines s.events number (drop before (take place printed_by)) r
+
+  abbrev pub after_hashed : ℕ → List (List ℕ)
+  after_hashed place = opened_hashed s (opened_since r (after_lines place))
+
+  no_lines : drop before (take before printed_by) ≡ []
+  no_lines = drop_past before (take before printed_by) (take_size before printed_by)
+
+  pub lines_first : (w : RootWorlds) (now : Account) → Stands s r w → Stands s (after_lines before) w × HasHashed (after_hashed before) now now
+  lines_first w now h =
+      let same : after_lines before ≡ r = ap (λ (l : List Printed). open_lines s.events number l r) no_lines in (
+        subst (λ (x : Roots). Stands s x w) (sym same) h,
+        subst (λ (x : Roots). HasHashed (opened_hashed s (opened_since r x)) now now) (sym same) (subst (λ (l : List (ℕ × Opening)). HasHashed (opened_hashed s l) now now) (sym (since_none r)) (hashed_none now)),
+      )
+
+  module _ (place : ℕ) (line : Printed) (here : slice_get printed_by place ≡ Some line) (low : before ≤ place) (high : place ≤ length printed_by) where
+    one_line : after_lines (place + 1) ≡ open_line s.events number line (after_lines place)
+    one_line =
+        ap (λ (l : List Printed). open_lines s.events number (drop before l) r) (take_one printed_by place line here)
+        ∙ ap (λ (l : List Printed). open_lines s.events number l r) (drop_append before (take place printed_by) (line ∷ []) (omega (arith, low, length_take printed_by place high)))
+        ∙ lines_one s.events number (drop before (take place printed_by)) line r
+
+    strings : after_hashed (place + 1) ≡ after_hashed place ++ opened_hashed s (opened_since (after_lines place) (open_line s.events number line (after_lines place)))
+    strings =
+        ap (λ (x : Roots). opened_hashed s (opened_since r x)) one_line
+        ∙ hashed_more s r (after_lines place) (open_line s.events number line (after_lines place)) (lines_open s.events number (drop before (take place printed_by)) r) (line_opens s.events number line (after_lines place))
+
+    pub lines_next : (new : RootWorlds) (first mid now : Account) → HasHashed (after_hashed place) first mid → Stands s (open_line s.events number line (after_lines place)) new × HasHashed (opened_hashed s (opened_since (after_lines place) (open_line s.events number line (after_lines place)))) mid now
+        → Stands s (after_lines (place + 1)) new × HasHashed (after_hashed (place + 1)) first now
+    lines_next new first mid now has goes = (
+      subst (λ (x : Roots). Stands s x new) (sym one_line) goes.0,
+      subst (λ (l : List (List ℕ)). HasHashed l first now) (sym strings) (hashed_all (after_hashed place) _ first mid now has goes.1),
+    )
+
+    -- the whole has more strings
+    whole_strings : StartsWith (after_hashed (place + 1)) (opened_hashed s (opened_since r (open_lines s.events number (drop before printed_by) r)))
+    whole_strings =
+        let next : Roots = after_lines (place + 1) in
+        let rest : List Printed = drop (place + 1) printed_by in
+        let last : Roots = open_lines s.events number rest next in
+        let parts : drop before printed_by ≡ drop before (take (place + 1) printed_by) ++ rest = ap (drop before) (parted printed_by (place + 1)) ∙ drop_append before (take (place + 1) printed_by) rest (omega (arith, low, longer)) in
+        let all : open_lines s.events number (drop before printed_by) r ≡ last = ap (λ (l : List Printed). open_lines s.events number l r) parts ∙ lines_both s.events number (drop before (take (place + 1) printed_by)) rest r in (
+          opened_hashed s (opened_since next last),
+          ap (λ (x : Roots). opened_hashed s (opened_since r x)) all ∙ hashed_more s r next last (lines_open s.events number (drop before (take (place + 1) printed_by)) r) (lines_open s.events number rest next),
+        )
+      where
+        longer : place ≤ length (take (place + 1) printed_by)
+        longer = omega (arith, ap (λ (l : List Printed). length l) (take_one printed_by place line here), length-append (take place printed_by) (line ∷ []), length_take printed_by place high)
+
+    pub lines_refused : (T : Type 0) (new : RootWorlds) (first mid now : Account) (e : WorldError) (Passes : Type 0) (last : Roots) → HasHashed (after_hashed place) first mid
+        → Goes {T = T} s (open_line s.events number line (after_lines place)) (opened_hashed s (opened_since (after_lines place) (open_line s.events number line (after_lines place)))) Passes mid now new (Err e)
+        → Goes {T = T} s last (opened_hashed s (opened_since r (open_lines s.events number (drop before printed_by) r))) Passes first now new (Err e)
+    lines_refused T new first mid now MessageLimit Passes last has goes = goes
+    lines_refused T new first mid now Memory Passes last has goes = tt
+    lines_refused T new first mid now (Clash kept bytes) Passes last has goes = further (Clash kept bytes) (cut_off_after (after_hashed place) _ first mid now (Clash kept bytes) has goes)
+      where
+        further : (e : WorldError) → IsCutOff (after_hashed place ++ opened_hashed s (opened_since (after_lines place) (open_line s.events number line (after_lines place)))) first now e → IsCutOff (opened_hashed s (opened_since r (open_lines s.events number (drop before printed_by) r))) first now e
+        further e cut = cut_off_further (after_hashed (place + 1)) _ first now e whole_strings (subst (λ (l : List (List ℕ)). IsCutOff l first now e) (sym strings) cut)
+    lines_refused T new first mid now (BookFull bytes) Passes last has goes = further (BookFull bytes) (cut_off_after (after_hashed place) _ first mid now (BookFull bytes) has goes)
+      where
+        further : (e : WorldError) → IsCutOff (after_hashed place ++ opened_hashed s (opened_since (after_lines place) (open_line s.events number line (after_lines place)))) first now e → IsCutOff (opened_hashed s (opened_since r (open_lines s.events number (drop before printed_by) r))) first now e
+        further e cut = cut_off_further (after_hashed (place + 1)) _ first now e whole_strings (subst (λ (l : List (List ℕ)). IsCutOff l first now e) (sym strings) cut)
+
+  pub lines_last : (place : ℕ) (w : RootWorlds) (first now : Account) → length printed_by ≤ place → Stands s (after_lines place) w × HasHashed (after_hashed place) first now
+      → Stands s (open_lines s.events number (drop before printed_by) r) w × HasHashed (opened_hashed s (opened_since r (open_lines s.events number (drop before printed_by) r))) first now
+  lines_last place w first now le goes = subst (λ (l : List Printed). Stands s (open_lines s.events number (drop before l) r) w × HasHashed (opened_hashed s (opened_since r (open_lines s.events number (drop before l) r))) first now) (take_whole printed_by place le) goes
+
+-- ## What is found in a map
+
+pub one_there : {A : Type 0} (o : Option A) → true ≡ is_some o → (x : A) × (o ≡ Some x)
+one_there None h = absurd cc
+one_there (Some x) h = (x, refl)
+
+pub none_there : {A : Type 0} (o : Option A) → false ≡ is_some o → o ≡ None
+none_there None h = refl
+none_there (Some x) h = absurd cc
