@@ -13,7 +13,7 @@ use Rattle.tree_node.specs.declared.version.TreeVersion.{TreeVersion}
 use Rattle.tree_backup.specs.Checks.{Spells}
 use Rattle.tree_backup.specs.declared.error.BackupError.{BackupError}
 use Rattle.tree_backup.specs.declared.error.BackupError.TheVariants as errors
-use Rattle.backup_job.specs.Backed.{Backed, Ends, Gives, GivesTree, IsBackable, IsOfBackup, MayBeMade, PrintsBackup}
+use Rattle.backup_job.specs.Backed.{Backed, CanBackUp, Ends, Gives, GivesTree, IsBackable, IsOfBackup, MayBeMade, PrintsBackup}
 use Rattle.backup_job.specs.Disks.{PairRose, error_of}
 use Rattle.backup_job.specs.Printed.{IsCheckable, Reports}
 use Rattle.backup_job.specs.Restored.{PrintsRestore, Restored}
@@ -85,7 +85,7 @@ module _ {D : Type 0} (seen : D → Option (List ℕ)) (faults : D → ℕ) wher
       damaged e at is g = let x : GivesTree held objects (Some free.version) (Err (errors.Damaged at)) = rw is at g in cc (sym x.1 ∙ free.whole)
 
   -- a backup of disks that tell what can be backed up runs to its end, if no disk fails
-  pub backup_runs_out : (old new : Pair D) (status : Status) (text : List ℕ) → IsSomeAnd (seen old.nodes) (λ nodes. IsSomeAnd (seen old.objects) (λ objects. IsBackable (nodes_of nodes) (entries_of objects))) → (PairRose seen faults old new → ⊥) → Backed seen faults old new status text
+  pub backup_runs_out : (old new : Pair D) (status : Status) (text : List ℕ) → CanBackUp seen faults old → (PairRose seen faults old new → ⊥) → Backed seen faults old new status text
       → (status ≡ Status.Done) ⊎ (status ≡ Status.Memory)
   backup_runs_out old new status text free calm b = by (seen old.nodes) (seen old.objects) free b.backs.gives
     where

@@ -1,5 +1,5 @@
 -- The backup of what two disks hold, and what a job that makes it prints.
-use Rattle.std.specs.Prelude.{◌≡◌, ◌≢◌, ◌<◌, ◌≤◌, ℕ, List, [], ◌∷◌, length, map, Option, None, Some, Result, Ok, Err, OnOk, Vec, if◌then◌else◌}
+use Rattle.std.specs.Prelude.{◌≡◌, ◌≢◌, ◌<◌, ◌≤◌, ℕ, List, [], ◌∷◌, length, map, Option, None, Some, Result, Ok, Err, IsSomeAnd, OnOk, Vec, if◌then◌else◌}
 use Rattle.std.specs.declared.alloc.Global.{Global}
 use Rattle.md5.specs.Md5.{md5}
 use Rattle.ens_base.specs.Causes.{Rose}
@@ -137,6 +137,10 @@ module _ {D : Type 0} (seen : D → Option (List ℕ)) (faults : D → ℕ) wher
     pub may : MayBeMade made
     pub gives : Told (seen old.nodes) (λ nodes. Told (seen old.objects) (λ objects. Gives (nodes_of nodes) (entries_of objects) made))
     pub changes : Changes seen faults old new (error_of made) Same Same
+
+  -- the disks tell what can be backed up
+  abbrev pub CanBackUp : Pair D → Type 0
+  CanBackUp disks = IsSomeAnd (seen disks.nodes) (λ nodes. IsSomeAnd (seen disks.objects) (λ objects. IsBackable (nodes_of nodes) (entries_of objects)))
 
   -- a backup of the disks ended so, and left them so
   pub record Backed (old new : Pair D) (status : Status) (text : List ℕ) : Type 0 where

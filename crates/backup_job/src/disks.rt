@@ -7,9 +7,9 @@ use synctree::Tree;
 
 /// The disks of the nodes and of the objects of a peer.
 #[derive(Drop)]
-pub(crate) struct Pair<D> {
-    pub(crate) nodes: D,
-    pub(crate) objects: D,
+pub struct Pair<D> {
+    pub nodes: D,
+    pub objects: D,
 }
 
 /// The tree and the objects of a peer, on such disks.

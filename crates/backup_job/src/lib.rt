@@ -20,4 +20,5 @@ mod restoring;
 
 pub use backing::print_backup;
 pub use checking::print_check;
+pub use disks::Pair;
 pub use restoring::restore_disks;

@@ -43,7 +43,7 @@ of_hash (hashes.Clash first second) = Clash first second
 of_hash (hashes.BookFull n) = BookFull n
 of_hash hashes.Memory = Memory
 
--- an error that comes from outside: from a store, the hasher, or want of memory
+-- an error that comes from outside: from a store or the hasher, or out of memory
 abbrev pub IsFromOutside : BackupError → Type 0
 IsFromOutside Failed = Unit {0}
 IsFromOutside (Clash first second) = Unit {0}
@@ -51,7 +51,7 @@ IsFromOutside (BookFull n) = Unit {0}
 IsFromOutside Memory = Unit {0}
 IsFromOutside e = ⊥
 
--- an error of the format, or want of memory
+-- an error of the format, or out of memory
 abbrev pub IsOfFormat : BackupError → Type 0
 IsOfFormat (Mismatch key) = ⊥
 IsOfFormat (Top named built) = ⊥
