@@ -15,7 +15,7 @@ use Rattle.schedule_words.specs.declared.cause.Cause.TheVariants.{Unknown}
 use Rattle.ens_words.specs.Forms.{AskFor, IsJob, output_word, words_of}
 use Rattle.ens_words.specs.Reading.{alone_of, cluster_form_of, cluster_of, generate_of, generator_of, job_of, peer_form_of, peer_of_words, summary_of}
 use Rattle.ens_words.specs.declared.job.Job.{Job}
-use Rattle.ens_words.specs.declared.job.Job.TheVariants.{Replay, Peer, Cluster, Audit, Check, Generate}
+use Rattle.ens_words.specs.declared.job.Job.TheVariants.{Replay, Peer, Cluster, Audit, Backup, Check, Restore, Generate}
 use Rattle.ens_base.specs.declared.peer_words.PeerWords.{PeerWords}
 use Rattle.ens_base.specs.declared.peer_words.ClusterWords.{ClusterWords}
 
@@ -109,19 +109,25 @@ generate_read verb (a ∷ []) job is h = cc h
 generate_read verb (a ∷ b ∷ []) job is h = cc h
 generate_read verb (a ∷ b ∷ c ∷ d ∷ more) job is h = cc h
 
+-- a verb is this word, and then the job is that of its form, or it is another
+by_word : (verb word : List ℕ) (form others : Result Job Cause) (job : Job) (P : Type 0) → (if same_bytes verb word then form else others) ≡ Ok job → (verb ≡ word → form ≡ Ok job → P) → (others ≡ Ok job → P) → P
+by_word verb word form others job P h here later = by (same_bytes verb word) refl h
+  where
+    by : (b : Bool) → same_bytes verb word ≡ b → (if b then form else others) ≡ Ok job → P
+    by true is h = here (bytes_same verb word is) h
+    by false is h = later h
+
 verb_read : (verb : List ℕ) (rest : List (List ℕ)) (job : Job) → job_of (verb ∷ rest) ≡ Ok job → AskFor (verb ∷ rest) job
 verb_read verb rest job h =
-    one (same_bytes verb (codes "replay")) refl (same_bytes verb (codes "peer")) refl (same_bytes verb (codes "cluster")) refl (same_bytes verb (codes "audit")) refl (same_bytes verb (codes "generate")) refl (same_bytes verb (codes "check")) refl h
-  where
-    one : (a : Bool) → same_bytes verb (codes "replay") ≡ a → (b : Bool) → same_bytes verb (codes "peer") ≡ b → (c : Bool) → same_bytes verb (codes "cluster") ≡ c → (d : Bool) → same_bytes verb (codes "audit") ≡ d → (e : Bool) → same_bytes verb (codes "generate") ≡ e → (f : Bool) → same_bytes verb (codes "check") ≡ f
-        → (if a then alone_of Replay rest else if b then peer_of_words rest else if c then cluster_of rest else if d then alone_of Audit rest else if e then generate_of rest else if f then alone_of Check rest else Err Unknown) ≡ Ok job → AskFor (verb ∷ rest) job
-    one true p b q c r d s e t f u h = alone_read verb (codes "replay") rest Replay job (bytes_same verb (codes "replay") p) tt refl h
-    one false p true q c r d s e t f u h = peer_read verb rest job (bytes_same verb (codes "peer") q) h
-    one false p false q true r d s e t f u h = cluster_read verb rest job (bytes_same verb (codes "cluster") r) h
-    one false p false q false r true s e t f u h = alone_read verb (codes "audit") rest Audit job (bytes_same verb (codes "audit") s) tt refl h
-    one false p false q false r false s true t f u h = generate_read verb rest job (bytes_same verb (codes "generate") t) h
-    one false p false q false r false s false t true u h = alone_read verb (codes "check") rest Check job (bytes_same verb (codes "check") u) tt refl h
-    one false p false q false r false s false t false u h = cc h
+    by_word verb (codes "replay") (alone_of Replay rest) _ job (AskFor (verb ∷ rest) job) h (λ is r. alone_read verb (codes "replay") rest Replay job is tt refl r)
+    (λ h2. by_word verb (codes "peer") (peer_of_words rest) _ job (AskFor (verb ∷ rest) job) h2 (λ is r. peer_read verb rest job is r)
+    (λ h3. by_word verb (codes "cluster") (cluster_of rest) _ job (AskFor (verb ∷ rest) job) h3 (λ is r. cluster_read verb rest job is r)
+    (λ h4. by_word verb (codes "audit") (alone_of Audit rest) _ job (AskFor (verb ∷ rest) job) h4 (λ is r. alone_read verb (codes "audit") rest Audit job is tt refl r)
+    (λ h5. by_word verb (codes "generate") (generate_of rest) _ job (AskFor (verb ∷ rest) job) h5 (λ is r. generate_read verb rest job is r)
+    (λ h6. by_word verb (codes "backup") (alone_of Backup rest) _ job (AskFor (verb ∷ rest) job) h6 (λ is r. alone_read verb (codes "backup") rest Backup job is tt refl r)
+    (λ h7. by_word verb (codes "check") (alone_of Check rest) _ job (AskFor (verb ∷ rest) job) h7 (λ is r. alone_read verb (codes "check") rest Check job is tt refl r)
+    (λ h8. by_word verb (codes "restore") (alone_of Restore rest) _ job (AskFor (verb ∷ rest) job) h8 (λ is r. alone_read verb (codes "restore") rest Restore job is tt refl r)
+    (λ none. cc none))))))))
 
 pub job_read : (words : List (List ℕ)) (job : Job) → job_of words ≡ Ok job → AskFor words job
 job_read [] job h = cc h
@@ -147,7 +153,9 @@ peer_back w is =
 pub job_back : (job : Job) → IsJob job → job_of (words_of job) ≡ Ok job
 job_back Replay is = refl
 job_back Audit is = refl
+job_back Backup is = refl
 job_back Check is = refl
+job_back Restore is = refl
 job_back (Peer w) is = peer_back w is
 job_back (Cluster w) is =
     rw (

@@ -4,7 +4,7 @@ use Rattle.std.specs.Fmt.{decimal}
 use Rattle.ens_base.specs.View.{IsView}
 use Rattle.schedule_words.specs.Spelling.{AreMembers, IsAmong, member_words}
 use Rattle.ens_words.specs.declared.job.Job.{Job}
-use Rattle.ens_words.specs.declared.job.Job.TheVariants.{Replay, Peer, Cluster, Audit, Check, Generate}
+use Rattle.ens_words.specs.declared.job.Job.TheVariants.{Replay, Peer, Cluster, Audit, Backup, Check, Restore, Generate}
 use Rattle.ens_words.specs.declared.job.WordsError.{WordsError}
 use Rattle.ens_words.specs.declared.job.WordsError.TheVariants.{Usage, Memory}
 
@@ -19,7 +19,9 @@ words_of Replay = codes "replay" ∷ []
 words_of (Peer w) = codes "peer" ∷ decimal w.me ∷ decimal w.peers ∷ decimal w.port ∷ decimal w.turns ∷ member_words w.view
 words_of (Cluster w) = codes "cluster" ∷ decimal w.peers ∷ decimal w.port ∷ member_words w.view
 words_of Audit = codes "audit" ∷ []
+words_of Backup = codes "backup" ∷ []
 words_of Check = codes "check" ∷ []
+words_of Restore = codes "restore" ∷ []
 words_of (Generate number calls summary) = codes "generate" ∷ decimal number ∷ decimal calls ∷ output_word summary ∷ []
 
 -- 1 to 31 peers, with ports that begin behind this one, and a view of them
@@ -34,7 +36,9 @@ IsJob Replay = Unit {0}
 IsJob (Peer w) = HasPeers w.peers w.port w.view × IsAmong w.peers w.me × (1 ≤ w.turns) × (w.turns ≤ 1000000000)
 IsJob (Cluster w) = HasPeers w.peers w.port w.view
 IsJob Audit = Unit {0}
+IsJob Backup = Unit {0}
 IsJob Check = Unit {0}
+IsJob Restore = Unit {0}
 IsJob (Generate number calls summary) = (number < 2 ^ 64) × (1 ≤ calls) × (calls ≤ 20000)
 
 -- the words ask for the job

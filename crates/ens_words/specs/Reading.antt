@@ -6,7 +6,7 @@ use Rattle.schedule_words.specs.Words.{number_of, peer_of, view_of}
 use Rattle.schedule_words.specs.declared.cause.Cause.{Cause}
 use Rattle.schedule_words.specs.declared.cause.Cause.TheVariants.{Unknown, Words}
 use Rattle.ens_words.specs.declared.job.Job.{Job}
-use Rattle.ens_words.specs.declared.job.Job.TheVariants.{Replay, Peer, Cluster, Audit, Check, Generate}
+use Rattle.ens_words.specs.declared.job.Job.TheVariants.{Replay, Peer, Cluster, Audit, Backup, Check, Restore, Generate}
 
 -- the words behind the first one of each form
 
@@ -66,5 +66,7 @@ job_of (verb ∷ rest) =
     else if same_bytes verb (codes "cluster") then cluster_of rest
     else if same_bytes verb (codes "audit") then alone_of Audit rest
     else if same_bytes verb (codes "generate") then generate_of rest
+    else if same_bytes verb (codes "backup") then alone_of Backup rest
     else if same_bytes verb (codes "check") then alone_of Check rest
+    else if same_bytes verb (codes "restore") then alone_of Restore rest
     else Err Unknown

@@ -11,8 +11,12 @@ pub enum Job {
     Cluster(ClusterWords),
     /// `audit`: read a record, and write a report on its histories.
     Audit,
+    /// `backup`: write the tree and the objects of a peer that has stopped.
+    Backup,
     /// `check`: read a backup, and write what it holds.
     Check,
+    /// `restore`: read a backup, and write it to the disks of a peer that has stopped.
+    Restore,
     /// `generate NUMBER CALLS schedule` or `generate NUMBER CALLS summary`: generate a schedule of 1
     /// to 20,000 calls from a number, and write it, or a summary of its run.
     Generate {

@@ -149,8 +149,12 @@ fn job(alloc: Global, verb: &str, rest: &[&str]) -> Result<Job, WordError>
         alone(Job::Audit, rest)
     } else if verb == "generate" {
         generate_job(rest)
+    } else if verb == "backup" {
+        alone(Job::Backup, rest)
     } else if verb == "check" {
         alone(Job::Check, rest)
+    } else if verb == "restore" {
+        alone(Job::Restore, rest)
     } else {
         Err(WordError::Bad(Cause::Unknown))
     }

@@ -2,6 +2,7 @@
 use Rattle.std.specs.Prelude.{IsSomeAnd}
 use Rattle.std.proofs.Common.{◌≡◌, ◌∙◌, ℕ, Bool, true, false, List, Option, None, Some, Ok, refl, inl, inr, sym, subst, arith}
 use Rattle.backup_job.proofs.Completing.{runs_out as check_runs_out}
+use Rattle.backup_job.proofs.Outlasting.{backup_runs_out, restore_runs_out}
 use Rattle.cluster.specs.Ends.{EndsOverBook, RunEnds, Stopped, Unread, recorded_schedule}
 use Rattle.cluster_script.specs.Scripts.{script_of}
 use Rattle.cluster_script.specs.declared.line.ScriptLine.{ScriptLine}
@@ -12,7 +13,7 @@ use Rattle.ens_base.specs.declared.peer_words.PeerWords.{PeerWords}
 use Rattle.ens_base.specs.declared.status.Status.{Status}
 use Rattle.ens_words.specs.Forms.{AskFor}
 use Rattle.ens_words.specs.declared.job.Job.{Job}
-use Rattle.ens_words.specs.declared.job.Job.TheVariants.{Replay, Peer, Cluster, Audit, Check, Generate}
+use Rattle.ens_words.specs.declared.job.Job.TheVariants.{Replay, Peer, Cluster, Audit, Backup, Check, Restore, Generate}
 use Rattle.held_stores.specs.Held.{Account}
 use Rattle.peer_serve.specs.Serving.{Ended, Failed, Printed}
 use Rattle.peer_serve.specs.declared.disks.Disks.{Disks}
@@ -21,7 +22,7 @@ use Rattle.replay.proofs.Completing.{runs_out}
 use Rattle.replay.specs.Jobs.{PrintsWith, RanOut, nothing_hashed}
 use Rattle.schedule_text.specs.Spelling.{schedule_text}
 use Rattle.ensemble.proofs.Endings.{asked_one}
-use Rattle.ensemble.specs.Peers.{AreSound, HasRecorded, HasServed, OnLink}
+use Rattle.ensemble.specs.Peers.{AreSound, HasBackedUp, HasRecorded, HasRestored, HasServed, OnOutside}
 use Rattle.replay.specs.Summary.{StaysWithin}
 use Rattle.schedule_generator.specs.Generated.{generate}
 use Rattle.ensemble.specs.Top.{Does, IsRecordable, IsUnhindered, PrintsSchedule, PrintsSummary}
@@ -113,8 +114,9 @@ module _ (old new : Option (List ℕ)) (before now : ℕ) (result : Status) (qui
     -- what became of the link, the disks and the ticker, for each job
     abbrev Linked : Option (List ℕ) → Type 0 → Job → Type 0
     Linked source untouched job =
-        OnLink job (HasServed seen may_leave moment left_since faults sent given link_faults coming disks disks_after link link_after ticker ticker_after old new before now result)
-        (HasRecorded seen may_leave moment left_since faults sent given link_faults coming disks disks_after link link_after ticker ticker_after source old new before now result) untouched
+        OnOutside job (HasServed seen may_leave moment left_since faults sent given link_faults coming disks disks_after link link_after ticker ticker_after old new before now result)
+        (HasRecorded seen may_leave moment left_since faults sent given link_faults coming disks disks_after link link_after ticker ticker_after source old new before now result)
+        (HasBackedUp seen faults disks disks_after link link_after ticker ticker_after old new before now result) (HasRestored seen faults disks disks_after link link_after ticker ticker_after source old new before now result) untouched
 
     unhindered : (source : Option (List ℕ)) (untouched : Type 0) (job : Job) (text : List ℕ) → IsUnhindered job source → Sound job → Linked source untouched job → Does job source result text → (result ≡ Status.ReadFault → ⊥) → RanOut result
     unhindered source untouched Replay text free sound linked does calm = runs_out source result text free does calm
@@ -123,6 +125,11 @@ module _ (old new : Option (List ℕ)) (before now : ℕ) (result : Status) (qui
     unhindered source untouched (Peer w) text free sound (status, printed, ended, out) does calm = ran_as status printed out (served_out w status printed ended sound.0 sound.1)
     unhindered source untouched (Cluster w) text free sound (same_disks, same_ticker, (status, printed, ends, out)) does calm =
         ran_as status printed out (recorded_by w source status printed free sound ends (λ fault. calm (same_status status printed out ∙ fault)))
+    unhindered source untouched Backup text free sound (facts, same_link, same_ticker, (status, printed, changed, out)) does calm =
+        let disks_hold = sound changed.0 changed.1 changed.2 changed.3 in
+        ran_as status printed out (backup_runs_out seen faults changed.0 changed.1 status printed disks_hold.1 disks_hold.0 changed.4)
+    unhindered source untouched Restore text free sound (facts, same_link, same_ticker, (status, printed, changed, out)) does calm =
+        ran_as status printed out (restore_runs_out seen faults source changed.0 changed.1 status printed free (sound changed.0 changed.1 changed.2 changed.3) changed.4 (λ fault. calm (same_status status printed out ∙ fault)))
     unhindered source untouched (Generate number calls false) text free sound linked does calm = schedule_out number calls result text does
     unhindered source untouched (Generate number calls true) text free sound linked does calm = summary_out number calls result text free does
 

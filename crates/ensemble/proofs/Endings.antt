@@ -3,7 +3,7 @@ use Rattle.std.proofs.Common.{◌≡◌, ℕ, true, false, List, Option, Result,
 use Rattle.ens_base.specs.declared.status.Status.{Status}
 use Rattle.ens_words.specs.Forms.{AskFor, Reads}
 use Rattle.ens_words.specs.declared.job.Job.{Job}
-use Rattle.ens_words.specs.declared.job.Job.TheVariants.{Replay, Peer, Cluster, Audit, Check, Generate}
+use Rattle.ens_words.specs.declared.job.Job.TheVariants.{Replay, Peer, Cluster, Audit, Backup, Check, Restore, Generate}
 use Rattle.ens_words.specs.declared.job.WordsError.TheVariants.{Usage}
 use Rattle.ens_words.proofs.Exactly.{job_back}
 use Rattle.ens_words.specs.Reading.{job_of}
@@ -33,10 +33,14 @@ job_ends words source Replay Status.Usage text asks h = absurd h.1
 job_ends words source (Generate number calls true) Status.Usage text asks h = absurd h
 job_ends words source (Generate number calls false) Status.Usage text asks h = absurd h
 job_ends words source Audit Status.Usage text asks h = absurd h
+job_ends words source Backup Status.Usage text asks h = absurd h
 job_ends words source Check Status.Usage text asks h = absurd h
+job_ends words source Restore Status.Usage text asks h = absurd h
 job_ends words source Replay Status.Memory text asks h = h.1
 job_ends words source Audit Status.Memory text asks h = h
+job_ends words source Backup Status.Memory text asks h = h
 job_ends words source Check Status.Memory text asks h = h
+job_ends words source Restore Status.Memory text asks h = h
 job_ends words source (Generate number calls true) Status.Memory text asks h = h
 job_ends words source (Generate number calls false) Status.Memory text asks h = h
 job_ends words source job status text asks h = (job, asks, h)
@@ -71,7 +75,9 @@ fault_at_usage e = cc e
 pub usage_did_read : (job : Job) (source : Option (List ℕ)) (before now : ℕ) → DidRead job source source before now Status.Usage
 usage_did_read Replay source before now = usage_read source before now
 usage_did_read Audit source before now = record { end = λ e. absurd (at_usage e); fault = λ e. absurd (fault_at_usage e); cut = λ e. absurd (fault_at_usage e) }
+usage_did_read Backup source before now = tt
 usage_did_read Check source before now = check_usage_read source before now
+usage_did_read Restore source before now = check_usage_read source before now
 usage_did_read (Peer w) source before now = tt
 usage_did_read (Cluster w) source before now = tt
 usage_did_read (Generate number calls summary) source before now = tt
@@ -85,7 +91,9 @@ fault_at_memory e = cc e
 pub memory_did_read : (job : Job) (source : Option (List ℕ)) (before now : ℕ) → DidRead job source source before now Status.Memory
 memory_did_read Replay source before now = memory_read source before now
 memory_did_read Audit source before now = record { end = λ e. absurd (at_memory e); fault = λ e. absurd (fault_at_memory e); cut = λ e. absurd (fault_at_memory e) }
+memory_did_read Backup source before now = tt
 memory_did_read Check source before now = check_memory_read source before now
+memory_did_read Restore source before now = check_memory_read source before now
 memory_did_read (Peer w) source before now = tt
 memory_did_read (Cluster w) source before now = tt
 memory_did_read (Generate number calls summary) source before now = tt
@@ -99,6 +107,13 @@ did_read_record job source left before now status is has = rw is has
 
 pub did_read_backup : (job : Job) (source left : Option (List ℕ)) (before now : ℕ) (status : Status) → job ≡ Check → HasReadBackup source left before now status → DidRead job source left before now status
 did_read_backup job source left before now status is has = rw is has
+
+pub did_read_restore : (job : Job) (source left : Option (List ℕ)) (before now : ℕ) (status : Status) → job ≡ Restore → HasReadBackup source left before now status → DidRead job source left before now status
+did_read_restore job source left before now status is has = rw is has
+
+-- a backup reads no input
+pub did_back_up : (job : Job) (source left : Option (List ℕ)) (before now : ℕ) (status : Status) → job ≡ Backup → DidRead job source left before now status
+did_back_up job source left before now status is = rw is tt
 
 pub did_read_schedule : (job : Job) (source left : Option (List ℕ)) (before now : ℕ) (status : Status) → job ≡ Replay → HasRead source left before now status → DidRead job source left before now status
 did_read_schedule job source left before now status is has = rw is has

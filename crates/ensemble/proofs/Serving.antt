@@ -8,12 +8,12 @@ use Rattle.ens_base.specs.declared.status.Status.{Status}
 use Rattle.ens_outside.specs.Written.{AppendsFront}
 use Rattle.ens_words.specs.Forms.{AskFor}
 use Rattle.ens_words.specs.declared.job.Job.{Job}
-use Rattle.ens_words.specs.declared.job.Job.TheVariants.{Peer, Cluster}
+use Rattle.ens_words.specs.declared.job.Job.TheVariants.{Peer, Cluster, Backup, Restore}
 use Rattle.peer_serve.specs.Serving.{Ended, Printed}
 use Rattle.peer_serve.specs.declared.disks.Disks.{Disks}
 use Rattle.turn_spec.specs.Turns.{ignored_in, taken_in}
 use Rattle.ensemble.proofs.Endings.{asked_one}
-use Rattle.ensemble.specs.Peers.{AskForLink, GivenForLink, OnLink}
+use Rattle.ensemble.specs.Peers.{AskForOutside, GivenForOutside, OnOutside}
 use Rattle.ensemble.specs.Top.{DidRead, GivenFor, PrintsCounts}
 use Rattle.ensemble.specs.declared.arguments.ArgumentsError.{ArgumentsError}
 
@@ -62,24 +62,34 @@ finished old new before now status text result written front failed = inl (writt
 -- ---- the words
 
 -- what holds of a job holds of the peer for which the words ask
-pub on_peer : (words : List (List ℕ)) (job : Job) (w : PeerWords) (P : PeerWords → Type 0) (Q : ClusterWords → Type 0) (R : Type 0) → AskFor words job → AskFor words (Peer w) → OnLink job P Q R → P w
-on_peer words job w P Q R asks also h = subst (λ (j : Job). OnLink j P Q R) (asked_one words job (Peer w) asks also) h
+pub on_peer : (words : List (List ℕ)) (job : Job) (w : PeerWords) (P : PeerWords → Type 0) (Q : ClusterWords → Type 0) (B E R : Type 0) → AskFor words job → AskFor words (Peer w) → OnOutside job P Q B E R → P w
+on_peer words job w P Q B E R asks also h = subst (λ (j : Job). OnOutside j P Q B E R) (asked_one words job (Peer w) asks also) h
 
 -- or of the cluster
-pub on_cluster : (words : List (List ℕ)) (job : Job) (w : ClusterWords) (P : PeerWords → Type 0) (Q : ClusterWords → Type 0) (R : Type 0) → AskFor words job → AskFor words (Cluster w) → OnLink job P Q R → Q w
-on_cluster words job w P Q R asks also h = subst (λ (j : Job). OnLink j P Q R) (asked_one words job (Cluster w) asks also) h
+pub on_cluster : (words : List (List ℕ)) (job : Job) (w : ClusterWords) (P : PeerWords → Type 0) (Q : ClusterWords → Type 0) (B E R : Type 0) → AskFor words job → AskFor words (Cluster w) → OnOutside job P Q B E R → Q w
+on_cluster words job w P Q B E R asks also h = subst (λ (j : Job). OnOutside j P Q B E R) (asked_one words job (Cluster w) asks also) h
 
--- and what holds of every other job holds where they ask for neither
-pub on_none : (words : List (List ℕ)) (job : Job) (P : PeerWords → Type 0) (Q : ClusterWords → Type 0) (R : Type 0) → AskFor words job → ¬ AskForLink words → OnLink job P Q R → R
-on_none words (Peer w) P Q R asks none h = absurd (none (Peer w, asks, tt))
-on_none words (Cluster w) P Q R asks none h = absurd (none (Cluster w, asks, tt))
-on_none words job P Q R asks none h = h
+-- or of the backup
+pub on_backup : (words : List (List ℕ)) (job : Job) (P : PeerWords → Type 0) (Q : ClusterWords → Type 0) (B E R : Type 0) → AskFor words job → AskFor words Backup → OnOutside job P Q B E R → B
+on_backup words job P Q B E R asks also h = subst (λ (j : Job). OnOutside j P Q B E R) (asked_one words job Backup asks also) h
+
+-- or of the restore
+pub on_restore : (words : List (List ℕ)) (job : Job) (P : PeerWords → Type 0) (Q : ClusterWords → Type 0) (B E R : Type 0) → AskFor words job → AskFor words Restore → OnOutside job P Q B E R → E
+on_restore words job P Q B E R asks also h = subst (λ (j : Job). OnOutside j P Q B E R) (asked_one words job Restore asks also) h
+
+-- and what holds of every other job holds where they ask for none of these
+pub on_none : (words : List (List ℕ)) (job : Job) (P : PeerWords → Type 0) (Q : ClusterWords → Type 0) (B E R : Type 0) → AskFor words job → ¬ AskForOutside words → OnOutside job P Q B E R → R
+on_none words (Peer w) P Q B E R asks none h = absurd (none (Peer w, asks, tt))
+on_none words (Cluster w) P Q B E R asks none h = absurd (none (Cluster w, asks, tt))
+on_none words Backup P Q B E R asks none h = absurd (none (Backup, asks, tt))
+on_none words Restore P Q B E R asks none h = absurd (none (Restore, asks, tt))
+on_none words job P Q B E R asks none h = h
 
 -- the same for words that were read
 pub given_asked : {W : Type 0} (given : Result (List (List ℕ)) ArgumentsError) (words : List (List ℕ)) (job : W → Job) (Q : W → Type 0) → ((w : W) → AskFor words (job w) → Q w) → given ≡ Ok words → (w : W) → GivenFor given (job w) → Q w
 given_asked given words job Q f is w asks = f w (subst (λ (g : Result (List (List ℕ)) ArgumentsError). GivenFor g (job w)) is asks)
 
-pub given_alone : (given : Result (List (List ℕ)) ArgumentsError) (words : List (List ℕ)) (Q : Type 0) → (¬ AskForLink words → Q) → given ≡ Ok words → ¬ GivenForLink given → Q
+pub given_alone : (given : Result (List (List ℕ)) ArgumentsError) (words : List (List ℕ)) (Q : Type 0) → (¬ AskForOutside words → Q) → given ≡ Ok words → ¬ GivenForOutside given → Q
 given_alone given words Q f is none = f (λ asks. none (asks.0, subst (λ (g : Result (List (List ℕ)) ArgumentsError). GivenFor g asks.0) (sym is) asks.1, asks.2))
 
 -- words that were not read ask for nothing
@@ -89,3 +99,6 @@ unread_given given why job is asks = subst (λ (g : Result (List (List ℕ)) Arg
 -- nor do words for which there is no job
 pub none_given : (given : Result (List (List ℕ)) ArgumentsError) (words : List (List ℕ)) → given ≡ Ok words → ((job : Job) → ¬ AskFor words job) → (job : Job) → ¬ GivenFor given job
 none_given given words is none job asks = none job (subst (λ (g : Result (List (List ℕ)) ArgumentsError). GivenFor g job) is asks)
+
+pub given_one : (given : Result (List (List ℕ)) ArgumentsError) (words : List (List ℕ)) (job : Job) (Q : Type 0) → (AskFor words job → Q) → given ≡ Ok words → GivenFor given job → Q
+given_one given words job Q f is asks = f (subst (λ (g : Result (List (List ℕ)) ArgumentsError). GivenFor g job) is asks)

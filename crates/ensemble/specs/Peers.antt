@@ -1,5 +1,9 @@
--- The jobs that use a link, and what they leave of the disks, the link and the ticker.
+-- The jobs that use a link or disks, and what they leave of the disks, the link and the ticker.
 use Rattle.std.specs.Prelude.{◌≡◌, ◌⊎◌, ℕ, Bool, List, Option, None, Some, Result}
+use Rattle.backup_job.specs.Backed.{Backed, CanBackUp}
+use Rattle.backup_job.specs.Disks.{AreBoth, Between, PairRose}
+use Rattle.backup_job.specs.Restored.{Restored}
+use Rattle.backup_job.specs.declared.disks.Pair.{Pair}
 use Rattle.cluster.specs.Ends.{EndsOverBook}
 use Rattle.ens_base.specs.Causes.{Rose}
 use Rattle.ens_base.specs.declared.peer_words.ClusterWords.{ClusterWords}
@@ -7,37 +11,41 @@ use Rattle.ens_base.specs.declared.peer_words.PeerWords.{PeerWords}
 use Rattle.ens_base.specs.declared.status.Status.{Status}
 use Rattle.ens_words.specs.Forms.{AskFor}
 use Rattle.ens_words.specs.declared.job.Job.{Job}
-use Rattle.ens_words.specs.declared.job.Job.TheVariants.{Peer, Cluster}
+use Rattle.ens_words.specs.declared.job.Job.TheVariants.{Peer, Cluster, Backup, Restore}
 use Rattle.peer_serve.specs.Faults.{fault_text}
 use Rattle.peer_serve.specs.Serving.{Ended, Failed, Printed}
 use Rattle.peer_serve.specs.declared.disks.Disks.{Disks}
 use Rattle.ensemble.specs.declared.arguments.ArgumentsError.{ArgumentsError}
 use Rattle.ensemble.specs.Top.{GivenFor}
 
--- the first of a job that serves as a peer, the second of one that runs a cluster, and the third of every
--- other job
-abbrev pub OnLink : Job → (PeerWords → Type 0) → (ClusterWords → Type 0) → Type 0 → Type 0
-OnLink (Peer w) P Q R = P w
-OnLink (Cluster w) P Q R = Q w
-OnLink job P Q R = R
+-- the first of a job that serves as a peer, the second of one that runs a cluster, the third of a backup, the
+-- fourth of a restore, and the fifth of every other job
+abbrev pub OnOutside : Job → (PeerWords → Type 0) → (ClusterWords → Type 0) → (backup restore others : Type 0) → Type 0
+OnOutside (Peer w) P Q backup restore others = P w
+OnOutside (Cluster w) P Q backup restore others = Q w
+OnOutside Backup P Q backup restore others = backup
+OnOutside Restore P Q backup restore others = restore
+OnOutside job P Q backup restore others = others
 
--- a peer and a cluster use a link
-abbrev pub UsesLink : Job → Type 0
-UsesLink (Peer w) = Unit {0}
-UsesLink (Cluster w) = Unit {0}
-UsesLink job = ⊥
+-- a peer and a cluster use a link, and a peer, a backup and a restore use disks
+abbrev pub UsesOutside : Job → Type 0
+UsesOutside (Peer w) = Unit {0}
+UsesOutside (Cluster w) = Unit {0}
+UsesOutside Backup = Unit {0}
+UsesOutside Restore = Unit {0}
+UsesOutside job = ⊥
 
 -- the words ask for one of them
-abbrev pub AskForLink : List (List ℕ) → Type 0
-AskForLink words = (job : Job) × AskFor words job × UsesLink job
+abbrev pub AskForOutside : List (List ℕ) → Type 0
+AskForOutside words = (job : Job) × AskFor words job × UsesOutside job
 
 -- the disks, the link and the ticker are as they were
 abbrev pub AreUntouched : {D L T : Type 0} → Disks D → Disks D → L → L → T → T → Type 0
 AreUntouched disks disks_after link link_after ticker ticker_after = (disks_after ≡ disks) × (link_after ≡ link) × (ticker_after ≡ ticker)
 
--- the words were read, and ask for a job that uses a link
-abbrev pub GivenForLink : Result (List (List ℕ)) ArgumentsError → Type 0
-GivenForLink given = (job : Job) × GivenFor given job × UsesLink job
+-- the words were read, and ask for a job that uses a link or disks
+abbrev pub GivenForOutside : Result (List (List ℕ)) ArgumentsError → Type 0
+GivenForOutside given = (job : Job) × GivenFor given job × UsesOutside job
 
 -- this is the job that the words ask for, or they were not read or ask for none
 abbrev pub IsJobOf : Result (List (List ℕ)) ArgumentsError → Option Job → Type 0
@@ -70,13 +78,46 @@ module _ {D L T : Type 0} (seen : D → Option (List ℕ)) (may_leave : D → Li
       HasRecorded disks disks_after link link_after ticker ticker_after source old new before now result w
       ⊎ (AreUntouched disks disks_after link link_after ticker ticker_after × Printed old new before now Status.Memory (fault_text Status.Memory) result)
 
+module _ {D L T : Type 0} (seen : D → Option (List ℕ)) (faults : D → ℕ) (disks disks_after : Disks D) (link link_after : L) (ticker ticker_after : T) where
+  -- A job changed the disks of nodes and of objects so, and ended so. The disk of facts, the link and the ticker
+  -- are as they were.
+  abbrev pub HasChanged : (Pair D → Pair D → Status → List ℕ → Type 0) → (old new : Option (List ℕ)) → (before now : ℕ) → Status → Type 0
+  HasChanged Ends old new before now result =
+      (disks_after.facts ≡ disks.facts) × (link_after ≡ link) × (ticker_after ≡ ticker)
+      × ((status : Status) × (text : List ℕ) × Between disks.nodes disks.objects disks_after.nodes disks_after.objects (λ first last. Ends first last status text) × Printed old new before now status text result)
+
+  -- what became of a backup
+  abbrev pub HasBackedUp : (old new : Option (List ℕ)) → (before now : ℕ) → Status → Type 0
+  HasBackedUp old new before now result = HasChanged (λ first last status text. Backed seen faults first last status text) old new before now result
+
+  -- what became of a restore of the backup in this source
+  abbrev pub HasRestored : Option (List ℕ) → (old new : Option (List ℕ)) → (before now : ℕ) → Status → Type 0
+  HasRestored source old new before now result = HasChanged (λ first last status text. Restored seen faults source first last status text) old new before now result
+
+  -- the same, unless memory ran out before the words were read
+  abbrev pub CameToBackUp : (old new : Option (List ℕ)) → (before now : ℕ) → Status → Type 0
+  CameToBackUp old new before now result =
+      HasBackedUp old new before now result ⊎ (AreUntouched disks disks_after link link_after ticker ticker_after × Printed old new before now Status.Memory (fault_text Status.Memory) result)
+
+  abbrev pub CameToRestore : Option (List ℕ) → (old new : Option (List ℕ)) → (before now : ℕ) → Status → Type 0
+  CameToRestore source old new before now result =
+      HasRestored source old new before now result ⊎ (AreUntouched disks disks_after link link_after ticker ticker_after × Printed old new before now Status.Memory (fault_text Status.Memory) result)
+
+  -- the disks of nodes and of objects are so, before and after
+  abbrev pub DisksAre : (Pair D → Pair D → Type 0) → Type 0
+  DisksAre P = (first last : Pair D) → AreBoth disks.nodes disks.objects first → AreBoth disks_after.nodes disks_after.objects last → P first last
+
+module _ {D L T : Type 0} (seen : D → Option (List ℕ)) (may_leave : D → List ℕ → Type 0) (moment : D → ℕ) (left_since : D → ℕ → List ℕ → Type 0) (faults : D → ℕ)
+    (sent : L → Option (List (ℕ × List ℕ))) (given : L → Option (List (Option (List ℕ)))) (link_faults : L → ℕ) (coming : T → Option (ℕ → Bool)) where
   -- no store of the peer failed, and its link counted no fault
   abbrev pub StoresHold : Disks D → Disks D → L → L → T → T → PeerWords → Type 0
   StoresHold disks disks_after link link_after ticker ticker_after w =
       (¬ Failed seen may_leave moment left_since faults sent given link_faults coming w Status.StoreFault disks disks_after link link_after ticker ticker_after) × (¬ Rose (link_faults link) (link_faults link_after))
 
-  -- nothing outside failed under the job: under a peer neither its stores nor its link, and under a cluster not its
-  -- link
+  -- Nothing outside failed under the job: under a peer neither its stores nor its link, under a cluster not its
+  -- link, and under a backup or a restore neither of its disks. The disks of a backup tell what can be backed up.
   abbrev pub AreSound : Disks D → Disks D → L → L → T → T → Job → Type 0
   AreSound disks disks_after link link_after ticker ticker_after job =
-      OnLink job (StoresHold disks disks_after link link_after ticker ticker_after) (λ w. ¬ Rose (link_faults link) (link_faults link_after)) (Unit {0})
+      OnOutside job (StoresHold disks disks_after link link_after ticker ticker_after) (λ w. ¬ Rose (link_faults link) (link_faults link_after))
+      (DisksAre seen faults disks disks_after link link_after ticker ticker_after (λ first last. (¬ PairRose seen faults first last) × CanBackUp seen faults first))
+      (DisksAre seen faults disks disks_after link link_after ticker ticker_after (λ first last. ¬ PairRose seen faults first last)) (Unit {0})

@@ -2,8 +2,10 @@
 use Rattle.std.specs.Prelude.{◌≡◌, ◌<◌, ℕ, true, false, List, [], ◌∷◌, ◌++◌, codes, Option, Result, Ok, Err, IsSomeAnd}
 use Rattle.std.specs.Io.KnownBytes.{IsAtEnd}
 use Rattle.ens_base.specs.Causes.{Rose}
+use Rattle.backup_job.specs.Backed.{PrintsBackup}
 use Rattle.backup_job.specs.Printed.{IsCheckable, PrintsCheck}
 use Rattle.backup_job.specs.Printed.{HasRead as HasReadBackup}
+use Rattle.backup_job.specs.Restored.{PrintsRestore}
 use Rattle.cluster.specs.Ends.{IsPastLines, PrintsRecord, opening, recorded_schedule}
 use Rattle.cluster.specs.Ends.{HasRead as HasReadScript}
 use Rattle.cluster_script.specs.Scripts.{script_of}
@@ -14,7 +16,7 @@ use Rattle.ens_base.specs.declared.peer_words.PeerWords.{PeerWords}
 use Rattle.ens_base.specs.declared.status.Status.{Status}
 use Rattle.ens_words.specs.Forms.{AskFor}
 use Rattle.ens_words.specs.declared.job.Job.{Job}
-use Rattle.ens_words.specs.declared.job.Job.TheVariants.{Replay, Peer, Cluster, Audit, Check, Generate}
+use Rattle.ens_words.specs.declared.job.Job.TheVariants.{Replay, Peer, Cluster, Audit, Backup, Check, Restore, Generate}
 use Rattle.peer_serve.specs.Faults.{fault_text}
 use Rattle.peer_serve.specs.Serving.{counts_text}
 use Rattle.record_input.specs.Reading.{WasCutOff}
@@ -28,11 +30,12 @@ use Rattle.schedule_text.specs.Spelling.{schedule_text}
 use Rattle.ensemble.specs.declared.arguments.ArgumentsError.{ArgumentsError}
 use Rattle.ensemble.specs.declared.arguments.ArgumentsError.TheVariants.{NotText, Memory}
 
--- a replay, an audit, a cluster and the test of a backup read the input
+-- a replay, an audit, a cluster, and the test and the restore of a backup read the input
 abbrev pub ReadsInput : Job → Type 0
 ReadsInput Replay = Unit {0}
 ReadsInput Audit = Unit {0}
 ReadsInput Check = Unit {0}
+ReadsInput Restore = Unit {0}
 ReadsInput (Cluster w) = Unit {0}
 ReadsInput job = ⊥
 
@@ -52,6 +55,7 @@ abbrev pub DidRead : Job → (source left : Option (List ℕ)) → (before now :
 DidRead Replay source left before now status = HasRead source left before now status
 DidRead Audit source left before now status = HasReadRecord source left before now status
 DidRead Check source left before now status = HasReadBackup source left before now status
+DidRead Restore source left before now status = HasReadBackup source left before now status
 DidRead (Cluster w) source left before now status = HasReadScript w source left before now status
 DidRead job source left before now status = Unit {0}
 
@@ -98,7 +102,9 @@ Does Replay source status text = Prints source status text
 Does (Peer words) source status text = PrintsCounts words status text
 Does (Cluster words) source status text = PrintsRecord words source status text
 Does Audit source status text = PrintsReport source status text
+Does Backup source status text = PrintsBackup status text
 Does Check source status text = PrintsCheck source status text
+Does Restore source status text = PrintsRestore source status text
 Does (Generate number calls false) source status text = PrintsSchedule number calls status text
 Does (Generate number calls true) source status text = PrintsSummary number calls status text
 
@@ -116,15 +122,17 @@ IsRecordable w bytes =
     (script : List ScriptLine) × (script_of w.peers bytes ≡ Ok script)
     × ((part : List ScriptLine) (looks : List (Option (List ℕ))) (r : Recording) → IsPart part script → Follows part looks (opening w) r → ¬ IsPastLines r × IsRunnable (schedule_text (recorded_schedule w r)))
 
--- Nothing in its source ends the job early: a replay, an audit, a cluster and the test of a backup have a source
--- whose bytes are known, and which nothing in them ends early; and the run that is summed up stays within the
--- limit on messages. A peer reads no source.
+-- Nothing in its source ends the job early: a replay, an audit, a cluster, and the test and the restore of a backup
+-- have a source whose bytes are known, and which nothing in them ends early; and the run that is summed up stays
+-- within the limit on messages. A peer and a backup read no source.
 abbrev pub IsUnhindered : Job → Option (List ℕ) → Type 0
 IsUnhindered Replay source = IsSomeAnd source IsRunnable
 IsUnhindered (Peer words) source = Unit {0}
 IsUnhindered (Cluster words) source = IsSomeAnd source (IsRecordable words)
 IsUnhindered Audit source = IsSomeAnd source IsAuditable
+IsUnhindered Backup source = Unit {0}
 IsUnhindered Check source = IsSomeAnd source IsCheckable
+IsUnhindered Restore source = IsSomeAnd source IsCheckable
 IsUnhindered (Generate number calls false) source = Unit {0}
 IsUnhindered (Generate number calls true) source = StaysWithin (generate number calls)
 

@@ -54,9 +54,15 @@ pub fn link_of<R: Net>(net: R, job: Option<Job>) -> UdpLink<R> {
     match job {
         Some(Job::Peer(words)) => UdpLink::new(net, words.port, words.me.0, words.me.0),
         Some(Job::Cluster(words)) => UdpLink::new(net, words.port, 1, words.peers),
-        Some(Job::Replay | Job::Audit | Job::Check | Job::Generate { .. }) | None => {
-            UdpLink::new(net, 0, 0, 0)
-        }
+        Some(
+            Job::Replay
+            | Job::Audit
+            | Job::Backup
+            | Job::Check
+            | Job::Restore
+            | Job::Generate { .. },
+        )
+        | None => UdpLink::new(net, 0, 0, 0),
     }
 }
 

@@ -3,7 +3,7 @@ use Rattle.ens_base.specs.declared.status.Status.TheVariants as Status
 use Rattle.ens_words.specs.declared.job.Job.TheVariants as jobs
 use Rattle.ensemble.proofs.Completing.{job_completes}
 use Rattle.ensemble.proofs.Endings.{asked_did_read, asked_reads, did_read_at, job_ends, memory_did_read, refused_words, usage_did_read}
-use Rattle.ensemble.proofs.Serving.{finished, on_cluster, on_none, on_peer}
+use Rattle.ensemble.proofs.Serving.{finished, on_backup, on_cluster, on_none, on_peer, on_restore}
 use Rattle.ensemble.proofs.top.ensemble_main.Goals as goal
 
 pub returns-in-Ok-clause-printed : goal.returns-in-Ok-clause-printed
@@ -42,13 +42,13 @@ pub returns-in-Ok-clause-untouched : goal.returns-in-Ok-clause-untouched
 returns-in-Ok-clause-untouched g c = λ none. c.run_job.ensures.untouched (λ reads. none (asked_reads _ c.in-Ok.job c.in-Ok.ensures reads))
 
 pub returns-in-Ok-clause-served : goal.returns-in-Ok-clause-served
-returns-in-Ok-clause-served g c = λ w asks. inl (on_peer _ c.in-Ok.job w _ _ _ c.in-Ok.ensures asks c.run_job.ensures.linked)
+returns-in-Ok-clause-served g c = λ w asks. inl (on_peer _ c.in-Ok.job w _ _ _ _ _ c.in-Ok.ensures asks c.run_job.ensures.linked)
 
 pub returns-in-Ok-clause-recorded : goal.returns-in-Ok-clause-recorded
-returns-in-Ok-clause-recorded g c = λ w asks. inl (on_cluster _ c.in-Ok.job w _ _ _ c.in-Ok.ensures asks c.run_job.ensures.linked)
+returns-in-Ok-clause-recorded g c = λ w asks. inl (on_cluster _ c.in-Ok.job w _ _ _ _ _ c.in-Ok.ensures asks c.run_job.ensures.linked)
 
 pub returns-in-Ok-clause-alone : goal.returns-in-Ok-clause-alone
-returns-in-Ok-clause-alone g c = λ none. on_none _ c.in-Ok.job _ _ _ c.in-Ok.ensures none c.run_job.ensures.linked
+returns-in-Ok-clause-alone g c = λ none. on_none _ c.in-Ok.job _ _ _ _ _ c.in-Ok.ensures none c.run_job.ensures.linked
 
 pub returns-in-Err-Usage-clause-served : goal.returns-in-Err-Usage-clause-served
 returns-in-Err-Usage-clause-served g c = λ w asks. absurd ((rw c.in-Err-Usage.field-0-is at c.in-Err-Usage.ensures) (jobs.Peer w) asks)
@@ -61,3 +61,21 @@ returns-in-Err-Memory-clause-recorded g c = λ w asks. inr ((refl, refl, refl), 
 
 pub returns-in-Err-Memory-clause-served : goal.returns-in-Err-Memory-clause-served
 returns-in-Err-Memory-clause-served g c = λ w asks. inr ((refl, refl, refl), finished _ _ _ _ _ _ _ c.finish-in-Err-Memory.ensures.written c.finish-in-Err-Memory.ensures.front c.finish-in-Err-Memory.ensures.failed)
+
+pub returns-in-Ok-clause-backed : goal.returns-in-Ok-clause-backed
+returns-in-Ok-clause-backed g c = λ asks. inl (on_backup _ c.in-Ok.job _ _ _ _ _ c.in-Ok.ensures asks c.run_job.ensures.linked)
+
+pub returns-in-Err-Usage-clause-backed : goal.returns-in-Err-Usage-clause-backed
+returns-in-Err-Usage-clause-backed g c = λ asks. absurd ((rw c.in-Err-Usage.field-0-is at c.in-Err-Usage.ensures) jobs.Backup asks)
+
+pub returns-in-Err-Memory-clause-backed : goal.returns-in-Err-Memory-clause-backed
+returns-in-Err-Memory-clause-backed g c = λ asks. inr ((refl, refl, refl), finished _ _ _ _ _ _ _ c.finish-in-Err-Memory.ensures.written c.finish-in-Err-Memory.ensures.front c.finish-in-Err-Memory.ensures.failed)
+
+pub returns-in-Ok-clause-restored : goal.returns-in-Ok-clause-restored
+returns-in-Ok-clause-restored g c = λ asks. inl (on_restore _ c.in-Ok.job _ _ _ _ _ c.in-Ok.ensures asks c.run_job.ensures.linked)
+
+pub returns-in-Err-Usage-clause-restored : goal.returns-in-Err-Usage-clause-restored
+returns-in-Err-Usage-clause-restored g c = λ asks. absurd ((rw c.in-Err-Usage.field-0-is at c.in-Err-Usage.ensures) jobs.Restore asks)
+
+pub returns-in-Err-Memory-clause-restored : goal.returns-in-Err-Memory-clause-restored
+returns-in-Err-Memory-clause-restored g c = λ asks. inr ((refl, refl, refl), finished _ _ _ _ _ _ _ c.finish-in-Err-Memory.ensures.written c.finish-in-Err-Memory.ensures.front c.finish-in-Err-Memory.ensures.failed)

@@ -1,9 +1,13 @@
 use Rattle.cluster.specs.Ends.{EndsOverBook}
 use Rattle.std.proofs.Common.{ℕ, List, refl, rules, sym, subst}
+use Rattle.backup_job.specs.Backed.{Backed}
+use Rattle.backup_job.specs.Disks.{Between}
+use Rattle.backup_job.specs.Restored.{Restored}
 use Rattle.ens_base.specs.declared.status.Status.{Status}
 use Rattle.ens_words.specs.declared.job.Job.{Job}
 use Rattle.ensemble.specs.Top.{Does, PrintsCounts}
-use Rattle.ensemble.proofs.Endings.{did_read_backup, did_read_record, did_read_schedule}
+use Rattle.ensemble.proofs.Endings.{did_back_up, did_read_backup, did_read_record, did_read_restore, did_read_schedule}
+use Rattle.ensemble.proofs.Changing.{all_there_still, backup_text, both_there, no_read, restore_reads, restore_text}
 use Rattle.ensemble.proofs.Recording.{cluster_reads, did_read_script, printed_of, read_rose, unseen, words_valid}
 use Rattle.ensemble.proofs.Serving.{ended_prints, front_text, peer_did_read, reads_nothing, whole_text}
 use Rattle.ensemble.proofs.top.run_job.Given as given
@@ -64,6 +68,75 @@ returns-in-Check-clause-untouched g c = λ none. absurd (none (rw c.in-Check.is 
 
 pub returns-in-Check-clause-input : goal.returns-in-Check-clause-input
 returns-in-Check-clause-input g c = λ wrote. did_read_backup c.args.job _ _ _ _ _ c.in-Check.is (record { end = c.print_check.ensures.end; fault = c.print_check.ensures.read })
+
+-- ---- a backup
+
+pub print_backup-requires : goal.print_backup-requires
+print_backup-requires g c = (search rules, both_there c.args.disks.now c.requires.there)
+
+pub returns-in-Backup-clause-printed : goal.returns-in-Backup-clause-printed
+returns-in-Backup-clause-printed g c = λ wrote.
+    let p = c.print_backup.ensures.printed wrote in
+    (p.0, subst (λ (job : Job). Does job (g.S.Source.left c.args.input.now) c.print_backup.result p.0) (sym c.in-Backup.is) (backup_text g.D.Disk.seen g.D.Disk.fault_count _ _ _ _ c.print_backup.result p.0 p.1), p.2)
+
+pub returns-in-Backup-clause-front : goal.returns-in-Backup-clause-front
+returns-in-Backup-clause-front g c = λ fault.
+    let f = c.print_backup.ensures.front fault in
+    (f.0, f.1, subst (λ (job : Job). Does job (g.S.Source.left c.args.input.now) f.0 f.1) (sym c.in-Backup.is) (backup_text g.D.Disk.seen g.D.Disk.fault_count _ _ _ _ f.0 f.1 f.2), did_back_up c.args.job _ _ _ _ _ c.in-Backup.is, f.3)
+
+pub returns-in-Backup-clause-input : goal.returns-in-Backup-clause-input
+returns-in-Backup-clause-input g c = λ wrote. did_back_up c.args.job _ _ _ _ _ c.in-Backup.is
+
+pub returns-in-Backup-clause-read : goal.returns-in-Backup-clause-read
+returns-in-Backup-clause-read g c = λ fault.
+    absurd (no_read c.print_backup.result _ _ (λ wrote. let p = c.print_backup.ensures.printed wrote in (p.0, backup_text g.D.Disk.seen g.D.Disk.fault_count _ _ _ _ c.print_backup.result p.0 p.1, p.2)) fault)
+
+pub returns-in-Backup-clause-linked : goal.returns-in-Backup-clause-linked
+returns-in-Backup-clause-linked g c =
+    rw c.in-Backup.is (
+      refl,
+      refl,
+      refl,
+      printed_of (λ status text. Between c.args.disks.now.nodes c.args.disks.now.objects c.print_backup.new.nodes c.print_backup.new.objects (λ first last. Backed g.D.Disk.seen g.D.Disk.fault_count first last status text)) _ _ _ _ c.print_backup.result c.print_backup.ensures.printed
+          c.print_backup.ensures.front c.print_backup.ensures.write,
+    )
+
+pub returns-in-Backup-clause-there : goal.returns-in-Backup-clause-there
+returns-in-Backup-clause-there g c = all_there_still c.args.disks.now _ c.requires.there refl c.print_backup.ensures.there.0 c.print_backup.ensures.there.1
+
+-- ---- a restore
+
+pub restore_disks-requires : goal.restore_disks-requires
+restore_disks-requires g c = (search rules, both_there c.args.disks.now c.requires.there)
+
+pub returns-in-Restore-clause-printed : goal.returns-in-Restore-clause-printed
+returns-in-Restore-clause-printed g c = λ wrote.
+    let p = c.restore_disks.ensures.printed wrote in
+    (p.0, subst (λ (job : Job). Does job (g.S.Source.left c.args.input.now) c.restore_disks.result p.0) (sym c.in-Restore.is) (restore_text g.D.Disk.seen g.D.Disk.fault_count _ _ _ _ _ c.restore_disks.result p.0 p.1), p.2)
+
+pub returns-in-Restore-clause-front : goal.returns-in-Restore-clause-front
+returns-in-Restore-clause-front g c = λ fault.
+    let f = c.restore_disks.ensures.front fault in
+    (f.0, f.1, subst (λ (job : Job). Does job (g.S.Source.left c.args.input.now) f.0 f.1) (sym c.in-Restore.is) (restore_text g.D.Disk.seen g.D.Disk.fault_count _ _ _ _ _ f.0 f.1 f.2), did_read_restore c.args.job _ _ _ _ _ c.in-Restore.is f.3, f.4)
+
+pub returns-in-Restore-clause-untouched : goal.returns-in-Restore-clause-untouched
+returns-in-Restore-clause-untouched g c = λ none. absurd (none (restore_reads c.args.job c.in-Restore.is))
+
+pub returns-in-Restore-clause-input : goal.returns-in-Restore-clause-input
+returns-in-Restore-clause-input g c = λ wrote. did_read_restore c.args.job _ _ _ _ _ c.in-Restore.is (c.restore_disks.ensures.input wrote)
+
+pub returns-in-Restore-clause-linked : goal.returns-in-Restore-clause-linked
+returns-in-Restore-clause-linked g c =
+    rw c.in-Restore.is (
+      refl,
+      refl,
+      refl,
+      printed_of (λ status text. Between c.args.disks.now.nodes c.args.disks.now.objects c.restore_disks.new.nodes c.restore_disks.new.objects (λ first last. Restored g.D.Disk.seen g.D.Disk.fault_count (g.S.Source.left c.args.input.now) first last status text)) _ _ _ _ c.restore_disks.result
+          c.restore_disks.ensures.printed (λ fault. let f = c.restore_disks.ensures.front fault in (f.0, f.1, f.2, f.4)) c.restore_disks.ensures.write,
+    )
+
+pub returns-in-Restore-clause-there : goal.returns-in-Restore-clause-there
+returns-in-Restore-clause-there g c = all_there_still c.args.disks.now _ c.requires.there refl c.restore_disks.ensures.there.0 c.restore_disks.ensures.there.1
 
 pub returns-in-Replay-clause-front : goal.returns-in-Replay-clause-front
 returns-in-Replay-clause-front g c = λ fault. let r = c.replay.ensures.front fault in (r.0, r.1, subst (λ (job : Job). Does job (g.S.Source.left c.args.input.now) r.0 r.1) (sym c.in-Replay.is) r.2, did_read_schedule c.args.job _ _ _ _ _ c.in-Replay.is r.3, r.4)

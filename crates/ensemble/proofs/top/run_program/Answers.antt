@@ -4,7 +4,7 @@ use Rattle.ens_words.specs.declared.job.Job.TheVariants as jobs
 use Rattle.ensemble.specs.Arguments.{words_given}
 use Rattle.ensemble.specs.declared.arguments.ArgumentsError.TheVariants.{NotText, Memory}
 use Rattle.ensemble.proofs.Endings.{did_read_at, front_given, given_did_read, memory_did_read, not_to_read, printed_given, unread_ends, usage_did_read}
-use Rattle.ensemble.proofs.Serving.{finished, given_alone, given_asked, unread_given}
+use Rattle.ensemble.proofs.Serving.{finished, given_alone, given_asked, given_one, unread_given}
 use Rattle.ensemble.proofs.top.run_program.Goals as goal
 
 pub returns-in-Ok-words_of-clause-printed : goal.returns-in-Ok-words_of-clause-printed
@@ -78,3 +78,35 @@ pub returns-in-Err-Memory-clause-served : goal.returns-in-Err-Memory-clause-serv
 returns-in-Err-Memory-clause-served g c = λ w asks.
     let given : words_given c.args.all.now ≡ Err Memory = search rules in
     absurd (unread_given (words_given c.args.all.now) Memory (jobs.Peer w) given asks)
+
+pub returns-in-Ok-words_of-clause-backed : goal.returns-in-Ok-words_of-clause-backed
+returns-in-Ok-words_of-clause-backed g c = given_one (words_given c.args.all.now) _ jobs.Backup _ c.ensemble_main.ensures.backed (search rules)
+
+pub returns-in-Err-clause-backed : goal.returns-in-Err-clause-backed
+returns-in-Err-clause-backed g c = λ asks. inr ((refl, refl, refl), finished _ _ _ _ _ _ _ c.finish.ensures.written c.finish.ensures.front c.finish.ensures.failed)
+
+pub returns-in-Err-NotText-clause-backed : goal.returns-in-Err-NotText-clause-backed
+returns-in-Err-NotText-clause-backed g c = λ asks.
+    let given : words_given c.args.all.now ≡ Err NotText = search rules in
+    absurd (unread_given (words_given c.args.all.now) NotText jobs.Backup given asks)
+
+pub returns-in-Err-Memory-clause-backed : goal.returns-in-Err-Memory-clause-backed
+returns-in-Err-Memory-clause-backed g c = λ asks.
+    let given : words_given c.args.all.now ≡ Err Memory = search rules in
+    absurd (unread_given (words_given c.args.all.now) Memory jobs.Backup given asks)
+
+pub returns-in-Ok-words_of-clause-restored : goal.returns-in-Ok-words_of-clause-restored
+returns-in-Ok-words_of-clause-restored g c = given_one (words_given c.args.all.now) _ jobs.Restore _ c.ensemble_main.ensures.restored (search rules)
+
+pub returns-in-Err-clause-restored : goal.returns-in-Err-clause-restored
+returns-in-Err-clause-restored g c = λ asks. inr ((refl, refl, refl), finished _ _ _ _ _ _ _ c.finish.ensures.written c.finish.ensures.front c.finish.ensures.failed)
+
+pub returns-in-Err-NotText-clause-restored : goal.returns-in-Err-NotText-clause-restored
+returns-in-Err-NotText-clause-restored g c = λ asks.
+    let given : words_given c.args.all.now ≡ Err NotText = search rules in
+    absurd (unread_given (words_given c.args.all.now) NotText jobs.Restore given asks)
+
+pub returns-in-Err-Memory-clause-restored : goal.returns-in-Err-Memory-clause-restored
+returns-in-Err-Memory-clause-restored g c = λ asks.
+    let given : words_given c.args.all.now ≡ Err Memory = search rules in
+    absurd (unread_given (words_given c.args.all.now) Memory jobs.Restore given asks)
