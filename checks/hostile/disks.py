@@ -109,8 +109,11 @@ def serves_rightly(images, wanted=None):
         it.start()
         if wanted == "store fault":
             return differs(it.end(), (STORE_FAULT, "store fault\n"))
-        patience = ELECTED if "unavailable" in wanted.values() else 20
-        got = {key: get(it.client, key, patience if key == KEYS[0] else 0.5 * patience) for key in wanted}
+        got = {}
+        for key in wanted:
+            # Once a peer has not served for so long, it does not serve the other keys either.
+            never = wanted[key] == "unavailable"
+            got[key] = get(it.client, key, 20 if not never else 0.1 if got else ELECTED)
         if got != wanted:
             return differs(got, wanted)
         for key in [key for key in wanted if wanted[key] == "lost"]:

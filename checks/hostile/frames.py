@@ -131,13 +131,24 @@ def noise(chance, count):
         yield bytes(data)
 
 
+def batches_of(data):
+    """The datagrams, a few at a time: no more than a socket of the usual size has room for."""
+    batch = []
+    for datagram in data:
+        if len(batch) == 16 or sum(map(len, batch)) + len(datagram) > 20_000:
+            yield batch
+            batch = []
+        batch.append(datagram)
+    yield batch
+
+
 def counts_rightly(data):
     """What is wrong with what a peer prints that was sent these datagrams, or None.
 
     After every few of them a call is sent, and its answer awaited: so none was lost before a socket that is full. Peer 1
     stands in no view, and says at once that it does not lead.
     """
-    batches = [data[at : at + 16] for at in range(0, len(data), 16)]
+    batches = list(batches_of(data))
     taken = len(batches) + sum(is_taken(it, 1, PEERS) for it in data)
     with Ensemble(PEERS, VIEW) as it:
         it.start(1, turns=len(data) + len(batches) + IDLE_TURNS)
@@ -146,7 +157,7 @@ def counts_rightly(data):
             for datagram in batch:
                 it.client.socket.sendto(datagram, ("127.0.0.1", it.port + 1))
             if it.client.ask(GET, b"a", b"", patience=10) is None:
-                return f"no answer after {16 * number + len(batch)} of {len(data)} datagrams"
+                return f"no answer after {number + 1} of {len(batches)} batches"
         ended = it.end(1)
     return differs(ended, (DONE, f"peer 1 frames {taken} refused {len(data) + len(batches) - taken}\n"))
 

@@ -49,9 +49,11 @@ def open_three():
 
 
 def write(it, word):
-    """Writes each key, and returns what a get then finds."""
+    """Writes each key, and returns what a get then finds. No peer is then in the middle of a write, also the last one
+    to hear of it."""
     for key in KEYS:
         it.client.over(key, word + key[:1], repeat=True)
+    time.sleep(0.5)
     return {key: held(word + key[:1]) for key in KEYS}
 
 
@@ -134,7 +136,6 @@ def power_fails(lost_by):
         write(it, b"old")
         nodes = {peer: it.images(peer)[1] for peer in PEERS}
         wanted = write(it, b"new")
-        time.sleep(0.2)
         it.kill()
         for peer in lost_by:
             it.put_back(Images(*it.images(peer))._replace(nodes=nodes[peer]), peer)

@@ -1,5 +1,6 @@
 """Runs the built programs, peers that serve, and the cases of a table."""
 import concurrent.futures
+import itertools
 import os
 import resource
 import signal
@@ -23,7 +24,8 @@ MOST_MEMORY = 2 << 30
 SECONDS = 120
 
 # Below the ports that the system gives to those who ask for any, in blocks of 64: those of one ensemble.
-PORTS = iter(range(20_000 + 64 * (os.getpid() % 64), 32_000, 64))
+BLOCKS = [20_000 + 64 * ((os.getpid() + number) % 187) for number in range(187)]
+PORTS = itertools.cycle(BLOCKS)
 PORTS_LOCK = threading.Lock()
 
 
@@ -143,6 +145,13 @@ class Ensemble:
             process.kill()
             process.communicate()
 
+    def work(self, word, data=b"", peer=1):
+        """The status and the bytes that a word writes which works on the files of a peer."""
+        ran = subprocess.run(
+            [program(), word], input=data, cwd=self.folder(peer), stdout=subprocess.PIPE, timeout=SECONDS, preexec_fn=bounded()
+        )
+        return ran.returncode, ran.stdout
+
     def images(self, peer=1):
         """The files of a peer."""
         return tuple((self.folder(peer) / name).read_bytes() for name in ("facts", "nodes", "objects"))
@@ -187,7 +196,7 @@ def complaints(cases, at_once):
         name, test = case
         try:
             complaint = test()
-        except (OSError, subprocess.SubprocessError, StopIteration) as error:
+        except (OSError, subprocess.SubprocessError) as error:
             complaint = f"{type(error).__name__}: {error}"
         return f"{name}: {complaint}" if complaint else None
 

@@ -123,6 +123,9 @@ EDGES = [
     ("x" * 4401, 1),
 ]
 
+# The program itself takes some megabytes, and no line is kept that is too long.
+LITTLE = 48 << 20
+
 WORDS = (
     "ensemble peers view call tick deliver pass lose calm change stop start upgrade deepen spoil damage inner revert fail "
     "turn answers get once update append add swap over delete fact tree backend old new 0 1 2 3 4 5 6 7 9 31 32 63 64 100 "
@@ -254,6 +257,10 @@ def cases(long):
         yield line[:40], lambda line=line, wanted=wanted: at_edge(line, wanted)
     for data in found:
         yield repr(data[-60:]), lambda data=data: ends_rightly(data)
+    endless = LEADS.encode() + bytes(64 << 20)
+    for word in ("replay", "audit"):
+        wanted = SCHEDULE, "schedule 6 1\n"
+        yield "a line without an end", lambda word=word: differs(run(f"ensemble {word}", endless, memory=LITTLE), wanted)
 
 
 def at_edge(line, wanted):
