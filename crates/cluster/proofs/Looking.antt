@@ -1,6 +1,6 @@
 -- What a recorder makes of its looks.
-use Rattle.std.proofs.Common.{◌≡◌, ◌≤◌, ◌<◌, ◌+◌, ◌-◌, ◌∙◌, ℕ, Bool, true, false, List, [], ◌∷◌, ◌++◌, drop, Option, None, Some, Vec, Result, Ok, Err, refl, sym, ap, subst, arith, append_assoc, append-nil, length-append, slice_get}
-use Rattle.std.specs.Prelude.{IsErrAnd, if◌then◌else◌}
+use Rattle.std.proofs.Common.{◌≡◌, ◌≤◌, ◌<◌, ◌+◌, ◌-◌, ◌∙◌, ℕ, Bool, true, false, List, [], ◌∷◌, ◌++◌, length, drop, Option, None, Some, Vec, Result, Ok, Err, refl, sym, ap, subst, arith, append_assoc, append-nil, length-append, slice_get}
+use Rattle.std.specs.Prelude.{IsErrAnd, if◌then◌else◌, map}
 use Rattle.std.specs.Option.{option_map}
 use Rattle.std.specs.declared.alloc.Global.{Global}
 use Rattle.std.proofs.lemmas.Option.{none-some, same_Some}
@@ -14,7 +14,7 @@ use Rattle.ens_outside.specs.declared.errors.LinkError.{LinkError}
 use Rattle.ens_outside.specs.declared.errors.LinkError.TheVariants as links
 use Rattle.cluster_spec.proofs.Following.{heard_more}
 use Rattle.cluster_spec.specs.Messages.{MayBeRecorded}
-use Rattle.cluster_spec.specs.Recordings.{Recording, delivering, found, frames_of, heard, heard_all, recorded}
+use Rattle.cluster_spec.specs.Recordings.{Recording, delivering, found, frame_out, frames_of, heard, heard_all, recorded}
 use Rattle.frame_index.proofs.Numbers.{first_waits, settled_waits}
 use Rattle.frame_index.specs.Indexes.{Indexes, is_spelled, queue_at, waiting_numbers}
 use Rattle.frame_index.specs.declared.index.FrameIndex.{FrameIndex}
@@ -25,7 +25,9 @@ use Rattle.replay.specs.Worlds.{schedule_run}
 use Rattle.schedule_text.specs.declared.event.ScheduleEvent.TheVariants.{Deliver}
 use Rattle.turn_spec.proofs.Following.{grew_more}
 use Rattle.turn_spec.specs.Going.{Grew}
+use Rattle.wire_frames.specs.declared.frame.Frame.{Frame}
 use Rattle.world_spec.specs.Runs.{Run}
+use Rattle.cluster.specs.Ends.{Handed, Looked, frames_between}
 use Rattle.cluster.specs.Recorders.{Hears, IsInStep, Reached, Records, StopsAt, mail_in}
 use Rattle.cluster.specs.declared.recorder.Recorder.{Recorder}
 use Rattle.cluster.specs.declared.stop.Stop.{Stop}
@@ -115,6 +117,14 @@ kept_looks : (old new : Option (List (Option (List ℕ)))) (e : LinkError) → L
 kept_looks None new e looks = tt
 kept_looks (Some xs) new e looks = looks ∙ ap (λ (l : List (Option (List ℕ))). Some l) (sym (append-nil xs))
 
+drop_whole : (xs : List Frame) → drop (length xs) xs ≡ []
+drop_whole [] = refl
+drop_whole (x ∷ xs) = drop_whole xs
+
+-- nothing is sent between a recording and itself
+none_between : (r : Recording) → frames_between r r ≡ []
+none_between r = ap (λ (l : List Frame). map frame_out l) (drop_whole r.run.mail.sent)
+
 module _ {L : Type 0} (sent : L → Option (List (ℕ × List ℕ))) (given : L → Option (List (Option (List ℕ)))) (faults : L → ℕ)
     (w : ClusterWords) (first : Account) (a : L) (looks : List (Option (List ℕ))) (r : Recording) where
   abbrev At : List (Option (List ℕ)) → Recording → Recorder → L → Account → Type 0
@@ -162,60 +172,91 @@ module _ {L : Type 0} (sent : L → Option (List (ℕ × List ℕ))) (given : L 
   found_in c link mid reached bytes given same =
       ap (λ (v : Run). oldest (is_spelled given) v.mail) (reached.is ∙ sym (ap schedule_run reached.schedule)) ∙ ap (λ (b : List ℕ). oldest (is_spelled b) (mail_in c)) (sym same)
 
+  -- a look was made, and nothing was handed to the link
+  pub looked_once : (link b : L) (o : Option (Vec ℕ Global)) → Looks (given link) (given b) (Ok o) → StaysTold (sent link) (sent b) → Handed sent given (bytes_of o ∷ []) [] link b
+  looked_once link b o gave stays = record { looked = told_looks (given link) (given b) o gave; sends = stays_grew (sent link) (sent b) stays }
+
+  -- and then these messages were
+  joined : (look : Option (List ℕ)) (frames : List (ℕ × List ℕ)) (x y z : L) → Handed sent given (look ∷ []) [] x y → Handed sent given [] frames y z → Handed sent given (look ∷ []) frames x z
+  joined look frames x y z one then_sent = record {
+    looked = grew_more (given x) (given y) (given z) (look ∷ []) [] one.looked then_sent.looked;
+    sends = grew_more (sent x) (sent y) (sent z) [] frames one.sends then_sent.sends;
+  }
+
+  looked_more : (xs ys : List (Option (List ℕ))) (q : Recording) (x y z : L) → Looked sent given xs q x y → Looked sent given ys (heard_all xs q) y z → Looked sent given (xs ++ ys) q x z
+  looked_more [] ys q x y z one more = subst (λ (l : L). Looked sent given ys q l z) one more
+  looked_more (look ∷ xs) ys q x y z one more = (one.0, one.1, looked_more xs ys (heard look q) one.0 y z one.2 more)
+
   -- ---- the results of a look
 
-  abbrev HearsOnce : Result (Unit {0}) Stop → Recorder → L → Account → Type 0
+  abbrev HearsOnce : L → Result (Unit {0}) Stop → Recorder → L → Account → Type 0
   HearsOnce = Hears sent given faults w first a 1 looks r
 
   -- the look itself failed
-  pub hears_failed : (c : Recorder) (b : L) (now : Account) (e : Stop) → StopsAt sent given faults w first a looks r e b now → HearsOnce (Err e) c b now
-  hears_failed c b now e stop = ([], omega arith, subst (λ (l : List (Option (List ℕ))). StopsAt sent given faults w first a l r e b now) (sym (append-nil looks)) stop)
+  pub hears_failed : (link : L) (c : Recorder) (b : L) (now : Account) (e : Stop) → StopsAt sent given faults w first a looks r e b now → HearsOnce link (Err e) c b now
+  hears_failed link c b now e stop = ([], omega arith, subst (λ (l : List (Option (List ℕ))). StopsAt sent given faults w first a l r e b now) (sym (append-nil looks)) stop)
 
-  pub hears_err : (result : Result (Unit {0}) Stop) (G : Stop → Type 0) (e : Stop) (c : Recorder) (b : L) (now : Account) → IsErrAnd result G → ((d : Stop) → G d → d ≡ e) → StopsAt sent given faults w first a looks r e b now → HearsOnce result c b now
-  hears_err (Ok x) G e c b now and same stop = absurd and
-  hears_err (Err d) G e c b now and same stop = hears_failed c b now d (subst (λ (x : Stop). StopsAt sent given faults w first a looks r x b now) (sym (same d and)) stop)
+  pub hears_err : (link : L) (result : Result (Unit {0}) Stop) (G : Stop → Type 0) (e : Stop) (c : Recorder) (b : L) (now : Account) → IsErrAnd result G → ((d : Stop) → G d → d ≡ e) → StopsAt sent given faults w first a looks r e b now → HearsOnce link result c b now
+  hears_err link (Ok x) G e c b now and same stop = absurd and
+  hears_err link (Err d) G e c b now and same stop = hears_failed link c b now d (subst (λ (x : Stop). StopsAt sent given faults w first a looks r x b now) (sym (same d and)) stop)
 
   -- nothing was recorded for the look
-  pub hears_nothing : (look : Option (List ℕ)) (c : Recorder) (b : L) (now : Account) → found look r.run ≡ None → At (looks ++ look ∷ []) r c b now → HearsOnce (Ok tt) c b now
-  hears_nothing look c b now none reached = (look ∷ [], refl, subst (λ (s : Recording). At (looks ++ look ∷ []) s c b now) (sym (heard_nothing look r none)) reached)
+  pub hears_nothing : (link : L) (look : Option (List ℕ)) (c : Recorder) (b : L) (now : Account) → found look r.run ≡ None → At (looks ++ look ∷ []) r c b now → Handed sent given (look ∷ []) [] link b → HearsOnce link (Ok tt) c b now
+  hears_nothing link look c b now none reached one =
+      let same : r ≡ heard look r = sym (heard_nothing look r none) in
+      let handed : Handed sent given (look ∷ []) (frames_between r r) link b = subst (λ (fs : List (ℕ × List ℕ)). Handed sent given (look ∷ []) fs link b) (sym (none_between r)) one in (
+        look ∷ [],
+        refl,
+        subst (λ (s : Recording). At (looks ++ look ∷ []) s c b now) same reached,
+        (b, subst (λ (s : Recording). Handed sent given (look ∷ []) (frames_between r s) link b) same handed, refl),
+      )
 
   -- a delivery was to be recorded for it
-  pub hears_message : (look : Option (List ℕ)) (n number : ℕ) (result : Result (Unit {0}) Stop) (c : Recorder) (b : L) (now : Account) → found look r.run ≡ Some n → number ≡ n + 1
-      → Records sent given faults w first a (looks ++ look ∷ []) (recorded (Deliver number) r) result c b now → HearsOnce result c b now
-  hears_message look n number (Ok x) c b now some is reached = (look ∷ [], refl, subst (λ (s : Recording). At (looks ++ look ∷ []) s c b now) (sym (heard_number look r n number some is)) reached)
-  hears_message look n number (Err e) c b now some is stop = (look ∷ [], omega arith, subst (λ (s : Recording). StopsAt sent given faults w first a (looks ++ look ∷ []) s e b now) (sym (heard_number look r n number some is)) stop)
+  pub hears_message : (link after : L) (look : Option (List ℕ)) (n number : ℕ) (result : Result (Unit {0}) Stop) (c : Recorder) (b : L) (now : Account) → found look r.run ≡ Some n → number ≡ n + 1 → Handed sent given (look ∷ []) [] link after
+      → Records sent given faults w first a (looks ++ look ∷ []) r (Deliver number) after result c b now → HearsOnce link result c b now
+  hears_message link after look n number (Ok x) c b now some is one records =
+      let same : recorded (Deliver number) r ≡ heard look r = sym (heard_number look r n number some is) in
+      let handed : Handed sent given (look ∷ []) (frames_between r (recorded (Deliver number) r)) link b = joined look (frames_between r (recorded (Deliver number) r)) link after b one records.1 in (
+        look ∷ [],
+        refl,
+        subst (λ (s : Recording). At (looks ++ look ∷ []) s c b now) same records.0,
+        (b, subst (λ (s : Recording). Handed sent given (look ∷ []) (frames_between r s) link b) same handed, refl),
+      )
+  hears_message link after look n number (Err e) c b now some is one stop =
+      (look ∷ [], omega arith, subst (λ (s : Recording). StopsAt sent given faults w first a (looks ++ look ∷ []) s e b now) (sym (heard_number look r n number some is)) stop)
 
   -- ---- several looks
 
   -- an error of one of them was passed on
-  pub stops_hearing : (count : ℕ) (result : Result (Unit {0}) Stop) (G : Stop → Type 0) (e : Stop) (c : Recorder) (b : L) (now : Account) → IsErrAnd result G → ((d : Stop) → G d → d ≡ e) → Hears sent given faults w first a count looks r (Err e) c b now
-      → Hears sent given faults w first a count looks r result c b now
-  stops_hearing count (Ok x) G e c b now and same heard = absurd and
-  stops_hearing count (Err d) G e c b now and same heard = subst (λ (x : Stop). Hears sent given faults w first a count looks r (Err x) c b now) (sym (same d and)) heard
+  pub stops_hearing : (count : ℕ) (link : L) (result : Result (Unit {0}) Stop) (G : Stop → Type 0) (e : Stop) (c : Recorder) (b : L) (now : Account) → IsErrAnd result G → ((d : Stop) → G d → d ≡ e) → Hears sent given faults w first a count looks r link (Err e) c b now
+      → Hears sent given faults w first a count looks r link result c b now
+  stops_hearing count link (Ok x) G e c b now and same heard = absurd and
+  stops_hearing count link (Err d) G e c b now and same heard = subst (λ (x : Stop). Hears sent given faults w first a count looks r link (Err x) c b now) (sym (same d and)) heard
 
-  pub hears_none : (c : Recorder) (b : L) (now : Account) → At looks r c b now → Hears sent given faults w first a 0 looks r (Ok tt) c b now
-  hears_none c b now reached = ([], refl, subst (λ (l : List (Option (List ℕ))). At l r c b now) (sym (append-nil looks)) reached)
+  pub hears_none : (c : Recorder) (b : L) (now : Account) → At looks r c b now → Hears sent given faults w first a 0 looks r b (Ok tt) c b now
+  hears_none c b now reached = ([], refl, subst (λ (l : List (Option (List ℕ))). At l r c b now) (sym (append-nil looks)) reached, refl)
 
   -- all of them were made
-  pub hears_all : (count most : ℕ) (c : Recorder) (b : L) (now : Account) → count ≡ most → Hears sent given faults w first a count looks r (Ok tt) c b now → Hears sent given faults w first a most looks r (Ok tt) c b now
-  hears_all count most c b now same heard = (heard.0, heard.1 ∙ same, heard.2)
+  pub hears_all : (count most : ℕ) (link : L) (c : Recorder) (b : L) (now : Account) → count ≡ most → Hears sent given faults w first a count looks r link (Ok tt) c b now → Hears sent given faults w first a most looks r link (Ok tt) c b now
+  hears_all count most link c b now same heard = (heard.0, heard.1 ∙ same, heard.2, heard.3)
 
   -- after so many looks one more was made, of this many in all
-  abbrev pub HearsUpTo : ℕ → ℕ → Result (Unit {0}) Stop → Recorder → L → Account → Type 0
-  HearsUpTo count most (Ok x) d b now = Hears sent given faults w first a (count + 1) looks r (Ok tt) d b now
-  HearsUpTo count most (Err e) d b now = Hears sent given faults w first a most looks r (Err e) d b now
+  abbrev pub HearsUpTo : ℕ → ℕ → L → Result (Unit {0}) Stop → Recorder → L → Account → Type 0
+  HearsUpTo count most start (Ok x) d b now = Hears sent given faults w first a (count + 1) looks r start (Ok tt) d b now
+  HearsUpTo count most start (Err e) d b now = Hears sent given faults w first a most looks r start (Err e) d b now
 
-  pub hears_more : (count most : ℕ) (result : Result (Unit {0}) Stop) (c d : Recorder) (link b : L) (mid now : Account) → count < most → Hears sent given faults w first a count looks r (Ok tt) c link mid
-      → ((more : List (Option (List ℕ))) (s : Recording) → At (looks ++ more) s c link mid → Hears sent given faults w first a 1 (looks ++ more) s result d b now)
-      → HearsUpTo count most result d b now
-  hears_more count most (Ok x) c d link b mid now below heard one =
+  pub hears_more : (count most : ℕ) (start : L) (result : Result (Unit {0}) Stop) (c d : Recorder) (link b : L) (mid now : Account) → count < most → Hears sent given faults w first a count looks r start (Ok tt) c link mid
+      → ((more : List (Option (List ℕ))) (s : Recording) → At (looks ++ more) s c link mid → Hears sent given faults w first a 1 (looks ++ more) s link result d b now)
+      → HearsUpTo count most start result d b now
+  hears_more count most start (Ok x) c d link b mid now below heard one =
       let next = one heard.0 (heard_all heard.0 r) heard.2 in (
         heard.0 ++ next.0,
         omega (arith, length-append heard.0 next.0, heard.1, next.1),
         subst (λ (l : List (Option (List ℕ))). At l (heard_all (heard.0 ++ next.0) r) d b now) (append_assoc looks heard.0 next.0)
             (subst (λ (s : Recording). At ((looks ++ heard.0) ++ next.0) s d b now) (sym (heard_more heard.0 next.0 r)) next.2),
+        looked_more heard.0 next.0 r start link b heard.3 next.3,
       )
-  hears_more count most (Err e) c d link b mid now below heard one =
+  hears_more count most start (Err e) c d link b mid now below heard one =
       let next = one heard.0 (heard_all heard.0 r) heard.2 in (
         heard.0 ++ next.0,
         omega (arith, length-append heard.0 next.0, heard.1, next.1, below),

@@ -92,7 +92,7 @@ module _ {L : Type 0} (sent : L → Option (List (ℕ × List ℕ))) (given : L 
       sound = recorded_sound w.peers w.view script script all.1.0 r words.peers words.view is (part_whole script) all.1.2 stand few
 
       whole : Recorded sent given w script r a b
-      whole = record { looks = all.1.0; follows = all.1.2; handed = all.1.3.handed }
+      whole = record { looks = all.1.0; follows = all.1.2; handed = all.1.3.handed; went = all.1.4 }
 
       pub took : HasHashed (hashed_by s) first now
       took = subst (λ (v : Run). HasHashed v.hashed first now) all.1.3.is all.1.3.took

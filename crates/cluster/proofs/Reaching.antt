@@ -24,13 +24,13 @@ use Rattle.world_model.specs.declared.world.World.{World}
 use Rattle.world_spec.specs.Lines.{applied, run_of_schedule}
 use Rattle.world_spec.specs.Messages.{IsWithinMessages}
 use Rattle.world_spec.specs.Runs.{Run, unhashed}
-use Rattle.cluster.specs.Ends.{CameThere, Handed, frames_before, recorded_schedule, run_before, without_last}
+use Rattle.cluster.specs.Ends.{CameThere, Handed, frames_before, frames_between, recorded_schedule, run_before, without_last}
 use Rattle.cluster.specs.Recorders.{IsInStep, Reached, Records, StopsAt, mail_in}
 use Rattle.cluster.specs.Sending.{HandedAll, HandedSome}
 use Rattle.cluster.specs.declared.recorder.Recorder.{Recorder}
 use Rattle.cluster.specs.declared.stop.Stop.{Stop}
 use Rattle.cluster.specs.declared.stop.Stop.TheVariants.{Lines, World as OfWorld, Link as OfLink}
-use Rattle.cluster.proofs.Stepping.{and_event, frames_now, many_peers, sent_now, stands_recorded}
+use Rattle.cluster.proofs.Stepping.{and_event, drop_front, frames_now, many_peers, sent_now, stands_recorded}
 
 without_the_last : (xs : List ScheduleEvent) (x : ScheduleEvent) → without_last (xs ++ x ∷ []) ≡ xs
 without_the_last [] x = refl
@@ -48,10 +48,10 @@ at_front (y ∷ xs) x = at_front xs x
 module _ {L : Type 0} (sent : L → Option (List (ℕ × List ℕ))) (given : L → Option (List (Option (List ℕ)))) (faults : L → ℕ)
     (w : ClusterWords) (first : Account) (a : L) where
   -- an error was passed on
-  pub records_err : (looks : List (Option (List ℕ))) (s : Recording) (r : Result (Unit {0}) Stop) (G : Stop → Type 0) (e : Stop) (c : Recorder) (b : L) (now : Account) → IsErrAnd r G → ((d : Stop) → G d → d ≡ e)
-      → StopsAt sent given faults w first a looks s e b now → Records sent given faults w first a looks s r c b now
-  records_err looks s (Ok x) G e c b now and same stop = absurd and
-  records_err looks s (Err d) G e c b now and same stop = subst (λ (x : Stop). StopsAt sent given faults w first a looks s x b now) (sym (same d and)) stop
+  pub records_err : (looks : List (Option (List ℕ))) (r : Recording) (event : ScheduleEvent) (link : L) (result : Result (Unit {0}) Stop) (G : Stop → Type 0) (e : Stop) (c : Recorder) (b : L) (now : Account) → IsErrAnd result G → ((d : Stop) → G d → d ≡ e)
+      → StopsAt sent given faults w first a looks (recorded event r) e b now → Records sent given faults w first a looks r event link result c b now
+  records_err looks r event link (Ok x) G e c b now and same stop = absurd and
+  records_err looks r event link (Err d) G e c b now and same stop = subst (λ (x : Stop). StopsAt sent given faults w first a looks (recorded event r) x b now) (sym (same d and)) stop
 
   module _ (looks : List (Option (List ℕ))) (r : Recording) (c : Recorder) (link : L) (mid : Account) (reached : Reached sent given faults w first a looks r c link mid) where
     run_is : schedule_run c.schedule ≡ r.run
@@ -133,11 +133,21 @@ module _ {L : Type 0} (sent : L → Option (List (ℕ × List ℕ))) (given : L 
               subst (λ (v : Run). HasHashed v.hashed first now) (sym run_next) all.2
 
           -- the messages of the run are those before and these
-          frames_are : frames_of next.run ≡ frames_of r.run ++ map frame_out frames
-          frames_are =
+          next_sent : next.run.mail.sent ≡ r.run.mail.sent ++ frames
+          next_sent =
               let now_sent : (run_of world).mail.sent ≡ next.run.mail.sent = ap (λ (v : Run). v.mail.sent) ((doing_last due (length r.events + 1) first (run_of world) now (omega (arith, length-append r.events (event ∷ []))) (doing_next due (length r.events) first (run_of c.world) mid event (at_front r.events event) doing (run_of world) now is within has)).0 ∙ ap unhashed (sym run_next)) in
               let behind : (run_of world).mail.sent ≡ (mail_in c).sent ++ frames = sent_now c event step may world is within ∙ ap (λ (l : List Frame). (mail_in c).sent ++ l) (sym (frames_now c event step may world is within)) in
-              ap (map frame_out) (sym now_sent ∙ behind ∙ ap (λ (v : Run). v.mail.sent ++ frames) run_is) ∙ map-append frame_out r.run.mail.sent frames
+              sym now_sent ∙ behind ∙ ap (λ (v : Run). v.mail.sent ++ frames) run_is
+
+          frames_are : frames_of next.run ≡ frames_of r.run ++ map frame_out frames
+          frames_are = ap (λ (l : List Frame). map frame_out l) next_sent ∙ map-append frame_out r.run.mail.sent frames
+
+          between_are : frames_between r next ≡ map frame_out frames
+          between_are = ap (λ (l : List Frame). map frame_out (drop (length r.run.mail.sent) l)) next_sent ∙ ap (λ (l : List Frame). map frame_out l) (drop_front r.run.mail.sent frames)
+
+          -- these were handed over
+          pub hands_next : (number : ℕ) (index : FrameIndex) (b : L) → HandedAll sent given faults frames number link c.index index b → Handed sent given [] (frames_between r next) link b
+          hands_next number index b handed = record { looked = handed.looked; sends = subst (Grew (sent link) (sent b)) (sym between_are) handed.sends }
 
           -- so many were sent before
           grown_to : (fs more : List (ℕ × List ℕ)) → fs ≡ frames_of r.run ++ more → length (frames_before w next) ≤ length fs

@@ -1,5 +1,5 @@
 -- One event in a recorder: the calls that it takes, together.
-use Rattle.std.proofs.Common.{◌≡◌, ◌≤◌, ◌<◌, ◌+◌, ◌∙◌, ℕ, true, false, List, ◌++◌, length, drop, Option, Err, ap, subst, arith, length-append}
+use Rattle.std.proofs.Common.{◌≡◌, ◌≤◌, ◌<◌, ◌+◌, ◌∙◌, ℕ, true, false, List, ◌++◌, length, drop, Option, Ok, Err, ap, subst, arith, length-append}
 use Rattle.std.specs.Prelude.{nat_le}
 use Rattle.std.proofs.lemmas.Bool.Decides.{nat_tests}
 use Rattle.ens_base.specs.declared.peer_words.ClusterWords.{ClusterWords}
@@ -12,12 +12,12 @@ use Rattle.schedule_text.specs.declared.event.ScheduleEvent.{ScheduleEvent}
 use Rattle.wire_frames.specs.declared.frame.Frame.{Frame}
 use Rattle.world_model.specs.Worlds.{run_of}
 use Rattle.world_spec.specs.Runs.{Run}
-use Rattle.cluster.specs.Recorders.{Applied, Applies, IsInStep, Reached, StopsAt, mail_in}
+use Rattle.cluster.specs.Recorders.{Applied, Applies, IsInStep, Reached, Records, StopsAt, mail_in}
 use Rattle.cluster.specs.Sending.{AddsTo, HandedAll, HandedSome}
 use Rattle.cluster.specs.declared.recorder.Recorder.{Recorder}
 use Rattle.cluster.specs.declared.stop.Stop.{Stop}
 use Rattle.cluster.specs.declared.stop.Stop.TheVariants.{Lines, World as OfWorld, Link as OfLink}
-use Rattle.cluster.proofs.Reaching.{reaches_next, stops_full, stops_link, stops_world}
+use Rattle.cluster.proofs.Reaching.{hands_next, reaches_next, stops_full, stops_link, stops_world}
 use Rattle.cluster.proofs.Stepping.{next_step, sent_now}
 
 is_full : (n : ℕ) → nat_le 200000 n ≡ true → 200000 ≤ n
@@ -56,11 +56,14 @@ module _ (c : Recorder) (event : ScheduleEvent) (step : IsInStep c (mail_before 
 
       module _ {L : Type 0} (sent : L → Option (List (ℕ × List ℕ))) (given : L → Option (List (Option (List ℕ)))) (faults : L → ℕ) (w : ClusterWords) (first : Account) (a : L) (looks : List (Option (List ℕ))) (r : Recording) (link b : L)
           (few : nat_le 200000 (length c.schedule.events + 3) ≡ false) (reached : Reached sent given faults w first a looks r c link mid) where
-        pub records_event : HandedAll sent given faults frames (length (run_of c.world).mail.sent + 1) link d.index e.index b → Reached sent given faults w first a looks (recorded event r) e b later
+        pub records_event : HandedAll sent given faults frames (length (run_of c.world).mail.sent + 1) link d.index e.index b → Records sent given faults w first a looks r event link (Ok tt) e b later
         records_event handed =
-            reaches_next sent given faults w first a looks r c link mid reached event step may (is_not_full (length c.schedule.events + 3) few) d.world later did.world did.within did.has e (length (run_of c.world).mail.sent + 1) e.index b (schedule ∙ did.schedule)
-            (subst (λ (i : FrameIndex). HandedAll sent given faults (drop (length (mail_in c).sent) (run_of d.world).mail.sent) (length (run_of c.world).mail.sent + 1) link i e.index b) did.index
-            (subst (λ (l : List Frame). HandedAll sent given faults l (length (run_of c.world).mail.sent + 1) link d.index e.index b) frames_same handed))
+            let now : HandedAll sent given faults (drop (length (mail_in c).sent) (run_of d.world).mail.sent) (length (run_of c.world).mail.sent + 1) link c.index e.index b =
+            subst (λ (i : FrameIndex). HandedAll sent given faults (drop (length (mail_in c).sent) (run_of d.world).mail.sent) (length (run_of c.world).mail.sent + 1) link i e.index b) did.index
+            (subst (λ (l : List Frame). HandedAll sent given faults l (length (run_of c.world).mail.sent + 1) link d.index e.index b) frames_same handed) in (
+              reaches_next sent given faults w first a looks r c link mid reached event step may (is_not_full (length c.schedule.events + 3) few) d.world later did.world did.within did.has e (length (run_of c.world).mail.sent + 1) e.index b (schedule ∙ did.schedule) now,
+              hands_next sent given faults w first a looks r c link mid reached event step may (is_not_full (length c.schedule.events + 3) few) d.world later did.world did.within did.has (length (run_of c.world).mail.sent + 1) e.index b now,
+            )
 
         pub stops_handing : (error : LinkError) → HandedSome sent given faults error frames link b → StopsAt sent given faults w first a looks (recorded event r) (OfLink error) b later
         stops_handing error some =

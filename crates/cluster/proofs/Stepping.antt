@@ -68,7 +68,7 @@ all_with peers (e ∷ events) event all may = (all.0, all_with peers events even
 
 -- ---- the messages that the event sent are those behind the ones before
 
-drop_front : (xs ys : List Frame) → drop (length xs) (xs ++ ys) ≡ ys
+pub drop_front : (xs ys : List Frame) → drop (length xs) (xs ++ ys) ≡ ys
 drop_front [] ys = refl
 drop_front (x ∷ xs) ys = drop_front xs ys
 

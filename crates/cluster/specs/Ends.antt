@@ -1,5 +1,5 @@
 -- What a cluster records and prints, and why it ends as it does.
-use Rattle.std.specs.Prelude.{◌≡◌, ◌⊎◌, ◌≤◌, ◌+◌, ℕ, List, [], ◌∷◌, ◌++◌, length, codes, Option, None, Some, Ok, Err, IfSome}
+use Rattle.std.specs.Prelude.{◌≡◌, ◌⊎◌, ◌≤◌, ◌+◌, ℕ, List, [], ◌∷◌, ◌++◌, length, take, drop, map, codes, Option, None, Some, Ok, Err, IfSome}
 use Rattle.std.specs.Io.KnownBytes.{IsAtEnd}
 use Rattle.ens_base.specs.Causes.{Rose}
 use Rattle.ens_base.specs.View.{IsView}
@@ -7,7 +7,8 @@ use Rattle.ens_base.specs.declared.peer_words.ClusterWords.{ClusterWords}
 use Rattle.ens_base.specs.declared.status.Status.{Status}
 use Rattle.cluster_script.specs.Scripts.{IsScript, ended, next_line, script_of}
 use Rattle.cluster_script.specs.declared.line.ScriptLine.{ScriptLine}
-use Rattle.cluster_spec.specs.Recordings.{Follows, IsPart, Recording, frames_of, nothing_recorded, recorded_form}
+use Rattle.cluster_script.specs.declared.line.ScriptLine.TheVariants.{Event, Turn}
+use Rattle.cluster_spec.specs.Recordings.{Follows, IsPart, Recording, frame_out, frames_of, heard, heard_all, nothing_recorded, recorded, recorded_form}
 use Rattle.held_stores.specs.Held.{Account, HasHashed}
 use Rattle.line_reading.specs.Reading.{WasCutOff}
 use Rattle.replay.specs.Jobs.{PrintsWith, nothing_hashed}
@@ -48,6 +49,10 @@ run_before w r = run_of_schedule recorded_form w.peers w.view (without_last r.ev
 -- the messages that were sent before the line that was recorded last, as they are handed to the link
 abbrev pub frames_before : ClusterWords → Recording → List (ℕ × List ℕ)
 frames_before w r = frames_of (run_before w r)
+
+-- the messages that were sent between two recordings, as they are handed to the link
+abbrev pub frames_between : Recording → Recording → List (ℕ × List ℕ)
+frames_between r s = map frame_out (drop (length r.run.mail.sent) s.run.mail.sent)
 
 -- the run came to the line that was recorded last: the lines before it stay within the limit on messages, and
 -- a hasher took every string of theirs
@@ -103,12 +108,26 @@ module _ {L : Type 0} (sent : L → Option (List (ℕ × List ℕ))) (given : L 
     pub looked : Grew (given a) (given b) looks
     pub sends : Grew (sent a) (sent b) frames
 
+  -- Looks were made, one after another. The messages of the delivery that was recorded for a look were handed
+  -- over before the next look.
+  abbrev pub Looked : List (Option (List ℕ)) → Recording → L → L → Type 0
+  Looked [] r a b = b ≡ a
+  Looked (look ∷ more) r a b = (m : L) × Handed (look ∷ []) (frames_between r (heard look r)) a m × Looked more (heard look r) m b
+
+  -- Lines of a script were followed, one after another. The messages of a line were handed over before the next
+  -- line.
+  abbrev pub Went : List ScriptLine → List (Option (List ℕ)) → Recording → L → L → Type 0
+  Went [] looks r a b = b ≡ a
+  Went (Event event ∷ more) looks r a b = (m : L) × Handed [] (frames_between r (recorded event r)) a m × Went more looks (recorded event r) m b
+  Went (Turn count ∷ more) looks r a b = (m : L) × Looked (take count looks) r a m × Went more (drop count looks) (heard_all (take count looks) r) m b
+
   -- The script was followed to its end, and this was recorded. Every message of the run was handed to the
-  -- link, once, for the number of its receiver, in the order of sending.
+  -- link, once, for the number of its receiver, in the order of sending, and before the next look.
   pub record Recorded (w : ClusterWords) (script : List ScriptLine) (r : Recording) (a b : L) : Type 0 where
     pub looks : List (Option (List ℕ))
     pub follows : Follows script looks (opening w) r
     pub handed : Handed looks (frames_of r.run) a b
+    pub went : Went script looks (opening w) a b
 
   -- A part of the script was followed, and the run was stopped in the line that was recorded last, or before
   -- the first one. Every message that was sent before this line was handed to the link, and no other.

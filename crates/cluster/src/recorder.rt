@@ -4,7 +4,7 @@ ghost use Rattle.cluster.specs.Recorders.{Applies, FollowsOn, Hears, IsInStep, I
 ghost use Rattle.cluster.specs.Sending.{HandsOn};
 ghost use Rattle.cluster_script.specs.Scripts.{IsScript, MayBeLine};
 ghost use Rattle.cluster_spec.specs.Messages.{MayBeRecorded, mail_before};
-ghost use Rattle.cluster_spec.specs.Recordings.{Recording, recorded};
+ghost use Rattle.cluster_spec.specs.Recordings.{Recording};
 ghost use Rattle.ens_base.specs.declared.peer_words.ClusterWords.{ClusterWords as Words};
 ghost use Rattle.held_stores.specs.Held.{Account, account};
 ghost use Rattle.replay.specs.Text.{IsTextOfRun, record_text};
@@ -124,7 +124,7 @@ impl Recorder {
         ensures step { OnOk result (IsInStep self.new (mail_in self.new)) }
         ensures peers { OnOk result (self.new.schedule.peers ≡ self.old.schedule.peers) }
         ensures records { (w : Words) (first : Account) (a : L) (looks : List (Option (List ℕ))) (r : Recording) → Reached L.sent L.given L.fault_count w first a looks r self.old link.old (account H.kept H.clashes H.fulls hasher.old)
-            → Records L.sent L.given L.fault_count w first a looks (recorded event r) result self.new link.new (account H.kept H.clashes H.fulls hasher.new) }
+            → Records L.sent L.given L.fault_count w first a looks r event link.old result self.new link.new (account H.kept H.clashes H.fulls hasher.new) }
     {
         if self.is_full() {
             return Err(Stop::Lines);
@@ -148,7 +148,7 @@ impl Recorder {
         ensures step { OnOk result (IsInStep self.new (mail_in self.new)) }
         ensures peers { OnOk result (self.new.schedule.peers ≡ self.old.schedule.peers) }
         ensures hears { (w : Words) (first : Account) (a : L) (looks : List (Option (List ℕ))) (r : Recording) → Reached L.sent L.given L.fault_count w first a looks r self.old link.old (account H.kept H.clashes H.fulls hasher.old)
-            → Hears L.sent L.given L.fault_count w first a 1 looks r result self.new link.new (account H.kept H.clashes H.fulls hasher.new) }
+            → Hears L.sent L.given L.fault_count w first a 1 looks r link.old result self.new link.new (account H.kept H.clashes H.fulls hasher.new) }
     {
         let Some(bytes) = link.receive(alloc)? else {
             return Ok(());
@@ -173,7 +173,7 @@ impl Recorder {
         ensures step { OnOk result (IsInStep self.new (mail_in self.new)) }
         ensures peers { OnOk result (self.new.schedule.peers ≡ self.old.schedule.peers) }
         ensures hears { (w : Words) (first : Account) (a : L) (looks : List (Option (List ℕ))) (r : Recording) → Reached L.sent L.given L.fault_count w first a looks r self.old link.old (account H.kept H.clashes H.fulls hasher.old)
-            → Hears L.sent L.given L.fault_count w first a count looks r result self.new link.new (account H.kept H.clashes H.fulls hasher.new) }
+            → Hears L.sent L.given L.fault_count w first a count looks r link.old result self.new link.new (account H.kept H.clashes H.fulls hasher.new) }
     {
         for _look in 0..count {
             self.look(rt, alloc, link, hasher)?;
@@ -195,7 +195,7 @@ impl Recorder {
         ensures step { OnOk result (IsInStep self.new (mail_in self.new)) }
         ensures peers { OnOk result (self.new.schedule.peers ≡ self.old.schedule.peers) }
         ensures follows { (w : Words) (first : Account) (a : L) (looks : List (Option (List ℕ))) (r : Recording) → Reached L.sent L.given L.fault_count w first a looks r self.old link.old (account H.kept H.clashes H.fulls hasher.old)
-            → FollowsOn L.sent L.given L.fault_count w first a (line ∷ []) looks r result self.new link.new (account H.kept H.clashes H.fulls hasher.new) }
+            → FollowsOn L.sent L.given L.fault_count w first a (line ∷ []) looks r link.old result self.new link.new (account H.kept H.clashes H.fulls hasher.new) }
     {
         match line {
             ScriptLine::Event(event) => self.take_event(rt, alloc, event, link, hasher),

@@ -8,11 +8,11 @@ use Rattle.schedule_text.specs.declared.event.ScheduleEvent.{ScheduleEvent}
 abbrev Given : Type 0
 Given = List (Option (List ℕ))
 
-take_front : (xs ys : Given) → take (length xs) (xs ++ ys) ≡ xs
+pub take_front : (xs ys : Given) → take (length xs) (xs ++ ys) ≡ xs
 take_front [] ys = refl
 take_front (x ∷ xs) ys = ap (λ (l : Given). x ∷ l) (take_front xs ys)
 
-drop_front : (xs ys : Given) → drop (length xs) (xs ++ ys) ≡ ys
+pub drop_front : (xs ys : Given) → drop (length xs) (xs ++ ys) ≡ ys
 drop_front [] ys = refl
 drop_front (x ∷ xs) ys = drop_front xs ys
 
@@ -47,7 +47,7 @@ pub leads_turn : (count : ℕ) (looks : Given) (r : Recording) → length looks 
 leads_turn count looks r is = record { on = λ part more s follows. turn_then count part looks more r s is follows }
 
 -- the looks of one turn alone
-few_looks : (count : ℕ) (more : Given) → count ≤ length more → drop count more ≡ [] → length more ≡ count
+pub few_looks : (count : ℕ) (more : Given) → count ≤ length more → drop count more ≡ [] → length more ≡ count
 few_looks zero [] many none = refl
 few_looks zero (x ∷ more) many none = absurd (nothing x more none)
   where
@@ -56,7 +56,7 @@ few_looks zero (x ∷ more) many none = absurd (nothing x more none)
 few_looks (suc count) [] many none = absurd (omega (arith, many))
 few_looks (suc count) (x ∷ more) many none = ap (λ (n : ℕ). suc n) (few_looks count more (omega (arith, many)) none)
 
-all_looks : (count : ℕ) (more : Given) → length more ≡ count → take count more ≡ more
+pub all_looks : (count : ℕ) (more : Given) → length more ≡ count → take count more ≡ more
 all_looks zero [] is = refl
 all_looks zero (x ∷ more) is = absurd (omega (arith, is))
 all_looks (suc count) [] is = refl

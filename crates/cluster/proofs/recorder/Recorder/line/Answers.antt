@@ -10,8 +10,8 @@ take_event-requires-clause-may g c = λ κs lives. event_may c.args.self.now.sch
 
 pub returns-in-Event-clause-follows : goal.returns-in-Event-clause-follows
 returns-in-Event-clause-follows g c = λ w first a looks r reached.
-    event_follows g.L.Link.sent g.L.Link.given g.L.Link.fault_count w first a looks r c.args.line c.in-Event.event c.in-Event.is c.take_event.result c.take_event.new.self c.take_event.new.link _ (c.take_event.ensures.records w first a looks r reached)
+    event_follows g.L.Link.sent g.L.Link.given g.L.Link.fault_count w first a looks r c.args.link.now c.args.line c.in-Event.event c.in-Event.is c.take_event.result c.take_event.new.self c.take_event.new.link _ (c.take_event.ensures.records w first a looks r reached)
 
 pub returns-in-Turn-clause-follows : goal.returns-in-Turn-clause-follows
 returns-in-Turn-clause-follows g c = λ w first a looks r reached.
-    turn_follows g.L.Link.sent g.L.Link.given g.L.Link.fault_count w first a looks r c.args.line c.in-Turn.count c.in-Turn.is c.turn.result c.turn.new.self c.turn.new.link _ (c.turn.ensures.hears w first a looks r reached)
+    turn_follows g.L.Link.sent g.L.Link.given g.L.Link.fault_count w first a looks r c.args.link.now c.args.line c.in-Turn.count c.in-Turn.is c.turn.result c.turn.new.self c.turn.new.link _ (c.turn.ensures.hears w first a looks r reached)

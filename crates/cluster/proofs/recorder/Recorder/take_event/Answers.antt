@@ -1,5 +1,4 @@
 use Rattle.std.proofs.Common.{◌∙◌, ap, rules, sym}
-use Rattle.cluster_spec.specs.Recordings.{recorded}
 use Rattle.schedule_text.specs.declared.schedule.Schedule.{Schedule}
 use Rattle.cluster.specs.declared.stop.Stop.TheVariants.{Link as OfLink}
 use Rattle.cluster.proofs.Reaching.{records_err}
@@ -19,12 +18,12 @@ returns-then-is_full-clause-records g c = λ w first a looks r reached.
 
 pub returns-in_err-apply-clause-records : goal.returns-in_err-apply-clause-records
 returns-in_err-apply-clause-records g c = λ w first a looks r reached.
-    records_err g.L.Link.sent g.L.Link.given g.L.Link.fault_count w first a looks (recorded c.args.event r) c.from_residual.result _ c.in_err-apply.field-0.0 _ c.args.link.now _ c.from_residual.ensures.1 (λ d same. same)
+    records_err g.L.Link.sent g.L.Link.given g.L.Link.fault_count w first a looks r c.args.event c.args.link.now c.from_residual.result _ c.in_err-apply.field-0.0 _ c.args.link.now _ c.from_residual.ensures.1 (λ d same. same)
     (stops_applying c.args.self.now c.args.event c.requires.step c.requires.may g.L.Link.sent g.L.Link.given g.L.Link.fault_count w first a looks r c.args.link.now _ reached c.apply.new.self _ c.in_err-apply.field-0.0 (sym c.is_full.ensures ∙ c.if-is_full.false) c.in_err-apply.ensures)
 
 pub returns-in_err-hand_over-clause-records : goal.returns-in_err-hand_over-clause-records
 returns-in_err-hand_over-clause-records g c = λ w first a looks r reached.
-    records_err g.L.Link.sent g.L.Link.given g.L.Link.fault_count w first a looks (recorded c.args.event r) c.from_residual-in_err-hand_over.result _ (OfLink c.in_err-hand_over.field-0.0) _ c.hand_over.new.link _ c.from_residual-in_err-hand_over.ensures.1 (λ d same. same)
+    records_err g.L.Link.sent g.L.Link.given g.L.Link.fault_count w first a looks r c.args.event c.args.link.now c.from_residual-in_err-hand_over.result _ (OfLink c.in_err-hand_over.field-0.0) _ c.hand_over.new.link _ c.from_residual-in_err-hand_over.ensures.1 (λ d same. same)
     (stops_handing c.args.self.now c.args.event c.requires.step c.requires.may c.apply.new.self _ _ c.in_ok-apply.ensures c.hand_over.new.self c.hand_over.ensures.same.0 c.hand_over.ensures.same.1 g.L.Link.sent g.L.Link.given g.L.Link.fault_count w first a looks r c.args.link.now c.hand_over.new.link
     (sym c.is_full.ensures ∙ c.if-is_full.false) reached c.in_err-hand_over.field-0.0 (rw c.count-before.ensures at c.in_err-hand_over.ensures.hands))
 

@@ -11,5 +11,5 @@ invariant-loop-look g l = record {
   peers : l.self.schedule.peers ≡ l.fn.self.schedule.peers;
   hears : (w : ClusterWords) (first : Account) (a : _) (looks : List (Option (List ℕ))) (r : Recording)
       → Reached g.L.Link.sent g.L.Link.given g.L.Link.fault_count w first a looks r l.fn.self l.fn.link (account g.H.Hasher16.kept g.H.Hasher16.clashes g.H.Hasher16.fulls l.fn.hasher)
-      → Hears g.L.Link.sent g.L.Link.given g.L.Link.fault_count w first a l._look looks r (Ok tt) l.self l.link (account g.H.Hasher16.kept g.H.Hasher16.clashes g.H.Hasher16.fulls l.hasher);
+      → Hears g.L.Link.sent g.L.Link.given g.L.Link.fault_count w first a l._look looks r l.fn.link (Ok tt) l.self l.link (account g.H.Hasher16.kept g.H.Hasher16.clashes g.H.Hasher16.fulls l.hasher);
 }
