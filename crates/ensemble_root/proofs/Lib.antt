@@ -12,3 +12,4 @@ mod Calls
 mod Keys
 mod Texts
 mod Ends
+pub mod Completing

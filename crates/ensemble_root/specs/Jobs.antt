@@ -1,10 +1,10 @@
 -- What the job `root` prints, and why it ends as it does.
-use Rattle.std.specs.Prelude.{◌≡◌, ◌⊎◌, ℕ, List, [], ◌∷◌, ◌++◌, codes, Option, Ok, Err, IfSome}
+use Rattle.std.specs.Prelude.{◌≡◌, ◌⊎◌, ◌≤◌, ℕ, List, [], ◌∷◌, ◌++◌, codes, Option, Ok, Err, IfSome}
 use Rattle.std.specs.Io.KnownBytes.{IsAtEnd}
 use Rattle.ens_base.specs.Causes.{Rose}
 use Rattle.ens_base.specs.declared.status.Status.{Status}
-use Rattle.ens_hashing.specs.Hashing.{IsClash}
-use Rattle.held_stores.specs.Held.{Account, HasNoClash}
+use Rattle.ens_hashing.specs.Hashing.{IsClash, total}
+use Rattle.held_stores.specs.Held.{Account, HasNoClash, once}
 use Rattle.held_stores.specs.Laws.{HasClashed, HasFilled}
 use Rattle.replay.specs.Jobs.{HasAdmitted, clash_line, nothing_hashed}
 use Rattle.root_input.specs.Endings.{IsBadLine, IsLineLimit}
@@ -74,3 +74,12 @@ EndsSo first now s status text = (source : Option (List ℕ)) → IfSome source 
 -- the text that the job prints over the book of `root`
 abbrev pub Prints : Option (List ℕ) → Status → List ℕ → Type 0
 Prints source status text = (now : Account) × PrintsWith nothing_hashed now source status text
+
+-- Nothing in these bytes ends the job early: they are a script, no two different strings of its run have the same
+-- MD5, the strings fit into the book of `root`, and no line exceeds the limit on messages.
+pub record IsRunnable (bytes : List ℕ) : Type 0 where
+  pub s : RootScript
+  pub read : script_of bytes ≡ Ok s
+  pub apart : HasNoClash (hashed_by s)
+  pub fit : total (once (hashed_by s)) ≤ 1073741824
+  pub within : ¬ PassesLimit s
