@@ -15,7 +15,7 @@ use Rattle.schedule_words.specs.declared.cause.Cause.TheVariants.{Unknown}
 use Rattle.ens_words.specs.Forms.{AskFor, IsJob, output_word, words_of}
 use Rattle.ens_words.specs.Reading.{alone_of, cluster_form_of, cluster_of, generate_of, generator_of, job_of, peer_form_of, peer_of_words, summary_of}
 use Rattle.ens_words.specs.declared.job.Job.{Job}
-use Rattle.ens_words.specs.declared.job.Job.TheVariants.{Replay, Peer, Cluster, Audit, Backup, Check, Restore, Generate}
+use Rattle.ens_words.specs.declared.job.Job.TheVariants.{Replay, Peer, Cluster, Audit, Backup, Check, Restore, Root, Generate}
 use Rattle.ens_base.specs.declared.peer_words.PeerWords.{PeerWords}
 use Rattle.ens_base.specs.declared.peer_words.ClusterWords.{ClusterWords}
 
@@ -127,7 +127,8 @@ verb_read verb rest job h =
     (λ h6. by_word verb (codes "backup") (alone_of Backup rest) _ job (AskFor (verb ∷ rest) job) h6 (λ is r. alone_read verb (codes "backup") rest Backup job is tt refl r)
     (λ h7. by_word verb (codes "check") (alone_of Check rest) _ job (AskFor (verb ∷ rest) job) h7 (λ is r. alone_read verb (codes "check") rest Check job is tt refl r)
     (λ h8. by_word verb (codes "restore") (alone_of Restore rest) _ job (AskFor (verb ∷ rest) job) h8 (λ is r. alone_read verb (codes "restore") rest Restore job is tt refl r)
-    (λ none. cc none))))))))
+    (λ h9. by_word verb (codes "root") (alone_of Root rest) _ job (AskFor (verb ∷ rest) job) h9 (λ is r. alone_read verb (codes "root") rest Root job is tt refl r)
+    (λ none. cc none)))))))))
 
 pub job_read : (words : List (List ℕ)) (job : Job) → job_of words ≡ Ok job → AskFor words job
 job_read [] job h = cc h
@@ -156,6 +157,7 @@ job_back Audit is = refl
 job_back Backup is = refl
 job_back Check is = refl
 job_back Restore is = refl
+job_back Root is = refl
 job_back (Peer w) is = peer_back w is
 job_back (Cluster w) is =
     rw (

@@ -6,7 +6,7 @@ use Rattle.schedule_words.specs.Spelling.{AscendFrom, member_words}
 use Rattle.ens_words.specs.Forms.{AskFor, IsJob, output_word, words_of}
 use Rattle.ens_words.specs.Split.{has_option, is_option}
 use Rattle.ens_words.specs.declared.job.Job.{Job}
-use Rattle.ens_words.specs.declared.job.Job.TheVariants.{Replay, Peer, Cluster, Audit, Backup, Check, Restore, Generate}
+use Rattle.ens_words.specs.declared.job.Job.TheVariants.{Replay, Peer, Cluster, Audit, Backup, Check, Restore, Root, Generate}
 
 first_false : (a b : Bool) → (a || b) ≡ false → a ≡ false
 first_false true b h = cc h
@@ -34,6 +34,7 @@ plain_words Audit is = refl
 plain_words Backup is = refl
 plain_words Check is = refl
 plain_words Restore is = refl
+plain_words Root is = refl
 plain_words (Peer w) is =
     rw (
       plain_decimal w.me (omega (arith, is.1.last, is.0.count)),

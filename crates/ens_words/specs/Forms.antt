@@ -4,7 +4,7 @@ use Rattle.std.specs.Fmt.{decimal}
 use Rattle.ens_base.specs.View.{IsView}
 use Rattle.schedule_words.specs.Spelling.{AreMembers, IsAmong, member_words}
 use Rattle.ens_words.specs.declared.job.Job.{Job}
-use Rattle.ens_words.specs.declared.job.Job.TheVariants.{Replay, Peer, Cluster, Audit, Backup, Check, Restore, Generate}
+use Rattle.ens_words.specs.declared.job.Job.TheVariants.{Replay, Peer, Cluster, Audit, Backup, Check, Restore, Root, Generate}
 use Rattle.ens_words.specs.declared.job.WordsError.{WordsError}
 use Rattle.ens_words.specs.declared.job.WordsError.TheVariants.{Usage, Memory}
 
@@ -22,6 +22,7 @@ words_of Audit = codes "audit" ∷ []
 words_of Backup = codes "backup" ∷ []
 words_of Check = codes "check" ∷ []
 words_of Restore = codes "restore" ∷ []
+words_of Root = codes "root" ∷ []
 words_of (Generate number calls summary) = codes "generate" ∷ decimal number ∷ decimal calls ∷ output_word summary ∷ []
 
 -- 1 to 31 peers, with ports that begin behind this one, and a view of them
@@ -39,6 +40,7 @@ IsJob Audit = Unit {0}
 IsJob Backup = Unit {0}
 IsJob Check = Unit {0}
 IsJob Restore = Unit {0}
+IsJob Root = Unit {0}
 IsJob (Generate number calls summary) = (number < 2 ^ 64) × (1 ≤ calls) × (calls ≤ 20000)
 
 -- the words ask for the job

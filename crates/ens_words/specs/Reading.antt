@@ -6,7 +6,7 @@ use Rattle.schedule_words.specs.Words.{number_of, peer_of, view_of}
 use Rattle.schedule_words.specs.declared.cause.Cause.{Cause}
 use Rattle.schedule_words.specs.declared.cause.Cause.TheVariants.{Unknown, Words}
 use Rattle.ens_words.specs.declared.job.Job.{Job}
-use Rattle.ens_words.specs.declared.job.Job.TheVariants.{Replay, Peer, Cluster, Audit, Backup, Check, Restore, Generate}
+use Rattle.ens_words.specs.declared.job.Job.TheVariants.{Replay, Peer, Cluster, Audit, Backup, Check, Restore, Root, Generate}
 
 -- the words behind the first one of each form
 
@@ -69,4 +69,5 @@ job_of (verb ∷ rest) =
     else if same_bytes verb (codes "backup") then alone_of Backup rest
     else if same_bytes verb (codes "check") then alone_of Check rest
     else if same_bytes verb (codes "restore") then alone_of Restore rest
+    else if same_bytes verb (codes "root") then alone_of Root rest
     else Err Unknown

@@ -17,6 +17,8 @@ pub enum Job {
     Check,
     /// `restore`: read a backup, and write it to the disks of a peer that has stopped.
     Restore,
+    /// `root`: read a script of a root ensemble, and write what its run prints.
+    Root,
     /// `generate NUMBER CALLS schedule` or `generate NUMBER CALLS summary`: generate a schedule of 1
     /// to 20,000 calls from a number, and write it, or a summary of its run.
     Generate {

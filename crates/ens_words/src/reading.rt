@@ -155,6 +155,8 @@ fn job(alloc: Global, verb: &str, rest: &[&str]) -> Result<Job, WordError>
         alone(Job::Check, rest)
     } else if verb == "restore" {
         alone(Job::Restore, rest)
+    } else if verb == "root" {
+        alone(Job::Root, rest)
     } else {
         Err(WordError::Bad(Cause::Unknown))
     }

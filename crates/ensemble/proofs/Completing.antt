@@ -12,8 +12,9 @@ use Rattle.ens_base.specs.declared.peer_words.ClusterWords.{ClusterWords}
 use Rattle.ens_base.specs.declared.peer_words.PeerWords.{PeerWords}
 use Rattle.ens_base.specs.declared.status.Status.{Status}
 use Rattle.ens_words.specs.Forms.{AskFor}
+use Rattle.ensemble_root.proofs.Completing.{runs_out as root_runs_out}
 use Rattle.ens_words.specs.declared.job.Job.{Job}
-use Rattle.ens_words.specs.declared.job.Job.TheVariants.{Replay, Peer, Cluster, Audit, Backup, Check, Restore, Generate}
+use Rattle.ens_words.specs.declared.job.Job.TheVariants.{Replay, Peer, Cluster, Audit, Backup, Check, Restore, Root, Generate}
 use Rattle.held_stores.specs.Held.{Account}
 use Rattle.peer_serve.specs.Serving.{Ended, Failed, Printed}
 use Rattle.peer_serve.specs.declared.disks.Disks.{Disks}
@@ -122,6 +123,7 @@ module _ (old new : Option (List ℕ)) (before now : ℕ) (result : Status) (qui
     unhindered source untouched Replay text free sound linked does calm = runs_out source result text free does calm
     unhindered source untouched Audit text free sound linked does calm = report_runs_out source result text free does calm
     unhindered source untouched Check text free sound linked does calm = check_runs_out source result text free does calm
+    unhindered source untouched Root text free sound linked does calm = root_runs_out source result text free does calm
     unhindered source untouched (Peer w) text free sound (status, printed, ended, out) does calm = ran_as status printed out (served_out w status printed ended sound.0 sound.1)
     unhindered source untouched (Cluster w) text free sound (same_disks, same_ticker, (status, printed, ends, out)) does calm =
         ran_as status printed out (recorded_by w source status printed free sound ends (λ fault. calm (same_status status printed out ∙ fault)))

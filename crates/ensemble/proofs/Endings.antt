@@ -3,12 +3,14 @@ use Rattle.std.proofs.Common.{◌≡◌, ℕ, true, false, List, Option, Result,
 use Rattle.ens_base.specs.declared.status.Status.{Status}
 use Rattle.ens_words.specs.Forms.{AskFor, Reads}
 use Rattle.ens_words.specs.declared.job.Job.{Job}
-use Rattle.ens_words.specs.declared.job.Job.TheVariants.{Replay, Peer, Cluster, Audit, Backup, Check, Restore, Generate}
+use Rattle.ens_words.specs.declared.job.Job.TheVariants.{Replay, Peer, Cluster, Audit, Backup, Check, Restore, Root, Generate}
 use Rattle.ens_words.specs.declared.job.WordsError.TheVariants.{Usage}
 use Rattle.ens_words.proofs.Exactly.{job_back}
 use Rattle.ens_words.specs.Reading.{job_of}
 use Rattle.backup_job.proofs.Completing.{memory_read as check_memory_read, usage_read as check_usage_read}
 use Rattle.backup_job.specs.Printed.{HasRead as HasReadBackup}
+use Rattle.ensemble_root.proofs.Completing.{memory_read as root_memory_read, usage_read as root_usage_read}
+use Rattle.ensemble_root.specs.Jobs.{HasRead as HasReadRoot}
 use Rattle.generated_laws.proofs.Short.{completed}
 use Rattle.replay.proofs.Completing.{memory_read, usage_read}
 use Rattle.replay.specs.Jobs.{HasRead}
@@ -36,11 +38,13 @@ job_ends words source Audit Status.Usage text asks h = absurd h
 job_ends words source Backup Status.Usage text asks h = absurd h
 job_ends words source Check Status.Usage text asks h = absurd h
 job_ends words source Restore Status.Usage text asks h = absurd h
+job_ends words source Root Status.Usage text asks h = absurd h.1
 job_ends words source Replay Status.Memory text asks h = h.1
 job_ends words source Audit Status.Memory text asks h = h
 job_ends words source Backup Status.Memory text asks h = h
 job_ends words source Check Status.Memory text asks h = h
 job_ends words source Restore Status.Memory text asks h = h
+job_ends words source Root Status.Memory text asks h = h.1
 job_ends words source (Generate number calls true) Status.Memory text asks h = h
 job_ends words source (Generate number calls false) Status.Memory text asks h = h
 job_ends words source job status text asks h = (job, asks, h)
@@ -78,6 +82,7 @@ usage_did_read Audit source before now = record { end = λ e. absurd (at_usage e
 usage_did_read Backup source before now = tt
 usage_did_read Check source before now = check_usage_read source before now
 usage_did_read Restore source before now = check_usage_read source before now
+usage_did_read Root source before now = root_usage_read source before now
 usage_did_read (Peer w) source before now = tt
 usage_did_read (Cluster w) source before now = tt
 usage_did_read (Generate number calls summary) source before now = tt
@@ -94,6 +99,7 @@ memory_did_read Audit source before now = record { end = λ e. absurd (at_memory
 memory_did_read Backup source before now = tt
 memory_did_read Check source before now = check_memory_read source before now
 memory_did_read Restore source before now = check_memory_read source before now
+memory_did_read Root source before now = root_memory_read source before now
 memory_did_read (Peer w) source before now = tt
 memory_did_read (Cluster w) source before now = tt
 memory_did_read (Generate number calls summary) source before now = tt
@@ -114,6 +120,9 @@ did_read_restore job source left before now status is has = rw is has
 -- a backup reads no input
 pub did_back_up : (job : Job) (source left : Option (List ℕ)) (before now : ℕ) (status : Status) → job ≡ Backup → DidRead job source left before now status
 did_back_up job source left before now status is = rw is tt
+
+pub did_read_root : (job : Job) (source left : Option (List ℕ)) (before now : ℕ) (status : Status) → job ≡ Root → HasReadRoot source left before now status → DidRead job source left before now status
+did_read_root job source left before now status is has = rw is has
 
 pub did_read_schedule : (job : Job) (source left : Option (List ℕ)) (before now : ℕ) (status : Status) → job ≡ Replay → HasRead source left before now status → DidRead job source left before now status
 did_read_schedule job source left before now status is has = rw is has

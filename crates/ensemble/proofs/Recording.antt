@@ -1,9 +1,10 @@
 -- What a cluster prints, and what became of it, for the words that asked for it.
-use Rattle.std.proofs.Common.{◌≡◌, ◌⊎◌, ℕ, List, Option, None, refl, inl, inr, ap, subst}
+use Rattle.std.proofs.Common.{◌≡◌, ◌⊎◌, ℕ, List, [], ◌∷◌, take, drop, Option, None, refl, inl, inr, ap, subst}
 use Rattle.std.specs.Io.KnownBytes.{Appends}
-use Rattle.cluster.specs.Ends.{BrokenOff, EndsOverBook, HasRead, IsCluster, PrintsRecord, RunEnds, Stopped, Unread}
+use Rattle.cluster.specs.Ends.{BrokenOff, EndsOverBook, HasRead, IsCluster, Looked, PrintsRecord, RunEnds, Stopped, Unread, Went, opening}
 use Rattle.cluster_script.specs.declared.line.ScriptLine.{ScriptLine}
-use Rattle.cluster_spec.specs.Recordings.{Recording}
+use Rattle.cluster_script.specs.declared.line.ScriptLine.TheVariants.{Event, Turn}
+use Rattle.cluster_spec.specs.Recordings.{Recording, heard, heard_all, recorded}
 use Rattle.ens_base.specs.Causes.{Rose}
 use Rattle.ens_base.specs.declared.peer_words.ClusterWords.{ClusterWords}
 use Rattle.ens_base.specs.declared.status.Status.{Status}
@@ -50,8 +51,17 @@ module _ {L : Type 0} (sent : L → Option (List (ℕ × List ℕ))) (given : L 
   unseen_memory first script (inl broken) = inl (unseen_break script broken)
   unseen_memory first script (inr stop) = inr (stop.0, unseen_stop first script stop.0 stop.1)
 
+  unseen_looks : (looks : List (Option (List ℕ))) (r : Recording) (x y : L) → Looked sent given looks r x y → Looked nothing_sent nothing_given looks r (faults x) (faults y)
+  unseen_looks [] r x y looked = ap faults looked
+  unseen_looks (look ∷ more) r x y looked = (faults looked.0, record { looked = tt; sends = tt }, unseen_looks more (heard look r) looked.0 y looked.2)
+
+  unseen_lines : (lines : List ScriptLine) (looks : List (Option (List ℕ))) (r : Recording) (x y : L) → Went sent given lines looks r x y → Went nothing_sent nothing_given lines looks r (faults x) (faults y)
+  unseen_lines [] looks r x y went = ap faults went
+  unseen_lines (Event event ∷ more) looks r x y went = (faults went.0, record { looked = tt; sends = tt }, unseen_lines more looks (recorded event r) went.0 y went.2)
+  unseen_lines (Turn count ∷ more) looks r x y went = (faults went.0, unseen_looks (take count looks) r x went.0 went.1, unseen_lines more (drop count looks) (heard_all (take count looks) r) went.0 y went.2)
+
   unseen_run : (first now : Account) (script : List ScriptLine) (status : Status) (text : List ℕ) → RunEnds sent given faults first now w script a b status text → RunEnds nothing_sent nothing_given (λ n. n) first now w script (faults a) (faults b) status text
-  unseen_run first now script Status.Done text ends = (ends.0, record { looks = ends.1.looks; follows = ends.1.follows; handed = record { looked = tt; sends = tt } }, ends.2)
+  unseen_run first now script Status.Done text ends = (ends.0, record { looks = ends.1.looks; follows = ends.1.follows; handed = record { looked = tt; sends = tt }; went = unseen_lines script ends.1.looks (opening w) a b ends.1.went }, ends.2)
   unseen_run first now script Status.Clash text ends = (ends.0, unseen_stop first script ends.0 ends.1, ends.2)
   unseen_run first now script Status.Limit text ends = (ends.0, unseen_stop first script ends.0 ends.1, ends.2)
   unseen_run first now script Status.LinkFault text ends = (unseen_break script ends.0, ends.1, ends.2)

@@ -16,7 +16,8 @@ use Rattle.ens_base.specs.declared.peer_words.PeerWords.{PeerWords}
 use Rattle.ens_base.specs.declared.status.Status.{Status}
 use Rattle.ens_words.specs.Forms.{AskFor}
 use Rattle.ens_words.specs.declared.job.Job.{Job}
-use Rattle.ens_words.specs.declared.job.Job.TheVariants.{Replay, Peer, Cluster, Audit, Backup, Check, Restore, Generate}
+use Rattle.ens_words.specs.declared.job.Job.TheVariants.{Replay, Peer, Cluster, Audit, Backup, Check, Restore, Root, Generate}
+use Rattle.ensemble_root.specs.Jobs.{HasRead as HasReadRoot, IsRunnable as IsRunnableRoot, Prints as PrintsRoot}
 use Rattle.peer_serve.specs.Faults.{fault_text}
 use Rattle.peer_serve.specs.Serving.{counts_text}
 use Rattle.record_input.specs.Reading.{WasCutOff}
@@ -30,12 +31,13 @@ use Rattle.schedule_text.specs.Spelling.{schedule_text}
 use Rattle.ensemble.specs.declared.arguments.ArgumentsError.{ArgumentsError}
 use Rattle.ensemble.specs.declared.arguments.ArgumentsError.TheVariants.{NotText, Memory}
 
--- a replay, an audit, a cluster, and the test and the restore of a backup read the input
+-- a replay, an audit, a cluster, a root, and the test and the restore of a backup read the input
 abbrev pub ReadsInput : Job → Type 0
 ReadsInput Replay = Unit {0}
 ReadsInput Audit = Unit {0}
 ReadsInput Check = Unit {0}
 ReadsInput Restore = Unit {0}
+ReadsInput Root = Unit {0}
 ReadsInput (Cluster w) = Unit {0}
 ReadsInput job = ⊥
 
@@ -56,6 +58,7 @@ DidRead Replay source left before now status = HasRead source left before now st
 DidRead Audit source left before now status = HasReadRecord source left before now status
 DidRead Check source left before now status = HasReadBackup source left before now status
 DidRead Restore source left before now status = HasReadBackup source left before now status
+DidRead Root source left before now status = HasReadRoot source left before now status
 DidRead (Cluster w) source left before now status = HasReadScript w source left before now status
 DidRead job source left before now status = Unit {0}
 
@@ -105,6 +108,7 @@ Does Audit source status text = PrintsReport source status text
 Does Backup source status text = PrintsBackup status text
 Does Check source status text = PrintsCheck source status text
 Does Restore source status text = PrintsRestore source status text
+Does Root source status text = PrintsRoot source status text
 Does (Generate number calls false) source status text = PrintsSchedule number calls status text
 Does (Generate number calls true) source status text = PrintsSummary number calls status text
 
@@ -122,8 +126,8 @@ IsRecordable w bytes =
     (script : List ScriptLine) × (script_of w.peers bytes ≡ Ok script)
     × ((part : List ScriptLine) (looks : List (Option (List ℕ))) (r : Recording) → IsPart part script → Follows part looks (opening w) r → ¬ IsPastLines r × IsRunnable (schedule_text (recorded_schedule w r)))
 
--- Nothing in its source ends the job early: a replay, an audit, a cluster, and the test and the restore of a backup
--- have a source whose bytes are known, and which nothing in them ends early; and the run that is summed up stays
+-- Nothing in its source ends the job early: a replay, an audit, a cluster, a root, and the test and the restore of a
+-- backup have a source whose bytes are known, and which nothing in them ends early; and the run that is summed up stays
 -- within the limit on messages. A peer and a backup read no source.
 abbrev pub IsUnhindered : Job → Option (List ℕ) → Type 0
 IsUnhindered Replay source = IsSomeAnd source IsRunnable
@@ -133,6 +137,7 @@ IsUnhindered Audit source = IsSomeAnd source IsAuditable
 IsUnhindered Backup source = Unit {0}
 IsUnhindered Check source = IsSomeAnd source IsCheckable
 IsUnhindered Restore source = IsSomeAnd source IsCheckable
+IsUnhindered Root source = IsSomeAnd source IsRunnableRoot
 IsUnhindered (Generate number calls false) source = Unit {0}
 IsUnhindered (Generate number calls true) source = StaysWithin (generate number calls)
 

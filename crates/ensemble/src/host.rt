@@ -60,6 +60,7 @@ pub fn link_of<R: Net>(net: R, job: Option<Job>) -> UdpLink<R> {
             | Job::Backup
             | Job::Check
             | Job::Restore
+            | Job::Root
             | Job::Generate { .. },
         )
         | None => UdpLink::new(net, 0, 0, 0),

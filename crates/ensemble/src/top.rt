@@ -21,6 +21,7 @@ use cluster::cluster;
 use ens_base::Status;
 use ens_outside::{Link, Sink, Source, Ticker, finish};
 use ens_words::{Job, WordsError, read_words};
+use ensemble_root::root;
 use peer_serve::{Disks, serve};
 use record_report::print_report;
 use replay::replay;
@@ -68,6 +69,7 @@ fn run_job<S: Source, O: Sink, L: Link, D: Disk + Drop, T: Ticker, R: Threads + 
             &mut disks.objects,
             output,
         ),
+        Job::Root => root(rt, alloc, input, output),
         Job::Peer(words) => serve(rt, alloc, &words, link, disks, ticker, output),
         Job::Cluster(words) => cluster(rt, alloc, &words, input, output, link),
         Job::Generate {
@@ -90,8 +92,10 @@ fn run_job<S: Source, O: Sink, L: Link, D: Disk + Drop, T: Ticker, R: Threads + 
 /// key. `audit` reads a record, which is a schedule with such a text, and writes the report on its
 /// histories. `backup` writes the tree and the objects on the disks of nodes and of objects, `check` reads
 /// such a backup and writes how many entries and objects it holds, and `restore` reads one and writes it to
-/// these disks. `generate NUMBER CALLS schedule` writes the schedule of 1 to 20,000 calls that is generated
-/// from a number, and `generate NUMBER CALLS summary` the six lines that sum up its run.
+/// these disks. `root` reads a script of a root ensemble, and writes what the run of it and of the ensembles
+/// that it opens prints, and a history for each slot and each key. `generate NUMBER CALLS schedule` writes
+/// the schedule of 1 to 20,000 calls that is generated from a number, and `generate NUMBER CALLS summary`
+/// the six lines that sum up its run.
 /// `peer ID PEERS PORT TURNS MEMBER ..` serves as one peer over the link, on the disks, and writes how
 /// many frames it took and ignored. `cluster PEERS PORT MEMBER ..` reads a script, runs peers as it says
 /// over the link, and writes a record: what happened as a schedule, and what a replay of it prints.

@@ -6,7 +6,7 @@ use Rattle.backup_job.specs.Restored.{Restored}
 use Rattle.ens_base.specs.declared.status.Status.{Status}
 use Rattle.ens_words.specs.declared.job.Job.{Job}
 use Rattle.ensemble.specs.Top.{Does, PrintsCounts}
-use Rattle.ensemble.proofs.Endings.{did_back_up, did_read_backup, did_read_record, did_read_restore, did_read_schedule}
+use Rattle.ensemble.proofs.Endings.{did_back_up, did_read_backup, did_read_record, did_read_restore, did_read_root, did_read_schedule}
 use Rattle.ensemble.proofs.Changing.{all_there_still, backup_text, both_there, no_read, restore_reads, restore_text}
 use Rattle.ensemble.proofs.Recording.{cluster_reads, did_read_script, printed_of, read_rose, unseen, words_valid}
 use Rattle.ensemble.proofs.Serving.{ended_prints, front_text, peer_did_read, reads_nothing, whole_text}
@@ -137,6 +137,15 @@ returns-in-Restore-clause-linked g c =
 
 pub returns-in-Restore-clause-there : goal.returns-in-Restore-clause-there
 returns-in-Restore-clause-there g c = all_there_still c.args.disks.now _ c.requires.there refl c.restore_disks.ensures.there.0 c.restore_disks.ensures.there.1
+
+pub returns-in-Root-clause-front : goal.returns-in-Root-clause-front
+returns-in-Root-clause-front g c = λ fault. let r = c.root.ensures.front fault in (r.0, r.1, subst (λ (job : Job). Does job (g.S.Source.left c.args.input.now) r.0 r.1) (sym c.in-Root.is) r.2, did_read_root c.args.job _ _ _ _ _ c.in-Root.is r.3, r.4)
+
+pub returns-in-Root-clause-untouched : goal.returns-in-Root-clause-untouched
+returns-in-Root-clause-untouched g c = λ none. absurd (none (rw c.in-Root.is tt))
+
+pub returns-in-Root-clause-input : goal.returns-in-Root-clause-input
+returns-in-Root-clause-input g c = λ wrote. did_read_root c.args.job _ _ _ _ _ c.in-Root.is (c.root.ensures.input wrote)
 
 pub returns-in-Replay-clause-front : goal.returns-in-Replay-clause-front
 returns-in-Replay-clause-front g c = λ fault. let r = c.replay.ensures.front fault in (r.0, r.1, subst (λ (job : Job). Does job (g.S.Source.left c.args.input.now) r.0 r.1) (sym c.in-Replay.is) r.2, did_read_schedule c.args.job _ _ _ _ _ c.in-Replay.is r.3, r.4)
