@@ -287,13 +287,8 @@ def full_disk(size, dies):
     """
     with Ensemble() as it:
         it.start(size=size, dies=dies)
-        answered, tried = {}, {}
-        for number in range(400):
-            key, value = KEYS[number % 2], struct.pack(">I", number) + bytes(500 * (number % 3))
-            tried[key] = value
-            if over(it.client, key, value, patience=3) != "ok":
-                break
-            answered[key] = value
+        writer = Puts(it)
+        writer.put(400)
         if dies:
             it.processes[1].wait(30)
             it.kill()
@@ -301,17 +296,44 @@ def full_disk(size, dies):
             ended = it.end(seconds=30)
             if ended != (STORE_FAULT, "store fault\n"):
                 return f"ended with {ended}"
-        wanted = wanted_of(Images(*it.images()))
-        it.start()
-        for key in tried:
-            last = f"value {answered[key].hex()}" if key in answered else "notfound"
-            allowed = {last} if tried[key] == answered.get(key) else {last, "lost"}
-            if wanted[key] not in allowed:
-                return f"the files have {wanted[key][:40]} for {key!r}, wanted {last[:40]}"
-            found = get(it.client, key)
-            if found != wanted[key]:
-                return f"{key!r}: wanted {wanted[key][:40]}, got {found[:40]}"
-    return None
+        return writer.complaint()
+
+
+class Puts:
+    """Puts to a peer alone, up to the first that is not answered, and what its files may then have."""
+
+    def __init__(self, it):
+        self.it = it
+        self.answered, self.tried = {}, {}
+
+    def put(self, count, patience=3):
+        for number in range(count):
+            key, value = KEYS[number % 2], struct.pack(">I", number) + bytes(500 * (number % 3))
+            self.tried[key] = value
+            if over(self.it.client, key, value, patience) != "ok":
+                return
+            self.answered[key] = value
+
+    def may_have(self, key):
+        last = f"value {self.answered[key].hex()}" if key in self.answered else "notfound"
+        if self.tried[key] == self.answered.get(key):
+            return {last}
+        return {last, f"value {self.tried[key].hex()}", "lost"}
+
+    def complaint(self):
+        """What is wrong with the files that the peer left, or with what it answers on them, or None. Only a put that was
+        not answered may have left damage."""
+        wanted = wanted_of(Images(*self.it.images()))
+        if "unavailable" in wanted.values() and self.tried != self.answered:
+            wanted = {KEYS[0]: "unavailable"}
+        else:
+            wanted = {key: wanted[key] for key in self.tried}
+            wrong = [key for key in wanted if wanted[key] not in self.may_have(key)]
+            if wrong:
+                return f"the files have {wanted[wrong[0]][:40]} for {wrong[0][:1]!r}"
+        self.it.start()
+        never = "unavailable" in wanted.values()
+        return differs({key: get(self.it.client, key, ELECTED if never else 20) for key in wanted}, wanted)
 
 
 def counts_its_saves():

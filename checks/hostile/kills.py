@@ -206,7 +206,7 @@ class Writer:
         """What is wrong with what the client saw, after it has read every key once more, or None."""
         if not all(self.read(key) for key in KEYS):
             return "the peers do not serve"
-        return self.complaint or (None if self.number > 9 else f"only {self.number} writes were tried")
+        return self.complaint or (None if self.number else "nothing was written")
 
 
 def one_by_one(seed, kills):

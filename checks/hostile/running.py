@@ -48,7 +48,7 @@ def bounded(memory=MOST_MEMORY, size=None, dies=False):
     return before
 
 
-def run(words, data=b"", **limits):
+def run(words, data=b"", env=None, **limits):
     """The status and the text of a program that is run on these bytes, in a folder of its own."""
     name, *rest = words.split()
     with tempfile.TemporaryDirectory() as folder:
@@ -58,6 +58,7 @@ def run(words, data=b"", **limits):
             cwd=folder,
             stdout=subprocess.PIPE,
             timeout=SECONDS,
+            env=env,
             preexec_fn=bounded(**limits),
         )
     return ran.returncode, ran.stdout.decode("latin-1")
@@ -117,13 +118,14 @@ class Ensemble:
         place.mkdir(exist_ok=True)
         return place
 
-    def start(self, peer=1, turns=1_000_000, **limits):
+    def start(self, peer=1, turns=1_000_000, env=None, **limits):
         words = ["peer", peer, self.peers, self.port, turns, *self.view]
         self.processes[peer] = subprocess.Popen(
             [program(), *map(str, words)],
             cwd=self.folder(peer),
             stdout=subprocess.PIPE,
             stderr=subprocess.DEVNULL,
+            env=env,
             preexec_fn=bounded(**limits),
         )
 
@@ -153,8 +155,9 @@ class Ensemble:
         return ran.returncode, ran.stdout
 
     def images(self, peer=1):
-        """The files of a peer."""
-        return tuple((self.folder(peer) / name).read_bytes() for name in ("facts", "nodes", "objects"))
+        """The bytes of a peer's files. One that is not there has none."""
+        files = [self.folder(peer) / name for name in ("facts", "nodes", "objects")]
+        return tuple(file.read_bytes() if file.exists() else b"" for file in files)
 
     def put_back(self, images, peer=1):
         """Gives a peer these files. One that is None is not there."""

@@ -254,10 +254,10 @@ def read_script(data, peers):
 class Printed:
     """The lines that a run of a schedule printed, as a record has them behind `answers`."""
 
-    def __init__(self, reading):
+    def __init__(self, reading, keys=None):
         self.reading = reading
         self.answers, self.told_changes, self.histories = {}, set(), []
-        self.keys = sorted({call.key for call in reading.calls.values()})
+        self.keys = sorted({call.key for call in reading.calls.values()}) if keys is None else keys
         self.last = 0
 
     def line(self, line):
