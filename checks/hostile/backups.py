@@ -68,7 +68,8 @@ def cases(long):
     chance = random.Random(53)
     backups = [spell_backup(items) for items in samples()]
     for items in samples():
-        for name, data in [("whole", spell_backup(items)), ("a byte more", spell_backup(items) + b"\0"), *broken(items)]:
+        whole = spell_backup(items)
+        for name, data in [("whole", whole), ("a byte more", whole + b"\0"), *broken(items)]:
             yield name, lambda data=data: checks_rightly(data)
     for data in backups[1:5]:
         for size in chance.sample(range(len(data)), len(data) if long else min(40, len(data))):

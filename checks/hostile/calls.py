@@ -4,6 +4,7 @@ A library that is loaded before the C library counts the calls of one kind, and 
 are its own status and text, or the status of that fault and its line; of a peer alone, that it serves on or ends with
 that status, and that its files then have what they may have after a kill: see disks.py.
 """
+import contextlib
 import functools
 import os
 import random
@@ -15,7 +16,7 @@ from pathlib import Path
 from backups import samples
 from disks import Puts
 from formats import spell_backup
-from running import LINK_FAULT, MEMORY, READ_FAULT, STORE_FAULT, WRITE_FAULT, Ensemble, differs, run
+from running import LINK_FAULT, MEMORY, READ_FAULT, STORE_FAULT, WRITE_FAULT, Ensemble, run
 from schedules import CHANGED, REVERTED
 
 LIBRARY = r"""
@@ -103,11 +104,12 @@ def library():
     source.write_text(LIBRARY)
     rt = shutil.which("rt")
     kit = Path(rt).resolve().parent.parent if rt else Path("/")
-    own = [kit / "toolchain/bin/clang", "--target=x86_64-unknown-linux-gnu", "-fuse-ld=lld", f"--sysroot={kit}/toolchain"]
-    for compiler in ([shutil.which("cc")] if shutil.which("cc") else [], own):
-        words = [*compiler, "-w", "-O1", "-fno-builtin", "-fPIC", "-shared", "-nostdlib", source, "-o", made]
-        if compiler and Path(compiler[0]).exists() and subprocess.run(words, stderr=subprocess.DEVNULL).returncode == 0:
-            return made
+    own = f"{kit}/toolchain/bin/clang --target=x86_64-unknown-linux-gnu -fuse-ld=lld --sysroot={kit}/toolchain"
+    for compiler in ("cc", own):
+        words = [*compiler.split(), *"-w -O1 -fno-builtin -fPIC -shared -nostdlib".split(), source, "-o", made]
+        with contextlib.suppress(OSError):
+            if subprocess.run(words, stderr=subprocess.DEVNULL).returncode == 0:
+                return made
     return None
 
 

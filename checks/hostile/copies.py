@@ -8,8 +8,19 @@ import random
 
 from backups import item
 from disks import Images, damage_cases, prepare, serves_rightly
-from formats import BACKUP_CAUSES, Wrong, build, entry_of, read_backup, read_log, read_object, read_tree, spell_backup, spell_object
-from running import BACKUP, DONE, Ensemble, differs
+from formats import (
+    BACKUP_CAUSES,
+    Wrong,
+    build,
+    entry_of,
+    read_backup,
+    read_log,
+    read_object,
+    read_tree,
+    spell_backup,
+    spell_object,
+)
+from running import BACKUP, DONE, STORE_FAULT, Ensemble, differs
 
 
 def items_of(images):
@@ -81,7 +92,7 @@ def is_locked(images):
         it.start()
         data = spell_backup(items_of(images))
         got = it.work("backup"), it.work("restore", data)
-        return differs(got, 2 * ((7, b"store fault\n"),))
+        return differs(got, 2 * ((STORE_FAULT, b"store fault\n"),))
 
 
 def restored(images):

@@ -321,8 +321,8 @@ class Puts:
         return {last, f"value {self.tried[key].hex()}", "lost"}
 
     def complaint(self):
-        """What is wrong with the files that the peer left, or with what it answers on them, or None. Only a put that was
-        not answered may have left damage."""
+        """What is wrong with the files that the peer left, or with what it answers on them, or None. Only a put that
+        was not answered may have left damage."""
         wanted = wanted_of(Images(*self.it.images()))
         if "unavailable" in wanted.values() and self.tried != self.answered:
             wanted = {KEYS[0]: "unavailable"}

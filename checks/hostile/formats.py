@@ -289,7 +289,8 @@ def read_frame(data):
     reader = Reader(data)
     header = reader.take(14)
     letters, version, kind, sender, receiver, length = struct.unpack(">2sBBIIH", header)
-    for is_right, fault in ((letters == b"RE", "Magic"), (version == 1, "Version"), (1 <= kind <= 19, "Kind"), (length <= 4096, "Length")):
+    tests = {"Magic": letters == b"RE", "Version": version == 1, "Kind": 1 <= kind <= 19, "Length": length <= 4096}
+    for fault, is_right in tests.items():
         if not is_right:
             raise Wrong(fault)
     reader.take(length)
@@ -379,7 +380,8 @@ def is_taken(data, me, peers):
     return receiver == me and (from_peer or (kind == 18 and sender >= FIRST_CLIENT))
 
 
-BACKUP_CAUSES = {"Short": 1, "Trailing": 2, "BadTag": 3, "Order": 4, "KeyLength": 5, "Object": 6, "Mismatch": 7, "Top": 8}
+CAUSES = ("Short", "Trailing", "BadTag", "Order", "KeyLength", "Object", "Mismatch", "Top")
+BACKUP_CAUSES = {fault: cause for cause, fault in enumerate(CAUSES, 1)}
 
 
 def read_backup(data):

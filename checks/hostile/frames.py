@@ -1,8 +1,8 @@
 """Hostile frames: datagrams to a peer that serves over UDP.
 
-A peer prints at its end how many frames were steps and how many it ignored. Which datagrams are steps is what the reader
-of docs/formats.md says, and which senders may send them is in docs/use.md. So of each table the exact line is wanted.
-Between the datagrams go calls, and their answers show that the peer still serves.
+A peer prints at its end how many frames were steps and how many it ignored. Which datagrams are steps is what the
+reader of docs/formats.md says, and which senders may send them is in docs/use.md. So of each table the exact line is
+wanted. Between the datagrams go calls, and their answers show that the peer still serves.
 """
 import random
 import socket
@@ -145,8 +145,8 @@ def batches_of(data):
 def counts_rightly(data):
     """What is wrong with what a peer prints that was sent these datagrams, or None.
 
-    After every few of them a call is sent, and its answer awaited: so none was lost before a socket that is full. Peer 1
-    stands in no view, and says at once that it does not lead.
+    After every few of them a call is sent, and its answer awaited: so none was lost before a socket that is full. Peer
+    1 stands in no view, and says at once that it does not lead.
     """
     batches = list(batches_of(data))
     taken = len(batches) + sum(is_taken(it, 1, PEERS) for it in data)

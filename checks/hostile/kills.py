@@ -85,8 +85,8 @@ def damages(chance):
 
 
 def one_is_damaged(damage, peer):
-    """What is wrong with three peers of which one stops, finds its files damaged and starts again, or None. Then another
-    one is killed, so that the damaged one is of the majority: it has to have what was written."""
+    """What is wrong with three peers of which one stops, finds its files damaged and starts again, or None. Then
+    another one is killed, so that the damaged one is of the majority: it has to have what was written."""
     with open_three() as it:
         write(it, b"old")
         old = Images(*it.images(peer))
@@ -130,8 +130,8 @@ def loses_a_key():
 
 
 def power_fails(lost_by):
-    """All peers stop, and the nodes of the last write, which are not synced, are missing at some: their facts, which are
-    synced, have the seals of trees that they lost. Nobody serves while one of them has damage."""
+    """All peers stop, and the nodes of the last write, which are not synced, are missing at some: their facts, which
+    are synced, have the seals of trees that they lost. Nobody serves while one of them has damage."""
     with open_three() as it:
         write(it, b"old")
         nodes = {peer: it.images(peer)[1] for peer in PEERS}
@@ -185,21 +185,22 @@ class Writer:
             self.complaint = f"{key[:1]!r}: wanted {self.last[key]} or one of {self.open[key]}, got {found}"
         return True
 
-    def work(self, over_and_out):
-        while not over_and_out.is_set() and not self.complaint:
+    def work(self, ends):
+        while not ends.is_set() and not self.complaint:
             key = self.chance.choice(KEYS)
             self.write(key)
             self.read(key, 5)
 
     @contextlib.contextmanager
     def at_work(self):
-        over_and_out = threading.Event()
-        thread = threading.Thread(target=self.work, args=[over_and_out])
+        """Writes and reads in the background."""
+        ends = threading.Event()
+        thread = threading.Thread(target=self.work, args=[ends])
         thread.start()
         try:
             yield
         finally:
-            over_and_out.set()
+            ends.set()
             thread.join()
 
     def complaint_at_end(self):
@@ -227,8 +228,8 @@ def one_by_one(seed, kills):
 
 
 def all_at_once(seed, kills):
-    """What is wrong with three peers that are killed together while a client writes, or None. They serve again exactly if
-    each tree verifies under its seal, and then have what was answered."""
+    """What is wrong with three peers that are killed together while a client writes, or None. They serve again exactly
+    if each tree verifies under its seal, and then have what was answered."""
     chance = random.Random(seed)
     with open_three() as it:
         writer = Writer(it.client, seed)

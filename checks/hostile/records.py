@@ -12,8 +12,8 @@ from texts import MOST_LINES, read_record, report
 # Every word of a printed line. The numbers stay small: which cause comes first of a number that is too great for a
 # peer, and of one that no peer has, is nowhere said.
 WORDS = (
-    "answer change history answers value notfound ok failed unavailable busy lost timeout taken refused 0 1 2 3 4 5 6 9 "
-    "01 -1 18446744073709551615 1.1.1 1.1 2.2.1 - 6b 6B 6b6b 76 7"
+    "answer change history answers value notfound ok failed unavailable busy lost timeout taken refused "
+    "0 1 2 3 4 5 6 9 01 -1 18446744073709551615 1.1.1 1.1 2.2.1 - 6b 6B 6b6b 76 7"
 ).split() + [""]
 
 ONE = "ensemble 2\npeers 1\nview 1\ntick 1 6\n"
@@ -24,11 +24,6 @@ def audits_rightly(data):
     printed, text = read_record(data)
     status = DONE if text is None else LIMIT if text.startswith("limit") else SCHEDULE
     return differs(run("ensemble audit", data), (status, report(printed) if text is None else text))
-
-
-def recorded(schedule):
-    """The record of a run. What the run prints may be anything, since each audit has its own wanted text."""
-    return schedule + "answers\n" + run("ensemble replay", schedule.encode())[1]
 
 
 def with_other_words(chance, record, count):

@@ -1,4 +1,4 @@
-"""Hostile scripts of a root ensemble: texts that are cut or changed, and runs in which stores of any ensemble fail and lie.
+"""Hostile scripts of a root ensemble: texts that are cut or changed, and runs in which stores fail and lie.
 
 What a text that is no script has to print is what a reader of docs/roots.md says. A script that runs has to end with
 status 0, and the histories of its slots and keys have to be legal, by the test of docs/runs.md.
@@ -13,8 +13,8 @@ from texts import LINES, PEER, Bad, Call, Printed, Reading, fault, members, numb
 SLOTS = 64
 NOT_IN_A_ROOT = (b"call", b"upgrade", b"deepen")
 WORDS = (
-    "at open look route root r 0 1 2 3 15 36 63 64 calm tick change stop start revert fail spoil damage inner upgrade deepen "
-    "call get over once update 6b 616263 6B - 01 18446744073709551616 taken"
+    "at open look route root r 0 1 2 3 15 36 63 64 calm tick change stop start revert fail spoil damage inner upgrade "
+    "deepen call get over once update 6b 616263 6B - 01 18446744073709551616 taken"
 ).split() + [""]
 
 

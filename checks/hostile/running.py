@@ -1,5 +1,6 @@
 """Runs the built programs, peers that serve, and the cases of a table."""
 import concurrent.futures
+import contextlib
 import itertools
 import os
 import resource
@@ -109,16 +110,21 @@ class Ensemble:
     def __init__(self, peers=1, view=(1,)):
         self.place = tempfile.TemporaryDirectory()
         self.peers, self.view = peers, view
-        self.port = free_port()
         self.processes = {}
-        self.client = Client(self.port, 32, view)
+        self.client = None
+        while self.client is None:
+            # Another program may look for ports at the same time. The port of the client then keeps the others.
+            self.port = free_port()
+            with contextlib.suppress(OSError):
+                self.client = Client(self.port, 32, view)
 
     def folder(self, peer=1):
         place = Path(self.place.name) / str(peer)
         place.mkdir(exist_ok=True)
         return place
 
-    def start(self, peer=1, turns=1_000_000, env=None, **limits):
+    def start(self, peer=1, turns=1_000_000_000, env=None, **limits):
+        """Starts a peer, and waits until it has its port or has ended."""
         words = ["peer", peer, self.peers, self.port, turns, *self.view]
         self.processes[peer] = subprocess.Popen(
             [program(), *map(str, words)],
@@ -128,7 +134,6 @@ class Ensemble:
             env=env,
             preexec_fn=bounded(**limits),
         )
-
         wait_for(lambda: is_bound(self.port + peer) or self.processes[peer].poll() is not None)
 
     def start_all(self):
@@ -150,7 +155,12 @@ class Ensemble:
     def work(self, word, data=b"", peer=1):
         """The status and the bytes that a word writes which works on the files of a peer."""
         ran = subprocess.run(
-            [program(), word], input=data, cwd=self.folder(peer), stdout=subprocess.PIPE, timeout=SECONDS, preexec_fn=bounded()
+            [program(), word],
+            input=data,
+            cwd=self.folder(peer),
+            stdout=subprocess.PIPE,
+            timeout=SECONDS,
+            preexec_fn=bounded(),
         )
         return ran.returncode, ran.stdout
 

@@ -62,7 +62,8 @@ calm
 
 TEXTS = {
     REVERTED: "answer 1 14 ok 1.1.1\nanswer 2 21 value 1.1.1 76\nhistory 6b 1 2\n",
-    CHANGED: "answer 1 4 ok 1.1.1\nchange 5 1 taken\nanswer 2 11 value 1.1.1 76\nanswer 3 17 value 1.1.1 76\nhistory 6b 1 2 3\n",
+    CHANGED: "answer 1 4 ok 1.1.1\nchange 5 1 taken\nanswer 2 11 value 1.1.1 76\nanswer 3 17 value 1.1.1 76\n"
+    "history 6b 1 2 3\n",
 }
 
 THREE = "ensemble 1\npeers 3\nview 1 2 3\n"
@@ -127,9 +128,9 @@ EDGES = [
 LITTLE = 48 << 20
 
 WORDS = (
-    "ensemble peers view call tick deliver pass lose calm change stop start upgrade deepen spoil damage inner revert fail "
-    "turn answers get once update append add swap over delete fact tree backend old new 0 1 2 3 4 5 6 7 9 31 32 63 64 100 "
-    "101 01 -1 +1 1.1.1 0.0.0 1.1 - 6b 6B 6b0 00 ff 76 18446744073709551615 18446744073709551616"
+    "ensemble peers view call tick deliver pass lose calm change stop start upgrade deepen spoil damage inner revert "
+    "fail turn answers get once update append add swap over delete fact tree backend old new "
+    "0 1 2 3 4 5 6 7 9 31 32 63 64 100 101 01 -1 +1 1.1.1 0.0.0 1.1 - 6b 6B 6b0 00 ff 76 18446744073709551615 18446744073709551616"
 ).split() + [""]
 SPLINTERS = [b" ", b"\n", b"\0", b"\r", b"\xff", b"0", b"9", b"-", b"g", b"A", b"."]
 
@@ -149,6 +150,12 @@ def ends_rightly(data):
 
 def has_text(data, wanted):
     return differs(run("ensemble replay", data.encode()), (DONE, wanted))
+
+
+def has_no_end(word):
+    """A line of 64 MiB without a line feed takes no more memory than its first bytes."""
+    endless = LEADS.encode() + bytes(64 << 20)
+    return differs(run(f"ensemble {word}", endless, memory=LITTLE), (SCHEDULE, "schedule 6 1\n"))
 
 
 def prefixes(text):
@@ -257,10 +264,8 @@ def cases(long):
         yield line[:40], lambda line=line, wanted=wanted: at_edge(line, wanted)
     for data in found:
         yield repr(data[-60:]), lambda data=data: ends_rightly(data)
-    endless = LEADS.encode() + bytes(64 << 20)
     for word in ("replay", "audit"):
-        wanted = SCHEDULE, "schedule 6 1\n"
-        yield "a line without an end", lambda word=word: differs(run(f"ensemble {word}", endless, memory=LITTLE), wanted)
+        yield "a line without an end", lambda word=word: has_no_end(word)
 
 
 def at_edge(line, wanted):

@@ -64,7 +64,8 @@ def complaint_of_record(text, script, members):
     head = ["ensemble 2", f"peers {members}", "view " + " ".join(map(str, range(1, members + 1)))]
     if lines[:3] != head:
         return f"the schedule begins with {lines[:3]}"
-    if [it for it in lines[3:] if not it.startswith("deliver ")] != [it for it in script.splitlines() if "turn" not in it]:
+    kept = [line for line in lines[3:] if not line.startswith("deliver ")]
+    if kept != [line for line in script.splitlines() if not line.startswith("turn ")]:
         return "the schedule does not keep the lines of the script"
     delivered = [it for it in lines if it.startswith("deliver ")]
     if len(delivered) != len(set(delivered)):
