@@ -163,6 +163,17 @@ def prefixes(text):
     return [text[:size] for size in range(len(text) + 1)]
 
 
+def with_words_of(chance, text, words, count):
+    """The text with one of these words in place of a word, and in one of three with a line twice."""
+    for _ in range(count):
+        lines = [line.split(" ") for line in text.splitlines()]
+        line = chance.choice(lines)
+        line[chance.randrange(len(line))] = chance.choice(words)
+        if chance.randrange(3) == 0:
+            lines.insert(chance.randrange(len(lines)), list(chance.choice(lines)))
+        yield "".join(" ".join(line) + "\n" for line in lines)
+
+
 def with_other_bytes(chance, text, count):
     """Texts of which one byte was changed, removed or doubled."""
     data = text.encode()
