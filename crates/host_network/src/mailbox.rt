@@ -1,6 +1,6 @@
 use crate::room::Room;
 use ens_outside::LinkError;
-use libc::net::{POLLIN, POLLOUT, poll};
+use libc::net::{POLLIN, POLLOUT, SO_RCVBUF, SOL_SOCKET, poll, setsockopt};
 use libc::types::pollfd;
 use std::alloc::Global;
 use std::io;
@@ -14,6 +14,11 @@ const LOOK_WAIT: i32 = 1;
 /// How long a send waits for room in the buffer of the socket, in milliseconds.
 const SEND_WAIT: i32 = 1000;
 
+/// How many bytes of datagrams are to wait at a socket. The system grants at most what the administrator
+/// allows (on Linux `net.core.rmem_max`). Its default, 212,992 bytes there, holds a few dozen long
+/// datagrams: a flood fills it while a peer waits for its disk, and the frames that come then are lost.
+const WAITING_BYTES: i32 = 4 << 20;
+
 /// Sockets on 127.0.0.1, and the room for what they receive.
 #[derive(Drop)]
 pub struct Mailbox {
@@ -23,10 +28,20 @@ pub struct Mailbox {
     room: Room,
 }
 
+/// Asks the system to let more datagrams wait at the socket. Where it refuses, its default stays.
+fn widen(socket: &UdpSocket) {
+    let mut value = [0; 16];
+    value[..4].copy_from_slice(&WAITING_BYTES.to_ne_bytes());
+    // Safety: the option takes an `int`, which is the first four bytes of the value. The system copies
+    // them, and keeps no pointer.
+    unsafe { setsockopt(socket.as_raw_fd(), SOL_SOCKET, SO_RCVBUF, &value, 4) };
+}
+
 /// Binds a socket to the port. No call on it waits.
 fn bound<R: Net>(net: &R, port: u16) -> io::Result<UdpSocket> {
     let socket = UdpSocket::bind(net, (Ipv4Addr::LOCALHOST, port))?;
     socket.set_nonblocking(true)?;
+    widen(&socket);
     Ok(socket)
 }
 
