@@ -200,9 +200,8 @@ impl Calls {
     pub fn waiting_on(&self, key: &Key) -> usize
         ensures { result ≡ waiting_on key.now self.now }
     {
-        // The places of a key are those of its calls.
-        let _ = &self.slots;
-        self.places.count(key)
+        let places = &self.places;
+        places.count(key)
     }
 
     /// Returns the running call of the key, if there is one.

@@ -10,20 +10,20 @@ use Rattle.ens_outside.specs.Lines.{HasNoFeed, BeginsLong}
 use Rattle.schedule_words.specs.Words.{parts_of}
 use Rattle.line_reading.specs.Reading.{ReadsAs, ReadsOn, and_then, read_parts, read_text}
 
-is_feed_of : (b : ℕ) → b ≢ 10 → (b == 10) ≡ false
+pub is_feed_of : (b : ℕ) → b ≢ 10 → (b == 10) ≡ false
 is_feed_of b apart = grind (arith, nat_tests)
 
-no_feeds : (xs : List ℕ) → HasNoFeed xs → All (λ b. (b == 10) ≡ false) xs
+pub no_feeds : (xs : List ℕ) → HasNoFeed xs → All (λ b. (b == 10) ≡ false) xs
 no_feeds xs clear = All-weaker (λ b. b ≢ 10) (λ b. (b == 10) ≡ false) is_feed_of xs clear
 
-parts_line : (v y : List ℕ) → HasNoFeed v → parts_of 10 ((v ++ 10 ∷ []) ++ y) ≡ v ∷ parts_of 10 y
+pub parts_line : (v y : List ℕ) → HasNoFeed v → parts_of 10 ((v ++ 10 ∷ []) ++ y) ≡ v ∷ parts_of 10 y
 parts_line v y clear = ap (λ (l : List ℕ). parts_of 10 l) (append_assoc v (10 ∷ []) y) ∙ slice_split_at (λ b. b == 10) v 10 y (no_feeds v clear) refl
 
-onto_some : (x : ℕ) (w : List ℕ) (more : List (List ℕ)) (parts : List (List ℕ)) → parts ≡ w ∷ more → onto_first x parts ≡ (x ∷ w) ∷ more
+pub onto_some : (x : ℕ) (w : List ℕ) (more : List (List ℕ)) (parts : List (List ℕ)) → parts ≡ w ∷ more → onto_first x parts ≡ (x ∷ w) ∷ more
 onto_some x w more parts e = ap (onto_first x) e
 
 -- there is a first part
-first_part : (xs : List ℕ) → (w : List ℕ) × (more : List (List ℕ)) × (parts_of 10 xs ≡ w ∷ more)
+pub first_part : (xs : List ℕ) → (w : List ℕ) × (more : List (List ℕ)) × (parts_of 10 xs ≡ w ∷ more)
 first_part [] = ([], [], refl)
 first_part (x ∷ xs) = by_test (x == 10) refl (first_part xs)
   where
@@ -32,7 +32,7 @@ first_part (x ∷ xs) = by_test (x == 10) refl (first_part xs)
     by_test false e rest = (x ∷ rest.0, rest.1, slice_split-cons_no (λ b. b == 10) x xs e ∙ onto_some x rest.0 rest.1 (parts_of 10 xs) rest.2)
 
 -- the first part is as long as the bytes before the first line feed
-long_part : (n : ℕ) (xs : List ℕ) → n ≤ length xs → HasNoFeed (take n xs) → (w : List ℕ) × (more : List (List ℕ)) × (parts_of 10 xs ≡ w ∷ more) × (n ≤ length w)
+pub long_part : (n : ℕ) (xs : List ℕ) → n ≤ length xs → HasNoFeed (take n xs) → (w : List ℕ) × (more : List (List ℕ)) × (parts_of 10 xs ≡ w ∷ more) × (n ≤ length w)
 long_part zero xs fits clear = let part = first_part xs in (part.0, part.1, part.2, omega arith)
 long_part (suc n) [] fits clear = absurd (omega arith)
 long_part (suc n) (x ∷ xs) fits clear =

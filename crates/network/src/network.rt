@@ -160,10 +160,9 @@ impl Network {
         requires { IsPeer from }
         ensures { result ≡ oldest (goes_into from peers.now) self.now }
     {
-        // The sender and the receiver of every message are in 1 to 31, and below the bound.
-        let _ = &self.sent;
+        let bound = self.bound;
         let mut best = None;
-        for number in 1..self.bound {
+        for number in 1..bound {
             let to = PeerId(number);
             if peers.has(to) {
                 best = older(best, self.oldest_between(from, to));
@@ -178,10 +177,9 @@ impl Network {
         ensures oldest { result ≡ oldest (is_among peers.now) self.now }
         ensures sent { IfSome result (λ n. n < length self.now.sent) }
     {
-        // The sender and the receiver of every message are in 1 to 31, and below the bound.
-        let _ = &self.sent;
+        let bound = self.bound;
         let mut best = None;
-        for number in 1..self.bound {
+        for number in 1..bound {
             let from = PeerId(number);
             if peers.has(from) {
                 best = older(best, self.oldest_from(from, peers));

@@ -1,11 +1,9 @@
 -- The lines of a source, taken one after another, are the parts into which its bytes are split.
-use Rattle.std.proofs.Common.{◌≡◌, ◌≢◌, ℕ, zero, suc, ◌+◌, ◌<◌, ◌≤◌, ◌==◌, Bool, true, false, List, [], ◌∷◌, ◌++◌, length, take, Option, None, Some, Result, Ok, Err, refl, sym, ap, subst, ◌∙◌, append_assoc, append-nil, arith, length-append}
-use Rattle.std.specs.Prelude.{All, IfSome, nat_lt, if◌then◌else◌}
-use Rattle.std.specs.List.{onto_first}
+use Rattle.std.proofs.Common.{◌≡◌, ◌≢◌, ℕ, ◌+◌, ◌<◌, ◌≤◌, ◌==◌, Bool, true, false, List, [], ◌∷◌, ◌++◌, length, Option, None, Some, Result, Ok, Err, refl, sym, ap, subst, ◌∙◌, append-nil, arith, length-append}
+use Rattle.std.specs.Prelude.{IfSome, nat_lt, if◌then◌else◌}
 use Rattle.std.specs.Io.KnownBytes.{Consumes, Keeps, IsAtEnd, prepend_known}
 use Rattle.std.proofs.lemmas.Bool.Decides.{nat_tests}
-use Rattle.std.proofs.lemmas.List.Elements.{All-head, All-tail, All-weaker}
-use Rattle.std.proofs.lemmas.List.Splits.{slice_split-cons_yes, slice_split-cons_no, slice_split_none, slice_split_at}
+use Rattle.std.proofs.lemmas.List.Splits.{slice_split-cons_yes, slice_split-cons_no, slice_split_none}
 use Rattle.ens_outside.specs.Lines.{HasNoFeed, BeginsLong}
 use Rattle.ens_base.specs.Results.{◌>>=◌}
 use Rattle.schedule_words.specs.Causes.{or_cause}
@@ -24,36 +22,7 @@ use Rattle.schedule_text.specs.declared.event.ScheduleEvent.{ScheduleEvent}
 use Rattle.schedule_input.specs.declared.read.ReadError.{ReadError}
 use Rattle.schedule_input.specs.declared.read.ReadError.TheVariants as read
 use Rattle.schedule_input.specs.Reading.{ReadsAs, ReadsOn, Refuses, of_schedule}
-
-is_feed_of : (b : ℕ) → b ≢ 10 → (b == 10) ≡ false
-is_feed_of b apart = grind (arith, nat_tests)
-
-no_feeds : (xs : List ℕ) → HasNoFeed xs → All (λ b. (b == 10) ≡ false) xs
-no_feeds xs clear = All-weaker (λ b. b ≢ 10) (λ b. (b == 10) ≡ false) is_feed_of xs clear
-
-parts_line : (v y : List ℕ) → HasNoFeed v → parts_of 10 ((v ++ 10 ∷ []) ++ y) ≡ v ∷ parts_of 10 y
-parts_line v y clear = ap (λ (l : List ℕ). parts_of 10 l) (append_assoc v (10 ∷ []) y) ∙ slice_split_at (λ b. b == 10) v 10 y (no_feeds v clear) refl
-
-onto_some : (x : ℕ) (w : List ℕ) (more : List (List ℕ)) (parts : List (List ℕ)) → parts ≡ w ∷ more → onto_first x parts ≡ (x ∷ w) ∷ more
-onto_some x w more parts e = ap (onto_first x) e
-
--- there is a first part
-first_part : (xs : List ℕ) → (w : List ℕ) × (more : List (List ℕ)) × (parts_of 10 xs ≡ w ∷ more)
-first_part [] = ([], [], refl)
-first_part (x ∷ xs) = by_test (x == 10) refl (first_part xs)
-  where
-    by_test : (b : Bool) → (x == 10) ≡ b → (w : List ℕ) × (more : List (List ℕ)) × (parts_of 10 xs ≡ w ∷ more) → (w : List ℕ) × (more : List (List ℕ)) × (parts_of 10 (x ∷ xs) ≡ w ∷ more)
-    by_test true e rest = ([], parts_of 10 xs, slice_split-cons_yes (λ b. b == 10) x xs e)
-    by_test false e rest = (x ∷ rest.0, rest.1, slice_split-cons_no (λ b. b == 10) x xs e ∙ onto_some x rest.0 rest.1 (parts_of 10 xs) rest.2)
-
--- the first part is as long as the bytes before the first line feed
-long_part : (n : ℕ) (xs : List ℕ) → n ≤ length xs → HasNoFeed (take n xs) → (w : List ℕ) × (more : List (List ℕ)) × (parts_of 10 xs ≡ w ∷ more) × (n ≤ length w)
-long_part zero xs fits clear = let part = first_part xs in (part.0, part.1, part.2, omega arith)
-long_part (suc n) [] fits clear = absurd (omega arith)
-long_part (suc n) (x ∷ xs) fits clear =
-    let rest = long_part n xs (omega arith) (All-tail (λ b. b ≢ 10) x (take n xs) clear) in
-    let head : (x == 10) ≡ false = is_feed_of x (All-head (λ b. b ≢ 10) x (take n xs) clear) in
-    (x ∷ rest.0, rest.1, slice_split-cons_no (λ b. b == 10) x xs head ∙ onto_some x rest.0 rest.1 (parts_of 10 xs) rest.2, (let more : n ≤ length rest.0 = rest.3 in omega arith))
+use Rattle.line_reading.proofs.Parts.{no_feeds, parts_line, onto_some, first_part, long_part}
 
 -- a line in front of more lines
 read_more : (p : Progress) (v : List ℕ) (parts : List (List ℕ)) (w : List ℕ) (more : List (List ℕ)) → parts ≡ w ∷ more → read_parts p (v ∷ parts) ≡ and_then (next_line p v) (λ q. read_parts q parts)

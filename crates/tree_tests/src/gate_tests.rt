@@ -39,6 +39,10 @@ impl TwoHalves {
 }
 
 impl Gate for TwoHalves {
+    fn fewest_in_halves(&self) -> usize {
+        16
+    }
+
     fn enter(&self, piece: u32) {
         if piece == 1 {
             self.seconds.fetch_add(1, Ordering::SeqCst);

@@ -5,9 +5,7 @@ pub trait Gate {
     fn enter(&self, piece: u32);
 
     /// The number of nodes from which on a level is hashed in halves.
-    fn fewest_in_halves(&self) -> usize {
-        16
-    }
+    fn fewest_in_halves(&self) -> usize;
 }
 
 /// A gate that does nothing as a piece begins, and leaves a level of fewer than 1,000 nodes to one
