@@ -3,3 +3,4 @@ pub mod Gives
 pub mod Asks
 pub mod Covers
 pub mod Causes
+pub mod TreeMaps

@@ -16,7 +16,7 @@ fn the_beat_of_26_bytes(rt: HostRuntime) -> Result<(), Fail> {
     let bytes = encode_frame(rt.alloc(), &frame)?;
     assert!(rt;
         bytes.as_slice()
-            == b"RE\x01\x11\0\0\0\x01\0\0\0\x02\0\x0c\0\0\0\0\0\0\0\x01\0\0\0\x01".as_slice()
+            == b"RE\x02\x11\0\0\0\x01\0\0\0\x02\0\x0c\0\0\0\0\0\0\0\x01\0\0\0\x01".as_slice()
     );
     Ok(())
 }
@@ -33,7 +33,7 @@ fn a_call_that_writes_v_under_k(rt: HostRuntime) -> Result<(), Fail> {
     let bytes = encode_frame(alloc, &frame)?;
     assert!(rt;
         bytes.as_slice()
-            == b"RE\x01\x12\0\0\0\x20\0\0\0\x01\0\x0e\0\0\0\0\0\0\0\x07\x07\x01k\0\x01v".as_slice()
+            == b"RE\x02\x12\0\0\0\x20\0\0\0\x01\0\x0e\0\0\0\0\0\0\0\x07\x07\x01k\0\x01v".as_slice()
     );
     Ok(())
 }

@@ -4,7 +4,7 @@ use Rattle.std.proofs.Common.{◌≡◌, ℕ, zero, suc, ◌+◌, ◌<◌, Bool,
 use Rattle.std.proofs.lemmas.Bool.Decides.{nat_tests}
 use Rattle.std.proofs.lemmas.List.{length-set, get_or-replicate, ext_get_or}
 use Rattle.std.proofs.lemmas.List.FromFn.{get_or-map-range_with_len}
-use Rattle.ens_base.specs.PeerSet.{holds}
+use Rattle.wire_frames.specs.EnsBase.{holds}
 use Rattle.phase_rows.specs.Peers.{those, nobody}
 
 -- the set has exactly the peers below this number that pass the test

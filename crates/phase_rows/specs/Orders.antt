@@ -1,9 +1,7 @@
 -- The orders of epochs and facts as tests, and which fact a peer may accept.
 use Rattle.std.specs.Prelude.{ℕ, Bool, true, false, not, ◌&&◌, ◌||◌, ◌==◌, nat_lt, List, ◌∷◌}
-use Rattle.ens_base.specs.Lists.{is_in}
-use Rattle.ens_base.specs.declared.epoch.Epoch.{Epoch}
-use Rattle.ens_base.specs.Views.{first_view}
-use Rattle.peer_fact.specs.declared.fact.Fact.{Fact}
+use Rattle.wire_frames.specs.EnsBase.{is_in, Epoch, first_view}
+use Rattle.wire_frames.specs.PeerFact.{Fact}
 
 -- whether the first epoch is below the second: by count, then by proposer
 abbrev pub is_below : Epoch → Epoch → Bool

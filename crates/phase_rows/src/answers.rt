@@ -1,13 +1,11 @@
 ghost use Rattle.std.specs.Prelude.{◌≡◌};
-ghost use Rattle.ens_base.specs.View.{IsPeer};
+ghost use Rattle.wire_frames.specs.EnsBase.{IsPeer};
 ghost use Rattle.phase_rows.specs.Rows.{silent as is_silent, sends, saves, saves_and_sends, leaves_leading, refuses, refuses_below, at_ballot as with_ballot, anew_at_6 as then_at};
 
 use crate::peers::alone;
 use crate::phase::{PhaseOut, Then};
 use crate::rules::PhaseRule;
-use ens_base::{Epoch, PeerId, PeerSet};
-use peer_fact::Fact;
-use wire_frames::{Message, NackCause};
+use wire_frames::{Epoch, Fact, Message, NackCause, PeerId, PeerSet};
 
 /// Saves nothing and sends nothing.
 pub fn silent(then: Then) -> PhaseOut

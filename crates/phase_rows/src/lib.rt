@@ -25,3 +25,6 @@ pub use orders::{is_below, is_newer, is_same, may_accept};
 pub use peers::{alone, are_quorum, joined, others_of, others_outside, with_members};
 pub use phase::{PhaseOut, Seen, Then};
 pub use rules::{KeyRule, PhaseRule};
+pub use wire_frames::{
+    Change, Fact, FactError, Message, NackCause, Position, SavedFact, Scan, TreeVersion,
+};

@@ -1,9 +1,5 @@
 use crate::rules::{KeyRule, PhaseRule};
-use ens_base::{Digest, Entry, PeerSet};
-use ens_object::Object;
-use peer_fact::Fact;
-use tree_node::Position;
-use wire_frames::Message;
+use wire_frames::{Digest, Entry, Fact, Message, Object, PeerSet, Position};
 
 /// What a peer does after a rule has run.
 #[derive(Clone, Copy, Debug, PartialEq, Eq)]

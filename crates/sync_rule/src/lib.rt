@@ -18,4 +18,5 @@ pub use laws::{
     sources_tell_what_most_hold,
 };
 pub use merging::Merge;
-pub use sync::{Outcome, Source, Sync, needs_build};
+pub use peer_fact::Fact;
+pub use sync::{Outcome, Source, Sync, is_clean, needs_build};

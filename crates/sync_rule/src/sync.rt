@@ -203,7 +203,8 @@ impl Sync {
     }
 }
 
-fn is_clean(scan: &Scan) -> bool
+/// Whether the scan shows no damage.
+pub fn is_clean(scan: &Scan) -> bool
     ensures { result ≡ is_clean scan.now }
 {
     scan.damaged.as_slice().is_empty()

@@ -11,12 +11,8 @@ use Rattle.ens_base.specs.declared.entry.Entry.{Entry}
 use Rattle.ens_base.specs.Lists.{◌∈◌, same_bytes}
 use Rattle.ens_outside.specs.Stores.{NodeCall, NodeAnswer}
 use Rattle.ens_outside.specs.declared.errors.StoreError.{StoreError}
-use Rattle.tree_node.specs.declared.position.Position.{Position}
-use Rattle.tree_node.specs.declared.version.TreeVersion.{TreeVersion}
-use Rattle.tree_node.specs.TreeVersions.{levels}
-use Rattle.tree_node.specs.Positions.{IsPosition}
-use Rattle.tree_node.proofs.TreeVersionLaws.{levels_few}
-use Rattle.tree_node.specs.Nodes.{inner_of, segment_of}
+use Rattle.tree_maps.specs.TreeNode.{Position, TreeVersion, levels, IsPosition, inner_of, segment_of}
+use Rattle.tree_maps.proofs.TreeNode.{levels_few}
 use Rattle.tree_maps.specs.Sixteen.{form_of, children_in, entries_in}
 use Rattle.tree_maps.specs.Forms.{Form, Laws, IsPlace, root}
 use Rattle.tree_maps.specs.Maps.{within, named, text, children, AreApart, Stands}

@@ -1,6 +1,6 @@
 -- How a call to the store or to the hasher begins a plan.
 use Rattle.std.proofs.Common.{◌≡◌, ℕ, List, [], Option, None, Some, Result, Ok, Err, refl, ap, sym, ◌∙◌, subst, inl, inr}
-use Rattle.std.specs.Prelude.{IsErr}
+use Rattle.std.specs.Prelude.{IsErr, if◌then◌else◌, true, false, Bool}
 use Rattle.std.specs.Result.{IsErrAnd}
 use Rattle.ens_hashing.specs.Hashing.{Book}
 use Rattle.ens_outside.specs.Stores.{NodeCall, NodeAnswer, Read}
@@ -10,10 +10,9 @@ use Rattle.synctree.specs.declared.error.TreeError.TheVariants.{Damaged, Failed,
 use Rattle.synctree.specs.Plans.{Node, Hash, Plan, Done, Broken, Ask, ◌>>=◌, Did}
 use Rattle.synctree.specs.Outsides.{outside_does, outside_refuses}
 use Rattle.synctree.specs.Halves.{NodesDid, HasherDid}
-use Rattle.std.specs.Prelude.{if◌then◌else◌, true, false, Bool}
 use Rattle.md5.specs.Md5.{md5}
 use Rattle.ens_base.specs.Lists.{same_bytes}
-use Rattle.tree_node.specs.declared.position.Position.{Position}
+use Rattle.tree_maps.specs.TreeNode.{Position}
 use Rattle.synctree.specs.Walks.{verified, fetch, spelled}
 use Rattle.synctree.specs.Answers.{Spells, Makes}
 use Rattle.synctree.proofs.Composing.{did_ask, did_then, did_err, stops_memory}

@@ -6,7 +6,7 @@ use Rattle.ens_base.specs.declared.entry.Entry.{Entry}
 use Rattle.ens_hashing.specs.Hashing.{Book}
 use Rattle.ens_outside.specs.Stores.{NodeCall, NodeAnswer}
 use Rattle.ens_outside.specs.declared.errors.StoreError.{StoreError}
-use Rattle.tree_node.specs.declared.position.Position.{Position}
+use Rattle.tree_maps.specs.TreeNode.{Position}
 use Rattle.tree_maps.specs.Forms.{Form, child}
 use Rattle.synctree.specs.declared.error.TreeError.{TreeError}
 use Rattle.synctree.specs.Walks.{open_node, onward, find}

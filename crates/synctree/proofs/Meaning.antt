@@ -5,7 +5,7 @@ use Rattle.std.specs.Prelude.{◌==◌}
 use Rattle.md5.specs.Md5.{md5}
 use Rattle.ens_base.specs.declared.entry.Entry.{Entry}
 use Rattle.ens_base.specs.Lists.{◌∈◌, same_bytes}
-use Rattle.tree_node.specs.declared.position.Position.{Position}
+use Rattle.tree_maps.specs.TreeNode.{Position}
 use Rattle.tree_maps.specs.Entries.{IsMap, lookup}
 use Rattle.tree_maps.specs.Forms.{Form, Laws, IsPlace, child, root}
 use Rattle.tree_maps.specs.Maps.{within, named, text, children, AreApart, Stands}

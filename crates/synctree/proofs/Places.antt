@@ -1,12 +1,8 @@
 -- Positions in the tree of a version.
 use Rattle.std.proofs.Common.{◌≡◌, ℕ, zero, suc, ◌+◌, ◌-◌, ◌*◌, ◌<◌, ◌≤◌, ◌^◌, List, refl, sym, subst, arith}
 use Rattle.tree_maps.proofs.Unique.{child_place}
-use Rattle.tree_node.specs.declared.position.Position.{Position}
-use Rattle.tree_node.specs.declared.version.TreeVersion.{TreeVersion}
-use Rattle.tree_node.specs.TreeVersions.{levels}
-use Rattle.tree_node.specs.Positions.{IsPosition}
-use Rattle.tree_node.proofs.TreeVersionLaws.{levels_few}
-use Rattle.tree_node.specs.Nodes.{inner_of, segment_of}
+use Rattle.tree_maps.specs.TreeNode.{Position, TreeVersion, levels, IsPosition, inner_of, segment_of}
+use Rattle.tree_maps.proofs.TreeNode.{levels_few}
 use Rattle.tree_maps.specs.Forms.{IsPlace, child}
 use Rattle.tree_maps.specs.Sixteen.{form_of, nibble, children_in, entries_in}
 use Rattle.md5.specs.Md5.{md5}

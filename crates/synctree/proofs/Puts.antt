@@ -9,13 +9,7 @@ use Rattle.ens_base.specs.Lists.{bytes_cmp}
 use Rattle.ens_hashing.specs.Hashing.{Book}
 use Rattle.ens_outside.specs.Stores.{NodeCall, NodeAnswer}
 use Rattle.ens_outside.specs.declared.errors.StoreError.{StoreError}
-use Rattle.tree_node.specs.declared.position.Position.{Position}
-use Rattle.tree_node.specs.declared.version.TreeVersion.{TreeVersion}
-use Rattle.tree_node.specs.declared.node.InnerNode.{InnerNode}
-use Rattle.tree_node.specs.declared.error.NodeError.{NodeError}
-use Rattle.tree_node.specs.Nodes.{inner_spelling, segment_spelling, inner_of}
-use Rattle.tree_node.specs.Entries.{is_less, is_above, IsNext, AreAbove, AreEntries}
-use Rattle.tree_node.specs.Repeats.{AreListed}
+use Rattle.tree_maps.specs.TreeNode.{Position, TreeVersion, InnerNode, NodeError, inner_spelling, segment_spelling, inner_of, is_less, is_above, IsNext, AreAbove, AreEntries, AreListed}
 use Rattle.tree_maps.specs.Entries.{IsBelowAll, Ascends, put}
 use Rattle.tree_maps.specs.Forms.{Form, child}
 use Rattle.tree_maps.specs.Sixteen.{form_of, spread, children_of, inner_node, segment, children_in}

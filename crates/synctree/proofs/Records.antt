@@ -9,7 +9,7 @@ use Rattle.ens_outside.specs.Stores.{NodeCall, NodeAnswer, Read, Write, Top, Set
 use Rattle.ens_outside.specs.Told.{StaysTold}
 use Rattle.ens_outside.specs.declared.errors.StoreError.{StoreError}
 use Rattle.ens_outside.specs.declared.errors.StoreError.TheVariants as stores
-use Rattle.tree_node.specs.declared.position.Position.{Position}
+use Rattle.tree_maps.specs.TreeNode.{Position}
 use Rattle.tree_maps.specs.Entries.{put}
 use Rattle.tree_maps.specs.Forms.{Form, child}
 use Rattle.synctree.specs.Halves.{NodesDid}

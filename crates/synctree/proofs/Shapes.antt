@@ -3,15 +3,9 @@ use Rattle.std.proofs.Common.{◌≡◌, ℕ, zero, suc, ◌<◌, true, false, L
 use Rattle.std.specs.Option.{is_some}
 use Rattle.ens_base.specs.Lists.{◌∈◌}
 use Rattle.ens_base.specs.declared.entry.Entry.{Entry}
-use Rattle.ens_fields.specs.Numbers.{byte_at}
-use Rattle.ens_fields.proofs.NumberLaws.{byte_grammar}
-use Rattle.tree_node.specs.declared.error.NodeError.TheVariants.{BadTag}
-use Rattle.tree_node.specs.declared.node.InnerNode.{InnerNode}
-use Rattle.tree_node.specs.declared.position.Position.{Position}
-use Rattle.tree_node.specs.declared.version.TreeVersion.{TreeVersion}
-use Rattle.tree_node.specs.declared.version.TreeVersion.TheVariants.{One, Two}
-use Rattle.tree_node.specs.TreeVersions.{levels}
-use Rattle.tree_node.specs.Nodes.{inner_spelling, inner_at, inner_of}
+use Rattle.tree_maps.specs.EnsFields.{byte_at}
+use Rattle.tree_maps.proofs.EnsFields.{byte_grammar}
+use Rattle.tree_maps.specs.TreeNode.{BadTag, InnerNode, Position, TreeVersion, One, Two, levels, inner_spelling, inner_at, inner_of}
 use Rattle.tree_maps.specs.Forms.{IsPlace, root}
 use Rattle.tree_maps.specs.Maps.{text, children, AreApart, Stands}
 use Rattle.tree_maps.specs.Sixteen.{form_of, inner_node, children_in}

@@ -4,9 +4,7 @@ use Rattle.ens_hashing.specs.Hashing.{Book}
 use Rattle.md5.specs.Md5.{md5}
 use Rattle.ens_outside.specs.Stores.{NodeCall, NodeAnswer, Write}
 use Rattle.ens_outside.specs.declared.errors.StoreError.{StoreError}
-use Rattle.tree_node.specs.declared.version.TreeVersion.{TreeVersion}
-use Rattle.tree_node.specs.declared.version.TreeVersion.TheVariants.{One, Two}
-use Rattle.tree_node.specs.Nodes.{inner_spelling}
+use Rattle.tree_maps.specs.TreeNode.{TreeVersion, One, Two, inner_spelling}
 use Rattle.tree_maps.specs.Forms.{root}
 use Rattle.tree_maps.specs.Maps.{text}
 use Rattle.tree_maps.specs.Sixteen.{form_of}

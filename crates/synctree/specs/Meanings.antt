@@ -2,7 +2,7 @@
 use Rattle.std.specs.Option.{IsSomeAnd}
 use Rattle.std.specs.Prelude.{◌≡◌, ◌<◌, ◌^◌, length, ℕ, List, Option, Some, Result, Ok, Err}
 use Rattle.ens_base.specs.declared.entry.Entry.{Entry}
-use Rattle.ens_fields.specs.Entries.{IsEntry}
+use Rattle.tree_maps.specs.EnsFields.{IsEntry}
 use Rattle.tree_maps.specs.Entries.{lookup, put}
 use Rattle.tree_maps.specs.Forms.{Form, root}
 use Rattle.tree_maps.specs.Maps.{AreApart, Stands}

@@ -2,7 +2,7 @@
 use Rattle.std.specs.Option.{is_some}
 use Rattle.std.specs.Prelude.{◌≡◌, Ok, ℕ, zero, suc, ◌-◌, ◌/◌, ◌%◌, Bool, List, Option, None, Some, get_or, if◌then◌else◌}
 use Rattle.ens_base.specs.declared.entry.Entry.{Entry}
-use Rattle.tree_node.specs.declared.position.Position.{Position}
+use Rattle.tree_maps.specs.TreeNode.{Position}
 use Rattle.tree_maps.specs.Forms.{Form, root}
 use Rattle.tree_maps.specs.Maps.{AreApart, Stands}
 use Rattle.tree_maps.specs.Paths.{node_of}

@@ -2,9 +2,7 @@
 use Rattle.std.specs.Option.{is_some}
 use Rattle.std.specs.Prelude.{◌≡◌, ℕ, Bool, List, Option, None, Some, Ok, if◌then◌else◌}
 use Rattle.ens_base.specs.declared.entry.Entry.{Entry}
-use Rattle.tree_node.specs.declared.version.TreeVersion.{TreeVersion}
-use Rattle.tree_node.specs.declared.version.TreeVersion.TheVariants.{One, Two}
-use Rattle.tree_node.specs.Nodes.{inner_of}
+use Rattle.tree_maps.specs.TreeNode.{TreeVersion, One, Two, inner_of}
 use Rattle.tree_maps.specs.Forms.{root}
 use Rattle.tree_maps.specs.Maps.{AreApart, Stands}
 use Rattle.tree_maps.specs.Sixteen.{form_of, children_in}

@@ -4,7 +4,7 @@ use Rattle.md5.specs.Md5.{md5}
 use Rattle.ens_base.specs.declared.entry.Entry.{Entry}
 use Rattle.ens_base.specs.Lists.{same_bytes}
 use Rattle.ens_outside.specs.Stores.{Read, Write, SetTop}
-use Rattle.tree_node.specs.declared.position.Position.{Position}
+use Rattle.tree_maps.specs.TreeNode.{Position}
 use Rattle.tree_maps.specs.Entries.{put, lookup}
 use Rattle.tree_maps.specs.Forms.{Form, child, root}
 use Rattle.synctree.specs.Plans.{Node, Hash, Plan, Done, Broken, Ask, ◌>>=◌}

@@ -1,7 +1,6 @@
 ghost use Rattle.std.specs.Prelude.{◌≡◌, ◌≤◌, ◌<◌, [], None, IfOk, length, replicate};
 ghost use Rattle.md5.specs.Md5.{md5};
-ghost use Rattle.tree_node.specs.Positions.{IsPosition};
-ghost use Rattle.tree_node.specs.Entries.{AreAbove, AreEntries};
+ghost use Rattle.tree_maps.specs.TreeNode.{IsPosition, AreAbove, AreEntries};
 ghost use Rattle.tree_maps.specs.Entries.{put};
 ghost use Rattle.tree_maps.specs.Forms.{IsPlace};
 ghost use Rattle.tree_maps.specs.Sixteen.{form_of};
@@ -23,7 +22,7 @@ use ens_hashing::Hasher16;
 use ens_outside::NodeStore;
 use std::alloc::Global;
 use std::cmp::Ordering;
-use tree_node::{Position, Segment, TreeVersion};
+use tree_maps::{Position, Segment, TreeVersion};
 
 /// Returns the children of an inner node that has none.
 fn no_children(alloc: Global) -> Result<Seq<Option<Digest>>, TreeError>

@@ -1,8 +1,6 @@
 ghost use Rattle.std.specs.Prelude.{◌≡◌, ◌-◌, ◌/◌, ◌<◌};
-ghost use Rattle.tree_node.specs.TreeVersions.{levels};
-ghost use Rattle.tree_node.specs.Positions.{IsPosition};
+ghost use Rattle.tree_maps.specs.TreeNode.{levels, IsPosition, inner_of, segment_of};
 ghost use Rattle.std.specs.Option.{is_some};
-ghost use Rattle.tree_node.specs.Nodes.{inner_of, segment_of};
 ghost use Rattle.tree_maps.specs.Sixteen.{form_of, children_in, entries_in};
 ghost use Rattle.synctree.specs.Answers.{Makes};
 ghost use Rattle.synctree.specs.Outsides.{outside_does, outside_refuses};
@@ -16,7 +14,7 @@ use ens_base::{Bytes, Digest};
 use ens_hashing::Hasher16;
 use ens_outside::NodeStore;
 use std::alloc::Global;
-use tree_node::{NodeError, Position, TreeVersion, decode_inner, decode_segment};
+use tree_maps::{NodeError, Position, TreeVersion, decode_inner, decode_segment};
 
 /// Returns the position of the parent.
 fn parent(at: Position) -> Position

@@ -1,7 +1,5 @@
 ghost use Rattle.std.specs.Prelude.{◌≡◌, Some, None, length, IfOk};
-ghost use Rattle.tree_node.specs.Entries.{AreEntries};
-ghost use Rattle.tree_node.specs.Positions.{IsPosition};
-ghost use Rattle.tree_node.specs.Nodes.{inner_of, segment_of};
+ghost use Rattle.tree_maps.specs.TreeNode.{AreEntries, IsPosition, inner_of, segment_of};
 ghost use Rattle.tree_maps.specs.Entries.{lookup as found};
 ghost use Rattle.tree_maps.specs.Sixteen.{children_in, entries_in};
 ghost use Rattle.synctree.specs.Answers.{Spells, Makes};
@@ -10,7 +8,7 @@ use crate::error::TreeError;
 use crate::shape::children;
 use ens_base::{Digest, Entry, Key, Seq};
 use std::alloc::Global;
-use tree_node::{NodeError, Position, TreeVersion, decode_inner, decode_segment};
+use tree_maps::{NodeError, Position, TreeVersion, decode_inner, decode_segment};
 
 /// Decodes an inner node, and returns its children. `Damaged` names `at` if the bytes are not an
 /// inner node of that position.

@@ -1,9 +1,6 @@
 ghost use Rattle.std.specs.Prelude.{◌≡◌, ◌≤◌, ◌<◌, ◌^◌, IfOk, IfErr, length, None, Some, set, slice_get, get_or, if◌then◌else◌};
 ghost use Rattle.md5.specs.Md5.{md5};
-ghost use Rattle.tree_node.specs.declared.version.TreeVersion.{TreeVersion};
-ghost use Rattle.tree_node.specs.declared.version.TreeVersion.TheVariants.{Two};
-ghost use Rattle.tree_node.specs.TreeVersions.{levels};
-ghost use Rattle.tree_node.specs.Positions.{IsPosition};
+ghost use Rattle.tree_maps.specs.TreeNode.{TreeVersion, Two, levels, IsPosition};
 ghost use Rattle.tree_maps.specs.Forms.{child as child_of, IsPlace};
 ghost use Rattle.tree_maps.specs.Sixteen.{form_of, children_of, mask_of, digests_of, nibble};
 ghost use Rattle.synctree.specs.declared.error.TreeError.TheVariants.{Memory};
@@ -11,7 +8,7 @@ ghost use Rattle.synctree.specs.declared.error.TreeError.TheVariants.{Memory};
 use crate::error::TreeError;
 use ens_base::{Digest, Seq};
 use std::alloc::Global;
-use tree_node::{InnerNode, Position};
+use tree_maps::{InnerNode, Position};
 
 /// The number of children of an inner node.
 pub(crate) const WIDTH: usize = 16;

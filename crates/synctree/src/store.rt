@@ -14,7 +14,7 @@ use ens_base::{Digest, Seq};
 use ens_hashing::Hasher16;
 use ens_outside::NodeStore;
 use std::alloc::Global;
-use tree_node::{InnerNode, TreeVersion};
+use tree_maps::{InnerNode, TreeVersion};
 
 /// Writes a node under its MD5, and returns the digest.
 pub(crate) fn store<N: NodeStore, H: Hasher16>(

@@ -13,7 +13,7 @@ ghost use Rattle.synctree.specs.Trees.{get_plan, insert_plan, fresh_plan};
 ghost use Rattle.synctree.specs.Meanings.{Finds, Opens, Freshens, Reopens, Enters, Inserts};
 ghost use Rattle.synctree.specs.Nodes.{node_plan, Reads};
 ghost use Rattle.synctree.specs.Shapes.{shape_plan, Tells};
-ghost use Rattle.tree_node.specs.Positions.{IsPosition};
+ghost use Rattle.tree_maps.specs.TreeNode.{IsPosition};
 
 use crate::calls;
 use crate::entering::enter_from_top;
@@ -29,7 +29,7 @@ use ens_base::{Bytes, Digest, Entry, Key, Refused};
 use ens_hashing::Hasher16;
 use ens_outside::NodeStore;
 use std::alloc::Global;
-use tree_node::{Position, TreeVersion};
+use tree_maps::{Position, TreeVersion};
 
 /// What remains of a tree when its store is taken out: its version, and the digest of its root, if it has
 /// one.

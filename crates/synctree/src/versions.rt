@@ -13,7 +13,7 @@ use ens_base::Digest;
 use ens_hashing::Hasher16;
 use ens_outside::NodeStore;
 use std::alloc::Global;
-use tree_node::TreeVersion;
+use tree_maps::TreeVersion;
 
 /// Returns the version of the tree that the bytes encode the root of, or `None` if they encode none.
 /// Fails only when out of memory.

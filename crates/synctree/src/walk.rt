@@ -1,8 +1,7 @@
 ghost use Rattle.std.specs.Prelude.{◌≡◌, ◌≤◌, ◌<◌, ◌^◌, ℕ, List, [], ◌∷◌, Option, None, Some, IfOk, length, replicate};
 ghost use Rattle.md5.specs.Md5.{md5};
 ghost use Rattle.tree_maps.specs.Entries.{put as put_in, lookup as found};
-ghost use Rattle.tree_node.specs.Entries.{AreEntries};
-ghost use Rattle.tree_node.specs.Positions.{IsPosition};
+ghost use Rattle.tree_maps.specs.TreeNode.{AreEntries, IsPosition};
 ghost use Rattle.tree_maps.specs.Forms.{IsPlace};
 ghost use Rattle.tree_maps.specs.Sixteen.{form_of};
 ghost use Rattle.synctree.specs.Outsides.{outside_does, outside_refuses};
@@ -18,7 +17,7 @@ use ens_base::{Bytes, Digest, Entry, Key, Seq};
 use ens_hashing::Hasher16;
 use ens_outside::NodeStore;
 use std::alloc::Global;
-use tree_node::{Position, TreeVersion};
+use tree_maps::{Position, TreeVersion};
 
 /// Returns the bytes stored under the digest, which is their MD5. `Damaged` names `at` if there are
 /// no such bytes.

@@ -5,3 +5,5 @@ pub mod Unique
 pub mod Formats
 pub mod Below
 pub mod Slices
+pub mod EnsFields
+pub mod TreeNode

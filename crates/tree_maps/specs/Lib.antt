@@ -3,3 +3,5 @@ pub mod Forms
 pub mod Maps
 pub mod Sixteen
 pub mod Paths
+pub mod EnsFields
+pub mod TreeNode

@@ -10,3 +10,6 @@
 mod laws;
 
 pub use laws::{nodes_are_read_again, one_map_stands};
+pub use tree_node::{
+    InnerNode, NodeError, Position, Segment, TreeVersion, decode_inner, decode_segment,
+};

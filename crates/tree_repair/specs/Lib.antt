@@ -5,3 +5,4 @@ pub mod Segments
 pub mod Inner
 pub mod Admitting
 pub mod Rebuilds
+pub mod TreeVerify

@@ -25,3 +25,4 @@ pub use building::build;
 pub use built::Built;
 pub use installing::install;
 pub use rebuilding::rebuild;
+pub use tree_verify::{NoGate, scan};

@@ -4,7 +4,7 @@ use Rattle.std.specs.Prelude.{not, ◌==◌, ◌&&◌, nat_le, nat_lt, slice_ind
 use Rattle.wire_frames.specs.declared.frame.Frame.{Frame}
 use Rattle.wire_frames.specs.declared.error.FrameError.{FrameError}
 use Rattle.wire_frames.specs.declared.error.FrameError.TheVariants.{Short, Magic, Version, Kind, Length, Trailing, Field}
-use Rattle.wire_frames.specs.Frames.{first_version_of, frame_of}
+use Rattle.wire_frames.specs.Frames.{second_version_of, frame_of}
 use Rattle.wire_frames.specs.FirstCauses.{first_cause, header_tests, body_of, kind_in, sender_in, receiver_in, size_in}
 
 abbrev Answer : Type 0
@@ -29,7 +29,7 @@ same false true true true false false false true false body = refl
 same false true true true false false false true true body = refl
 
 pub in_order : (bytes : List ℕ) → frame_of bytes ≡ first_cause (header_tests bytes) (body_of bytes)
-unfolding frame_of first_version_of
+unfolding frame_of second_version_of
 in_order bytes =
-    same (nat_lt (length bytes) 14) (slice_index bytes 0 == 0x52 && slice_index bytes 1 == 0x45) (slice_index bytes 2 == 1) (nat_le 1 (kind_in bytes) && nat_le (kind_in bytes) 19) (nat_lt 4096 (size_in bytes))
+    same (nat_lt (length bytes) 14) (slice_index bytes 0 == 0x52 && slice_index bytes 1 == 0x45) (slice_index bytes 2 == 2) (nat_le 1 (kind_in bytes) && nat_le (kind_in bytes) 19) (nat_lt 4096 (size_in bytes))
     (nat_lt (length bytes) (14 + size_in bytes)) (nat_lt (14 + size_in bytes) (length bytes)) (nat_le 1 (sender_in bytes) && nat_le (sender_in bytes) 63) (nat_le 1 (receiver_in bytes) && nat_le (receiver_in bytes) 63) (body_of bytes)

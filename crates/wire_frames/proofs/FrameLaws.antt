@@ -19,7 +19,7 @@ use Rattle.wire_frames.specs.declared.frame.Frame.{Frame}
 use Rattle.wire_frames.specs.declared.error.FrameError.{FrameError}
 use Rattle.wire_frames.specs.declared.error.FrameError.TheVariants.{Short, Magic, Version, Kind, Length, Trailing, Field}
 use Rattle.wire_frames.specs.Messages.{kind_of, message_spelling, message_at}
-use Rattle.wire_frames.specs.Frames.{IsEnd, IsFrame, frame_spelling, all_of, first_version_of, frame_of, Answers}
+use Rattle.wire_frames.specs.Frames.{IsEnd, IsFrame, frame_spelling, all_of, second_version_of, frame_of, Answers}
 use Rattle.wire_frames.proofs.MessageLaws.{message_grammar}
 use Rattle.wire_frames.proofs.SizeLaws.{message_size}
 
@@ -65,7 +65,7 @@ u16_read bytes at le fits =
 record Passes (bytes : List ℕ) (f : Frame) : Type 0 where
   long : 14 ≤ length bytes
   magic : (get_or bytes 0 0 ≡ 0x52) × (get_or bytes 1 0 ≡ 0x45)
-  version : get_or bytes 2 0 ≡ 1
+  version : get_or bytes 2 0 ≡ 2
   kind : (1 ≤ get_or bytes 3 0) × (get_or bytes 3 0 ≤ 19)
   size : length bytes ≡ 14 + big_number 2 (drop 12 bytes)
   from : IsEnd (big_number 4 (drop 4 bytes))
@@ -73,13 +73,13 @@ record Passes (bytes : List ℕ) (f : Frame) : Type 0 where
   read : all_of (big_number 4 (drop 4 bytes)) (big_number 4 (drop 8 bytes)) (length bytes) (message_at (get_or bytes 3 0) bytes 14) ≡ right FrameError f
 
 passes : (bytes : List ℕ) (f : Frame) → frame_of bytes ≡ Ok f → Passes bytes f
-unfolding frame_of first_version_of
+unfolding frame_of second_version_of
 passes bytes f e =
     let kind : ℕ = get_or bytes 3 0 in
     let size : ℕ = big_number 2 (drop 12 bytes) in
     let a = guard_ok (nat_lt (length bytes) 14) Short _ f e in
     let b = test_ok (get_or bytes 0 0 == 0x52 && get_or bytes 1 0 == 0x45) _ Magic f a.1 in
-    let c = test_ok (get_or bytes 2 0 == 1) _ Version f b.1 in
+    let c = test_ok (get_or bytes 2 0 == 2) _ Version f b.1 in
     let d = test_ok (nat_le 1 (get_or bytes 3 0) && nat_le (get_or bytes 3 0) 19) _ Kind f c.1 in
     let g = guard_ok (nat_lt 4096 (big_number 2 (drop 12 bytes))) Length _ f d.1 in
     let h = guard_ok (nat_lt (length bytes) (14 + big_number 2 (drop 12 bytes))) Short _ f g.1 in
@@ -97,9 +97,9 @@ passes bytes f e =
       read = k.1;
     }
 
-header_spelled : (bytes : List ℕ) (kind from to size : ℕ) → 14 ≤ length bytes → IsBytes bytes → get_or bytes 0 0 ≡ 0x52 → get_or bytes 1 0 ≡ 0x45 → get_or bytes 2 0 ≡ 1 → get_or bytes 3 0 ≡ kind
+header_spelled : (bytes : List ℕ) (kind from to size : ℕ) → 14 ≤ length bytes → IsBytes bytes → get_or bytes 0 0 ≡ 0x52 → get_or bytes 1 0 ≡ 0x45 → get_or bytes 2 0 ≡ 2 → get_or bytes 3 0 ≡ kind
     → big_number 4 (drop 4 bytes) ≡ from → big_number 4 (drop 8 bytes) ≡ to → big_number 2 (drop 12 bytes) ≡ size
-    → bytes ≡ (0x52 ∷ 0x45 ∷ 1 ∷ kind ∷ [] ++ big_bytes 4 from ++ big_bytes 4 to ++ big_bytes 2 size) ++ drop 14 bytes
+    → bytes ≡ (0x52 ∷ 0x45 ∷ 2 ∷ kind ∷ [] ++ big_bytes 4 from ++ big_bytes 4 to ++ big_bytes 2 size) ++ drop 14 bytes
 header_spelled bytes kind from to size long fits m0 m1 v k f t s =
     let p0 = Spells-then bytes 0 (get_or bytes 0 0 ∷ []) 1 (get_or bytes 1 0 ∷ []) 2 (byte_read bytes 0 (omega arith) fits) (byte_read bytes 1 (omega arith) fits) in
     let p1 = Spells-then bytes 0 (get_or bytes 0 0 ∷ get_or bytes 1 0 ∷ []) 2 (get_or bytes 2 0 ∷ []) 3 p0 (byte_read bytes 2 (omega arith) fits) in
@@ -108,7 +108,7 @@ header_spelled bytes kind from to size long fits m0 m1 v k f t s =
     let p3 = Spells-then bytes 0 (get_or bytes 0 0 ∷ get_or bytes 1 0 ∷ get_or bytes 2 0 ∷ get_or bytes 3 0 ∷ []) 4 (big_bytes 4 (big_number 4 (drop 4 bytes))) 8 p2 (u32_read bytes 4 (omega arith) fits) in
     let p4 = Spells-then bytes 0 (get_or bytes 0 0 ∷ get_or bytes 1 0 ∷ get_or bytes 2 0 ∷ get_or bytes 3 0 ∷ [] ++ big_bytes 4 (big_number 4 (drop 4 bytes))) 8 (big_bytes 4 (big_number 4 (drop 8 bytes))) 12 p3 (u32_read bytes 8 (omega arith) fits) in
     let p5 = Spells-then bytes 0 (get_or bytes 0 0 ∷ get_or bytes 1 0 ∷ get_or bytes 2 0 ∷ get_or bytes 3 0 ∷ [] ++ big_bytes 4 (big_number 4 (drop 4 bytes)) ++ big_bytes 4 (big_number 4 (drop 8 bytes))) 12 (big_bytes 2 (big_number 2 (drop 12 bytes))) 14 p4 (u16_read bytes 12 (omega arith) fits) in
-    p5.parts ∙ same_header (get_or bytes 0 0) (get_or bytes 1 0) (get_or bytes 2 0) (get_or bytes 3 0) (big_number 4 (drop 4 bytes)) (big_number 4 (drop 8 bytes)) (big_number 2 (drop 12 bytes)) 0x52 0x45 1 kind from to size (drop 14 bytes) m0 m1 v k f t s
+    p5.parts ∙ same_header (get_or bytes 0 0) (get_or bytes 1 0) (get_or bytes 2 0) (get_or bytes 3 0) (big_number 4 (drop 4 bytes)) (big_number 4 (drop 8 bytes)) (big_number 2 (drop 12 bytes)) 0x52 0x45 2 kind from to size (drop 14 bytes) m0 m1 v k f t s
   where
     same_header : (a b c d e g h a' b' c' d' e' g' h' : ℕ) (rest : List ℕ) → a ≡ a' → b ≡ b' → c ≡ c' → d ≡ d' → e ≡ e' → g ≡ g' → h ≡ h'
         → (a ∷ b ∷ c ∷ d ∷ [] ++ big_bytes 4 e ++ big_bytes 4 g ++ big_bytes 2 h) ++ rest ≡ (a' ∷ b' ∷ c' ∷ d' ∷ [] ++ big_bytes 4 e' ++ big_bytes 4 g' ++ big_bytes 2 h') ++ rest
@@ -123,8 +123,8 @@ frame_takes bytes f fits e =
     let body : drop 14 bytes ≡ message_spelling a.0 = g.0.parts ∙ ap (λ (l : List ℕ). message_spelling a.0 ++ l) (drop_all (length bytes) bytes (omega arith)) ∙ append-nil (message_spelling a.0) in
     let size : big_number 2 (drop 12 bytes) ≡ length (message_spelling a.0) = omega (arith, p.size, g.0.place) in
     let head = header_spelled bytes (kind_of a.0) (big_number 4 (drop 4 bytes)) (big_number 4 (drop 8 bytes)) (length (message_spelling a.0)) p.long fits p.magic.0 p.magic.1 p.version (sym g.1.0) refl refl size in
-    let whole : bytes ≡ (0x52 ∷ 0x45 ∷ 1 ∷ kind_of a.0 ∷ [] ++ big_bytes 4 (big_number 4 (drop 4 bytes)) ++ big_bytes 4 (big_number 4 (drop 8 bytes)) ++ big_bytes 2 (length (message_spelling a.0))) ++ message_spelling a.0 =
-    head ∙ ap (λ (l : List ℕ). (0x52 ∷ 0x45 ∷ 1 ∷ kind_of a.0 ∷ [] ++ big_bytes 4 (big_number 4 (drop 4 bytes)) ++ big_bytes 4 (big_number 4 (drop 8 bytes)) ++ big_bytes 2 (length (message_spelling a.0))) ++ l) body in
+    let whole : bytes ≡ (0x52 ∷ 0x45 ∷ 2 ∷ kind_of a.0 ∷ [] ++ big_bytes 4 (big_number 4 (drop 4 bytes)) ++ big_bytes 4 (big_number 4 (drop 8 bytes)) ++ big_bytes 2 (length (message_spelling a.0))) ++ message_spelling a.0 =
+    head ∙ ap (λ (l : List ℕ). (0x52 ∷ 0x45 ∷ 2 ∷ kind_of a.0 ∷ [] ++ big_bytes 4 (big_number 4 (drop 4 bytes)) ++ big_bytes 4 (big_number 4 (drop 8 bytes)) ++ big_bytes 2 (length (message_spelling a.0))) ++ l) body in
     let made : Frame = record { from = big_number 4 (drop 4 bytes); to = big_number 4 (drop 8 bytes); message = a.0 } in
     let valid : IsFrame made = record { from = p.from; to = p.to; message = g.1.1 } in
     subst (λ (x : Frame). IsFrame x × (bytes ≡ frame_spelling x)) a.2 (valid, whole)
@@ -154,10 +154,10 @@ kind_range (messages.Beat a) = (omega arith, omega arith)
 kind_range (messages.CallFrame a b c) = (omega arith, omega arith)
 kind_range (messages.AnswerFrame a b) = (omega arith, omega arith)
 
-frame_by : (bytes : List ℕ) (kind size from to : ℕ) → 14 ≤ length bytes → get_or bytes 0 0 ≡ 0x52 → get_or bytes 1 0 ≡ 0x45 → get_or bytes 2 0 ≡ 1 → get_or bytes 3 0 ≡ kind → (1 ≤ kind) × (kind ≤ 19)
+frame_by : (bytes : List ℕ) (kind size from to : ℕ) → 14 ≤ length bytes → get_or bytes 0 0 ≡ 0x52 → get_or bytes 1 0 ≡ 0x45 → get_or bytes 2 0 ≡ 2 → get_or bytes 3 0 ≡ kind → (1 ≤ kind) × (kind ≤ 19)
     → big_number 2 (drop 12 bytes) ≡ size → size ≤ 4096 → length bytes ≡ 14 + size → big_number 4 (drop 4 bytes) ≡ from → IsEnd from → big_number 4 (drop 8 bytes) ≡ to → IsEnd to
     → frame_of bytes ≡ all_of from to (length bytes) (message_at kind bytes 14)
-unfolding frame_of first_version_of
+unfolding frame_of second_version_of
 frame_by bytes kind size from to long m0 m1 v k kr s small len f fr t tr =
     let a : nat_lt (length bytes) 14 ≡ false = le-ltb _ _ (omega arith) in
     let c : (nat_le 1 kind && nat_le kind 19) ≡ true = to_range kind 19 kr in

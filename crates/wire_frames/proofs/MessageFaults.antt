@@ -9,7 +9,7 @@ use Rattle.ens_fields.proofs.FieldFaults.{number_faults, epoch_faults, version_f
 use Rattle.ens_fields.proofs.EntryLaws.{entry_grammar}
 use Rattle.ens_object.proofs.ObjectFaults.{object_faults}
 use Rattle.peer_fact.proofs.FactFaults.{fact_faults}
-use Rattle.tree_node.specs.declared.version.TreeVersion.TheVariants.{One}
+use Rattle.tree_node.specs.declared.version.TreeVersion.TheVariants.{Two}
 use Rattle.tree_node.proofs.PositionLaws.{position_grammar}
 use Rattle.tree_node.proofs.NodeFaults.{position_faults}
 use Rattle.wire_frames.specs.declared.message.Message.TheVariants as messages
@@ -78,14 +78,14 @@ check_reply_faults = made_faults (λ x. messages.CheckReply x.0 x.1) (both_fault
 
 tree_ask_faults : Faults Short IsRule tree_ask_at
 unfolding tree_ask_at
-tree_ask_faults = made_faults (λ x. messages.TreeAsk x.0 x.1.0 x.1.1) (both_faults epoch_grammar (epoch_faults IsRule) (both_faults (position_grammar One) (position_faults One) option_key_faults))
+tree_ask_faults = made_faults (λ x. messages.TreeAsk x.0 x.1.0 x.1.1) (both_faults epoch_grammar (epoch_faults IsRule) (both_faults (position_grammar Two) (position_faults Two) option_key_faults))
 
 tree_give_faults : Faults Short IsRule tree_give_at
 unfolding tree_give_at
 tree_give_faults =
     made_faults (λ x. messages.TreeGive x.0 x.1.0 x.1.1.0 x.1.1.1.0 x.1.1.1.1)
     (both_faults epoch_grammar (epoch_faults IsRule)
-    (both_faults (position_grammar One) (position_faults One)
+    (both_faults (position_grammar Two) (position_faults Two)
     (both_faults option_key_grammar option_key_faults
     (both_faults flag_grammar flag_faults body_faults))))
 

@@ -21,7 +21,7 @@ use Rattle.ens_object.proofs.ObjectLaws.{object_grammar}
 use Rattle.peer_fact.specs.declared.fact.Fact.{Fact}
 use Rattle.peer_fact.specs.FactBytes.{IsFact, fact_spelling}
 use Rattle.peer_fact.proofs.FactLaws.{fact_grammar}
-use Rattle.tree_node.specs.declared.version.TreeVersion.TheVariants.{One}
+use Rattle.tree_node.specs.declared.version.TreeVersion.TheVariants.{Two}
 use Rattle.tree_node.specs.declared.position.Position.{Position}
 use Rattle.tree_node.specs.declared.body.TreeBody.{TreeBody}
 use Rattle.tree_node.specs.Positions.{position_spelling}
@@ -194,11 +194,11 @@ check_reply_grammar = variant_grammar (both_grammar epoch_grammar u64_grammar) k
 
 tree_ask_grammar : IsGrammar (λ m. (kind_of m ≡ 14) × IsMessage m) message_spelling tree_ask_at
 unfolding tree_ask_at
-tree_ask_grammar = variant_grammar (both_grammar epoch_grammar (both_grammar (position_grammar One) option_key_grammar)) kind_of IsMessage message_spelling (λ x. messages.TreeAsk x.0 x.1.0 x.1.1) 14 (λ _. refl) kind_14 (λ x v. v) (λ x v. v) (λ x. regroup3 (epoch_spelling x.0) (position_spelling x.1.0) (option_key_spelling x.1.1))
+tree_ask_grammar = variant_grammar (both_grammar epoch_grammar (both_grammar (position_grammar Two) option_key_grammar)) kind_of IsMessage message_spelling (λ x. messages.TreeAsk x.0 x.1.0 x.1.1) 14 (λ _. refl) kind_14 (λ x v. v) (λ x v. v) (λ x. regroup3 (epoch_spelling x.0) (position_spelling x.1.0) (option_key_spelling x.1.1))
 
 tree_give_grammar : IsGrammar (λ m. (kind_of m ≡ 15) × IsMessage m) message_spelling tree_give_at
 unfolding tree_give_at
-tree_give_grammar = variant_grammar (both_grammar epoch_grammar (both_grammar (position_grammar One) (both_grammar option_key_grammar (both_grammar flag_grammar body_grammar)))) kind_of IsMessage message_spelling (λ x. messages.TreeGive x.0 x.1.0 x.1.1.0 x.1.1.1.0 x.1.1.1.1) 15 (λ _. refl) kind_15 (λ x v. v) (λ x v. v) (λ x. regroup5 (epoch_spelling x.0) (position_spelling x.1.0) (option_key_spelling x.1.1.0) (flag_spelling x.1.1.1.0) (body_spelling x.1.1.1.1))
+tree_give_grammar = variant_grammar (both_grammar epoch_grammar (both_grammar (position_grammar Two) (both_grammar option_key_grammar (both_grammar flag_grammar body_grammar)))) kind_of IsMessage message_spelling (λ x. messages.TreeGive x.0 x.1.0 x.1.1.0 x.1.1.1.0 x.1.1.1.1) 15 (λ _. refl) kind_15 (λ x v. v) (λ x v. v) (λ x. regroup5 (epoch_spelling x.0) (position_spelling x.1.0) (option_key_spelling x.1.1.0) (flag_spelling x.1.1.1.0) (body_spelling x.1.1.1.1))
 
 commit_grammar : IsGrammar (λ m. (kind_of m ≡ 16) × IsMessage m) message_spelling commit_at
 unfolding commit_at

@@ -15,7 +15,7 @@ use Rattle.ens_fields.proofs.NumberLaws.{byte_grammar, u16_grammar}
 use Rattle.ens_fields.proofs.FieldLaws.{key_grammar, value_grammar, version_grammar}
 use Rattle.ens_fields.proofs.FirstFaultLaws.{IsOne, Faults, IsRule, ok_no_err, faultless, faults_then, faults_last}
 use Rattle.ens_fields.proofs.FieldFaults.{Follows, or_else, rejects, byte_faults, number_faults, epoch_faults, version_faults, key_faults, value_faults}
-use Rattle.tree_node.specs.declared.version.TreeVersion.TheVariants.{One}
+use Rattle.tree_node.specs.declared.version.TreeVersion.TheVariants.{Two}
 use Rattle.tree_node.specs.declared.body.TreeBody.TheVariants as bodies
 use Rattle.tree_node.proofs.EntryLaws.{entries_grammar}
 use Rattle.tree_node.proofs.NodeFaults.{position_faults, entries_faults, digests_faults}
@@ -64,7 +64,7 @@ page_body_faults = made_faults (λ x. bodies.Page x.0 x.1) page_faults
 
 damaged_body_faults : Faults Short IsRule damaged_body_at
 unfolding damaged_body_at
-damaged_body_faults = made_faults bodies.Damaged (position_faults One)
+damaged_body_faults = made_faults bodies.Damaged (position_faults Two)
 
 pub body_faults : Faults Short IsRule body_at
 unfolding body_at
@@ -78,7 +78,7 @@ greater_faults = made_faults causes.Greater (epoch_faults IsRule)
 
 damaged_faults : Faults Short IsRule damaged_at
 unfolding damaged_at
-damaged_faults = made_faults causes.Damaged (position_faults One)
+damaged_faults = made_faults causes.Damaged (position_faults Two)
 
 pub cause_faults : Faults Short IsRule cause_at
 unfolding cause_at

@@ -7,7 +7,7 @@ use Rattle.byteorder.specs.Endian.{big_bytes}
 use Rattle.std.proofs.Common.{get_or}
 use Rattle.ens_base.specs.declared.entry.Entry.{Entry}
 use Rattle.ens_base.specs.declared.epoch.Epoch.{Epoch}
-use Rattle.tree_node.specs.declared.version.TreeVersion.TheVariants.{One}
+use Rattle.tree_node.specs.declared.version.TreeVersion.TheVariants.{Two}
 use Rattle.tree_node.specs.declared.position.Position.{Position}
 use Rattle.ens_fields.specs.Numbers.{byte_at}
 use Rattle.ens_fields.specs.declared.field_error.FieldError.{FieldError}
@@ -188,7 +188,7 @@ unfolding body_at inner_body_at page_body_at damaged_body_at
 body_grammar = tagged_grammar body_tag IsBody body_rest body_small _
     (λ t start. choice body_tag IsBody body_rest t 1 (variant_grammar children_grammar body_tag IsBody body_rest (λ x. bodies.Inner x.0 x.1) 1 (λ _. refl) body_inner (λ x v. v) (λ x v. v) (λ _. refl))
     (λ x. choice body_tag IsBody body_rest t 2 (variant_grammar page_grammar body_tag IsBody body_rest (λ x. bodies.Page x.0 x.1) 2 (λ _. refl) body_page (λ x v. v) (λ x v. v) (λ _. refl))
-    (λ y. choice body_tag IsBody body_rest t 3 (variant_grammar (position_grammar One) body_tag IsBody body_rest (λ p. bodies.Damaged p) 3 (λ _. refl) body_damaged (λ x v. v) (λ x v. v) (λ _. refl))
+    (λ y. choice body_tag IsBody body_rest t 3 (variant_grammar (position_grammar Two) body_tag IsBody body_rest (λ p. bodies.Damaged p) 3 (λ _. refl) body_damaged (λ x v. v) (λ x v. v) (λ _. refl))
     (λ z. no_choice body_tag IsBody body_rest t (λ _. Rule start) (body_other t x y z)))))
 
 cause_small : (x : NackCause) → cause_tag x < 256
@@ -218,5 +218,5 @@ unfolding cause_at greater_at damaged_at
 cause_grammar = tagged_grammar cause_tag IsCause cause_rest cause_small _
     (λ t start. choice cause_tag IsCause cause_rest t 1 (variant_grammar epoch_grammar cause_tag IsCause cause_rest (λ b. causes.Greater b) 1 (λ _. refl) cause_greater (λ x v. v) (λ x v. v) (λ _. refl))
     (λ a. choice cause_tag IsCause cause_rest t 2 (empty_grammar cause_tag IsCause cause_rest causes.Untrusted 2 refl cause_untrusted tt refl)
-    (λ b. choice cause_tag IsCause cause_rest t 3 (variant_grammar (position_grammar One) cause_tag IsCause cause_rest (λ p. causes.Damaged p) 3 (λ _. refl) cause_damaged (λ x v. v) (λ x v. v) (λ _. refl))
+    (λ b. choice cause_tag IsCause cause_rest t 3 (variant_grammar (position_grammar Two) cause_tag IsCause cause_rest (λ p. causes.Damaged p) 3 (λ _. refl) cause_damaged (λ x v. v) (λ x v. v) (λ _. refl))
     (λ d. no_choice cause_tag IsCause cause_rest t (λ _. Rule start) (cause_other t a b d)))))

@@ -24,7 +24,7 @@ use Rattle.ens_object.specs.declared.error.ObjectRule.{ObjectRule}
 use Rattle.ens_object.specs.Objects.{held_at, content_at, object_at}
 use Rattle.peer_fact.specs.declared.error.FactRule.{FactRule}
 use Rattle.peer_fact.specs.FactBytes.{added_at, change_at, fields_at, fact_at}
-use Rattle.tree_node.specs.declared.version.TreeVersion.TheVariants.{One}
+use Rattle.tree_node.specs.declared.version.TreeVersion.TheVariants.{Two}
 use Rattle.tree_node.specs.Repeats.{list_at}
 use Rattle.tree_node.specs.Positions.{level_at, index_at, position_at}
 use Rattle.tree_node.specs.Entries.{rest_at, next_at, entries_at, digests_at}
@@ -218,7 +218,7 @@ fact_safe bytes at le = fault_step _ _ _ (plain_within FactRule _ _ (byte_safe b
 any_fact_safe : Safe any_fact_at
 any_fact_safe bytes at le = without_rule_within _ _ (fact_safe bytes at le)
 
-level_safe : Safe (level_at One)
+level_safe : Safe (level_at Two)
 unfolding level_at
 level_safe bytes at le = step _ _ _ (byte_safe bytes at le) (λ x h. either _ _ _ _ (here h) (rule le))
 
@@ -226,7 +226,7 @@ index_safe : (level : ℕ) → Safe (index_at level)
 unfolding index_at
 index_safe level bytes at le = step _ _ _ (number_safe 4 bytes at le) (λ x h. either _ _ _ _ (here h) (rule le))
 
-position_safe : Safe (position_at One)
+position_safe : Safe (position_at Two)
 unfolding position_at
 position_safe bytes at le = step _ _ _ (level_safe bytes at le) (λ x h. step _ _ _ (index_safe x.0 bytes x.1 h) (λ y k. here k))
 

@@ -34,7 +34,7 @@ abbrev pub header_tests : List ℕ → List Test
 header_tests bytes =
     (nat_lt (length bytes) 14, Short)
     ∷ (not (slice_index bytes 0 == 0x52 && slice_index bytes 1 == 0x45), Magic)
-    ∷ (not (slice_index bytes 2 == 1), Version)
+    ∷ (not (slice_index bytes 2 == 2), Version)
     ∷ (not (nat_le 1 (kind_in bytes) && nat_le (kind_in bytes) 19), Kind)
     ∷ (nat_lt 4096 (size_in bytes), Length)
     ∷ (nat_lt (length bytes) (14 + size_in bytes), Short)

@@ -18,10 +18,10 @@ pub record IsFrame (f : Frame) : Type 0 where
   pub to : IsEnd f.to
   pub message : IsMessage f.message
 
--- the two magic bytes, the version of this format, which is 1, the kind, who sends and who receives,
+-- the two magic bytes, the version of this format, which is 2, the kind, who sends and who receives,
 -- the length of the body, and the body
 abbrev pub frame_spelling : Frame → List ℕ
-frame_spelling f = 0x52 ∷ 0x45 ∷ 1 ∷ kind_of f.message ∷ [] ++ big_bytes 4 f.from ++ big_bytes 4 f.to ++ big_bytes 2 (length (message_spelling f.message)) ++ message_spelling f.message
+frame_spelling f = 0x52 ∷ 0x45 ∷ 2 ∷ kind_of f.message ∷ [] ++ big_bytes 4 f.from ++ big_bytes 4 f.to ++ big_bytes 2 (length (message_spelling f.message)) ++ message_spelling f.message
 
 -- each place that was answered is a number of four bytes
 abbrev pub HasPlaces : Result (Message × ℕ) FieldError → Type 0
@@ -45,13 +45,13 @@ ends_of from to kind bytes = if nat_le 1 from && nat_le from 63 then (if nat_le 
 abbrev pub sized_of : ℕ → ℕ → List ℕ → Result Frame FrameError
 sized_of kind size bytes = if nat_lt 4096 size then Err Length else (if nat_lt (length bytes) (14 + size) then Err Short else (if nat_lt (14 + size) (length bytes) then Err Trailing else ends_of (big_number 4 (drop 4 bytes)) (big_number 4 (drop 8 bytes)) kind bytes))
 
--- what follows the version byte of the first version
-unfoldable pub first_version_of : List ℕ → Result Frame FrameError
-first_version_of bytes = if nat_le 1 (slice_index bytes 3) && nat_le (slice_index bytes 3) 19 then sized_of (slice_index bytes 3) (big_number 2 (drop 12 bytes)) bytes else Err Kind
+-- what follows the version byte
+unfoldable pub second_version_of : List ℕ → Result Frame FrameError
+second_version_of bytes = if nat_le 1 (slice_index bytes 3) && nat_le (slice_index bytes 3) 19 then sized_of (slice_index bytes 3) (big_number 2 (drop 12 bytes)) bytes else Err Kind
 
 -- the frame that the bytes spell, or the first fault
 unfoldable pub frame_of : List ℕ → Result Frame FrameError
-frame_of bytes = if nat_lt (length bytes) 14 then Err Short else (if slice_index bytes 0 == 0x52 && slice_index bytes 1 == 0x45 then (if slice_index bytes 2 == 1 then first_version_of bytes else Err Version) else Err Magic)
+frame_of bytes = if nat_lt (length bytes) 14 then Err Short else (if slice_index bytes 0 == 0x52 && slice_index bytes 1 == 0x45 then (if slice_index bytes 2 == 2 then second_version_of bytes else Err Version) else Err Magic)
 
 abbrev pub Fails : {X : Type 0} → FrameError → Result X FrameError → Type 0
 Fails Memory read = Unit {0}

@@ -4,3 +4,7 @@ pub mod Calls
 pub mod Messages
 pub mod Frames
 pub mod FirstCauses
+pub mod EnsBase
+pub mod EnsObject
+pub mod PeerFact
+pub mod TreeNode

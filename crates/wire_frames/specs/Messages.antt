@@ -13,7 +13,7 @@ use Rattle.ens_object.specs.declared.object.Object.{Object}
 use Rattle.ens_object.specs.Objects.{IsObject, object_spelling, object_at}
 use Rattle.peer_fact.specs.declared.fact.Fact.{Fact}
 use Rattle.peer_fact.specs.FactBytes.{IsFact, fact_spelling, fact_at}
-use Rattle.tree_node.specs.declared.version.TreeVersion.TheVariants.{One}
+use Rattle.tree_node.specs.declared.version.TreeVersion.TheVariants.{Two}
 use Rattle.tree_node.specs.declared.body.TreeBody.{TreeBody}
 use Rattle.tree_node.specs.declared.body.TreeBody.TheVariants as bodies
 use Rattle.tree_node.specs.Positions.{IsPosition, position_spelling, position_at}
@@ -63,8 +63,8 @@ IsMessage (messages.Put epoch object) = IsEpoch epoch × IsObject object
 IsMessage (messages.PutReply epoch key version) = IsEpoch epoch × (IsKey key × IsVersion version)
 IsMessage (messages.Check epoch round) = IsEpoch epoch × (round < 2 ^ 64)
 IsMessage (messages.CheckReply epoch round) = IsEpoch epoch × (round < 2 ^ 64)
-IsMessage (messages.TreeAsk epoch position after) = IsEpoch epoch × (IsPosition One position × IsOptional IsKey after)
-IsMessage (messages.TreeGive epoch position after trusted body) = IsEpoch epoch × (IsPosition One position × (IsOptional IsKey after × (Unit {0} × IsBody body)))
+IsMessage (messages.TreeAsk epoch position after) = IsEpoch epoch × (IsPosition Two position × IsOptional IsKey after)
+IsMessage (messages.TreeGive epoch position after trusted body) = IsEpoch epoch × (IsPosition Two position × (IsOptional IsKey after × (Unit {0} × IsBody body)))
 IsMessage (messages.Commit fact) = IsFact fact
 IsMessage (messages.Beat epoch) = IsEpoch epoch
 IsMessage (messages.CallFrame id key command) = (id < 2 ^ 64) × IsCall (key, command)
@@ -135,10 +135,10 @@ unfoldable pub check_reply_at : List ℕ → ℕ → Result (Message × ℕ) Fie
 check_reply_at bytes at = made (λ x. messages.CheckReply x.0 x.1) (both epoch_at (number_at 8)) bytes at
 
 unfoldable pub tree_ask_at : List ℕ → ℕ → Result (Message × ℕ) FieldError
-tree_ask_at bytes at = made (λ x. messages.TreeAsk x.0 x.1.0 x.1.1) (both epoch_at (both (position_at One) option_key_at)) bytes at
+tree_ask_at bytes at = made (λ x. messages.TreeAsk x.0 x.1.0 x.1.1) (both epoch_at (both (position_at Two) option_key_at)) bytes at
 
 unfoldable pub tree_give_at : List ℕ → ℕ → Result (Message × ℕ) FieldError
-tree_give_at bytes at = made (λ x. messages.TreeGive x.0 x.1.0 x.1.1.0 x.1.1.1.0 x.1.1.1.1) (both epoch_at (both (position_at One) (both option_key_at (both flag_at body_at)))) bytes at
+tree_give_at bytes at = made (λ x. messages.TreeGive x.0 x.1.0 x.1.1.0 x.1.1.1.0 x.1.1.1.1) (both epoch_at (both (position_at Two) (both option_key_at (both flag_at body_at)))) bytes at
 
 unfoldable pub commit_at : List ℕ → ℕ → Result (Message × ℕ) FieldError
 commit_at bytes at = made messages.Commit any_fact_at bytes at
@@ -163,17 +163,17 @@ message_at kind bytes at = if kind == 1 then Ok (messages.Probe, at) else (if ki
 abbrev pub ObeysCause : NackCause → Type 0
 ObeysCause (causes.Greater ballot) = Unit {0}
 ObeysCause causes.Untrusted = Unit {0}
-ObeysCause (causes.Damaged position) = IsPosition One position
+ObeysCause (causes.Damaged position) = IsPosition Two position
 
 abbrev pub ObeysBody : TreeBody → Type 0
 ObeysBody (bodies.Inner mask digests) = length digests ≡ count_ones mask
 ObeysBody (bodies.Page entries more) = (length entries ≤ 32) × AreAbove [] entries
-ObeysBody (bodies.Damaged position) = IsPosition One position
+ObeysBody (bodies.Damaged position) = IsPosition Two position
 
 -- what a message must obey besides the limits of its types: positions are in range, a mask has a
 -- digest for each of its bits, and a page has at most 32 entries in the order of their keys
 abbrev pub Obeys : Message → Type 0
 Obeys (messages.Nack ballot cause) = ObeysCause cause
-Obeys (messages.TreeAsk epoch position after) = IsPosition One position
-Obeys (messages.TreeGive epoch position after trusted body) = IsPosition One position × ObeysBody body
+Obeys (messages.TreeAsk epoch position after) = IsPosition Two position
+Obeys (messages.TreeGive epoch position after trusted body) = IsPosition Two position × ObeysBody body
 Obeys message = Unit {0}

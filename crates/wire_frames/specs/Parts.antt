@@ -10,7 +10,7 @@ use Rattle.ens_fields.specs.Numbers.{byte_at, number_at}
 use Rattle.ens_base.specs.Limits.{IsEpoch}
 use Rattle.ens_fields.specs.Versions.{epoch_spelling, epoch_at}
 use Rattle.ens_fields.specs.Strings.{key_spelling, key_at}
-use Rattle.tree_node.specs.declared.version.TreeVersion.TheVariants.{One}
+use Rattle.tree_node.specs.declared.version.TreeVersion.TheVariants.{Two}
 use Rattle.tree_node.specs.declared.body.TreeBody.{TreeBody}
 use Rattle.tree_node.specs.declared.body.TreeBody.TheVariants as bodies
 use Rattle.tree_node.specs.Positions.{IsPosition, position_spelling, position_at}
@@ -78,7 +78,7 @@ page_at bytes at = do
 abbrev pub IsBody : TreeBody → Type 0
 IsBody (bodies.Inner mask digests) = AreChildren (mask, digests)
 IsBody (bodies.Page entries more) = IsPage (entries, more)
-IsBody (bodies.Damaged position) = IsPosition One position
+IsBody (bodies.Damaged position) = IsPosition Two position
 
 abbrev pub body_tag : TreeBody → ℕ
 body_tag (bodies.Inner mask digests) = 1
@@ -102,7 +102,7 @@ unfoldable pub page_body_at : List ℕ → ℕ → Result (TreeBody × ℕ) Fiel
 page_body_at bytes at = made (λ x. bodies.Page x.0 x.1) page_at bytes at
 
 unfoldable pub damaged_body_at : List ℕ → ℕ → Result (TreeBody × ℕ) FieldError
-damaged_body_at bytes at = made bodies.Damaged (position_at One) bytes at
+damaged_body_at bytes at = made bodies.Damaged (position_at Two) bytes at
 
 unfoldable pub body_at : List ℕ → ℕ → Result (TreeBody × ℕ) FieldError
 body_at bytes at = do
@@ -112,7 +112,7 @@ body_at bytes at = do
 abbrev pub IsCause : NackCause → Type 0
 IsCause (causes.Greater ballot) = IsEpoch ballot
 IsCause causes.Untrusted = Unit {0}
-IsCause (causes.Damaged position) = IsPosition One position
+IsCause (causes.Damaged position) = IsPosition Two position
 
 abbrev pub cause_tag : NackCause → ℕ
 cause_tag (causes.Greater ballot) = 1
@@ -133,7 +133,7 @@ unfoldable pub greater_at : List ℕ → ℕ → Result (NackCause × ℕ) Field
 greater_at bytes at = made causes.Greater epoch_at bytes at
 
 unfoldable pub damaged_at : List ℕ → ℕ → Result (NackCause × ℕ) FieldError
-damaged_at bytes at = made causes.Damaged (position_at One) bytes at
+damaged_at bytes at = made causes.Damaged (position_at Two) bytes at
 
 unfoldable pub cause_at : List ℕ → ℕ → Result (NackCause × ℕ) FieldError
 cause_at bytes at = do

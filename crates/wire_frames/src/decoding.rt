@@ -2,7 +2,7 @@ ghost use Rattle.std.specs.Prelude.{◌≡◌, ◌≤◌, ◌<◌, ◌+◌, leng
 ghost use Rattle.byteorder.specs.Endian.{big_number};
 ghost use Rattle.wire_frames.specs.declared.frame.Frame.{Frame};
 ghost use Rattle.wire_frames.specs.Messages.{Obeys};
-ghost use Rattle.wire_frames.specs.Frames.{IsFrame, frame_spelling, HasPlaces, all_of, ends_of, sized_of, first_version_of, frame_of, Answers};
+ghost use Rattle.wire_frames.specs.Frames.{IsFrame, frame_spelling, HasPlaces, all_of, ends_of, sized_of, second_version_of, frame_of, Answers};
 
 use crate::error::FrameError;
 use crate::frame::Frame;
@@ -78,11 +78,11 @@ fn read_sized(alloc: Global, kind: u8, size: usize, bytes: &[u8]) -> Result<Fram
     read_ends(alloc, kind, bytes)
 }
 
-/// Reads a frame of the first version of the format.
-#[tactic(auto, unfolding(crate::specs::Frames::first_version_of))]
-fn read_first_version(alloc: Global, bytes: &[u8]) -> Result<Frame, FrameError>
+/// Reads a frame of the second version of the format.
+#[tactic(auto, unfolding(crate::specs::Frames::second_version_of))]
+fn read_second_version(alloc: Global, bytes: &[u8]) -> Result<Frame, FrameError>
     requires { 14 ≤ length bytes.now }
-    ensures { Answers result (first_version_of bytes.now) }
+    ensures { Answers result (second_version_of bytes.now) }
 {
     let kind = bytes[3];
     if kind < 1 || kind > 19 {
@@ -103,7 +103,7 @@ fn read_frame(alloc: Global, bytes: &[u8]) -> Result<Frame, FrameError>
         return Err(FrameError::Magic);
     }
     match bytes[2] {
-        1 => read_first_version(alloc, bytes),
+        2 => read_second_version(alloc, bytes),
         _ => Err(FrameError::Version),
     }
 }

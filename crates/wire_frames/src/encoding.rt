@@ -40,10 +40,10 @@ fn kind_of(x: &Message) -> u8
 /// Appends the header and the body. Out of memory leaves a part of them.
 fn append_frame(x: &Frame, body: &[u8], out: &mut Vec<u8>) -> Result<(), FieldError>
     requires { length body.now ≤ 4096 }
-    ensures ok { OnOk result (out.new.items ≡ out.old.items ++ (0x52 ∷ 0x45 ∷ 1 ∷ kind x.now.message ∷ [] ++ big_bytes 4 x.now.from ++ big_bytes 4 x.now.to ++ big_bytes 2 (length body.now) ++ body.now)) }
+    ensures ok { OnOk result (out.new.items ≡ out.old.items ++ (0x52 ∷ 0x45 ∷ 2 ∷ kind x.now.message ∷ [] ++ big_bytes 4 x.now.from ++ big_bytes 4 x.now.to ++ big_bytes 2 (length body.now) ++ body.now)) }
     ensures memory { IfErr result (λ e. e ≡ FieldError.Memory) }
 {
-    let start = [0x52, 0x45, 1, kind_of(&x.message)];
+    let start = [0x52, 0x45, 2, kind_of(&x.message)];
     out.extend_from_slice(&start)?;
     put_u32(x.from, out)?;
     put_u32(x.to, out)?;

@@ -10,8 +10,8 @@ pub enum FrameError {
     /// The first two bytes are not `52 45`.
     #[error("the first two bytes are not 52 45")]
     Magic,
-    /// The version byte is not 1.
-    #[error("the version of the format is not 1")]
+    /// The version byte is not 2.
+    #[error("the version of the format is not 2")]
     Version,
     /// The kind is not 1 to 19.
     #[error("the kind of the message is not 1 to 19")]

@@ -22,8 +22,12 @@ mod take_parts;
 
 pub use decoding::decode_frame;
 pub use encoding::encode_frame;
+pub use ens_base::{Digest, Entry, Epoch, PeerId, PeerSet, Views};
+pub use ens_object::Object;
 pub use error::FrameError;
 pub use faults::frames_fault_first;
 pub use frame::Frame;
 pub use laws::frames_stand_apart;
 pub use message::{Message, NackCause};
+pub use peer_fact::{Change, Fact, FactError, SavedFact};
+pub use tree_node::{Position, Scan, TreeBody, TreeVersion};

@@ -1,5 +1,5 @@
 ghost use Rattle.std.specs.Prelude.{◌≡◌, ◌≤◌, ◌<◌, ◌^◌, ◌++◌, ◌∷◌, [], length, count_ones, IfErr, OnOk};
-ghost use Rattle.tree_node.specs.declared.version.TreeVersion.TheVariants.{One};
+ghost use Rattle.tree_node.specs.declared.version.TreeVersion.TheVariants.{Two};
 ghost use Rattle.tree_node.specs.Positions.{IsPosition};
 ghost use Rattle.wire_frames.specs.Messages.{IsMessage, message_spelling, Obeys, ObeysCause, ObeysBody};
 
@@ -99,7 +99,7 @@ fn append_tree_ask(
     after: &Option<Key>,
     out: &mut Vec<u8>,
 ) -> Result<(), FieldError>
-    requires { IsPosition One position.now }
+    requires { IsPosition Two position.now }
     ensures ok { OnOk result (out.new.items ≡ out.old.items ++ message_spelling (Message.TreeAsk epoch.now position.now after.now)) }
     ensures valid { OnOk result (IsMessage (Message.TreeAsk epoch.now position.now after.now)) }
     ensures memory { IfErr result (λ e. e ≡ FieldError.Memory) }
@@ -117,7 +117,7 @@ fn append_tree_give(
     body: &TreeBody,
     out: &mut Vec<u8>,
 ) -> Result<(), FieldError>
-    requires position { IsPosition One position.now }
+    requires position { IsPosition Two position.now }
     requires body { ObeysBody body.now }
     ensures ok { OnOk result (out.new.items ≡ out.old.items ++ message_spelling (Message.TreeGive epoch.now position.now after.now trusted body.now)) }
     ensures valid { OnOk result (IsMessage (Message.TreeGive epoch.now position.now after.now trusted body.now)) }

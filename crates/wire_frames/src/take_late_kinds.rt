@@ -63,7 +63,7 @@ fn take_tree_ask(alloc: Global, bytes: &[u8], at: usize) -> Result<(Message, usi
     ensures within { IfOk result (λ x. x.1 ≤ length bytes.now) }
 {
     let (epoch, at) = take_epoch(bytes, at)?;
-    let (position, at) = take_position(bytes, at, TreeVersion::One)?;
+    let (position, at) = take_position(bytes, at, TreeVersion::Two)?;
     let (after, at) = take_option_key(alloc, bytes, at)?;
     Ok((Message::TreeAsk(epoch, position, after), at))
 }
@@ -75,7 +75,7 @@ fn take_tree_give(alloc: Global, bytes: &[u8], at: usize) -> Result<(Message, us
     ensures within { IfOk result (λ x. x.1 ≤ length bytes.now) }
 {
     let (epoch, at) = take_epoch(bytes, at)?;
-    let (position, at) = take_position(bytes, at, TreeVersion::One)?;
+    let (position, at) = take_position(bytes, at, TreeVersion::Two)?;
     let (after, at) = take_option_key(alloc, bytes, at)?;
     let (trusted, at) = take_flag(bytes, at)?;
     let (body, at) = take_body(alloc, bytes, at)?;

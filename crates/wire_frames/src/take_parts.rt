@@ -172,7 +172,7 @@ fn take_damaged_body(bytes: &[u8], at: usize) -> Result<(TreeBody, usize), Field
     ensures exact { damaged_body_at bytes.now at ≡ result }
     ensures within { IfOk result (λ x. x.1 ≤ length bytes.now) }
 {
-    let (position, at) = take_position(bytes, at, TreeVersion::One)?;
+    let (position, at) = take_position(bytes, at, TreeVersion::Two)?;
     Ok((TreeBody::Damaged(position), at))
 }
 
@@ -208,7 +208,7 @@ fn take_damaged(bytes: &[u8], at: usize) -> Result<(NackCause, usize), FieldErro
     ensures exact { damaged_at bytes.now at ≡ result }
     ensures within { IfOk result (λ x. x.1 ≤ length bytes.now) }
 {
-    let (position, at) = take_position(bytes, at, TreeVersion::One)?;
+    let (position, at) = take_position(bytes, at, TreeVersion::Two)?;
     Ok((NackCause::Damaged(position), at))
 }
 

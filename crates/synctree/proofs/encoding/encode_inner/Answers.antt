@@ -1,6 +1,6 @@
 use Rattle.std.proofs.Common.{◌∙◌, length, ap, sym, ℕ, List}
 use Rattle.std.specs.Prelude.{count_ones}
-use Rattle.tree_node.specs.Nodes.{inner_spelling}
+use Rattle.tree_maps.specs.TreeNode.{inner_spelling}
 use Rattle.tree_maps.proofs.Formats.{mask_ones}
 use Rattle.synctree.proofs.Puts.{inner_text_is}
 use Rattle.synctree.proofs.encoding.encode_inner.Goals as goal

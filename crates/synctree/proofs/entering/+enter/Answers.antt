@@ -1,6 +1,6 @@
 use Rattle.std.proofs.Common.{◌<◌, ◌∙◌, ◌-◌, get_or, replicate, ap, sym, subst, arith, ℕ, List, Option, None, Ok, Err}
-use Rattle.tree_node.specs.declared.position.Position.{Position}
-use Rattle.tree_node.proofs.TreeVersionLaws.{levels_few, position_deepest}
+use Rattle.tree_maps.specs.TreeNode.{Position}
+use Rattle.tree_maps.proofs.TreeNode.{levels_few, position_deepest}
 use Rattle.tree_maps.specs.Sixteen.{form_of, nibble}
 use Rattle.tree_maps.proofs.Formats.{nibble_below}
 use Rattle.synctree.specs.Walks.{reach, store, enter}

@@ -1,6 +1,6 @@
 use Rattle.std.proofs.Common.{sym, subst, List, []}
 use Rattle.ens_base.specs.declared.entry.Entry.{Entry}
-use Rattle.tree_node.specs.Entries.{AreAbove}
+use Rattle.tree_maps.specs.TreeNode.{AreAbove}
 use Rattle.tree_maps.specs.Entries.{put}
 use Rattle.tree_maps.specs.Sixteen.{form_of}
 use Rattle.synctree.specs.Walks.{reach, store}

@@ -1,5 +1,5 @@
 use Rattle.std.proofs.Common.{◌∙◌, ap, sym, subst, refl, ℕ, List, [], Ok, Err, inr}
-use Rattle.tree_node.specs.Nodes.{inner_spelling}
+use Rattle.tree_maps.specs.TreeNode.{inner_spelling}
 use Rattle.ens_outside.specs.Stores.{SetTop}
 use Rattle.tree_maps.specs.Forms.{root}
 use Rattle.tree_maps.specs.Maps.{text}

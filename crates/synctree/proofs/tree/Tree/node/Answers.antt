@@ -1,5 +1,5 @@
 use Rattle.std.proofs.Common.{◌-◌}
-use Rattle.tree_node.specs.TreeVersions.{levels}
+use Rattle.tree_maps.specs.TreeNode.{levels}
 use Rattle.tree_maps.specs.Sixteen.{form_of}
 use Rattle.tree_maps.proofs.Formats.{form_laws}
 use Rattle.synctree.specs.Outsides.{outside_does, outside_refuses}
