@@ -2,9 +2,7 @@
 use Rattle.std.specs.Prelude.{ℕ, ◌&&◌, if◌then◌else◌}
 use Rattle.ens_base.specs.declared.epoch.Epoch.{Epoch}
 use Rattle.peer_fact.specs.declared.fact.Fact.{Fact}
-use Rattle.wire_frames.specs.declared.message.Message.TheVariants.{Promise}
-use Rattle.wire_frames.specs.declared.message.NackCause.{NackCause}
-use Rattle.wire_frames.specs.declared.message.NackCause.TheVariants.{Greater, Untrusted, Damaged}
+use Rattle.phase_rows.specs.WireFrames.{Promise, NackCause, Greater, Untrusted, Damaged}
 use Rattle.phase_rows.specs.declared.phase.PhaseOut.{PhaseOut}
 use Rattle.phase_rows.specs.declared.phase.Then.TheVariants.{Stay, Follow}
 use Rattle.phase_rows.specs.Peers.{alone}

@@ -6,7 +6,7 @@ use Rattle.joint_views.specs.Quorums.{is_quorum, is_member}
 use Rattle.peer_fact.specs.declared.fact.Fact.{Fact}
 use Rattle.peer_fact.specs.declared.fact.Change.TheVariants as changes
 use Rattle.peer_fact.specs.Facts.{views_after}
-use Rattle.wire_frames.specs.declared.message.Message.TheVariants.{Prepare, NewEpoch}
+use Rattle.phase_rows.specs.WireFrames.{Prepare, NewEpoch}
 use Rattle.phase_rows.specs.declared.phase.PhaseOut.{PhaseOut}
 use Rattle.phase_rows.specs.declared.phase.Then.TheVariants.{Stay, Follow, SyncOn, Rule}
 use Rattle.phase_rows.specs.Peers.{nobody, alone, joined, members, others_of, others_outside, with_members}

@@ -5,10 +5,9 @@ ghost use Rattle.election.specs.Ballots.{promises_to, row_11, row_15};
 use ens_base::{Epoch, PeerId};
 use peer_fact::Fact;
 use phase_rows::{
-    PhaseOut, Then, alone, at_ballot, is_below, is_same, leave_leading, refuse_below,
-    save_and_send, silent,
+    Message, NackCause, PhaseOut, Then, alone, at_ballot, is_below, is_same, leave_leading,
+    refuse_below, save_and_send, silent,
 };
-use wire_frames::{Message, NackCause};
 
 /// Saves the fact with the new ballot, and sends the promise to `from`.
 fn promise(promised: &Fact, from: PeerId) -> PhaseOut

@@ -6,11 +6,10 @@ use crate::election::Election;
 use ens_base::{Epoch, PeerId, PeerSet, Views};
 use peer_fact::{Change, Fact};
 use phase_rows::{
-    PhaseOut, PhaseRule, Then, alone, anew_at_6, are_quorum, at_ballot, is_member, is_newer,
-    is_same, may_accept, members, others_of, others_outside, save_and_send, send, silent,
+    Message, PhaseOut, PhaseRule, Then, alone, anew_at_6, are_quorum, at_ballot, is_member,
+    is_newer, is_same, may_accept, members, others_of, others_outside, save_and_send, send, silent,
     with_members,
 };
-use wire_frames::Message;
 
 /// Saves the ballot, promises it for `me`, and asks the other members of the base's views.
 fn prepare(fact: Fact, me: PeerId, base: Fact, ballot: Epoch) -> (PhaseOut, Option<Election>)

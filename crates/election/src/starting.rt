@@ -5,8 +5,9 @@ ghost use Rattle.election.specs.Starting.{StartsBelow8, resumes, insists, row_4,
 use crate::election::Election;
 use ens_base::{Epoch, PeerId, PeerSet};
 use peer_fact::Fact;
-use phase_rows::{PhaseOut, PhaseRule, Then, are_quorum, is_same, others_outside, send, silent};
-use wire_frames::Message;
+use phase_rows::{
+    Message, PhaseOut, PhaseRule, Then, are_quorum, is_same, others_outside, send, silent,
+};
 
 /// Resumes a running sync.
 fn resume(sync_runs: bool) -> Then

@@ -2,8 +2,8 @@
 use Rattle.std.proofs.Common.{arith, refl, ◌≡◌, ℕ, Bool, Option, Some, None}
 use Rattle.ens_base.specs.declared.epoch.Epoch.{Epoch}
 use Rattle.ens_base.specs.declared.epoch.Version.{Version}
-use Rattle.ens_object.specs.declared.object.Object.{Object}
-use Rattle.peer_fact.specs.declared.fact.Fact.{Fact}
+use Rattle.wire_frames.specs.EnsObject.{Object}
+use Rattle.wire_frames.specs.PeerFact.{Fact}
 use Rattle.phase_rows.specs.declared.phase.PhaseOut.{PhaseOut}
 use Rattle.phase_rows.specs.declared.phase.Seen.{Seen}
 use Rattle.phase_rows.specs.declared.phase.Seen.TheVariants.{Nothing, Damaged, Held, Kept, Stored}

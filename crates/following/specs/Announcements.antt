@@ -1,7 +1,7 @@
 -- The announcements of a leader: its epoch, the change of its epoch, and that it is alive.
 use Rattle.std.specs.Prelude.{ℕ, Bool, ◌&&◌, ◌==◌, if◌then◌else◌}
 use Rattle.ens_base.specs.declared.epoch.Epoch.{Epoch}
-use Rattle.peer_fact.specs.declared.fact.Fact.{Fact}
+use Rattle.wire_frames.specs.PeerFact.{Fact}
 use Rattle.wire_frames.specs.declared.message.Message.TheVariants.{Accepted}
 use Rattle.phase_rows.specs.declared.phase.PhaseOut.{PhaseOut}
 use Rattle.phase_rows.specs.declared.phase.Then.TheVariants.{Stay, Follow, Resume, SyncOn}

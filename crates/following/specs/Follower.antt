@@ -1,6 +1,6 @@
 -- A peer that follows, and its ticks.
 use Rattle.std.specs.Prelude.{ℕ, ◌+◌, ◌==◌, if◌then◌else◌}
-use Rattle.peer_fact.specs.declared.fact.Fact.{Fact}
+use Rattle.wire_frames.specs.PeerFact.{Fact}
 use Rattle.phase_rows.specs.declared.phase.PhaseOut.{PhaseOut}
 use Rattle.phase_rows.specs.declared.phase.Then.TheVariants.{Stay, Rule}
 use Rattle.joint_views.specs.Quorums.{is_member}

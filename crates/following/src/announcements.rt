@@ -4,12 +4,11 @@ ghost use Rattle.following.specs.Announcements.{accepts, awaits_sync, takes, row
 
 use crate::refusals::refusal;
 use ens_base::{Epoch, PeerId};
-use peer_fact::Fact;
 use phase_rows::{
     PhaseOut, Then, alone, at_ballot, is_below, leave_leading, may_accept, refuse_below, save,
     save_and_send, send, silent,
 };
-use wire_frames::Message;
+use wire_frames::{Fact, Message};
 
 /// Returns what a peer does that may not accept the fact yet.
 fn await_sync(fact: &Fact, sync_runs: bool, new: Fact) -> PhaseOut

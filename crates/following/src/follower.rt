@@ -1,8 +1,8 @@
 ghost use Rattle.std.specs.Prelude.{◌≡◌, ◌<◌};
 
 use ens_base::PeerId;
-use peer_fact::Fact;
 use phase_rows::{PhaseOut, PhaseRule, Then, is_member, silent};
+use wire_frames::Fact;
 
 /// The state of a peer that follows: the number of ticks since it last heard from a leader, 0 to 6.
 #[derive(Clone, Copy, Debug, PartialEq, Eq)]

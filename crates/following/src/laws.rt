@@ -1,7 +1,7 @@
 ghost use Rattle.std.specs.Prelude.{◌≡◌, ℕ, Bool, true, false, Option, Some, None, List};
 ghost use Rattle.ens_base.specs.declared.epoch.Epoch.{Epoch};
-ghost use Rattle.ens_object.specs.declared.object.Object.{Object};
-ghost use Rattle.peer_fact.specs.declared.fact.Fact.{Fact};
+ghost use Rattle.wire_frames.specs.EnsObject.{Object};
+ghost use Rattle.wire_frames.specs.PeerFact.{Fact};
 ghost use Rattle.tree_node.specs.declared.body.TreeBody.{TreeBody};
 ghost use Rattle.tree_node.specs.declared.position.Position.{Position};
 ghost use Rattle.phase_rows.specs.declared.phase.Seen.{Seen};

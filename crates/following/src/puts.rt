@@ -5,11 +5,9 @@ ghost use Rattle.following.specs.Requests.{is_version_below as version_below, ac
 use crate::error::PhaseError;
 use crate::refusals::{refusal, tell_damage};
 use ens_base::{Entry, Epoch, PeerId, Version};
-use ens_object::Object;
-use peer_fact::Fact;
 use phase_rows::{PhaseOut, Seen, Then, alone, is_below, send, silent};
 use std::alloc::Global;
-use wire_frames::{Message, NackCause};
+use wire_frames::{Fact, Message, NackCause, Object};
 
 /// Returns whether the first version is below the second: by epoch, then by sequence number.
 fn is_version_below(a: Version, b: Version) -> bool

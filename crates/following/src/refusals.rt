@@ -3,11 +3,10 @@ ghost use Rattle.ens_base.specs.View.{IsPeer};
 ghost use Rattle.following.specs.Refusals.{refusal as refusal_of, is_served as serves, tells_damage as told_damage};
 
 use ens_base::{Epoch, PeerId};
-use peer_fact::Fact;
 use phase_rows::{
     PhaseOut, Then, alone, is_below, leave_leading, refuse, refuse_below, send, silent,
 };
-use wire_frames::{Message, NackCause};
+use wire_frames::{Fact, Message, NackCause};
 
 /// Returns the answer of a peer that does not do what the leader of this epoch asks, or `None` if
 /// it does.

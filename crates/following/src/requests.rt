@@ -5,10 +5,9 @@ ghost use Rattle.following.specs.Requests.{row_20, gets, row_21, is_damaged as t
 use crate::error::PhaseError;
 use crate::refusals::{refusal, tell_damage};
 use ens_base::{Epoch, Key, PeerId};
-use peer_fact::Fact;
 use phase_rows::{PhaseOut, Seen, Then, alone, is_below, refuse_below, send, silent};
 use tree_node::{Position, TreeBody};
-use wire_frames::{Message, NackCause};
+use wire_frames::{Fact, Message, NackCause};
 
 /// Rule 20: a leader asks whether the peer is still at its ballot. `from` is 1 to 31.
 pub fn rule_20(fact: Fact, from: PeerId, ballot: Epoch, round: u64) -> PhaseOut

@@ -3,7 +3,7 @@ use Rattle.std.proofs.Common.{◌≡◌, ℕ, suc, ◌+◌, arith, Bool, true, f
 use Rattle.std.proofs.lemmas.List.{append_assoc, append-nil}
 use Rattle.ens_base.specs.PeerSet.{holds}
 use Rattle.joint_views.specs.Quorums.{is_member}
-use Rattle.wire_frames.specs.declared.message.Message.{Message}
+use Rattle.phase_rows.specs.WireFrames.{Message}
 use Rattle.leader_words.specs.Outs.{and_send}
 use Rattle.leader_words.specs.Sends.{is_other, is_other_in, sent_up_to}
 use Rattle.leader_words.specs.declared.out.LeadOut.{LeadOut}

@@ -1,8 +1,8 @@
 -- The answer of a rule of a leader.
 use Rattle.std.specs.Prelude.{ℕ, true, false, List, [], ◌∷◌, ◌++◌, Some, None}
 use Rattle.ens_base.specs.declared.reply.Reply.{Reply}
-use Rattle.register_model.specs.declared.note.Note.{Note}
-use Rattle.wire_frames.specs.declared.message.Message.{Message}
+use Rattle.key_commands.specs.RegisterModel.{Note}
+use Rattle.phase_rows.specs.WireFrames.{Message}
 use Rattle.phase_rows.specs.declared.phase.Then.{Then}
 use Rattle.phase_rows.specs.declared.phase.Then.TheVariants.{Stay, OnKeys}
 use Rattle.phase_rows.specs.declared.rules.KeyRule.{KeyRule}

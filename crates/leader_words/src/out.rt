@@ -4,12 +4,10 @@ ghost use Rattle.leader_words.specs.Sends.{is_other_in, sent_up_to, tells_all as
 
 use crate::error::LeadError;
 use ens_base::{Key, PeerId, PeerSet, Reply, Seq, Views};
-use ens_object::Object;
 use joint_views::members;
-use phase_rows::{KeyRule, Then};
-use register_model::Note;
+use key_commands::{Note, Object};
+use phase_rows::{KeyRule, Message, Then};
 use std::alloc::Global;
-use wire_frames::Message;
 
 /// A message and its receiver.
 #[derive(Debug, Drop)]

@@ -1,8 +1,8 @@
 -- One more turn of the loop that sends the messages of a tick.
 use Rattle.std.proofs.Common.{◌≡◌, ℕ, suc, ◌+◌, arith, Bool, true, false, if◌then◌else◌, List, [], ◌∷◌, ◌++◌, refl, sym, ap, ◌∙◌}
 use Rattle.std.proofs.lemmas.List.{append_assoc, append-nil}
-use Rattle.peer_fact.specs.declared.fact.Fact.{Fact}
-use Rattle.wire_frames.specs.declared.message.Message.{Message}
+use Rattle.phase_rows.specs.PeerFact.{Fact}
+use Rattle.phase_rows.specs.WireFrames.{Message}
 use Rattle.leader_words.specs.Outs.{and_send}
 use Rattle.leader_words.specs.Sends.{is_other}
 use Rattle.leader_words.specs.declared.out.LeadOut.{LeadOut}

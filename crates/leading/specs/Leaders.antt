@@ -3,10 +3,8 @@ use Rattle.std.specs.Prelude.{ℕ, ◌+◌, ◌-◌, ◌^◌, ◌==◌, Bool, Op
 use Rattle.phase_rows.specs.declared.rules.KeyRule.TheVariants as key_rules
 use Rattle.ens_base.specs.declared.epoch.Version.{Version}
 use Rattle.ens_base.specs.declared.reply.Reply.{Reply}
-use Rattle.ens_object.specs.declared.object.Object.{Object}
-use Rattle.key_commands.specs.declared.verdict.Verdict.{Verdict}
-use Rattle.key_commands.specs.declared.verdict.Verdict.TheVariants.{Answer, Write}
-use Rattle.peer_fact.specs.declared.fact.Fact.{Fact}
+use Rattle.leader_words.specs.KeyCommands.{Object, Verdict, Answer, Write}
+use Rattle.phase_rows.specs.PeerFact.{Fact}
 use Rattle.register_model.specs.declared.note.Note.TheVariants.{Read}
 use Rattle.call_table.specs.Rows.{row_at, with_known, with_stage, base_of}
 use Rattle.call_table.specs.Tables.{empty_table, ended}

@@ -4,3 +4,6 @@ pub mod Rounds
 pub mod Puts
 pub mod Ticks
 pub mod Rules
+pub mod CallTable
+pub mod KeptObjects
+pub mod LeaderWords

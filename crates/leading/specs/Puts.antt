@@ -4,14 +4,14 @@ use Rattle.ens_base.specs.Epochs.{same_version}
 use Rattle.ens_base.specs.declared.epoch.Epoch.{Epoch}
 use Rattle.ens_base.specs.declared.epoch.Version.{Version}
 use Rattle.ens_base.specs.declared.reply.Reply.TheVariants as replies
-use Rattle.ens_object.specs.declared.object.Object.{Object}
+use Rattle.leader_words.specs.KeyCommands.{Object}
 use Rattle.phase_rows.specs.Orders.{is_same}
 use Rattle.quorum_round.specs.Rounds.{begun, answered as heard_from, state_of}
 use Rattle.quorum_round.specs.declared.round.Round.{Round}
 use Rattle.quorum_round.specs.declared.round.RoundState.{RoundState}
 use Rattle.quorum_round.specs.declared.round.RoundState.TheVariants.{Open}
 use Rattle.register_model.specs.declared.note.Note.TheVariants.{Proposed, Settled}
-use Rattle.wire_frames.specs.declared.message.Message.TheVariants.{Put}
+use Rattle.phase_rows.specs.WireFrames.{Put}
 use Rattle.phase_rows.specs.declared.phase.Seen.{Seen}
 use Rattle.phase_rows.specs.declared.phase.Seen.TheVariants as seens
 use Rattle.phase_rows.specs.declared.phase.Then.TheVariants.{Untrust}

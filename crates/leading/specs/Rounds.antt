@@ -4,9 +4,7 @@ use Rattle.ens_base.specs.declared.epoch.Epoch.{Epoch}
 use Rattle.ens_base.specs.declared.entry.Entry.{Entry}
 use Rattle.ens_base.specs.declared.reply.Reply.{Reply}
 use Rattle.ens_base.specs.declared.reply.Reply.TheVariants as replies
-use Rattle.ens_object.specs.declared.object.Object.{Object}
-use Rattle.key_commands.specs.Commands.{register_of, verdict_of, blind_verdict}
-use Rattle.key_commands.specs.declared.verdict.Verdict.{Verdict}
+use Rattle.leader_words.specs.KeyCommands.{Object, register_of, verdict_of, blind_verdict, Verdict}
 use Rattle.phase_rows.specs.Orders.{is_same}
 use Rattle.quorum_round.specs.Rounds.{begun, answered as heard_from, state_of}
 use Rattle.quorum_round.specs.declared.round.Round.{Round}
@@ -15,7 +13,7 @@ use Rattle.quorum_round.specs.declared.round.RoundState.TheVariants.{Open, AllAn
 use Rattle.register_model.specs.Registers.{outcome}
 use Rattle.register_model.specs.declared.register.Register.{Register}
 use Rattle.register_model.specs.declared.register.Register.TheVariants as registers
-use Rattle.wire_frames.specs.declared.message.Message.TheVariants.{Get, Check}
+use Rattle.phase_rows.specs.WireFrames.{Get, Check}
 use Rattle.phase_rows.specs.declared.phase.Seen.{Seen}
 use Rattle.phase_rows.specs.declared.phase.Seen.TheVariants as seens
 use Rattle.phase_rows.specs.declared.phase.Then.TheVariants.{Untrust}

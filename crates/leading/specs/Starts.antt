@@ -3,10 +3,8 @@ use Rattle.std.specs.Prelude.{ℕ, Bool, true, false, ◌==◌, nat_le, if◌the
 use Rattle.ens_base.specs.declared.command.Command.{Command}
 use Rattle.ens_base.specs.declared.epoch.Version.{Version}
 use Rattle.ens_base.specs.declared.reply.Reply.TheVariants as replies
-use Rattle.ens_object.specs.declared.object.Object.{Object}
+use Rattle.leader_words.specs.KeyCommands.{Object, register_of, verdict_of, stamp_verdict, Verdict}
 use Rattle.kept_objects.specs.Kept.{matching}
-use Rattle.key_commands.specs.Commands.{register_of, verdict_of, stamp_verdict}
-use Rattle.key_commands.specs.declared.verdict.Verdict.{Verdict}
 use Rattle.register_model.specs.Registers.{outcome}
 use Rattle.register_model.specs.declared.register.Register.TheVariants as registers
 use Rattle.phase_rows.specs.declared.phase.Seen.{Seen}

@@ -2,10 +2,9 @@
 use Rattle.std.specs.Prelude.{ℕ, zero, suc, ◌+◌, ◌&&◌, ◌||◌, nat_le, Bool, true, false, is_none, map, if◌then◌else◌, Option, Some, None, List, [], ◌∷◌, ◌++◌}
 use Rattle.ens_base.specs.PeerSet.{holds}
 use Rattle.ens_base.specs.declared.reply.Reply.TheVariants as replies
-use Rattle.peer_fact.specs.declared.fact.Fact.{Fact}
+use Rattle.phase_rows.specs.PeerFact.{Fact}
 use Rattle.phase_rows.specs.Orders.{is_joint}
-use Rattle.wire_frames.specs.declared.message.Message.{Message}
-use Rattle.wire_frames.specs.declared.message.Message.TheVariants.{NewEpoch, Commit, Beat}
+use Rattle.phase_rows.specs.WireFrames.{Message, NewEpoch, Commit, Beat}
 use Rattle.phase_rows.specs.declared.phase.Then.{Then}
 use Rattle.phase_rows.specs.declared.phase.Then.TheVariants.{Stay, Rule, OnKeys}
 use Rattle.phase_rows.specs.declared.rules.KeyRule.TheVariants as key_rules

@@ -11,15 +11,11 @@ ghost use Rattle.phase_rows.specs.Peers.{joined as with_peer};
 use crate::pending::Pending;
 use call_table::{CallTable, Known, Stage, Waiting};
 use ens_base::{Digest, Key, PeerId, PeerSet, Reply, Version};
-use ens_object::Object;
-use key_commands::Verdict;
-use leader_words::{AnswerOut, LeadError, LeadOut};
-use peer_fact::{Change, Fact};
-use phase_rows::KeyRule;
+use leader_words::{AnswerOut, LeadError, LeadOut, Object, Verdict};
+use phase_rows::{Change, Fact, KeyRule, Message};
 use register_model::Note;
 use std::alloc::Global;
 use std::mem::replace;
-use wire_frames::Message;
 
 /// A peer that leads the epoch of `fact`.
 #[derive(Drop)]

@@ -17,4 +17,5 @@ mod starts;
 mod ticks;
 
 pub use leader::Leader;
+pub use leader_words::{LeadError, LeadOut, Outgoing};
 pub use pending::Pending;

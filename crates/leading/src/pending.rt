@@ -1,5 +1,5 @@
 use ens_base::{Reply, Value, Version};
-use ens_object::Object;
+use leader_words::Object;
 
 /// What a rule leaves for the rule that runs next on the same key. Between steps it is `Nothing`.
 #[derive(Debug, Drop)]

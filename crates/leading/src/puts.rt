@@ -8,14 +8,11 @@ use crate::leader::{Leader, is_last, settled_known};
 use crate::pending::Pending;
 use call_table::{Stage, Waiting};
 use ens_base::{Digest, Epoch, Key, PeerId, Reply, Version};
-use ens_object::Object;
-use leader_words::{LeadError, LeadOut, Own};
-use peer_fact::{Change, Fact};
-use phase_rows::{KeyRule, Seen, Then};
+use leader_words::{LeadError, LeadOut, Object, Own};
+use phase_rows::{Change, Fact, KeyRule, Message, Seen, Then};
 use quorum_round::{Round, RoundState};
 use register_model::Note;
 use std::alloc::Global;
-use wire_frames::Message;
 
 impl Leader {
     fn propose(

@@ -6,7 +6,7 @@ ghost use Rattle.quorum_round.specs.Rounds.{begun};
 ghost use Rattle.leading.specs.Leaders.{stands};
 ghost use Rattle.phase_rows.specs.declared.phase.Seen.TheVariants as seens;
 ghost use Rattle.phase_rows.specs.Orders.{is_same};
-ghost use Rattle.key_commands.specs.Commands.{verdict_of};
+ghost use Rattle.leader_words.specs.KeyCommands.{verdict_of};
 ghost use Rattle.register_model.specs.Registers.{outcome};
 ghost use Rattle.leading.specs.Rounds.{counts, asked, asked_for, row_29, heard, row_29_reply, without_object, on_found, on_greatest, on_best, by_state, gathered, gathered_for, row_30, begins_check, check_now, checked_for, row_33, goes_on_checking, stood, stood_at, row_33_reply, register_at, applied_for, row_34};
 
@@ -14,14 +14,10 @@ use crate::leader::{Leader, is_last, settled_known};
 use crate::pending::Pending;
 use call_table::{Found, Known, Stage, Waiting, better};
 use ens_base::{Command, Entry, Epoch, Key, PeerId, Reply, copy_entry};
-use ens_object::{Object, copy_object};
-use key_commands::{Verdict, apply, on_any};
-use leader_words::{LeadError, LeadOut, Own};
-use peer_fact::{Change, Fact};
-use phase_rows::{KeyRule, Seen, Then};
+use leader_words::{LeadError, LeadOut, Object, Own, Verdict, apply, copy_object, on_any};
+use phase_rows::{Change, Fact, KeyRule, Message, Seen, Then};
 use quorum_round::{Round, RoundState};
 use std::alloc::Global;
-use wire_frames::Message;
 
 /// Applies the command to the settled object. `None` means that the key is absent.
 fn verdict_at(

@@ -4,10 +4,8 @@ ghost use Rattle.leading.specs.Rules.{lead_row};
 use crate::leader::Leader;
 use ens_base::Key;
 use leader_words::{LeadError, LeadOut};
-use peer_fact::{Change, Fact};
-use phase_rows::{KeyRule, Seen};
+use phase_rows::{Change, Fact, KeyRule, Message, Seen};
 use std::alloc::Global;
-use wire_frames::Message;
 
 impl Leader {
     /// Runs the rule on a key. `seen` is what the peer's own tree and backend returned. Fails only

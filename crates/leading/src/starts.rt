@@ -6,14 +6,10 @@ ghost use Rattle.leading.specs.Starts.{row_27, on_object, by_value, by_stamp, on
 use crate::leader::Leader;
 use call_table::{Known, Waiting};
 use ens_base::{Command, Digest, Entry, Key, Reply, Version};
-use ens_object::Object;
 use kept_objects::is_named;
-use key_commands::{Verdict, apply, on_absent, on_stamp};
-use leader_words::{LeadError, LeadOut, Own};
-use peer_fact::{Change, Fact};
-use phase_rows::{KeyRule, Seen};
+use leader_words::{LeadError, LeadOut, Object, Own, Verdict, apply, on_absent, on_stamp};
+use phase_rows::{Change, Fact, KeyRule, Message, Seen};
 use std::alloc::Global;
-use wire_frames::Message;
 
 /// Returns the object that the backend keeps, if the entry names it.
 fn named_object<'a>(entry: &Entry, kept: &'a Option<(Object, Digest)>) -> Option<&'a Object>

@@ -4,12 +4,9 @@ ghost use Rattle.leading.specs.Ticks.{is_late, and_key_if, timed_out, after_ages
 use crate::leader::Leader;
 use call_table::DueCall;
 use ens_base::{Key, PeerId, PeerSet, Reply};
-use joint_views::members;
-use leader_words::{LeadError, LeadOut, is_other_of};
-use peer_fact::{Change, Fact};
-use phase_rows::{KeyRule, PhaseRule, Then};
+use leader_words::{LeadError, LeadOut, is_other_of, members};
+use phase_rows::{Change, Fact, KeyRule, Message, PhaseRule, Then};
 use std::alloc::Global;
-use wire_frames::Message;
 
 /// Whether the change that ends the epoch has reached age 8.
 fn is_late(finishing: &Option<(PeerSet, u8)>) -> bool

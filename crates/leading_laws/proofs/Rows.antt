@@ -8,7 +8,7 @@ use Rattle.ens_base.specs.declared.epoch.Version.{Version}
 use Rattle.ens_base.specs.declared.reply.Reply.{Reply}
 use Rattle.ens_base.specs.declared.reply.Reply.TheVariants as replies
 use Rattle.ens_object.specs.declared.object.Object.{Object}
-use Rattle.kept_objects.specs.Kept.{matching}
+use Rattle.leading.specs.KeptObjects.{matching}
 use Rattle.key_commands.specs.Commands.{register_of, verdict_of, stamp_verdict, blind_verdict}
 use Rattle.key_commands.specs.declared.verdict.Verdict.{Verdict}
 use Rattle.key_commands.specs.declared.verdict.Verdict.TheVariants.{Answer, Write}

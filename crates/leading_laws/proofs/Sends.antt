@@ -5,7 +5,7 @@ use Rattle.std.proofs.lemmas.Bool.{true≢false}
 use Rattle.std.proofs.lemmas.Bool.Decides.{nat_tests}
 use Rattle.std.proofs.lemmas.List.Elements.{All-nil, All-cons, All-append}
 use Rattle.joint_views.specs.Quorums.{is_member}
-use Rattle.peer_fact.specs.declared.fact.Fact.{Fact}
+use Rattle.wire_frames.specs.PeerFact.{Fact}
 use Rattle.wire_frames.specs.Messages.{Obeys}
 use Rattle.wire_frames.specs.declared.message.Message.{Message}
 use Rattle.leader_words.specs.Sends.{is_other, sent_up_to}

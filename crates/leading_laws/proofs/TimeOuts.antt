@@ -142,11 +142,11 @@ all_still (d ∷ ds) k t idle = by_key d.running (all_still ds k)
     by_key (Some key) later = later (rested key t) (rested_still key k t idle)
 
 -- the key is among those whose running call is one of these
-abbrev HasKey : List ℕ → List DueCall → Type 0
+abbrev pub HasKey : List ℕ → List DueCall → Type 0
 HasKey k [] = ⊥
 HasKey k (d ∷ ds) = (d.running ≡ Some k) ⊎ HasKey k ds
 
-all_rested : (ds : List DueCall) (k : List ℕ) (t : CallTable) → HasKey k ds → (row_at k (rested_all ds t).rows).stage ≡ Idle
+pub all_rested : (ds : List DueCall) (k : List ℕ) (t : CallTable) → HasKey k ds → (row_at k (rested_all ds t).rows).stage ≡ Idle
 all_rested [] k t has = absurd has
 all_rested (d ∷ ds) k t (inl e) = subst (λ (key : Option (List ℕ)). (row_at k (rested_all ds (rested_if key t)).rows).stage ≡ Idle) (sym e) (all_still ds k (rested k t) (rested_here k k t (bytes_itself k)))
 all_rested (d ∷ ds) k t (inr has) = all_rested ds k (rested_if d.running t) has
@@ -193,7 +193,7 @@ pub without_due_calls : (t : CallTable) → (without_due t).calls ≡ not_due t.
 unfolding without_due
 without_due_calls t = ap not_due (all_calls (due t.calls) t)
 
-without_due_rows : (t : CallTable) → (without_due t).rows ≡ (rested_all (due t.calls) t).rows
+pub without_due_rows : (t : CallTable) → (without_due t).rows ≡ (rested_all (due t.calls) t).rows
 unfolding without_due
 without_due_rows t = refl
 
@@ -214,7 +214,7 @@ all_then P idle (d ∷ ds) k t old = by_key d.running (all_then P idle ds k)
     by_key None later = later t old
     by_key (Some key) later = later (rested key t) (stages_then P key k Idle t.rows idle old)
 
-due_then : (P : Stage → Type 0) → P Idle → (k : List ℕ) (t : CallTable) → P (row_at k t.rows).stage → P (row_at k (without_due t).rows).stage
+pub due_then : (P : Stage → Type 0) → P Idle → (k : List ℕ) (t : CallTable) → P (row_at k t.rows).stage → P (row_at k (without_due t).rows).stage
 due_then P idle k t old = subst (λ (rows : Rows). P (row_at k rows).stage) (sym (without_due_rows t)) (all_then P idle (due t.calls) k t old)
 
 -- ## Age

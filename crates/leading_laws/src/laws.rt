@@ -5,7 +5,7 @@ ghost use Rattle.ens_base.specs.declared.entry.Entry.{Entry};
 ghost use Rattle.ens_base.specs.declared.epoch.Epoch.{Epoch};
 ghost use Rattle.ens_base.specs.declared.epoch.Version.{Version};
 ghost use Rattle.ens_object.specs.declared.object.Object.{Object};
-ghost use Rattle.peer_fact.specs.declared.fact.Fact.{Fact};
+ghost use Rattle.wire_frames.specs.PeerFact.{Fact};
 ghost use Rattle.register_model.specs.declared.note.Note.TheVariants.{Settled};
 ghost use Rattle.phase_rows.specs.declared.phase.Seen.{Seen};
 ghost use Rattle.phase_rows.specs.declared.phase.Seen.TheVariants as seens;

@@ -1,7 +1,6 @@
 -- The laws of the rules of probing.
 use Rattle.std.specs.Prelude.{◌≤◌}
-use Rattle.peer_fact.specs.declared.fact.Fact.{Fact}
-use Rattle.peer_fact.specs.Facts.{IsNewer}
+use Rattle.phase_rows.specs.PeerFact.{Fact, IsNewer}
 use Rattle.probe.specs.declared.probing.Probing.{Probing}
 
 -- the best fact is no older than before, and the count no less

@@ -2,8 +2,8 @@
 use Rattle.std.specs.Prelude.{ℕ, ◌+◌, if◌then◌else◌, max, Option, Some}
 use Rattle.ens_base.specs.PeerSet.{holds}
 use Rattle.joint_views.specs.Quorums.{is_quorum}
-use Rattle.peer_fact.specs.declared.fact.Fact.{Fact}
-use Rattle.wire_frames.specs.declared.message.Message.TheVariants.{Probe, ProbeReply}
+use Rattle.phase_rows.specs.PeerFact.{Fact}
+use Rattle.phase_rows.specs.WireFrames.{Probe, ProbeReply}
 use Rattle.phase_rows.specs.declared.phase.PhaseOut.{PhaseOut}
 use Rattle.phase_rows.specs.declared.phase.Then.TheVariants.{Stay, Rule}
 use Rattle.phase_rows.specs.Peers.{alone, joined, members, others_of, others_outside, with_members}

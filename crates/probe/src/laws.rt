@@ -1,7 +1,7 @@
 ghost use Rattle.std.specs.Prelude.{◌≡◌, ℕ, true};
 ghost use Rattle.ens_base.specs.PeerSet.{holds};
 ghost use Rattle.joint_views.specs.Quorums.{is_quorum};
-ghost use Rattle.peer_fact.specs.declared.fact.Fact.{Fact};
+ghost use Rattle.phase_rows.specs.PeerFact.{Fact};
 ghost use Rattle.phase_rows.specs.declared.phase.Then.TheVariants.{Rule};
 ghost use Rattle.phase_rows.specs.declared.rules.PhaseRule.TheVariants as phase_rules;
 ghost use Rattle.probe.specs.declared.probing.Probing.{Probing};

@@ -3,12 +3,10 @@ ghost use Rattle.ens_base.specs.View.{IsPeer};
 ghost use Rattle.probe.specs.Probing.{row_3, row_7, row_8, row_8_probe, row_9};
 
 use ens_base::{PeerId, PeerSet};
-use peer_fact::Fact;
 use phase_rows::{
-    PhaseOut, PhaseRule, Then, alone, anew_at_6, are_quorum, is_newer, members, others_of,
-    others_outside, send, silent, with_members,
+    Fact, Message, PhaseOut, PhaseRule, Then, alone, anew_at_6, are_quorum, is_newer, members,
+    others_of, others_outside, send, silent, with_members,
 };
-use wire_frames::Message;
 
 /// The state of a peer that is probing.
 #[derive(Clone, Copy, Debug, PartialEq, Eq)]

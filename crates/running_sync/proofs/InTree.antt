@@ -1,18 +1,20 @@
--- An ask asks for positions of the tree alone.
+-- An ask asks for positions of a tree alone.
 use Rattle.std.proofs.Common.{◌≡◌, ◌<◌, ◌≤◌, ℕ, Bool, true, false, List, [], ◌∷◌, ◌++◌, Option, None, Some, length, refl, subst, arith, lit<, lit≤}
 use Rattle.std.specs.Prelude.{◌==◌, ◌&&◌, not, if◌then◌else◌}
 use Rattle.std.specs.List.{AllByRecursion}
 use Rattle.std.proofs.lemmas.Bool.{and_parts}
 use Rattle.std.proofs.lemmas.Bool.Decides.{nat_tests}
 use Rattle.ens_base.specs.declared.entry.Entry.{Entry}
-use Rattle.tree_node.specs.declared.version.TreeVersion.TheVariants.{One}
+use Rattle.tree_node.proofs.TreeVersionLaws.{position_deepest}
+use Rattle.tree_node.specs.declared.version.TreeVersion.{TreeVersion}
+use Rattle.tree_node.specs.declared.version.TreeVersion.TheVariants.{Two}
+use Rattle.tree_node.specs.TreeVersions.{levels}
 use Rattle.tree_node.specs.declared.body.Scan.{Scan}
 use Rattle.tree_node.specs.declared.body.TreeBody.{TreeBody}
 use Rattle.tree_node.specs.declared.body.TreeBody.TheVariants.{Inner, Page, Damaged}
 use Rattle.tree_node.specs.declared.position.Position.{Position}
 use Rattle.tree_node.specs.Positions.{IsPosition, same_position}
-use Rattle.tree_maps.specs.Forms.{root}
-use Rattle.tree_maps.specs.Sixteen.{children_of}
+use Rattle.exchange.specs.TreeMaps.{root, children_of}
 use Rattle.exchange.specs.Asked.{Asked, ArePlaces}
 use Rattle.exchange.specs.Asks.{onward, started, same_after, is_open, is_empty, to_ask, names_in, after_inner, after_page, stepped, reply, taken}
 use Rattle.exchange.specs.declared.question.Question.{Question}
@@ -20,62 +22,69 @@ use Rattle.exchange.specs.declared.step.Step.TheVariants as steps
 use Rattle.exchange.proofs.Stacks.{left_places}
 use Rattle.exchange.proofs.Widths.{children_width, asked_places, all_append}
 
--- what is left to ask are positions of the tree
+-- what is left to ask are positions of a tree
 abbrev pub IsInTree : Asked → Type 0
-IsInTree ask = ArePlaces One ask.current ask.left
+IsInTree ask = ArePlaces Two ask.current ask.left
 
-onward_places : (ps : List Position) (es : List Entry) → AllByRecursion (IsPosition One) ps → IsInTree (onward ps es)
+all_deepest : (tree : TreeVersion) (ps : List Position) → AllByRecursion (IsPosition tree) ps → AllByRecursion (IsPosition Two) ps
+all_deepest tree [] h = tt
+all_deepest tree (p ∷ ps) h = (position_deepest tree p h.0, all_deepest tree ps h.1)
+
+onward_places : (ps : List Position) (es : List Entry) → AllByRecursion (IsPosition Two) ps → IsInTree (onward ps es)
 onward_places [] es h = tt
 onward_places (p ∷ ps) es h = h
 
-root_place : IsPosition One root
+root_place : IsPosition Two root
 root_place = record { level = lit≤ tt; index = lit< tt }
 
 pub started_places : IsInTree started
 started_places = (root_place, tt)
 
-page_places : (at : Position) (es : List Entry) (more : Bool) (ask : Asked) → IsPosition One at → AllByRecursion (IsPosition One) ask.left → IsInTree (after_page at es more ask)
+page_places : (at : Position) (es : List Entry) (more : Bool) (ask : Asked) → IsPosition Two at → AllByRecursion (IsPosition Two) ask.left → IsInTree (after_page at es more ask)
 page_places at es true ask p h = (p, h)
 page_places at es false ask p h = onward_places ask.left (ask.received ++ es) h
 
-inner_places : (damaged : List Position) (at : Position) (own cs : List (Option (List ℕ))) (ask : Asked) → IsPosition One at → (at.level == 3) ≡ false → length cs ≤ 16 → AllByRecursion (IsPosition One) ask.left
-    → IsInTree (after_inner One damaged at own cs ask)
-inner_places damaged at own cs ask p e few h =
-    let above : at.level < 3 = above_segments at.level p.level e in
-    onward_places (to_ask One damaged at own 0 cs ++ ask.left) ask.received (all_append One (to_ask One damaged at own 0 cs) ask.left (asked_places One damaged at own cs 0 p above (omega (arith, few))) h)
-  where
-    above_segments : (n : ℕ) → n ≤ 3 → (n == 3) ≡ false → n < 3
-    above_segments n l e = grind (arith, nat_tests)
+above_segments : (n last : ℕ) → n ≤ last → (n == last) ≡ false → n < last
+above_segments n last l e = grind (arith, nat_tests)
 
-reply_places : (damaged : List Position) (own : List (Option (List ℕ))) (at : Position) (body : TreeBody) (ask : Asked) → IsPosition One at → IsInTree ask → IsInTree (reply One damaged own at body ask).1
-reply_places damaged own at (Inner mask digests) ask p h = by (at.level == 3) refl
+inner_places : (tree : TreeVersion) (damaged : List Position) (at : Position) (own cs : List (Option (List ℕ))) (ask : Asked) → IsPosition tree at → (at.level == levels tree) ≡ false → length cs ≤ 16 → AllByRecursion (IsPosition Two) ask.left
+    → IsInTree (after_inner tree damaged at own cs ask)
+inner_places tree damaged at own cs ask p e few h =
+    let above : at.level < levels tree = above_segments at.level (levels tree) p.level e in
+    let asked : List Position = to_ask tree damaged at own 0 cs in
+    onward_places (asked ++ ask.left) ask.received (all_append Two asked ask.left (all_deepest tree asked (asked_places tree damaged at own cs 0 p above (omega (arith, few)))) h)
+
+reply_places : (tree : TreeVersion) (damaged : List Position) (own : List (Option (List ℕ))) (at : Position) (body : TreeBody) (ask : Asked) → IsPosition tree at → IsInTree ask → IsInTree (reply tree damaged own at body ask).1
+reply_places tree damaged own at (Inner mask digests) ask p h = by (at.level == levels tree) refl
   where
-    by : (b : Bool) → (at.level == 3) ≡ b → IsInTree (if b then (steps.Dropped, ask) else stepped (after_inner One damaged at own (children_of mask digests) ask)).1
+    by : (b : Bool) → (at.level == levels tree) ≡ b → IsInTree (if b then (steps.Dropped, ask) else stepped (after_inner tree damaged at own (children_of mask digests) ask)).1
     by true e = h
-    by false e = inner_places damaged at own (children_of mask digests) ask p e (children_width mask digests (children_of mask digests) refl) (left_places One ask.current ask.left h)
-reply_places damaged own at (Page es more) ask p h = by (at.level == 3 && not (is_empty es && more))
+    by false e = inner_places tree damaged at own (children_of mask digests) ask p e (children_width mask digests (children_of mask digests) refl) (left_places Two ask.current ask.left h)
+reply_places tree damaged own at (Page es more) ask p h = by (at.level == levels tree && not (is_empty es && more))
   where
     by : (b : Bool) → IsInTree (if b then stepped (after_page at es more ask) else (steps.Dropped, ask)).1
-    by true = page_places at es more ask p (left_places One ask.current ask.left h)
+    by true = page_places at es more ask (position_deepest tree at p) (left_places Two ask.current ask.left h)
     by false = h
-reply_places damaged own at (Damaged q) ask p h = h
+reply_places tree damaged own at (Damaged q) ask p h = h
 
-same_place : (p q : Position) → IsPosition One p → same_position p q ≡ true → IsPosition One q
+same_place : (p q : Position) → IsPosition Two p → same_position p q ≡ true → IsPosition Two q
 same_place p q h e =
     let parts = and_parts (p.level == q.level) (p.index == q.index) e in
-    subst (IsPosition One) (λ i. record { level = same p.level q.level parts.0 i; index = same p.index q.index parts.1 i }) h
+    subst (IsPosition Two) (λ i. record { level = same p.level q.level parts.0 i; index = same p.index q.index parts.1 i }) h
   where
     same : (m n : ℕ) → (m == n) ≡ true → m ≡ n
     same m n e = grind (arith, nat_tests)
 
-open_place : (now : Option Question) (left : List Position) (q : Question) → ArePlaces One now left → is_open now q ≡ true → IsPosition One q.position
+open_place : (now : Option Question) (left : List Position) (q : Question) → ArePlaces Two now left → is_open now q ≡ true → IsPosition Two q.position
 open_place None left q h e = absurd cc
 open_place (Some current) left q h e = same_place current.position q.position h.0 (and_parts (same_position current.position q.position) (same_after current.after q.after) e).0
 
--- an ask that takes an answer asks for positions of the tree alone
-pub taken_places : (scan : Scan) (own : Option (List ℕ)) (q : Question) (body : TreeBody) (ask : Asked) → IsInTree ask → IsInTree (taken One scan own q body ask).1
-taken_places scan own q body ask h = by (is_open ask.current q) refl
+-- an ask that takes an answer for a level of the own tree asks for positions of a tree alone
+pub taken_places : (tree : TreeVersion) (scan : Scan) (own : Option (List ℕ)) (q : Question) (body : TreeBody) (ask : Asked) → q.position.level ≤ levels tree → IsInTree ask → IsInTree (taken tree scan own q body ask).1
+taken_places tree scan own q body ask level h = by (is_open ask.current q) refl
   where
-    by : (b : Bool) → is_open ask.current q ≡ b → IsInTree (if b then reply One scan.damaged (names_in One q.position own) q.position body ask else (steps.Ignored, ask)).1
-    by true e = reply_places scan.damaged (names_in One q.position own) q.position body ask (open_place ask.current ask.left q h e) h
+    by : (b : Bool) → is_open ask.current q ≡ b → IsInTree (if b then reply tree scan.damaged (names_in tree q.position own) q.position body ask else (steps.Ignored, ask)).1
+    by true e =
+        let place : IsPosition tree q.position = record { level = level; index = (open_place ask.current ask.left q h e).index } in
+        reply_places tree scan.damaged (names_in tree q.position own) q.position body ask place h
     by false e = h

@@ -1,13 +1,15 @@
 -- What a sync that asks other members alone sends.
 use Rattle.std.specs.Prelude.{All, map, if◌then◌else◌}
 use Rattle.ens_base.specs.Lists.{is_in}
-use Rattle.std.proofs.Common.{◌≡◌, ℕ, Bool, true, false, List, [], ◌∷◌, Option, None, Some, refl}
+use Rattle.std.proofs.Common.{◌≡◌, ◌≤◌, ℕ, Bool, true, false, List, [], ◌∷◌, Option, None, Some, refl}
 use Rattle.std.proofs.lemmas.List.Concat.{flat_map-cons}
 use Rattle.std.proofs.lemmas.List.Elements.{All-nil, All-cons, All-append, All-head, All-tail, All-weaker}
 use Rattle.ens_base.specs.Views.{last_view}
 use Rattle.ens_base.specs.declared.epoch.Epoch.{Epoch}
-use Rattle.peer_fact.specs.declared.fact.Fact.{Fact}
+use Rattle.sync_rule.specs.PeerFact.{Fact}
+use Rattle.tree_node.specs.TreeVersions.{levels}
 use Rattle.tree_node.specs.declared.body.Scan.{Scan}
+use Rattle.tree_node.specs.declared.version.TreeVersion.{TreeVersion}
 use Rattle.leader_words.specs.declared.out.Outgoing.{Outgoing}
 use Rattle.exchange.specs.declared.question.Question.{Question}
 use Rattle.running_sync.specs.Asks.{ask_message, question_of, questions, asks_of, resumed, is_finished}
@@ -48,11 +50,11 @@ start_are fact me trusted scan = questions_are me (last_view fact.views) fact.ep
 resume_are : (me : ℕ) (r : Running) → AsksOthers me r → All (IsAsk me r.sync.view r.fact.epoch) (row_resume r).1
 resume_are me r h = questions_are me r.sync.view r.fact.epoch (map resumed r.asks) (resumed_are me r h)
 
-take_are : (me from : ℕ) (give : Give) (own : Option (List ℕ)) (r : Running) → AsksOthers me r → All (IsAsk me r.sync.view r.fact.epoch) (row_take from give own r).1
-take_are me from give own r h = by_take (λ x. All (IsAsk me r.sync.view r.fact.epoch) x.1) from give own r (record {
+take_are : (tree : TreeVersion) (me from : ℕ) (give : Give) (own : Option (List ℕ)) (r : Running) → give.question.position.level ≤ levels tree → AsksOthers me r → All (IsAsk me r.sync.view r.fact.epoch) (row_take tree from give own r).1
+take_are tree me from give own r p h = by_take (λ x. All (IsAsk me r.sync.view r.fact.epoch) x.1) tree from give own r (record {
   none = no;
   kept = λ place a e. no;
-  next = λ place a e. question_is me r.sync.view r.fact.epoch (ask_after give own a r) (after_is me give own r h place a e);
+  next = λ place a e. question_is me r.sync.view r.fact.epoch (ask_after tree give own a r) (after_is tree me give own r p h place a e);
   done = λ place a e. no;
 })
   where
@@ -71,8 +73,8 @@ start_go fact me trusted scan = all_go me (last_view fact.views) fact.epoch (row
 pub resume_go : (me : ℕ) (r : Running) → AsksOthers me r → All (MayGo me) (row_resume r).1
 resume_go me r h = all_go me r.sync.view r.fact.epoch (row_resume r).1 (resume_are me r h)
 
-pub take_go : (me from : ℕ) (give : Give) (own : Option (List ℕ)) (r : Running) → AsksOthers me r → All (MayGo me) (row_take from give own r).1
-take_go me from give own r h = all_go me r.sync.view r.fact.epoch (row_take from give own r).1 (take_are me from give own r h)
+pub take_go : (tree : TreeVersion) (me from : ℕ) (give : Give) (own : Option (List ℕ)) (r : Running) → give.question.position.level ≤ levels tree → AsksOthers me r → All (MayGo me) (row_take tree from give own r).1
+take_go tree me from give own r p h = all_go me r.sync.view r.fact.epoch (row_take tree from give own r).1 (take_are tree me from give own r p h)
 
 pub start_ask : (fact : Fact) (me : ℕ) (trusted : Bool) (scan : Scan) → All (IsQuestion (row_start fact me trusted scan).0) (row_start fact me trusted scan).1
 start_ask fact me trusted scan = all_ask me (row_start fact me trusted scan).0 (row_start fact me trusted scan).1 (start_are fact me trusted scan)
@@ -80,5 +82,5 @@ start_ask fact me trusted scan = all_ask me (row_start fact me trusted scan).0 (
 pub resume_ask : (me : ℕ) (r : Running) → AsksOthers me r → All (IsQuestion r) (row_resume r).1
 resume_ask me r h = all_ask me r (row_resume r).1 (resume_are me r h)
 
-pub take_ask : (me from : ℕ) (give : Give) (own : Option (List ℕ)) (r : Running) → AsksOthers me r → All (IsQuestion r) (row_take from give own r).1
-take_ask me from give own r h = all_ask me r (row_take from give own r).1 (take_are me from give own r h)
+pub take_ask : (tree : TreeVersion) (me from : ℕ) (give : Give) (own : Option (List ℕ)) (r : Running) → give.question.position.level ≤ levels tree → AsksOthers me r → All (IsQuestion r) (row_take tree from give own r).1
+take_ask tree me from give own r p h = all_ask me r (row_take tree from give own r).1 (take_are tree me from give own r p h)

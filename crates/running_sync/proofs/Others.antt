@@ -6,7 +6,8 @@ use Rattle.std.proofs.lemmas.Bool.{and_parts}
 use Rattle.std.proofs.lemmas.Bool.Decides.{nat_tests}
 use Rattle.std.proofs.lemmas.List.Elements.{All-nil, All-cons, All-append, All-map, All-set, All-weaker}
 use Rattle.std.proofs.lemmas.Option.{slice_get_within, get_or_from_slice_get}
-use Rattle.tree_node.specs.declared.version.TreeVersion.TheVariants.{One}
+use Rattle.tree_node.specs.TreeVersions.{levels}
+use Rattle.tree_node.specs.declared.version.TreeVersion.{TreeVersion}
 use Rattle.tree_node.specs.declared.body.Scan.{Scan}
 use Rattle.exchange.specs.Asked.{Asked}
 use Rattle.exchange.specs.Asks.{taken}
@@ -60,32 +61,32 @@ stepped_is me view steps.Done flag ask a h p = record { peer = h.peer; member = 
 stepped_is me view steps.Dropped flag ask a h p = record { peer = h.peer; member = h.member; other = h.other; places = started_places }
 stepped_is me view steps.Ignored flag ask a h p = record { peer = h.peer; member = h.member; other = h.other; places = p }
 
-answered_is : (me : ℕ) (view : List ℕ) (scan : Scan) (own : Option (List ℕ)) (give : Give) (a : Asking) → IsOfOther me view a → IsOfOther me view (answered scan own give a).1
-answered_is me view scan own give a h = by (is_open a.stage)
+answered_is : (tree : TreeVersion) (me : ℕ) (view : List ℕ) (scan : Scan) (own : Option (List ℕ)) (give : Give) (a : Asking) → give.question.position.level ≤ levels tree → IsOfOther me view a → IsOfOther me view (answered tree scan own give a).1
+answered_is tree me view scan own give a p h = by (is_open a.stage)
   where
     next : Step × Asked
-    next = taken One scan own give.question give.body a.ask
+    next = taken tree scan own give.question give.body a.ask
 
     by : (b : Bool) → IsOfOther me view (if b then stepped give.trusted next a else (steps.Ignored, a)).1
-    by true = stepped_is me view next.0 give.trusted next.1 a h (taken_places scan own give.question give.body a.ask h.places)
+    by true = stepped_is me view next.0 give.trusted next.1 a h (taken_places tree scan own give.question give.body a.ask p h.places)
     by false = h
 
 ask_is : (me : ℕ) (r : Running) (place : ℕ) (a : Asking) → AsksOthers me r → slice_get r.asks place ≡ Some a → IsOfOther me r.sync.view a
 ask_is me r place a h e = subst (IsOfOther me r.sync.view) (get_or_from_slice_get r.asks place a a e) (h place a (slice_get_within r.asks place a e))
 
 -- the ask at a place after it took an answer
-pub after_is : (me : ℕ) (give : Give) (own : Option (List ℕ)) (r : Running) → AsksOthers me r → (place : ℕ) (a : Asking) → slice_get r.asks place ≡ Some a → IsOfOther me r.sync.view (ask_after give own a r)
-after_is me give own r h place a e = answered_is me r.sync.view r.sync.scan own give a (ask_is me r place a h e)
+pub after_is : (tree : TreeVersion) (me : ℕ) (give : Give) (own : Option (List ℕ)) (r : Running) → give.question.position.level ≤ levels tree → AsksOthers me r → (place : ℕ) (a : Asking) → slice_get r.asks place ≡ Some a → IsOfOther me r.sync.view (ask_after tree give own a r)
+after_is tree me give own r p h place a e = answered_is tree me r.sync.view r.sync.scan own give a p (ask_is me r place a h e)
 
 -- the asks of a sync that took an answer
-pub taken_are : (me from : ℕ) (give : Give) (own : Option (List ℕ)) (r : Running) → AsksOthers me r → AsksOthers me (row_take from give own r).0
-taken_are me from give own r h = by_take (λ x. AsksOthers me x.0) from give own r (record {
+pub taken_are : (tree : TreeVersion) (me from : ℕ) (give : Give) (own : Option (List ℕ)) (r : Running) → give.question.position.level ≤ levels tree → AsksOthers me r → AsksOthers me (row_take tree from give own r).0
+taken_are tree me from give own r p h = by_take (λ x. AsksOthers me x.0) tree from give own r (record {
   none = h;
   kept = kept;
   next = kept;
-  done = λ place a e. let b = ask_after give own a r in
+  done = λ place a e. let b = ask_after tree give own a r in
       subst (λ (view : List ℕ). All (IsOfOther me view) (slice_set r.asks place b)) (sym (finished_keeps b.peer b.trusted b.ask.received r.sync).1) (kept place a e);
 })
   where
-    kept : (place : ℕ) (a : Asking) → slice_get r.asks place ≡ Some a → AsksOthers me (sync_after place give own a r)
-    kept place a e = All-set (IsOfOther me r.sync.view) r.asks place (ask_after give own a r) (after_is me give own r h place a e) h
+    kept : (place : ℕ) (a : Asking) → slice_get r.asks place ≡ Some a → AsksOthers me (sync_after tree place give own a r)
+    kept place a e = All-set (IsOfOther me r.sync.view) r.asks place (ask_after tree give own a r) (after_is tree me give own r p h place a e) h

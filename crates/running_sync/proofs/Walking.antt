@@ -2,8 +2,9 @@
 use Rattle.std.proofs.Common.{◌≡◌, ℕ, Bool, true, false, List, [], Option, None, Some, refl}
 use Rattle.std.specs.Prelude.{slice_get, slice_set, if◌then◌else◌}
 use Rattle.ens_base.specs.declared.entry.Entry.{Entry}
-use Rattle.phase_rows.specs.Orders.{is_same}
+use Rattle.leader_words.specs.PhaseRows.{is_same}
 use Rattle.leader_words.specs.declared.out.Outgoing.{Outgoing}
+use Rattle.tree_node.specs.declared.version.TreeVersion.{TreeVersion}
 use Rattle.exchange.specs.declared.step.Step.{Step}
 use Rattle.exchange.specs.declared.step.Step.TheVariants as steps
 use Rattle.sync_rule.specs.Syncs.{is_awaited, with_source}
@@ -22,28 +23,28 @@ by_step P steps.Dropped a r next done none = none
 by_step P steps.Ignored a r next done none = none
 
 -- the ask at a place, and the sync, after the ask took an answer
-abbrev pub ask_after : Give → Option (List ℕ) → Asking → Running → Asking
-ask_after give own a r = (answered r.sync.scan own give a).1
+abbrev pub ask_after : TreeVersion → Give → Option (List ℕ) → Asking → Running → Asking
+ask_after tree give own a r = (answered tree r.sync.scan own give a).1
 
-abbrev pub sync_after : ℕ → Give → Option (List ℕ) → Asking → Running → Running
-sync_after place give own a r = record r { asks = slice_set r.asks place (ask_after give own a r) }
+abbrev pub sync_after : TreeVersion → ℕ → Give → Option (List ℕ) → Asking → Running → Running
+sync_after tree place give own a r = record r { asks = slice_set r.asks place (ask_after tree give own a r) }
 
 -- what holds if an answer changes nothing, and what of each ask that may take it
-pub record Holds (P : Running × List Outgoing → Type 0) (give : Give) (own : Option (List ℕ)) (r : Running) : Type 0 where
+pub record Holds (P : Running × List Outgoing → Type 0) (tree : TreeVersion) (give : Give) (own : Option (List ℕ)) (r : Running) : Type 0 where
   pub none : P (r, [])
-  pub kept : (place : ℕ) (a : Asking) → slice_get r.asks place ≡ Some a → P (sync_after place give own a r, [])
-  pub next : (place : ℕ) (a : Asking) → slice_get r.asks place ≡ Some a → P (sync_after place give own a r, question_of r.fact.epoch (ask_after give own a r))
-  pub done : (place : ℕ) (a : Asking) → slice_get r.asks place ≡ Some a → P (with_finished (ask_after give own a r) (sync_after place give own a r), [])
+  pub kept : (place : ℕ) (a : Asking) → slice_get r.asks place ≡ Some a → P (sync_after tree place give own a r, [])
+  pub next : (place : ℕ) (a : Asking) → slice_get r.asks place ≡ Some a → P (sync_after tree place give own a r, question_of r.fact.epoch (ask_after tree give own a r))
+  pub done : (place : ℕ) (a : Asking) → slice_get r.asks place ≡ Some a → P (with_finished (ask_after tree give own a r) (sync_after tree place give own a r), [])
 
-by_ask : (P : Running × List Outgoing → Type 0) (place : ℕ) (o : Option Asking) (give : Give) (own : Option (List ℕ)) (r : Running) → slice_get r.asks place ≡ o → Holds P give own r → P (taken_by place o give own r)
-by_ask P place None give own r e h = h.none
-by_ask P place (Some a) give own r e h = by_step P (answered r.sync.scan own give a).0 (ask_after give own a r) (sync_after place give own a r) (h.next place a e) (h.done place a e) (h.kept place a e)
+by_ask : (P : Running × List Outgoing → Type 0) (tree : TreeVersion) (place : ℕ) (o : Option Asking) (give : Give) (own : Option (List ℕ)) (r : Running) → slice_get r.asks place ≡ o → Holds P tree give own r → P (taken_by tree place o give own r)
+by_ask P tree place None give own r e h = h.none
+by_ask P tree place (Some a) give own r e h = by_step P (answered tree r.sync.scan own give a).0 (ask_after tree give own a r) (sync_after tree place give own a r) (h.next place a e) (h.done place a e) (h.kept place a e)
 
-pub by_take : (P : Running × List Outgoing → Type 0) (from : ℕ) (give : Give) (own : Option (List ℕ)) (r : Running) → Holds P give own r → P (row_take from give own r)
-by_take P from give own r h = by (is_same give.ballot r.fact.epoch)
+pub by_take : (P : Running × List Outgoing → Type 0) (tree : TreeVersion) (from : ℕ) (give : Give) (own : Option (List ℕ)) (r : Running) → Holds P tree give own r → P (row_take tree from give own r)
+by_take P tree from give own r h = by (is_same give.ballot r.fact.epoch)
   where
-    by : (b : Bool) → P (if b then taken_by (place_of from r.asks) (slice_get r.asks (place_of from r.asks)) give own r else (r, []))
-    by true = by_ask P (place_of from r.asks) (slice_get r.asks (place_of from r.asks)) give own r refl h
+    by : (b : Bool) → P (if b then taken_by tree (place_of from r.asks) (slice_get r.asks (place_of from r.asks)) give own r else (r, []))
+    by true = by_ask P tree (place_of from r.asks) (slice_get r.asks (place_of from r.asks)) give own r refl h
     by false = h.none
 
 either : (b : Bool) (sync now : Sync) → now.scan ≡ sync.scan → now.view ≡ sync.view → ((if b then now else sync).scan ≡ sync.scan) × ((if b then now else sync).view ≡ sync.view)

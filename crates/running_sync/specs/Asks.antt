@@ -3,9 +3,9 @@ use Rattle.std.specs.Prelude.{ℕ, zero, suc, ◌+◌, Bool, true, false, not, �
 use Rattle.ens_base.specs.Lists.{is_in}
 use Rattle.std.specs.List.{flat_map}
 use Rattle.ens_base.specs.declared.epoch.Epoch.{Epoch}
-use Rattle.tree_node.specs.declared.version.TreeVersion.TheVariants.{One}
+use Rattle.tree_node.specs.declared.version.TreeVersion.{TreeVersion}
 use Rattle.tree_node.specs.declared.body.Scan.{Scan}
-use Rattle.wire_frames.specs.declared.message.Message.TheVariants.{TreeAsk}
+use Rattle.leader_words.specs.WireFrames.{TreeAsk}
 use Rattle.leader_words.specs.declared.out.Outgoing.{Outgoing}
 use Rattle.exchange.specs.Asked.{Asked}
 use Rattle.exchange.specs.Asks.{started, taken, needs_own}
@@ -58,11 +58,11 @@ after_step steps.Ignored flag a = a
 abbrev pub stepped : Bool → Step × Asked → Asking → Step × Asking
 stepped flag next a = (next.0, after_step next.0 flag (record a { ask = next.1 }))
 
--- what a source's answer leads to, from the bytes of the own node at the position; only an ask with an
--- open question takes an answer
-abbrev pub answered : Scan → Option (List ℕ) → Give → Asking → Step × Asking
-answered scan own give a =
-    if is_open a.stage then stepped give.trusted (taken One scan own give.question give.body a.ask) a
+-- what a source's answer leads to in a tree of this version, from the bytes of the own node at the
+-- position; only an ask with an open question takes an answer
+abbrev pub answered : TreeVersion → Scan → Option (List ℕ) → Give → Asking → Step × Asking
+answered tree scan own give a =
+    if is_open a.stage then stepped give.trusted (taken tree scan own give.question give.body a.ask) a
     else (steps.Ignored, a)
 
 -- the ask as the sync resumes: a dropped source is asked anew
@@ -88,6 +88,6 @@ place_of peer [] = 0
 place_of peer (a ∷ all) = if a.peer == peer then 0 else place_of peer all + 1
 
 -- whether the own node at the position is needed to take the answer
-abbrev pub needs_node : Give → Option Asking → Bool
-needs_node give None = false
-needs_node give (Some a) = is_open a.stage && needs_own One give.question give.body a.ask
+abbrev pub needs_node : TreeVersion → Give → Option Asking → Bool
+needs_node tree give None = false
+needs_node tree give (Some a) = is_open a.stage && needs_own tree give.question give.body a.ask

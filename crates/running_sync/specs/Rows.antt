@@ -2,9 +2,10 @@
 use Rattle.std.specs.Prelude.{◌≡◌, ℕ, Bool, ◌&&◌, if◌then◌else◌, List, [], Option, None, Some, map, slice_get, slice_set}
 use Rattle.ens_base.specs.Epochs.{IsEpochBelow}
 use Rattle.ens_base.specs.Views.{last_view}
-use Rattle.peer_fact.specs.declared.fact.Fact.{Fact}
+use Rattle.sync_rule.specs.PeerFact.{Fact}
 use Rattle.tree_node.specs.declared.body.Scan.{Scan}
-use Rattle.phase_rows.specs.Orders.{is_same}
+use Rattle.tree_node.specs.declared.version.TreeVersion.{TreeVersion}
+use Rattle.leader_words.specs.PhaseRows.{is_same}
 use Rattle.leader_words.specs.declared.out.Outgoing.{Outgoing}
 use Rattle.exchange.specs.declared.step.Step.{Step}
 use Rattle.exchange.specs.declared.step.Step.TheVariants as steps
@@ -43,20 +44,21 @@ abbrev pub replied : ℕ → Step × Asking → Running → Running × List Outg
 replied place next r = concluded next.0 next.1 (record r { asks = slice_set r.asks place next.1 })
 
 -- the ask at this place takes an answer, if there is one
-abbrev pub taken_by : ℕ → Option Asking → Give → Option (List ℕ) → Running → Running × List Outgoing
-taken_by place None give own r = (r, [])
-taken_by place (Some a) give own r = replied place (answered r.sync.scan own give a) r
+abbrev pub taken_by : TreeVersion → ℕ → Option Asking → Give → Option (List ℕ) → Running → Running × List Outgoing
+taken_by tree place None give own r = (r, [])
+taken_by tree place (Some a) give own r = replied place (answered tree r.sync.scan own give a) r
 
 -- A source answers, at a ballot. An answer counts at the epoch of the fact alone, and only if the
--- source's ask has this question open. `own` is the own node at the position, if there is one.
-abbrev pub row_take : ℕ → Give → Option (List ℕ) → Running → Running × List Outgoing
-row_take from give own r =
-    if is_same give.ballot r.fact.epoch then taken_by (place_of from r.asks) (slice_get r.asks (place_of from r.asks)) give own r
+-- source's ask has this question open. `tree` is the version of the own tree, and `own` its node at the
+-- position, if there is one.
+abbrev pub row_take : TreeVersion → ℕ → Give → Option (List ℕ) → Running → Running × List Outgoing
+row_take tree from give own r =
+    if is_same give.ballot r.fact.epoch then taken_by tree (place_of from r.asks) (slice_get r.asks (place_of from r.asks)) give own r
     else (r, [])
 
 -- whether the own node at the position must be read to take an answer
-abbrev pub needs_own_node : ℕ → Give → Running → Bool
-needs_own_node from give r = is_same give.ballot r.fact.epoch && needs_node give (slice_get r.asks (place_of from r.asks))
+abbrev pub needs_own_node : TreeVersion → ℕ → Give → Running → Bool
+needs_own_node tree from give r = is_same give.ballot r.fact.epoch && needs_node tree give (slice_get r.asks (place_of from r.asks))
 
 -- The sync of a peer with this saved fact: the peer promised the epoch that the sync is on, but has
 -- accepted a lower one.

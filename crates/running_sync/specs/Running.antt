@@ -1,6 +1,6 @@
 -- The state of a sync that runs.
 use Rattle.std.specs.Prelude.{List}
-use Rattle.peer_fact.specs.declared.fact.Fact.{Fact}
+use Rattle.sync_rule.specs.PeerFact.{Fact}
 use Rattle.sync_rule.specs.declared.sync.Sync.{Sync}
 use Rattle.running_sync.specs.declared.asking.Asking.{Asking}
 

@@ -3,23 +3,21 @@ use Rattle.std.specs.Prelude.{◌≡◌, ◌≢◌, ℕ, true, List, All}
 use Rattle.ens_base.specs.Lists.{is_in}
 use Rattle.ens_base.specs.View.{IsPeer}
 use Rattle.ens_base.specs.declared.epoch.Epoch.{Epoch}
-use Rattle.wire_frames.specs.Messages.{Obeys}
-use Rattle.wire_frames.specs.declared.message.Message.{Message}
-use Rattle.wire_frames.specs.declared.message.Message.TheVariants.{TreeAsk}
+use Rattle.leader_words.specs.WireFrames.{Obeys, Message, TreeAsk}
 use Rattle.leader_words.specs.declared.out.Outgoing.{Outgoing}
-use Rattle.tree_node.specs.declared.version.TreeVersion.TheVariants.{One}
+use Rattle.tree_node.specs.declared.version.TreeVersion.TheVariants.{Two}
 use Rattle.exchange.specs.Asked.{ArePlaces}
 use Rattle.running_sync.specs.Running.{Running}
 use Rattle.running_sync.specs.declared.asking.Asking.{Asking}
 
--- the ask is of a member of the view other than `me`, and the positions left to ask are in the tree
+-- the ask is of a member of the view other than `me`, and the positions left to ask are those of a tree
 pub record IsOfOther (me : ℕ) (view : List ℕ) (a : Asking) : Type 0 where
   pub peer : IsPeer a.peer
   pub member : is_in view a.peer ≡ true
   pub other : a.peer ≢ me
-  pub places : ArePlaces One a.ask.current a.ask.left
+  pub places : ArePlaces Two a.ask.current a.ask.left
 
--- the sync asks other members of its view alone, and for positions of the tree
+-- the sync asks other members of its view alone, and for positions of a tree
 abbrev pub AsksOthers : ℕ → Running → Type 0
 AsksOthers me r = All (IsOfOther me r.sync.view) r.asks
 

@@ -1,16 +1,14 @@
 ghost use Rattle.std.specs.Prelude.{◌≡◌, ◌++◌, IfOk, OnOk, Some};
-ghost use Rattle.tree_node.specs.declared.version.TreeVersion.TheVariants.{One};
 ghost use Rattle.tree_node.specs.Positions.{IsPosition};
 ghost use Rattle.exchange.specs.Asks.{taken};
 ghost use Rattle.running_sync.specs.Asks.{anew as anew_at, after_step, answered, resumed, question_of, is_open, is_finished, needs_node};
 
 use ens_base::{Bytes, Epoch, PeerId, copy_key};
 use exchange::{Ask, Question, Step};
-use leader_words::Outgoing;
+use leader_words::{Message, Outgoing};
 use std::alloc::Global;
 use sync_rule::SyncError;
 use tree_node::{Scan, TreeBody, TreeVersion};
-use wire_frames::Message;
 
 /// How far the ask of a source has come.
 #[derive(Clone, Copy, Debug, PartialEq, Eq)]
@@ -93,14 +91,12 @@ impl Asking {
         }
     }
 
-    /// Whether the own node at the position is needed to take the answer.
-    pub fn needs_own(&self, give: &Give) -> bool
-        ensures { result ≡ needs_node give.now (Some self.now) }
+    /// Whether the own node at the position, in the own tree of this version, is needed to take the
+    /// answer.
+    pub fn needs_own(&self, tree: TreeVersion, give: &Give) -> bool
+        ensures { result ≡ needs_node tree give.now (Some self.now) }
     {
-        self.is_open()
-            && self
-                .ask
-                .needs_own(&give.question, &give.body, TreeVersion::One)
+        self.is_open() && self.ask.needs_own(&give.question, &give.body, tree)
     }
 
     /// Appends the message that asks the open question, if nothing is finished. Fails only when out
@@ -130,23 +126,24 @@ impl Asking {
         }
     }
 
-    /// Takes the source's answer, given the bytes of the own node at its position. Fails only when
-    /// out of memory.
+    /// Takes the source's answer, given the version of the own tree and the bytes of its node at the
+    /// position. Fails only when out of memory.
     pub fn take(
         &mut self,
         alloc: Global,
+        tree: TreeVersion,
         scan: &Scan,
         own: &Option<Bytes>,
         give: &Give,
     ) -> Result<Step, SyncError>
-        requires { IsPosition One give.now.question.position }
-        ensures step { IfOk result (λ step. step ≡ (answered scan.now own.now give.now self.old).0) }
-        ensures ask { OnOk result (self.new ≡ (answered scan.now own.now give.now self.old).1) }
+        requires { IsPosition tree give.now.question.position }
+        ensures step { IfOk result (λ step. step ≡ (answered tree scan.now own.now give.now self.old).0) }
+        ensures ask { OnOk result (self.new ≡ (answered tree scan.now own.now give.now self.old).1) }
     {
         if !self.is_open() {
             return Ok(Step::Ignored);
         }
-        let step = take_body(alloc, &mut self.ask, scan, own, give)?;
+        let step = take_body(alloc, tree, &mut self.ask, scan, own, give)?;
         self.conclude(alloc, step, give.trusted);
         Ok(step)
     }
@@ -170,17 +167,17 @@ impl Asking {
 /// Lets the ask take the body.
 fn take_body(
     alloc: Global,
+    tree: TreeVersion,
     ask: &mut Ask,
     scan: &Scan,
     own: &Option<Bytes>,
     give: &Give,
 ) -> Result<Step, SyncError>
-    requires { IsPosition One give.now.question.position }
-    ensures step { IfOk result (λ step. step ≡ (taken One scan.now own.now give.now.question give.now.body ask.old).0) }
-    ensures ask { OnOk result (ask.new ≡ (taken One scan.now own.now give.now.question give.now.body ask.old).1) }
+    requires { IsPosition tree give.now.question.position }
+    ensures step { IfOk result (λ step. step ≡ (taken tree scan.now own.now give.now.question give.now.body ask.old).0) }
+    ensures ask { OnOk result (ask.new ≡ (taken tree scan.now own.now give.now.question give.now.body ask.old).1) }
 {
-    let version = TreeVersion::One;
-    match ask.take_read(alloc, version, own, scan, &give.question, &give.body) {
+    match ask.take_read(alloc, tree, own, scan, &give.question, &give.body) {
         Ok(step) => Ok(step),
         Err(_) => Err(SyncError::Memory),
     }

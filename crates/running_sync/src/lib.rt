@@ -12,5 +12,7 @@ mod laws;
 mod running;
 
 pub use asking::{Asking, Give, Stage};
+pub use exchange::{AskError, Question, given};
 pub use laws::{messages_are_questions, messages_may_go, syncs_ask_others, syncs_keep_their_fact};
 pub use running::RunningSync;
+pub use sync_rule::{Outcome, SyncError};

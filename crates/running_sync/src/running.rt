@@ -1,5 +1,4 @@
 ghost use Rattle.std.specs.Prelude.{◌≡◌, ◌<◌, ◌≤◌, length, IfOk, OnOk, IfSome, map, slice_get};
-ghost use Rattle.tree_node.specs.declared.version.TreeVersion.TheVariants.{One};
 ghost use Rattle.tree_node.specs.Positions.{IsPosition};
 ghost use Rattle.sync_rule.specs.Syncs.{outcome_of, MayBeBuilt};
 ghost use Rattle.running_sync.specs.Asks.{is_other, asks_of, resumed, question_of, questions, place_of};
@@ -10,11 +9,10 @@ use ens_base::{Bytes, Epoch, PeerId, Seq, View};
 use exchange::Step;
 use joint_views::is_in;
 use leader_words::Outgoing;
-use peer_fact::Fact;
 use std::alloc::Global;
 use std::marker::Model;
-use sync_rule::{Outcome, Sync, SyncError};
-use tree_node::Scan;
+use sync_rule::{Fact, Outcome, Sync, SyncError};
+use tree_node::{Scan, TreeVersion};
 
 /// A sync that runs: the fact it is on, the sources that have finished, and the ask of each source.
 /// After a call that failed, its contents are unspecified.
@@ -140,31 +138,33 @@ impl RunningSync {
         questions(alloc, self.fact.epoch, &self.asks)
     }
 
-    /// Whether the own node at the position of the answer must be read before [`RunningSync::take`].
-    pub fn needs_own(&self, from: PeerId, give: &Give) -> bool
-        ensures { result ≡ needs_own_node from give.now self.now }
+    /// Whether the own node at the position of the answer, in the own tree of this version, must be read
+    /// before [`RunningSync::take`].
+    pub fn needs_own(&self, tree: TreeVersion, from: PeerId, give: &Give) -> bool
+        ensures { result ≡ needs_own_node tree from give.now self.now }
     {
         if give.ballot != self.fact.epoch {
             return false;
         }
         match self.asks.get(place_of(&self.asks, from)) {
             None => false,
-            Some(asking) => asking.needs_own(give),
+            Some(asking) => asking.needs_own(tree, give),
         }
     }
 
-    /// Takes an answer of a source, given the bytes of the own node at its position if they are
-    /// needed and the position verifies. Returns the next question to that source, if there is one.
-    /// An answer that does not count changes nothing. Fails only when out of memory.
+    /// Takes an answer of a source, given the version of the own tree, and the bytes of its node at the
+    /// position if they are needed and the position verifies. Returns the next question to that source,
+    /// if there is one. An answer that does not count changes nothing. Fails only when out of memory.
     pub fn take(
         &mut self,
         alloc: Global,
+        tree: TreeVersion,
         from: PeerId,
         give: &Give,
         own: &Option<Bytes>,
     ) -> Result<Seq<Outgoing>, SyncError>
-        requires { IsPosition One give.now.question.position }
-        ensures { IfOk result (λ sends. (self.new, sends) ≡ row_take from give.now own.now self.old) }
+        requires { IsPosition tree give.now.question.position }
+        ensures { IfOk result (λ sends. (self.new, sends) ≡ row_take tree from give.now own.now self.old) }
     {
         if give.ballot != self.fact.epoch {
             return Ok(Seq::new(Vec::new(alloc)));
@@ -173,22 +173,23 @@ impl RunningSync {
         if place >= self.asks.len() {
             return Ok(Seq::new(Vec::new(alloc)));
         }
-        self.take_at(alloc, place, give, own)
+        self.take_at(alloc, tree, place, give, own)
     }
 
     /// Lets the ask at `place` take an answer.
     fn take_at(
         &mut self,
         alloc: Global,
+        tree: TreeVersion,
         place: usize,
         give: &Give,
         own: &Option<Bytes>,
     ) -> Result<Seq<Outgoing>, SyncError>
         requires place { place < length self.old.asks }
-        requires position { IsPosition One give.now.question.position }
-        ensures { IfOk result (λ sends. (self.new, sends) ≡ taken_by place (slice_get self.old.asks place) give.now own.now self.old) }
+        requires position { IsPosition tree give.now.question.position }
+        ensures { IfOk result (λ sends. (self.new, sends) ≡ taken_by tree place (slice_get self.old.asks place) give.now own.now self.old) }
     {
-        let step = self.asks[place].take(alloc, self.sync.scan(), own, give)?;
+        let step = self.asks[place].take(alloc, tree, self.sync.scan(), own, give)?;
         self.conclude(alloc, step, place)
     }
 

@@ -5,7 +5,7 @@ use Rattle.std.proofs.lemmas.List.{get_or-set_same, get_or-set_other, get_or-rep
 use Rattle.ens_base.specs.PeerSet.{holds}
 use Rattle.ens_base.specs.View.{IsPeer}
 use Rattle.phase_rows.specs.Peers.{alone, nobody}
-use Rattle.wire_frames.specs.declared.message.Message.{Message}
+use Rattle.phase_rows.specs.WireFrames.{Message}
 use Rattle.step_plans.specs.Sends.{posted}
 
 is_alone : (p : ℕ) → p < 32 → holds (alone p) p ≡ true

@@ -1,7 +1,7 @@
 -- Parts of a step, one after another.
 use Rattle.std.proofs.Common.{◌≡◌, List, [], ◌∷◌, ◌++◌, Result, Ok, Err, refl, inl, inr}
 use Rattle.std.proofs.lemmas.List.{append_assoc, append-nil}
-use Rattle.register_model.specs.declared.note.Note.{Note}
+use Rattle.leader_words.specs.RegisterModel.{Note}
 use Rattle.step_plans.specs.Calls.{Call, AnswerOf, Answers}
 use Rattle.step_plans.specs.Outboxes.{out_of, HasNotesAlone}
 use Rattle.step_plans.specs.Plans.{Plan, Done, Say, Ask, Out, nothing, Rest, Part, Spot, Ending, Finished, Stopped, Runs, Did, asked, noted}

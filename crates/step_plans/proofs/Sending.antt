@@ -1,7 +1,7 @@
 -- One more peer is sent its message, or is not.
 use Rattle.std.proofs.Common.{◌≡◌, ℕ, ◌+◌, suc, Bool, true, false, if◌then◌else◌, List, [], ◌∷◌, ◌++◌, ap, arith, rules}
 use Rattle.std.proofs.lemmas.List.{append_assoc}
-use Rattle.wire_frames.specs.declared.message.Message.{Message}
+use Rattle.phase_rows.specs.WireFrames.{Message}
 use Rattle.step_plans.specs.Sends.{posted}
 use Rattle.leader_words.specs.declared.out.Outgoing.{Outgoing}
 

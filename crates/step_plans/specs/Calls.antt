@@ -2,21 +2,20 @@
 -- answers.
 use Rattle.std.specs.Prelude.{ℕ, List, Option, Result, Ok, Err}
 use Rattle.ens_base.specs.declared.entry.Entry.{Entry}
-use Rattle.peer_fact.specs.declared.saved.SavedFact.{SavedFact}
-use Rattle.tree_node.specs.declared.body.Scan.{Scan}
-use Rattle.tree_node.specs.declared.position.Position.{Position}
+use Rattle.phase_rows.specs.PeerFact.{SavedFact}
+use Rattle.phase_rows.specs.TreeNode.{Scan, Position, TreeVersion}
 use Rattle.step_plans.specs.declared.error.PeerError.{PeerError}
 use Rattle.step_plans.specs.declared.walked.Walked.{Walked}
 
--- loads or saves the fact with its seal; makes an empty tree, or opens the kept one, under a seal if there
--- is one, or tells the root of the running tree; in the tree, finds an entry, enters one, scans all, reads
--- a node, or installs the tree of some entries; fetches the bytes of a key from the backend, or puts them
--- there; hashes bytes
+-- loads or saves the fact with its seal; makes an empty tree in a version, or opens the kept one in a
+-- version, under a seal if there is one, or tells the root of the running tree; in the tree, finds an entry,
+-- enters one, scans all, reads a node, or installs the tree of some entries; fetches the bytes of a key from
+-- the backend, or puts them there; hashes bytes
 pub data Call : Type 0 where
   Load : Call
   Save : (fact : SavedFact) → Call
-  FreshTree : Call
-  OpenTree : (seal : Option (List ℕ)) → Call
+  FreshTree : (tree : TreeVersion) → Call
+  OpenTree : (seal : Option (List ℕ)) (tree : TreeVersion) → Call
   Root : Call
   Find : (key : List ℕ) → Call
   Enter : (entry : Entry) → Call
@@ -31,8 +30,8 @@ pub data Call : Type 0 where
 abbrev pub AnswerOf : Call → Type 0
 AnswerOf Load = Option SavedFact
 AnswerOf (Save fact) = Unit {0}
-AnswerOf FreshTree = Unit {0}
-AnswerOf (OpenTree seal) = Unit {0}
+AnswerOf (FreshTree tree) = Unit {0}
+AnswerOf (OpenTree seal tree) = Unit {0}
 AnswerOf Root = Option (List ℕ)
 AnswerOf (Find key) = Walked (Option Entry)
 AnswerOf (Enter entry) = Walked (Unit {0})

@@ -5,7 +5,7 @@ use Rattle.phase_rows.specs.Peers.{alone}
 use Rattle.step_plans.specs.Plans.{Out}
 use Rattle.step_plans.specs.declared.outbox.Mark.{Mark}
 use Rattle.step_plans.specs.declared.outbox.Outbox.{Outbox}
-use Rattle.wire_frames.specs.declared.message.Message.{Message}
+use Rattle.phase_rows.specs.WireFrames.{Message}
 
 -- the contents of an outbox, without the notes
 abbrev pub out_of : Outbox → Out

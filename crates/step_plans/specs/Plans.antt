@@ -1,7 +1,7 @@
 -- A step as a plan: the calls it makes to the stores, what it notes, and how it goes on after each
 -- answer. `X` is the state of the peer.
 use Rattle.std.specs.Prelude.{◌≡◌, ◌⊎◌, Bool, List, [], ◌∷◌, ◌++◌, Result, Ok, Err}
-use Rattle.register_model.specs.declared.note.Note.{Note}
+use Rattle.leader_words.specs.RegisterModel.{Note}
 use Rattle.step_plans.specs.Calls.{Call, AnswerOf}
 use Rattle.step_plans.specs.declared.error.PeerError.{PeerError}
 use Rattle.step_plans.specs.declared.error.PeerError.TheVariants.{Memory}

@@ -1,7 +1,6 @@
 -- Facts as a peer saves them, each with the seal of its tree, if it has one.
 use Rattle.std.specs.Prelude.{ℕ, List, Option, None, Some}
-use Rattle.peer_fact.specs.declared.fact.Fact.{Fact}
-use Rattle.peer_fact.specs.declared.saved.SavedFact.{SavedFact}
+use Rattle.phase_rows.specs.PeerFact.{Fact, SavedFact}
 
 -- the fact, as it is saved with this seal
 abbrev pub with_seal : Option (List ℕ) → Fact → SavedFact

@@ -3,7 +3,7 @@ ghost use Rattle.step_plans.specs.declared.error.PeerError.TheVariants.{Memory};
 
 use ens_base::{Bytes, CopyError};
 use leader_words::LeadError;
-use peer_fact::FactError;
+use phase_rows::FactError;
 use std::alloc::{AllocError, AllocFailed};
 
 /// Why a peer did not start, or did not take a step.

@@ -8,11 +8,9 @@ ghost use Rattle.step_plans.specs.declared.outbox.Outbox.{Outbox};
 
 use crate::error::PeerError;
 use ens_base::{PeerId, PeerSet, Reply};
-use leader_words::{AnswerOut, Outgoing};
-use phase_rows::alone;
-use register_model::Note;
+use leader_words::{AnswerOut, Note, Outgoing};
+use phase_rows::{Message, alone};
 use std::alloc::Global;
-use wire_frames::Message;
 
 /// How long the lists of an outbox are, without the notes.
 #[derive(Clone, Copy, Debug)]

@@ -1,8 +1,6 @@
 ghost use Rattle.std.specs.Prelude.{◌≡◌, [], IfErr};
 ghost use Rattle.std.specs.Thread.{IsSync};
-ghost use Rattle.tree_node.specs.declared.version.TreeVersion.TheVariants.{One};
-ghost use Rattle.tree_node.specs.Entries.{AreAbove};
-ghost use Rattle.tree_node.specs.Positions.{IsPosition};
+ghost use Rattle.phase_rows.specs.TreeNode.{Two, AreAbove, IsPosition};
 ghost use Rattle.step_plans.specs.Calls.{Call, Load, Save, FreshTree, OpenTree, Root, Find, Enter, ScanTree, ReadNode, Install, Fetch, Put, Hash, AnswerOf, Answers};
 ghost use Rattle.step_plans.specs.declared.error.PeerError.{PeerError};
 ghost use Rattle.step_plans.specs.declared.error.PeerError.TheVariants.{StoreFault};
@@ -10,10 +8,9 @@ ghost use Rattle.step_plans.specs.declared.error.PeerError.TheVariants.{StoreFau
 use crate::error::PeerError;
 use crate::walked::Walked;
 use ens_base::{Bytes, Digest, Entry, Key};
-use peer_fact::{Change, Fact, SavedFact};
+use phase_rows::{Change, Fact, Position, SavedFact, Scan, TreeVersion};
 use std::alloc::Global;
 use std::thread::Threads;
-use tree_node::{Position, Scan};
 
 /// The stores of a peer, which use a hasher lent to them. There is a method for each call that a rule
 /// makes. Two relations say what a call may do.
@@ -33,19 +30,25 @@ pub trait Store<H> {
         ensures answers { Answers does refuses (self.old, hasher.old) (Save fact.now) result (self.new, hasher.new) }
         ensures only { IfErr result (λ e. e ≡ StoreFault) };
 
-    /// Makes the tree empty.
-    fn fresh_tree(&mut self, hasher: &mut H, alloc: Global) -> Result<(), PeerError>
-        ensures { Answers does refuses (self.old, hasher.old) FreshTree result (self.new, hasher.new) };
+    /// Makes the tree empty, in this version.
+    fn fresh_tree(
+        &mut self,
+        hasher: &mut H,
+        alloc: Global,
+        version: TreeVersion,
+    ) -> Result<(), PeerError>
+        ensures { Answers does refuses (self.old, hasher.old) (FreshTree version) result (self.new, hasher.new) };
 
-    /// Opens the tree that is kept. Where there is a seal and the tree has another root, its root is
-    /// damaged.
+    /// Opens the tree that is kept, in this version. Where there is a seal and the tree has another root,
+    /// its root is damaged.
     fn open_tree(
         &mut self,
         hasher: &mut H,
         alloc: Global,
         seal: Option<Digest>,
+        version: TreeVersion,
     ) -> Result<(), PeerError>
-        ensures { Answers does refuses (self.old, hasher.old) (OpenTree seal) result (self.new, hasher.new) };
+        ensures { Answers does refuses (self.old, hasher.old) (OpenTree seal version) result (self.new, hasher.new) };
 
     /// Returns the root of the running tree, or `None` if its root is damaged. Reads no store.
     fn root(&mut self, hasher: &mut H) -> Result<Option<Digest>, PeerError>
@@ -80,18 +83,19 @@ pub trait Store<H> {
         requires { IsSync R.row }
         ensures { Answers does refuses (self.old, hasher.old) ScanTree result (self.new, hasher.new) };
 
-    /// Returns the bytes of the node at a position of the tree, or `None` if the position is empty.
+    /// Returns the bytes of the node at a position of the tree, or `None` if the position is empty, or one
+    /// that the tree's version does not have.
     fn read_node(
         &mut self,
         hasher: &mut H,
         alloc: Global,
         at: Position,
     ) -> Result<Walked<Option<Bytes>>, PeerError>
-        requires { IsPosition One at }
+        requires { IsPosition Two at }
         ensures { Answers does refuses (self.old, hasher.old) (ReadNode at) result (self.new, hasher.new) };
 
-    /// Builds the tree of these entries, and installs it. Their keys ascend strictly. The nodes are
-    /// hashed by threads.
+    /// Builds the tree of these entries in the version of the tree, and installs it. Their keys ascend
+    /// strictly. The nodes are hashed by threads.
     fn install<R: Threads + Sync>(
         &mut self,
         hasher: &mut H,

@@ -1,4 +1,4 @@
-use tree_node::Position;
+use phase_rows::Position;
 
 /// The result of a walk down the tree. Damage is an answer, not an error.
 #[derive(Debug, Drop)]

@@ -10,7 +10,7 @@ use running_sync::{Give, RunningSync};
 use std::alloc::Global;
 use std::test::Fail;
 use sync_rule::Outcome;
-use tree_node::{Position, Scan, TreeBody};
+use tree_node::{Position, Scan, TreeBody, TreeVersion};
 use wire_frames::Message;
 
 /// The epoch of the sync's fact.
@@ -78,7 +78,7 @@ pub fn take(
         trusted: false,
         body,
     };
-    Ok(sync.take(alloc, PeerId(from), &give, &None)?)
+    Ok(sync.take(alloc, TreeVersion::One, PeerId(from), &give, &None)?)
 }
 
 /// Lets the sync take the tree of a source without trust that has one entry, of segment 900.

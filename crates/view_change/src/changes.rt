@@ -5,8 +5,7 @@ ghost use Rattle.view_change.specs.Changes.{same_view, may_change as may, row_24
 use crate::finishing::Finishing;
 use ens_base::{PeerId, PeerSet, View};
 use peer_fact::{Change, Fact};
-use phase_rows::{PhaseOut, PhaseRule, Then, alone, others_of, save_and_send, silent};
-use wire_frames::Message;
+use phase_rows::{Message, PhaseOut, PhaseRule, Then, alone, others_of, save_and_send, silent};
 
 /// Returns whether two views have the same members.
 fn is_same_view(a: View, b: View) -> bool
