@@ -4,18 +4,14 @@ use Rattle.std.specs.Option.{is_some}
 use Rattle.std.proofs.Common.{◌≡◌, ◌<◌, ◌+◌, ◌-◌, ◌^◌, ◌∙◌, ◌||◌, nat_le, lit<, sym, ℕ, zero, suc, Bool, true, false, ◌==◌, if◌then◌else◌, List, [], ◌∷◌, ◌++◌, Option, Some, None, refl, arith}
 use Rattle.std.proofs.lemmas.Bool.{true≢false}
 use Rattle.std.proofs.lemmas.Bool.Decides.{nat_tests}
-use Rattle.call_table.specs.Tables.{late_put}
+use Rattle.leading.specs.CallTable.{late_put}
 use Rattle.ens_base.specs.View.{IsPeer}
 use Rattle.ens_base.specs.declared.entry.Entry.{Entry}
 use Rattle.ens_base.specs.declared.epoch.Epoch.{Epoch}
 use Rattle.ens_object.specs.Objects.{object_spelling}
 use Rattle.ens_object.specs.declared.object.Object.{Object}
-use Rattle.election.specs.Starting.{row_4}
-use Rattle.election.specs.declared.election.Election.{Election}
-use Rattle.election.specs.declared.election.Election.TheVariants.{Preparing, Starting}
-use Rattle.following.specs.Refusals.{is_served}
-use Rattle.following.specs.Requests.{row_21, row_22, row_23}
-use Rattle.following.specs.declared.follower.Follower.{Follower}
+use Rattle.peer_state.specs.Election.{row_4, Election, Preparing, Starting}
+use Rattle.peer_state.specs.Following.{is_served, row_21, row_22, row_23, Follower}
 use Rattle.joint_views.specs.Quorums.{is_member}
 use Rattle.kept_objects.specs.Kept.{entry_of, matching, object_in}
 use Rattle.leader_words.specs.Outs.{asked_by}
@@ -34,14 +30,13 @@ use Rattle.peer_fact.specs.declared.fact.Fact.{Fact}
 use Rattle.phase_rows.specs.Orders.{is_joint, is_same}
 use Rattle.phase_rows.specs.Peers.{joined}
 use Rattle.phase_rows.specs.Rows.{silent}
-use Rattle.running_sync.specs.Rows.{row_start, row_resume, row_take}
-use Rattle.running_sync.specs.Running.{Running}
-use Rattle.running_sync.specs.declared.asking.Give.{Give}
-use Rattle.exchange.specs.declared.question.Question.{Question}
+use Rattle.peer_state.specs.RunningSync.{row_start, row_resume, row_take, Running, Give}
+use Rattle.peer_state.specs.Exchange.{Question}
 use Rattle.sync_rule.specs.Syncs.{needs_build, outcome_of}
 use Rattle.sync_rule.specs.declared.sync.Outcome.{Outcome}
 use Rattle.sync_rule.specs.declared.sync.Outcome.TheVariants.{Pending, Trusted}
 use Rattle.tree_node.specs.declared.position.Position.{Position}
+use Rattle.tree_node.specs.declared.version.TreeVersion.{TreeVersion}
 use Rattle.register_model.specs.declared.note.Note.{Note}
 use Rattle.step_plans.specs.Calls.{Call, Save, Root, Find, Enter, ScanTree, ReadNode, Install, Fetch, Put, Hash}
 use Rattle.step_plans.specs.Plans.{Plan, Done, Out, nothing, Rest, Part, Follows, asked, noted}
@@ -61,8 +56,9 @@ use Rattle.phase_rows.specs.declared.phase.Then.{Then}
 use Rattle.phase_rows.specs.declared.phase.Then.TheVariants as thens
 use Rattle.phase_rows.specs.declared.rules.PhaseRule.TheVariants as phase_rules
 use Rattle.peer_state.specs.Ages.{IsYoung, IsYoungChange, IsYoungElection}
-use Rattle.peer_plan.specs.Drives.{row_done, owned, own_key, followed_up, and_row, lead_done, lead, reminded, task_done, driven, ticked, shown, after_put, put_done, delivered, first, most_turns, responded, concluded, step_of, MayCome}
-use Rattle.peer_plan.specs.Syncs.{saved, sealed, sealed_if, and_sends, with_sync, installed, accepted, accepted_own, accepted_in, end_sync, by_outcome, go_on, resume_sync, followed_on, reached, own_node, body_of, shown_node, needs_node, take_give}
+use Rattle.peer_plan.specs.Drives.{row_done, owned, own_key, followed_up, and_row, lead_done, lead, reminded, task_done, driven, ticked, shown, got_ask, after_put, put_done, in_tree, delivered, first, most_turns, responded, concluded, step_of, MayCome}
+use Rattle.peer_plan.specs.Syncs.{saved, sealed, sealed_if, and_sends, with_sync, installed, accepted, accepted_own, accepted_in, end_sync, by_outcome, go_on, resume_sync, followed_on, reached, own_node, body_of, shown_node, needs_node, take_give, tree_give}
+use Rattle.peer_plan.specs.TreeCalls.{has_position}
 use Rattle.peer_plan.specs.Kept.{IsStepCall}
 use Rattle.peer_state.specs.Leading.{older, end_of, row_5_calls, wished}
 use Rattle.peer_state.specs.Moves.{keeps_seal, left, left_answers, turned, turned_answers, leading, with_leader, electing, following, probing, without_sync}
@@ -170,9 +166,9 @@ module _ (P : State → Out → Type 0) where
   own_node_asks true at x out next go = asked_asks (ReadNode at) tt x out (λ walked y o. next (reached walked) y o) (λ walked. go (reached walked))
   own_node_asks false at x out next go = go None
 
-  pub shown_node_asks : (answered : Bool) (q : Question) → Asks (shown_node answered q)
-  shown_node_asks true q x out next go = asked_asks (ReadNode q.position) tt x out (λ walked y o. next (Some (body_of q walked)) y o) (λ walked. go (Some (body_of q walked)))
-  shown_node_asks false q x out next go = go None
+  pub shown_node_asks : (tree : TreeVersion) (answered : Bool) (q : Question) → Asks (shown_node tree answered q)
+  shown_node_asks tree true q x out next go = asked_asks (ReadNode q.position) tt x out (λ walked y o. next (Some (body_of tree q walked)) y o) (λ walked. go (Some (body_of tree q walked)))
+  shown_node_asks tree false q x out next go = go None
 
   pub shown_asks : (served : Bool) (part : Part State Seen) → Asks part → Asks (shown served part)
   shown_asks true part asks x out next go = asks x out next go
@@ -275,9 +271,9 @@ module _ (me : ℕ) (P : State → Out → Type 0) where
   followed_on_passes thens.Untrust x out next young go = go [] x out young
   followed_on_passes thens.Put x out next young go = go [] x out young
 
-  take_give_passes : (from : ℕ) (give : Give) (own : Option (List ℕ)) (running : Option Running) → Passes (take_give me from give own running)
-  take_give_passes from give own None x out next young go = go [] x out young
-  take_give_passes from give own (Some r) x out next young go = go_on_passes (row_take from give own r) x out next young go
+  take_give_passes : (tree : TreeVersion) (from : ℕ) (give : Give) (own : Option (List ℕ)) (running : Option Running) → Passes (take_give tree me from give own running)
+  take_give_passes tree from give own None x out next young go = go [] x out young
+  take_give_passes tree from give own (Some r) x out next young go = go_on_passes (row_take tree from give own r) x out next young go
 
   pub row_done_passes : (row : PhaseOut) → Passes (row_done me row)
   row_done_passes row x out next young go =
@@ -373,6 +369,21 @@ module _ (me : ℕ) (P : State → Out → Type 0) where
       written_asks P o x out (λ seen y p. row_done me (after_put from ballot row seen) y p next) (λ seen seal. row_done_passes (after_put from ballot row seen) (record x { seal = seal }) out next young go)
   put_done_passes other from ballot o row x out next young go = row_done_passes row x out next young go
 
+  got_ask_passes : (from : ℕ) (ballot : Epoch) (q : Question) → Passes (got_ask me from ballot q)
+  got_ask_passes from ballot q x out next young go =
+      shown_node_asks P x.mode.tree (is_same ballot x.fact.ballot) q x out (λ body y o. row_done me (row_23 y.fact y.trusted from ballot q.position q.after body) y o next)
+      (λ body. row_done_passes (row_23 x.fact x.trusted from ballot q.position q.after body) x out next young go)
+
+  tree_give_passes : (from : ℕ) (give : Give) → Passes (tree_give me from give)
+  tree_give_passes from give x out next young go =
+      own_node_asks P (needs_node x.mode.tree from give x.sync) give.question.position x out (λ own y o. take_give x.mode.tree me from give own y.sync y o next)
+      (λ own. take_give_passes x.mode.tree from give own x.sync x out next young go)
+
+  -- a message about a node that the tree does not have does nothing
+  in_tree_passes : (has : Bool) (part : Part State (List Task)) → Passes part → Passes (in_tree has part)
+  in_tree_passes true part passes x out next young go = passes x out next young go
+  in_tree_passes false part passes x out next young go = go [] x out young
+
   delivered_passes : (from : ℕ) (message : Message) → Passes (delivered me from message)
   delivered_passes from (messages.Get ballot round key) x out next young go =
       shown_asks P (is_served x.fact x.trusted ballot) (looked key) (looked_asks P key) x out (λ seen y o. row_done me (row_21 y.fact y.trusted from ballot round key seen) y o next)
@@ -390,12 +401,10 @@ module _ (me : ℕ) (P : State → Out → Type 0) where
   delivered_passes from (messages.CheckReply ballot round) x out next young go = lead_passes (row_33_reply from ballot round) x.phase young x out next young go
   delivered_passes from (messages.TreeAsk ballot at after) x out next young go =
       let q : Question = record { position = at; after = after } in
-      shown_node_asks P (is_same ballot x.fact.ballot) q x out (λ body y o. row_done me (row_23 y.fact y.trusted from ballot q.position q.after body) y o next)
-      (λ body. row_done_passes (row_23 x.fact x.trusted from ballot at after body) x out next young go)
+      in_tree_passes (has_position x.mode.tree at) (got_ask me from ballot q) (got_ask_passes from ballot q) x out next young go
   delivered_passes from (messages.TreeGive ballot at after trusted body) x out next young go =
       let give : Give = record { ballot = ballot; question = record { position = at; after = after }; trusted = trusted; body = body } in
-      own_node_asks P (needs_node from give x.sync) at x out (λ own y o. take_give me from give own y.sync y o next)
-      (λ own. take_give_passes from give own x.sync x out next young go)
+      in_tree_passes (has_position x.mode.tree at) (tree_give me from give) (tree_give_passes from give) x out next young go
   delivered_passes from message x out next young go =
       row_done_passes (received me from message x).1 (received me from message x).0 out next (received_young me from message x young) go
 

@@ -1,12 +1,10 @@
 -- Each row leaves the sync that runs, or none: a sync that runs asks other peers alone.
 use Rattle.std.proofs.Common.{ℕ, Bool, true, false, List, Option, Some, None}
-use Rattle.election.specs.Preparing.{row_10}
-use Rattle.election.specs.declared.election.Election.{Election}
-use Rattle.election.specs.declared.election.Election.TheVariants.{Preparing, Starting}
-use Rattle.following.specs.Announcements.{row_16}
+use Rattle.peer_state.specs.Election.{row_10, Election, Preparing, Starting}
+use Rattle.peer_state.specs.Following.{row_16}
 use Rattle.peer_fact.specs.declared.fact.Change.{Change}
 use Rattle.peer_fact.specs.declared.fact.Change.TheVariants.{Add}
-use Rattle.view_change.specs.Changes.{row_24}
+use Rattle.peer_state.specs.ViewChange.{row_24}
 use Rattle.wire_frames.specs.declared.message.Message.{Message}
 use Rattle.wire_frames.specs.declared.message.Message.TheVariants as messages
 use Rattle.phase_rows.specs.declared.phase.PhaseOut.{PhaseOut}

@@ -7,8 +7,7 @@ use Rattle.ens_base.specs.declared.entry.Entry.{Entry}
 use Rattle.ens_base.specs.declared.epoch.Epoch.{Epoch}
 use Rattle.ens_object.specs.Objects.{object_spelling}
 use Rattle.ens_object.specs.declared.object.Object.{Object}
-use Rattle.following.specs.Refusals.{is_served}
-use Rattle.following.specs.Requests.{row_21, row_22, row_23}
+use Rattle.peer_state.specs.Following.{is_served, row_21, row_22, row_23}
 use Rattle.kept_objects.specs.Kept.{entry_of, matching, object_in}
 use Rattle.leader_words.specs.declared.out.AnswerOut.{AnswerOut}
 use Rattle.leader_words.specs.Outs.{asked_by}
@@ -24,16 +23,14 @@ use Rattle.leading.specs.declared.leader.Leader.{Leader}
 use Rattle.peer_fact.specs.declared.fact.Fact.{Fact}
 use Rattle.phase_rows.specs.Orders.{is_same}
 use Rattle.phase_rows.specs.Peers.{joined}
-use Rattle.election.specs.declared.election.Election.{Election}
-use Rattle.election.specs.declared.election.Election.TheVariants.{Preparing, Starting}
-use Rattle.running_sync.specs.Rows.{row_start, row_resume, row_take}
-use Rattle.running_sync.specs.Running.{Running}
-use Rattle.running_sync.specs.declared.asking.Give.{Give}
-use Rattle.exchange.specs.declared.question.Question.{Question}
+use Rattle.peer_state.specs.Election.{Election, Preparing, Starting}
+use Rattle.peer_state.specs.RunningSync.{row_start, row_resume, row_take, Running, Give}
+use Rattle.peer_state.specs.Exchange.{Question}
 use Rattle.sync_rule.specs.Syncs.{needs_build, outcome_of}
 use Rattle.sync_rule.specs.declared.sync.Outcome.{Outcome}
 use Rattle.sync_rule.specs.declared.sync.Outcome.TheVariants.{Pending, Trusted}
 use Rattle.tree_node.specs.declared.position.Position.{Position}
+use Rattle.tree_node.specs.declared.version.TreeVersion.{TreeVersion}
 use Rattle.register_model.specs.declared.note.Note.{Note}
 use Rattle.step_plans.specs.Calls.{Call, Save, Root, Find, Enter, ScanTree, ReadNode, Install, Fetch, Put, Hash, AnswerOf}
 use Rattle.step_plans.specs.Outboxes.{out_of}
@@ -57,8 +54,9 @@ use Rattle.phase_rows.specs.declared.phase.Seen.TheVariants as seens
 use Rattle.phase_rows.specs.declared.phase.Then.{Then}
 use Rattle.phase_rows.specs.declared.phase.Then.TheVariants as thens
 use Rattle.phase_rows.specs.declared.rules.PhaseRule.TheVariants as phase_rules
-use Rattle.peer_plan.specs.Drives.{performed, row_done, owned, own_key, followed_up, and_row, lead_done, lead, reminded, task_done, driven, ticked, shown, got, got_ask, after_put, put_done, put_in, get_replied, delivered, unavailable, called, and_change, first, responded, concluded, whole, step_of, most_turns}
+use Rattle.peer_plan.specs.Drives.{performed, row_done, owned, own_key, followed_up, and_row, lead_done, lead, reminded, task_done, driven, ticked, shown, got, got_ask, after_put, put_done, put_in, get_replied, in_tree, delivered, unavailable, called, and_change, first, responded, concluded, whole, step_of, most_turns}
 use Rattle.peer_plan.specs.Syncs.{saved, sealed, sealed_if, and_sends, with_sync, installed, accepted, accepted_own, accepted_in, end_sync, by_outcome, go_on, start_sync, resume_sync, followed_on, reached, own_node, body_of, shown_node, needs_node, take_give, tree_give}
+use Rattle.peer_plan.specs.TreeCalls.{has_position}
 use Rattle.peer_state.specs.Leading.{row_5_calls, ticks, wished, begins}
 use Rattle.peer_state.specs.Moves.{keeps_seal, left, left_answers, and_answers, timeouts, ends_leading, turned, turned_answers, leading, with_leader, electing, without_sync}
 use Rattle.peer_plan.specs.Owns.{digested, read, kept, fetched, held, looked_at, looked, found_at, found, stored, resealed, entered, written, confirmed}
@@ -331,14 +329,14 @@ module _ (me : ℕ) (a : Out) where
       (λ named y o. lead (row_29_reply from ballot round key entry named) me y.phase y o later)
       (λ named y o. lead_frames (row_29_reply from ballot round key entry named) y.phase y o next later same)
 
-  shown_node_frames : (answered : Bool) (q : Question) → Frames (shown_node answered q)
-  shown_node_frames true q x out next later same =
-      asked_frames (ReadNode q.position) x out (λ walked y o. next (Some (body_of q walked)) y o) (λ walked y o. later (Some (body_of q walked)) y o) (λ walked y o. same (Some (body_of q walked)) y o)
-  shown_node_frames false q x out next later same = same None x out
+  shown_node_frames : (tree : TreeVersion) (answered : Bool) (q : Question) → Frames (shown_node tree answered q)
+  shown_node_frames tree true q x out next later same =
+      asked_frames (ReadNode q.position) x out (λ walked y o. next (Some (body_of tree q walked)) y o) (λ walked y o. later (Some (body_of tree q walked)) y o) (λ walked y o. same (Some (body_of tree q walked)) y o)
+  shown_node_frames tree false q x out next later same = same None x out
 
   got_ask_frames : (from : ℕ) (ballot : Epoch) (q : Question) → Frames (got_ask me from ballot q)
   got_ask_frames from ballot q x out next later same =
-      shown_node_frames (is_same ballot x.fact.ballot) q x out
+      shown_node_frames x.mode.tree (is_same ballot x.fact.ballot) q x out
       (λ body y o. row_done me (row_23 y.fact y.trusted from ballot q.position q.after body) y o next)
       (λ body y o. row_done me (row_23 y.fact y.trusted from ballot q.position q.after body) y o later)
       (λ body y o. row_done_frames (row_23 y.fact y.trusted from ballot q.position q.after body) y o next later same)
@@ -348,15 +346,19 @@ module _ (me : ℕ) (a : Out) where
       asked_frames (ReadNode at) x out (λ walked y o. next (reached walked) y o) (λ walked y o. later (reached walked) y o) (λ walked y o. same (reached walked) y o)
   own_node_frames false at x out next later same = same None x out
 
-  take_give_frames : (from : ℕ) (give : Give) (own : Option (List ℕ)) (running : Option Running) → Frames (take_give me from give own running)
-  take_give_frames from give own None x out next later same = same [] x out
-  take_give_frames from give own (Some r) x out next later same = go_on_frames (row_take from give own r) x out next later same
+  take_give_frames : (tree : TreeVersion) (from : ℕ) (give : Give) (own : Option (List ℕ)) (running : Option Running) → Frames (take_give tree me from give own running)
+  take_give_frames tree from give own None x out next later same = same [] x out
+  take_give_frames tree from give own (Some r) x out next later same = go_on_frames (row_take tree from give own r) x out next later same
 
   tree_give_frames : (from : ℕ) (give : Give) → Frames (tree_give me from give)
   tree_give_frames from give x out next later same =
-      own_node_frames (needs_node from give x.sync) give.question.position x out
-      (λ own y o. take_give me from give own y.sync y o next) (λ own y o. take_give me from give own y.sync y o later)
-      (λ own y o. take_give_frames from give own y.sync y o next later same)
+      own_node_frames (needs_node x.mode.tree from give x.sync) give.question.position x out
+      (λ own y o. take_give x.mode.tree me from give own y.sync y o next) (λ own y o. take_give x.mode.tree me from give own y.sync y o later)
+      (λ own y o. take_give_frames x.mode.tree from give own y.sync y o next later same)
+
+  in_tree_frames : (has : Bool) (part : Part State (List Task)) → Frames part → Frames (in_tree has part)
+  in_tree_frames true part frames x out next later same = frames x out next later same
+  in_tree_frames false part frames x out next later same = same [] x out
 
   delivered_frames : (from : ℕ) (message : Message) → Frames (delivered me from message)
   delivered_frames from (messages.Get ballot round key) x out next later same = got_frames from ballot round key x out next later same
@@ -365,9 +367,12 @@ module _ (me : ℕ) (a : Out) where
       if_same (leads x.phase) _ _ _ _ (get_replied_frames from ballot round key entry object x out next later same) (same [] x out)
   delivered_frames from (messages.PutReply ballot key version) x out next later same = lead_frames (row_35_reply from ballot key version) x.phase x out next later same
   delivered_frames from (messages.CheckReply ballot round) x out next later same = lead_frames (row_33_reply from ballot round) x.phase x out next later same
-  delivered_frames from (messages.TreeAsk ballot at after) x out next later same = got_ask_frames from ballot (record { position = at; after = after }) x out next later same
+  delivered_frames from (messages.TreeAsk ballot at after) x out next later same =
+      let q : Question = record { position = at; after = after } in
+      in_tree_frames (has_position x.mode.tree at) (got_ask me from ballot q) (got_ask_frames from ballot q) x out next later same
   delivered_frames from (messages.TreeGive ballot at after trusted body) x out next later same =
-      tree_give_frames from (record { ballot = ballot; question = record { position = at; after = after }; trusted = trusted; body = body }) x out next later same
+      let give : Give = record { ballot = ballot; question = record { position = at; after = after }; trusted = trusted; body = body } in
+      in_tree_frames (has_position x.mode.tree at) (tree_give me from give) (tree_give_frames from give) x out next later same
   delivered_frames from message x out next later same = row_done_frames (received me from message x).1 (received me from message x).0 out next later same
 
   called_frames : (call : CallIn) → Frames (called me call)

@@ -1,13 +1,12 @@
 -- The rows that are applied without allocating.
 use Rattle.std.proofs.Common.{◌≡◌, ◌≤◌, ◌+◌, ◌&&◌, if◌then◌else◌, ℕ, Bool, true, false, List, [], ◌∷◌, ◌++◌, Ok, length, refl, sym, subst, inr, arith}
 use Rattle.std.proofs.lemmas.List.{append-nil, length-append}
-use Rattle.call_table.specs.Calls.{has_calls}
+use Rattle.leading.specs.CallTable.{has_calls}
 use Rattle.ens_base.specs.PeerSet.{holds}
 use Rattle.ens_base.specs.View.{IsPeer}
 use Rattle.ens_base.specs.declared.epoch.Epoch.{Epoch}
-use Rattle.election.specs.Ballots.{promises_to, row_11}
-use Rattle.following.specs.Announcements.{row_19}
-use Rattle.following.specs.Requests.{row_20}
+use Rattle.peer_state.specs.Election.{promises_to, row_11}
+use Rattle.peer_state.specs.Following.{row_19, row_20}
 use Rattle.peer_fact.specs.declared.fact.Fact.{Fact}
 use Rattle.phase_rows.specs.Orders.{is_below, is_same}
 use Rattle.phase_rows.specs.Peers.{alone}

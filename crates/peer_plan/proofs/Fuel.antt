@@ -1,17 +1,12 @@
 -- Why no task is left at the end of a step: each task lowers the number of tasks that can still run.
 use Rattle.std.specs.Option.{is_some}
 use Rattle.std.proofs.Common.{◌≡◌, ◌≤◌, ◌<◌, ◌+◌, ◌*◌, ◌^◌, ◌==◌, ◌&&◌, lit<, lit≤, mul-suc, mul-zero, ap, refl, sym, arith, length, map, ℕ, zero, suc, Bool, true, false, List, [], ◌∷◌, ◌++◌, Option, Some, None}
-use Rattle.call_table.specs.Calls.{has_calls}
+use Rattle.leading.specs.CallTable.{has_calls}
 use Rattle.ens_base.specs.declared.entry.Entry.{Entry}
 use Rattle.ens_base.specs.declared.epoch.Epoch.{Epoch}
 use Rattle.ens_object.specs.declared.object.Object.{Object}
-use Rattle.election.specs.Preparing.{row_10, row_13}
-use Rattle.election.specs.Starting.{row_14}
-use Rattle.election.specs.declared.election.Election.{Election}
-use Rattle.election.specs.declared.election.Election.TheVariants.{Preparing, Starting}
-use Rattle.following.specs.Announcements.{row_16}
-use Rattle.following.specs.Refusals.{is_served}
-use Rattle.following.specs.Requests.{row_21, row_22, row_23}
+use Rattle.peer_state.specs.Election.{row_10, row_13, row_14, Election, Preparing, Starting}
+use Rattle.peer_state.specs.Following.{row_16, is_served, row_21, row_22, row_23}
 use Rattle.kept_objects.specs.Kept.{entry_of, matching}
 use Rattle.ens_object.specs.Objects.{object_spelling}
 use Rattle.leader_words.specs.Outs.{asked_by}
@@ -23,7 +18,7 @@ use Rattle.leading.specs.Puts.{row_35_reply}
 use Rattle.leading.specs.Rounds.{row_29_reply, row_33_reply}
 use Rattle.leading.specs.Rules.{lead_row}
 use Rattle.leading.specs.Starts.{row_27}
-use Rattle.probe.specs.Probing.{row_9}
+use Rattle.peer_state.specs.Probe.{row_9}
 use Rattle.leading.specs.declared.leader.Leader.{Leader}
 use Rattle.leading.specs.declared.pending.Pending.{Pending}
 use Rattle.leading.specs.declared.pending.Pending.TheVariants as pendings
@@ -36,23 +31,21 @@ use Rattle.peer_fact.specs.declared.fact.Fact.{Fact}
 use Rattle.phase_rows.specs.Orders.{is_same}
 use Rattle.phase_rows.specs.Peers.{joined}
 use Rattle.leader_words.specs.declared.out.Outgoing.{Outgoing}
-use Rattle.running_sync.specs.Rows.{row_start, row_resume, row_take}
-use Rattle.running_sync.specs.Running.{Running}
-use Rattle.running_sync.specs.declared.asking.Give.{Give}
+use Rattle.peer_state.specs.RunningSync.{row_start, row_resume, row_take, Running, Give}
 use Rattle.sync_rule.specs.Syncs.{needs_build, outcome_of}
 use Rattle.sync_rule.specs.declared.sync.Outcome.{Outcome}
 use Rattle.sync_rule.specs.declared.sync.Outcome.TheVariants.{Pending as RunsOn, Trusted}
-use Rattle.exchange.specs.declared.question.Question.{Question}
+use Rattle.peer_state.specs.Exchange.{Question}
 use Rattle.step_plans.specs.Calls.{Find, Enter, ScanTree, Put, Hash}
-use Rattle.step_plans.specs.Plans.{Plan, Out, Rest, asked}
+use Rattle.tree_node.specs.declared.version.TreeVersion.{TreeVersion}
+use Rattle.step_plans.specs.Plans.{Plan, Out, Rest, Part, asked}
 use Rattle.step_plans.specs.Sends.{posted_to}
 use Rattle.step_plans.specs.Tasks.{named, keyed}
 use Rattle.step_plans.specs.declared.tasks.Task.{Task}
 use Rattle.step_plans.specs.declared.tasks.Task.TheVariants as tasks
 use Rattle.step_plans.specs.declared.walked.Walked.{Walked}
 use Rattle.step_plans.specs.declared.walked.Walked.TheVariants.{Reached, Broken}
-use Rattle.view_change.specs.Changes.{row_24, row_25}
-use Rattle.view_change.specs.declared.finishing.Finishing.{Finishing}
+use Rattle.peer_state.specs.ViewChange.{row_24, row_25, Finishing}
 use Rattle.wire_frames.specs.declared.message.Message.{Message}
 use Rattle.wire_frames.specs.declared.message.Message.TheVariants as messages
 use Rattle.phase_rows.specs.declared.phase.PhaseOut.{PhaseOut}
@@ -63,8 +56,9 @@ use Rattle.phase_rows.specs.declared.phase.Then.TheVariants as thens
 use Rattle.phase_rows.specs.declared.rules.PhaseRule.TheVariants as phase_rules
 use Rattle.phase_rows.specs.declared.rules.KeyRule.{KeyRule}
 use Rattle.phase_rows.specs.declared.rules.PhaseRule.{PhaseRule}
-use Rattle.peer_plan.specs.Drives.{row_done, owned, own_key, followed_up, and_row, lead_done, lead, reminded, task_done, driven, led_in, after_put, put_done, delivered, unavailable, and_change, first, most_turns}
-use Rattle.peer_plan.specs.Syncs.{saved, sealed_if, and_sends, with_sync, accepted, accepted_own, accepted_in, by_outcome, go_on, resume_sync, followed_on, needs_node, take_give}
+use Rattle.peer_plan.specs.Drives.{row_done, owned, own_key, followed_up, and_row, lead_done, lead, reminded, task_done, driven, led_in, after_put, put_done, got_ask, in_tree, delivered, unavailable, and_change, first, most_turns}
+use Rattle.peer_plan.specs.Syncs.{saved, sealed_if, and_sends, with_sync, accepted, accepted_own, accepted_in, by_outcome, go_on, resume_sync, followed_on, needs_node, take_give, tree_give}
+use Rattle.peer_plan.specs.TreeCalls.{has_position}
 use Rattle.peer_state.specs.Leading.{older, end_of, row_5_calls, wished, begins}
 use Rattle.peer_state.specs.Moves.{keeps_seal, stopped_leading, without_candidacy, left, left_answers, turned, turned_answers, stood, leading, with_leader, and_answers, electing, without_sync, waiting_phase, waiting_for}
 use Rattle.peer_plan.specs.Owns.{looked, looked_at, held, fetched, found, stored, written, entered}
@@ -609,9 +603,13 @@ put_done_few me (thens.OnKeys n) from ballot object row x out next go = event_ro
 nothing_few : (x : State) (out : Out) (next : Rest State (List Task)) → Few x next → StepsAlone (next [] x out)
 nothing_few x out next go = go [] x out (omega arith)
 
-taken_few : (me from : ℕ) (give : Give) (own : Option (List ℕ)) (running : Option Running) (x : State) (out : Out) (next : Rest State (List Task)) → Few x next → StepsAlone (take_give me from give own running x out next)
-taken_few me from give own None x out next go = nothing_few x out next go
-taken_few me from give own (Some r) x out next go = go_on_lowers me 26 (lit< tt) (row_take from give own r) x out next go
+taken_few : (tree : TreeVersion) (me from : ℕ) (give : Give) (own : Option (List ℕ)) (running : Option Running) (x : State) (out : Out) (next : Rest State (List Task)) → Few x next → StepsAlone (take_give tree me from give own running x out next)
+taken_few tree me from give own None x out next go = nothing_few x out next go
+taken_few tree me from give own (Some r) x out next go = go_on_lowers me 26 (lit< tt) (row_take tree from give own r) x out next go
+
+in_tree_few : (has : Bool) (part : Part State (List Task)) (x : State) (out : Out) (next : Rest State (List Task)) → Few x next → StepsAlone (part x out next) → StepsAlone (in_tree has part x out next)
+in_tree_few true part x out next go few = few
+in_tree_few false part x out next go few = nothing_few x out next go
 
 delivered_few : (me from : ℕ) (message : Message) (x : State) (out : Out) (next : Rest State (List Task)) → Few x next → StepsAlone (delivered me from message x out next)
 delivered_few me from (messages.Get ballot round key) x out next go =
@@ -632,12 +630,14 @@ delivered_few me from (messages.CheckReply ballot round) x out next go =
     event_led_few me 1 (row_33_reply from ballot round) (lit< tt) (lit≤ tt) (λ l. (row_33_reply_step from ballot round l).1.lowers) x out next go
 delivered_few me from (messages.TreeAsk ballot at after) x out next go =
     let q : Question = record { position = at; after = after } in
-    shown_node_asks P (is_same ballot x.fact.ballot) q x out (λ body y o. row_done me (row_23 y.fact y.trusted from ballot q.position q.after body) y o next)
-    (λ body. event_row_few me (row_23 x.fact x.trusted from ballot at after body) x x out next (same_owed x) go)
+    in_tree_few (has_position x.mode.tree at) (got_ask me from ballot q) x out next go
+    (shown_node_asks P x.mode.tree (is_same ballot x.fact.ballot) q x out (λ body y o. row_done me (row_23 y.fact y.trusted from ballot q.position q.after body) y o next)
+    (λ body. event_row_few me (row_23 x.fact x.trusted from ballot at after body) x x out next (same_owed x) go))
 delivered_few me from (messages.TreeGive ballot at after trusted body) x out next go =
     let give : Give = record { ballot = ballot; question = record { position = at; after = after }; trusted = trusted; body = body } in
-    own_node_asks P (needs_node from give x.sync) at x out (λ own y o. take_give me from give own y.sync y o next)
-    (λ own. taken_few me from give own x.sync x out next go)
+    in_tree_few (has_position x.mode.tree at) (tree_give me from give) x out next go
+    (own_node_asks P (needs_node x.mode.tree from give x.sync) at x out (λ own y o. take_give x.mode.tree me from give own y.sync y o next)
+    (λ own. taken_few x.mode.tree me from give own x.sync x out next go))
 delivered_few me from message x out next go = event_row_few me (received me from message x).1 x (received me from message x).0 out next (received_owes me from message x) go
 
 in_tick : (more ts u w b v z : ℕ) → more ≡ ts + 2 → ts + u ≤ b + w → b + w ≤ v → v ≤ z → more + u < 26 + z

@@ -9,7 +9,9 @@ use Rattle.ens_fields.specs.declared.field_error.FieldError.TheVariants as field
 use Rattle.ens_fields.specs.Numbers.{byte_at, number_at, run_at}
 use Rattle.ens_fields.specs.Strings.{key_at}
 use Rattle.ens_fields.specs.Versions.{version_at}
-use Rattle.tree_node.specs.declared.version.TreeVersion.TheVariants.{One}
+use Rattle.tree_node.specs.declared.version.TreeVersion.{TreeVersion}
+use Rattle.tree_node.specs.declared.version.TreeVersion.TheVariants.{Two}
+use Rattle.tree_node.specs.TreeVersions.{levels, inner_tag, segment_tag}
 use Rattle.tree_node.specs.declared.body.TreeBody.TheVariants.{Inner, Page}
 use Rattle.tree_node.specs.declared.error.NodeError.{NodeError}
 use Rattle.tree_node.specs.declared.error.NodeError.TheVariants.{Trailing}
@@ -22,8 +24,7 @@ use Rattle.tree_node.specs.Entries.{is_above, AreAbove, rest_at, next_at, entrie
 use Rattle.tree_node.specs.Nodes.{ended, ordered, asked_at, inner_fields_at, inner_at, segment_fields_at, segment_at, all_of, inner_of, segment_of}
 use Rattle.tree_repair.proofs.Buckets.{above_part}
 use Rattle.wire_frames.specs.Messages.{ObeysBody}
-use Rattle.exchange.specs.declared.question.Question.{Question}
-use Rattle.exchange.specs.Gives.{is_beyond, beyond, page_of, inner_body, segment_body, given}
+use Rattle.peer_state.specs.Exchange.{Question, is_beyond, beyond, page_of, inner_body, segment_body, given}
 use Rattle.step_plans.specs.declared.walked.Walked.{Walked}
 use Rattle.step_plans.specs.declared.walked.Walked.TheVariants.{Reached, Broken}
 use Rattle.peer_plan.specs.Kept.{IsInTree}
@@ -75,21 +76,21 @@ list_length {A = A} item after (suc n) before bytes at =
     (λ first. then_holds (λ (x : List A × ℕ). length x.0 ≡ n) (λ (x : List A × ℕ). length x.0 ≡ suc n) (list_at item after n (after first.0) bytes first.1) _ (list_length item after n (after first.0) bytes first.1)
     (λ others h. ap suc h))
 
-inner_fields_each : (asked : Position) (bytes : List ℕ) (at : ℕ) → IfOk (inner_fields_at One asked bytes at) (λ x. length x.0.digests ≡ count_ones x.0.mask)
+inner_fields_each : (tree : TreeVersion) (asked : Position) (bytes : List ℕ) (at : ℕ) → IfOk (inner_fields_at tree asked bytes at) (λ x. length x.0.digests ≡ count_ones x.0.mask)
 unfolding inner_fields_at
-inner_fields_each asked bytes at =
+inner_fields_each tree asked bytes at =
     after_holds (λ (x : InnerNode × ℕ). length x.0.digests ≡ count_ones x.0.mask) (asked_at asked bytes at) _
     (λ position. after_holds (λ (x : InnerNode × ℕ). length x.0.digests ≡ count_ones x.0.mask) (ended (number_at 2 bytes position.1)) _
     (λ mask. then_holds (λ (x : List (List ℕ) × ℕ). length x.0 ≡ count_ones mask.0) (λ (x : InnerNode × ℕ). length x.0.digests ≡ count_ones x.0.mask) (ended (digests_at (count_ones mask.0) bytes mask.1)) _
     (ended_holds (λ (x : List (List ℕ) × ℕ). length x.0 ≡ count_ones mask.0) (digests_at (count_ones mask.0) bytes mask.1) (list_length {B = Unit {0}} (λ _. run_at 16) (λ _. tt) (count_ones mask.0) tt bytes mask.1))
     (λ digests h. h)))
 
-inner_each : (asked : Position) (bytes : List ℕ) → IfOk (inner_of One asked bytes) (λ n. length n.digests ≡ count_ones n.mask)
+inner_each : (tree : TreeVersion) (asked : Position) (bytes : List ℕ) → IfOk (inner_of tree asked bytes) (λ n. length n.digests ≡ count_ones n.mask)
 unfolding inner_at
-inner_each asked bytes =
-    all_holds (λ (n : InnerNode). length n.digests ≡ count_ones n.mask) (inner_at One asked bytes 0) (length bytes)
+inner_each tree asked bytes =
+    all_holds (λ (n : InnerNode). length n.digests ≡ count_ones n.mask) (inner_at tree asked bytes 0) (length bytes)
     (after_holds (λ (x : InnerNode × ℕ). length x.0.digests ≡ count_ones x.0.mask) (ended (byte_at bytes 0)) _
-    (λ tag. test_holds (λ (x : InnerNode × ℕ). length x.0.digests ≡ count_ones x.0.mask) (tag.0 == 1) (inner_fields_at One asked bytes tag.1) _ (λ _. inner_fields_each asked bytes tag.1)))
+    (λ tag. test_holds (λ (x : InnerNode × ℕ). length x.0.digests ≡ count_ones x.0.mask) (tag.0 == inner_tag tree) (inner_fields_at tree asked bytes tag.1) _ (λ _. inner_fields_each tree asked bytes tag.1)))
 
 -- ## The keys of a segment ascend
 
@@ -111,21 +112,21 @@ entries_above (suc n) low bytes at =
     (λ first up. then_holds (λ (x : List Entry × ℕ). AreAbove first.0.key x.0) (λ (x : List Entry × ℕ). AreAbove low x.0) (list_at next_at (λ e. e.key) n first.0.key bytes first.1) _ (entries_above n first.0.key bytes first.1)
     (λ others rest. (up, rest)))
 
-segment_fields_above : (asked : Position) (bytes : List ℕ) (at : ℕ) → IfOk (segment_fields_at One asked bytes at) (λ x. AreAbove [] x.0.entries)
+segment_fields_above : (tree : TreeVersion) (asked : Position) (bytes : List ℕ) (at : ℕ) → IfOk (segment_fields_at tree asked bytes at) (λ x. AreAbove [] x.0.entries)
 unfolding segment_fields_at
-segment_fields_above asked bytes at =
+segment_fields_above tree asked bytes at =
     after_holds (λ (x : Segment × ℕ). AreAbove [] x.0.entries) (asked_at asked bytes at) _
     (λ position. after_holds (λ (x : Segment × ℕ). AreAbove [] x.0.entries) (ended (number_at 4 bytes position.1)) _
     (λ count. then_holds (λ (x : List Entry × ℕ). AreAbove [] x.0) (λ (x : Segment × ℕ). AreAbove [] x.0.entries) (ordered (entries_at count.0 bytes count.1)) _
     (ordered_holds (λ (x : List Entry × ℕ). AreAbove [] x.0) (entries_at count.0 bytes count.1) (entries_above count.0 [] bytes count.1))
     (λ entries h. h)))
 
-segment_above : (asked : Position) (bytes : List ℕ) → IfOk (segment_of One asked bytes) (λ s. AreAbove [] s.entries)
+segment_above : (tree : TreeVersion) (asked : Position) (bytes : List ℕ) → IfOk (segment_of tree asked bytes) (λ s. AreAbove [] s.entries)
 unfolding segment_at
-segment_above asked bytes =
-    all_holds (λ (s : Segment). AreAbove [] s.entries) (segment_at One asked bytes 0) (length bytes)
+segment_above tree asked bytes =
+    all_holds (λ (s : Segment). AreAbove [] s.entries) (segment_at tree asked bytes 0) (length bytes)
     (after_holds (λ (x : Segment × ℕ). AreAbove [] x.0.entries) (ended (byte_at bytes 0)) _
-    (λ tag. test_holds (λ (x : Segment × ℕ). AreAbove [] x.0.entries) (tag.0 == 2) (segment_fields_at One asked bytes tag.1) _ (λ _. segment_fields_above asked bytes tag.1)))
+    (λ tag. test_holds (λ (x : Segment × ℕ). AreAbove [] x.0.entries) (tag.0 == segment_tag tree) (segment_fields_at tree asked bytes tag.1) _ (λ _. segment_fields_above tree asked bytes tag.1)))
 
 -- ## A page of it
 
@@ -147,28 +148,28 @@ page_obeys after es a = (take_few 32 (beyond after es), take_above 32 [] (beyond
 
 -- ## What is given
 
-segment_obeys : (at : Position) (after : Option (List ℕ)) (r : Result Segment NodeError) → IsPosition One at → IfOk r (λ s. AreAbove [] s.entries) → ObeysBody (segment_body at after r)
+segment_obeys : (at : Position) (after : Option (List ℕ)) (r : Result Segment NodeError) → IsPosition Two at → IfOk r (λ s. AreAbove [] s.entries) → ObeysBody (segment_body at after r)
 segment_obeys at after (Ok s) is h = page_obeys after s.entries h
 segment_obeys at after (Err e) is h = is
 
-inner_obeys : (at : Position) (r : Result InnerNode NodeError) → IsPosition One at → IfOk r (λ n. length n.digests ≡ count_ones n.mask) → ObeysBody (inner_body at r)
+inner_obeys : (at : Position) (r : Result InnerNode NodeError) → IsPosition Two at → IfOk r (λ n. length n.digests ≡ count_ones n.mask) → ObeysBody (inner_body at r)
 inner_obeys at (Ok n) is h = h
 inner_obeys at (Err e) is h = is
 
 -- what is given obeys the grammar of frames: a node that is damaged, or none, is no exception
-pub given_obeys : (node : Option (List ℕ)) (q : Question) → IsPosition One q.position → ObeysBody (given One node q)
-given_obeys None q is = by (q.position.level == 3)
+pub given_obeys : (tree : TreeVersion) (node : Option (List ℕ)) (q : Question) → IsPosition Two q.position → ObeysBody (given tree node q)
+given_obeys tree None q is = by (q.position.level == levels tree)
   where
     by : (b : Bool) → ObeysBody (cond b (Page [] false) (Inner 0 []))
     by true = (omega arith, tt)
     by false = omega (arith, ones_le_self 0)
-given_obeys (Some bytes) q is = by (q.position.level == 3)
+given_obeys tree (Some bytes) q is = by (q.position.level == levels tree)
   where
-    by : (b : Bool) → ObeysBody (cond b (segment_body q.position q.after (segment_of One q.position bytes)) (inner_body q.position (inner_of One q.position bytes)))
-    by true = segment_obeys q.position q.after (segment_of One q.position bytes) is (segment_above q.position bytes)
-    by false = inner_obeys q.position (inner_of One q.position bytes) is (inner_each q.position bytes)
+    by : (b : Bool) → ObeysBody (cond b (segment_body q.position q.after (segment_of tree q.position bytes)) (inner_body q.position (inner_of tree q.position bytes)))
+    by true = segment_obeys q.position q.after (segment_of tree q.position bytes) is (segment_above tree q.position bytes)
+    by false = inner_obeys q.position (inner_of tree q.position bytes) is (inner_each tree q.position bytes)
 
 -- what is sent after a walk obeys it too
-pub body_obeys : (q : Question) (walked : Walked (Option (List ℕ))) → IsPosition One q.position → IsInTree walked → ObeysBody (body_of q walked)
-body_obeys q (Reached node) is inside = given_obeys node q is
-body_obeys q (Broken at) is inside = inside
+pub body_obeys : (tree : TreeVersion) (q : Question) (walked : Walked (Option (List ℕ))) → IsPosition Two q.position → IsInTree walked → ObeysBody (body_of tree q walked)
+body_obeys tree q (Reached node) is inside = given_obeys tree node q is
+body_obeys tree q (Broken at) is inside = inside

@@ -1,13 +1,9 @@
 -- The messages of each row may be sent, and a leader goes on to send as the same peer.
 use Rattle.std.proofs.Common.{◌≡◌, ◌≢◌, ℕ, Bool, true, false, ◌&&◌, ◌==◌, List, Option, Some, None, refl, subst}
-use Rattle.call_table.specs.Calls.{has_calls}
+use Rattle.leading.specs.CallTable.{has_calls}
 use Rattle.ens_base.specs.View.{IsPeer}
-use Rattle.election.specs.Ballots.{row_15}
-use Rattle.election.specs.Preparing.{row_10}
-use Rattle.election.specs.declared.election.Election.{Election}
-use Rattle.election.specs.declared.election.Election.TheVariants.{Preparing, Starting}
-use Rattle.following.specs.Announcements.{row_16}
-use Rattle.following.specs.declared.follower.Follower.{Follower}
+use Rattle.peer_state.specs.Election.{row_15, row_10, Election, Preparing, Starting}
+use Rattle.peer_state.specs.Following.{row_16, Follower}
 use Rattle.joint_views.specs.Quorums.{is_member}
 use Rattle.leading.specs.declared.leader.Leader.{Leader}
 use Rattle.peer_fact.specs.declared.fact.Change.{Change}
@@ -16,8 +12,7 @@ use Rattle.peer_fact.specs.declared.fact.Fact.{Fact}
 use Rattle.phase_rows.specs.Orders.{is_same}
 use Rattle.phase_rows.specs.Peers.{members}
 use Rattle.phase_rows.specs.Rows.{silent}
-use Rattle.view_change.specs.Changes.{may_change, row_24, row_25}
-use Rattle.view_change.specs.declared.finishing.Finishing.{Finishing}
+use Rattle.peer_state.specs.ViewChange.{may_change, row_24, row_25, Finishing}
 use Rattle.wire_frames.specs.declared.message.Message.{Message}
 use Rattle.wire_frames.specs.declared.message.Message.TheVariants as messages
 use Rattle.phase_rows.specs.declared.phase.PhaseOut.{PhaseOut}

@@ -11,20 +11,11 @@ use Rattle.ens_base.specs.View.{IsPeer}
 use Rattle.joint_views.specs.Quorums.{is_quorum, is_member}
 use Rattle.phase_rows.specs.Orders.{is_below, is_same, is_newer, may_accept}
 use Rattle.phase_rows.specs.Peers.{nobody, alone, those, members, others_of, others_outside}
-use Rattle.following.specs.Refusals.{refusal, unless_refused}
+use Rattle.peer_state.specs.Following.{refusal, unless_refused, takes, commits, row_16, row_18, row_19, row_20, row_2, Follower}
 use Rattle.ens_base.specs.declared.epoch.Epoch.{Epoch}
 use Rattle.peer_fact.specs.declared.fact.Fact.{Fact}
-use Rattle.probe.specs.Probing.{row_8}
-use Rattle.probe.specs.declared.probing.Probing.{Probing}
-use Rattle.election.specs.Ballots.{row_11, row_15}
-use Rattle.election.specs.Preparing.{row_3, row_10, promised_by, row_12, first_fact, starts, elected, row_13}
-use Rattle.election.specs.Starting.{row_4, row_14, row_17}
-use Rattle.election.specs.declared.election.Election.{Election}
-use Rattle.election.specs.declared.election.Election.TheVariants.{Preparing, Starting}
-use Rattle.following.specs.Announcements.{takes, commits, row_16, row_18, row_19}
-use Rattle.following.specs.Requests.{row_20}
-use Rattle.following.specs.Follower.{row_2}
-use Rattle.following.specs.declared.follower.Follower.{Follower}
+use Rattle.peer_state.specs.Probe.{row_8, Probing}
+use Rattle.peer_state.specs.Election.{row_11, row_15, row_3, row_10, promised_by, row_12, first_fact, starts, elected, row_13, row_4, row_14, row_17, Election, Preparing, Starting}
 use Rattle.peer_fact.specs.Facts.{views_after}
 use Rattle.wire_frames.specs.Messages.{Obeys}
 use Rattle.wire_frames.specs.declared.message.Message.{Message}

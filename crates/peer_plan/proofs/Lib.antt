@@ -16,3 +16,5 @@ pub mod FreeRows
 pub mod Delivering
 pub mod Inside
 pub mod Whole
+pub mod Ascending
+pub mod LeadingLaws

@@ -10,8 +10,7 @@ use Rattle.ens_base.specs.declared.entry.Entry.{Entry}
 use Rattle.ens_base.specs.declared.epoch.Epoch.{Epoch}
 use Rattle.ens_object.specs.Objects.{object_spelling}
 use Rattle.ens_object.specs.declared.object.Object.{Object}
-use Rattle.following.specs.Refusals.{is_served}
-use Rattle.following.specs.Requests.{row_21, row_22, row_23}
+use Rattle.peer_state.specs.Following.{is_served, row_21, row_22, row_23}
 use Rattle.kept_objects.specs.Kept.{entry_of, matching, object_in}
 use Rattle.leader_words.specs.Outs.{asked_by}
 use Rattle.leader_words.specs.declared.out.LeadOut.{LeadOut}
@@ -28,22 +27,19 @@ use Rattle.leading_laws.proofs.Sends.{ticks_may}
 use Rattle.leading_laws.proofs.Steps.{lead_step, row_29_reply_step, row_33_reply_step, row_35_reply_step}
 use Rattle.leading_laws.proofs.TimeOuts.{row_5_ticks}
 use Rattle.peer_fact.specs.declared.fact.Fact.{Fact}
-use Rattle.election.specs.declared.election.Election.{Election}
-use Rattle.election.specs.declared.election.Election.TheVariants.{Preparing, Starting}
-use Rattle.tree_node.specs.declared.version.TreeVersion.TheVariants.{One}
-use Rattle.exchange.specs.declared.question.Question.{Question}
+use Rattle.peer_state.specs.Election.{Election, Preparing, Starting}
+use Rattle.tree_node.specs.declared.version.TreeVersion.{TreeVersion}
+use Rattle.tree_node.specs.declared.version.TreeVersion.TheVariants.{Two}
+use Rattle.peer_state.specs.Exchange.{Question}
 use Rattle.phase_rows.specs.Orders.{is_same}
 use Rattle.phase_rows.specs.Peers.{joined}
-use Rattle.running_sync.specs.Rows.{row_start, row_resume, row_take}
-use Rattle.running_sync.specs.Running.{Running}
-use Rattle.running_sync.specs.Sends.{AsksOthers}
-use Rattle.running_sync.specs.declared.asking.Give.{Give}
-use Rattle.running_sync.proofs.Others.{asks_are, resumed_are, taken_are}
-use Rattle.running_sync.proofs.Messages.{start_go, resume_go, take_go}
+use Rattle.peer_state.specs.RunningSync.{row_start, row_resume, row_take, Running, AsksOthers, Give}
+use Rattle.peer_state.proofs.RunningSync.{asks_are, resumed_are, taken_are, start_go, resume_go, take_go}
 use Rattle.sync_rule.specs.Syncs.{needs_build, outcome_of}
 use Rattle.sync_rule.specs.declared.sync.Outcome.{Outcome}
 use Rattle.sync_rule.specs.declared.sync.Outcome.TheVariants.{Pending, Trusted}
 use Rattle.tree_node.specs.Positions.{IsPosition}
+use Rattle.tree_node.specs.TreeVersions.{levels}
 use Rattle.tree_node.specs.declared.position.Position.{Position}
 use Rattle.wire_frames.specs.Messages.{Obeys}
 use Rattle.register_model.specs.declared.note.Note.{Note}
@@ -69,8 +65,10 @@ use Rattle.phase_rows.specs.declared.phase.Then.{Then}
 use Rattle.phase_rows.specs.declared.phase.Then.TheVariants as thens
 use Rattle.phase_rows.specs.declared.rules.PhaseRule.TheVariants as phase_rules
 use Rattle.phase_rows.specs.declared.rules.KeyRule.{KeyRule}
-use Rattle.peer_plan.specs.Drives.{row_done, owned, own_key, followed_up, and_row, lead_done, lead, reminded, task_done, driven, led_in, ticked, shown, after_put, put_done, delivered, unavailable, first, most_turns, responded, concluded, step_of, MayCome}
-use Rattle.peer_plan.specs.Syncs.{saved, sealed, sealed_if, and_sends, with_sync, installed, accepted, accepted_own, accepted_in, end_sync, by_outcome, go_on, resume_sync, followed_on, reached, own_node, body_of, shown_node, needs_node, take_give}
+use Rattle.peer_plan.specs.Drives.{row_done, owned, own_key, followed_up, and_row, lead_done, lead, reminded, task_done, driven, led_in, ticked, shown, got_ask, after_put, put_done, in_tree, delivered, unavailable, first, most_turns, responded, concluded, step_of, MayCome}
+use Rattle.peer_plan.specs.Syncs.{saved, sealed, sealed_if, and_sends, with_sync, installed, accepted, accepted_own, accepted_in, end_sync, by_outcome, go_on, resume_sync, followed_on, reached, own_node, body_of, shown_node, needs_node, take_give, tree_give}
+use Rattle.peer_plan.specs.TreeCalls.{has_position}
+use Rattle.peer_plan.proofs.Inside.{has_level}
 use Rattle.peer_plan.specs.Kept.{MaySend, AllMayGo, LeadsAs, SyncsAs, IsOwn, IsInTree, IsSound, Reaches}
 use Rattle.peer_state.specs.Leading.{older, end_of, ticks, row_5_calls}
 use Rattle.peer_state.specs.Moves.{keeps_seal, left, left_answers, turned, turned_answers, ends_leading, leading, with_leader, and_answers, electing, without_sync}
@@ -259,10 +257,10 @@ module _ (me : ℕ) (peer : IsPeer me) (P : State → Out → Type 0) where
   own_node_reads true at x out next go = asked_reaches (ReadNode at) x out (λ walked y o. next (reached walked) y o) (λ walked sound. go (reached walked))
   own_node_reads false at x out next go = go None
 
-  shown_node_shows : (answered : Bool) (q : Question) → IsPosition One q.position → Shows IsShown (shown_node answered q)
-  shown_node_shows true q at x out next go =
-      asked_reaches (ReadNode q.position) x out (λ walked y o. next (Some (body_of q walked)) y o) (λ walked sound. go (Some (body_of q walked)) (body_obeys q walked at (sound at)))
-  shown_node_shows false q at x out next go = go None tt
+  shown_node_shows : (tree : TreeVersion) (answered : Bool) (q : Question) → IsPosition Two q.position → Shows IsShown (shown_node tree answered q)
+  shown_node_shows tree true q at x out next go =
+      asked_reaches (ReadNode q.position) x out (λ walked y o. next (Some (body_of tree q walked)) y o) (λ walked sound. go (Some (body_of tree q walked)) (body_obeys tree q walked at (sound at)))
+  shown_node_shows tree false q at x out next go = go None tt
 
   accepted_may : (fact : Fact) → All (MaySend me) (accepted me fact)
   accepted_may fact = by_tests (nat_le 1 fact.leader) refl (nat_le fact.leader 31) refl (fact.leader == me) refl
@@ -316,9 +314,9 @@ module _ (me : ℕ) (peer : IsPeer me) (P : State → Out → Type 0) where
   followed_on_passes thens.Untrust x out next good go = go [] x out good
   followed_on_passes thens.Put x out next good go = go [] x out good
 
-  take_give_passes : (from : ℕ) (give : Give) (own : Option (List ℕ)) (running : Option Running) → SyncsAs me running → Passes (take_give me from give own running)
-  take_give_passes from give own None is x out next good go = go [] x out good
-  take_give_passes from give own (Some r) is x out next good go = go_on_passes (row_take from give own r) (taken_are me from give own r is) (take_go me from give own r is) x out next good go
+  take_give_passes : (tree : TreeVersion) (from : ℕ) (give : Give) (own : Option (List ℕ)) (running : Option Running) → give.question.position.level ≤ levels tree → SyncsAs me running → Passes (take_give tree me from give own running)
+  take_give_passes tree from give own None at is x out next good go = go [] x out good
+  take_give_passes tree from give own (Some r) at is x out next good go = go_on_passes (row_take tree from give own r) (taken_are tree me from give own r at is) (take_go tree me from give own r at is) x out next good go
 
   row_done_passes : (row : PhaseOut) → MayGo me row → Passes (row_done me row)
   row_done_passes row may x out next good go =
@@ -398,6 +396,11 @@ module _ (me : ℕ) (peer : IsPeer me) (P : State → Out → Type 0) where
   put_done_passes (thens.Rule n) from other ballot o row may x out next good go = row_done_passes row may x out next good go
   put_done_passes (thens.OnKeys n) from other ballot o row may x out next good go = row_done_passes row may x out next good go
 
+  -- a message about a node that the tree does not have does nothing
+  in_tree_reaches : (has : Bool) (part : Part State (List Task)) (x : State) (out : Out) (next : Rest State (List Task)) → (has ≡ true → Reaches P (part x out next)) → Reaches P (next [] x out) → Reaches P (in_tree has part x out next)
+  in_tree_reaches true part x out next inside outside = inside refl
+  in_tree_reaches false part x out next inside outside = outside
+
   delivered_passes : (from : ℕ) → from ≢ me → (message : Message) → Obeys message → Passes (delivered me from message)
   delivered_passes from other (messages.Get ballot round key) obeys x out next good go =
       shown_sees (is_served x.fact x.trusted ballot) (looked key) (looked_sees key) x out (λ seen y o. row_done me (row_21 y.fact y.trusted from ballot round key seen) y o next)
@@ -415,12 +418,16 @@ module _ (me : ℕ) (peer : IsPeer me) (P : State → Out → Type 0) where
   delivered_passes from other (messages.CheckReply ballot round) obeys x out next good go = lead_passes (row_33_reply from ballot round) (checked_led me from ballot round) x.phase good.0.0 x out next good go
   delivered_passes from other (messages.TreeAsk ballot at after) obeys x out next good go =
       let q : Question = record { position = at; after = after } in
-      shown_node_shows (is_same ballot x.fact.ballot) q obeys x out (λ body y o. row_done me (row_23 y.fact y.trusted from ballot q.position q.after body) y o next)
-      (λ body is. row_done_passes (row_23 x.fact x.trusted from ballot at after body) (row_23_may me peer from other x.fact x.trusted ballot at after body obeys is) x out next good go)
+      in_tree_reaches (has_position x.mode.tree at) (got_ask me from ballot q) x out next
+      (λ has. shown_node_shows x.mode.tree (is_same ballot x.fact.ballot) q obeys x out (λ body y o. row_done me (row_23 y.fact y.trusted from ballot q.position q.after body) y o next)
+      (λ body is. row_done_passes (row_23 x.fact x.trusted from ballot at after body) (row_23_may me peer from other x.fact x.trusted ballot at after body obeys is) x out next good go))
+      (go [] x out good)
   delivered_passes from other (messages.TreeGive ballot at after trusted body) obeys x out next good go =
       let give : Give = record { ballot = ballot; question = record { position = at; after = after }; trusted = trusted; body = body } in
-      own_node_reads (needs_node from give x.sync) at x out (λ own y o. take_give me from give own y.sync y o next)
-      (λ own. take_give_passes from give own x.sync good.0.1 x out next good go)
+      in_tree_reaches (has_position x.mode.tree at) (tree_give me from give) x out next
+      (λ has. own_node_reads (needs_node x.mode.tree from give x.sync) at x out (λ own y o. take_give x.mode.tree me from give own y.sync y o next)
+      (λ own. take_give_passes x.mode.tree from give own x.sync (has_level x.mode.tree at has) good.0.1 x out next good go))
+      (go [] x out good)
   delivered_passes from other message obeys x out next good go =
       let row = received_goes me peer from message x other good.0.0 in
       row_done_passes (received me from message x).1 row.1 (received me from message x).0 out next ((row.0, received_syncs me from message x good.0.1), good.1) go

@@ -7,12 +7,11 @@ use Rattle.ens_base.specs.View.{IsPeer}
 use Rattle.ens_base.specs.declared.entry.Entry.{Entry}
 use Rattle.ens_base.specs.declared.epoch.Epoch.{Epoch}
 use Rattle.ens_object.specs.declared.object.Object.{Object}
-use Rattle.following.specs.Refusals.{refusal, unless_refused}
-use Rattle.following.specs.Requests.{gets, row_21, is_version_below, puts_at, puts, row_22, gives, gives_read, row_23}
+use Rattle.peer_state.specs.Following.{refusal, unless_refused, gets, row_21, is_version_below, puts_at, puts, row_22, gives, gives_read, row_23}
 use Rattle.peer_fact.specs.declared.fact.Fact.{Fact}
 use Rattle.phase_rows.specs.Orders.{is_below, is_same}
 use Rattle.phase_rows.specs.Peers.{alone}
-use Rattle.tree_node.specs.declared.version.TreeVersion.TheVariants.{One}
+use Rattle.tree_node.specs.declared.version.TreeVersion.TheVariants.{Two}
 use Rattle.tree_node.specs.Positions.{IsPosition}
 use Rattle.tree_node.specs.declared.body.TreeBody.{TreeBody}
 use Rattle.tree_node.specs.declared.body.TreeBody.TheVariants as bodies
@@ -27,7 +26,7 @@ use Rattle.peer_plan.proofs.Grammar.{MayGo, none_me, alone_me}
 
 -- the damage that was seen, if any, is at a position of the tree
 abbrev pub IsSeenInTree : Seen → Type 0
-IsSeenInTree (seens.Damaged at) = IsPosition One at
+IsSeenInTree (seens.Damaged at) = IsPosition Two at
 IsSeenInTree seens.Nothing = Unit {0}
 IsSeenInTree (seens.Held entry object) = Unit {0}
 IsSeenInTree (seens.Kept object) = Unit {0}
@@ -86,16 +85,16 @@ module _ (me : ℕ) (peer : IsPeer me) (from : ℕ) (other : from ≢ me) where
   after_put_may ballot row (seens.Kept object) is may = may
   after_put_may ballot row (seens.Stored digest) is may = may
 
-  gives_may : (trusted : Bool) (ballot : Epoch) (at : Position) (after : Option (List ℕ)) (body : TreeBody) → IsPosition One at → ObeysBody body → MayGo me (gives trusted from ballot at after body)
+  gives_may : (trusted : Bool) (ballot : Epoch) (at : Position) (after : Option (List ℕ)) (body : TreeBody) → IsPosition Two at → ObeysBody body → MayGo me (gives trusted from ballot at after body)
   gives_may trusted ballot at after (bodies.Inner mask digests) is obeys = ((is, obeys), to_it)
   gives_may trusted ballot at after (bodies.Page entries more) is obeys = ((is, obeys), to_it)
   gives_may trusted ballot at after (bodies.Damaged place) is obeys = ((is, obeys), to_it)
 
-  gives_read_may : (trusted : Bool) (ballot : Epoch) (at : Position) (after : Option (List ℕ)) (body : Option TreeBody) → IsPosition One at → IsShown body → MayGo me (gives_read trusted from ballot at after body)
+  gives_read_may : (trusted : Bool) (ballot : Epoch) (at : Position) (after : Option (List ℕ)) (body : Option TreeBody) → IsPosition Two at → IsShown body → MayGo me (gives_read trusted from ballot at after body)
   gives_read_may trusted ballot at after None is shown = (tt, none_me me peer)
   gives_read_may trusted ballot at after (Some body) is shown = gives_may trusted ballot at after body is shown
 
-  pub row_23_may : (fact : Fact) (trusted : Bool) (ballot : Epoch) (at : Position) (after : Option (List ℕ)) (body : Option TreeBody) → IsPosition One at → IsShown body → MayGo me (row_23 fact trusted from ballot at after body)
+  pub row_23_may : (fact : Fact) (trusted : Bool) (ballot : Epoch) (at : Position) (after : Option (List ℕ)) (body : Option TreeBody) → IsPosition Two at → IsShown body → MayGo me (row_23 fact trusted from ballot at after body)
   row_23_may fact trusted ballot at after body is shown =
       either (MayGo me) (is_below ballot fact.ballot) _ _ (tt, to_it)
       (either (MayGo me) (is_same ballot fact.ballot) _ _ (gives_read_may trusted ballot at after body is shown) (tt, none_me me peer))

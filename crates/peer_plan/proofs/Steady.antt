@@ -1,19 +1,16 @@
 -- Rule 6 runs at the end of each step, so no leader is still to end its epoch there, nor before the
 -- next step.
 use Rattle.std.proofs.Common.{◌≡◌, ◌-◌, ◌^◌, ℕ, zero, suc, Bool, true, false, not, ◌||◌, ◌==◌, if◌then◌else◌, List, [], ◌∷◌, ◌++◌, Option, Some, None, refl, sym, subst}
-use Rattle.call_table.specs.Calls.{has_calls}
+use Rattle.leading.specs.CallTable.{has_calls}
 use Rattle.ens_base.specs.View.{IsPeer}
-use Rattle.election.specs.Preparing.{prepares, next_ballot}
-use Rattle.election.specs.declared.election.Election.{Election}
-use Rattle.election.specs.declared.election.Election.TheVariants.{Preparing, Starting}
+use Rattle.peer_state.specs.Election.{prepares, next_ballot, Election, Preparing, Starting}
 use Rattle.joint_views.specs.Quorums.{is_member}
 use Rattle.peer_fact.specs.Facts.{views_after}
 use Rattle.peer_fact.specs.declared.fact.Fact.{Fact}
 use Rattle.phase_rows.specs.Rows.{silent}
 use Rattle.phase_rows.specs.Peers.{joined}
 use Rattle.step_plans.specs.Calls.{ScanTree}
-use Rattle.running_sync.specs.Rows.{row_start, row_resume}
-use Rattle.running_sync.specs.Running.{Running}
+use Rattle.peer_state.specs.RunningSync.{row_start, row_resume, Running}
 use Rattle.sync_rule.specs.Syncs.{needs_build, outcome_of}
 use Rattle.sync_rule.specs.declared.sync.Outcome.{Outcome}
 use Rattle.sync_rule.specs.declared.sync.Outcome.TheVariants.{Pending, Trusted}
@@ -22,8 +19,7 @@ use Rattle.step_plans.specs.Sends.{posted_to}
 use Rattle.step_plans.specs.Tasks.{named}
 use Rattle.step_plans.specs.declared.tasks.Task.{Task}
 use Rattle.step_plans.specs.declared.tasks.Task.TheVariants as tasks
-use Rattle.view_change.specs.Finishing.{may_end}
-use Rattle.view_change.specs.declared.finishing.Finishing.{Finishing}
+use Rattle.peer_state.specs.ViewChange.{may_end, Finishing}
 use Rattle.phase_rows.specs.declared.phase.PhaseOut.{PhaseOut}
 use Rattle.phase_rows.specs.declared.phase.Then.{Then}
 use Rattle.phase_rows.specs.declared.phase.Then.TheVariants as thens

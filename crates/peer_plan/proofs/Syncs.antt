@@ -1,7 +1,7 @@
 -- A sync that goes on does not ask which sync ran before.
 use Rattle.std.proofs.Common.{◌≡◌, ℕ, List, refl}
 use Rattle.leader_words.specs.declared.out.Outgoing.{Outgoing}
-use Rattle.running_sync.specs.Running.{Running}
+use Rattle.peer_state.specs.RunningSync.{Running}
 use Rattle.step_plans.specs.Plans.{Out, Rest}
 use Rattle.step_plans.specs.declared.tasks.Task.{Task}
 use Rattle.sync_rule.specs.declared.sync.Outcome.{Outcome}

@@ -9,8 +9,7 @@ use Rattle.tree_maps.specs.Forms.{Form, root}
 use Rattle.tree_node.specs.declared.position.Position.{Position}
 use Rattle.tree_repair.specs.Builds.{build_nodes, build_of}
 use Rattle.tree_repair.specs.Rebuilds.{hash_all as hash_strings, rebuild_plan}
-use Rattle.tree_verify.specs.Levels.{for_each, read_named, hash_read, hash_all, read_all, read_level, next_level, scan_from, scan_plan, slot}
-use Rattle.tree_verify.specs.declared.slot.Slot.{Slot}
+use Rattle.tree_repair.specs.TreeVerify.{for_each, read_named, hash_read, hash_all, read_all, read_level, next_level, scan_from, scan_plan, slot, Slot}
 
 -- the plan reports no damage
 abbrev pub IsWhole : {A : Type 0} → Plan A → Type 0

@@ -6,9 +6,8 @@ use Rattle.ens_base.specs.declared.entry.Entry.{Entry}
 use Rattle.ens_base.specs.declared.epoch.Epoch.{Epoch}
 use Rattle.ens_base.specs.declared.reply.Reply.TheVariants.{Unavailable}
 use Rattle.ens_object.specs.declared.object.Object.{Object}
-use Rattle.following.specs.Refusals.{is_served, tells_damage}
-use Rattle.exchange.specs.declared.question.Question.{Question}
-use Rattle.following.specs.Requests.{row_21, row_22, row_23}
+use Rattle.peer_state.specs.Following.{is_served, tells_damage, row_21, row_22, row_23}
+use Rattle.peer_state.specs.Exchange.{Question}
 use Rattle.leader_words.specs.Outs.{asked_by}
 use Rattle.leader_words.specs.declared.out.AnswerOut.{AnswerOut}
 use Rattle.leader_words.specs.declared.out.LeadOut.{LeadOut}
@@ -38,6 +37,7 @@ use Rattle.phase_rows.specs.declared.rules.PhaseRule.TheVariants as phase_rules
 use Rattle.peer_state.specs.Leading.{row_5_calls, ticks, wished, begins}
 use Rattle.peer_state.specs.Moves.{left, left_answers, and_answers, leading, with_leader, turned, turned_answers}
 use Rattle.peer_plan.specs.Owns.{looked, fetched, found, written, confirmed}
+use Rattle.peer_plan.specs.TreeCalls.{has_position}
 use Rattle.peer_plan.specs.Syncs.{saved, and_sends, followed_on, shown_node, tree_give}
 use Rattle.peer_state.specs.Rows.{aged, asked_change, changes, leads, phase_row, received}
 use Rattle.peer_state.specs.declared.event.CallIn.{CallIn}
@@ -154,7 +154,12 @@ get_replied me from ballot round key entry object x out next =
 -- rule 23, TreeAsk: a node is read if the ballot is the promised one
 abbrev pub got_ask : ℕ → ℕ → Epoch → Question → Part State (List Task)
 got_ask me from ballot q x out next =
-    shown_node (is_same ballot x.fact.ballot) q x out (λ body y o. row_done me (row_23 y.fact y.trusted from ballot q.position q.after body) y o next)
+    shown_node x.mode.tree (is_same ballot x.fact.ballot) q x out (λ body y o. row_done me (row_23 y.fact y.trusted from ballot q.position q.after body) y o next)
+
+-- a message about a node, which does nothing where the peer's tree does not have the position
+abbrev pub in_tree : Bool → Part State (List Task) → Part State (List Task)
+in_tree true part x out next = part x out next
+in_tree false part x out next = next [] x out
 
 -- a message from a peer
 abbrev pub delivered : ℕ → ℕ → Message → Part State (List Task)
@@ -164,9 +169,9 @@ delivered me from (messages.GetReply ballot round key entry object) x out next =
     if leads x.phase then get_replied me from ballot round key entry object x out next else next [] x out
 delivered me from (messages.PutReply ballot key version) x out next = lead (row_35_reply from ballot key version) me x.phase x out next
 delivered me from (messages.CheckReply ballot round) x out next = lead (row_33_reply from ballot round) me x.phase x out next
-delivered me from (messages.TreeAsk ballot at after) x out next = got_ask me from ballot (record { position = at; after = after }) x out next
+delivered me from (messages.TreeAsk ballot at after) x out next = in_tree (has_position x.mode.tree at) (got_ask me from ballot (record { position = at; after = after })) x out next
 delivered me from (messages.TreeGive ballot at after trusted body) x out next =
-    tree_give me from (record { ballot = ballot; question = record { position = at; after = after }; trusted = trusted; body = body }) x out next
+    in_tree (has_position x.mode.tree at) (tree_give me from (record { ballot = ballot; question = record { position = at; after = after }; trusted = trusted; body = body })) x out next
 delivered me from message x out next = row_done me (received me from message x).1 (received me from message x).0 out next
 
 -- the answer to a call that the peer does not take

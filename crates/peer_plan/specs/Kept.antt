@@ -1,7 +1,6 @@
 -- What all steps keep to, whatever the stores answer.
 use Rattle.std.specs.Prelude.{◌≡◌, ◌≢◌, ℕ, Option, None, Some, All}
-use Rattle.running_sync.specs.Running.{Running}
-use Rattle.running_sync.specs.Sends.{AsksOthers}
+use Rattle.peer_state.specs.RunningSync.{Running, AsksOthers}
 use Rattle.ens_base.specs.View.{IsPeer}
 use Rattle.step_plans.specs.Calls.{Call, Save, Root, Find, Enter, ScanTree, ReadNode, Install, Fetch, Put, Hash, AnswerOf}
 use Rattle.step_plans.specs.Plans.{Plan, Done, Say, Ask, Out}
@@ -10,7 +9,7 @@ use Rattle.step_plans.specs.declared.error.PeerError.TheVariants as errors
 use Rattle.step_plans.specs.declared.walked.Walked.{Walked}
 use Rattle.step_plans.specs.declared.walked.Walked.TheVariants.{Reached, Broken}
 use Rattle.leader_words.specs.declared.out.Outgoing.{Outgoing}
-use Rattle.tree_node.specs.declared.version.TreeVersion.TheVariants.{One}
+use Rattle.tree_node.specs.declared.version.TreeVersion.TheVariants.{Two}
 use Rattle.tree_node.specs.Positions.{IsPosition}
 use Rattle.wire_frames.specs.Messages.{Obeys}
 use Rattle.peer_state.specs.declared.state.Phase.{Phase}
@@ -70,13 +69,13 @@ IsOwn me x = LeadsAs me x.phase × SyncsAs me x.sync
 -- if a walk in the tree found damage, it was at a position of the tree
 abbrev pub IsInTree : {A : Type 0} → Walked A → Type 0
 IsInTree (Reached found) = Unit {0}
-IsInTree (Broken at) = IsPosition One at
+IsInTree (Broken at) = IsPosition Two at
 
 -- an answer that tells of no damage outside the tree
 abbrev pub IsSound : (call : Call) → AnswerOf call → Type 0
 IsSound (Find key) found = IsInTree found
 IsSound (Enter entry) end = IsInTree end
-IsSound (ReadNode at) node = IsPosition One at → IsInTree node
+IsSound (ReadNode at) node = IsPosition Two at → IsInTree node
 IsSound other answer = Unit {0}
 
 -- each end that the plan may reach satisfies P, as long as the answers of the stores are sound

@@ -6,3 +6,5 @@ pub mod Kept
 pub mod Own
 pub mod Turns
 pub mod TreeCalls
+pub mod TreeRepair
+pub mod TreeVerify

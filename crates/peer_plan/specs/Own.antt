@@ -1,16 +1,15 @@
 -- That a peer sends as itself has one proof at most.
 use Rattle.std.specs.Prelude.{ℕ, List, Option, None, Some}
 use Rattle.std.proofs.Props.{props}
-use Rattle.tree_node.specs.declared.version.TreeVersion.TheVariants.{One}
-use Rattle.exchange.specs.Asked.{ArePlaces}
-use Rattle.exchange.specs.declared.question.Question.{Question}
-use Rattle.running_sync.specs.Running.{Running}
+use Rattle.tree_node.specs.declared.version.TreeVersion.TheVariants.{Two}
+use Rattle.peer_state.specs.Exchange.{ArePlaces, Question}
+use Rattle.peer_state.specs.RunningSync.{Running}
 use Rattle.tree_node.specs.declared.position.Position.{Position}
 use Rattle.peer_plan.specs.Kept.{LeadsAs, SyncsAs}
 use Rattle.peer_state.specs.declared.state.Phase.{Phase}
 use Rattle.peer_state.specs.declared.state.Phase.TheVariants as phases
 
-pub ArePlaces-prop : (q : Option Question) (left : List Position) → IsProp (ArePlaces One q left)
+pub ArePlaces-prop : (q : Option Question) (left : List Position) → IsProp (ArePlaces Two q left)
 ArePlaces-prop None left = hlevel props
 ArePlaces-prop (Some q) left = hlevel props
 

@@ -1,17 +1,13 @@
 -- A sync in a peer: it begins, resumes, takes the answers of its sources, and ends.
 use Rattle.std.specs.Prelude.{ℕ, Bool, true, false, ◌&&◌, not, nat_le, ◌==◌, if◌then◌else◌, List, [], ◌∷◌, ◌++◌, Option, Some, None}
-use Rattle.election.specs.declared.election.Election.{Election}
-use Rattle.election.specs.declared.election.Election.TheVariants.{Preparing, Starting}
+use Rattle.peer_state.specs.Election.{Election, Preparing, Starting}
 use Rattle.ens_base.specs.declared.entry.Entry.{Entry}
-use Rattle.tree_node.specs.declared.version.TreeVersion.TheVariants.{One}
-use Rattle.exchange.specs.Gives.{given}
-use Rattle.exchange.specs.declared.question.Question.{Question}
+use Rattle.tree_node.specs.declared.version.TreeVersion.{TreeVersion}
+use Rattle.peer_state.specs.Exchange.{given, Question}
 use Rattle.leader_words.specs.declared.out.Outgoing.{Outgoing}
 use Rattle.peer_fact.specs.declared.fact.Fact.{Fact}
 use Rattle.phase_rows.specs.Peers.{joined}
-use Rattle.running_sync.specs.Rows.{row_start, row_resume, row_take, needs_own_node}
-use Rattle.running_sync.specs.Running.{Running}
-use Rattle.running_sync.specs.declared.asking.Give.{Give}
+use Rattle.peer_state.specs.RunningSync.{row_start, row_resume, row_take, needs_own_node, Running, Give}
 use Rattle.step_plans.specs.Calls.{Root, ScanTree, ReadNode, Install, Save}
 use Rattle.step_plans.specs.Plans.{Out, Part, asked}
 use Rattle.step_plans.specs.Saved.{with_seal}
@@ -133,29 +129,30 @@ abbrev pub own_node : Bool → Position → Part State (Option (List ℕ))
 own_node true at x out next = asked (ReadNode at) x out (λ walked y o. next (reached walked) y o)
 own_node false at x out next = next None x out
 
--- what a peer sends of a node that it was asked for: damage on its path, or the node
-abbrev pub body_of : Question → Walked (Option (List ℕ)) → TreeBody
-body_of q (Broken at) = Damaged at
-body_of q (Reached node) = given One node q
+-- what a peer with a tree of this version sends of a node that it was asked for: damage on its path, or the
+-- node
+abbrev pub body_of : TreeVersion → Question → Walked (Option (List ℕ)) → TreeBody
+body_of tree q (Broken at) = Damaged at
+body_of tree q (Reached node) = given tree node q
 
 -- what a peer sends for a question, if it is answered
-abbrev pub shown_node : Bool → Question → Part State (Option TreeBody)
-shown_node true q x out next = asked (ReadNode q.position) x out (λ walked y o. next (Some (body_of q walked)) y o)
-shown_node false q x out next = next None x out
+abbrev pub shown_node : TreeVersion → Bool → Question → Part State (Option TreeBody)
+shown_node tree true q x out next = asked (ReadNode q.position) x out (λ walked y o. next (Some (body_of tree q walked)) y o)
+shown_node tree false q x out next = next None x out
 
 -- ## The answer of a source
 
 -- whether the own node at the position must be read to take this answer
-abbrev pub needs_node : ℕ → Give → Option Running → Bool
-needs_node from give None = false
-needs_node from give (Some r) = needs_own_node from give r
+abbrev pub needs_node : TreeVersion → ℕ → Give → Option Running → Bool
+needs_node tree from give None = false
+needs_node tree from give (Some r) = needs_own_node tree from give r
 
 -- the sync that runs, if one does, takes an answer, and may end
-abbrev pub take_give : ℕ → ℕ → Give → Option (List ℕ) → Option Running → Part State (List Task)
-take_give me from give own None x out next = next [] x out
-take_give me from give own (Some r) x out next = go_on me (row_take from give own r) x out next
+abbrev pub take_give : TreeVersion → ℕ → ℕ → Give → Option (List ℕ) → Option Running → Part State (List Task)
+take_give tree me from give own None x out next = next [] x out
+take_give tree me from give own (Some r) x out next = go_on me (row_take tree from give own r) x out next
 
 -- a source sends a part of its tree
 abbrev pub tree_give : ℕ → ℕ → Give → Part State (List Task)
 tree_give me from give x out next =
-    own_node (needs_node from give x.sync) give.question.position x out (λ own y o. take_give me from give own y.sync y o next)
+    own_node (needs_node x.mode.tree from give x.sync) give.question.position x out (λ own y o. take_give x.mode.tree me from give own y.sync y o next)

@@ -1,15 +1,16 @@
-ghost use Rattle.std.specs.Prelude.{◌≡◌, IfOk, IfErr};
+ghost use Rattle.std.specs.Prelude.{◌≡◌, true, IfOk, IfErr};
+ghost use Rattle.tree_node.specs.declared.version.TreeVersion.TheVariants.{Two};
+ghost use Rattle.tree_node.specs.Positions.{IsPosition};
 ghost use Rattle.peer_plan.specs.Drives.{own_key};
 ghost use Rattle.peer_plan.specs.Syncs.{needs_node};
+ghost use Rattle.peer_plan.specs.TreeCalls.{has_position};
 
 use ens_base::{Epoch, Key, PeerId, copy_key};
-use exchange::Question;
 use leader_words::Own;
-use peer_state::State;
-use running_sync::Give;
+use peer_state::{Give, Question, State};
 use std::alloc::Global;
 use step_plans::PeerError;
-use tree_node::{Position, TreeBody};
+use tree_node::{Position, TreeBody, TreeVersion};
 
 /// The key that a rule asks about.
 pub fn own_key(own: &Own) -> &Key
@@ -21,13 +22,21 @@ pub fn own_key(own: &Own) -> &Key
     }
 }
 
+/// Whether a tree of this version has the position.
+pub fn has_position(tree: TreeVersion, at: Position) -> bool
+    ensures is { result ≡ has_position tree at }
+    ensures inside { result ≡ true → IsPosition Two at → IsPosition tree at }
+{
+    at.level <= tree.levels()
+}
+
 /// Whether the own node at the position must be read to take this answer.
 pub fn needs_node(state: &State, from: PeerId, give: &Give) -> bool
-    ensures { result ≡ needs_node from give.now state.now.sync }
+    ensures { result ≡ needs_node state.now.mode.tree from give.now state.now.sync }
 {
     match &state.sync {
         None => false,
-        Some(running) => running.needs_own(from, give),
+        Some(running) => running.needs_own(state.mode.tree, from, give),
     }
 }
 

@@ -17,7 +17,8 @@ mod laws;
 mod opening;
 mod shown;
 
-pub use asked::{give_of, needs_node, own_key, question_of};
+pub use asked::{give_of, has_position, needs_node, own_key, question_of};
 pub use laws::{messages_may_go, nothing_is_left};
-pub use opening::first_state;
+pub use opening::{first_state, is_whole};
 pub use shown::{after_put, body_given, reached_node, seen_at};
+pub use tree_repair::{NoGate, rebuild, scan};

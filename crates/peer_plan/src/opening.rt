@@ -1,8 +1,12 @@
-ghost use Rattle.std.specs.Prelude.{◌≡◌};
-ghost use Rattle.peer_plan.specs.Starts.{first_state as first};
+ghost use Rattle.std.specs.Prelude.{◌≡◌, true, []};
+ghost use Rattle.tree_node.specs.Entries.{AreAbove};
+ghost use Rattle.peer_plan.specs.Starts.{first_state as first, is_whole as is_whole_scan};
 
 use peer_fact::SavedFact;
 use peer_state::{Mode, Phase, State};
+use sync_rule::is_clean;
+use tree_node::Scan;
+use tree_repair::ascends;
 
 /// The state in which a peer starts in this mode from what was saved: it follows.
 pub fn first_state(mode: Mode, saved: SavedFact, trusted: bool) -> State
@@ -16,4 +20,12 @@ pub fn first_state(mode: Mode, saved: SavedFact, trusted: bool) -> State
         phase: Phase::follower(),
         sync: None,
     }
+}
+
+/// Whether a scan found no damage, and no key twice. Then a tree can be built from its entries.
+pub fn is_whole(scan: &Scan) -> bool
+    ensures is { result ≡ is_whole_scan scan.now }
+    ensures above { result ≡ true → AreAbove [] scan.now.entries }
+{
+    is_clean(scan) && ascends(scan.entries.as_slice())
 }

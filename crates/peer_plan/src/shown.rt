@@ -1,14 +1,12 @@
 ghost use Rattle.std.specs.Prelude.{◌≡◌, IfOk, IfErr};
 ghost use Rattle.ens_base.specs.View.{IsPeer};
-ghost use Rattle.tree_node.specs.declared.version.TreeVersion.TheVariants.{One};
 ghost use Rattle.tree_node.specs.Positions.{IsPosition};
 ghost use Rattle.peer_plan.specs.Drives.{after_put};
 ghost use Rattle.peer_plan.specs.Owns.{found_at};
 ghost use Rattle.peer_plan.specs.Syncs.{reached, body_of};
 
 use ens_base::{Bytes, Entry, Epoch, PeerId};
-use exchange::{AskError, Question, given};
-use following::tell_damage;
+use peer_state::{AskError, Question, given, tell_damage};
 use phase_rows::{PhaseOut, Seen};
 use std::alloc::Global;
 use step_plans::{PeerError, Walked};
@@ -49,19 +47,21 @@ pub fn reached_node(walked: Walked<Option<Bytes>>) -> Option<Bytes>
     }
 }
 
-/// What a peer sends of a node that it was asked for. Fails only when out of memory.
+/// What a peer with a tree of this version sends of a node that it was asked for. Fails only when out of
+/// memory.
 pub fn body_given(
     alloc: Global,
+    tree: TreeVersion,
     question: &Question,
     walked: Walked<Option<Bytes>>,
 ) -> Result<TreeBody, PeerError>
-    requires { IsPosition One question.now.position }
-    ensures ok { IfOk result (λ b. b ≡ body_of question.now walked) }
+    requires { IsPosition tree question.now.position }
+    ensures ok { IfOk result (λ b. b ≡ body_of tree question.now walked) }
     ensures memory { IfErr result (λ e. e ≡ PeerError.Memory) }
 {
     match walked {
         Walked::Broken(at) => Ok(TreeBody::Damaged(at)),
-        Walked::Reached(node) => match given(alloc, TreeVersion::One, &node, question) {
+        Walked::Reached(node) => match given(alloc, tree, &node, question) {
             Ok(body) => Ok(body),
             Err(_) => Err(PeerError::Memory),
         },

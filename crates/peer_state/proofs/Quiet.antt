@@ -1,8 +1,7 @@
 -- Steps that end leading while no call is unanswered.
 use Rattle.std.proofs.Common.{◌≡◌, Bool, true, false, List, [], ◌∷◌, refl}
 use Rattle.std.proofs.lemmas.Bool.{true≢false}
-use Rattle.call_table.specs.declared.waiting.Waiting.{Waiting}
-use Rattle.call_table.specs.Calls.{has_calls}
+use Rattle.leading.specs.CallTable.{Waiting, has_calls}
 use Rattle.std.specs.Prelude.{map}
 use Rattle.leading.specs.Ticks.{left_answer}
 use Rattle.peer_state.specs.Moves.{waits, timeouts, stopped_leading, left}

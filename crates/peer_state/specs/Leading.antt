@@ -2,8 +2,7 @@
 use Rattle.std.specs.Prelude.{ℕ, ◌+◌, Bool, false, true, if◌then◌else◌, List, Option, Some, None}
 use Rattle.peer_fact.specs.declared.fact.Change.TheVariants.{Drop}
 use Rattle.peer_fact.specs.declared.fact.Fact.{Fact}
-use Rattle.leader_words.specs.declared.out.LeadOut.{LeadOut}
-use Rattle.leader_words.specs.declared.out.Outgoing.{Outgoing}
+use Rattle.leading.specs.LeaderWords.{LeadOut, Outgoing}
 use Rattle.leading.specs.Ticks.{is_to_end, row_5}
 use Rattle.phase_rows.specs.declared.phase.Then.{Then}
 use Rattle.phase_rows.specs.declared.phase.Then.TheVariants as thens

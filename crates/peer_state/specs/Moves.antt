@@ -3,9 +3,9 @@ use Rattle.std.specs.Option.{is_some}
 use Rattle.std.specs.Prelude.{ℕ, Bool, true, false, ◌||◌, List, [], ◌++◌, map, Option, Some, None}
 use Rattle.election.specs.declared.election.Election.{Election}
 use Rattle.election.specs.declared.election.Election.TheVariants.{Preparing, Starting}
-use Rattle.call_table.specs.Calls.{has_calls}
+use Rattle.leading.specs.CallTable.{has_calls}
 use Rattle.following.specs.declared.follower.Follower.{Follower}
-use Rattle.leader_words.specs.declared.out.AnswerOut.{AnswerOut}
+use Rattle.leading.specs.LeaderWords.{AnswerOut}
 use Rattle.leading.specs.Leaders.{new_leader}
 use Rattle.leading.specs.Ticks.{left_answer}
 use Rattle.leading.specs.declared.leader.Leader.{Leader}

@@ -1,7 +1,7 @@
 -- The messages that a peer answers without allocating, with at most one message, to the sender, if no
 -- call is unanswered.
 use Rattle.std.specs.Prelude.{◌≡◌, ℕ, Bool, true, false}
-use Rattle.call_table.specs.Calls.{has_calls}
+use Rattle.leading.specs.CallTable.{has_calls}
 use Rattle.peer_fact.specs.declared.fact.Fact.{Fact}
 use Rattle.step_plans.specs.Outboxes.{FitsIn}
 use Rattle.phase_rows.specs.declared.phase.Then.{Then}

@@ -1,7 +1,7 @@
 -- The rules as rows: the state after each rule, and what it saves, sends and names. `me` is the
 -- number of the peer.
 use Rattle.std.specs.Prelude.{ℕ, Bool, true, false, ◌&&◌, ◌==◌, if◌then◌else◌, List, Option, Some, None}
-use Rattle.call_table.specs.Calls.{has_calls}
+use Rattle.leading.specs.CallTable.{has_calls}
 use Rattle.ens_base.specs.declared.epoch.Epoch.{Epoch}
 use Rattle.election.specs.Ballots.{row_11, row_15}
 use Rattle.election.specs.Preparing.{row_3, row_10, row_12, row_13}

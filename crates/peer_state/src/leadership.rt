@@ -6,8 +6,7 @@ ghost use Rattle.peer_state.specs.Rows.{change_heard, ended};
 
 use crate::state::{ChangeState, Leadership};
 use ens_base::{Epoch, PeerId, PeerSet};
-use leader_words::{LeadError, LeadOut, Outgoing};
-use leading::Leader;
+use leading::{LeadError, LeadOut, Leader, Outgoing};
 use peer_fact::{Change, Fact};
 use phase_rows::{PhaseOut, PhaseRule, Then, silent};
 use std::alloc::Global;

@@ -5,17 +5,15 @@ ghost use Rattle.peer_state.specs.Ages.{IsYoung};
 use crate::state::{ChangeState, Phase, State};
 use election::{Election, rule_10, rule_11, rule_15};
 use ens_base::{Epoch, Key, PeerId, View};
-use ens_object::Object;
-use exchange::Question;
 use following::{rule_16, rule_18, rule_19, rule_20, rule_21, rule_22, rule_23};
 use peer_fact::{Change, Fact};
 use phase_rows::{PhaseOut, PhaseRule, Seen, Then, silent};
 use probe::{rule_7, rule_8_probe};
+use running_sync::Question;
 use std::alloc::Global;
 use step_plans::PeerError;
-use tree_node::TreeBody;
 use view_change::rule_24;
-use wire_frames::{Message, NackCause};
+use wire_frames::{Message, NackCause, Object, TreeBody};
 
 impl State {
     ghost use Rattle.peer_state.specs.Rows.{aged, begun, while_8, while_9, prepared, while_10, while_12, while_13, while_14, while_15, while_17};

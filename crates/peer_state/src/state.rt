@@ -17,6 +17,7 @@ use std::alloc::Global;
 use std::mem::replace;
 use step_plans::{AnswerOut, Outbox, PeerError};
 use view_change::Finishing;
+use wire_frames::TreeVersion;
 
 /// How far a leader is with a change of the view.
 #[derive(Debug, Drop)]
@@ -51,6 +52,8 @@ pub struct Mode {
     /// The fact keeps a seal, the digest of the tree's top record: from the first start on empty
     /// stores on, or else from the end of the next sync on.
     pub sealing: bool,
+    /// The version of the peer's tree. A start migrates a whole tree of version one to version two.
+    pub tree: TreeVersion,
 }
 
 /// A peer without its number and its stores: the last saved fact and the seal that it was saved with,

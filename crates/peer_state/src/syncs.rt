@@ -1,17 +1,15 @@
 ghost use Rattle.std.specs.Prelude.{◌≡◌, IfOk, IfErr};
-ghost use Rattle.tree_node.specs.declared.version.TreeVersion.TheVariants.{One};
-ghost use Rattle.tree_node.specs.Positions.{IsPosition};
+ghost use Rattle.wire_frames.specs.TreeNode.{IsPosition};
 ghost use Rattle.running_sync.specs.Rows.{row_start, row_resume, row_take};
-ghost use Rattle.sync_rule.specs.Syncs.{outcome_of, MayBeBuilt};
+ghost use Rattle.running_sync.specs.SyncRule.{outcome_of, MayBeBuilt};
 
 use ens_base::{Bytes, PeerId, Seq};
-use leader_words::Outgoing;
+use leading::Outgoing;
 use peer_fact::{Change, Fact};
-use running_sync::{Give, RunningSync};
+use running_sync::{Give, Outcome, RunningSync, SyncError};
 use std::alloc::Global;
 use step_plans::PeerError;
-use sync_rule::{Outcome, SyncError};
-use tree_node::Scan;
+use wire_frames::{Scan, TreeVersion};
 
 /// What the sync has come to. Fails only when out of memory.
 pub fn sync_outcome(alloc: Global, running: &RunningSync) -> Result<Outcome, PeerError>
@@ -53,19 +51,21 @@ pub fn resume_sync(alloc: Global, running: &mut RunningSync) -> Result<Seq<Outgo
     }
 }
 
-/// Lets a sync take an answer, and returns its messages. Fails only when out of memory.
+/// Lets a sync take an answer, in the version of the own tree, and returns its messages. Fails only when
+/// out of memory.
 pub fn take_give(
     alloc: Global,
+    tree: TreeVersion,
     running: &mut RunningSync,
     from: PeerId,
     give: &Give,
     own: &Option<Bytes>,
 ) -> Result<Seq<Outgoing>, PeerError>
-    requires { IsPosition One give.now.question.position }
-    ensures ok { IfOk result (λ sends. (running.new, sends) ≡ row_take from give.now own.now running.old) }
+    requires { IsPosition tree give.now.question.position }
+    ensures ok { IfOk result (λ sends. (running.new, sends) ≡ row_take tree from give.now own.now running.old) }
     ensures memory { IfErr result (λ e. e ≡ PeerError.Memory) }
 {
-    match running.take(alloc, from, give, own) {
+    match running.take(alloc, tree, from, give, own) {
         Ok(sends) => Ok(sends),
         Err(SyncError::Memory) => Err(PeerError::Memory),
     }

@@ -12,6 +12,7 @@ use Rattle.peer_state.specs.declared.state.Phase.{Phase}
 use Rattle.peer_state.specs.declared.state.Phase.TheVariants as phases
 use Rattle.peer_state.specs.declared.state.State.{State}
 use Rattle.step_plans.specs.Calls.{OpenTree}
+use Rattle.tree_node.specs.declared.version.TreeVersion.TheVariants.{One}
 use Rattle.step_plans.specs.Plans.{Plan, Done, Say, Ask, Out, Rest, Follows, nothing}
 use Rattle.step_plans.specs.declared.tasks.Task.{Task}
 use Rattle.step_plans.specs.declared.tasks.Task.TheVariants as tasks
@@ -57,7 +58,7 @@ few_calls (phases.Electing e) n less few = tt
 -- at the limit on tasks none is left
 abbrev stop : Rest State (List Task)
 stop [] y o = Done y o
-stop (t ∷ ts) y o = Ask (OpenTree None) (λ u. Done y o)
+stop (t ∷ ts) y o = Ask (OpenTree None One) (λ u. Done y o)
 
 stop_some : (t : Task) (ts : List Task) (y : State) (o : Out) → StepsAlone (stop (t ∷ ts) y o) → ⊥
 stop_some t ts y o alone = alone.0

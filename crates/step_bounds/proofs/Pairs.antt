@@ -15,6 +15,7 @@ use Rattle.register_model.specs.declared.note.Note.{Note}
 use Rattle.step_plans.specs.declared.walked.Walked.{Walked}
 use Rattle.step_plans.specs.declared.walked.Walked.TheVariants.{Reached, Broken}
 use Rattle.tree_node.specs.declared.position.Position.{Position}
+use Rattle.tree_node.specs.declared.version.TreeVersion.{TreeVersion}
 use Rattle.exchange.specs.declared.question.Question.{Question}
 use Rattle.following.specs.Refusals.{is_served}
 use Rattle.following.specs.Requests.{row_21, row_22, row_23}
@@ -37,10 +38,11 @@ use Rattle.leading_laws.proofs.Joins.{row_27_joins}
 use Rattle.leading_laws.proofs.Steps.{lead_step, row_29_reply_step, row_33_reply_step, row_35_reply_step}
 use Rattle.leading_laws.proofs.TimeOuts.{row_5_ticks}
 use Rattle.peer_fact.specs.declared.fact.Fact.{Fact}
-use Rattle.peer_plan.specs.Drives.{row_done, owned, own_key, followed_up, and_row, lead_done, lead, reminded, task_done, driven, led_in, shown, after_put, put_done, delivered, unavailable, first, and_change, most_turns}
+use Rattle.peer_plan.specs.Drives.{row_done, owned, own_key, followed_up, and_row, lead_done, lead, reminded, task_done, driven, led_in, shown, got_ask, after_put, put_done, in_tree, delivered, unavailable, first, and_change, most_turns}
 use Rattle.peer_plan.specs.Kept.{IsStepCall}
 use Rattle.peer_plan.specs.Owns.{digested, read, kept, fetched, held, looked_at, looked, found_at, found, entered, written, confirmed, stored, resealed}
-use Rattle.peer_plan.specs.Syncs.{saved, and_sends, with_sync, accepted, accepted_own, accepted_in, by_outcome, go_on, resume_sync, followed_on, needs_node, take_give, installed, reached, own_node, body_of, shown_node, sealed, sealed_if}
+use Rattle.peer_plan.specs.TreeCalls.{has_position}
+use Rattle.peer_plan.specs.Syncs.{saved, and_sends, with_sync, accepted, accepted_own, accepted_in, by_outcome, go_on, resume_sync, followed_on, needs_node, take_give, tree_give, installed, reached, own_node, body_of, shown_node, sealed, sealed_if}
 use Rattle.peer_plan.specs.Turns.{StepsAlone}
 use Rattle.peer_state.specs.Leading.{older, end_of, ticks, row_5_calls, wished, begins}
 use Rattle.peer_state.specs.Moves.{left, left_answers, turned, turned_answers, leading, with_leader, and_answers, electing, without_sync, keeps_seal}
@@ -336,9 +338,9 @@ module _ (k me : ℕ) (P : State → Out → Type 0) where
   own_node_asks true at x out next mark go = asked_asks (ReadNode at) x out (λ walked y o. next (reached walked) y o) (λ walked y o. mark (reached walked) y o) (λ walked. go (reached walked))
   own_node_asks false at x out next mark go = go None
 
-  shown_node_asks : (answered : Bool) (q : Question) → Asks (shown_node answered q)
-  shown_node_asks true q x out next mark go = asked_asks (ReadNode q.position) x out (λ walked y o. next (Some (body_of q walked)) y o) (λ walked y o. mark (Some (body_of q walked)) y o) (λ walked. go (Some (body_of q walked)))
-  shown_node_asks false q x out next mark go = go None
+  shown_node_asks : (tree : TreeVersion) (answered : Bool) (q : Question) → Asks (shown_node tree answered q)
+  shown_node_asks tree true q x out next mark go = asked_asks (ReadNode q.position) x out (λ walked y o. next (Some (body_of tree q walked)) y o) (λ walked y o. mark (Some (body_of tree q walked)) y o) (λ walked. go (Some (body_of tree q walked)))
+  shown_node_asks tree false q x out next mark go = go None
 
   shown_asks : (served : Bool) (part : Part State Seen) → Asks part → Asks (shown served part)
   shown_asks true part asks x out next mark go = asks x out next mark go
@@ -402,9 +404,9 @@ module _ (k me : ℕ) (P : State → Out → Type 0) where
   followed_on_safe thens.Untrust x out next mark few rests go = go [] x out few rests
   followed_on_safe thens.Put x out next mark few rests go = go [] x out few rests
 
-  take_give_safe : (from : ℕ) (give : Give) (own : Option (List ℕ)) (running : Option Running) → Passes (take_give me from give own running)
-  take_give_safe from give own None x out next mark few rests go = go [] x out few rests
-  take_give_safe from give own (Some r) x out next mark few rests go = go_on_safe (row_take from give own r) x out next mark few rests go
+  take_give_safe : (tree : TreeVersion) (from : ℕ) (give : Give) (own : Option (List ℕ)) (running : Option Running) → Passes (take_give tree me from give own running)
+  take_give_safe tree from give own None x out next mark few rests go = go [] x out few rests
+  take_give_safe tree from give own (Some r) x out next mark few rests go = go_on_safe (row_take tree from give own r) x out next mark few rests go
 
   -- ## Rows of phases
 
@@ -626,6 +628,21 @@ module _ (k me : ℕ) (P : State → Out → Type 0) where
   put_done_safe (thens.Rule n) from ballot o row x out next mark few rests go = row_done_safe row x out next mark few rests go
   put_done_safe (thens.OnKeys n) from ballot o row x out next mark few rests go = row_done_safe row x out next mark few rests go
 
+  got_ask_safe : (from : ℕ) (ballot : Epoch) (q : Question) → Passes (got_ask me from ballot q)
+  got_ask_safe from ballot q x out next mark few rests go =
+      shown_node_asks x.mode.tree (is_same ballot x.fact.ballot) q x out (λ body y o. row_done me (row_23 y.fact y.trusted from ballot q.position q.after body) y o next) (λ body y o. row_done me (row_23 y.fact y.trusted from ballot q.position q.after body) y o mark)
+      (λ body. row_done_safe (row_23 x.fact x.trusted from ballot q.position q.after body) x out next mark few rests go)
+
+  tree_give_safe : (from : ℕ) (give : Give) → Passes (tree_give me from give)
+  tree_give_safe from give x out next mark few rests go =
+      own_node_asks (needs_node x.mode.tree from give x.sync) give.question.position x out (λ own y o. take_give x.mode.tree me from give own y.sync y o next) (λ own y o. take_give x.mode.tree me from give own y.sync y o mark)
+      (λ own. take_give_safe x.mode.tree from give own x.sync x out next mark few rests go)
+
+  -- a message about a node that the tree does not have does nothing
+  in_tree_safe : (has : Bool) (part : Part State (List Task)) → Passes part → Passes (in_tree has part)
+  in_tree_safe true part passes x out next mark few rests go = passes x out next mark few rests go
+  in_tree_safe false part passes x out next mark few rests go = go [] x out few rests
+
   delivered_safe : (from : ℕ) (message : Message) → Passes (delivered me from message)
   delivered_safe from (messages.Get ballot round key) x out next mark few rests go =
       shown_asks (is_served x.fact x.trusted ballot) (looked key) (looked_asks key) x out (λ seen y o. row_done me (row_21 y.fact y.trusted from ballot round key seen) y o next) (λ seen y o. row_done me (row_21 y.fact y.trusted from ballot round key seen) y o mark)
@@ -644,12 +661,10 @@ module _ (k me : ℕ) (P : State → Out → Type 0) where
   delivered_safe from (messages.CheckReply ballot round) x out next mark few rests go = lead_safe (row_33_reply from ballot round) x.phase x out next mark refl (checked_led from ballot round x.phase rests few) few go
   delivered_safe from (messages.TreeAsk ballot at after) x out next mark few rests go =
       let q : Question = record { position = at; after = after } in
-      shown_node_asks (is_same ballot x.fact.ballot) q x out (λ body y o. row_done me (row_23 y.fact y.trusted from ballot q.position q.after body) y o next) (λ body y o. row_done me (row_23 y.fact y.trusted from ballot q.position q.after body) y o mark)
-      (λ body. row_done_safe (row_23 x.fact x.trusted from ballot at after body) x out next mark few rests go)
+      in_tree_safe (has_position x.mode.tree at) (got_ask me from ballot q) (got_ask_safe from ballot q) x out next mark few rests go
   delivered_safe from (messages.TreeGive ballot at after trusted body) x out next mark few rests go =
       let give : Give = record { ballot = ballot; question = record { position = at; after = after }; trusted = trusted; body = body } in
-      own_node_asks (needs_node from give x.sync) at x out (λ own y o. take_give me from give own y.sync y o next) (λ own y o. take_give me from give own y.sync y o mark)
-      (λ own. take_give_safe from give own x.sync x out next mark few rests go)
+      in_tree_safe (has_position x.mode.tree at) (tree_give me from give) (tree_give_safe from give) x out next mark few rests go
   delivered_safe from message x out next mark few rests go = moved_safe x (received me from message x).0 (received me from message x).1 out next mark (received_few me from message x) few (received_rests me from message x rests) go
 
   first_safe : (event : Event) (x : State) (out : Out) (next mark : Rest State (List Task)) → count x.phase + calls_of event ≤ k → IsResting x.phase → Goes next mark → Safe (first me event x out next) (first me event x out mark)

@@ -41,10 +41,11 @@ use Rattle.peer_fact.specs.Facts.{views_after}
 use Rattle.peer_fact.specs.declared.fact.Change.{Change}
 use Rattle.peer_fact.specs.declared.fact.Change.TheVariants.{Add}
 use Rattle.peer_fact.specs.declared.fact.Fact.{Fact}
-use Rattle.peer_plan.specs.Drives.{row_done, own_key, followed_up, and_row, lead_done, lead, reminded, task_done, driven, led_in, after_put, put_done, delivered, unavailable, first, and_change, most_turns, concluded, step_of}
+use Rattle.peer_plan.specs.Drives.{row_done, own_key, followed_up, and_row, lead_done, lead, reminded, task_done, driven, led_in, got_ask, after_put, put_done, in_tree, delivered, unavailable, first, and_change, most_turns, concluded, step_of}
 use Rattle.peer_plan.specs.Kept.{IsStepCall}
 use Rattle.peer_plan.specs.Owns.{looked, found}
-use Rattle.peer_plan.specs.Syncs.{saved, and_sends, with_sync, accepted, accepted_own, accepted_in, by_outcome, go_on, resume_sync, followed_on, needs_node, take_give, sealed_if}
+use Rattle.peer_plan.specs.Syncs.{saved, and_sends, with_sync, accepted, accepted_own, accepted_in, by_outcome, go_on, resume_sync, followed_on, needs_node, take_give, tree_give, sealed_if}
+use Rattle.peer_plan.specs.TreeCalls.{has_position}
 use Rattle.peer_plan.proofs.Aging.{asked_asks, looked_asks, found_asks, written_asks, confirmed_asks, if_follows, owned_asks, noted_follows, installed_asks, own_node_asks, shown_node_asks, shown_asks, sealed_asks}
 use Rattle.peer_state.proofs.Names.{NamesNone, then_changed}
 use Rattle.peer_state.proofs.Phases.{by_probing, by_electing, by_leading}
@@ -87,6 +88,7 @@ use Rattle.sync_rule.specs.Syncs.{needs_build, outcome_of}
 use Rattle.sync_rule.specs.declared.sync.Outcome.{Outcome}
 use Rattle.sync_rule.specs.declared.sync.Outcome.TheVariants.{Pending, Trusted}
 use Rattle.tree_node.specs.declared.body.TreeBody.{TreeBody}
+use Rattle.tree_node.specs.declared.version.TreeVersion.{TreeVersion}
 use Rattle.view_change.specs.Changes.{may_change, row_24, row_25}
 use Rattle.view_change.specs.Finishing.{may_end}
 use Rattle.view_change.specs.declared.finishing.Finishing.{Finishing}
@@ -564,9 +566,9 @@ module _ (me : ℕ) (on_keys : Bool) (I : List Waiting → List AnswerOut → Li
   followed_on_passes thens.Untrust x out next good fits go = go [] x out good tt
   followed_on_passes thens.Put x out next good fits go = go [] x out good tt
 
-  take_give_passes : (from : ℕ) (give : Give) (own : Option (List ℕ)) (running : Option Running) → Passes (take_give me from give own running)
-  take_give_passes from give own None x out next good go = go [] x out good tt
-  take_give_passes from give own (Some r) x out next good go = go_on_passes (row_take from give own r) x out next good go
+  take_give_passes : (tree : TreeVersion) (from : ℕ) (give : Give) (own : Option (List ℕ)) (running : Option Running) → Passes (take_give tree me from give own running)
+  take_give_passes tree from give own None x out next good go = go [] x out good tt
+  take_give_passes tree from give own (Some r) x out next good go = go_on_passes (row_take tree from give own r) x out next good go
 
   -- ## Leading ends
 
@@ -766,6 +768,21 @@ module _ (me : ℕ) (on_keys : Bool) (I : List Waiting → List AnswerOut → Li
   put_done_passes (thens.Rule n) from ballot o row safe x out next good go = safe_passes row safe x out next good go
   put_done_passes (thens.OnKeys n) from ballot o row safe x out next good go = safe_passes row safe x out next good go
 
+  got_ask_passes : (from : ℕ) (ballot : Epoch) (q : Question) → Passes (got_ask me from ballot q)
+  got_ask_passes from ballot q x out next good go =
+      shown_node_asks P x.mode.tree (is_same ballot x.fact.ballot) q x out (λ body y o. row_done me (row_23 y.fact y.trusted from ballot q.position q.after body) y o next)
+      (λ body. safe_passes (row_23 x.fact x.trusted from ballot q.position q.after body) (safe_23 x.fact x.trusted from ballot q body) x out next good go)
+
+  tree_give_passes : (from : ℕ) (give : Give) → Passes (tree_give me from give)
+  tree_give_passes from give x out next good go =
+      own_node_asks P (needs_node x.mode.tree from give x.sync) give.question.position x out (λ own y o. take_give x.mode.tree me from give own y.sync y o next)
+      (λ own. take_give_passes x.mode.tree from give own x.sync x out next good go)
+
+  -- a message about a node that the tree does not have does nothing
+  in_tree_passes : (has : Bool) (part : Part State (List Task)) → Passes part → Passes (in_tree has part)
+  in_tree_passes true part passes x out next good go = passes x out next good go
+  in_tree_passes false part passes x out next good go = go [] x out good tt
+
   delivered_passes : (from : ℕ) (message : Message) → (is_reply message ≡ true → on_keys ≡ true) → Passes (delivered me from message)
   delivered_passes from (messages.Get ballot round key) counts x out next good go =
       shown_asks P (is_served x.fact x.trusted ballot) (looked key) (looked_asks P key) x out (λ seen y o. row_done me (row_21 y.fact y.trusted from ballot round key seen) y o next)
@@ -783,12 +800,10 @@ module _ (me : ℕ) (on_keys : Bool) (I : List Waiting → List AnswerOut → Li
   delivered_passes from (messages.CheckReply ballot round) counts x out next good go = lead_passes (row_33_reply from ballot round) (checked_on from ballot round) (counts refl) x.phase x out next refl good go
   delivered_passes from (messages.TreeAsk ballot at after) counts x out next good go =
       let q : Question = record { position = at; after = after } in
-      shown_node_asks P (is_same ballot x.fact.ballot) q x out (λ body y o. row_done me (row_23 y.fact y.trusted from ballot q.position q.after body) y o next)
-      (λ body. safe_passes (row_23 x.fact x.trusted from ballot at after body) (safe_23 x.fact x.trusted from ballot q body) x out next good go)
+      in_tree_passes (has_position x.mode.tree at) (got_ask me from ballot q) (got_ask_passes from ballot q) x out next good go
   delivered_passes from (messages.TreeGive ballot at after trusted body) counts x out next good go =
       let give : Give = record { ballot = ballot; question = record { position = at; after = after }; trusted = trusted; body = body } in
-      own_node_asks P (needs_node from give x.sync) at x out (λ own y o. take_give me from give own y.sync y o next)
-      (λ own. take_give_passes from give own x.sync x out next good go)
+      in_tree_passes (has_position x.mode.tree at) (tree_give me from give) (tree_give_passes from give) x out next good go
   delivered_passes from message counts x out next good go = fits_passes x (received me from message x) out next (received_fits me from message x) good go
 
   called_passes : (call : CallIn) (phase : Phase) (x : State) (out : Out) (next : Rest State (List Task)) → x.phase ≡ phase → CallComes on_keys I call phase out → Goes next

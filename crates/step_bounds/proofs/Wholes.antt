@@ -37,10 +37,11 @@ use Rattle.leading_laws.proofs.Joins.{row_27_joins}
 use Rattle.leading_laws.proofs.Steps.{lead_step, row_29_reply_step, row_33_reply_step, row_35_reply_step}
 use Rattle.leading_laws.proofs.TimeOuts.{row_5_ticks}
 use Rattle.peer_fact.specs.declared.fact.Fact.{Fact}
-use Rattle.peer_plan.specs.Drives.{row_done, own_key, followed_up, and_row, lead_done, lead, reminded, task_done, driven, led_in, after_put, put_done, delivered, unavailable, first, and_change, most_turns, concluded, step_of}
+use Rattle.peer_plan.specs.Drives.{row_done, own_key, followed_up, and_row, lead_done, lead, reminded, task_done, driven, led_in, got_ask, after_put, put_done, in_tree, delivered, unavailable, first, and_change, most_turns, concluded, step_of}
 use Rattle.peer_plan.specs.Owns.{looked, found}
 use Rattle.peer_plan.specs.Kept.{IsStepCall}
-use Rattle.peer_plan.specs.Syncs.{saved, and_sends, with_sync, accepted, accepted_own, accepted_in, by_outcome, go_on, resume_sync, followed_on, needs_node, take_give, sealed_if}
+use Rattle.peer_plan.specs.Syncs.{saved, and_sends, with_sync, accepted, accepted_own, accepted_in, by_outcome, go_on, resume_sync, followed_on, needs_node, take_give, tree_give, sealed_if}
+use Rattle.peer_plan.specs.TreeCalls.{has_position}
 use Rattle.peer_plan.proofs.Aging.{asked_asks, looked_asks, found_asks, written_asks, confirmed_asks, if_follows, owned_asks, noted_follows, installed_asks, own_node_asks, shown_node_asks, shown_asks, sealed_asks}
 use Rattle.peer_state.specs.Leading.{older, end_of, ticks, wished, begins}
 use Rattle.peer_state.specs.Moves.{left, left_answers, turned, turned_answers, leading, and_answers, electing, without_sync, keeps_seal, with_leader, stopped_leading, without_candidacy}
@@ -75,6 +76,7 @@ use Rattle.step_plans.specs.Sends.{posted_to}
 use Rattle.step_plans.specs.Tasks.{named, keyed}
 use Rattle.step_plans.specs.declared.tasks.Task.{Task}
 use Rattle.step_plans.specs.declared.tasks.Task.TheVariants as tasks
+use Rattle.tree_node.specs.declared.version.TreeVersion.{TreeVersion}
 use Rattle.wire_frames.specs.declared.message.Message.{Message}
 use Rattle.wire_frames.specs.declared.message.Message.TheVariants as messages
 use Rattle.step_bounds.specs.Resting.{IfLeading, IsResting, LeadsWhole}
@@ -364,9 +366,9 @@ module _ (me : ℕ) (P : State → Out → Type 0) where
   followed_on_passes thens.Untrust x out next free go = go [] x out free
   followed_on_passes thens.Put x out next free go = go [] x out free
 
-  take_give_passes : (from : ℕ) (give : Give) (own : Option (List ℕ)) (running : Option Running) → Passes (take_give me from give own running)
-  take_give_passes from give own None x out next free go = go [] x out free
-  take_give_passes from give own (Some r) x out next free go = go_on_passes (row_take from give own r) x out next free go
+  take_give_passes : (tree : TreeVersion) (from : ℕ) (give : Give) (own : Option (List ℕ)) (running : Option Running) → Passes (take_give tree me from give own running)
+  take_give_passes tree from give own None x out next free go = go [] x out free
+  take_give_passes tree from give own (Some r) x out next free go = go_on_passes (row_take tree from give own r) x out next free go
 
   row_done_passes : (row : PhaseOut) → Passes (row_done me row)
   row_done_passes row x out next free go =
@@ -526,6 +528,21 @@ module _ (me : ℕ) (P : State → Out → Type 0) where
   put_done_passes (thens.Rule n) from ballot o row x out next whole go = row_done_passes row x out next whole go
   put_done_passes (thens.OnKeys n) from ballot o row x out next whole go = row_done_passes row x out next whole go
 
+  got_ask_passes : (from : ℕ) (ballot : Epoch) (q : Question) → Passes (got_ask me from ballot q)
+  got_ask_passes from ballot q x out next whole go =
+      shown_node_asks P x.mode.tree (is_same ballot x.fact.ballot) q x out (λ body y o. row_done me (row_23 y.fact y.trusted from ballot q.position q.after body) y o next)
+      (λ body. row_done_passes (row_23 x.fact x.trusted from ballot q.position q.after body) x out next whole go)
+
+  tree_give_passes : (from : ℕ) (give : Give) → Passes (tree_give me from give)
+  tree_give_passes from give x out next whole go =
+      own_node_asks P (needs_node x.mode.tree from give x.sync) give.question.position x out (λ own y o. take_give x.mode.tree me from give own y.sync y o next)
+      (λ own. take_give_passes x.mode.tree from give own x.sync x out next whole go)
+
+  -- a message about a node that the tree does not have does nothing
+  in_tree_passes : (has : Bool) (part : Part State (List Task)) → Passes part → Passes (in_tree has part)
+  in_tree_passes true part passes x out next whole go = passes x out next whole go
+  in_tree_passes false part passes x out next whole go = go [] x out whole
+
   delivered_whole : (from : ℕ) (message : Message) (x : State) (out : Out) (next : Rest State (List Task)) → IfLeading Base x.phase → Goes next → Follows IsStepCall P (delivered me from message x out next)
   delivered_whole from (messages.Get ballot round key) x out next base go =
       shown_asks P (is_served x.fact x.trusted ballot) (looked key) (looked_asks P key) x out (λ seen y o. row_done me (row_21 y.fact y.trusted from ballot round key seen) y o next)
@@ -543,12 +560,10 @@ module _ (me : ℕ) (P : State → Out → Type 0) where
   delivered_whole from (messages.CheckReply ballot round) x out next base go = checked_before from ballot round x.phase x out next refl base go
   delivered_whole from (messages.TreeAsk ballot at after) x out next base go =
       let q : Question = record { position = at; after = after } in
-      shown_node_asks P (is_same ballot x.fact.ballot) q x out (λ body y o. row_done me (row_23 y.fact y.trusted from ballot q.position q.after body) y o next)
-      (λ body. row_done_passes (row_23 x.fact x.trusted from ballot at after body) x out next (base_whole x.phase base) go)
+      in_tree_passes (has_position x.mode.tree at) (got_ask me from ballot q) (got_ask_passes from ballot q) x out next (base_whole x.phase base) go
   delivered_whole from (messages.TreeGive ballot at after trusted body) x out next base go =
       let give : Give = record { ballot = ballot; question = record { position = at; after = after }; trusted = trusted; body = body } in
-      own_node_asks P (needs_node from give x.sync) at x out (λ own y o. take_give me from give own y.sync y o next)
-      (λ own. take_give_passes from give own x.sync x out next (base_whole x.phase base) go)
+      in_tree_passes (has_position x.mode.tree at) (tree_give me from give) (tree_give_passes from give) x out next (base_whole x.phase base) go
   delivered_whole from message x out next base go =
       row_done_passes (received me from message x).1 (received me from message x).0 out next (received_keeps IsWhole new_whole accepted_whole me from message x (base_whole x.phase base)) go
 

@@ -25,9 +25,10 @@ use Rattle.leading.specs.Starts.{row_27}
 use Rattle.leading.specs.declared.leader.Leader.{Leader}
 use Rattle.peer_fact.specs.declared.fact.Fact.{Fact}
 use Rattle.peer_fact.specs.declared.saved.SavedFact.{SavedFact}
-use Rattle.peer_plan.specs.Drives.{row_done, owned, own_key, followed_up, and_row, lead_done, lead, reminded, task_done, driven, led_in, ticked, shown, after_put, put_done, delivered, unavailable, first, and_change, most_turns, responded, concluded, step_of}
+use Rattle.peer_plan.specs.Drives.{row_done, owned, own_key, followed_up, and_row, lead_done, lead, reminded, task_done, driven, led_in, ticked, shown, got_ask, after_put, put_done, in_tree, delivered, unavailable, first, and_change, most_turns, responded, concluded, step_of}
 use Rattle.peer_plan.specs.Owns.{digested, read, kept, fetched, held, looked_at, looked, found_at, found, entered, written, confirmed, stored, resealed}
-use Rattle.peer_plan.specs.Syncs.{saved, and_sends, with_sync, installed, accepted, accepted_own, accepted_in, end_sync, by_outcome, go_on, resume_sync, followed_on, reached, own_node, body_of, shown_node, needs_node, take_give, sealed, sealed_if}
+use Rattle.peer_plan.specs.TreeCalls.{has_position}
+use Rattle.peer_plan.specs.Syncs.{saved, and_sends, with_sync, installed, accepted, accepted_own, accepted_in, end_sync, by_outcome, go_on, resume_sync, followed_on, reached, own_node, body_of, shown_node, needs_node, take_give, tree_give, sealed, sealed_if}
 use Rattle.peer_state.specs.Leading.{older, end_of, ticks, row_5_calls, wished, begins}
 use Rattle.peer_state.specs.Moves.{left, left_answers, turned, turned_answers, ends_leading, leading, with_leader, and_answers, electing, without_sync, saved_by, keeps_seal}
 use Rattle.peer_state.specs.Rows.{aged, phase_row, received, asked_change, leads, changes}
@@ -61,6 +62,7 @@ use Rattle.sync_rule.specs.Syncs.{needs_build, outcome_of}
 use Rattle.sync_rule.specs.declared.sync.Outcome.{Outcome}
 use Rattle.sync_rule.specs.declared.sync.Outcome.TheVariants.{Pending, Trusted}
 use Rattle.tree_node.specs.declared.position.Position.{Position}
+use Rattle.tree_node.specs.declared.version.TreeVersion.{TreeVersion}
 use Rattle.wire_frames.specs.declared.message.Message.{Message}
 use Rattle.wire_frames.specs.declared.message.Message.TheVariants as messages
 use Rattle.turn_laws.specs.Ends.{AllFrom, AllTo, ComesFrom, EndsIn, calls_in, last_saved}
@@ -185,9 +187,9 @@ module _ (test : ℕ → Bool) (me : ℕ) (P : SavedFact → State → Out → T
   own_node_reads true at x out next go = asked_ends (ReadNode at) x out (λ walked y o. next (reached walked) y o) (λ walked. go (reached walked))
   own_node_reads false at x out next go = go None
 
-  shown_node_reads : (answered : Bool) (q : Question) → Reads (shown_node answered q)
-  shown_node_reads true q x out next go = asked_ends (ReadNode q.position) x out (λ walked y o. next (Some (body_of q walked)) y o) (λ walked. go (Some (body_of q walked)))
-  shown_node_reads false q x out next go = go None
+  shown_node_reads : (tree : TreeVersion) (answered : Bool) (q : Question) → Reads (shown_node tree answered q)
+  shown_node_reads tree true q x out next go = asked_ends (ReadNode q.position) x out (λ walked y o. next (Some (body_of tree q walked)) y o) (λ walked. go (Some (body_of tree q walked)))
+  shown_node_reads tree false q x out next go = go None
 
   accepted_own_passes : (e : Election) → Passes (accepted_own me e)
   accepted_own_passes (Starting new accepts age) x out next good go = go (tasks.Phase phase_rules.EnoughAccepted ∷ []) (electing (Starting new (joined me accepts) age) x) out (no_calls test, good.1)
@@ -229,9 +231,9 @@ module _ (test : ℕ → Bool) (me : ℕ) (P : SavedFact → State → Out → T
   followed_on_passes thens.Untrust x out next good go = go [] x out good
   followed_on_passes thens.Put x out next good go = go [] x out good
 
-  take_give_passes : (from : ℕ) (give : Give) (own : Option (List ℕ)) (running : Option Running) → Passes (take_give me from give own running)
-  take_give_passes from give own None x out next good go = go [] x out good
-  take_give_passes from give own (Some r) x out next good go = go_on_passes (row_take from give own r) x out next good go
+  take_give_passes : (tree : TreeVersion) (from : ℕ) (give : Give) (own : Option (List ℕ)) (running : Option Running) → Passes (take_give tree me from give own running)
+  take_give_passes tree from give own None x out next good go = go [] x out good
+  take_give_passes tree from give own (Some r) x out next good go = go_on_passes (row_take tree from give own r) x out next good go
 
   -- ## Rows
 
@@ -323,6 +325,21 @@ module _ (test : ℕ → Bool) (me : ℕ) (P : SavedFact → State → Out → T
   put_done_passes (thens.Rule n) from ballot o row x out next good go = row_done_passes row x out next good go
   put_done_passes (thens.OnKeys n) from ballot o row x out next good go = row_done_passes row x out next good go
 
+  got_ask_passes : (from : ℕ) (ballot : Epoch) (q : Question) → Passes (got_ask me from ballot q)
+  got_ask_passes from ballot q x out next good go =
+      shown_node_reads x.mode.tree (is_same ballot x.fact.ballot) q x out (λ body y o. row_done me (row_23 y.fact y.trusted from ballot q.position q.after body) y o next)
+      (λ body. row_done_passes (row_23 x.fact x.trusted from ballot q.position q.after body) x out next good go)
+
+  tree_give_passes : (from : ℕ) (give : Give) → Passes (tree_give me from give)
+  tree_give_passes from give x out next good go =
+      own_node_reads (needs_node x.mode.tree from give x.sync) give.question.position x out (λ own y o. take_give x.mode.tree me from give own y.sync y o next)
+      (λ own. take_give_passes x.mode.tree from give own x.sync x out next good go)
+
+  -- a message about a node that the tree does not have does nothing
+  in_tree_passes : (has : Bool) (part : Part State (List Task)) → Passes part → Passes (in_tree has part)
+  in_tree_passes true part passes x out next good go = passes x out next good go
+  in_tree_passes false part passes x out next good go = go [] x out good
+
   delivered_passes : (from : ℕ) (message : Message) → Passes (delivered me from message)
   delivered_passes from (messages.Get ballot round key) x out next good go =
       shown_reads (is_served x.fact x.trusted ballot) (looked key) (looked_reads key) x out (λ seen y o. row_done me (row_21 y.fact y.trusted from ballot round key seen) y o next)
@@ -340,12 +357,10 @@ module _ (test : ℕ → Bool) (me : ℕ) (P : SavedFact → State → Out → T
   delivered_passes from (messages.CheckReply ballot round) x out next good go = lead_passes (row_33_reply from ballot round) (checked_fair test from ballot round) x.phase good.0 x out next good go
   delivered_passes from (messages.TreeAsk ballot at after) x out next good go =
       let q : Question = record { position = at; after = after } in
-      shown_node_reads (is_same ballot x.fact.ballot) q x out (λ body y o. row_done me (row_23 y.fact y.trusted from ballot q.position q.after body) y o next)
-      (λ body. row_done_passes (row_23 x.fact x.trusted from ballot at after body) x out next good go)
+      in_tree_passes (has_position x.mode.tree at) (got_ask me from ballot q) (got_ask_passes from ballot q) x out next good go
   delivered_passes from (messages.TreeGive ballot at after trusted body) x out next good go =
       let give : Give = record { ballot = ballot; question = record { position = at; after = after }; trusted = trusted; body = body } in
-      own_node_reads (needs_node from give x.sync) at x out (λ own y o. take_give me from give own y.sync y o next)
-      (λ own. take_give_passes from give own x.sync x out next good go)
+      in_tree_passes (has_position x.mode.tree at) (tree_give me from give) (tree_give_passes from give) x out next good go
   delivered_passes from message x out next good go = moved_passes x (received me from message x).0 (received me from message x).1 out next (received_stays test me from message x) good go
 
   first_passes : (event : Event) → ComesFrom test event → Passes (first me event)

@@ -3,7 +3,7 @@ use Rattle.std.proofs.Common.{◌≡◌, ◌≢◌, ◌≤◌, subst, refl, ℕ,
 use Rattle.std.proofs.lemmas.Bool.Decides.{nat_tests}
 use Rattle.ens_base.specs.View.{IsPeer}
 use Rattle.ens_base.specs.declared.peer_words.PeerWords.{PeerWords}
-use Rattle.peer_plan.specs.Drives.{MayCome}
+use Rattle.turn_laws.specs.PeerPlan.{MayCome}
 use Rattle.peer_state.specs.declared.event.Event.{Event}
 use Rattle.peer_state.specs.declared.event.Event.TheVariants as events
 use Rattle.turn_laws.specs.Ends.{ComesFrom}

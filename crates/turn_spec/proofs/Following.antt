@@ -1,6 +1,6 @@
 -- One piece of what a peer does follows another.
 use Rattle.std.proofs.Common.{◌≡◌, ◌∙◌, ap, sym, refl, subst, ℕ, List, [], ◌∷◌, ◌++◌, Option, None, Some, append_assoc, append-nil}
-use Rattle.peer_plan.specs.Drives.{step_of}
+use Rattle.turn_laws.specs.PeerPlan.{step_of}
 use Rattle.peer_state.specs.declared.event.Event.{Event}
 use Rattle.peer_state.specs.declared.state.State.{State}
 use Rattle.register_model.specs.declared.note.Note.{Note}

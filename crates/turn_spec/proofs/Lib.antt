@@ -1,3 +1,4 @@
 pub mod Counting
 pub mod Following
 pub mod Coming
+pub mod TurnLaws

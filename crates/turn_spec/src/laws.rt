@@ -1,6 +1,6 @@
 ghost use Rattle.std.specs.Prelude.{◌≡◌, ◌≤◌, ◌+◌, ◌++◌, List, Some, length};
 ghost use Rattle.ens_base.specs.declared.peer_words.PeerWords.{PeerWords};
-ghost use Rattle.peer_plan.specs.Drives.{MayCome};
+ghost use Rattle.turn_laws.specs.PeerPlan.{MayCome};
 ghost use Rattle.peer_state.specs.declared.event.Event.{Event};
 ghost use Rattle.turn_laws.specs.Ends.{ComesFrom};
 ghost use Rattle.turn_spec.specs.Turns.{Turn, event_in, events_of, ignored_in, is_client, looked_in, taken_in, ticks_in};
