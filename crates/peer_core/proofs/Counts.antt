@@ -1,5 +1,5 @@
 -- Counts of faults and refusals along a plan.
-use Rattle.std.specs.Prelude.{Option, Some, None}
+use Rattle.std.specs.Prelude.{Option, Some, None, if◌then◌else◌}
 use Rattle.std.proofs.Common.{◌≡◌, ◌≤◌, ◌++◌, ◌∷◌, [], ℕ, Bool, true, false, List, Result, inl, inr, ◌∙◌, ap, arith}
 use Rattle.ens_base.specs.Causes.{Rose}
 use Rattle.ens_hashing.specs.Hashing.{Book}
@@ -15,8 +15,11 @@ use Rattle.step_plans.specs.Plans.{Plan, Done, Say, Ask, Out, Ending, Stopped, R
 use Rattle.step_plans.specs.declared.error.PeerError.{PeerError}
 use Rattle.step_plans.specs.declared.error.PeerError.TheVariants as errors
 use Rattle.synctree.specs.declared.tree.Tree.{Tree}
+use Rattle.tree_node.specs.declared.body.Scan.{Scan}
+use Rattle.tree_node.specs.declared.version.TreeVersion.{TreeVersion}
+use Rattle.tree_node.specs.declared.version.TreeVersion.TheVariants.{One, Two}
 use Rattle.peer_plan.specs.Kept.{IsStepCall, IsCallError}
-use Rattle.peer_plan.specs.Starts.{IsStartError, start_of, saves_opening, seals_opening, opened}
+use Rattle.peer_plan.specs.Starts.{IsStartError, start_of, saves_opening, seals_opening, opened, continued, is_whole, migrated, reseals_if, scanned, continued_in}
 use Rattle.peer_stores.specs.Stores.{stores_do, stores_refuse, FactsAlone, TreeLater, IsTreeError, AreLater, SomeRose, IsCause}
 use Rattle.peer_state.specs.declared.state.Mode.{Mode}
 use Rattle.peer_state.specs.declared.state.State.{State}
@@ -34,6 +37,50 @@ stopped_injective e error same = grind (arith, same)
 
 rose_later : (a b c : ℕ) → a ≤ b → Rose b c → Rose a c
 rose_later a b c before rose = omega (arith, before, rose)
+
+-- a call that a start may make
+abbrev IsStartCall : Call → Type 0
+IsStartCall Load = Unit {0}
+IsStartCall (Save fact) = Unit {0}
+IsStartCall (FreshTree tree) = Unit {0}
+IsStartCall (OpenTree seal tree) = Unit {0}
+IsStartCall Root = Unit {0}
+IsStartCall ScanTree = Unit {0}
+IsStartCall (Install entries) = Unit {0}
+IsStartCall other = ⊥
+
+abbrev AnyEnd : State → Out → Type 0
+AnyEnd x out = Unit {0}
+
+saves_calls : (mode : Mode) (view : List ℕ) (seal : Option (List ℕ)) → Follows IsStartCall AnyEnd (saves_opening mode view seal)
+saves_calls mode view seal = (tt, λ u. tt)
+
+seals_calls : (seals : Bool) (mode : Mode) (view : List ℕ) → Follows IsStartCall AnyEnd (seals_opening seals mode view)
+seals_calls true mode view = (tt, λ root. saves_calls mode view root)
+seals_calls false mode view = saves_calls mode view None
+
+resealed_calls : (seal : Option (List ℕ)) (mode : Mode) (saved : SavedFact) → Follows IsStartCall AnyEnd (reseals_if seal mode saved)
+resealed_calls None mode saved = tt
+resealed_calls (Some seal) mode saved = (tt, λ root. (tt, λ u. tt))
+
+scanned_calls : (mode : Mode) (saved : SavedFact) (scan : Scan) → Follows IsStartCall AnyEnd (scanned mode saved scan)
+scanned_calls mode saved scan = by (is_whole scan)
+  where
+    by : (whole : Bool) → Follows IsStartCall AnyEnd (if whole then migrated mode saved scan.entries else continued Two mode saved)
+    by true = (tt, λ u. (tt, λ v. resealed_calls saved.seal mode saved))
+    by false = (tt, λ u. tt)
+
+continued_calls : (tree : TreeVersion) (mode : Mode) (saved : SavedFact) → Follows IsStartCall AnyEnd (continued_in tree mode saved)
+continued_calls One mode saved = (tt, λ u. tt)
+continued_calls Two mode saved = (tt, λ u. (tt, λ scan. scanned_calls mode saved scan))
+
+opened_calls : (mode : Mode) (view : List ℕ) (kept : Option SavedFact) → Follows IsStartCall AnyEnd (opened mode view kept)
+opened_calls mode view None = (tt, λ u. seals_calls mode.sealing mode view)
+opened_calls mode view (Some saved) = continued_calls mode.tree mode saved
+
+-- a start makes only such calls
+start_calls : (mode : Mode) (view : List ℕ) → Follows IsStartCall AnyEnd (start_of mode view)
+start_calls mode view = (tt, λ kept. opened_calls mode view kept)
 
 module _ {B N F H : Type 0} (gives : B → (call : BackendCall) → BackendAnswer call → B → Type 0) (loses : B → BackendCall → StoreError → B → Type 0)
     (b : B → ℕ) (reads : N → (call : NodeCall) → NodeAnswer call → N → Type 0) (misses : N → NodeCall → StoreError → N → Type 0) (tops : N → Option (Option (List ℕ))) (n : N → ℕ) (tells : F → (call : KeeperCall) → KeeperAnswer call → F → Type 0) (drops : F → KeeperCall → KeepError → F → Type 0) (kept : F → Option (Result SavedFact FactError)) (f : F → ℕ)
@@ -78,8 +125,8 @@ module _ {B N F H : Type 0} (gives : B → (call : BackendCall) → BackendAnswe
   pub do_later : (s : Stores B N F × H) (call : Call) (a : AnswerOf call) (t : Stores B N F × H) → stores_do gives b reads tops n tells kept f strings c d s call a t → AreLater b n f c d s t
   do_later s Load a t did = facts_later s t did.2 did.3
   do_later s (Save fact) a t did = facts_later s t did.1 did.2
-  do_later s FreshTree a t did = tree_later s t did.1
-  do_later s (OpenTree seal) a t did = tree_later s t did.1
+  do_later s (FreshTree tree) a t did = tree_later s t did.1
+  do_later s (OpenTree seal tree) a t did = tree_later s t did.1
   do_later s Root a t did = tree_later s t did.1
   do_later s (Find key) a t did = tree_later s t did.1
   do_later s (Enter entry) a t did = tree_later s t did.1
@@ -110,8 +157,8 @@ module _ {B N F H : Type 0} (gives : B → (call : BackendCall) → BackendAnswe
   refusal_cause s Load (errors.Clash first second) t off = absurd off.0
   refusal_cause s Load (errors.BookFull bytes) t off = absurd off.0
   refusal_cause s (Save fact) e t off = fault s e t off.0 (inr (inr off.2.rose))
-  refusal_cause s FreshTree e t off = tree_cause s e t off.1
-  refusal_cause s (OpenTree seal) e t off = tree_cause s e t off.1
+  refusal_cause s (FreshTree tree) e t off = tree_cause s e t off.1
+  refusal_cause s (OpenTree seal tree) e t off = tree_cause s e t off.1
   refusal_cause s Root e t off = tree_cause s e t off.1
   refusal_cause s (Find key) e t off = tree_cause s e t off.1
   refusal_cause s (Enter entry) e t off = tree_cause s e t off.1
@@ -207,8 +254,8 @@ module _ {B N F H : Type 0} (gives : B → (call : BackendCall) → BackendAnswe
   call_error s (Hash bytes) errors.Halted t is off = absurd off.0
   call_error s (Hash bytes) (errors.BadFact bad) t is off = absurd off.0
   call_error s Load e t is off = absurd is
-  call_error s FreshTree e t is off = absurd is
-  call_error s (OpenTree seal) e t is off = absurd is
+  call_error s (FreshTree tree) e t is off = absurd is
+  call_error s (OpenTree seal tree) e t is off = absurd is
   call_error s ScanTree e t is off = tree_refusal s e t off.1
   call_error s (ReadNode at) e t is off = tree_refusal s e t off.1
   call_error s (Install entries) e t is off = tree_refusal s e t off.1
@@ -240,50 +287,56 @@ module _ {B N F H : Type 0} (gives : B → (call : BackendCall) → BackendAnswe
   still_backend : (s t : Stores B N F × H) → t ≡ s → t.0.backend ≡ s.0.backend
   still_backend s t same = ap (λ (k : Stores B N F × H). k.0.backend) same
 
-  opening_backend : (mode : Mode) (view : List ℕ) (seal : Option (List ℕ)) (s : Stores B N F × H) (ns : List Note) (e : PeerError) (t : Stores B N F × H) (ms : List Note)
-      → Runs (stores_do gives b reads tops n tells kept f strings c d) (stores_refuse loses b reads misses tops n drops kept f strings c d) (saves_opening mode view seal) s ns (Stopped e) t ms → t.0.backend ≡ s.0.backend
-  opening_backend mode view seal s ns e t ms ran = elim ran [
-    | inl cut ↦ still_backend s t cut.1
-    | inr (inl off) ↦ off.1.3.0
-    | inr (inr on) ↦ elim on.3 [
-      | inl cut ↦ still_backend on.1 t cut.1 ∙ on.2.2.0
-      | inr end ↦ let none : ⊥ = grind (arith, end.0) in absurd none
-    ]
-  ]
+  call_backend : (s : Stores B N F × H) (call : Call) (a : AnswerOf call) (t : Stores B N F × H) → IsStartCall call → stores_do gives b reads tops n tells kept f strings c d s call a t → t.0.backend ≡ s.0.backend
+  call_backend s Load a t is did = did.3.0
+  call_backend s (Save fact) a t is did = did.2.0
+  call_backend s (FreshTree tree) a t is did = did.1.3.0
+  call_backend s (OpenTree seal tree) a t is did = did.1.3.0
+  call_backend s Root a t is did = did.1.3.0
+  call_backend s ScanTree a t is did = did.1.3.0
+  call_backend s (Install entries) a t is did = did.1.3.0
+  call_backend s (Find key) a t is did = absurd is
+  call_backend s (Enter entry) a t is did = absurd is
+  call_backend s (ReadNode at) a t is did = absurd is
+  call_backend s (Fetch key) a t is did = absurd is
+  call_backend s (Put key bytes) a t is did = absurd is
+  call_backend s (Hash bytes) a t is did = absurd is
 
-  sealing_backend : (seals : Bool) (mode : Mode) (view : List ℕ) (s : Stores B N F × H) (ns : List Note) (e : PeerError) (t : Stores B N F × H) (ms : List Note)
-      → Runs (stores_do gives b reads tops n tells kept f strings c d) (stores_refuse loses b reads misses tops n drops kept f strings c d) (seals_opening seals mode view) s ns (Stopped e) t ms → t.0.backend ≡ s.0.backend
-  sealing_backend true mode view s ns e t ms ran = elim ran [
-    | inl cut ↦ still_backend s t cut.1
-    | inr (inl off) ↦ off.1.2.0
-    | inr (inr on) ↦ opening_backend mode view on.0 on.1 ns e t ms on.3 ∙ on.2.1.3.0
-  ]
-  sealing_backend false mode view s ns e t ms ran = opening_backend mode view None s ns e t ms ran
+  refused_backend : (s : Stores B N F × H) (call : Call) (e : PeerError) (t : Stores B N F × H) → IsStartCall call → stores_refuse loses b reads misses tops n drops kept f strings c d s call e t → t.0.backend ≡ s.0.backend
+  refused_backend s Load e t is off = off.2.0
+  refused_backend s (Save fact) e t is off = off.3.0
+  refused_backend s (FreshTree tree) e t is off = off.2.0
+  refused_backend s (OpenTree seal tree) e t is off = off.2.0
+  refused_backend s Root e t is off = off.2.0
+  refused_backend s ScanTree e t is off = off.2.0
+  refused_backend s (Install entries) e t is off = off.2.0
+  refused_backend s (Find key) e t is off = absurd is
+  refused_backend s (Enter entry) e t is off = absurd is
+  refused_backend s (ReadNode at) e t is off = absurd is
+  refused_backend s (Fetch key) e t is off = absurd is
+  refused_backend s (Put key bytes) e t is off = absurd is
+  refused_backend s (Hash bytes) e t is off = absurd is
 
-  opened_backend : (mode : Mode) (view : List ℕ) (found : Option SavedFact) (s : Stores B N F × H) (ns : List Note) (e : PeerError) (t : Stores B N F × H) (ms : List Note)
-      → Runs (stores_do gives b reads tops n tells kept f strings c d) (stores_refuse loses b reads misses tops n drops kept f strings c d) (opened mode view found) s ns (Stopped e) t ms → t.0.backend ≡ s.0.backend
-  opened_backend mode view (Some fact) s ns e t ms ran = elim ran [
+  stopped_backend : (p : Plan State) (s : Stores B N F × H) (ns : List Note) (e : PeerError) (t : Stores B N F × H) (ms : List Note)
+      → Follows IsStartCall AnyEnd p → Runs (stores_do gives b reads tops n tells kept f strings c d) (stores_refuse loses b reads misses tops n drops kept f strings c d) p s ns (Stopped e) t ms → t.0.backend ≡ s.0.backend
+  stopped_backend (Done x out) s ns e t ms starts ran = elim ran [
     | inl cut ↦ still_backend s t cut.1
-    | inr (inl off) ↦ off.1.2.0
-    | inr (inr on) ↦ elim on.3 [
-      | inl cut ↦ still_backend on.1 t cut.1 ∙ on.2.1.3.0
-      | inr end ↦ let none : ⊥ = grind (arith, end.0) in absurd none
-    ]
+    | inr end ↦ let none : ⊥ = grind (arith, end.0) in absurd none
   ]
-  opened_backend mode view None s ns e t ms ran = elim ran [
+  stopped_backend (Say note p) s ns e t ms starts ran = elim ran [
     | inl cut ↦ still_backend s t cut.1
-    | inr (inl off) ↦ off.1.2.0
-    | inr (inr on) ↦ sealing_backend mode.sealing mode view on.1 ns e t ms on.3 ∙ on.2.1.3.0
+    | inr on ↦ stopped_backend p s (ns ++ note ∷ []) e t ms starts on
+  ]
+  stopped_backend (Ask call next) s ns e t ms starts ran = elim ran [
+    | inl cut ↦ still_backend s t cut.1
+    | inr (inl off) ↦ refused_backend s call off.0 t starts.0 off.1
+    | inr (inr on) ↦ stopped_backend (next on.0) on.1 ns e t ms (starts.1 on.0) on.3 ∙ call_backend s call on.0 on.1 starts.0 on.2
   ]
 
   -- a start that stopped left the backend as it was
   pub start_backend : (mode : Mode) (view : List ℕ) (s : Stores B N F × H) (ns : List Note) (e : PeerError) (t : Stores B N F × H) (ms : List Note)
       → Runs (stores_do gives b reads tops n tells kept f strings c d) (stores_refuse loses b reads misses tops n drops kept f strings c d) (start_of mode view) s ns (Stopped e) t ms → t.0.backend ≡ s.0.backend
-  start_backend mode view s ns e t ms ran = elim ran [
-    | inl cut ↦ still_backend s t cut.1
-    | inr (inl off) ↦ off.1.2.0
-    | inr (inr on) ↦ opened_backend mode view on.0 on.1 ns e t ms on.3 ∙ on.2.3.0
-  ]
+  start_backend mode view s ns e t ms ran = stopped_backend (start_of mode view) s ns e t ms (start_calls mode view) ran
 
   tree_start_error : (s : Stores B N F × H) (e : PeerError) (t : Stores B N F × H) → IsTreeError n c d s e t → IsStartError e
   tree_start_error s errors.StoreFault t why = tt
@@ -304,47 +357,38 @@ module _ {B N F H : Type 0} (gives : B → (call : BackendCall) → BackendAnswe
   load_error s (errors.Clash first second) t off = tt
   load_error s (errors.BookFull bytes) t off = tt
 
-  opening_only : (mode : Mode) (view : List ℕ) (seal : Option (List ℕ)) (s : Stores B N F × H) (ns : List Note) (e : PeerError) (t : Stores B N F × H) (ms : List Note)
-      → Runs (stores_do gives b reads tops n tells kept f strings c d) (stores_refuse loses b reads misses tops n drops kept f strings c d) (saves_opening mode view seal) s ns (Stopped e) t ms → IsStartError e
-  opening_only mode view seal s ns e t ms ran = elim ran [
-    | inl cut ↦ start_error e errors.Memory cut.0 tt
-    | inr (inl off) ↦ start_error e off.0 off.2 (rw off.1.0 tt)
-    | inr (inr on) ↦ elim on.3 [
-      | inl cut ↦ start_error e errors.Memory cut.0 tt
-      | inr end ↦ let none : ⊥ = grind (arith, end.0) in absurd none
-    ]
-  ]
+  start_call_error : (s : Stores B N F × H) (call : Call) (e : PeerError) (t : Stores B N F × H) → IsStartCall call → stores_refuse loses b reads misses tops n drops kept f strings c d s call e t → IsStartError e
+  start_call_error s Load e t is off = load_error s e t off
+  start_call_error s (Save fact) e t is off = rw off.0 tt
+  start_call_error s (FreshTree tree) e t is off = tree_start_error s e t off.1
+  start_call_error s (OpenTree seal tree) e t is off = tree_start_error s e t off.1
+  start_call_error s Root e t is off = tree_start_error s e t off.1
+  start_call_error s ScanTree e t is off = tree_start_error s e t off.1
+  start_call_error s (Install entries) e t is off = tree_start_error s e t off.1
+  start_call_error s (Find key) e t is off = absurd is
+  start_call_error s (Enter entry) e t is off = absurd is
+  start_call_error s (ReadNode at) e t is off = absurd is
+  start_call_error s (Fetch key) e t is off = absurd is
+  start_call_error s (Put key bytes) e t is off = absurd is
+  start_call_error s (Hash bytes) e t is off = absurd is
 
-  sealing_only : (seals : Bool) (mode : Mode) (view : List ℕ) (s : Stores B N F × H) (ns : List Note) (e : PeerError) (t : Stores B N F × H) (ms : List Note)
-      → Runs (stores_do gives b reads tops n tells kept f strings c d) (stores_refuse loses b reads misses tops n drops kept f strings c d) (seals_opening seals mode view) s ns (Stopped e) t ms → IsStartError e
-  sealing_only true mode view s ns e t ms ran = elim ran [
+  stopped_start : (p : Plan State) (s : Stores B N F × H) (ns : List Note) (e : PeerError) (t : Stores B N F × H) (ms : List Note)
+      → Follows IsStartCall AnyEnd p → Runs (stores_do gives b reads tops n tells kept f strings c d) (stores_refuse loses b reads misses tops n drops kept f strings c d) p s ns (Stopped e) t ms → IsStartError e
+  stopped_start (Done x out) s ns e t ms starts ran = elim ran [
     | inl cut ↦ start_error e errors.Memory cut.0 tt
-    | inr (inl off) ↦ start_error e off.0 off.2 (tree_start_error s off.0 t off.1.1)
-    | inr (inr on) ↦ opening_only mode view on.0 on.1 ns e t ms on.3
+    | inr end ↦ let none : ⊥ = grind (arith, end.0) in absurd none
   ]
-  sealing_only false mode view s ns e t ms ran = opening_only mode view None s ns e t ms ran
-
-  opened_only : (mode : Mode) (view : List ℕ) (found : Option SavedFact) (s : Stores B N F × H) (ns : List Note) (e : PeerError) (t : Stores B N F × H) (ms : List Note)
-      → Runs (stores_do gives b reads tops n tells kept f strings c d) (stores_refuse loses b reads misses tops n drops kept f strings c d) (opened mode view found) s ns (Stopped e) t ms → IsStartError e
-  opened_only mode view (Some fact) s ns e t ms ran = elim ran [
+  stopped_start (Say note p) s ns e t ms starts ran = elim ran [
     | inl cut ↦ start_error e errors.Memory cut.0 tt
-    | inr (inl off) ↦ start_error e off.0 off.2 (tree_start_error s off.0 t off.1.1)
-    | inr (inr on) ↦ elim on.3 [
-      | inl cut ↦ start_error e errors.Memory cut.0 tt
-      | inr end ↦ let none : ⊥ = grind (arith, end.0) in absurd none
-    ]
+    | inr on ↦ stopped_start p s (ns ++ note ∷ []) e t ms starts on
   ]
-  opened_only mode view None s ns e t ms ran = elim ran [
+  stopped_start (Ask call next) s ns e t ms starts ran = elim ran [
     | inl cut ↦ start_error e errors.Memory cut.0 tt
-    | inr (inl off) ↦ start_error e off.0 off.2 (tree_start_error s off.0 t off.1.1)
-    | inr (inr on) ↦ sealing_only mode.sealing mode view on.1 ns e t ms on.3
+    | inr (inl off) ↦ start_error e off.0 off.2 (start_call_error s call off.0 t starts.0 off.1)
+    | inr (inr on) ↦ stopped_start (next on.0) on.1 ns e t ms (starts.1 on.0) on.3
   ]
 
   -- why a start failed
   pub start_only : (mode : Mode) (view : List ℕ) (s : Stores B N F × H) (ns : List Note) (e : PeerError) (t : Stores B N F × H) (ms : List Note)
       → Runs (stores_do gives b reads tops n tells kept f strings c d) (stores_refuse loses b reads misses tops n drops kept f strings c d) (start_of mode view) s ns (Stopped e) t ms → IsStartError e
-  start_only mode view s ns e t ms ran = elim ran [
-    | inl cut ↦ start_error e errors.Memory cut.0 tt
-    | inr (inl off) ↦ start_error e off.0 off.2 (load_error s off.0 t off.1)
-    | inr (inr on) ↦ opened_only mode view on.0 on.1 ns e t ms on.3
-  ]
+  start_only mode view s ns e t ms ran = stopped_start (start_of mode view) s ns e t ms (start_calls mode view) ran

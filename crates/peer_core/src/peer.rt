@@ -61,9 +61,11 @@ impl<B: Backend, N: NodeStore, F: FactKeeper> Peer<B, N, F> {
 
     /// Rule 1: starts the peer `me`, 1 to 31, on its stores. If they keep no fact, the peer saves
     /// the opening fact of an ensemble with the view `opening`, and starts with an empty tree, which
-    /// it trusts; with `sealing` the fact has the root of that tree as its seal. Otherwise the peer
-    /// continues from the kept fact, and opens its tree, which it does not trust: if the fact has a
-    /// seal and the top record differs from it, the root of the tree is damaged. The peer follows.
+    /// it trusts, in the version of the mode; with `sealing` the fact has the root of that tree as its
+    /// seal. Otherwise the peer continues from the kept fact, and opens its tree, which it does not trust:
+    /// if the fact has a seal and the top record differs from it, the root of the tree is damaged. A tree
+    /// of version one that is whole first migrates to version two, if that is the version of the mode; a
+    /// fact with a seal is then saved with the new root. The peer follows.
     ///
     /// # Errors
     ///
@@ -71,7 +73,8 @@ impl<B: Backend, N: NodeStore, F: FactKeeper> Peer<B, N, F> {
     /// a store rose in this call, `Clash` or `BookFull` only if the hasher refused a string and
     /// counted that, and `Memory` when out of memory. The stores are returned: the backend as it
     /// was, and the tree and the fact as the failed call left them.
-    pub fn start<H: Hasher16>(
+    pub fn start<H: Hasher16, R: Threads + Sync>(
+        rt: &R,
         alloc: Global,
         me: PeerId,
         opening: View,
@@ -88,7 +91,7 @@ impl<B: Backend, N: NodeStore, F: FactKeeper> Peer<B, N, F> {
         ensures only { IfErr result (λ r. IsStartError r.error) }
     {
         let mut stores = stores;
-        match start(&mut stores, hasher, alloc, mode, opening) {
+        match start(&mut stores, hasher, rt, alloc, mode, opening) {
             Ok(state) => Ok(Peer {
                 me,
                 machine: Machine { state, stores },

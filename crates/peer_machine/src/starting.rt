@@ -1,15 +1,21 @@
-ghost use Rattle.std.specs.Prelude.{◌≡◌, ℕ, true, IfOk};
+ghost use Rattle.std.specs.Prelude.{◌≡◌, ℕ, true, [], IfOk};
 ghost use Rattle.peer_state.specs.Ages.{is_young};
 ghost use Rattle.peer_plan.specs.Kept.{IsOwn};
 ghost use Rattle.peer_state.specs.NoAllocation.{IsSteady};
-ghost use Rattle.peer_plan.specs.Starts.{Starts, start_of, saves_opening, seals_opening, opened as opens};
+ghost use Rattle.step_plans.specs.Calls.{Install, ScanTree};
+ghost use Rattle.step_plans.specs.Plans.{Ask};
+ghost use Rattle.tree_node.specs.declared.version.TreeVersion.TheVariants.{Two};
+ghost use Rattle.tree_node.specs.Entries.{AreAbove};
+ghost use Rattle.peer_plan.specs.Starts.{Starts, start_of, saves_opening, seals_opening, continued as continues, reseals, reseals_if, migrated, scanned as scans, continued_in as continues_in, opened as opens};
 
-use ens_base::{Digest, View};
+use ens_base::{Digest, Entry, View};
 use peer_fact::{Change, Fact, SavedFact};
-use peer_plan::first_state;
+use peer_plan::{first_state, is_whole};
 use peer_state::{Mode, State};
 use std::alloc::Global;
+use std::thread::Threads;
 use step_plans::{PeerError, Store};
+use tree_node::{Scan, TreeVersion};
 
 /// Saves the opening fact with this seal, and starts with it.
 fn save_opening<H, S: Store<H>>(
@@ -53,10 +59,208 @@ fn seal_opening<H, S: Store<H>>(
     }
 }
 
-/// Starts from what was kept.
-fn opened<H, S: Store<H>>(
+/// Opens the tree in this version, under the seal of the fact if it has one, and continues from the fact.
+fn continued<H, S: Store<H>>(
     stores: &mut S,
     hasher: &mut H,
+    alloc: Global,
+    tree: TreeVersion,
+    mode: Mode,
+    saved: SavedFact,
+) -> Result<State, PeerError>
+    ensures starts { Starts S.does S.refuses (continues tree mode saved) (stores.old, hasher.old) result (stores.new, hasher.new) }
+    ensures young { IfOk result (λ x. is_young x.phase ≡ true) }
+    ensures steady { IfOk result (λ x. IsSteady x) }
+    ensures own { IfOk result (λ x. (me : ℕ) → IsOwn me x) }
+{
+    match stores.open_tree(hasher, alloc, saved.seal, tree) {
+        Ok(()) => Ok(first_state(mode, saved, false)),
+        Err(error) => Err(error),
+    }
+}
+
+/// Saves the fact again, with the root of the tree as its seal, and continues from it.
+fn reseal<H, S: Store<H>>(
+    stores: &mut S,
+    hasher: &mut H,
+    mode: Mode,
+    saved: SavedFact,
+) -> Result<State, PeerError>
+    ensures starts { Starts S.does S.refuses (reseals mode saved) (stores.old, hasher.old) result (stores.new, hasher.new) }
+    ensures young { IfOk result (λ x. is_young x.phase ≡ true) }
+    ensures steady { IfOk result (λ x. IsSteady x) }
+    ensures own { IfOk result (λ x. (me : ℕ) → IsOwn me x) }
+{
+    let root = stores.root(hasher)?;
+    let again = SavedFact {
+        fact: saved.fact,
+        seal: root,
+    };
+    match stores.save(hasher, &again) {
+        Ok(()) => Ok(first_state(mode, again, false)),
+        Err(error) => Err(error),
+    }
+}
+
+/// Continues from the fact, after it was saved again with its new seal if it has one.
+fn reseal_if<H, S: Store<H>>(
+    stores: &mut S,
+    hasher: &mut H,
+    mode: Mode,
+    saved: SavedFact,
+) -> Result<State, PeerError>
+    ensures starts { Starts S.does S.refuses (reseals_if saved.seal mode saved) (stores.old, hasher.old) result (stores.new, hasher.new) }
+    ensures young { IfOk result (λ x. is_young x.phase ≡ true) }
+    ensures steady { IfOk result (λ x. IsSteady x) }
+    ensures own { IfOk result (λ x. (me : ℕ) → IsOwn me x) }
+{
+    match saved.seal {
+        None => Ok(first_state(mode, saved, false)),
+        Some(_) => reseal(stores, hasher, mode, saved),
+    }
+}
+
+/// Installs the tree of these entries in the version in which the tree was opened, and continues from the
+/// fact.
+fn installed<H, S: Store<H>, R: Threads + Sync>(
+    stores: &mut S,
+    hasher: &mut H,
+    rt: &R,
+    alloc: Global,
+    mode: Mode,
+    saved: SavedFact,
+    entries: &[Entry],
+) -> Result<State, PeerError>
+    requires { AreAbove [] entries.now }
+    ensures starts { Starts S.does S.refuses (Ask (Install entries.now) (λ v. reseals_if saved.seal mode saved)) (stores.old, hasher.old) result (stores.new, hasher.new) }
+    ensures young { IfOk result (λ x. is_young x.phase ≡ true) }
+    ensures steady { IfOk result (λ x. IsSteady x) }
+    ensures own { IfOk result (λ x. (me : ℕ) → IsOwn me x) }
+{
+    match stores.install(hasher, rt, alloc, entries) {
+        Ok(()) => reseal_if(stores, hasher, mode, saved),
+        Err(error) => Err(error),
+    }
+}
+
+/// Puts the tree of these entries, in version two, in the place of the kept one, and continues from the
+/// fact.
+fn migrate<H, S: Store<H>, R: Threads + Sync>(
+    stores: &mut S,
+    hasher: &mut H,
+    rt: &R,
+    alloc: Global,
+    mode: Mode,
+    saved: SavedFact,
+    entries: &[Entry],
+) -> Result<State, PeerError>
+    requires { AreAbove [] entries.now }
+    ensures starts { Starts S.does S.refuses (migrated mode saved entries.now) (stores.old, hasher.old) result (stores.new, hasher.new) }
+    ensures young { IfOk result (λ x. is_young x.phase ≡ true) }
+    ensures steady { IfOk result (λ x. IsSteady x) }
+    ensures own { IfOk result (λ x. (me : ℕ) → IsOwn me x) }
+{
+    match stores.open_tree(hasher, alloc, None, TreeVersion::Two) {
+        Ok(()) => installed(stores, hasher, rt, alloc, mode, saved, entries),
+        Err(error) => Err(error),
+    }
+}
+
+/// Continues after a scan of the kept tree in version one: a whole tree migrates.
+fn scanned<H, S: Store<H>, R: Threads + Sync>(
+    stores: &mut S,
+    hasher: &mut H,
+    rt: &R,
+    alloc: Global,
+    mode: Mode,
+    saved: SavedFact,
+    scan: &Scan,
+) -> Result<State, PeerError>
+    ensures starts { Starts S.does S.refuses (scans mode saved scan.now) (stores.old, hasher.old) result (stores.new, hasher.new) }
+    ensures young { IfOk result (λ x. is_young x.phase ≡ true) }
+    ensures steady { IfOk result (λ x. IsSteady x) }
+    ensures own { IfOk result (λ x. (me : ℕ) → IsOwn me x) }
+{
+    if is_whole(scan) {
+        migrate(
+            stores,
+            hasher,
+            rt,
+            alloc,
+            mode,
+            saved,
+            scan.entries.as_slice(),
+        )
+    } else {
+        continued(stores, hasher, alloc, TreeVersion::Two, mode, saved)
+    }
+}
+
+/// Scans the tree that was opened in version one, and continues by what the scan shows.
+fn rescanned<H, S: Store<H>, R: Threads + Sync>(
+    stores: &mut S,
+    hasher: &mut H,
+    rt: &R,
+    alloc: Global,
+    mode: Mode,
+    saved: SavedFact,
+) -> Result<State, PeerError>
+    ensures starts { Starts S.does S.refuses (Ask ScanTree (λ scan. scans mode saved scan)) (stores.old, hasher.old) result (stores.new, hasher.new) }
+    ensures young { IfOk result (λ x. is_young x.phase ≡ true) }
+    ensures steady { IfOk result (λ x. IsSteady x) }
+    ensures own { IfOk result (λ x. (me : ℕ) → IsOwn me x) }
+{
+    match stores.scan_tree(hasher, rt, alloc) {
+        Ok(scan) => scanned(stores, hasher, rt, alloc, mode, saved, &scan),
+        Err(error) => Err(error),
+    }
+}
+
+/// Continues from a kept fact with a tree of version two: the kept tree may still be of version one.
+fn continued_in_two<H, S: Store<H>, R: Threads + Sync>(
+    stores: &mut S,
+    hasher: &mut H,
+    rt: &R,
+    alloc: Global,
+    mode: Mode,
+    saved: SavedFact,
+) -> Result<State, PeerError>
+    ensures starts { Starts S.does S.refuses (continues_in Two mode saved) (stores.old, hasher.old) result (stores.new, hasher.new) }
+    ensures young { IfOk result (λ x. is_young x.phase ≡ true) }
+    ensures steady { IfOk result (λ x. IsSteady x) }
+    ensures own { IfOk result (λ x. (me : ℕ) → IsOwn me x) }
+{
+    match stores.open_tree(hasher, alloc, saved.seal, TreeVersion::One) {
+        Ok(()) => rescanned(stores, hasher, rt, alloc, mode, saved),
+        Err(error) => Err(error),
+    }
+}
+
+/// Continues from a kept fact.
+fn continued_in<H, S: Store<H>, R: Threads + Sync>(
+    stores: &mut S,
+    hasher: &mut H,
+    rt: &R,
+    alloc: Global,
+    mode: Mode,
+    saved: SavedFact,
+) -> Result<State, PeerError>
+    ensures starts { Starts S.does S.refuses (continues_in mode.tree mode saved) (stores.old, hasher.old) result (stores.new, hasher.new) }
+    ensures young { IfOk result (λ x. is_young x.phase ≡ true) }
+    ensures steady { IfOk result (λ x. IsSteady x) }
+    ensures own { IfOk result (λ x. (me : ℕ) → IsOwn me x) }
+{
+    match mode.tree {
+        TreeVersion::One => continued(stores, hasher, alloc, TreeVersion::One, mode, saved),
+        TreeVersion::Two => continued_in_two(stores, hasher, rt, alloc, mode, saved),
+    }
+}
+
+/// Starts from what was kept.
+fn opened<H, S: Store<H>, R: Threads + Sync>(
+    stores: &mut S,
+    hasher: &mut H,
+    rt: &R,
     alloc: Global,
     mode: Mode,
     opening: View,
@@ -68,11 +272,8 @@ fn opened<H, S: Store<H>>(
     ensures own { IfOk result (λ x. (me : ℕ) → IsOwn me x) }
 {
     match kept {
-        Some(saved) => match stores.open_tree(hasher, alloc, saved.seal) {
-            Ok(()) => Ok(first_state(mode, saved, false)),
-            Err(error) => Err(error),
-        },
-        None => match stores.fresh_tree(hasher, alloc) {
+        Some(saved) => continued_in(stores, hasher, rt, alloc, mode, saved),
+        None => match stores.fresh_tree(hasher, alloc, mode.tree) {
             Ok(()) => seal_opening(stores, hasher, mode, opening),
             Err(error) => Err(error),
         },
@@ -80,14 +281,16 @@ fn opened<H, S: Store<H>>(
 }
 
 /// Rule 1: returns the state in which a peer starts in this mode over these stores, with the view
-/// `opening` if they keep no fact.
+/// `opening` if they keep no fact. A kept tree of version one that is whole migrates to version two, if
+/// that is the version of the mode; its nodes are hashed by threads.
 ///
 /// # Errors
 ///
 /// An error of a call of the stores, which then are as that call left them, or `Memory`.
-pub fn start<H, S: Store<H>>(
+pub fn start<H, S: Store<H>, R: Threads + Sync>(
     stores: &mut S,
     hasher: &mut H,
+    rt: &R,
     alloc: Global,
     mode: Mode,
     opening: View,
@@ -98,5 +301,5 @@ pub fn start<H, S: Store<H>>(
     ensures own { IfOk result (λ x. (me : ℕ) → IsOwn me x) }
 {
     let kept = stores.load(hasher)?;
-    opened(stores, hasher, alloc, mode, opening, kept)
+    opened(stores, hasher, rt, alloc, mode, opening, kept)
 }

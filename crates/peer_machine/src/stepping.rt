@@ -15,7 +15,7 @@ use ens_base::{Epoch, Key, PeerId};
 use ens_object::Object;
 use following::is_served;
 use peer_fact::{Change, Fact};
-use peer_plan::{after_put, give_of, question_of};
+use peer_plan::after_put;
 use peer_state::{Event, Phase};
 use phase_rows::{PhaseOut, PhaseRule, Seen, Then};
 use std::alloc::Global;
@@ -261,12 +261,12 @@ impl<S> Machine<S> {
                 self.check_reply(hasher, alloc, out, me, from, *ballot, *round)
             }
             Message::TreeAsk(ballot, at, after) => {
-                let question = question_of(alloc, *at, after)?;
-                self.tree_ask(hasher, rt, alloc, out, me, from, *ballot, question)
+                self.ask_in_tree(hasher, rt, alloc, out, me, from, *ballot, *at, after)
             }
             Message::TreeGive(ballot, at, after, trusted, body) => {
-                let give = give_of(alloc, *ballot, *at, after, *trusted, body)?;
-                self.tree_give(hasher, rt, alloc, out, me, from, &give)
+                self.give_in_tree(
+                    hasher, rt, alloc, out, me, from, *ballot, *at, after, *trusted, body,
+                )
             }
             _ => {
                 let row = self.state.receive(me, from, message);

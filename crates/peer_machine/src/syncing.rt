@@ -3,23 +3,24 @@ ghost use Rattle.ens_base.specs.View.{IsPeer};
 ghost use Rattle.step_plans.specs.Calls.{ScanTree, ReadNode, Install};
 ghost use Rattle.step_plans.specs.Outboxes.{Grows, out_of};
 ghost use Rattle.step_plans.specs.Plans.{asked};
-ghost use Rattle.tree_node.specs.declared.version.TreeVersion.TheVariants.{One};
+ghost use Rattle.tree_node.specs.declared.version.TreeVersion.TheVariants.{Two};
 ghost use Rattle.tree_node.specs.Entries.{AreAbove};
 ghost use Rattle.tree_node.specs.Positions.{IsPosition};
 ghost use Rattle.peer_state.specs.NoAllocation.{ends_step};
 ghost use Rattle.peer_machine.specs.Outcomes.{Acts};
 ghost use Rattle.peer_state.specs.Moves.{keeps_seal};
 ghost use Rattle.peer_plan.specs.Syncs.{sealed_if, and_sends, installed, accepted, accepted_in, end_sync, by_outcome, go_on, start_sync, resume_sync, followed_on, own_node, shown_node, needs_node, take_give, tree_give};
-ghost use Rattle.peer_plan.specs.Drives.{got_ask};
+ghost use Rattle.peer_plan.specs.Drives.{got_ask, in_tree};
+ghost use Rattle.peer_plan.specs.TreeCalls.{has_position};
 ghost use Rattle.sync_rule.specs.Syncs.{MayBeBuilt};
 
 use crate::machine::Machine;
 use election::Election;
-use ens_base::{Bytes, Entry, Epoch, PeerId, Seq};
+use ens_base::{Bytes, Entry, Epoch, Key, PeerId, Seq};
 use exchange::Question;
 use leader_words::Outgoing;
 use peer_fact::{Change, Fact};
-use peer_plan::{body_given, needs_node, reached_node};
+use peer_plan::{body_given, give_of, has_position, needs_node, question_of, reached_node};
 use peer_state::{Phase, resume_sync, start_sync, sync_outcome, take_give};
 use phase_rows::{PhaseRule, Then};
 use running_sync::{Give, RunningSync};
@@ -27,7 +28,7 @@ use std::alloc::Global;
 use std::thread::Threads;
 use step_plans::{Outbox, PeerError, Store, Tasks, Walked};
 use sync_rule::{Outcome, needs_build};
-use tree_node::{Position, Scan, TreeBody};
+use tree_node::{Position, Scan, TreeBody, TreeVersion};
 use wire_frames::Message;
 
 impl<S> Machine<S> {
@@ -56,7 +57,7 @@ impl<S> Machine<S> {
     ) -> Result<Walked<Option<Bytes>>, PeerError>
     where
         S: Store<H>,
-        requires { IsPosition One at }
+        requires { IsPosition Two at }
         ensures { Acts S.does S.refuses (asked (ReadNode at)) self.old hasher.old out.now result self.new hasher.new out.now }
     {
         self.stores.read_node(hasher, alloc, at)
@@ -113,7 +114,7 @@ impl<S> Machine<S> {
     ) -> Result<Option<Bytes>, PeerError>
     where
         S: Store<H>,
-        requires { IsPosition One at }
+        requires { IsPosition Two at }
         ensures { Acts S.does S.refuses (own_node needed at) self.old hasher.old out.now result self.new hasher.new out.now }
     {
         if needed {
@@ -125,7 +126,7 @@ impl<S> Machine<S> {
     }
 
     /// What the peer sends for a question, if it is answered.
-    #[tactic(auto, using(peer_plan::proofs::Parts::cut))]
+    #[tactic(auto, using(peer_plan::proofs::Parts::cut, tree_node::proofs::TreeVersionLaws::position_deepest))]
     fn shown_node<H>(
         &mut self,
         hasher: &mut H,
@@ -136,12 +137,13 @@ impl<S> Machine<S> {
     ) -> Result<Option<TreeBody>, PeerError>
     where
         S: Store<H>,
-        requires { IsPosition One question.now.position }
-        ensures { Acts S.does S.refuses (shown_node answered question.now) self.old hasher.old out.now result self.new hasher.new out.now }
+        requires { IsPosition self.old.state.mode.tree question.now.position }
+        ensures { Acts S.does S.refuses (shown_node self.old.state.mode.tree answered question.now) self.old hasher.old out.now result self.new hasher.new out.now }
     {
+        let tree = self.state.mode.tree;
         if answered {
             let walked = self.read_node(hasher, alloc, out, question.position)?;
-            let body = body_given(alloc, question, walked)?;
+            let body = body_given(alloc, tree, question, walked)?;
             Ok(Some(body))
         } else {
             Ok(None)
@@ -373,10 +375,10 @@ impl<S> Machine<S> {
         }
     }
 
-    /// Rule 23: a peer that syncs asks for a node of the tree.
+    /// Answers a peer that syncs, which asks for a node of the tree.
     #[tactic(auto, using(peer_plan::proofs::Parts::cut))]
     #[inline(never)]
-    pub(crate) fn tree_ask<H, R: Threads + Sync>(
+    fn tree_ask<H, R: Threads + Sync>(
         &mut self,
         hasher: &mut H,
         rt: &R,
@@ -391,7 +393,7 @@ impl<S> Machine<S> {
         S: Store<H>,
         requires me { IsPeer me }
         requires from { IsPeer from }
-        requires position { IsPosition One question.position }
+        requires position { IsPosition self.old.state.mode.tree question.position }
         ensures acts { Acts S.does S.refuses (got_ask me from ballot question) self.old hasher.old out.old result self.new hasher.new out.new }
         ensures grows { Grows out.old out.new }
     {
@@ -402,7 +404,38 @@ impl<S> Machine<S> {
         Ok(tasks)
     }
 
-    /// Lets the sync that runs, if one does, take an answer.
+    /// Rule 23: a peer that syncs asks for a node of the tree. Nothing happens where the peer's own tree
+    /// does not have the position.
+    #[tactic(auto, using(peer_plan::proofs::Parts::cut))]
+    pub(crate) fn ask_in_tree<H, R: Threads + Sync>(
+        &mut self,
+        hasher: &mut H,
+        rt: &R,
+        alloc: Global,
+        out: &mut Outbox,
+        me: PeerId,
+        from: PeerId,
+        ballot: Epoch,
+        at: Position,
+        after: &Option<Key>,
+    ) -> Result<Tasks, PeerError>
+    where
+        S: Store<H>,
+        requires me { IsPeer me }
+        requires from { IsPeer from }
+        requires position { IsPosition Two at }
+        ensures acts { Acts S.does S.refuses (λ x o next. in_tree (has_position x.mode.tree at) (got_ask me from ballot (record { position = at; after = after.now })) x o next) self.old hasher.old out.old result self.new hasher.new out.new }
+        ensures grows { Grows out.old out.new }
+    {
+        if has_position(self.state.mode.tree, at) {
+            let question = question_of(alloc, at, after)?;
+            self.tree_ask(hasher, rt, alloc, out, me, from, ballot, question)
+        } else {
+            Ok(Tasks::none(alloc))
+        }
+    }
+
+    /// Lets the sync that runs, if one does, take an answer, in a tree of this version.
     #[tactic(auto, using(peer_plan::proofs::Parts::cut, peer_plan::proofs::Syncs::go_on_without))]
     fn take_give<H, R: Threads + Sync>(
         &mut self,
@@ -410,6 +443,7 @@ impl<S> Machine<S> {
         rt: &R,
         alloc: Global,
         out: &mut Outbox,
+        tree: TreeVersion,
         me: PeerId,
         from: PeerId,
         give: &Give,
@@ -418,24 +452,24 @@ impl<S> Machine<S> {
     where
         S: Store<H>,
         requires me { IsPeer me }
-        requires position { IsPosition One give.now.question.position }
-        ensures acts { Acts S.does S.refuses (λ x o next. take_give me from give.now own.now x.sync x o next) self.old hasher.old out.old result self.new hasher.new out.new }
+        requires position { IsPosition tree give.now.question.position }
+        ensures acts { Acts S.does S.refuses (λ x o next. take_give tree me from give.now own.now x.sync x o next) self.old hasher.old out.old result self.new hasher.new out.new }
         ensures grows { Grows out.old out.new }
     {
         match self.state.sync.take() {
             None => Ok(Tasks::none(alloc)),
             Some(running) => {
                 let mut running = running;
-                let sends = take_give(alloc, &mut running, from, give, own)?;
+                let sends = take_give(alloc, tree, &mut running, from, give, own)?;
                 self.go_on(hasher, rt, alloc, out, me, running, sends)
             }
         }
     }
 
-    /// Takes what a source of the sync sent.
-    #[tactic(auto, using(peer_plan::proofs::Parts::cut))]
+    /// Takes what a source of the sync sent of a position of the own tree.
+    #[tactic(auto, using(peer_plan::proofs::Parts::cut, tree_node::proofs::TreeVersionLaws::position_deepest))]
     #[inline(never)]
-    pub(crate) fn tree_give<H, R: Threads + Sync>(
+    fn tree_give<H, R: Threads + Sync>(
         &mut self,
         hasher: &mut H,
         rt: &R,
@@ -448,13 +482,45 @@ impl<S> Machine<S> {
     where
         S: Store<H>,
         requires me { IsPeer me }
-        requires position { IsPosition One give.now.question.position }
+        requires position { IsPosition self.old.state.mode.tree give.now.question.position }
         ensures acts { Acts S.does S.refuses (tree_give me from give.now) self.old hasher.old out.old result self.new hasher.new out.new }
         ensures grows { Grows out.old out.new }
     {
+        let tree = self.state.mode.tree;
         let needed = needs_node(&self.state, from, give);
         let own = self.own_node(hasher, alloc, out, needed, give.question.position)?;
-        let tasks = self.take_give(hasher, rt, alloc, out, me, from, give, &own)?;
+        let tasks = self.take_give(hasher, rt, alloc, out, tree, me, from, give, &own)?;
         Ok(tasks)
+    }
+    /// A source of the sync sent what it has of a node. Nothing happens where the peer's own tree does not
+    /// have the position: no question for it is open.
+    #[tactic(auto, using(peer_plan::proofs::Parts::cut))]
+    pub(crate) fn give_in_tree<H, R: Threads + Sync>(
+        &mut self,
+        hasher: &mut H,
+        rt: &R,
+        alloc: Global,
+        out: &mut Outbox,
+        me: PeerId,
+        from: PeerId,
+        ballot: Epoch,
+        at: Position,
+        after: &Option<Key>,
+        trusted: bool,
+        body: &TreeBody,
+    ) -> Result<Tasks, PeerError>
+    where
+        S: Store<H>,
+        requires me { IsPeer me }
+        requires position { IsPosition Two at }
+        ensures acts { Acts S.does S.refuses (λ x o next. in_tree (has_position x.mode.tree at) (tree_give me from (record { ballot = ballot; question = record { position = at; after = after.now }; trusted = trusted; body = body.now })) x o next) self.old hasher.old out.old result self.new hasher.new out.new }
+        ensures grows { Grows out.old out.new }
+    {
+        if has_position(self.state.mode.tree, at) {
+            let give = give_of(alloc, ballot, at, after, trusted, body)?;
+            self.tree_give(hasher, rt, alloc, out, me, from, &give)
+        } else {
+            Ok(Tasks::none(alloc))
+        }
     }
 }

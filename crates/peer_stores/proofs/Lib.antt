@@ -1,2 +1,3 @@
 mod TreeCounts
 pub mod SameStores
+pub mod PeerPlan

@@ -1,6 +1,7 @@
 -- What a call of the tree did is what the stores may answer to it.
 use Rattle.std.specs.Option.{IsSomeAnd}
-use Rattle.std.proofs.Common.{◌≡◌, ◌≤◌, ℕ, List, [], Option, None, Some, Result, Ok, Err, refl, inl, inr, arith, ap, subst}
+use Rattle.std.proofs.Common.{◌≡◌, ◌≤◌, ℕ, Bool, true, false, List, [], Option, None, Some, Result, Ok, Err, refl, sym, inl, inr, arith, ap, subst}
+use Rattle.std.specs.Prelude.{if◌then◌else◌}
 use Rattle.ens_base.specs.Causes.{Rose}
 use Rattle.ens_base.specs.declared.entry.Entry.{Entry}
 use Rattle.ens_hashing.specs.Hashing.{Book}
@@ -8,7 +9,6 @@ use Rattle.ens_outside.specs.Stores.{NodeCall, NodeAnswer, Top, BackendCall, Bac
 use Rattle.ens_outside.specs.declared.errors.StoreError.{StoreError}
 use Rattle.step_plans.specs.declared.error.PeerError.{PeerError}
 use Rattle.tree_node.specs.declared.version.TreeVersion.{TreeVersion}
-use Rattle.tree_node.specs.declared.version.TreeVersion.TheVariants.{One}
 use Rattle.synctree.specs.Halves.{NodesDid}
 use Rattle.synctree.specs.Meanings.{Enters, Reopens}
 use Rattle.synctree.specs.Outsides.{outside_does, outside_refuses}
@@ -18,18 +18,19 @@ use Rattle.synctree.specs.Trees.{open_plan, fresh_plan, get_plan, insert_plan}
 use Rattle.synctree.specs.declared.error.TreeError.{TreeError}
 use Rattle.synctree.specs.declared.error.TreeError.TheVariants as trees
 use Rattle.step_plans.specs.Calls as peers
+use Rattle.step_plans.specs.declared.walked.Walked.TheVariants.{Reached}
 use Rattle.step_plans.specs.Calls.{FreshTree, OpenTree, Root, Find, Enter, ScanTree, ReadNode, Install, Answers}
 use Rattle.tree_maps.specs.Sixteen.{form_of}
 use Rattle.tree_node.specs.declared.body.Scan.{Scan}
 use Rattle.tree_node.specs.declared.position.Position.{Position}
-use Rattle.tree_repair.specs.Rebuilds.{rebuild_plan}
-use Rattle.tree_verify.specs.Levels.{scan_plan}
+use Rattle.peer_plan.specs.TreeRepair.{rebuild_plan}
+use Rattle.peer_plan.specs.TreeVerify.{scan_plan}
 use Rattle.fact_store.specs.Keeping.{KeeperCall, KeeperAnswer}
 use Rattle.fact_store.specs.declared.error.KeepError.{KeepError}
 use Rattle.peer_fact.specs.declared.error.FactError.{FactError}
 use Rattle.peer_fact.specs.declared.saved.SavedFact.{SavedFact}
 use Rattle.peer_stores.specs.Stores.{stores_do, stores_refuse, TreeAlone, TreeLater, IsTreeError}
-use Rattle.peer_plan.specs.TreeCalls.{Walks, Halts, heard, peer_error}
+use Rattle.peer_plan.specs.TreeCalls.{Walks, Halts, has_position, position_plan, heard, peer_error}
 use Rattle.peer_stores.specs.declared.stores.Stores.{Stores}
 use Rattle.peer_plan.proofs.Whole.{never_broken, scan_whole, rebuild_whole}
 
@@ -138,8 +139,8 @@ module _ {N H : Type 0} (reads : N → (call : NodeCall) → NodeAnswer call →
     abbrev pub Halted : {A : Type 0} → Plan A → PeerError → Type 0
     Halted p e = Halts Does Refuses p (s.0.tree, s.1) e (t.0.tree, t.1) × IsTreeError n c d s e t × TreeAlone s t
 
-    pub halts : {A : Type 0} (p : Plan A) (e : TreeError) → t.0.tree.top ≡ s.0.tree.top → Stops Does Refuses p (s.0.tree.store, s.1) e (t.0.tree.store, t.1) → Halted p (peer_error e)
-    halts p e top stopped = ((e, refl, stopped, top), error_of e (stops_cause p (s.0.tree.store, s.1) (t.0.tree.store, t.1) e stopped), alone)
+    pub halts : {A : Type 0} (p : Plan A) (e : TreeError) → t.0.tree.top ≡ s.0.tree.top → t.0.tree.version ≡ s.0.tree.version → Stops Does Refuses p (s.0.tree.store, s.1) e (t.0.tree.store, t.1) → Halted p (peer_error e)
+    halts p e top version stopped = ((e, refl, stopped, top, version), error_of e (stops_cause p (s.0.tree.store, s.1) (t.0.tree.store, t.1) e stopped), alone)
 
     changed : (p : Plan (List ℕ)) (o : Option (List ℕ)) → IsSomeAnd o (λ root. Walks Does p (s.0.tree, s.1) (Ok root) (t.0.tree, t.1)) → TreeLater n c d s t
     changed p (Some root) did = walks p (Ok root) did
@@ -151,100 +152,94 @@ module _ {N H : Type 0} (reads : N → (call : NodeCall) → NodeAnswer call →
       StoresAnswer call r = Answers (stores_do gives b reads tops n tells kept f strings c d) (stores_refuse loses b reads misses tops n drops kept f strings c d) s call r t
 
       -- the tree was made empty
-      pub fresh_ok : (u : Unit {0}) → Enters (λ r. Did Does Refuses (fresh_plan (form_of One)) (s.0.tree.store, s.1) r (t.0.tree.store, t.1)) s.0.tree.top (Ok u) t.0.tree.top → StoresAnswer FreshTree (Ok u)
-      fresh_ok u did = (did, changed (fresh_plan (form_of One)) t.0.tree.top did)
+      pub fresh_ok : (tree : TreeVersion) (u : Unit {0}) → t.0.tree.version ≡ tree → Enters (λ r. Did Does Refuses (fresh_plan (form_of tree)) (s.0.tree.store, s.1) r (t.0.tree.store, t.1)) s.0.tree.top (Ok u) t.0.tree.top → StoresAnswer (FreshTree tree) (Ok u)
+      fresh_ok tree u version did = (did, changed (fresh_plan (form_of tree)) t.0.tree.top did, version)
 
-      pub fresh_err : (e : TreeError) → Enters (λ r. Did Does Refuses (fresh_plan (form_of One)) (s.0.tree.store, s.1) r (t.0.tree.store, t.1)) s.0.tree.top (Err e) t.0.tree.top → StoresAnswer FreshTree (Err (peer_error e))
-      fresh_err (trees.Damaged at) did = let none : ⊥ = grind (arith, did.0.1.5.5.5.1) in absurd none
-      fresh_err trees.Failed did = halts (fresh_plan (form_of One)) trees.Failed did.1 did.0
-      fresh_err (trees.Clash x y) did = halts (fresh_plan (form_of One)) (trees.Clash x y) did.1 did.0
-      fresh_err (trees.BookFull k) did = halts (fresh_plan (form_of One)) (trees.BookFull k) did.1 did.0
-      fresh_err trees.Memory did = halts (fresh_plan (form_of One)) trees.Memory did.1 did.0
+      pub fresh_err : (tree : TreeVersion) (e : TreeError) → t.0.tree.version ≡ s.0.tree.version → Enters (λ r. Did Does Refuses (fresh_plan (form_of tree)) (s.0.tree.store, s.1) r (t.0.tree.store, t.1)) s.0.tree.top (Err e) t.0.tree.top → StoresAnswer (FreshTree tree) (Err (peer_error e))
+      fresh_err tree (trees.Damaged at) version did = let none : ⊥ = grind (arith, did.0.1.5.5.5.1) in absurd none
+      fresh_err tree trees.Failed version did = halts (fresh_plan (form_of tree)) trees.Failed did.1 version did.0
+      fresh_err tree (trees.Clash x y) version did = halts (fresh_plan (form_of tree)) (trees.Clash x y) did.1 version did.0
+      fresh_err tree (trees.BookFull k) version did = halts (fresh_plan (form_of tree)) (trees.BookFull k) did.1 version did.0
+      fresh_err tree trees.Memory version did = halts (fresh_plan (form_of tree)) trees.Memory did.1 version did.0
 
       -- the tree was opened
-      pub open_ok : (seal : Option (List ℕ)) (u : Unit {0}) → t.1 ≡ s.1 → Reopens (λ r. NodesDid reads misses tops n Top s.0.tree.store r t.0.tree.store) seal s.0.tree.top (Ok u) t.0.tree.top → StoresAnswer (OpenTree seal) (Ok u)
-      open_ok seal u same did =
+      pub open_ok : (seal : Option (List ℕ)) (tree : TreeVersion) (u : Unit {0}) → t.1 ≡ s.1 → t.0.tree.version ≡ tree → Reopens (λ r. NodesDid reads misses tops n Top s.0.tree.store r t.0.tree.store) seal s.0.tree.top (Ok u) t.0.tree.top → StoresAnswer (OpenTree seal tree) (Ok u)
+      open_ok seal tree u same version did =
           let came : Walks Does open_plan (s.0.tree, s.1) (Ok did.0) (t.0.tree, t.1) = ([], (did.0, (t.0.tree.store, t.1), [], (did.1.0, did.1.1, did.1.2, same), refl, (refl, refl, refl))) in
-          ((did.0, came, did.2), walks open_plan (Ok did.0) came)
+          ((did.0, came, did.2), walks open_plan (Ok did.0) came, version)
 
-      pub open_err : (seal : Option (List ℕ)) (e : TreeError) → t.1 ≡ s.1 → Reopens (λ r. NodesDid reads misses tops n Top s.0.tree.store r t.0.tree.store) seal s.0.tree.top (Err e) t.0.tree.top → StoresAnswer (OpenTree seal) (Err (peer_error e))
-      open_err seal (trees.Damaged at) same did = absurd did.0
-      open_err seal trees.Failed same did = halts open_plan trees.Failed did.1 (inr (inl (did.0.0, did.0.1, did.0.2, did.0.3, same)))
-      open_err seal (trees.Clash x y) same did = absurd did.0
-      open_err seal (trees.BookFull k) same did = absurd did.0
-      open_err seal trees.Memory same did = halts open_plan trees.Memory did.1 (inr (inl (did.0.0, did.0.1, did.0.2, same)))
+      pub open_err : (seal : Option (List ℕ)) (tree : TreeVersion) (e : TreeError) → t.1 ≡ s.1 → t.0.tree.version ≡ s.0.tree.version → Reopens (λ r. NodesDid reads misses tops n Top s.0.tree.store r t.0.tree.store) seal s.0.tree.top (Err e) t.0.tree.top → StoresAnswer (OpenTree seal tree) (Err (peer_error e))
+      open_err seal tree (trees.Damaged at) same version did = absurd did.0
+      open_err seal tree trees.Failed same version did = halts open_plan trees.Failed did.1 version (inr (inl (did.0.0, did.0.1, did.0.2, did.0.3, same)))
+      open_err seal tree (trees.Clash x y) same version did = absurd did.0
+      open_err seal tree (trees.BookFull k) same version did = absurd did.0
+      open_err seal tree trees.Memory same version did = halts open_plan trees.Memory did.1 version (inr (inl (did.0.0, did.0.1, did.0.2, same)))
 
       -- the root was told
       pub root_told : (a : Option (List ℕ)) → a ≡ s.0.tree.top → t ≡ s → StoresAnswer Root (Ok a)
-      root_told a is same =
-          ((is, ap (λ (k : Stores B N F × H). k.0.tree) same, ap (λ (k : Stores B N F × H). k.1) same), later_of (still (s.0.tree.store, s.1) (t.0.tree.store, t.1) (ap (λ (k : Stores B N F × H). (k.0.tree.store, k.1)) same)))
+      root_told a is same = (
+        (is, ap (λ (k : Stores B N F × H). k.0.tree) same, ap (λ (k : Stores B N F × H). k.1) same),
+        later_of (still (s.0.tree.store, s.1) (t.0.tree.store, t.1) (ap (λ (k : Stores B N F × H). (k.0.tree.store, k.1)) same)),
+        ap (λ (k : Stores B N F × H). k.0.tree.version) same,
+      )
 
       -- the tree was searched
-      found_one : (key : List ℕ) (r : Result (Option Entry) TreeError) → t.0.tree.top ≡ s.0.tree.top → Did Does Refuses (get_plan (form_of One) s.0.tree.top key) (s.0.tree.store, s.1) r (t.0.tree.store, t.1) → StoresAnswer (Find key) (heard r)
-      found_one key (Ok x) top did = ((did, top), walks (get_plan (form_of One) s.0.tree.top key) (Ok x) did)
-      found_one key (Err (trees.Damaged at)) top did = ((did, top), walks (get_plan (form_of One) s.0.tree.top key) (Err at) did)
-      found_one key (Err trees.Failed) top did = halts (get_plan (form_of One) s.0.tree.top key) trees.Failed top did
-      found_one key (Err (trees.Clash x y)) top did = halts (get_plan (form_of One) s.0.tree.top key) (trees.Clash x y) top did
-      found_one key (Err (trees.BookFull k)) top did = halts (get_plan (form_of One) s.0.tree.top key) (trees.BookFull k) top did
-      found_one key (Err trees.Memory) top did = halts (get_plan (form_of One) s.0.tree.top key) trees.Memory top did
-
-      pub found : (key : List ℕ) (r : Result (Option Entry) TreeError) → t.0.tree.top ≡ s.0.tree.top → Did Does Refuses (get_plan (form_of s.0.tree.version) s.0.tree.top key) (s.0.tree.store, s.1) r (t.0.tree.store, t.1) → StoresAnswer (Find key) (heard r)
-      found key r top did = found_one key r top (subst (λ (v : TreeVersion). Did Does Refuses (get_plan (form_of v) s.0.tree.top key) (s.0.tree.store, s.1) r (t.0.tree.store, t.1)) s.0.of_version_one did)
+      pub found : (key : List ℕ) (r : Result (Option Entry) TreeError) → t.0.tree.top ≡ s.0.tree.top → t.0.tree.version ≡ s.0.tree.version → Did Does Refuses (get_plan (form_of s.0.tree.version) s.0.tree.top key) (s.0.tree.store, s.1) r (t.0.tree.store, t.1) → StoresAnswer (Find key) (heard r)
+      found key (Ok x) top version did = ((did, top), walks (get_plan (form_of s.0.tree.version) s.0.tree.top key) (Ok x) did, version)
+      found key (Err (trees.Damaged at)) top version did = ((did, top), walks (get_plan (form_of s.0.tree.version) s.0.tree.top key) (Err at) did, version)
+      found key (Err trees.Failed) top version did = halts (get_plan (form_of s.0.tree.version) s.0.tree.top key) trees.Failed top version did
+      found key (Err (trees.Clash x y)) top version did = halts (get_plan (form_of s.0.tree.version) s.0.tree.top key) (trees.Clash x y) top version did
+      found key (Err (trees.BookFull k)) top version did = halts (get_plan (form_of s.0.tree.version) s.0.tree.top key) (trees.BookFull k) top version did
+      found key (Err trees.Memory) top version did = halts (get_plan (form_of s.0.tree.version) s.0.tree.top key) trees.Memory top version did
 
       -- an entry was entered
-      entered_one : (entry : Entry) (r : Result (Unit {0}) TreeError) → Enters (λ r. Did Does Refuses (insert_plan (form_of One) s.0.tree.top entry) (s.0.tree.store, s.1) r (t.0.tree.store, t.1)) s.0.tree.top r t.0.tree.top → StoresAnswer (Enter entry) (heard r)
-      entered_one entry (Ok u) did = (did, changed (insert_plan (form_of One) s.0.tree.top entry) t.0.tree.top did)
-      entered_one entry (Err (trees.Damaged at)) did = ((did.0, did.1), walks (insert_plan (form_of One) s.0.tree.top entry) (Err at) did.0)
-      entered_one entry (Err trees.Failed) did = halts (insert_plan (form_of One) s.0.tree.top entry) trees.Failed did.1 did.0
-      entered_one entry (Err (trees.Clash x y)) did = halts (insert_plan (form_of One) s.0.tree.top entry) (trees.Clash x y) did.1 did.0
-      entered_one entry (Err (trees.BookFull k)) did = halts (insert_plan (form_of One) s.0.tree.top entry) (trees.BookFull k) did.1 did.0
-      entered_one entry (Err trees.Memory) did = halts (insert_plan (form_of One) s.0.tree.top entry) trees.Memory did.1 did.0
-
-      pub entered : (entry : Entry) (r : Result (Unit {0}) TreeError) → Enters (λ r. Did Does Refuses (insert_plan (form_of s.0.tree.version) s.0.tree.top entry) (s.0.tree.store, s.1) r (t.0.tree.store, t.1)) s.0.tree.top r t.0.tree.top → StoresAnswer (Enter entry) (heard r)
-      entered entry r did = entered_one entry r (subst (λ (v : TreeVersion). Enters (λ r. Did Does Refuses (insert_plan (form_of v) s.0.tree.top entry) (s.0.tree.store, s.1) r (t.0.tree.store, t.1)) s.0.tree.top r t.0.tree.top) s.0.of_version_one did)
+      pub entered : (entry : Entry) (r : Result (Unit {0}) TreeError) → t.0.tree.version ≡ s.0.tree.version → Enters (λ r. Did Does Refuses (insert_plan (form_of s.0.tree.version) s.0.tree.top entry) (s.0.tree.store, s.1) r (t.0.tree.store, t.1)) s.0.tree.top r t.0.tree.top → StoresAnswer (Enter entry) (heard r)
+      entered entry (Ok u) version did = (did, changed (insert_plan (form_of s.0.tree.version) s.0.tree.top entry) t.0.tree.top did, version)
+      entered entry (Err (trees.Damaged at)) version did = ((did.0, did.1), walks (insert_plan (form_of s.0.tree.version) s.0.tree.top entry) (Err at) did.0, version)
+      entered entry (Err trees.Failed) version did = halts (insert_plan (form_of s.0.tree.version) s.0.tree.top entry) trees.Failed did.1 version did.0
+      entered entry (Err (trees.Clash x y)) version did = halts (insert_plan (form_of s.0.tree.version) s.0.tree.top entry) (trees.Clash x y) did.1 version did.0
+      entered entry (Err (trees.BookFull k)) version did = halts (insert_plan (form_of s.0.tree.version) s.0.tree.top entry) (trees.BookFull k) did.1 version did.0
+      entered entry (Err trees.Memory) version did = halts (insert_plan (form_of s.0.tree.version) s.0.tree.top entry) trees.Memory did.1 version did.0
 
       -- the tree was scanned, which reports no damage as an error
-      scanned_ok_one : (found : Scan) → t.0.tree.top ≡ s.0.tree.top → Did Does Refuses (scan_plan (form_of One) s.0.tree.top) (s.0.tree.store, s.1) (Ok found) (t.0.tree.store, t.1) → StoresAnswer ScanTree (Ok found)
-      scanned_ok_one found top did = ((did, top), walks (scan_plan (form_of One) s.0.tree.top) (Ok found) did)
+      pub scanned_ok : (found : Scan) → t.0.tree.top ≡ s.0.tree.top → t.0.tree.version ≡ s.0.tree.version → Did Does Refuses (scan_plan (form_of s.0.tree.version) s.0.tree.top) (s.0.tree.store, s.1) (Ok found) (t.0.tree.store, t.1) → StoresAnswer ScanTree (Ok found)
+      scanned_ok found top version did = ((did, top), walks (scan_plan (form_of s.0.tree.version) s.0.tree.top) (Ok found) did, version)
 
-      pub scanned_ok : (found : Scan) → t.0.tree.top ≡ s.0.tree.top → Did Does Refuses (scan_plan (form_of s.0.tree.version) s.0.tree.top) (s.0.tree.store, s.1) (Ok found) (t.0.tree.store, t.1) → StoresAnswer ScanTree (Ok found)
-      scanned_ok found top did = scanned_ok_one found top (subst (λ (v : TreeVersion). Did Does Refuses (scan_plan (form_of v) s.0.tree.top) (s.0.tree.store, s.1) (Ok found) (t.0.tree.store, t.1)) s.0.of_version_one did)
+      pub scanned_err : (e : TreeError) → t.0.tree.top ≡ s.0.tree.top → t.0.tree.version ≡ s.0.tree.version → Did Does Refuses (scan_plan (form_of s.0.tree.version) s.0.tree.top) (s.0.tree.store, s.1) (Err e) (t.0.tree.store, t.1) → StoresAnswer ScanTree (Err (peer_error e))
+      scanned_err (trees.Damaged at) top version did = absurd (never_broken Does (scan_plan (form_of s.0.tree.version) s.0.tree.top) _ did.0 at _ (scan_whole (form_of s.0.tree.version) s.0.tree.top) did.1)
+      scanned_err trees.Failed top version did = halts (scan_plan (form_of s.0.tree.version) s.0.tree.top) trees.Failed top version did
+      scanned_err (trees.Clash x y) top version did = halts (scan_plan (form_of s.0.tree.version) s.0.tree.top) (trees.Clash x y) top version did
+      scanned_err (trees.BookFull k) top version did = halts (scan_plan (form_of s.0.tree.version) s.0.tree.top) (trees.BookFull k) top version did
+      scanned_err trees.Memory top version did = halts (scan_plan (form_of s.0.tree.version) s.0.tree.top) trees.Memory top version did
 
-      scanned_err_one : (e : TreeError) → t.0.tree.top ≡ s.0.tree.top → Did Does Refuses (scan_plan (form_of One) s.0.tree.top) (s.0.tree.store, s.1) (Err e) (t.0.tree.store, t.1) → StoresAnswer ScanTree (Err (peer_error e))
-      scanned_err_one (trees.Damaged at) top did = absurd (never_broken Does (scan_plan (form_of One) s.0.tree.top) _ did.0 at _ (scan_whole (form_of One) s.0.tree.top) did.1)
-      scanned_err_one trees.Failed top did = halts (scan_plan (form_of One) s.0.tree.top) trees.Failed top did
-      scanned_err_one (trees.Clash x y) top did = halts (scan_plan (form_of One) s.0.tree.top) (trees.Clash x y) top did
-      scanned_err_one (trees.BookFull k) top did = halts (scan_plan (form_of One) s.0.tree.top) (trees.BookFull k) top did
-      scanned_err_one trees.Memory top did = halts (scan_plan (form_of One) s.0.tree.top) trees.Memory top did
+      -- a node was read, or there is none at a position that the tree does not have
+      position_read : (at : Position) (r : Result (Option (List ℕ)) TreeError) → t.0.tree.top ≡ s.0.tree.top → t.0.tree.version ≡ s.0.tree.version → Did Does Refuses (position_plan s.0.tree.version s.0.tree.top at) (s.0.tree.store, s.1) r (t.0.tree.store, t.1) → StoresAnswer (ReadNode at) (heard r)
+      position_read at (Ok x) top version did = ((did, top), walks (position_plan s.0.tree.version s.0.tree.top at) (Ok x) did, version)
+      position_read at (Err (trees.Damaged place)) top version did = ((did, top), walks (position_plan s.0.tree.version s.0.tree.top at) (Err place) did, version)
+      position_read at (Err trees.Failed) top version did = halts (position_plan s.0.tree.version s.0.tree.top at) trees.Failed top version did
+      position_read at (Err (trees.Clash x y)) top version did = halts (position_plan s.0.tree.version s.0.tree.top at) (trees.Clash x y) top version did
+      position_read at (Err (trees.BookFull k)) top version did = halts (position_plan s.0.tree.version s.0.tree.top at) (trees.BookFull k) top version did
+      position_read at (Err trees.Memory) top version did = halts (position_plan s.0.tree.version s.0.tree.top at) trees.Memory top version did
 
-      pub scanned_err : (e : TreeError) → t.0.tree.top ≡ s.0.tree.top → Did Does Refuses (scan_plan (form_of s.0.tree.version) s.0.tree.top) (s.0.tree.store, s.1) (Err e) (t.0.tree.store, t.1) → StoresAnswer ScanTree (Err (peer_error e))
-      scanned_err e top did = scanned_err_one e top (subst (λ (v : TreeVersion). Did Does Refuses (scan_plan (form_of v) s.0.tree.top) (s.0.tree.store, s.1) (Err e) (t.0.tree.store, t.1)) s.0.of_version_one did)
+      -- what is read at a position that the tree has, or that it does not have
+      abbrev PositionDid : Bool → Position → Result (Option (List ℕ)) TreeError → Type 0
+      PositionDid has at r = Did Does Refuses (if has then node_plan (form_of s.0.tree.version) s.0.tree.top at else Done None) (s.0.tree.store, s.1) r (t.0.tree.store, t.1)
 
-      -- a node was read
-      node_read_one : (at : Position) (r : Result (Option (List ℕ)) TreeError) → t.0.tree.top ≡ s.0.tree.top → Did Does Refuses (node_plan (form_of One) s.0.tree.top at) (s.0.tree.store, s.1) r (t.0.tree.store, t.1) → StoresAnswer (ReadNode at) (heard r)
-      node_read_one at (Ok x) top did = ((did, top), walks (node_plan (form_of One) s.0.tree.top at) (Ok x) did)
-      node_read_one at (Err (trees.Damaged place)) top did = ((did, top), walks (node_plan (form_of One) s.0.tree.top at) (Err place) did)
-      node_read_one at (Err trees.Failed) top did = halts (node_plan (form_of One) s.0.tree.top at) trees.Failed top did
-      node_read_one at (Err (trees.Clash x y)) top did = halts (node_plan (form_of One) s.0.tree.top at) (trees.Clash x y) top did
-      node_read_one at (Err (trees.BookFull k)) top did = halts (node_plan (form_of One) s.0.tree.top at) (trees.BookFull k) top did
-      node_read_one at (Err trees.Memory) top did = halts (node_plan (form_of One) s.0.tree.top at) trees.Memory top did
+      pub node_read : (at : Position) (r : Result (Option (List ℕ)) TreeError) → has_position s.0.tree.version at ≡ true → t.0.tree.top ≡ s.0.tree.top → t.0.tree.version ≡ s.0.tree.version → Did Does Refuses (node_plan (form_of s.0.tree.version) s.0.tree.top at) (s.0.tree.store, s.1) r (t.0.tree.store, t.1) → StoresAnswer (ReadNode at) (heard r)
+      node_read at r inside top version did = position_read at r top version (subst (λ (has : Bool). PositionDid has at r) (sym inside) did)
 
-      pub node_read : (at : Position) (r : Result (Option (List ℕ)) TreeError) → t.0.tree.top ≡ s.0.tree.top → Did Does Refuses (node_plan (form_of s.0.tree.version) s.0.tree.top at) (s.0.tree.store, s.1) r (t.0.tree.store, t.1) → StoresAnswer (ReadNode at) (heard r)
-      node_read at r top did = node_read_one at r top (subst (λ (v : TreeVersion). Did Does Refuses (node_plan (form_of v) s.0.tree.top at) (s.0.tree.store, s.1) r (t.0.tree.store, t.1)) s.0.of_version_one did)
+      pub node_absent : (at : Position) → has_position s.0.tree.version at ≡ false → t ≡ s → StoresAnswer (ReadNode at) (Ok (Reached None))
+      node_absent at outside same =
+          position_read at (Ok None) (ap (λ (k : Stores B N F × H). k.0.tree.top) same) (ap (λ (k : Stores B N F × H). k.0.tree.version) same)
+          (subst (λ (has : Bool). PositionDid has at (Ok None)) (sym outside) ([], (refl, refl, ap (λ (k : Stores B N F × H). (k.0.tree.store, k.1)) same)))
 
       -- the tree was built anew and installed
-      installed_ok_one : (entries : List Entry) (u : Unit {0}) → Enters (λ r. Did Does Refuses (rebuild_plan (form_of One) entries) (s.0.tree.store, s.1) r (t.0.tree.store, t.1)) s.0.tree.top (Ok u) t.0.tree.top → StoresAnswer (Install entries) (Ok u)
-      installed_ok_one entries u did = (did, changed (rebuild_plan (form_of One) entries) t.0.tree.top did)
+      pub installed_ok : (entries : List Entry) (u : Unit {0}) → t.0.tree.version ≡ s.0.tree.version → Enters (λ r. Did Does Refuses (rebuild_plan (form_of s.0.tree.version) entries) (s.0.tree.store, s.1) r (t.0.tree.store, t.1)) s.0.tree.top (Ok u) t.0.tree.top → StoresAnswer (Install entries) (Ok u)
+      installed_ok entries u version did = (did, changed (rebuild_plan (form_of s.0.tree.version) entries) t.0.tree.top did, version)
 
-      pub installed_ok : (entries : List Entry) (u : Unit {0}) → Enters (λ r. Did Does Refuses (rebuild_plan (form_of s.0.tree.version) entries) (s.0.tree.store, s.1) r (t.0.tree.store, t.1)) s.0.tree.top (Ok u) t.0.tree.top → StoresAnswer (Install entries) (Ok u)
-      installed_ok entries u did = installed_ok_one entries u (subst (λ (v : TreeVersion). Enters (λ r. Did Does Refuses (rebuild_plan (form_of v) entries) (s.0.tree.store, s.1) r (t.0.tree.store, t.1)) s.0.tree.top (Ok u) t.0.tree.top) s.0.of_version_one did)
-
-      installed_err_one : (entries : List Entry) (e : TreeError) → Enters (λ r. Did Does Refuses (rebuild_plan (form_of One) entries) (s.0.tree.store, s.1) r (t.0.tree.store, t.1)) s.0.tree.top (Err e) t.0.tree.top → StoresAnswer (Install entries) (Err (peer_error e))
-      installed_err_one entries (trees.Damaged at) did = absurd (never_broken Does (rebuild_plan (form_of One) entries) _ did.0.0 at _ (rebuild_whole (form_of One) entries) did.0.1)
-      installed_err_one entries trees.Failed did = halts (rebuild_plan (form_of One) entries) trees.Failed did.1 did.0
-      installed_err_one entries (trees.Clash x y) did = halts (rebuild_plan (form_of One) entries) (trees.Clash x y) did.1 did.0
-      installed_err_one entries (trees.BookFull k) did = halts (rebuild_plan (form_of One) entries) (trees.BookFull k) did.1 did.0
-      installed_err_one entries trees.Memory did = halts (rebuild_plan (form_of One) entries) trees.Memory did.1 did.0
-
-      pub installed_err : (entries : List Entry) (e : TreeError) → Enters (λ r. Did Does Refuses (rebuild_plan (form_of s.0.tree.version) entries) (s.0.tree.store, s.1) r (t.0.tree.store, t.1)) s.0.tree.top (Err e) t.0.tree.top → StoresAnswer (Install entries) (Err (peer_error e))
-      installed_err entries e did = installed_err_one entries e (subst (λ (v : TreeVersion). Enters (λ r. Did Does Refuses (rebuild_plan (form_of v) entries) (s.0.tree.store, s.1) r (t.0.tree.store, t.1)) s.0.tree.top (Err e) t.0.tree.top) s.0.of_version_one did)
+      pub installed_err : (entries : List Entry) (e : TreeError) → t.0.tree.version ≡ s.0.tree.version → Enters (λ r. Did Does Refuses (rebuild_plan (form_of s.0.tree.version) entries) (s.0.tree.store, s.1) r (t.0.tree.store, t.1)) s.0.tree.top (Err e) t.0.tree.top → StoresAnswer (Install entries) (Err (peer_error e))
+      installed_err entries (trees.Damaged at) version did = absurd (never_broken Does (rebuild_plan (form_of s.0.tree.version) entries) _ did.0.0 at _ (rebuild_whole (form_of s.0.tree.version) entries) did.0.1)
+      installed_err entries trees.Failed version did = halts (rebuild_plan (form_of s.0.tree.version) entries) trees.Failed did.1 version did.0
+      installed_err entries (trees.Clash x y) version did = halts (rebuild_plan (form_of s.0.tree.version) entries) (trees.Clash x y) did.1 version did.0
+      installed_err entries (trees.BookFull k) version did = halts (rebuild_plan (form_of s.0.tree.version) entries) (trees.BookFull k) did.1 version did.0
+      installed_err entries trees.Memory version did = halts (rebuild_plan (form_of s.0.tree.version) entries) trees.Memory did.1 version did.0

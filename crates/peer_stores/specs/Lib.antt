@@ -1,2 +1,4 @@
-pub mod Versions
 pub mod Stores
+pub mod PeerPlan
+pub mod TreeRepair
+pub mod TreeVerify

@@ -17,7 +17,7 @@ use Rattle.step_plans.specs.Calls.{Call, Load, Save, Fetch, Put, Hash, AnswerOf}
 use Rattle.step_plans.specs.declared.error.PeerError.{PeerError}
 use Rattle.step_plans.specs.declared.error.PeerError.TheVariants as errors
 use Rattle.synctree.specs.Outsides.{outside_does, outside_refuses}
-use Rattle.peer_plan.specs.TreeCalls.{TreeDoes, TreeRefuses}
+use Rattle.peer_plan.specs.TreeCalls.{TreeDoes, TreeRefuses, version_after}
 use Rattle.peer_stores.specs.declared.stores.Stores.{Stores}
 
 -- a store failed: its count of faults rose
@@ -85,8 +85,9 @@ IsBackendRefusal loses b s call errors.Memory t = loses s call stores.Memory t �
 IsBackendRefusal loses b s call e t = ⊥
 
 -- What a call may be answered. A load returns what is kept, a saved fact is kept from then on, the
--- tree does what its plans say, the backend answers as its contract says, and a hash is the MD5. No
--- count decreases, and each call leaves the other stores as they were.
+-- tree does what its plans say and has the version that the call leaves, the backend answers as its
+-- contract says, and a hash is the MD5. No count decreases, and each call leaves the other stores as they
+-- were.
 abbrev pub stores_do : {B N F H : Type 0} → (B → (call : BackendCall) → BackendAnswer call → B → Type 0) → (B → ℕ)
     → (N → (call : NodeCall) → NodeAnswer call → N → Type 0) → (N → Option (Option (List ℕ))) → (N → ℕ)
     → (F → (call : KeeperCall) → KeeperAnswer call → F → Type 0) → (F → Option (Result SavedFact FactError)) → (F → ℕ)
@@ -99,7 +100,7 @@ stores_do gives b reads tops n tells kept f strings c d s (Fetch key) a t = give
 stores_do gives b reads tops n tells kept f strings c d s (Put key bytes) a t = gives s.0.backend (PutObject key bytes) a t.0.backend × (b s.0.backend ≤ b t.0.backend) × BackendAlone s t
 stores_do gives b reads tops n tells kept f strings c d s (Hash bytes) a t =
     (a ≡ md5 bytes) × Takes bytes (strings s.1) (strings t.1) × (c s.1 ≤ c t.1) × (d s.1 ≤ d t.1) × (t.0 ≡ s.0)
-stores_do gives b reads tops n tells kept f strings c d s call a t = TreeDoes (outside_does reads tops n strings c d) (s.0.tree, s.1) call a (t.0.tree, t.1) × TreeLater n c d s t
+stores_do gives b reads tops n tells kept f strings c d s call a t = TreeDoes (outside_does reads tops n strings c d) (s.0.tree, s.1) call a (t.0.tree, t.1) × TreeLater n c d s t × (t.0.tree.version ≡ version_after call s.0.tree.version)
 
 -- What a refused call may leave. After a refused save the old fact is kept, or the new one; a
 -- refused call of the tree may have written nodes. The count of the store or of the hasher that

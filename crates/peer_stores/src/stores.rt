@@ -1,29 +1,22 @@
-ghost use Rattle.std.specs.Prelude.{◌≡◌};
-ghost use Rattle.std.specs.Coded.{Coded-set};
-ghost use Rattle.tree_node.specs.declared.version.TreeVersion.TheVariants.{One};
-ghost use Rattle.peer_stores.specs.Versions.{version_code};
-
 use crate::errors::{hash_error, tree_error, walked};
 use ens_base::{Bytes, Digest, Entry, Key};
 use ens_hashing::Hasher16;
 use ens_outside::{Backend, NodeStore, StoreError};
 use fact_store::{FactKeeper, KeepError};
 use peer_fact::{Change, Fact, SavedFact};
+use peer_plan::{NoGate, has_position, rebuild, scan};
 use std::alloc::Global;
 use std::thread::Threads;
 use step_plans::{PeerError, Store, Walked};
 use synctree::Tree;
 use tree_node::{Position, Scan, TreeVersion};
-use tree_repair::rebuild;
-use tree_verify::{NoGate, scan};
 
-/// The stores of a peer: the objects, the tree, which is of version one, and the fact.
+/// The stores of a peer: the objects, the tree, and the fact.
 #[derive(Drop)]
 pub struct Stores<B, N, F> {
     pub backend: B,
     pub tree: Tree<N>,
     pub facts: F,
-    pub ghost of_version_one: { tree.version ≡ One } by { Coded-set version_code tree.version One },
 }
 
 impl<B: Backend, N: NodeStore, F: FactKeeper, H: Hasher16> Store<H> for Stores<B, N, F> {
@@ -49,8 +42,13 @@ impl<B: Backend, N: NodeStore, F: FactKeeper, H: Hasher16> Store<H> for Stores<B
         }
     }
 
-    fn fresh_tree(&mut self, hasher: &mut H, alloc: Global) -> Result<(), PeerError> {
-        match self.tree.empty(alloc, TreeVersion::One, hasher) {
+    fn fresh_tree(
+        &mut self,
+        hasher: &mut H,
+        alloc: Global,
+        version: TreeVersion,
+    ) -> Result<(), PeerError> {
+        match self.tree.empty(alloc, version, hasher) {
             Ok(()) => Ok(()),
             Err(error) => Err(tree_error(error)),
         }
@@ -61,8 +59,9 @@ impl<B: Backend, N: NodeStore, F: FactKeeper, H: Hasher16> Store<H> for Stores<B
         _hasher: &mut H,
         _alloc: Global,
         seal: Option<Digest>,
+        version: TreeVersion,
     ) -> Result<(), PeerError> {
-        match self.tree.reopen(seal, TreeVersion::One) {
+        match self.tree.reopen(seal, version) {
             Ok(()) => Ok(()),
             Err(error) => Err(tree_error(error)),
         }
@@ -108,7 +107,11 @@ impl<B: Backend, N: NodeStore, F: FactKeeper, H: Hasher16> Store<H> for Stores<B
         alloc: Global,
         at: Position,
     ) -> Result<Walked<Option<Bytes>>, PeerError> {
-        walked(self.tree.node(alloc, hasher, at))
+        if has_position(self.tree.version(), at) {
+            walked(self.tree.node(alloc, hasher, at))
+        } else {
+            Ok(Walked::Reached(None))
+        }
     }
 
     fn install<R: Threads + Sync>(

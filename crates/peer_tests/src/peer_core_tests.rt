@@ -42,13 +42,31 @@ fn stores(alloc: Global, failing: Failing) -> Held {
     }
 }
 
-/// The peer of this number, started on these stores.
-fn started(alloc: Global, number: u32, view: View, stores: Held) -> Result<Tried, PeerError>
+/// The peer of this number, started on these stores with a tree of this version.
+fn started<R: Threads + Sync>(
+    rt: &R,
+    alloc: Global,
+    number: u32,
+    view: View,
+    tree: TreeVersion,
+    stores: Held,
+) -> Result<Tried, PeerError>
     requires { IsPeer number }
     ensures { IfOk result (λ p. p.me ≡ number) }
 {
-    let mode = Mode { sealing: false };
-    match Peer::start(alloc, PeerId(number), view, mode, stores, &mut PlainHasher) {
+    let mode = Mode {
+        sealing: false,
+        tree,
+    };
+    match Peer::start(
+        rt,
+        alloc,
+        PeerId(number),
+        view,
+        mode,
+        stores,
+        &mut PlainHasher,
+    ) {
         Ok(peer) => Ok(peer),
         Err(refused) => {
             let StartError { error, held: _ } = refused;
@@ -57,12 +75,24 @@ fn started(alloc: Global, number: u32, view: View, stores: Held) -> Result<Tried
     }
 }
 
-/// The peer of this number, on empty stores.
-fn peer(alloc: Global, number: u32) -> Result<Tried, Fail>
+/// The peer of this number, on empty stores, with a tree of this version.
+fn peer<R: Threads + Sync>(
+    rt: &R,
+    alloc: Global,
+    number: u32,
+    tree: TreeVersion,
+) -> Result<Tried, Fail>
     requires { IsPeer number }
     ensures { IfOk result (λ p. p.me ≡ number) }
 {
-    Ok(started(alloc, number, view()?, stores(alloc, Failing::never(alloc)))?)
+    Ok(started(
+        rt,
+        alloc,
+        number,
+        view()?,
+        tree,
+        stores(alloc, Failing::never(alloc)),
+    )?)
 }
 
 /// The name of a message of an election.
@@ -185,7 +215,7 @@ fn ticked<R: Threads + Sync>(
 fn starting<R: Threads + Sync>(rt: &R, alloc: Global, view: View) -> Result<Tried, Fail>
     ensures { IfOk result (λ p. p.me ≡ 1) }
 {
-    let mut one = peer(alloc, 1)?;
+    let mut one = peer(rt, alloc, 1, TreeVersion::One)?;
     ticked(rt, alloc, &mut one, 6, &[])?;
     told(
         rt,
@@ -221,7 +251,20 @@ fn a_suspended_peer_goes_on_and_keeps_its_fact_over_a_start(rt: HostRuntime) -> 
     let mut one = suspended.resume(stores);
     assert!(rt; told(&rt, alloc, &mut one, 3, Message::Accepted(BALLOT, 1), &[])?);
     assert!(rt; ticked(&rt, alloc, &mut one, 1, &[(2, "new epoch"), (3, "beat")])?);
-    let again = started(alloc, 1, view, one.into_stores())?;
+    let again = started(&rt, alloc, 1, view, TreeVersion::One, one.into_stores())?;
     assert!(rt; keeps(again, elected(view)));
+    Ok(())
+}
+
+/// The root of an empty tree of version one has another digest than that of version two.
+#[test]
+fn a_tree_of_version_one_migrates_at_a_start(rt: HostRuntime) -> Result<(), Fail> {
+    let alloc = rt.alloc();
+    let one = peer(&rt, alloc, 1, TreeVersion::One)?;
+    let again = started(&rt, alloc, 1, view()?, TreeVersion::Two, one.into_stores())?;
+    let fresh = peer(&rt, alloc, 1, TreeVersion::Two)?;
+    let (held, wanted) = (again.into_stores(), fresh.into_stores());
+    assert!(rt; held.tree.version() == TreeVersion::Two);
+    assert!(rt; held.tree.top().is_some() && held.tree.top() == wanted.tree.top());
     Ok(())
 }

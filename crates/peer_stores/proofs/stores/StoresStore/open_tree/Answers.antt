@@ -3,7 +3,7 @@ use Rattle.peer_stores.proofs.TreeCounts.{open_ok, open_err}
 use Rattle.peer_stores.proofs.stores.StoresStore.open_tree.Goals as goal
 
 pub returns-in-Ok : goal.returns-in-Ok
-returns-in-Ok g c = open_ok g.N.NodeStore.may_answer g.N.NodeStore.may_refuse g.N.NodeStore.top_record g.N.NodeStore.fault_count g.H.Hasher16.kept g.H.Hasher16.clashes g.H.Hasher16.fulls (c.args.self.now, c.args._hasher.now) (record c.args.self.now { tree = c.reopen.new.self; of_version_one = c.in-Ok.ensures.version_is }, c.args._hasher.now) (refl, refl) g.B.Backend.may_answer g.B.Backend.may_refuse g.B.Backend.fault_count g.F.FactKeeper.may_answer g.F.FactKeeper.may_refuse g.F.FactKeeper.kept g.F.FactKeeper.fault_count c.args.seal tt refl c.in-Ok.ensures.did
+returns-in-Ok g c = open_ok g.N.NodeStore.may_answer g.N.NodeStore.may_refuse g.N.NodeStore.top_record g.N.NodeStore.fault_count g.H.Hasher16.kept g.H.Hasher16.clashes g.H.Hasher16.fulls (c.args.self.now, c.args._hasher.now) (record c.args.self.now { tree = c.reopen.new.self }, c.args._hasher.now) (refl, refl) g.B.Backend.may_answer g.B.Backend.may_refuse g.B.Backend.fault_count g.F.FactKeeper.may_answer g.F.FactKeeper.may_refuse g.F.FactKeeper.kept g.F.FactKeeper.fault_count c.args.seal c.args.version tt refl c.in-Ok.ensures.version_is c.in-Ok.ensures.did
 
 pub returns-in-Err : goal.returns-in-Err
-returns-in-Err g c = rw c.tree_error.ensures (open_err g.N.NodeStore.may_answer g.N.NodeStore.may_refuse g.N.NodeStore.top_record g.N.NodeStore.fault_count g.H.Hasher16.kept g.H.Hasher16.clashes g.H.Hasher16.fulls (c.args.self.now, c.args._hasher.now) (record c.args.self.now { tree = c.reopen.new.self; of_version_one = _ }, c.args._hasher.now) (refl, refl) g.B.Backend.may_answer g.B.Backend.may_refuse g.B.Backend.fault_count g.F.FactKeeper.may_answer g.F.FactKeeper.may_refuse g.F.FactKeeper.kept g.F.FactKeeper.fault_count c.args.seal c.in-Err.error refl c.in-Err.ensures.did)
+returns-in-Err g c = rw c.tree_error.ensures (open_err g.N.NodeStore.may_answer g.N.NodeStore.may_refuse g.N.NodeStore.top_record g.N.NodeStore.fault_count g.H.Hasher16.kept g.H.Hasher16.clashes g.H.Hasher16.fulls (c.args.self.now, c.args._hasher.now) (record c.args.self.now { tree = c.reopen.new.self }, c.args._hasher.now) (refl, refl) g.B.Backend.may_answer g.B.Backend.may_refuse g.B.Backend.fault_count g.F.FactKeeper.may_answer g.F.FactKeeper.may_refuse g.F.FactKeeper.kept g.F.FactKeeper.fault_count c.args.seal c.args.version c.in-Err.error refl c.in-Err.ensures.unchanged c.in-Err.ensures.did)

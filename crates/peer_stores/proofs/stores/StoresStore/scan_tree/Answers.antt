@@ -1,9 +1,9 @@
-use Rattle.std.proofs.Common.{refl, ◌∙◌}
+use Rattle.std.proofs.Common.{refl}
 use Rattle.peer_stores.proofs.TreeCounts.{scanned_ok, scanned_err}
 use Rattle.peer_stores.proofs.stores.StoresStore.scan_tree.Goals as goal
 
 pub returns-in-Ok : goal.returns-in-Ok
-returns-in-Ok g c = scanned_ok g.N.NodeStore.may_answer g.N.NodeStore.may_refuse g.N.NodeStore.top_record g.N.NodeStore.fault_count g.H.Hasher16.kept g.H.Hasher16.clashes g.H.Hasher16.fulls (c.args.self.now, c.args.hasher.now) (record c.args.self.now { tree = c.scan.new.tree; of_version_one = c.scan.ensures.version_is ∙ c.args.self.now.of_version_one }, c.scan.new.hasher) (refl, refl) g.B.Backend.may_answer g.B.Backend.may_refuse g.B.Backend.fault_count g.F.FactKeeper.may_answer g.F.FactKeeper.may_refuse g.F.FactKeeper.kept g.F.FactKeeper.fault_count c.in-Ok.found c.scan.ensures.top c.in-Ok.ensures.did
+returns-in-Ok g c = scanned_ok g.N.NodeStore.may_answer g.N.NodeStore.may_refuse g.N.NodeStore.top_record g.N.NodeStore.fault_count g.H.Hasher16.kept g.H.Hasher16.clashes g.H.Hasher16.fulls (c.args.self.now, c.args.hasher.now) (record c.args.self.now { tree = c.scan.new.tree }, c.scan.new.hasher) (refl, refl) g.B.Backend.may_answer g.B.Backend.may_refuse g.B.Backend.fault_count g.F.FactKeeper.may_answer g.F.FactKeeper.may_refuse g.F.FactKeeper.kept g.F.FactKeeper.fault_count c.in-Ok.found c.scan.ensures.top c.scan.ensures.version_is c.in-Ok.ensures.did
 
 pub returns-in-Err : goal.returns-in-Err
-returns-in-Err g c = rw c.tree_error.ensures (scanned_err g.N.NodeStore.may_answer g.N.NodeStore.may_refuse g.N.NodeStore.top_record g.N.NodeStore.fault_count g.H.Hasher16.kept g.H.Hasher16.clashes g.H.Hasher16.fulls (c.args.self.now, c.args.hasher.now) (record c.args.self.now { tree = c.scan.new.tree; of_version_one = _ }, c.scan.new.hasher) (refl, refl) g.B.Backend.may_answer g.B.Backend.may_refuse g.B.Backend.fault_count g.F.FactKeeper.may_answer g.F.FactKeeper.may_refuse g.F.FactKeeper.kept g.F.FactKeeper.fault_count c.in-Err.error c.scan.ensures.top c.in-Err.ensures.did)
+returns-in-Err g c = rw c.tree_error.ensures (scanned_err g.N.NodeStore.may_answer g.N.NodeStore.may_refuse g.N.NodeStore.top_record g.N.NodeStore.fault_count g.H.Hasher16.kept g.H.Hasher16.clashes g.H.Hasher16.fulls (c.args.self.now, c.args.hasher.now) (record c.args.self.now { tree = c.scan.new.tree }, c.scan.new.hasher) (refl, refl) g.B.Backend.may_answer g.B.Backend.may_refuse g.B.Backend.fault_count g.F.FactKeeper.may_answer g.F.FactKeeper.may_refuse g.F.FactKeeper.kept g.F.FactKeeper.fault_count c.in-Err.error c.scan.ensures.top c.scan.ensures.version_is c.in-Err.ensures.did)
