@@ -1,9 +1,9 @@
 ghost use Rattle.std.specs.Prelude.{◌≡◌, ◌∷◌, [], All, map, true};
 ghost use Rattle.ens_base.specs.View.{IsPeer};
 ghost use Rattle.frame_sending.specs.Sending.{SendsInOrder};
-ghost use Rattle.peer_plan.specs.Kept.{AllMayGo, MaySend};
+ghost use Rattle.turn_spec.specs.PeerPlan.{AllMayGo, MaySend};
 ghost use Rattle.step_plans.specs.Outboxes.{out_of};
-ghost use Rattle.turn_laws.specs.Ends.{AllTo};
+ghost use Rattle.turn_spec.specs.TurnLaws.{AllTo};
 ghost use Rattle.turn_spec.specs.Deeds.{answer_frame, frames_of, message_frame};
 ghost use Rattle.turn_spec.specs.Turns.{is_client};
 ghost use Rattle.wire_frames.specs.Frames.{IsEnd, frame_spelling};

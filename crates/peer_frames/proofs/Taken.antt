@@ -2,9 +2,9 @@
 use Rattle.std.specs.Prelude.{IfSome, Option, None, Some}
 use Rattle.std.proofs.Common.{◌≡◌, ◌≤◌, sym}
 use Rattle.ens_base.specs.declared.peer_words.PeerWords.{PeerWords}
-use Rattle.peer_plan.specs.Drives.{MayCome}
+use Rattle.turn_spec.specs.PeerPlan.{MayCome}
 use Rattle.peer_state.specs.declared.event.Event.{Event}
-use Rattle.turn_laws.specs.Ends.{ComesFrom}
+use Rattle.turn_spec.specs.TurnLaws.{ComesFrom}
 use Rattle.turn_spec.proofs.Coming.{frames_fit}
 use Rattle.turn_spec.specs.Turns.{event_in, is_client}
 use Rattle.wire_frames.specs.Messages.{Obeys}

@@ -1,6 +1,6 @@
 ghost use Rattle.std.specs.Prelude.{◌≡◌, ◌≤◌, IfSome};
-ghost use Rattle.peer_plan.specs.Drives.{MayCome};
-ghost use Rattle.turn_laws.specs.Ends.{ComesFrom};
+ghost use Rattle.turn_spec.specs.PeerPlan.{MayCome};
+ghost use Rattle.turn_spec.specs.TurnLaws.{ComesFrom};
 ghost use Rattle.turn_spec.specs.Turns.{event_from, event_in, is_client as is_from_client, is_other_peer};
 ghost use Rattle.wire_frames.specs.Messages.{Obeys};
 

@@ -14,7 +14,7 @@ use Rattle.ens_outside.specs.Maps.{Entries}
 use Rattle.ens_outside.specs.MemStores.{Held, nodes_after, objects_after}
 use Rattle.ens_outside.specs.Stores.{Get, Put as PutObject}
 use Rattle.fact_store.specs.declared.file.FactFile.{FactFile}
-use Rattle.peer_stores.specs.declared.stores.Stores.{Stores}
+use Rattle.peer_core.specs.PeerStores.{Stores}
 use Rattle.step_plans.specs.Calls.{Call, Load, Save, Fetch, Put, Hash, AnswerOf}
 use Rattle.synctree.specs.Outsides.{outside_does}
 use Rattle.synctree.specs.Plans as trees

@@ -9,7 +9,7 @@ use Rattle.ens_base.specs.declared.status.Status.TheVariants as statuses
 use Rattle.fact_store.specs.Files.{Replaces, file_kept}
 use Rattle.fact_store.specs.Keeping.{IsOldOrNew, IsOldOrNewIn, fact_in, file_fact}
 use Rattle.fact_store.specs.declared.file.FactFile.{FactFile}
-use Rattle.peer_stores.specs.declared.stores.Stores.{Stores}
+use Rattle.peer_core.specs.PeerStores.{Stores}
 use Rattle.peer_fact.specs.declared.error.FactError.{FactError}
 use Rattle.peer_fact.specs.declared.saved.SavedFact.{SavedFact}
 use Rattle.peer_plan.specs.Drives.{step_of}

@@ -10,7 +10,7 @@ use Rattle.ens_outside.specs.declared.errors.LinkError.{LinkError}
 use Rattle.ens_outside.specs.declared.errors.LinkError.TheVariants as links
 use Rattle.peer_plan.specs.Drives.{MayCome}
 use Rattle.peer_state.specs.declared.event.Event.{Event}
-use Rattle.turn_laws.specs.Ends.{ComesFrom}
+use Rattle.turn_spec.specs.TurnLaws.{ComesFrom}
 use Rattle.turn_spec.specs.Going.{Grew}
 use Rattle.turn_spec.specs.Turns.{event_in, event_of, event_on, is_client, one_if_none}
 use Rattle.wire_frames.specs.Frames.{Fails, frame_of}

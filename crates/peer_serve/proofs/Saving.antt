@@ -1,24 +1,29 @@
 -- The fact that is kept is that of the state, with its seal.
 use Rattle.std.specs.Prelude.{Option, None, Some}
-use Rattle.std.proofs.Common.{◌≡◌, ◌∙◌, ap, sym, subst, refl, ℕ, List, [], ◌∷◌, Bool, true, false, Ok, inl, inr, arith}
+use Rattle.std.proofs.Common.{◌≡◌, ◌∙◌, ap, sym, subst, refl, ℕ, List, [], ◌∷◌, ◌++◌, Bool, true, false, if◌then◌else◌, Ok, inl, inr, arith}
 use Rattle.std.proofs.lemmas.List.Elements.{All-nil}
 use Rattle.call_table.specs.declared.waiting.Waiting.{Waiting}
+use Rattle.ens_base.specs.declared.entry.Entry.{Entry}
+use Rattle.tree_node.specs.declared.version.TreeVersion.{TreeVersion}
+use Rattle.tree_node.specs.declared.version.TreeVersion.TheVariants.{One, Two}
 use Rattle.disk_stores.specs.declared.backend.DiskBackend.{DiskBackend}
 use Rattle.disk_stores.specs.declared.nodes.DiskNodes.{DiskNodes}
 use Rattle.fact_store.specs.Files.{file_kept}
 use Rattle.fact_store.specs.declared.file.FactFile.{FactFile}
-use Rattle.peer_stores.specs.declared.stores.Stores.{Stores}
+use Rattle.peer_core.specs.PeerStores.{Stores}
 use Rattle.peer_fact.specs.declared.saved.SavedFact.{SavedFact}
-use Rattle.peer_plan.specs.Starts.{first_state, opened, opening_saved, saves_opening, start_of, seals_opening}
+use Rattle.peer_plan.specs.Starts.{first_state, opened, opening_saved, saves_opening, start_of, seals_opening, resumed, continued, is_whole, reseals_if, migrated, scanned, continued_in}
 use Rattle.peer_state.specs.Moves.{saved_by}
 use Rattle.peer_state.specs.declared.state.Mode.{Mode}
 use Rattle.peer_state.specs.declared.state.State.{State}
+use Rattle.register_model.specs.declared.note.Note.{Note}
 use Rattle.slot_disk.specs.SlotFiles.{IsAtRest}
-use Rattle.step_plans.specs.Calls.{Call, Load, Save, Fetch, Put, Hash, AnswerOf}
-use Rattle.step_plans.specs.Plans.{Out, Ending, Finished, Runs, nothing}
+use Rattle.step_plans.specs.Calls.{Call, Load, Save, OpenTree, Root, ScanTree, Install, Fetch, Put, Hash, AnswerOf}
+use Rattle.step_plans.specs.Plans.{Plan, Done, Say, Ask, Out, Ending, Finished, Runs, Follows, nothing}
+use Rattle.step_plans.specs.Saved.{with_seal}
 use Rattle.step_plans.specs.declared.error.PeerError.{PeerError}
-use Rattle.turn_laws.proofs.Steps.{kept_fact}
-use Rattle.turn_laws.specs.Ends.{AllFrom, calls_in, last_saved}
+use Rattle.turn_spec.proofs.TurnLaws.{kept_fact}
+use Rattle.turn_spec.specs.TurnLaws.{AllFrom, calls_in, last_saved}
 use Rattle.turn_spec.specs.Deeds.{Deed, Did}
 use Rattle.peer_serve.specs.DiskPeers.{OnDisks, disks_do, disks_refuse}
 
@@ -87,6 +92,69 @@ module _ {D : Type 0} (seen : D → Option (List ℕ)) (may_leave : D → List �
     | inr (inr on) ↦ saved_opening mode view on.0 on.1 t x on.3 (rests s on.1 on.2.1.3.1 at_rest)
   ]
 
+  -- a peer that continues from the fact that is kept
+  resumed_keeps : (mode : Mode) (f : SavedFact) (s t : OnDisks D) (x : State) → Runs Does Refuses (resumed mode f) s [] (Finished x nothing) t [] → Keeps seen may_leave s f → Keeps seen may_leave t (saved_by x)
+  resumed_keeps mode f s t x ran keeps = elim ran [
+    | inl cut ↦ let none : ⊥ = grind (arith, cut.0) in absurd none
+    | inr end ↦ loaded x mode f false s t end.0 end.1 keeps
+  ]
+
+  continued_keeps : (tree : TreeVersion) (mode : Mode) (f : SavedFact) (s t : OnDisks D) (x : State) → Runs Does Refuses (continued tree mode f) s [] (Finished x nothing) t [] → Keeps seen may_leave s f → Keeps seen may_leave t (saved_by x)
+  continued_keeps tree mode f s t x ran keeps = elim ran [
+    | inl cut ↦ let none : ⊥ = grind (arith, cut.0) in absurd none
+    | inr (inl off) ↦ let none : ⊥ = grind (arith, off.2) in absurd none
+    | inr (inr on) ↦ resumed_keeps mode f on.1 t x on.3 (call_keeps s on.1 (OpenTree f.seal tree) on.0 f on.2 keeps)
+  ]
+
+  -- the fact is kept again, with its new seal
+  resaved_keeps : (mode : Mode) (f g : SavedFact) (s t : OnDisks D) (x : State) → Runs Does Refuses (Ask (Save g) (λ u. resumed mode g)) s [] (Finished x nothing) t [] → Keeps seen may_leave s f → Keeps seen may_leave t (saved_by x)
+  resaved_keeps mode f g s t x ran keeps = elim ran [
+    | inl cut ↦ let none : ⊥ = grind (arith, cut.0) in absurd none
+    | inr (inl off) ↦ let none : ⊥ = grind (arith, off.2) in absurd none
+    | inr (inr on) ↦ resumed_keeps mode g on.1 t x on.3 (call_keeps s on.1 (Save g) on.0 f on.2 keeps)
+  ]
+
+  resealed_keeps : (seal : Option (List ℕ)) (mode : Mode) (f : SavedFact) (s t : OnDisks D) (x : State) → Runs Does Refuses (reseals_if seal mode f) s [] (Finished x nothing) t [] → Keeps seen may_leave s f → Keeps seen may_leave t (saved_by x)
+  resealed_keeps None mode f s t x ran keeps = resumed_keeps mode f s t x ran keeps
+  resealed_keeps (Some seal) mode f s t x ran keeps = elim ran [
+    | inl cut ↦ let none : ⊥ = grind (arith, cut.0) in absurd none
+    | inr (inl off) ↦ let none : ⊥ = grind (arith, off.2) in absurd none
+    | inr (inr on) ↦ resaved_keeps mode f (with_seal on.0 f.fact) on.1 t x on.3 (call_keeps s on.1 Root on.0 f on.2 keeps)
+  ]
+
+  installed_keeps : (entries : List Entry) (mode : Mode) (f : SavedFact) (s t : OnDisks D) (x : State) → Runs Does Refuses (Ask (Install entries) (λ v. reseals_if f.seal mode f)) s [] (Finished x nothing) t [] → Keeps seen may_leave s f → Keeps seen may_leave t (saved_by x)
+  installed_keeps entries mode f s t x ran keeps = elim ran [
+    | inl cut ↦ let none : ⊥ = grind (arith, cut.0) in absurd none
+    | inr (inl off) ↦ let none : ⊥ = grind (arith, off.2) in absurd none
+    | inr (inr on) ↦ resealed_keeps f.seal mode f on.1 t x on.3 (call_keeps s on.1 (Install entries) on.0 f on.2 keeps)
+  ]
+
+  migrated_keeps : (entries : List Entry) (mode : Mode) (f : SavedFact) (s t : OnDisks D) (x : State) → Runs Does Refuses (migrated mode f entries) s [] (Finished x nothing) t [] → Keeps seen may_leave s f → Keeps seen may_leave t (saved_by x)
+  migrated_keeps entries mode f s t x ran keeps = elim ran [
+    | inl cut ↦ let none : ⊥ = grind (arith, cut.0) in absurd none
+    | inr (inl off) ↦ let none : ⊥ = grind (arith, off.2) in absurd none
+    | inr (inr on) ↦ installed_keeps entries mode f on.1 t x on.3 (call_keeps s on.1 (OpenTree None Two) on.0 f on.2 keeps)
+  ]
+
+  chosen_keeps : (whole : Bool) (entries : List Entry) (mode : Mode) (f : SavedFact) (s t : OnDisks D) (x : State) → Runs Does Refuses (if whole then migrated mode f entries else continued Two mode f) s [] (Finished x nothing) t [] → Keeps seen may_leave s f → Keeps seen may_leave t (saved_by x)
+  chosen_keeps true entries mode f s t x ran keeps = migrated_keeps entries mode f s t x ran keeps
+  chosen_keeps false entries mode f s t x ran keeps = continued_keeps Two mode f s t x ran keeps
+
+  scanned_keeps : (mode : Mode) (f : SavedFact) (s t : OnDisks D) (x : State) → Runs Does Refuses (Ask ScanTree (λ scan. scanned mode f scan)) s [] (Finished x nothing) t [] → Keeps seen may_leave s f → Keeps seen may_leave t (saved_by x)
+  scanned_keeps mode f s t x ran keeps = elim ran [
+    | inl cut ↦ let none : ⊥ = grind (arith, cut.0) in absurd none
+    | inr (inl off) ↦ let none : ⊥ = grind (arith, off.2) in absurd none
+    | inr (inr on) ↦ chosen_keeps (is_whole on.0) on.0.entries mode f on.1 t x on.3 (call_keeps s on.1 ScanTree on.0 f on.2 keeps)
+  ]
+
+  continued_in_keeps : (tree : TreeVersion) (mode : Mode) (f : SavedFact) (s t : OnDisks D) (x : State) → Runs Does Refuses (continued_in tree mode f) s [] (Finished x nothing) t [] → Keeps seen may_leave s f → Keeps seen may_leave t (saved_by x)
+  continued_in_keeps One mode f s t x ran keeps = continued_keeps One mode f s t x ran keeps
+  continued_in_keeps Two mode f s t x ran keeps = elim ran [
+    | inl cut ↦ let none : ⊥ = grind (arith, cut.0) in absurd none
+    | inr (inl off) ↦ let none : ⊥ = grind (arith, off.2) in absurd none
+    | inr (inr on) ↦ scanned_keeps mode f on.1 t x on.3 (call_keeps s on.1 (OpenTree f.seal One) on.0 f on.2 keeps)
+  ]
+
   -- at its start the peer has the fact that it keeps
   from_kept : (mode : Mode) (view : List ℕ) (found : Option SavedFact) (s t : OnDisks D) (x : State) → Runs Does Refuses (opened mode view found) s [] (Finished x nothing) t [] → IsAtRest seen may_leave s.0.facts.slots
       → ((f : SavedFact) → found ≡ Some f → file_kept s.0.facts ≡ Some (Ok f)) → Keeps seen may_leave t (saved_by x)
@@ -95,14 +163,7 @@ module _ {D : Type 0} (seen : D → Option (List ℕ)) (may_leave : D → List �
     | inr (inl off) ↦ let none : ⊥ = grind (arith, off.2) in absurd none
     | inr (inr on) ↦ sealed_opening mode.sealing mode view on.1 t x on.3 (rests s on.1 on.2.1.3.1 at_rest)
   ]
-  from_kept mode view (Some f) s t x ran at_rest kept = elim ran [
-    | inl cut ↦ let none : ⊥ = grind (arith, cut.0) in absurd none
-    | inr (inl off) ↦ let none : ⊥ = grind (arith, off.2) in absurd none
-    | inr (inr on) ↦ elim on.3 [
-      | inl cut ↦ let none : ⊥ = grind (arith, cut.0) in absurd none
-      | inr end ↦ loaded x mode f false on.1 t end.0 end.1 (still s on.1 f on.2.1.3.1 (record { at_rest = at_rest; kept = kept f refl }))
-    ]
-  ]
+  from_kept mode view (Some f) s t x ran at_rest kept = continued_in_keeps mode.tree mode f s t x ran (record { at_rest = at_rest; kept = kept f refl })
 
   found_kept : (s t : OnDisks D) (a : Option SavedFact) → Does s Load a t → (f : SavedFact) → a ≡ Some f → file_kept t.0.facts ≡ Some (Ok f)
   found_kept s t None did f is = absurd cc
@@ -117,47 +178,49 @@ module _ {D : Type 0} (seen : D → Option (List ℕ)) (may_leave : D → List �
 
 -- a peer that has started has no call to answer
 module _ {S : Type 0} (does : S → (call : Call) → AnswerOf call → S → Type 0) (refuses : S → Call → PeerError → S → Type 0) (test : ℕ → Bool) where
-  no_calls : (x : State) (mode : Mode) (f : SavedFact) (trusted : Bool) → finish x nothing ≡ finish (first_state mode f trusted) nothing → AllFrom test (calls_in x.phase)
-  no_calls x mode f trusted same =
-      let state : first_state mode f trusted ≡ x = state_is x (first_state mode f trusted) nothing nothing same in
-      subst (λ (z : State). AllFrom test (calls_in z.phase)) state (All-nil (λ (w : Waiting). test w.from ≡ true))
+  abbrev AnyCall : Call → Type 0
+  AnyCall call = Unit {0}
 
-  from_none : (mode : Mode) (view : List ℕ) (seal : Option (List ℕ)) (s t : S) (x : State) → Runs does refuses (saves_opening mode view seal) s [] (Finished x nothing) t [] → AllFrom test (calls_in x.phase)
-  from_none mode view seal s t x ran = elim ran [
-    | inl cut ↦ let none : ⊥ = grind (arith, cut.0) in absurd none
-    | inr (inl off) ↦ let none : ⊥ = grind (arith, off.2) in absurd none
-    | inr (inr on) ↦ elim on.3 [
-      | inl cut ↦ let none : ⊥ = grind (arith, cut.0) in absurd none
-      | inr end ↦ no_calls x mode (opening_saved view seal) true end.0
-    ]
-  ]
+  abbrev NoCalls : State → Out → Type 0
+  NoCalls x out = AllFrom test (calls_in x.phase)
 
-  from_opening : (seals : Bool) (mode : Mode) (view : List ℕ) (s t : S) (x : State) → Runs does refuses (seals_opening seals mode view) s [] (Finished x nothing) t [] → AllFrom test (calls_in x.phase)
-  from_opening false mode view s t x ran = from_none mode view None s t x ran
-  from_opening true mode view s t x ran = elim ran [
-    | inl cut ↦ let none : ⊥ = grind (arith, cut.0) in absurd none
-    | inr (inl off) ↦ let none : ⊥ = grind (arith, off.2) in absurd none
-    | inr (inr on) ↦ from_none mode view on.0 on.1 t x on.3
-  ]
+  none : (mode : Mode) (f : SavedFact) (trusted : Bool) → AllFrom test (calls_in (first_state mode f trusted).phase)
+  none mode f trusted = All-nil (λ (w : Waiting). test w.from ≡ true)
 
-  from_found : (mode : Mode) (view : List ℕ) (found : Option SavedFact) (s t : S) (x : State) → Runs does refuses (opened mode view found) s [] (Finished x nothing) t [] → AllFrom test (calls_in x.phase)
-  from_found mode view None s t x ran = elim ran [
+  sealing_none : (seals : Bool) (mode : Mode) (view : List ℕ) → Follows AnyCall NoCalls (seals_opening seals mode view)
+  sealing_none true mode view = (tt, λ root. (tt, λ u. none mode (opening_saved view root) true))
+  sealing_none false mode view = (tt, λ u. none mode (opening_saved view None) true)
+
+  resealed_none : (seal : Option (List ℕ)) (mode : Mode) (f : SavedFact) → Follows AnyCall NoCalls (reseals_if seal mode f)
+  resealed_none None mode f = none mode f false
+  resealed_none (Some seal) mode f = (tt, λ root. (tt, λ u. none mode (with_seal root f.fact) false))
+
+  chosen_none : (whole : Bool) (entries : List Entry) (mode : Mode) (f : SavedFact) → Follows AnyCall NoCalls (if whole then migrated mode f entries else continued Two mode f)
+  chosen_none true entries mode f = (tt, λ u. (tt, λ v. resealed_none f.seal mode f))
+  chosen_none false entries mode f = (tt, λ u. none mode f false)
+
+  continued_none : (tree : TreeVersion) (mode : Mode) (f : SavedFact) → Follows AnyCall NoCalls (continued_in tree mode f)
+  continued_none One mode f = (tt, λ u. none mode f false)
+  continued_none Two mode f = (tt, λ u. (tt, λ scan. chosen_none (is_whole scan) scan.entries mode f))
+
+  opened_none : (mode : Mode) (view : List ℕ) (kept : Option SavedFact) → Follows AnyCall NoCalls (opened mode view kept)
+  opened_none mode view None = (tt, λ u. sealing_none mode.sealing mode view)
+  opened_none mode view (Some f) = continued_none mode.tree mode f
+
+  ended_none : (p : Plan State) (s t : S) (ns ms : List Note) (x : State) (out : Out) → Follows AnyCall NoCalls p → Runs does refuses p s ns (Finished x out) t ms → AllFrom test (calls_in x.phase)
+  ended_none (Done y more) s t ns ms x out ends ran = elim ran [
     | inl cut ↦ let none : ⊥ = grind (arith, cut.0) in absurd none
-    | inr (inl off) ↦ let none : ⊥ = grind (arith, off.2) in absurd none
-    | inr (inr on) ↦ from_opening mode.sealing mode view on.1 t x on.3
+    | inr end ↦ subst (λ (z : State). AllFrom test (calls_in z.phase)) (state_is x y out more end.0) ends
   ]
-  from_found mode view (Some f) s t x ran = elim ran [
+  ended_none (Say note p) s t ns ms x out ends ran = elim ran [
+    | inl cut ↦ let none : ⊥ = grind (arith, cut.0) in absurd none
+    | inr on ↦ ended_none p s t (ns ++ note ∷ []) ms x out ends on
+  ]
+  ended_none (Ask call next) s t ns ms x out ends ran = elim ran [
     | inl cut ↦ let none : ⊥ = grind (arith, cut.0) in absurd none
     | inr (inl off) ↦ let none : ⊥ = grind (arith, off.2) in absurd none
-    | inr (inr on) ↦ elim on.3 [
-      | inl cut ↦ let none : ⊥ = grind (arith, cut.0) in absurd none
-      | inr end ↦ no_calls x mode f false end.0
-    ]
+    | inr (inr on) ↦ ended_none (next on.0) on.1 t ns ms x out (ends.1 on.0) on.3
   ]
 
   pub start_calls : (mode : Mode) (view : List ℕ) (s t : S) (x : State) → Runs does refuses (start_of mode view) s [] (Finished x nothing) t [] → AllFrom test (calls_in x.phase)
-  start_calls mode view s t x ran = elim ran [
-    | inl cut ↦ let none : ⊥ = grind (arith, cut.0) in absurd none
-    | inr (inl off) ↦ let none : ⊥ = grind (arith, off.2) in absurd none
-    | inr (inr on) ↦ from_found mode view on.0 on.1 t x on.3
-  ]
+  start_calls mode view s t x ran = ended_none (start_of mode view) s t [] [] x nothing (tt, λ kept. opened_none mode view kept) ran

@@ -3,21 +3,19 @@ use Rattle.std.specs.Option.{IsSomeAnd}
 use Rattle.std.specs.Prelude.{Option, None, Some}
 use Rattle.std.proofs.Common.{sym, subst, ℕ, List, [], ◌∷◌, ◌++◌, Result, Ok, Err, inl, inr, arith}
 use Rattle.peer_plan.specs.Drives.{step_of}
-use Rattle.peer_plan.specs.TreeCalls.{TreeDoes, Walks, end_of}
+use Rattle.peer_plan.specs.TreeCalls.{TreeDoes, Walks, end_of, position_plan}
 use Rattle.peer_state.specs.declared.state.State.{State}
 use Rattle.register_model.specs.declared.note.Note.{Note}
 use Rattle.step_plans.specs.Calls.{Call, FreshTree, OpenTree, Root, Find, Enter, ScanTree, ReadNode, Install, AnswerOf}
 use Rattle.step_plans.specs.Plans.{Plan, Done, Say, Ask, Out, Finished, Runs}
 use Rattle.step_plans.specs.declared.error.PeerError.{PeerError}
 use Rattle.step_plans.specs.declared.walked.Walked.TheVariants as walks
-use Rattle.synctree.specs.Nodes.{node_plan}
 use Rattle.synctree.specs.Plans as trees
 use Rattle.synctree.specs.Plans.{Call as TreeCall, AnswerOf as TreeAnswer, Plan as TreePlan, Ends}
 use Rattle.synctree.specs.Trees.{fresh_plan, get_plan, insert_plan, open_plan}
 use Rattle.synctree.specs.declared.tree.Tree.{Tree}
 use Rattle.tree_maps.specs.Sixteen.{form_of}
 use Rattle.tree_node.specs.declared.position.Position.{Position}
-use Rattle.tree_node.specs.declared.version.TreeVersion.TheVariants.{One}
 use Rattle.tree_repair.specs.Rebuilds.{rebuild_plan}
 use Rattle.tree_verify.specs.Levels.{scan_plan}
 use Rattle.turn_spec.specs.Deeds.{Deed, Did}
@@ -39,16 +37,16 @@ module _ {N H : Type 0} (does : N × H → (call : TreeCall) → TreeAnswer call
 
   -- what each call of a tree keeps holds after a call of a peer to it
   pub tree_keeps : (s t : Tree N × H) (call : Call) (a : AnswerOf call) → TreeDoes does s call a t → I (s.0.store, s.1) → I (t.0.store, t.1)
-  tree_keeps s t FreshTree a did holds = from_some t.0.top (λ (root : List ℕ). Walks does (fresh_plan (form_of One)) s (Ok root) t) did (λ root walks. walk_keeps (fresh_plan (form_of One)) s t (Ok root) walks holds)
-  tree_keeps s t (OpenTree seal) a did holds = walk_keeps open_plan s t (Ok did.0) did.1 holds
+  tree_keeps s t (FreshTree tree) a did holds = from_some t.0.top (λ (root : List ℕ). Walks does (fresh_plan (form_of tree)) s (Ok root) t) did (λ root walks. walk_keeps (fresh_plan (form_of tree)) s t (Ok root) walks holds)
+  tree_keeps s t (OpenTree seal tree) a did holds = walk_keeps open_plan s t (Ok did.0) did.1 holds
   tree_keeps s t Root a did holds = subst (λ (y : H). I (t.0.store, y)) (sym did.2) (subst (λ (x : Tree N). I (x.store, s.1)) (sym did.1) holds)
-  tree_keeps s t (Find key) a did holds = walk_keeps (get_plan (form_of One) s.0.top key) s t (end_of a) did.0 holds
+  tree_keeps s t (Find key) a did holds = walk_keeps (get_plan (form_of s.0.version) s.0.top key) s t (end_of a) did.0 holds
   tree_keeps s t (Enter entry) (walks.Reached x) did holds =
-      from_some t.0.top (λ (root : List ℕ). Walks does (insert_plan (form_of One) s.0.top entry) s (Ok root) t) did (λ root walks. walk_keeps (insert_plan (form_of One) s.0.top entry) s t (Ok root) walks holds)
-  tree_keeps s t (Enter entry) (walks.Broken at) did holds = walk_keeps (insert_plan (form_of One) s.0.top entry) s t (Err at) did.0 holds
-  tree_keeps s t ScanTree a did holds = walk_keeps (scan_plan (form_of One) s.0.top) s t (Ok a) did.0 holds
-  tree_keeps s t (ReadNode at) a did holds = walk_keeps (node_plan (form_of One) s.0.top at) s t (end_of a) did.0 holds
-  tree_keeps s t (Install entries) a did holds = from_some t.0.top (λ (root : List ℕ). Walks does (rebuild_plan (form_of One) entries) s (Ok root) t) did (λ root walks. walk_keeps (rebuild_plan (form_of One) entries) s t (Ok root) walks holds)
+      from_some t.0.top (λ (root : List ℕ). Walks does (insert_plan (form_of s.0.version) s.0.top entry) s (Ok root) t) did (λ root walks. walk_keeps (insert_plan (form_of s.0.version) s.0.top entry) s t (Ok root) walks holds)
+  tree_keeps s t (Enter entry) (walks.Broken at) did holds = walk_keeps (insert_plan (form_of s.0.version) s.0.top entry) s t (Err at) did.0 holds
+  tree_keeps s t ScanTree a did holds = walk_keeps (scan_plan (form_of s.0.version) s.0.top) s t (Ok a) did.0 holds
+  tree_keeps s t (ReadNode at) a did holds = walk_keeps (position_plan s.0.version s.0.top at) s t (end_of a) did.0 holds
+  tree_keeps s t (Install entries) a did holds = from_some t.0.top (λ (root : List ℕ). Walks does (rebuild_plan (form_of s.0.version) entries) s (Ok root) t) did (λ root walks. walk_keeps (rebuild_plan (form_of s.0.version) entries) s t (Ok root) walks holds)
   tree_keeps s t call a did holds = absurd did
 
 module _ {S : Type 0} (does : S → (call : Call) → AnswerOf call → S → Type 0) (refuses : S → Call → PeerError → S → Type 0) (I : S → Type 0) (keeps : (s t : S) (call : Call) (a : AnswerOf call) → does s call a t → I s → I t) where

@@ -10,8 +10,7 @@ use Rattle.ens_outside.specs.Maps.{Entries}
 use Rattle.ens_outside.specs.MemStores.{Held}
 use Rattle.fact_store.specs.Files.{FileAnswers, FileRefuses, file_faults, file_kept}
 use Rattle.fact_store.specs.declared.file.FactFile.{FactFile}
-use Rattle.peer_stores.specs.Stores.{stores_do, stores_refuse}
-use Rattle.peer_stores.specs.declared.stores.Stores.{Stores}
+use Rattle.peer_core.specs.PeerStores.{stores_do, stores_refuse, Stores}
 use Rattle.slot_disk.specs.Crash.{SeenIn}
 use Rattle.step_plans.specs.Calls.{Call, AnswerOf}
 use Rattle.step_plans.specs.declared.error.PeerError.{PeerError}

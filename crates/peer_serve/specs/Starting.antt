@@ -16,15 +16,16 @@ use Rattle.peer_state.specs.declared.state.State.{State}
 use Rattle.slot_disk.specs.Crash.{LeavesOnly, SeenIn, Told}
 use Rattle.slot_disk.specs.SlotFiles.{IsAtRest}
 use Rattle.step_plans.specs.Plans.{Finished, Runs, Stopped, nothing}
+use Rattle.tree_node.specs.declared.version.TreeVersion.TheVariants.{Two}
 use Rattle.peer_serve.specs.DiskPeers.{Of, OnDisks, disks_do, disks_refuse, disks_under}
 use Rattle.peer_serve.specs.Faults.{Between, DiskRose, IsCause, IsStoreCause}
 use Rattle.peer_serve.specs.Saves.{LeavesFacts, Saves, saves_in}
 use Rattle.peer_serve.specs.Turning.{RanInto}
 use Rattle.peer_serve.specs.declared.disks.Disks.{Disks}
 
--- how a peer on disks is started: it keeps a seal
+-- how a peer on disks is started: it keeps a seal, and its tree has version two
 abbrev pub served_mode : Mode
-served_mode = record { sealing = true }
+served_mode = record { sealing = true; tree = Two }
 
 module _ {D : Type 0} (seen : D → Option (List ℕ)) (may_leave : D → List ℕ → Type 0) (moment : D → ℕ) (left_since : D → ℕ → List ℕ → Type 0) (faults : D → ℕ) where
   -- The logs of nodes and objects were opened, and no fault was counted. The root of the tree is not

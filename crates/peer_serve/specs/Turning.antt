@@ -17,7 +17,7 @@ use Rattle.register_model.specs.declared.note.Note.{Note}
 use Rattle.step_plans.specs.Calls.{Call, AnswerOf}
 use Rattle.step_plans.specs.Plans.{Plan, Out, Finished, Runs, Stopped}
 use Rattle.step_plans.specs.declared.error.PeerError.{PeerError}
-use Rattle.turn_laws.specs.Ends.{AllFrom, ComesFrom, calls_in}
+use Rattle.turn_spec.specs.TurnLaws.{AllFrom, ComesFrom, calls_in}
 use Rattle.turn_spec.specs.Deeds.{Deed, events_in, frames_in, frames_of}
 use Rattle.turn_spec.specs.Going.{Grew, Point, Went}
 use Rattle.turn_spec.specs.Turns.{AreDue, Turn, event_of, events_of, ignored_by, ignored_in, is_client, listed, looks_of, one_if_some, taken_in, tick_if}

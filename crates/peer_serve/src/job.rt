@@ -39,7 +39,7 @@ fn run<L: Link, D: Disk, T: Ticker, R: Threads + Sync>(
     ensures served { IfOk result.ended (λ counts. (turns : List Turn) × Served D.seen D.may_leave D.moment D.left_since D.fault_count L.sent L.given L.fault_count T.coming words.now (all_there disks) (all_there result.disks) link.old link.new ticker.old ticker.new turns × AreCounted words.now turns counts) }
     ensures failed { IfErr result.ended (λ e. Failed D.seen D.may_leave D.moment D.left_since D.fault_count L.sent L.given L.fault_count T.coming words.now (status_of e) (all_there disks) (all_there result.disks) link.old link.new ticker.old ticker.new) }
 {
-    let mut peer = match start(alloc, words, disks) {
+    let mut peer = match start(rt, alloc, words, disks) {
         Ok(peer) => peer,
         Err(refused) => {
             return Outcome {

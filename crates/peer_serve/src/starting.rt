@@ -14,6 +14,7 @@ use fact_store::FactFile;
 use peer_core::{Mode, Peer, Stores};
 use slot_disk::Disk;
 use std::alloc::Global;
+use std::thread::Threads;
 use synctree::Tree;
 use tree_node::TreeVersion;
 
@@ -45,7 +46,7 @@ fn open_logs<D: Disk>(
     match DiskBackend::open(alloc, objects) {
         Ok(backend) => Ok(Stores {
             backend,
-            tree: Tree::unopened(nodes, TreeVersion::One),
+            tree: Tree::unopened(nodes, TreeVersion::Two),
             facts,
         }),
         Err(refused) => Err(Refused {
@@ -91,7 +92,8 @@ fn open<D: Disk>(
 ///
 /// `Store` only if a fault of a disk was counted, the file of facts holds a record that is no fact, or
 /// it has its last serial number; `Memory` when out of memory. The disks are returned.
-pub(crate) fn start<D: Disk>(
+pub(crate) fn start<D: Disk, R: Threads + Sync>(
+    rt: &R,
     alloc: Global,
     words: &PeerWords,
     disks: Three<D>,
@@ -102,8 +104,19 @@ pub(crate) fn start<D: Disk>(
     ensures refused { IfErr result (λ r. IsRefused D.seen D.may_leave D.moment D.left_since D.fault_count words.now (status_of r.error) (all_there disks) (all_there r.held)) }
 {
     let stores = open(alloc, disks)?;
-    let mode = Mode { sealing: true };
-    match Peer::start(alloc, words.me, words.view, mode, stores, &mut PlainHasher) {
+    let mode = Mode {
+        sealing: true,
+        tree: TreeVersion::Two,
+    };
+    match Peer::start(
+        rt,
+        alloc,
+        words.me,
+        words.view,
+        mode,
+        stores,
+        &mut PlainHasher,
+    ) {
         Ok(peer) => Ok(peer),
         Err(refused) => Err(Refused {
             error: peer_error(refused.error),

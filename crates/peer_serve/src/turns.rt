@@ -10,7 +10,7 @@ ghost use Rattle.peer_serve.specs.Turning.{AreCounted, Fell, FindBroke, IsFound,
 ghost use Rattle.peer_serve.specs.declared.error.ServeError.TheVariants as errors;
 ghost use Rattle.step_plans.specs.Outboxes.{out_of};
 ghost use Rattle.step_plans.specs.Plans.{Finished, Runs};
-ghost use Rattle.turn_laws.specs.Ends.{AllTo, ComesFrom};
+ghost use Rattle.turn_spec.specs.TurnLaws.{AllTo, ComesFrom};
 ghost use Rattle.turn_spec.specs.Going.{Grew};
 ghost use Rattle.turn_spec.specs.Turns.{Turn, is_client, tick_if};
 

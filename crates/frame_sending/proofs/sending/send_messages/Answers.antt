@@ -1,6 +1,6 @@
 use Rattle.std.proofs.Common.{map}
 use Rattle.std.specs.Vec.Iter.{into_iter_items}
-use Rattle.peer_plan.specs.Kept.{MaySend}
+use Rattle.turn_spec.specs.PeerPlan.{MaySend}
 use Rattle.turn_spec.specs.Deeds.{message_frame}
 use Rattle.frame_sending.proofs.Fronts.{begun, broke, goes_on, next_may, none_left, passed_on, went_all}
 use Rattle.frame_sending.proofs.sending.send_messages.Goals as goal

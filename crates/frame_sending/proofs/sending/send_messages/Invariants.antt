@@ -1,5 +1,5 @@
 use Rattle.std.specs.Vec.Iter.{into_iter_items}
-use Rattle.peer_plan.specs.Kept.{MaySend}
+use Rattle.turn_spec.specs.PeerPlan.{MaySend}
 use Rattle.turn_spec.specs.Deeds.{message_frame}
 use Rattle.frame_sending.proofs.Fronts.{Underway}
 use Rattle.frame_sending.proofs.sending.send_messages.Given as goal

@@ -2,7 +2,7 @@ use Rattle.std.proofs.Common.{◌∙◌, ℕ, sym, subst, [], Err}
 use Rattle.peer_plan.specs.Kept.{AllMayGo}
 use Rattle.step_plans.specs.Outboxes.{out_of}
 use Rattle.step_plans.specs.declared.error.PeerError.TheVariants.{Halted}
-use Rattle.turn_laws.proofs.Steps.{answered}
+use Rattle.turn_spec.proofs.TurnLaws.{answered}
 use Rattle.turn_spec.specs.Turns.{is_client}
 use Rattle.peer_serve.specs.DiskPeers.{disks_do, disks_refuse}
 use Rattle.peer_serve.proofs.Stepping.{all_may_go, finished_step, never_link, no_error, not_halted, stopped_step}
