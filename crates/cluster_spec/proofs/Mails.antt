@@ -1,5 +1,5 @@
 -- What a recorded event makes of the messages: it may deliver one, and then sends some.
-use Rattle.std.proofs.Common.{◌≡◌, ◌<◌, ◌+◌, ◌-◌, ◌∙◌, ℕ, zero, suc, List, [], ◌∷◌, ◌++◌, length, map, Option, None, Some, refl, sym, ap, append_assoc, append-nil, arith, slice_get}
+use Rattle.std.proofs.Common.{◌≡◌, ◌<◌, ◌+◌, ◌-◌, ◌∙◌, ℕ, zero, suc, nat_lt, Bool, true, false, if◌then◌else◌, List, [], ◌∷◌, ◌++◌, length, map, Option, None, Some, refl, sym, ap, append_assoc, append-nil, arith, slice_get}
 use Rattle.network.proofs.MailLaws.{is_mail_posted, is_mail_settled}
 use Rattle.network.specs.Mail.{IsMail, Mail, posted, settled}
 use Rattle.peer_state.specs.declared.event.Event.{Event}
@@ -9,7 +9,7 @@ use Rattle.schedule_text.specs.declared.event.ScheduleEvent.TheVariants.{Call, T
 use Rattle.wire_frames.specs.declared.frame.Frame.{Frame}
 use Rattle.world_spec.specs.Lines.{applied, call_of}
 use Rattle.world_spec.specs.Nodes.{Node, started, stopped, taken}
-use Rattle.world_spec.specs.Runs.{Run, mode_at, frame_from, place_of, posted_all, received_if, stepped, stepped_at, ticked}
+use Rattle.world_spec.specs.Runs.{Run, mode_at, frame_from, place_of, posted_all, received, without_waiting, received_if, stepped, stepped_at, ticked}
 use Rattle.world_spec.proofs.Growth.{changed_mail}
 use Rattle.cluster_spec.specs.Messages.{MayBeRecorded, mail_before}
 
@@ -50,7 +50,11 @@ sent_at (f ∷ sent) zero below = (f, refl)
 sent_at (f ∷ sent) (suc n) below = sent_at sent n (omega (arith, below))
 
 received_posts : (found : Option Frame) (f : Frame) (n : ℕ) (w : Run) → found ≡ Some f → Posts (settled w.mail n) (received_if found n w).mail
-received_posts found f n w is = rw is (stepped_posts f.to (events.Deliver f.from f.message) (record w { mail = settled w.mail n }))
+received_posts found f n w is = rw is (by (nat_lt n w.first_alive))
+  where
+    by : (lost : Bool) → Posts (settled w.mail n) (if lost then without_waiting n w else received f n w).mail
+    by true = posts_none (settled w.mail n) (settled w.mail n) refl
+    by false = stepped_posts f.to (events.Deliver f.from f.message) (without_waiting n w)
 
 -- an event that may be recorded next sends some messages, once the one that it delivers is settled
 pub applied_posts : (peers : ℕ) (event : ScheduleEvent) (w : Run) → MayBeRecorded peers w.mail event → Posts (mail_before event w.mail) (applied event w).mail

@@ -7,7 +7,7 @@ use Rattle.network.specs.Mail.{oldest}
 use Rattle.schedule_text.specs.declared.event.ScheduleEvent.{ScheduleEvent}
 use Rattle.schedule_text.specs.declared.event.ScheduleEvent.TheVariants.{Deliver}
 use Rattle.schedule_text.specs.declared.form.Form.{Form}
-use Rattle.schedule_text.specs.declared.form.Form.TheVariants.{Two}
+use Rattle.schedule_text.specs.declared.form.Form.TheVariants.{Three}
 use Rattle.wire_frames.specs.Frames.{frame_spelling}
 use Rattle.wire_frames.specs.declared.frame.Frame.{Frame}
 use Rattle.world_spec.specs.Lines.{applied, run_of_schedule}
@@ -23,9 +23,9 @@ pub record Recording : Type 0 where
   pub events : List ScheduleEvent
   pub run : Run
 
--- the form of the schedule that a cluster records: every start has sealing on
+-- the form of the schedule that a cluster records: every start has sealing on, and trees have version two
 abbrev pub recorded_form : Form
-recorded_form = Two
+recorded_form = Three
 
 -- nothing is recorded yet: so many peers opened with this view
 abbrev pub nothing_recorded : ℕ → List ℕ → Recording

@@ -3,3 +3,4 @@ pub mod Books
 pub mod Walking
 pub mod Answering
 pub mod Determined
+pub mod PeerPlan

@@ -9,14 +9,14 @@ use Rattle.step_plans.specs.declared.walked.Walked.{Walked}
 use Rattle.step_plans.specs.declared.walked.Walked.TheVariants.{Reached, Broken}
 use Rattle.step_plans.specs.declared.error.PeerError.{PeerError}
 use Rattle.step_plans.specs.declared.error.PeerError.TheVariants.{StoreFault}
-use Rattle.tree_node.specs.declared.version.TreeVersion.TheVariants.{One}
-use Rattle.synctree.specs.Nodes.{node_plan}
+use Rattle.tree_node.specs.declared.version.TreeVersion.{TreeVersion}
 use Rattle.synctree.specs.Plans.{Plan}
 use Rattle.synctree.specs.Seals.{root_under}
 use Rattle.synctree.specs.Trees.{open_plan, fresh_plan, get_plan, insert_plan}
 use Rattle.tree_maps.specs.Sixteen.{form_of}
-use Rattle.tree_repair.specs.Rebuilds.{rebuild_plan}
-use Rattle.tree_verify.specs.Levels.{scan_plan}
+use Rattle.peer_stores.specs.PeerPlan.{position_plan}
+use Rattle.peer_stores.specs.TreeRepair.{rebuild_plan}
+use Rattle.peer_stores.specs.TreeVerify.{scan_plan}
 use Rattle.world_stores.specs.Faults.{spent}
 use Rattle.world_stores.specs.Objects.{Objects}
 use Rattle.world_stores.specs.declared.fact.HeldFact.{HeldFact}
@@ -36,8 +36,8 @@ with_facts facts h = record h { stores = record h.stores { facts = facts } }
 abbrev pub with_backend : Objects → Held → Held
 with_backend objects h = record h { stores = record h.stores { backend = objects } }
 
-abbrev pub with_tree : {A : Type 0} → Option (List ℕ) → Walk A → Held → Held
-with_tree top w h = record { stores = record h.stores { tree = record h.stores.tree { store = w.nodes; top = top } }; hashed = w.hashed }
+abbrev pub with_tree : {A : Type 0} → TreeVersion → Option (List ℕ) → Walk A → Held → Held
+with_tree tree top w h = record { stores = record h.stores { tree = record { version = tree; store = w.nodes; top = top } }; hashed = w.hashed }
 
 -- what a walk that looks for something tells
 abbrev pub looked : {A : Type 0} → End A → Result (Walked A) PeerError
@@ -79,9 +79,21 @@ root_read seal old Failed = old
 abbrev pub root_kept : {A : Type 0} → Option (List ℕ) → End A → Option (List ℕ)
 root_kept old end = old
 
--- the answer of the tree, from the walk of a plan: what its end tells, and which root it leaves
+-- the version of a tree that was made or opened in this version, or the old one after damage or a failure
+abbrev pub version_opened : {A : Type 0} → TreeVersion → TreeVersion → End A → TreeVersion
+version_opened tree old (Came x) = tree
+version_opened tree old (Broke at) = old
+version_opened tree old Failed = old
+
+-- the version of the tree after a call; it stays unless a tree is made or opened
+abbrev pub version_given : {A : Type 0} → Call → TreeVersion → End A → TreeVersion
+version_given (FreshTree tree) old end = version_opened tree old end
+version_given (OpenTree seal tree) old end = version_opened tree old end
+version_given call old end = old
+
+-- the answer of the tree, from the walk of a plan: what its end tells, and which root and version it leaves
 abbrev pub by_walk : {A : Type 0} → (call : Call) → (End A → Result (AnswerOf call) PeerError) → (Option (List ℕ) → End A → Option (List ℕ)) → Walk A → Held → Answered call
-by_walk call tells root w h = record { result = tells w.end; held = with_tree (root h.stores.tree.top w.end) w h }
+by_walk call tells root w h = record { result = tells w.end; held = with_tree (version_given call h.stores.tree.version w.end) (root h.stores.tree.top w.end) w h }
 
 -- the walk of a plan over the nodes of these stores
 abbrev pub walked : {A : Type 0} → Plan A → Held → Walk A
@@ -109,14 +121,14 @@ after_put call answer new h = unless_failing h.stores.backend.faults.pending (re
 abbrev pub answered : (call : Call) → Held → Answered call
 answered Load h = record { result = Ok h.stores.facts.kept; held = h }
 answered (Save fact) h = after_save (Save fact) tt (record h.stores.facts { kept = Some fact }) h
-answered FreshTree h = by_walk FreshTree done root_after (walked (fresh_plan (form_of One)) h) h
-answered (OpenTree seal) h = by_walk (OpenTree seal) done (root_read seal) (walked open_plan h) h
+answered (FreshTree tree) h = by_walk (FreshTree tree) done root_after (walked (fresh_plan (form_of tree)) h) h
+answered (OpenTree seal tree) h = by_walk (OpenTree seal tree) done (root_read seal) (walked open_plan h) h
 answered Root h = record { result = Ok h.stores.tree.top; held = h }
-answered (Find key) h = by_walk (Find key) looked root_kept (walked (get_plan (form_of One) h.stores.tree.top key) h) h
-answered (Enter entry) h = by_walk (Enter entry) entered root_after (walked (insert_plan (form_of One) h.stores.tree.top entry) h) h
-answered ScanTree h = by_walk ScanTree whole root_kept (walked (scan_plan (form_of One) h.stores.tree.top) h) h
-answered (ReadNode at) h = by_walk (ReadNode at) looked root_kept (walked (node_plan (form_of One) h.stores.tree.top at) h) h
-answered (Install entries) h = by_walk (Install entries) done root_after (walked (rebuild_plan (form_of One) entries) h) h
+answered (Find key) h = by_walk (Find key) looked root_kept (walked (get_plan (form_of h.stores.tree.version) h.stores.tree.top key) h) h
+answered (Enter entry) h = by_walk (Enter entry) entered root_after (walked (insert_plan (form_of h.stores.tree.version) h.stores.tree.top entry) h) h
+answered ScanTree h = by_walk ScanTree whole root_kept (walked (scan_plan (form_of h.stores.tree.version) h.stores.tree.top) h) h
+answered (ReadNode at) h = by_walk (ReadNode at) looked root_kept (walked (position_plan h.stores.tree.version h.stores.tree.top at) h) h
+answered (Install entries) h = by_walk (Install entries) done root_after (walked (rebuild_plan (form_of h.stores.tree.version) entries) h) h
 answered (Fetch key) h = record { result = Ok (value_at key h.stores.backend.entries); held = h }
 answered (Put key bytes) h = after_put (Put key bytes) tt (record h.stores.backend { entries = with_value key bytes h.stores.backend.entries }) h
 answered (Hash bytes) h = record { result = Ok (md5 bytes); held = and_hashed bytes h }

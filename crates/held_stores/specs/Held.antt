@@ -1,5 +1,5 @@
 -- The stores of a peer in memory, and the strings that were hashed.
-use Rattle.std.specs.Prelude.{◌≡◌, ◌≤◌, ℕ, refl, if◌then◌else◌, List, [], ◌∷◌, ◌++◌, Option, None, Some, Contains}
+use Rattle.std.specs.Prelude.{◌≡◌, ◌≤◌, ℕ, if◌then◌else◌, List, [], ◌∷◌, ◌++◌, Option, None, Some, Contains}
 use Rattle.std.specs.List.{list_any}
 use Rattle.ens_base.specs.Lists.{same_bytes}
 use Rattle.ens_hashing.specs.Hashing.{Book, Takes}
@@ -22,7 +22,6 @@ empty_stores = record {
   backend = record { entries = []; faults = no_faults };
   tree = record { version = One; store = record { entries = []; tops = []; faults = no_faults }; top = None };
   facts = record { kept = None; faults = no_faults };
-  of_version_one = refl;
 }
 
 -- the stores of a peer, and all strings hashed so far, by any peer, in the order in which they came

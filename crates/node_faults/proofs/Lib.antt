@@ -2,3 +2,4 @@ pub mod Segments
 pub mod Digests
 pub mod Stepping
 pub mod Builds
+pub mod TreeRepair

@@ -1,3 +1,4 @@
 pub mod Naming
 pub mod Faults
 pub mod Laws
+pub mod TreeRepair

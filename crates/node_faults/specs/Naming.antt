@@ -1,8 +1,11 @@
 -- The digests that the stored nodes of a tree name. No digest is compared with the bytes under it.
-use Rattle.std.specs.Prelude.{ℕ, zero, suc, ◌+◌, ◌*◌, ◌/◌, ◌%◌, List, Option, None, get_or}
+use Rattle.std.specs.Prelude.{ℕ, zero, suc, ◌+◌, ◌*◌, ◌/◌, ◌%◌, ◌==◌, if◌then◌else◌, List, [], ◌∷◌, Option, None, Some, get_or}
 use Rattle.std.specs.Option.{option_and_then}
 use Rattle.ens_outside.specs.Maps.{Entries, value_at}
 use Rattle.tree_node.specs.declared.position.Position.{Position}
+use Rattle.tree_node.specs.declared.version.TreeVersion.{TreeVersion}
+use Rattle.tree_node.specs.declared.version.TreeVersion.TheVariants.{One, Two}
+use Rattle.tree_node.specs.TreeVersions.{inner_tag}
 use Rattle.tree_maps.specs.Forms.{Form}
 use Rattle.world_stores.specs.Nodes.{Nodes, top_of}
 
@@ -33,3 +36,14 @@ index_of F key (suc level) = F.width * index_of F key level + F.digit key level
 -- the position of the segment of a key
 abbrev pub segment_place : Form → List ℕ → Position
 segment_place F key = record { level = F.depth; index = index_of F key F.depth }
+
+-- the version of the tree whose root has these bytes, as the first of them tells: version one, but where it
+-- is the tag of an inner node of version two
+abbrev pub version_of_root : Option (List ℕ) → TreeVersion
+version_of_root None = One
+version_of_root (Some []) = One
+version_of_root (Some (tag ∷ bytes)) = if tag == inner_tag Two then Two else One
+
+-- the version of the tree in these nodes, as the root that is stored under the top record tells
+abbrev pub version_in : Nodes → TreeVersion
+version_in s = version_of_root (option_and_then (λ top. value_at top s.entries) (top_of s.tops))

@@ -1,8 +1,8 @@
-ghost use Rattle.std.specs.Prelude.{◌≡◌, ◌-◌, ◌/◌, ◌≤◌, ◌<◌, IfOk, IfErr, get_or, None};
+ghost use Rattle.std.specs.Prelude.{◌≡◌, ◌-◌, ◌/◌, ◌≤◌, ◌<◌, IfOk, IfErr, get_or, None, Some};
 ghost use Rattle.tree_node.specs.TreeVersions.{levels};
 ghost use Rattle.tree_node.specs.Positions.{IsPosition};
 ghost use Rattle.tree_maps.specs.Sixteen.{form_of, children_of};
-ghost use Rattle.node_faults.specs.Naming.{child_in as child_encoded, child_under as child_stored, named_at as digest_at, segment_place};
+ghost use Rattle.node_faults.specs.Naming.{child_in as child_encoded, child_under as child_stored, named_at as digest_at, segment_place, version_in, version_of_root};
 
 use ens_base::{Digest, Key};
 use ens_hashing::digest_of;
@@ -113,4 +113,34 @@ pub(crate) fn segment_of(version: TreeVersion, key: &Key) -> Position
         at = child(at, nibble(&path, level));
     }
     at
+}
+
+/// Returns the version of the tree whose root has these bytes, as the first of them tells.
+fn version_of_bytes(bytes: &[u8]) -> TreeVersion
+    ensures { result ≡ version_of_root (Some bytes.now) }
+{
+    match bytes.first() {
+        Some(tag) => {
+            if *tag == TreeVersion::Two.inner_tag() {
+                TreeVersion::Two
+            } else {
+                TreeVersion::One
+            }
+        }
+        None => TreeVersion::One,
+    }
+}
+
+/// Returns the version of the tree in these nodes, as the first byte of the stored root tells: version one,
+/// but where it is the tag of an inner node of version two.
+pub fn version_stored(nodes: &HeldNodes) -> TreeVersion
+    ensures { result ≡ version_in nodes.now }
+{
+    let Some(digest) = nodes.top_record() else {
+        return TreeVersion::One;
+    };
+    match nodes.look(&digest) {
+        Some(bytes) => version_of_bytes(bytes),
+        None => TreeVersion::One,
+    }
 }

@@ -1,10 +1,10 @@
 -- What was sent and printed stays.
 use Rattle.std.proofs.Common.{◌≡◌, ℕ, [], ◌++◌, refl, sym, ap, ◌∙◌, Option, None, Some}
-use Rattle.std.specs.Prelude.{slice_get}
+use Rattle.std.specs.Prelude.{Bool, true, false, if◌then◌else◌, slice_get}
 use Rattle.std.proofs.lemmas.List.{append-nil, append_assoc}
-use Rattle.world_spec.proofs.Growth.{changed_mail}
+use Rattle.world_spec.proofs.Growth.{changed_mail, deepening_mail}
 use Rattle.world_spec.specs.Nodes.{Node}
-use Rattle.world_spec.specs.Runs.{Run, place_of, changed_at, changed, upgraded}
+use Rattle.world_spec.specs.Runs.{Run, place_of, changed_at, changed, upgraded, may_deepen, deepened, with_deepening}
 use Rattle.world_model.specs.Worlds.{run_of, Begins}
 use Rattle.world_model.specs.declared.world.World.{World}
 
@@ -47,4 +47,20 @@ begins_upgraded w v peer is = record {
   sent = ap (λ (r : Run). r.mail.sent) is ∙ sym (append-nil w.network.sent);
   more_printed = [];
   printed = ap (λ (r : Run). r.printed) is ∙ sym (append-nil w.printed.items);
+}
+
+deepening_printed : (w : Run) → (with_deepening w).printed ≡ w.printed
+deepening_printed w = by (may_deepen w)
+  where
+    by : (may : Bool) → (if may then deepened w else w).printed ≡ w.printed
+    by true = refl
+    by false = refl
+
+-- nor does a line that makes later trees deeper
+pub begins_deepened : (w v : World) → run_of v ≡ with_deepening (run_of w) → Begins w v
+begins_deepened w v is = record {
+  more_sent = [];
+  sent = ap (λ (r : Run). r.mail.sent) is ∙ (ap (λ m. m.sent) (deepening_mail (run_of w)) ∙ sym (append-nil w.network.sent));
+  more_printed = [];
+  printed = ap (λ (r : Run). r.printed) is ∙ (deepening_printed (run_of w) ∙ sym (append-nil w.printed.items));
 }

@@ -3,8 +3,8 @@ use Rattle.std.proofs.Common.{◌≡◌, ◌≤◌, ◌+◌, ℕ, zero, suc, Som
 use Rattle.std.specs.Prelude.{drop}
 use Rattle.std.proofs.lemmas.List.{length-replicate}
 use Rattle.std.proofs.lemmas.Option.{same_Some, none-some}
-use Rattle.held_stores.proofs.Taken.{hashed_all}
-use Rattle.held_stores.specs.Held.{Account, HasHashed}
+use Rattle.world_spec.proofs.HeldStores.{hashed_all}
+use Rattle.world_spec.specs.HeldStores.{Account, HasHashed}
 use Rattle.network.specs.Mail.{most_messages}
 use Rattle.schedule_text.specs.Spelling.{MayStand, AllMayStand}
 use Rattle.schedule_text.specs.declared.event.ScheduleEvent.{ScheduleEvent}

@@ -2,9 +2,8 @@
 use Rattle.std.proofs.Common.{◌≡◌, ◌≤◌, ℕ, List, [], ◌∷◌, Option, refl, sym, subst}
 use Rattle.ens_base.specs.Causes.{Rose}
 use Rattle.ens_hashing.specs.Hashing.{Book, ExceedsTold, IsClash, IsKept, Stays, Takes}
-use Rattle.held_stores.proofs.Taken.{hashed_more, hashed_none}
-use Rattle.held_stores.specs.Held.{Account, HasHashed}
-use Rattle.held_stores.specs.Laws.{HasClashed, HasFilled, HasRejected}
+use Rattle.world_spec.proofs.HeldStores.{hashed_more, hashed_none}
+use Rattle.world_spec.specs.HeldStores.{Account, HasHashed, HasClashed, HasFilled, HasRejected}
 
 -- it took the string
 pub took_one : (x : List ℕ) (first now : Account) → Takes x first.kept now.kept → first.clashes ≤ now.clashes → first.fulls ≤ now.fulls → HasHashed (x ∷ []) first now

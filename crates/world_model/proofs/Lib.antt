@@ -9,3 +9,6 @@ pub mod Starting
 pub mod Events
 pub mod StoreLines
 pub mod Hashed
+pub mod Downs
+pub mod HeldStores
+pub mod WorldSpec

@@ -1,16 +1,16 @@
 -- Ticks and deliveries, one after another.
 use Rattle.std.proofs.Common.{◌≡◌, ◌<◌, ◌≤◌, ◌+◌, ◌-◌, ℕ, Some, None, List, [], ◌++◌, refl, ap, subst, ◌∙◌, sym, arith}
-use Rattle.std.specs.Prelude.{Bool, slice_get}
+use Rattle.std.specs.Prelude.{Bool, true, false, nat_lt, slice_get}
 use Rattle.network.specs.Mail.{settled, is_among, oldest, most_messages}
 use Rattle.peer_state.specs.declared.event.Event.TheVariants as events
 use Rattle.wire_frames.specs.declared.frame.Frame.{Frame}
 use Rattle.wire_frames.specs.declared.message.Message.{Message}
-use Rattle.held_stores.proofs.Taken.{hashed_none, hashed_all}
-use Rattle.held_stores.specs.Held.{Account, HasHashed}
+use Rattle.world_spec.proofs.HeldStores.{hashed_none, hashed_all}
+use Rattle.world_spec.specs.HeldStores.{Account, HasHashed}
 use Rattle.world_spec.proofs.Fronts.{in_front_none, onward, ticked_front, calmed_front}
 use Rattle.world_spec.proofs.Growth.{IsFurther, further_front, ticked_grows, calmed_grows}
 use Rattle.world_spec.proofs.Turns.{no_tick, one_tick, no_turn, one_turn, last_turn}
-use Rattle.world_spec.specs.Runs.{Run, in_front, unhashed, stepped, ticked, delivered, calmed}
+use Rattle.world_spec.specs.Runs.{Run, in_front, unhashed, stepped, ticked, without_waiting, delivered, calmed}
 use Rattle.world_model.specs.Worlds.{run_of, Begins}
 use Rattle.world_model.specs.declared.world.World.{World}
 use Rattle.world_model.proofs.Begins.{begins_same, begins_later}
@@ -105,7 +105,11 @@ module _ (peers : List Bool) (i : ℕ) (first now : World) (before after : Accou
 pub calming_last : (peers : List Bool) (i : ℕ) (first now : World) (before after : Account) → most_messages ≤ i → (old : Calming peers i first now before after) → in_front old.strings (run_of now) ≡ calmed peers most_messages (run_of first)
 calming_last peers i first now before after le old = ap (in_front old.strings) (sym (no_turn peers (run_of now)) ∙ ap (λ k. calmed peers k (run_of now)) (sym (none_left most_messages i le))) ∙ old.rest
 
--- settling a message and stepping its receiver delivers it
-pub received_is : (w : Run) (n : ℕ) (f : Frame) (message : Message) → slice_get w.mail.sent n ≡ Some f → message ≡ f.message
+-- settling a message and stepping its receiver delivers it, unless it was sent before trees got version two
+pub received_is : (w : Run) (n : ℕ) (f : Frame) (message : Message) → slice_get w.mail.sent n ≡ Some f → message ≡ f.message → nat_lt n w.first_alive ≡ false
     → stepped f.to (events.Deliver f.from message) (record w { mail = settled w.mail n }) ≡ delivered n w
-received_is w n f message here copied = rw here (rw copied refl)
+received_is w n f message here copied alive = rw here (rw copied (rw alive refl))
+
+-- settling such a message is all that its delivery does
+pub lost_is : (w : Run) (n : ℕ) (f : Frame) → slice_get w.mail.sent n ≡ Some f → nat_lt n w.first_alive ≡ true → without_waiting n w ≡ delivered n w
+lost_is w n f here lost = rw here (rw lost refl)

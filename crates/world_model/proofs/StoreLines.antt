@@ -2,7 +2,7 @@
 use Rattle.std.proofs.Common.{◌≡◌, ℕ, List, Option, refl}
 use Rattle.ens_base.specs.declared.command.Command.{Command}
 use Rattle.schedule_text.specs.declared.event.ScheduleEvent.{ScheduleEvent}
-use Rattle.schedule_text.specs.declared.event.ScheduleEvent.TheVariants.{Call, Tick, Deliver, Pass, Lose, Calm, CalmAmong, Change, Stop, Start, Upgrade, Spoil, Damage, Inner, Revert, Fail}
+use Rattle.schedule_text.specs.declared.event.ScheduleEvent.TheVariants.{Call, Tick, Deliver, Pass, Lose, Calm, CalmAmong, Change, Stop, Start, Upgrade, Deepen, Spoil, Damage, Inner, Revert, Fail}
 use Rattle.schedule_text.specs.declared.keyword.StoreName.{StoreName}
 use Rattle.schedule_text.specs.declared.keyword.Survivor.{Survivor}
 use Rattle.world_spec.specs.Lines.{effect, stores_effect}
@@ -24,21 +24,23 @@ pub stores_line : (event : ScheduleEvent) (w : Run)
     → ((peer : ℕ) → event ≡ Stop peer → ⊥)
     → ((peer : ℕ) → event ≡ Start peer → ⊥)
     → ((peer : ℕ) → event ≡ Upgrade peer → ⊥)
+    → (event ≡ Deepen → ⊥)
     → ((peer : ℕ) (key : List ℕ) (bytes : Option (List ℕ)) → event ≡ Damage peer key bytes → ⊥)
     → effect event w ≡ stores_effect event w
-stores_line (Call peer id key command) w call tick deliver pass lose calm among change stop start upgrade damage = absurd (call peer id key command refl)
-stores_line (Tick peer ticks) w call tick deliver pass lose calm among change stop start upgrade damage = absurd (tick peer ticks refl)
-stores_line (Deliver message) w call tick deliver pass lose calm among change stop start upgrade damage = absurd (deliver message refl)
-stores_line (Pass sender receiver) w call tick deliver pass lose calm among change stop start upgrade damage = absurd (pass sender receiver refl)
-stores_line (Lose sender receiver) w call tick deliver pass lose calm among change stop start upgrade damage = absurd (lose sender receiver refl)
-stores_line Calm w call tick deliver pass lose calm among change stop start upgrade damage = absurd (calm refl)
-stores_line (CalmAmong members) w call tick deliver pass lose calm among change stop start upgrade damage = absurd (among members refl)
-stores_line (Change peer view) w call tick deliver pass lose calm among change stop start upgrade damage = absurd (change peer view refl)
-stores_line (Stop peer) w call tick deliver pass lose calm among change stop start upgrade damage = absurd (stop peer refl)
-stores_line (Start peer) w call tick deliver pass lose calm among change stop start upgrade damage = absurd (start peer refl)
-stores_line (Upgrade peer) w call tick deliver pass lose calm among change stop start upgrade damage = absurd (upgrade peer refl)
-stores_line (Damage peer key bytes) w call tick deliver pass lose calm among change stop start upgrade damage = absurd (damage peer key bytes refl)
-stores_line other w call tick deliver pass lose calm among change stop start upgrade damage = refl
+stores_line (Call peer id key command) w call tick deliver pass lose calm among change stop start upgrade deepen damage = absurd (call peer id key command refl)
+stores_line (Tick peer ticks) w call tick deliver pass lose calm among change stop start upgrade deepen damage = absurd (tick peer ticks refl)
+stores_line (Deliver message) w call tick deliver pass lose calm among change stop start upgrade deepen damage = absurd (deliver message refl)
+stores_line (Pass sender receiver) w call tick deliver pass lose calm among change stop start upgrade deepen damage = absurd (pass sender receiver refl)
+stores_line (Lose sender receiver) w call tick deliver pass lose calm among change stop start upgrade deepen damage = absurd (lose sender receiver refl)
+stores_line Calm w call tick deliver pass lose calm among change stop start upgrade deepen damage = absurd (calm refl)
+stores_line (CalmAmong members) w call tick deliver pass lose calm among change stop start upgrade deepen damage = absurd (among members refl)
+stores_line (Change peer view) w call tick deliver pass lose calm among change stop start upgrade deepen damage = absurd (change peer view refl)
+stores_line (Stop peer) w call tick deliver pass lose calm among change stop start upgrade deepen damage = absurd (stop peer refl)
+stores_line (Start peer) w call tick deliver pass lose calm among change stop start upgrade deepen damage = absurd (start peer refl)
+stores_line (Upgrade peer) w call tick deliver pass lose calm among change stop start upgrade deepen damage = absurd (upgrade peer refl)
+stores_line Deepen w call tick deliver pass lose calm among change stop start upgrade deepen damage = absurd (deepen refl)
+stores_line (Damage peer key bytes) w call tick deliver pass lose calm among change stop start upgrade deepen damage = absurd (damage peer key bytes refl)
+stores_line other w call tick deliver pass lose calm among change stop start upgrade deepen damage = refl
 
 -- the lines on stores hash no string
 pub stores_hashed : (event : ScheduleEvent) (w : Run) → (stores_effect event w).hashed ≡ w.hashed

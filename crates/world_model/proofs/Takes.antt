@@ -7,9 +7,7 @@ use Rattle.step_plans.specs.Steps.{HasFinished, HasStopped}
 use Rattle.step_plans.specs.declared.error.PeerError.{PeerError}
 use Rattle.step_plans.specs.declared.error.PeerError.TheVariants as errors
 use Rattle.step_plans.specs.declared.outbox.Outbox.{Outbox}
-use Rattle.peer_plan.specs.Drives.{MayCome, step_of}
-use Rattle.peer_plan.specs.Kept.{AllMayGo, MaySend}
-use Rattle.peer_plan.specs.Starts.{start_of}
+use Rattle.world_spec.specs.HeldStores.{MayCome, step_of, AllMayGo, MaySend, start_of, Account, account, HeldStores, HeldDo, HeldRefuse, IsUnplanned}
 use Rattle.peer_state.specs.declared.state.Mode.{Mode}
 use Rattle.peer_state.specs.declared.state.State.{State}
 use Rattle.step_plans.specs.Calls.{Call, AnswerOf}
@@ -18,9 +16,7 @@ use Rattle.std.proofs.lemmas.Option.{none-some, same_Some}
 use Rattle.std.proofs.lemmas.List.Elements.{All-nil}
 use Rattle.peer_state.specs.declared.event.Event.{Event}
 use Rattle.world_spec.proofs.Determined.{step_taken, step_stopped, start_taken, start_stopped}
-use Rattle.held_stores.proofs.Taken.{hashed_none}
-use Rattle.held_stores.specs.Held.{Account, account, HeldStores}
-use Rattle.held_stores.specs.Laws.{HeldDo, HeldRefuse, IsUnplanned}
+use Rattle.world_spec.proofs.HeldStores.{hashed_none}
 use Rattle.register_model.specs.declared.note.Note.{Note}
 use Rattle.world_spec.specs.Nodes.{Node, Up, Down, Taken, taken, hashed_by_start}
 use Rattle.world_spec.specs.Steps.{ComesTo, StartsAs}

@@ -3,3 +3,5 @@ pub mod Peers
 pub mod Worlds
 pub mod Refusals
 pub mod Activities
+pub mod HeldStores
+pub mod WorldSpec

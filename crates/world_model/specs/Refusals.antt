@@ -1,7 +1,6 @@
 -- How the error of a peer's step ends the run of a world.
 use Rattle.std.specs.Prelude.{ℕ, List, Option, Some, None}
-use Rattle.held_stores.specs.Held.{Account}
-use Rattle.held_stores.specs.Laws.{HasClashed, HasFilled}
+use Rattle.world_spec.specs.HeldStores.{Account, HasClashed, HasFilled}
 use Rattle.network.specs.declared.error.SendError.{SendError}
 use Rattle.network.specs.declared.error.SendError.TheVariants as sends
 use Rattle.step_plans.specs.declared.error.PeerError.{PeerError}

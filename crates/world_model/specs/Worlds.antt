@@ -1,6 +1,6 @@
 -- A world as the run of the lines applied so far.
 use Rattle.std.specs.Prelude.{◌≡◌, ◌++◌, ℕ, List, [], map, Result, Ok, Err}
-use Rattle.held_stores.specs.Held.{Account, HasHashed}
+use Rattle.world_spec.specs.HeldStores.{Account, HasHashed}
 use Rattle.register_model.specs.declared.note.Note.{Note}
 use Rattle.register_model.specs.declared.printed.Printed.{Printed}
 use Rattle.step_plans.specs.Plans.{Out}
@@ -16,7 +16,7 @@ use Rattle.world_model.specs.declared.world.World.{World}
 -- The run that a world represents. A world forgets which strings were hashed, so the run goes on from
 -- it with none.
 abbrev pub run_of : World → Run
-run_of w = record { view = w.opening; sealing = w.sealing; nodes = map node_of w.peers.items; mail = w.network; printed = w.printed.items; notes = w.scribe.notes.items; hashed = []; events = w.events; called = w.called.items }
+run_of w = record { view = w.opening; form = w.form; sealing = w.sealing; tree = w.tree; first_alive = w.first_alive; nodes = map node_of w.peers.items; mail = w.network; printed = w.printed.items; notes = w.scribe.notes.items; hashed = []; events = w.events; called = w.called.items }
 
 -- this error may refuse a call that needs no hasher
 abbrev pub MayStop : Run → WorldError → Type 0

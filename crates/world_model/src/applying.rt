@@ -1,7 +1,7 @@
 ghost use Rattle.std.specs.Prelude.{◌≡◌, length};
 ghost use Rattle.ens_base.specs.Lists.{is_in};
 ghost use Rattle.ens_base.specs.View.{IsPeer};
-ghost use Rattle.held_stores.specs.Held.{account};
+ghost use Rattle.world_spec.specs.HeldStores.{account};
 ghost use Rattle.peer_state.specs.declared.event.Event.TheVariants.{Call};
 ghost use Rattle.schedule_text.specs.Spelling.{MayStand};
 ghost use Rattle.world_spec.specs.Lines.{applied, call_of, counted, effect, everyone, set_of, stores_effect};
@@ -117,9 +117,13 @@ impl World {
                 self.stop(alloc, *peer);
                 Ok(())
             }
-            ScheduleEvent::Start { peer } => self.start(alloc, hasher, *peer),
+            ScheduleEvent::Start { peer } => self.start(rt, alloc, hasher, *peer),
             ScheduleEvent::Upgrade { peer } => {
                 self.upgrade(*peer);
+                Ok(())
+            }
+            ScheduleEvent::Deepen => {
+                self.deepen();
                 Ok(())
             }
             ScheduleEvent::Damage { peer, key, bytes } => {

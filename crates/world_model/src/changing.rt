@@ -1,19 +1,35 @@
 ghost use Rattle.std.specs.Prelude.{◌≡◌, ◌≤◌, ◌<◌, ◌^◌, length};
-ghost use Rattle.held_stores.specs.Held.{account};
+ghost use Rattle.world_spec.specs.HeldStores.{account};
 ghost use Rattle.world_spec.specs.Lines.{with_damage};
 ghost use Rattle.world_spec.specs.Nodes.{over_stores, stopped, while_down};
-ghost use Rattle.world_spec.specs.Runs.{changed, mode_at, upgraded, with_start};
+ghost use Rattle.world_spec.specs.Runs.{changed, may_deepen, mode_at, upgraded, with_deepening, with_start};
 ghost use Rattle.world_spec.specs.Stores.{failing, inner_spoiled, leaves_of, spoiled, taken_back};
+ghost use Rattle.world_model.specs.Peers.{are_down};
 ghost use Rattle.world_model.specs.Worlds.{run_of, Adds, Begins, Reaches};
 
 use crate::error::WorldError;
 use crate::hashing::hash;
+use crate::peer::WorldPeer;
 use crate::world::World;
 use ens_base::{Bytes, Key, PeerId};
 use ens_hashing::Hasher16;
 use peer_core::Mode;
 use schedule_text::{StoreName, Survivor};
 use std::alloc::Global;
+use std::thread::Threads;
+use tree_node::TreeVersion;
+
+/// Whether all peers are down.
+fn all_down(peers: &[WorldPeer]) -> bool
+    ensures { result ≡ are_down peers.now }
+{
+    for peer in peers {
+        if !peer.is_down() {
+            return false;
+        }
+    }
+    true
+}
 
 impl World {
     /// Stops `peer`.
@@ -24,18 +40,20 @@ impl World {
         self.peers[(peer.0 - 1) as usize].stop(alloc);
     }
 
-    /// How `peer` starts: with sealing on if its starts have that.
+    /// How `peer` starts: with sealing on if its starts have that, and in the version of trees.
     fn mode_of(&self, peer: PeerId) -> Mode
         ensures { result ≡ mode_at peer (run_of self.now) }
     {
         Mode {
             sealing: self.sealing.has(peer),
+            tree: self.tree,
         }
     }
 
     /// Starts `peer` if it is down.
-    pub(crate) fn start<H: Hasher16>(
+    pub(crate) fn start<H: Hasher16, R: Threads + Sync>(
         &mut self,
+        rt: &R,
         alloc: Global,
         hasher: &mut H,
         peer: PeerId,
@@ -46,7 +64,7 @@ impl World {
     {
         let opening = self.opening;
         let mode = self.mode_of(peer);
-        self.peers[(peer.0 - 1) as usize].start(alloc, mode, opening, hasher)
+        self.peers[(peer.0 - 1) as usize].start(rt, alloc, mode, opening, hasher)
     }
 
     /// Makes all later starts of `peer` have sealing on.
@@ -55,6 +73,25 @@ impl World {
         ensures { run_of self.new ≡ upgraded peer (run_of self.old) }
     {
         self.sealing.insert(peer);
+    }
+
+    /// Whether a line `deepen` takes effect: all peers are down, and trees had version one at the opening.
+    #[tactic(auto, using(crate::proofs::Downs::downs_are))]
+    fn may_deepen(&self) -> bool
+        ensures { result ≡ may_deepen (run_of self.now) }
+    {
+        !self.form.is_deep() && all_down(&self.peers)
+    }
+
+    /// Makes all later starts have trees of version two, and gives no message that was sent so far to
+    /// anyone, if all peers are down and trees had version one at the opening.
+    pub(crate) fn deepen(&mut self)
+        ensures { run_of self.new ≡ with_deepening (run_of self.old) }
+    {
+        if self.may_deepen() {
+            self.tree = TreeVersion::Two;
+            self.first_alive = self.network.sent().len();
+        }
     }
 
     /// Replaces the bytes of an object in the backend of `peer`, or removes the object.

@@ -1,5 +1,5 @@
 ghost use Rattle.ens_base.specs.View.{IsPeer};
-ghost use Rattle.held_stores.specs.Held.{account};
+ghost use Rattle.world_spec.specs.HeldStores.{account};
 ghost use Rattle.network.specs.Mail.{goes, oldest, most_messages};
 ghost use Rattle.world_spec.specs.Runs.{delivered, delivered_if, ticked, calmed};
 ghost use Rattle.world_model.specs.Worlds.{run_of, Begins, Reaches};
@@ -34,7 +34,8 @@ impl World {
     }
 
     /// Delivers the message `number`, counted from 0, whether or not it still waits. Does nothing
-    /// if there is no such message. No line is counted. The hasher took the strings that the step
+    /// if there is no such message. One that was sent before trees got version two counts as delivered,
+    /// but is given to nobody. No line is counted. The hasher took the strings that the step
     /// hashes, in order.
     ///
     /// # Errors
@@ -53,6 +54,10 @@ impl World {
         let Some(frame) = self.network.sent().get(number) else {
             return Ok(());
         };
+        if number < self.first_alive {
+            self.network.settle(number);
+            return Ok(());
+        }
         let (from, to) = (PeerId(frame.from), PeerId(frame.to));
         let message = frame.message.copy(alloc)?;
         self.network.settle(number);

@@ -1,5 +1,5 @@
 ghost use Rattle.std.specs.Prelude.{◌∷◌, [], IfErr, OnOk};
-ghost use Rattle.held_stores.specs.Held.{HasHashed, account};
+ghost use Rattle.world_spec.specs.HeldStores.{HasHashed, account};
 ghost use Rattle.world_model.specs.Refusals.{IsCutOff};
 
 use crate::error::WorldError;

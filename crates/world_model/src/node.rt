@@ -1,6 +1,7 @@
 ghost use Rattle.std.specs.Prelude.{◌≡◌};
-ghost use Rattle.held_stores.specs.Held.{empty_stores as no_stores};
-ghost use Rattle.world_model.specs.MemNodes.{stores_by};
+ghost use Rattle.world_spec.specs.HeldStores.{empty_stores as no_stores};
+ghost use Rattle.world_spec.specs.Nodes.{is_down as is_down_node};
+ghost use Rattle.world_model.specs.MemNodes.{node_by, stores_by};
 ghost use Rattle.world_model.specs.declared.node.MemNode.TheVariants.{Down};
 
 use peer_core::{Peer, Stores};
@@ -41,6 +42,16 @@ impl MemNode {
         match self {
             MemNode::Up(peer) => peer.into_stores(),
             MemNode::Down(stores) => stores,
+        }
+    }
+
+    /// Whether the peer is down.
+    pub(crate) fn is_down(&self) -> bool
+        ensures { result ≡ is_down_node (node_by self.now) }
+    {
+        match self {
+            MemNode::Up(_) => false,
+            MemNode::Down(_) => true,
         }
     }
 

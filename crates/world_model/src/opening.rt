@@ -1,8 +1,8 @@
 ghost use Rattle.std.specs.Prelude.{◌≡◌, ◌≤◌, length, map, replicate, IfOk, IfErr, OnOk};
 ghost use Rattle.ens_base.specs.View.{IsPeer};
-ghost use Rattle.held_stores.specs.Held.{account, empty_stores, HasHashed};
+ghost use Rattle.world_spec.specs.HeldStores.{account, empty_stores, HasHashed};
 ghost use Rattle.world_spec.specs.Nodes.{opening_node, opening_strings, Down};
-ghost use Rattle.world_spec.specs.Runs.{opening_mode, opening_run, repeated, sealing_first, unhashed};
+ghost use Rattle.world_spec.specs.Runs.{opening_mode, opening_run, repeated, sealing_first, tree_first, unhashed};
 ghost use Rattle.world_spec.specs.Steps.{StartsAs};
 ghost use Rattle.world_model.specs.Peers.{AreNumbered, node_of};
 ghost use Rattle.world_model.specs.Refusals.{IsCutOff};
@@ -19,6 +19,8 @@ use network::Network;
 use peer_core::Mode;
 use schedule_text::{Form, Schedule};
 use std::alloc::Global;
+use std::thread::Threads;
+use tree_node::TreeVersion;
 
 /// Returns the peers whose starts have sealing on before any line: all or none.
 fn sealing_at_opening(form: Form) -> PeerSet
@@ -31,8 +33,20 @@ fn sealing_at_opening(form: Form) -> PeerSet
     }
 }
 
-/// Starts the peer `me` on empty stores, with sealing on if the form has it on.
-fn started_peer<H: Hasher16>(
+/// Returns the version of trees before any line.
+fn tree_at_opening(form: Form) -> TreeVersion
+    ensures { result ≡ tree_first form }
+{
+    if form.is_deep() {
+        TreeVersion::Two
+    } else {
+        TreeVersion::One
+    }
+}
+
+/// Starts the peer `me` on empty stores, with sealing on and in the version of trees of the form.
+fn started_peer<H: Hasher16, R: Threads + Sync>(
+    rt: &R,
     alloc: Global,
     me: PeerId,
     form: Form,
@@ -46,14 +60,16 @@ fn started_peer<H: Hasher16>(
 {
     let mode = Mode {
         sealing: form.is_sealed(),
+        tree: tree_at_opening(form),
     };
     let mut peer = WorldPeer::empty(alloc, me);
-    peer.start(alloc, mode, view, hasher)?;
+    peer.start(rt, alloc, mode, view, hasher)?;
     Ok(peer)
 }
 
-/// Starts the peers 1 to `count` on empty stores, with sealing on if the form has it on.
-fn started_peers<H: Hasher16>(
+/// Starts the peers 1 to `count` on empty stores, with sealing on and in the version of trees of the form.
+fn started_peers<H: Hasher16, R: Threads + Sync>(
+    rt: &R,
     alloc: Global,
     count: u32,
     form: Form,
@@ -69,7 +85,7 @@ fn started_peers<H: Hasher16>(
 {
     let mut peers = Vec::new(alloc);
     for below in 0..count {
-        let peer = started_peer(alloc, PeerId(below + 1), form, view, hasher)?;
+        let peer = started_peer(rt, alloc, PeerId(below + 1), form, view, hasher)?;
         peers.push(peer)?;
     }
     Ok(peers)
@@ -77,14 +93,15 @@ fn started_peers<H: Hasher16>(
 
 impl World {
     /// Opens a world: starts `schedule.peers` peers on empty stores, in an ensemble that opens in
-    /// the view of the schedule, with sealing on if its form has it on. Applies no event. The hasher
-    /// took the strings that the starts hash, in order.
+    /// the view of the schedule, with sealing on and in the version of trees of its form. Applies no
+    /// event. The hasher took the strings that the starts hash, in order.
     ///
     /// # Errors
     ///
     /// `Memory` when out of memory, `Clash` or `BookFull` if the hasher rejected one of these strings
     /// and counted that in this call, after it took those before, and no other error.
-    pub fn open<H: Hasher16>(
+    pub fn open<H: Hasher16, R: Threads + Sync>(
+        rt: &R,
         alloc: Global,
         schedule: &Schedule,
         hasher: &mut H,
@@ -96,8 +113,18 @@ impl World {
     {
         Ok(World {
             opening: schedule.view,
+            form: schedule.form,
             sealing: sealing_at_opening(schedule.form),
-            peers: started_peers(alloc, schedule.peers, schedule.form, schedule.view, hasher)?,
+            tree: tree_at_opening(schedule.form),
+            first_alive: 0,
+            peers: started_peers(
+                rt,
+                alloc,
+                schedule.peers,
+                schedule.form,
+                schedule.view,
+                hasher,
+            )?,
             network: Network::new(alloc)?,
             printed: Vec::new(alloc),
             scribe: Scribe::new(alloc),

@@ -1,8 +1,7 @@
 ghost use Rattle.std.specs.Prelude.{◌≡◌, ◌⊎◌, ◌<◌, ◌≤◌, ◌+◌, map, length, All, OnOk, IfErr, IsErrOf};
 ghost use Rattle.ens_base.specs.View.{IsPeer};
-ghost use Rattle.held_stores.specs.Held.{StartsWith};
+ghost use Rattle.world_spec.specs.HeldStores.{StartsWith, MaySend};
 ghost use Rattle.network.specs.Mail.{most_messages};
-ghost use Rattle.peer_plan.specs.Kept.{MaySend};
 ghost use Rattle.world_spec.specs.Runs.{frame_from, posted_all};
 
 use crate::error::WorldError;

@@ -1,6 +1,6 @@
 ghost use Rattle.std.specs.Prelude.{OnOk};
 ghost use Rattle.ens_hashing.specs.Hashing.{KeepsNothing};
-ghost use Rattle.held_stores.specs.Held.{account, HasNoClash};
+ghost use Rattle.world_spec.specs.HeldStores.{account, HasNoClash};
 ghost use Rattle.schedule_text.specs.Spelling.{IsSchedule};
 ghost use Rattle.world_spec.specs.Lines.{run_of_schedule};
 ghost use Rattle.world_model.specs.Worlds.{RunReaches};
@@ -35,7 +35,7 @@ impl World {
         ensures reaches { RunReaches (account H.kept H.clashes H.fulls hasher.old) (run_of_schedule schedule.now.form schedule.now.peers schedule.now.view schedule.now.events) result (account H.kept H.clashes H.fulls hasher.new) }
         ensures apart { KeepsNothing (H.kept hasher.old) → OnOk result (HasNoClash (run_of_schedule schedule.now.form schedule.now.peers schedule.now.view schedule.now.events).hashed) }
     {
-        let mut world = World::open(alloc, schedule, hasher)?;
+        let mut world = World::open(rt, alloc, schedule, hasher)?;
         let events = schedule.events.as_slice();
         for place in 0..events.len() {
             world.apply(rt, alloc, &events[place], hasher)?;

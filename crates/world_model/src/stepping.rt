@@ -1,8 +1,6 @@
 ghost use Rattle.ens_base.specs.View.{IsPeer};
-ghost use Rattle.held_stores.specs.Held.{account};
+ghost use Rattle.world_spec.specs.HeldStores.{account, MayCome, AllMayGo};
 ghost use Rattle.step_plans.specs.Outboxes.{out_of};
-ghost use Rattle.peer_plan.specs.Drives.{MayCome};
-ghost use Rattle.peer_plan.specs.Kept.{AllMayGo};
 ghost use Rattle.world_spec.specs.Runs.{stepped};
 ghost use Rattle.world_model.specs.Worlds.{run_of, Adds, Begins, Reaches, reported};
 

@@ -1,10 +1,12 @@
-ghost use Rattle.std.specs.Prelude.{◌≡◌, ◌≤◌, ◌<◌, ◌^◌, IfErr, OnOk};
-ghost use Rattle.world_spec.specs.Stores.{failing, inner_spoiled, leaves_of as left_as, segment_spoiled, spoiled, taken_back};
+ghost use Rattle.std.specs.Prelude.{◌≡◌, ◌≤◌, ◌<◌, ◌^◌, IfErr, OnOk, OnErr};
+ghost use Rattle.node_faults.specs.Faults.{replaced_if};
+ghost use Rattle.world_spec.specs.Stores.{failing, inner_named, inner_spoiled, leaves_of as left_as, segment_spoiled, spoiled, taken_back};
 
 use crate::error::WorldError;
 use crate::node::MemStores;
 use ens_base::{Bytes, Key};
-use ens_outside::Leaves;
+use ens_outside::{Leaves, StoreError};
+use node_faults::version_stored;
 use schedule_text::{StoreName, Survivor};
 use std::alloc::Global;
 use synctree::{Tree, TreeMark};
@@ -67,7 +69,8 @@ pub(crate) fn spoil(
     }
 }
 
-/// Replaces the bytes of the segment of a key, or removes that node. Fails when out of memory.
+/// Replaces the bytes of the segment of a key, or removes that node, in the version of the stored tree.
+/// Fails when out of memory.
 pub(crate) fn damage(
     alloc: Global,
     stores: &mut MemStores,
@@ -78,12 +81,33 @@ pub(crate) fn damage(
     ensures memory { IfErr result (λ e. e ≡ WorldError.Memory) }
 {
     let (mark, mut nodes) = take_nodes(alloc, &mut stores.tree);
-    let damaged = node_faults::damage(alloc, &mut nodes, TreeVersion::One, key, bytes);
+    let version = version_stored(&nodes);
+    let damaged = node_faults::damage(alloc, &mut nodes, version, key, bytes);
     stores.tree = Tree::join(mark, nodes);
     match damaged {
         Ok(()) => Ok(()),
         Err(_) => Err(WorldError::Memory),
     }
+}
+
+/// Replaces the bytes of the inner node at this level and index of the stored tree, in its version, or
+/// removes it. Changes nothing at a level where that tree has no inner node. Fails when out of memory.
+fn inner_in(
+    alloc: Global,
+    nodes: &mut HeldNodes,
+    level: u8,
+    index: u32,
+    bytes: &Option<Bytes>,
+) -> Result<(), StoreError>
+    requires { index < 16 ^ level }
+    ensures ok { OnOk result (nodes.new ≡ record nodes.old { entries = replaced_if (inner_named level index nodes.old) bytes.now nodes.old.entries }) }
+    ensures err { OnErr result (nodes.new ≡ nodes.old) }
+{
+    let version = version_stored(nodes);
+    if level >= version.levels() {
+        return Ok(());
+    }
+    node_faults::inner(alloc, nodes, version, level, index, bytes)
 }
 
 /// Replaces the bytes of the inner node at this level and index, or removes it. Changes nothing at a
@@ -99,11 +123,8 @@ pub(crate) fn inner(
     ensures ok { OnOk result (stores.new ≡ inner_spoiled level index bytes.now stores.old) }
     ensures memory { IfErr result (λ e. e ≡ WorldError.Memory) }
 {
-    if level >= TreeVersion::One.levels() {
-        return Ok(());
-    }
     let (mark, mut nodes) = take_nodes(alloc, &mut stores.tree);
-    let damaged = node_faults::inner(alloc, &mut nodes, TreeVersion::One, level, index, bytes);
+    let damaged = inner_in(alloc, &mut nodes, level, index, bytes);
     stores.tree = Tree::join(mark, nodes);
     match damaged {
         Ok(()) => Ok(()),

@@ -1,10 +1,8 @@
 ghost use Rattle.std.specs.Prelude.{◌≡◌, IfOk, IfErr, OnOk};
 ghost use Rattle.ens_base.specs.View.{IsPeer};
-ghost use Rattle.held_stores.specs.Held.{account, empty_stores as no_stores};
+ghost use Rattle.world_spec.specs.HeldStores.{account, empty_stores as no_stores, MayCome, AllMayGo};
 ghost use Rattle.step_plans.specs.Outboxes.{out_of};
-ghost use Rattle.peer_plan.specs.Drives.{MayCome};
-ghost use Rattle.peer_plan.specs.Kept.{AllMayGo};
-ghost use Rattle.world_spec.specs.Nodes.{hashed_by_start, stopped, taken, Down};
+ghost use Rattle.world_spec.specs.Nodes.{is_down as is_down_node, hashed_by_start, stopped, taken, Down};
 ghost use Rattle.world_spec.specs.Steps.{ComesTo, StartsAs};
 ghost use Rattle.world_model.specs.Peers.{node_of};
 ghost use Rattle.world_model.specs.Refusals.{world_error as error_of, IsCutOff};
@@ -53,10 +51,18 @@ impl WorldPeer {
         self.node.stop(alloc);
     }
 
+    /// Whether the peer is down.
+    pub(crate) fn is_down(&self) -> bool
+        ensures { result ≡ is_down_node (node_of self.now) }
+    {
+        self.node.is_down()
+    }
+
     /// Starts the peer in this mode if it is down. If the start is refused, the peer stays down.
     #[inline(never)]
-    pub(crate) fn start<H: Hasher16>(
+    pub(crate) fn start<H: Hasher16, R: Threads + Sync>(
         &mut self,
+        rt: &R,
         alloc: Global,
         mode: Mode,
         opening: View,
@@ -70,7 +76,7 @@ impl WorldPeer {
             return Ok(());
         };
         let stores = std::mem::replace(held, empty_stores(alloc));
-        match Peer::start(alloc, self.me, opening, mode, stores, hasher) {
+        match Peer::start(rt, alloc, self.me, opening, mode, stores, hasher) {
             Ok(peer) => {
                 self.node = MemNode::Up(peer);
                 Ok(())

@@ -7,6 +7,8 @@ use ens_base::{Key, PeerSet, View};
 use history_scribe::Scribe;
 use network::Network;
 use register_model::Printed;
+use schedule_text::Form;
+use tree_node::TreeVersion;
 
 /// Several peers over stores in memory, all messages sent between them, and their answers and
 /// notes. At most 500,000 messages are sent.
@@ -14,8 +16,14 @@ use register_model::Printed;
 pub struct World {
     /// The view in which the ensemble of the peers opens.
     pub(crate) opening: View,
+    /// The form of the ensemble, which says how its peers start before the first line.
+    pub(crate) form: Form,
     /// The peers whose starts have sealing on.
     pub(crate) sealing: PeerSet,
+    /// The version of the trees of the peers that start.
+    pub(crate) tree: TreeVersion,
+    /// The number, counted from 0, of the first message that is still given to its receiver.
+    pub(crate) first_alive: usize,
     pub(crate) peers: Vec<WorldPeer>,
     pub(crate) network: Network,
     pub(crate) printed: Vec<Printed>,

@@ -1,6 +1,6 @@
 -- A calm that may deliver as many messages as were ever sent leaves none waiting.
-use Rattle.std.proofs.Common.{◌≡◌, ◌≤◌, ◌<◌, ◌+◌, ◌-◌, arith, ℕ, zero, suc, Bool, true, List, [], ◌∷◌, ◌++◌, length, map, Option, None, Some, refl, sym}
-use Rattle.std.specs.Prelude.{slice_get}
+use Rattle.std.proofs.Common.{◌≡◌, ◌≤◌, ◌<◌, ◌+◌, ◌-◌, arith, ℕ, zero, suc, Bool, true, false, List, [], ◌∷◌, ◌++◌, length, map, Option, None, Some, refl, sym}
+use Rattle.std.specs.Prelude.{slice_get, nat_lt, if◌then◌else◌}
 use Rattle.std.proofs.lemmas.List.{length_push}
 use Rattle.network.specs.Mail.{Mail, no_mail, posted, settled, goes, is_among, oldest, most_messages, IsClear, IsMail}
 use Rattle.network.proofs.MailLaws.{oldest_is_sent, oldest_is_beyond, clear_at_first, clear_past_oldest, clear_posted, clear_settled, clear_lost, is_mail_at_first, is_mail_posted, is_mail_settled, is_mail_lost}
@@ -12,7 +12,7 @@ use Rattle.schedule_text.specs.declared.event.ScheduleEvent.TheVariants.{Call, T
 use Rattle.wire_frames.specs.declared.frame.Frame.{Frame}
 use Rattle.world_spec.specs.Lines.{call_of, everyone, set_of, effect, applied, run_from, run_of_schedule}
 use Rattle.world_spec.specs.Nodes.{Node, taken, started, stopped, over_stores, while_down}
-use Rattle.world_spec.specs.Runs.{Run, opening_run, mode_at, place_of, frame_from, posted_all, stepped_at, stepped, changed, ticked, received_if, delivered, delivered_if, going_on, calmed}
+use Rattle.world_spec.specs.Runs.{Run, opening_run, mode_at, place_of, frame_from, posted_all, stepped_at, stepped, changed, may_deepen, deepened, with_deepening, ticked, received, without_waiting, received_if, delivered, delivered_if, going_on, calmed}
 use Rattle.world_spec.specs.Messages.{sent_in, IsCalm}
 use Rattle.world_spec.specs.Stores.{failing, leaves_of, spoiled, segment_spoiled, inner_spoiled, taken_back}
 use Rattle.world_spec.proofs.Growth.{changed_mail}
@@ -52,7 +52,11 @@ module _ (test : Frame → Bool) (k : ℕ) where
 
   received_if_quiet : (f : Option Frame) (n : ℕ) (w : Run) → Quiet test k w.mail → Quiet test k (received_if f n w).mail
   received_if_quiet None n w quiet = quiet
-  received_if_quiet (Some f) n w quiet = stepped_quiet f.to (events.Deliver f.from f.message) (record w { mail = settled w.mail n }) (settled_quiet w.mail n quiet)
+  received_if_quiet (Some f) n w quiet = by (nat_lt n w.first_alive)
+    where
+      by : (lost : Bool) → Quiet test k (if lost then without_waiting n w else received f n w).mail
+      by true = settled_quiet w.mail n quiet
+      by false = stepped_quiet f.to (events.Deliver f.from f.message) (record w { mail = settled w.mail n }) (settled_quiet w.mail n quiet)
 
   delivered_quiet : (n : ℕ) (w : Run) → Quiet test k w.mail → Quiet test k (delivered n w).mail
   delivered_quiet n w quiet = received_if_quiet (slice_get w.mail.sent n) n w quiet
@@ -72,9 +76,14 @@ past_quiet test n None w is before mail oldest = absurd (past w.mail.sent n is b
   past [] n is before = omega (arith, before)
   past (f ∷ sent) zero is before = cc
   past (f ∷ sent) (suc n) is before = past sent n is (omega (arith, before))
-past_quiet test n (Some f) w is before mail oldest =
-    stepped_quiet test (n + 1) f.to (events.Deliver f.from f.message) (record w { mail = settled w.mail n })
-    (record { mail = is_mail_settled w.mail n mail; within = omega (arith, before); clear = clear_past_oldest test w.mail n oldest })
+past_quiet test n (Some f) w is before mail oldest = by (nat_lt n w.first_alive)
+  where
+    past : Quiet test (n + 1) (settled w.mail n)
+    past = record { mail = is_mail_settled w.mail n mail; within = omega (arith, before); clear = clear_past_oldest test w.mail n oldest }
+
+    by : (lost : Bool) → Quiet test (n + 1) (if lost then without_waiting n w else received f n w).mail
+    by true = past
+    by false = stepped_quiet test (n + 1) f.to (events.Deliver f.from f.message) (record w { mail = settled w.mail n }) past
 
 module _ (peers : List Bool) where
   -- each delivery of a calm is of a later message than the one before
@@ -107,6 +116,13 @@ module _ (test : Frame → Bool) (k : ℕ) where
   delivered_if_quiet None w quiet = quiet
   delivered_if_quiet (Some n) w quiet = delivered_quiet test k n w quiet
 
+  deepening_quiet : (w : Run) → Quiet test k w.mail → Quiet test k (with_deepening w).mail
+  deepening_quiet w quiet = by (may_deepen w)
+    where
+      by : (may : Bool) → Quiet test k (if may then deepened w else w).mail
+      by true = quiet
+      by false = quiet
+
   effect_quiet : (event : ScheduleEvent) (w : Run) → Quiet test k w.mail → Quiet test k (effect event w).mail
   effect_quiet (Call peer id key command) w quiet = stepped_quiet test k peer (events.Call (call_of id key command)) w quiet
   effect_quiet (Tick peer ticks) w quiet = ticked_quiet test k peer ticks w quiet
@@ -119,7 +135,7 @@ module _ (test : Frame → Bool) (k : ℕ) where
   effect_quiet (Stop peer) w quiet = changed_quiet test k peer stopped w quiet
   effect_quiet (Start peer) w quiet = changed_quiet test k peer (started (mode_at peer w) w.view) w quiet
   effect_quiet (Upgrade peer) w quiet = quiet
-  effect_quiet Deepen w quiet = quiet
+  effect_quiet Deepen w quiet = deepening_quiet w quiet
   effect_quiet (Spoil peer key bytes) w quiet = changed_quiet test k peer (over_stores (spoiled key bytes)) w quiet
   effect_quiet (Damage peer key bytes) w quiet = changed_quiet test k peer (over_stores (segment_spoiled key bytes)) w quiet
   effect_quiet (Inner peer level index bytes) w quiet = changed_quiet test k peer (over_stores (inner_spoiled level index bytes)) w quiet

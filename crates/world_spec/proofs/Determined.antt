@@ -6,8 +6,7 @@ use Rattle.held_stores.proofs.Taken.{hashed_none}
 use Rattle.held_stores.specs.Held.{Held, HeldStores, Account, account, HasHashed}
 use Rattle.held_stores.specs.Laws.{HeldDo, HeldRefuse, IsUnplanned, IsCutOff, IsRun, held_with, strings_by}
 use Rattle.held_stores.specs.Runs.{Ended}
-use Rattle.peer_plan.specs.Drives.{step_of}
-use Rattle.peer_plan.specs.Starts.{start_of}
+use Rattle.held_stores.specs.PeerPlan.{step_of, start_of}
 use Rattle.peer_state.specs.declared.event.Event.{Event}
 use Rattle.peer_state.specs.declared.state.Mode.{Mode}
 use Rattle.peer_state.specs.declared.state.State.{State}

@@ -6,10 +6,8 @@ use Rattle.held_stores.specs.Answers.{answered, looked, entered, whole, done}
 use Rattle.held_stores.specs.Held.{Held, HeldStores, unless_failing}
 use Rattle.held_stores.specs.Runs.{Ended, run, either}
 use Rattle.held_stores.specs.Walks.{End, Came, Broke, Failed, Walk, walk, nodes_failed}
-use Rattle.peer_plan.proofs.Inside.{IsInside, get_inside, insert_inside, node_inside}
-use Rattle.peer_plan.proofs.Whole.{IsWhole, scan_whole, rebuild_whole}
-use Rattle.peer_plan.specs.Kept.{IsStepCall, IsSound, IsInTree, Reaches}
-use Rattle.peer_plan.specs.Starts.{first_state, opening_saved}
+use Rattle.held_stores.proofs.PeerPlan.{IsInside, get_inside, insert_inside, position_inside, IsWhole, scan_whole, rebuild_whole}
+use Rattle.held_stores.specs.PeerPlan.{IsStepCall, IsSound, IsInTree, Reaches, first_state, opening_saved, position_plan}
 use Rattle.peer_state.specs.declared.state.Mode.{Mode}
 use Rattle.peer_state.specs.declared.state.State.{State}
 use Rattle.step_plans.specs.Calls.{Call, Load, Save, FreshTree, OpenTree, Root, Find, Enter, ScanTree, ReadNode, Install, Fetch, Put, Hash, AnswerOf}
@@ -18,15 +16,15 @@ use Rattle.step_plans.specs.declared.error.PeerError.{PeerError}
 use Rattle.step_plans.specs.declared.walked.Walked.{Walked}
 use Rattle.step_plans.specs.declared.walked.Walked.TheVariants.{Reached, Broken as Damaged}
 use Rattle.register_model.specs.declared.note.Note.{Note}
-use Rattle.tree_node.specs.declared.version.TreeVersion.TheVariants.{One}
-use Rattle.synctree.specs.Nodes.{node_plan}
+use Rattle.tree_node.specs.declared.version.TreeVersion.{TreeVersion}
+use Rattle.tree_node.specs.declared.version.TreeVersion.TheVariants.{Two}
 use Rattle.synctree.specs.Plans as tree
 use Rattle.synctree.specs.Trees.{get_plan, insert_plan}
 use Rattle.tree_maps.specs.Sixteen.{form_of}
 use Rattle.tree_node.specs.Positions.{IsPosition}
 use Rattle.tree_node.specs.declared.position.Position.{Position}
-use Rattle.tree_repair.specs.Rebuilds.{rebuild_plan}
-use Rattle.tree_verify.specs.Levels.{scan_plan}
+use Rattle.node_faults.specs.TreeRepair.{rebuild_plan}
+use Rattle.held_stores.specs.TreeVerify.{scan_plan}
 use Rattle.world_spec.specs.Laws.{IsFinished, NoneWaits}
 use Rattle.world_spec.specs.Nodes.{Node, Up, opening_node}
 use Rattle.world_stores.specs.Nodes.{Nodes, refusal, answer, after}
@@ -34,45 +32,45 @@ use Rattle.world_stores.specs.Nodes.{Nodes, refusal, answer, after}
 -- ## Damage is found at positions of the tree alone
 
 -- the position at which a walk broke
-walk_inside : {A : Type 0} (p : tree.Plan A) (s : Nodes) (hashed : List (List ℕ)) (at : Position) → IsInside p → (walk p s hashed).end ≡ Broke at → IsPosition One at
+walk_inside : {A : Type 0} (p : tree.Plan A) (s : Nodes) (hashed : List (List ℕ)) (at : Position) → IsInside Two p → (walk p s hashed).end ≡ Broke at → IsPosition Two at
 unfolding walk
 walk_inside (tree.Done x) s hashed at inside is = let none : ⊥ = grind (arith, is) in absurd none
-walk_inside (tree.Broken here) s hashed at inside is = let same : here ≡ at = grind (arith, is) in subst (λ k. IsPosition One k) same inside
+walk_inside (tree.Broken here) s hashed at inside is = let same : here ≡ at = grind (arith, is) in subst (λ k. IsPosition Two k) same inside
 walk_inside (tree.Ask (tree.Hash bytes) next) s hashed at inside is = walk_inside (next tt) s (hashed ++ bytes ∷ []) at (inside tt) is
 walk_inside (tree.Ask (tree.Node call) next) s hashed at inside is = by_failure (refusal s call) is (λ went. walk_inside (next (answer s call)) (after s call) hashed at (inside (answer s call)) went) where
   by_failure : (o : Option Leaves) → (unless_failing o (walk (next (answer s call)) (after s call) hashed) (λ leaves. record { end = Failed; nodes = nodes_failed s call leaves; hashed = hashed })).end ≡ Broke at
-      → ((walk (next (answer s call)) (after s call) hashed).end ≡ Broke at → IsPosition One at) → IsPosition One at
+      → ((walk (next (answer s call)) (after s call) hashed).end ≡ Broke at → IsPosition Two at) → IsPosition Two at
   by_failure None is goes = goes is
   by_failure (Some leaves) is goes = let none : ⊥ = grind (arith, is) in absurd none
 
-looked_inside : {A : Type 0} (end : End A) (a : Walked A) → ((at : Position) → end ≡ Broke at → IsPosition One at) → looked end ≡ Ok a → IsInTree a
+looked_inside : {A : Type 0} (end : End A) (a : Walked A) → ((at : Position) → end ≡ Broke at → IsPosition Two at) → looked end ≡ Ok a → IsInTree a
 looked_inside end (Reached x) inside is = tt
 looked_inside (Came x) (Damaged at) inside is = let none : ⊥ = grind (arith, is) in absurd none
-looked_inside (Broke here) (Damaged at) inside is = let same : here ≡ at = grind (arith, is) in subst (λ k. IsPosition One k) same (inside here refl)
+looked_inside (Broke here) (Damaged at) inside is = let same : here ≡ at = grind (arith, is) in subst (λ k. IsPosition Two k) same (inside here refl)
 looked_inside Failed (Damaged at) inside is = let none : ⊥ = grind (arith, is) in absurd none
 
-entered_inside : (end : End (List ℕ)) (a : Walked (Unit {0})) → ((at : Position) → end ≡ Broke at → IsPosition One at) → entered end ≡ Ok a → IsInTree a
+entered_inside : (end : End (List ℕ)) (a : Walked (Unit {0})) → ((at : Position) → end ≡ Broke at → IsPosition Two at) → entered end ≡ Ok a → IsInTree a
 entered_inside end (Reached x) inside is = tt
 entered_inside (Came x) (Damaged at) inside is = let none : ⊥ = grind (arith, is) in absurd none
-entered_inside (Broke here) (Damaged at) inside is = let same : here ≡ at = grind (arith, is) in subst (λ k. IsPosition One k) same (inside here refl)
+entered_inside (Broke here) (Damaged at) inside is = let same : here ≡ at = grind (arith, is) in subst (λ k. IsPosition Two k) same (inside here refl)
 entered_inside Failed (Damaged at) inside is = let none : ⊥ = grind (arith, is) in absurd none
 
 answered_sound : (call : Call) (h : Held) (a : AnswerOf call) → (answered call h).result ≡ Ok a → IsSound call a
 answered_sound (Find key) h a is =
-    let plan = get_plan (form_of One) h.stores.tree.top key in
-    looked_inside (walk plan h.stores.tree.store h.hashed).end a (λ at broke. walk_inside plan h.stores.tree.store h.hashed at (get_inside h.stores.tree.top key) broke) is
+    let plan = get_plan (form_of h.stores.tree.version) h.stores.tree.top key in
+    looked_inside (walk plan h.stores.tree.store h.hashed).end a (λ at broke. walk_inside plan h.stores.tree.store h.hashed at (get_inside h.stores.tree.version h.stores.tree.top key) broke) is
 answered_sound (Enter entry) h a is =
-    let plan = insert_plan (form_of One) h.stores.tree.top entry in
-    entered_inside (walk plan h.stores.tree.store h.hashed).end a (λ at broke. walk_inside plan h.stores.tree.store h.hashed at (insert_inside h.stores.tree.top entry) broke) is
+    let plan = insert_plan (form_of h.stores.tree.version) h.stores.tree.top entry in
+    entered_inside (walk plan h.stores.tree.store h.hashed).end a (λ at broke. walk_inside plan h.stores.tree.store h.hashed at (insert_inside h.stores.tree.version h.stores.tree.top entry) broke) is
 answered_sound Load h a is = tt
 answered_sound (Save fact) h a is = tt
-answered_sound FreshTree h a is = tt
-answered_sound (OpenTree seal) h a is = tt
+answered_sound (FreshTree tree) h a is = tt
+answered_sound (OpenTree seal tree) h a is = tt
 answered_sound Root h a is = tt
 answered_sound ScanTree h a is = tt
 answered_sound (ReadNode at) h a is = λ inside.
-    let plan = node_plan (form_of One) h.stores.tree.top at in
-    looked_inside (walk plan h.stores.tree.store h.hashed).end a (λ place broke. walk_inside plan h.stores.tree.store h.hashed place (node_inside h.stores.tree.top at inside) broke) is
+    let plan = position_plan h.stores.tree.version h.stores.tree.top at in
+    looked_inside (walk plan h.stores.tree.store h.hashed).end a (λ place broke. walk_inside plan h.stores.tree.store h.hashed place (position_inside h.stores.tree.version h.stores.tree.top at inside) broke) is
 answered_sound (Install entries) h a is = tt
 answered_sound (Fetch key) h a is = tt
 answered_sound (Put key bytes) h a is = tt
@@ -161,35 +159,35 @@ done_answer Failed goes sound = absurd (goes refl)
 
 is_answered : (call : Call) (h : Held) → IsStepCall call → NoneWaits h.stores → IsAnswered call h
 is_answered (Find key) h one none =
-    let went = walk_unfailing (get_plan (form_of One) h.stores.tree.top key) h.stores.tree.store h.hashed none.tree in
-    let found = looked_answer (walk (get_plan (form_of One) h.stores.tree.top key) h.stores.tree.store h.hashed).end went.end in
+    let went = walk_unfailing (get_plan (form_of h.stores.tree.version) h.stores.tree.top key) h.stores.tree.store h.hashed none.tree in
+    let found = looked_answer (walk (get_plan (form_of h.stores.tree.version) h.stores.tree.top key) h.stores.tree.store h.hashed).end went.end in
     record { answer = found.0; is = found.1; none = record { facts = none.facts; tree = went.none; backend = none.backend } }
 is_answered (Enter entry) h one none =
-    let went = walk_unfailing (insert_plan (form_of One) h.stores.tree.top entry) h.stores.tree.store h.hashed none.tree in
-    let came = entered_answer (walk (insert_plan (form_of One) h.stores.tree.top entry) h.stores.tree.store h.hashed).end went.end in
+    let went = walk_unfailing (insert_plan (form_of h.stores.tree.version) h.stores.tree.top entry) h.stores.tree.store h.hashed none.tree in
+    let came = entered_answer (walk (insert_plan (form_of h.stores.tree.version) h.stores.tree.top entry) h.stores.tree.store h.hashed).end went.end in
     record { answer = came.0; is = came.1; none = record { facts = none.facts; tree = went.none; backend = none.backend } }
 is_answered (Save fact) h one none = rw none.facts (record { answer = tt; is = refl; none = record { facts = refl; tree = none.tree; backend = none.backend } })
 is_answered (Put key bytes) h one none = rw none.backend (record { answer = tt; is = refl; none = record { facts = none.facts; tree = none.tree; backend = refl } })
 is_answered (Fetch key) h one none = record { answer = _; is = refl; none = none }
 is_answered (Hash bytes) h one none = record { answer = _; is = refl; none = record { facts = none.facts; tree = none.tree; backend = none.backend } }
 is_answered Load h one none = absurd one
-is_answered FreshTree h one none = absurd one
-is_answered (OpenTree seal) h one none = absurd one
+is_answered (FreshTree tree) h one none = absurd one
+is_answered (OpenTree seal tree) h one none = absurd one
 is_answered Root h one none = record { answer = _; is = refl; none = none }
 is_answered ScanTree h one none =
-    let plan = scan_plan (form_of One) h.stores.tree.top in
+    let plan = scan_plan (form_of h.stores.tree.version) h.stores.tree.top in
     let went = walk_unfailing plan h.stores.tree.store h.hashed none.tree in
-    let came = whole_answer (walk plan h.stores.tree.store h.hashed).end went.end (λ at broke. walk_whole plan h.stores.tree.store h.hashed at (scan_whole (form_of One) h.stores.tree.top) broke) in
+    let came = whole_answer (walk plan h.stores.tree.store h.hashed).end went.end (λ at broke. walk_whole plan h.stores.tree.store h.hashed at (scan_whole (form_of h.stores.tree.version) h.stores.tree.top) broke) in
     record { answer = came.0; is = came.1; none = record { facts = none.facts; tree = went.none; backend = none.backend } }
 is_answered (ReadNode at) h one none =
-    let plan = node_plan (form_of One) h.stores.tree.top at in
+    let plan = position_plan h.stores.tree.version h.stores.tree.top at in
     let went = walk_unfailing plan h.stores.tree.store h.hashed none.tree in
     let came = looked_answer (walk plan h.stores.tree.store h.hashed).end went.end in
     record { answer = came.0; is = came.1; none = record { facts = none.facts; tree = went.none; backend = none.backend } }
 is_answered (Install entries) h one none =
-    let plan = rebuild_plan (form_of One) entries in
+    let plan = rebuild_plan (form_of h.stores.tree.version) entries in
     let went = walk_unfailing plan h.stores.tree.store h.hashed none.tree in
-    let came = done_answer (walk plan h.stores.tree.store h.hashed).end went.end (λ at broke. walk_whole plan h.stores.tree.store h.hashed at (rebuild_whole (form_of One) entries) broke) in
+    let came = done_answer (walk plan h.stores.tree.store h.hashed).end went.end (λ at broke. walk_whole plan h.stores.tree.store h.hashed at (rebuild_whole (form_of h.stores.tree.version) entries) broke) in
     record { answer = tt; is = came; none = record { facts = none.facts; tree = went.none; backend = none.backend } }
 
 -- the plan ended well, where P holds, and no write is to fail after it
@@ -216,7 +214,7 @@ pub record IsOpening (mode : Mode) (view : List ℕ) (node : Node) : Type 0 wher
   pub kept : stores.facts.kept ≡ Some (opening_saved view seal)
   pub none : NoneWaits stores
 
-pub opening_is : (seals : Bool) (view : List ℕ) → IsOpening (record { sealing = seals }) view (opening_node (record { sealing = seals }) view)
+pub opening_is : (seals : Bool) (version : TreeVersion) (view : List ℕ) → IsOpening (record { sealing = seals; tree = version }) view (opening_node (record { sealing = seals; tree = version }) view)
 unfolding walk
-opening_is false view = record { seal = None; stores = _; is = refl; kept = refl; none = record { facts = refl; tree = refl; backend = refl } }
-opening_is true view = record { seal = _; stores = _; is = refl; kept = refl; none = record { facts = refl; tree = refl; backend = refl } }
+opening_is false version view = record { seal = None; stores = _; is = refl; kept = refl; none = record { facts = refl; tree = refl; backend = refl } }
+opening_is true version view = record { seal = _; stores = _; is = refl; kept = refl; none = record { facts = refl; tree = refl; backend = refl } }

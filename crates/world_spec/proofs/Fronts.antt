@@ -1,6 +1,6 @@
 -- The strings hashed before make no difference to a run.
 use Rattle.std.proofs.Common.{◌≡◌, ◌-◌, ◌∙◌, ℕ, zero, suc, Option, None, Some, List, [], ◌∷◌, ◌++◌, refl, sym, ap}
-use Rattle.std.specs.Prelude.{Bool, slice_get}
+use Rattle.std.specs.Prelude.{Bool, true, false, nat_lt, if◌then◌else◌, slice_get}
 use Rattle.std.proofs.lemmas.List.{append-nil, append_assoc}
 use Rattle.network.specs.Mail.{settled, goes, is_among, oldest, most_messages}
 use Rattle.peer_state.specs.declared.event.Event.{Event}
@@ -10,7 +10,7 @@ use Rattle.schedule_text.specs.declared.event.ScheduleEvent.TheVariants.{Call, T
 use Rattle.wire_frames.specs.declared.frame.Frame.{Frame}
 use Rattle.world_spec.specs.Lines.{call_of, everyone, set_of, with_damage, effect, counted, applied, run_from}
 use Rattle.world_spec.specs.Nodes.{Node, Taken, taken, started, stopped, over_stores, while_down}
-use Rattle.world_spec.specs.Runs.{Run, in_front, unhashed, place_of, with_taken, stepped_at, stepped, changed_at, changed, mode_at, start_strings, hashing, with_start, ticked, received_if, delivered, delivered_if, going_on, calmed}
+use Rattle.world_spec.specs.Runs.{Run, in_front, unhashed, place_of, with_taken, stepped_at, stepped, changed_at, changed, mode_at, start_strings, hashing, with_start, may_deepen, deepened, with_deepening, ticked, received, without_waiting, received_if, delivered, delivered_if, going_on, calmed}
 use Rattle.world_spec.specs.Stores.{failing, leaves_of, spoiled, segment_spoiled, inner_spoiled, taken_back}
 
 taken_front : (xs : List (List ℕ)) (peer : ℕ) (t : Taken) (w : Run) → with_taken peer t (in_front xs w) ≡ in_front xs (with_taken peer t w)
@@ -30,7 +30,11 @@ ticked_front peer (suc n) xs w = ap (λ v. ticked peer n v) (stepped_front xs pe
 
 received_front : (xs : List (List ℕ)) (f : Option Frame) (n : ℕ) (w : Run) → received_if f n (in_front xs w) ≡ in_front xs (received_if f n w)
 received_front xs None n w = refl
-received_front xs (Some f) n w = stepped_front xs f.to (events.Deliver f.from f.message) (record w { mail = settled w.mail n })
+received_front xs (Some f) n w = by (nat_lt n w.first_alive)
+  where
+    by : (lost : Bool) → (if lost then without_waiting n (in_front xs w) else received f n (in_front xs w)) ≡ in_front xs (if lost then without_waiting n w else received f n w)
+    by true = refl
+    by false = stepped_front xs f.to (events.Deliver f.from f.message) (record w { mail = settled w.mail n })
 
 delivered_front : (xs : List (List ℕ)) (n : ℕ) (w : Run) → delivered n (in_front xs w) ≡ in_front xs (delivered n w)
 delivered_front xs n w = received_front xs (slice_get w.mail.sent n) n w
@@ -66,6 +70,13 @@ damage_front xs peer key bytes w =
     let v = changed peer (over_stores (segment_spoiled key bytes)) w in
     ap (hashing (key ∷ [])) (changed_front xs peer (over_stores (segment_spoiled key bytes)) w) ∙ ap (λ h. record v { hashed = h }) (append_assoc xs v.hashed (key ∷ []))
 
+deepening_front : (xs : List (List ℕ)) (w : Run) → with_deepening (in_front xs w) ≡ in_front xs (with_deepening w)
+deepening_front xs w = by (may_deepen w)
+  where
+    by : (may : Bool) → (if may then deepened (in_front xs w) else in_front xs w) ≡ in_front xs (if may then deepened w else w)
+    by true = refl
+    by false = refl
+
 effect_front : (event : ScheduleEvent) (xs : List (List ℕ)) (w : Run) → effect event (in_front xs w) ≡ in_front xs (effect event w)
 effect_front (Call peer id key command) xs w = stepped_front xs peer (events.Call (call_of id key command)) w
 effect_front (Tick peer ticks) xs w = ticked_front peer ticks xs w
@@ -78,7 +89,7 @@ effect_front (Change peer view) xs w = stepped_front xs peer (events.Change view
 effect_front (Stop peer) xs w = changed_front xs peer stopped w
 effect_front (Start peer) xs w = start_front xs peer w
 effect_front (Upgrade peer) xs w = refl
-effect_front Deepen xs w = refl
+effect_front Deepen xs w = deepening_front xs w
 effect_front (Spoil peer key bytes) xs w = changed_front xs peer (over_stores (spoiled key bytes)) w
 effect_front (Damage peer key bytes) xs w = damage_front xs peer key bytes w
 effect_front (Inner peer level index bytes) xs w = changed_front xs peer (over_stores (inner_spoiled level index bytes)) w

@@ -1,7 +1,7 @@
 -- Messages, hashed strings and peers are never removed.
 use Rattle.std.proofs.Common.{◌≡◌, ◌≤◌, ◌+◌, ◌-◌, ◌∙◌, ℕ, zero, suc, Option, None, Some, List, [], ◌∷◌, ◌++◌, length, refl, sym, ap, subst, map, arith}
 use Rattle.std.proofs.lemmas.List.{append_assoc, length-append, length-set}
-use Rattle.std.specs.Prelude.{Bool, slice_get}
+use Rattle.std.specs.Prelude.{Bool, true, false, nat_lt, if◌then◌else◌, slice_get}
 use Rattle.network.specs.Mail.{Mail, posted, settled, goes, is_among, oldest, most_messages}
 use Rattle.peer_state.specs.declared.event.Event.{Event}
 use Rattle.peer_state.specs.declared.event.Event.TheVariants as events
@@ -13,7 +13,7 @@ use Rattle.held_stores.specs.Held.{StartsWith}
 use Rattle.world_spec.specs.Lines.{call_of, everyone, set_of, with_damage, effect, applied, run_from}
 use Rattle.world_spec.specs.Messages.{sent_in}
 use Rattle.world_spec.specs.Nodes.{Node, Taken, taken, started, stopped, over_stores, while_down}
-use Rattle.world_spec.specs.Runs.{Run, in_front, repeated, place_of, frame_from, posted_all, with_taken, stepped_at, stepped, changed_at, changed, mode_at, start_strings, with_start, ticked, received_if, delivered, delivered_if, going_on, calmed}
+use Rattle.world_spec.specs.Runs.{Run, in_front, repeated, place_of, frame_from, posted_all, with_taken, stepped_at, stepped, changed_at, changed, mode_at, start_strings, with_start, may_deepen, deepened, with_deepening, ticked, received, without_waiting, received_if, delivered, delivered_if, going_on, calmed}
 use Rattle.world_spec.specs.Stores.{failing, leaves_of, spoiled, segment_spoiled, inner_spoiled, taken_back}
 
 length_posted : (m : Mail) (f : Frame) → length (posted m f).sent ≡ length m.sent + 1
@@ -51,9 +51,13 @@ ticked_grows peer (suc n) w = further_later w (stepped peer events.Tick w) (tick
 
 pub received_grows : (f : Option Frame) (n : ℕ) (w : Run) → IsFurther w (received_if f n w)
 received_grows None n w = further_same w
-received_grows (Some f) n w =
-    let step = stepped_grows f.to (events.Deliver f.from f.message) (record w { mail = settled w.mail n }) in
-    record { sent = step.sent; hashed = step.hashed }
+received_grows (Some f) n w = by (nat_lt n w.first_alive)
+  where
+    by : (lost : Bool) → IsFurther w (if lost then without_waiting n w else received f n w)
+    by true = record { sent = omega arith; hashed = starts_here w.hashed }
+    by false =
+        let step = stepped_grows f.to (events.Deliver f.from f.message) (record w { mail = settled w.mail n }) in
+        record { sent = step.sent; hashed = step.hashed }
 
 pub delivered_grows : (n : ℕ) (w : Run) → IsFurther w (delivered n w)
 delivered_grows n w = received_grows (slice_get w.mail.sent n) n w
@@ -120,7 +124,11 @@ ticked_same peer (suc n) w = ticked_same peer n (stepped peer events.Tick w) ∙
 
 received_same : (f : Option Frame) (n : ℕ) (w : Run) → peers_in (received_if f n w) ≡ peers_in w
 received_same None n w = refl
-received_same (Some f) n w = stepped_same f.to (events.Deliver f.from f.message) (record w { mail = settled w.mail n })
+received_same (Some f) n w = by (nat_lt n w.first_alive)
+  where
+    by : (lost : Bool) → peers_in (if lost then without_waiting n w else received f n w) ≡ peers_in w
+    by true = refl
+    by false = stepped_same f.to (events.Deliver f.from f.message) (record w { mail = settled w.mail n })
 
 delivered_same : (n : ℕ) (w : Run) → peers_in (delivered n w) ≡ peers_in w
 delivered_same n w = received_same (slice_get w.mail.sent n) n w
@@ -137,6 +145,28 @@ calmed_same peers (suc n) w = going (oldest (is_among peers) w.mail) (λ v. calm
   going None later = refl
   going (Some k) later = later (delivered k w) ∙ delivered_same k w
 
+deepening_same : (w : Run) → peers_in (with_deepening w) ≡ peers_in w
+deepening_same w = by (may_deepen w)
+  where
+    by : (may : Bool) → peers_in (if may then deepened w else w) ≡ peers_in w
+    by true = refl
+    by false = refl
+
+-- a line `deepen` sends no message and hashes no string
+pub deepening_mail : (w : Run) → (with_deepening w).mail ≡ w.mail
+deepening_mail w = by (may_deepen w)
+  where
+    by : (may : Bool) → (if may then deepened w else w).mail ≡ w.mail
+    by true = refl
+    by false = refl
+
+pub deepening_hashed : (w : Run) → (with_deepening w).hashed ≡ w.hashed
+deepening_hashed w = by (may_deepen w)
+  where
+    by : (may : Bool) → (if may then deepened w else w).hashed ≡ w.hashed
+    by true = refl
+    by false = refl
+
 -- no line changes the number of peers
 pub applied_same : (event : ScheduleEvent) (w : Run) → peers_in (applied event w) ≡ peers_in w
 applied_same (Call peer id key command) w = stepped_same peer (events.Call (call_of id key command)) w
@@ -150,7 +180,7 @@ applied_same (Change peer view) w = stepped_same peer (events.Change view) w
 applied_same (Stop peer) w = changed_same peer stopped w
 applied_same (Start peer) w = changed_same peer (started (mode_at peer w) w.view) w
 applied_same (Upgrade peer) w = refl
-applied_same Deepen w = refl
+applied_same Deepen w = deepening_same w
 applied_same (Spoil peer key bytes) w = changed_same peer (over_stores (spoiled key bytes)) w
 applied_same (Damage peer key bytes) w = changed_same peer (over_stores (segment_spoiled key bytes)) w
 applied_same (Inner peer level index bytes) w = changed_same peer (over_stores (inner_spoiled level index bytes)) w
@@ -167,6 +197,13 @@ passed_grows : (n : Option ℕ) (w : Run) → IsFurther w (delivered_if n w)
 passed_grows None w = further_same w
 passed_grows (Some n) w = delivered_grows n w
 
+pub deepening_grows : (w : Run) → IsFurther w (with_deepening w)
+deepening_grows w = by (may_deepen w)
+  where
+    by : (may : Bool) → IsFurther w (if may then deepened w else w)
+    by true = record { sent = omega arith; hashed = starts_here w.hashed }
+    by false = further_same w
+
 -- no line removes a message or a hashed string
 effect_grows : (event : ScheduleEvent) (w : Run) → IsFurther w (effect event w)
 effect_grows (Call peer id key command) w = stepped_grows peer (events.Call (call_of id key command)) w
@@ -180,7 +217,7 @@ effect_grows (Change peer view) w = stepped_grows peer (events.Change view) w
 effect_grows (Stop peer) w = changed_grows peer stopped w
 effect_grows (Start peer) w = start_grows peer w
 effect_grows (Upgrade peer) w = record { sent = omega arith; hashed = starts_here w.hashed }
-effect_grows Deepen w = further_same w
+effect_grows Deepen w = deepening_grows w
 effect_grows (Spoil peer key bytes) w = changed_grows peer (over_stores (spoiled key bytes)) w
 effect_grows (Damage peer key bytes) w = damage_grows peer key bytes w
 effect_grows (Inner peer level index bytes) w = changed_grows peer (over_stores (inner_spoiled level index bytes)) w

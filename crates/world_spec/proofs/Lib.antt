@@ -1,4 +1,5 @@
 pub mod Calming
+pub mod Deepening
 pub mod Determined
 pub mod Ending
 pub mod Growth
@@ -6,3 +7,4 @@ pub mod Fronts
 pub mod Obeying
 pub mod Sealing
 pub mod Turns
+pub mod HeldStores

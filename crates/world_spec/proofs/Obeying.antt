@@ -1,19 +1,17 @@
 -- Every message of a run goes from a peer to another and obeys the grammar of frames.
 use Rattle.std.proofs.Common.{◌≡◌, ◌≤◌, ◌-◌, arith, refl, sym, subst, ap, inl, inr, ◌⊎◌, ℕ, zero, suc, Bool, true, false, List, [], ◌∷◌, map, replicate, Option, None, Some}
-use Rattle.std.specs.Prelude.{All, IfSome, slice_get, slice_set}
+use Rattle.std.specs.Prelude.{All, IfSome, nat_lt, if◌then◌else◌, slice_get, slice_set}
 use Rattle.std.proofs.lemmas.List.Elements.{All-nil, All-cons, All-head, All-tail, All-push}
 use Rattle.std.proofs.lemmas.Option.{none-some, same_Some}
 use Rattle.ens_base.specs.View.{IsPeer}
 use Rattle.held_stores.specs.Held.{Held, HeldStores, empty_stores}
 use Rattle.held_stores.specs.Laws.{held_with}
 use Rattle.held_stores.specs.Runs.{Ended}
-use Rattle.leader_words.specs.declared.out.Outgoing.{Outgoing}
+use Rattle.step_plans.specs.LeaderWords.{Outgoing}
 use Rattle.network.specs.Mail.{Mail, MayBeSent, posted, settled, goes, is_among, oldest, most_messages}
 use Rattle.peer_fact.specs.declared.saved.SavedFact.{SavedFact}
-use Rattle.peer_plan.proofs.Passing.{steps_keep}
-use Rattle.peer_plan.specs.Drives.{step_of, MayCome}
-use Rattle.peer_plan.specs.Kept.{IsOwn, MaySend, AllMayGo, Reaches}
-use Rattle.peer_plan.specs.Starts.{start_of, opened, seals_opening}
+use Rattle.held_stores.proofs.PeerPlan.{steps_keep}
+use Rattle.held_stores.specs.PeerPlan.{step_of, MayCome, IsOwn, MaySend, AllMayGo, Reaches, start_of, opened, seals_opening, continued, continued_in, is_whole, migrated, reseals_if, scanned}
 use Rattle.peer_state.specs.declared.event.Event.{Event}
 use Rattle.peer_state.specs.declared.event.Event.TheVariants as events
 use Rattle.peer_state.specs.declared.state.Mode.{Mode}
@@ -24,11 +22,14 @@ use Rattle.schedule_text.specs.Spelling.{MayStand, AllMayStand}
 use Rattle.schedule_text.specs.declared.event.ScheduleEvent.{ScheduleEvent}
 use Rattle.schedule_text.specs.declared.form.Form.{Form}
 use Rattle.schedule_text.specs.declared.event.ScheduleEvent.TheVariants.{Call, Tick, Deliver, Pass, Lose, Calm, CalmAmong, Change, Stop, Start, Upgrade, Deepen, Spoil, Damage, Inner, Revert, Fail}
+use Rattle.tree_node.specs.declared.body.Scan.{Scan}
+use Rattle.tree_node.specs.declared.version.TreeVersion.{TreeVersion}
+use Rattle.tree_node.specs.declared.version.TreeVersion.TheVariants.{One, Two}
 use Rattle.wire_frames.specs.declared.frame.Frame.{Frame}
 use Rattle.world_spec.proofs.Ending.{EndsIn, run_reaches}
 use Rattle.world_spec.specs.Lines.{call_of, everyone, set_of, effect, applied, run_from, run_of_schedule}
 use Rattle.world_spec.specs.Nodes.{Node, Up, Down, Taken, taken, taken_by, taken_of, run_over, started, stopped, over_stores, while_down, opening_node}
-use Rattle.world_spec.specs.Runs.{Run, opening_mode, opening_run, mode_at, place_of, frame_from, posted_all, with_taken, stepped_at, stepped, changed_at, changed, ticked, received, received_if, delivered, delivered_if, going_on, calmed}
+use Rattle.world_spec.specs.Runs.{Run, opening_mode, opening_run, mode_at, place_of, frame_from, posted_all, with_taken, stepped_at, stepped, changed_at, changed, may_deepen, deepened, with_deepening, ticked, received, without_waiting, received_if, delivered, delivered_if, going_on, calmed}
 use Rattle.world_spec.specs.Stores.{failing, leaves_of, spoiled, segment_spoiled, inner_spoiled, taken_back}
 
 -- a running peer that leads sends as itself, and a sync that it runs asks other peers alone
@@ -65,9 +66,24 @@ sealing_reaches : (me : ℕ) (mode : Mode) (view : List ℕ) (seals : Bool) → 
 sealing_reaches me mode view true = λ root told a saved. ((tt, tt), All-nil (MaySend me))
 sealing_reaches me mode view false = λ a saved. ((tt, tt), All-nil (MaySend me))
 
+resealed_reaches : (me : ℕ) (seal : Option (List ℕ)) (mode : Mode) (saved : SavedFact) → Reaches (λ y out. IsOwn me y × AllMayGo me out) (reseals_if seal mode saved)
+resealed_reaches me None mode saved = ((tt, tt), All-nil (MaySend me))
+resealed_reaches me (Some seal) mode saved = λ root told a kept. ((tt, tt), All-nil (MaySend me))
+
+scanned_reaches : (me : ℕ) (mode : Mode) (saved : SavedFact) (scan : Scan) → Reaches (λ y out. IsOwn me y × AllMayGo me out) (scanned mode saved scan)
+scanned_reaches me mode saved scan = by (is_whole scan)
+  where
+    by : (whole : Bool) → Reaches (λ y out. IsOwn me y × AllMayGo me out) (if whole then migrated mode saved scan.entries else continued Two mode saved)
+    by true = λ u opened v installed. resealed_reaches me saved.seal mode saved
+    by false = λ u opened. ((tt, tt), All-nil (MaySend me))
+
+continued_reaches : (me : ℕ) (tree : TreeVersion) (mode : Mode) (saved : SavedFact) → Reaches (λ y out. IsOwn me y × AllMayGo me out) (continued_in tree mode saved)
+continued_reaches me One mode saved = λ u opened. ((tt, tt), All-nil (MaySend me))
+continued_reaches me Two mode saved = λ u opened scan told. scanned_reaches me mode saved scan
+
 opened_reaches : (me : ℕ) (mode : Mode) (view : List ℕ) (kept : Option SavedFact) → Reaches (λ y out. IsOwn me y × AllMayGo me out) (opened mode view kept)
 opened_reaches me mode view None = λ a sound. sealing_reaches me mode view mode.sealing
-opened_reaches me mode view (Some fact) = λ a sound. ((tt, tt), All-nil (MaySend me))
+opened_reaches me mode view (Some saved) = continued_reaches me mode.tree mode saved
 
 pub started_own : (me : ℕ) (mode : Mode) (view : List ℕ) (node : Node) → IsOwnNode me node → IsOwnNode me (started mode view node)
 started_own me mode view (Up x s) own = own
@@ -157,7 +173,11 @@ received_fine f n w may old =
 
 received_if_fine : (f : Option Frame) (n : ℕ) (w : Run) → IfSome f MayBeSent → IsFine w → IsFine (received_if f n w)
 received_if_fine None n w may old = old
-received_if_fine (Some f) n w may old = received_fine f n w may old
+received_if_fine (Some f) n w may old = by (nat_lt n w.first_alive)
+  where
+    by : (lost : Bool) → IsFine (if lost then without_waiting n w else received f n w)
+    by true = record { mail = old.mail; nodes = old.nodes }
+    by false = received_fine f n w may old
 
 pub delivered_fine : (n : ℕ) (w : Run) → IsFine w → IsFine (delivered n w)
 delivered_fine n w old = received_if_fine (slice_get w.mail.sent n) n w (there MayBeSent w.mail.sent n old.mail) old
@@ -174,6 +194,13 @@ calmed_fine peers (suc n) w old = going (oldest (is_among peers) w.mail) (λ v n
   going None later = old
   going (Some k) later = later (delivered k w) (delivered_fine k w old)
 
+deepening_fine : (w : Run) → IsFine w → IsFine (with_deepening w)
+deepening_fine w old = by (may_deepen w)
+  where
+    by : (may : Bool) → IsFine (if may then deepened w else w)
+    by true = record { mail = old.mail; nodes = old.nodes }
+    by false = old
+
 pub effect_fine : (peers : ℕ) (event : ScheduleEvent) (w : Run) → peers ≤ 31 → MayStand peers event → IsFine w → IsFine (effect event w)
 effect_fine peers (Call peer id key command) w few stand old = stepped_fine peer (events.Call (call_of id key command)) w (stand.0.first, omega (arith, few, stand.0.last)) tt old
 effect_fine peers (Tick peer ticks) w few stand old = ticked_fine peer ticks w (stand.0.first, omega (arith, few, stand.0.last)) old
@@ -188,7 +215,7 @@ effect_fine peers (Start peer) w few stand old =
     let now = changed_fine peer (started (mode_at peer w) w.view) w (stand.first, omega (arith, few, stand.last)) (started_own peer (mode_at peer w) w.view) old in
     record { mail = now.mail; nodes = now.nodes }
 effect_fine peers (Upgrade peer) w few stand old = record { mail = old.mail; nodes = old.nodes }
-effect_fine peers Deepen w few stand old = old
+effect_fine peers Deepen w few stand old = deepening_fine w old
 effect_fine peers (Spoil peer key bytes) w few stand old = changed_fine peer (over_stores (spoiled key bytes)) w (stand.0.first, omega (arith, few, stand.0.last)) (over_stores_own (spoiled key bytes) peer) old
 effect_fine peers (Damage peer key bytes) w few stand old =
     let now = changed_fine peer (over_stores (segment_spoiled key bytes)) w (stand.0.first, omega (arith, few, stand.0.last)) (over_stores_own (segment_spoiled key bytes) peer) old in

@@ -1,13 +1,13 @@
 -- Which peers start with sealing on, in the run of a schedule.
 use Rattle.std.proofs.Common.{◌≡◌, ◌≤◌, ◌<◌, ◌-◌, ◌||◌, ◌∙◌, arith, refl, ap, ℕ, zero, suc, Bool, true, false, List, [], ◌∷◌, length, Option, None, Some}
-use Rattle.std.specs.Prelude.{◌==◌, slice_get}
+use Rattle.std.specs.Prelude.{◌==◌, nat_lt, if◌then◌else◌, slice_get}
 use Rattle.std.specs.List.{list_any}
 use Rattle.std.proofs.lemmas.Bool.{eqb-true, eqb-false}
 use Rattle.std.proofs.lemmas.List.{length-set, get_or-set_same, get_or-set_other}
 use Rattle.ens_base.specs.PeerSet.{holds}
 use Rattle.ens_base.specs.View.{IsPeer}
 use Rattle.network.specs.Mail.{settled, goes, is_among, oldest, most_messages}
-use Rattle.peer_plan.proofs.Grammar.{those_at}
+use Rattle.held_stores.proofs.PeerPlan.{those_at}
 use Rattle.peer_state.specs.declared.event.Event.{Event}
 use Rattle.peer_state.specs.declared.event.Event.TheVariants as events
 use Rattle.phase_rows.specs.Peers.{joined}
@@ -20,7 +20,7 @@ use Rattle.schedule_text.specs.declared.form.Form.{Form}
 use Rattle.wire_frames.specs.declared.frame.Frame.{Frame}
 use Rattle.world_spec.specs.Lines.{call_of, everyone, set_of, applied, run_from, run_of_schedule}
 use Rattle.world_spec.specs.Nodes.{Node, started, stopped, over_stores, while_down}
-use Rattle.world_spec.specs.Runs.{Run, opening_run, sealing_first, mode_at, place_of, stepped_at, stepped, changed_at, changed, ticked, received_if, delivered, delivered_if, going_on, calmed}
+use Rattle.world_spec.specs.Runs.{Run, opening_run, sealing_first, mode_at, place_of, stepped_at, stepped, changed_at, changed, may_deepen, deepened, with_deepening, ticked, received, without_waiting, received_if, delivered, delivered_if, going_on, calmed}
 use Rattle.world_spec.specs.Stores.{failing, leaves_of, spoiled, segment_spoiled, inner_spoiled, taken_back}
 
 -- ## Lines
@@ -56,7 +56,11 @@ ticked_sealing peer (suc n) w = ticked_sealing peer n (stepped peer events.Tick 
 
 received_sealing : (f : Option Frame) (n : ℕ) (w : Run) → (received_if f n w).sealing ≡ w.sealing
 received_sealing None n w = refl
-received_sealing (Some f) n w = stepped_sealing f.to (events.Deliver f.from f.message) (record w { mail = settled w.mail n })
+received_sealing (Some f) n w = by (nat_lt n w.first_alive)
+  where
+    by : (lost : Bool) → (if lost then without_waiting n w else received f n w).sealing ≡ w.sealing
+    by true = refl
+    by false = stepped_sealing f.to (events.Deliver f.from f.message) (record w { mail = settled w.mail n })
 
 pub delivered_sealing : (n : ℕ) (w : Run) → (delivered n w).sealing ≡ w.sealing
 delivered_sealing n w = received_sealing (slice_get w.mail.sent n) n w
@@ -73,6 +77,13 @@ calmed_sealing peers (suc n) w = going (oldest (is_among peers) w.mail) (λ v. c
   going None later = refl
   going (Some k) later = later (delivered k w) ∙ delivered_sealing k w
 
+deepening_sealing : (w : Run) → (with_deepening w).sealing ≡ w.sealing
+deepening_sealing w = by (may_deepen w)
+  where
+    by : (may : Bool) → (if may then deepened w else w).sealing ≡ w.sealing
+    by true = refl
+    by false = refl
+
 -- a line adds the peer that it upgrades, and no other
 pub applied_sealing : (event : ScheduleEvent) (w : Run) → (applied event w).sealing ≡ sealing_by event w.sealing
 applied_sealing (Call peer id key command) w = stepped_sealing peer (events.Call (call_of id key command)) w
@@ -86,7 +97,7 @@ applied_sealing (Change peer view) w = stepped_sealing peer (events.Change view)
 applied_sealing (Stop peer) w = changed_sealing peer stopped w
 applied_sealing (Start peer) w = changed_sealing peer (started (mode_at peer w) w.view) w
 applied_sealing (Upgrade peer) w = refl
-applied_sealing Deepen w = refl
+applied_sealing Deepen w = deepening_sealing w
 applied_sealing (Spoil peer key bytes) w = changed_sealing peer (over_stores (spoiled key bytes)) w
 applied_sealing (Damage peer key bytes) w = changed_sealing peer (over_stores (segment_spoiled key bytes)) w
 applied_sealing (Inner peer level index bytes) w = changed_sealing peer (over_stores (inner_spoiled level index bytes)) w

@@ -5,3 +5,5 @@ pub mod Laws
 pub mod Runs
 pub mod Messages
 pub mod Lines
+pub mod Deepening
+pub mod HeldStores

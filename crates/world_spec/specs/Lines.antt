@@ -7,10 +7,10 @@ use Rattle.peer_state.specs.declared.event.CallIn.{CallIn}
 use Rattle.peer_state.specs.declared.event.Event.TheVariants as events
 use Rattle.phase_rows.specs.Peers.{those}
 use Rattle.schedule_text.specs.declared.event.ScheduleEvent.{ScheduleEvent}
-use Rattle.schedule_text.specs.declared.event.ScheduleEvent.TheVariants.{Call, Tick, Deliver, Pass, Lose, Calm, CalmAmong, Change, Stop, Start, Upgrade, Spoil, Damage, Inner, Revert, Fail}
+use Rattle.schedule_text.specs.declared.event.ScheduleEvent.TheVariants.{Call, Tick, Deliver, Pass, Lose, Calm, CalmAmong, Change, Stop, Start, Upgrade, Deepen, Spoil, Damage, Inner, Revert, Fail}
 use Rattle.schedule_text.specs.declared.form.Form.{Form}
 use Rattle.world_spec.specs.Nodes.{stopped, over_stores, while_down}
-use Rattle.world_spec.specs.Runs.{Run, hashing, next_event, opening_run, stepped, changed, with_start, upgraded, ticked, delivered, delivered_if, calmed}
+use Rattle.world_spec.specs.Runs.{Run, hashing, next_event, opening_run, stepped, changed, with_start, upgraded, with_deepening, ticked, delivered, delivered_if, calmed}
 use Rattle.world_spec.specs.Stores.{failing, leaves_of, spoiled, segment_spoiled, inner_spoiled, taken_back}
 
 -- the set of these peers
@@ -48,7 +48,7 @@ abbrev pub with_damage : ℕ → List ℕ → Option (List ℕ) → Run → Run
 with_damage peer key bytes w = hashing (key ∷ []) (changed peer (over_stores (segment_spoiled key bytes)) w)
 
 -- The effect of a line on the peers and the messages. A calm delivers at most as many messages as
--- are ever sent. Trees have version 1 in every form, so a line `deepen` has no effect.
+-- are ever sent.
 abbrev pub effect : ScheduleEvent → Run → Run
 effect (Call peer id key command) w = stepped peer (events.Call (call_of id key command)) w
 effect (Tick peer ticks) w = ticked peer ticks w
@@ -61,6 +61,7 @@ effect (Change peer view) w = stepped peer (events.Change view) w
 effect (Stop peer) w = changed peer stopped w
 effect (Start peer) w = with_start peer w
 effect (Upgrade peer) w = upgraded peer w
+effect Deepen w = with_deepening w
 effect (Damage peer key bytes) w = with_damage peer key bytes w
 effect other w = stores_effect other w
 

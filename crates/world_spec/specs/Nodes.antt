@@ -1,10 +1,9 @@
 -- A peer of a world over its stores in memory: its steps, and how it stops and starts.
-use Rattle.std.specs.Prelude.{ℕ, List, []}
+use Rattle.std.specs.Prelude.{ℕ, Bool, true, false, ◌&&◌, List, [], ◌∷◌}
 use Rattle.held_stores.specs.Held.{Held, HeldStores, empty_stores}
 use Rattle.held_stores.specs.Laws.{held_with}
 use Rattle.held_stores.specs.Runs.{Ended, run}
-use Rattle.peer_plan.specs.Drives.{step_of}
-use Rattle.peer_plan.specs.Starts.{start_of}
+use Rattle.held_stores.specs.PeerPlan.{step_of, start_of}
 use Rattle.peer_state.specs.declared.event.Event.{Event}
 use Rattle.peer_state.specs.declared.state.Mode.{Mode}
 use Rattle.peer_state.specs.declared.state.State.{State}
@@ -15,6 +14,16 @@ use Rattle.register_model.specs.declared.note.Note.{Note}
 pub data Node : Type 0 where
   Up : (state : State) (stores : HeldStores) → Node
   Down : (stores : HeldStores) → Node
+
+-- whether the peer is down
+abbrev pub is_down : Node → Bool
+is_down (Up x s) = false
+is_down (Down s) = true
+
+-- whether all peers are down
+abbrev pub all_down : List Node → Bool
+all_down [] = true
+all_down (node ∷ nodes) = is_down node && all_down nodes
 
 -- the outcome of a step: the peer after it, its output, its notes, and the strings that it hashed, in
 -- order

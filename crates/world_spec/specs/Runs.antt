@@ -1,5 +1,5 @@
 -- The state of a world, and how deliveries and ticks change it.
-use Rattle.std.specs.Prelude.{ℕ, zero, suc, ◌+◌, ◌-◌, Bool, Option, Some, None, List, [], ◌∷◌, ◌++◌, map, replicate, slice_get, slice_set, min, ◌^◌}
+use Rattle.std.specs.Prelude.{ℕ, zero, suc, ◌+◌, ◌-◌, nat_lt, Bool, not, ◌&&◌, if◌then◌else◌, length, Option, Some, None, List, [], ◌∷◌, ◌++◌, map, replicate, slice_get, slice_set, min, ◌^◌}
 use Rattle.ens_base.specs.PeerSet.{holds}
 use Rattle.network.specs.Mail.{Mail, no_mail, posted, settled, is_among, oldest}
 use Rattle.peer_state.specs.declared.event.Event.{Event}
@@ -9,20 +9,25 @@ use Rattle.phase_rows.specs.Peers.{joined, those}
 use Rattle.register_model.specs.declared.note.Note.{Note}
 use Rattle.register_model.specs.declared.printed.Printed.{Printed}
 use Rattle.register_model.specs.declared.printed.Printed.TheVariants as lines
-use Rattle.schedule_text.specs.Forms.{is_sealed}
+use Rattle.schedule_text.specs.Forms.{is_deep, is_sealed}
 use Rattle.schedule_text.specs.declared.form.Form.{Form}
 use Rattle.step_plans.specs.Plans.{Out}
-use Rattle.leader_words.specs.declared.out.AnswerOut.{AnswerOut}
-use Rattle.leader_words.specs.declared.out.Outgoing.{Outgoing}
+use Rattle.tree_node.specs.declared.version.TreeVersion.{TreeVersion}
+use Rattle.tree_node.specs.declared.version.TreeVersion.TheVariants.{One, Two}
+use Rattle.step_plans.specs.LeaderWords.{AnswerOut, Outgoing}
 use Rattle.wire_frames.specs.declared.frame.Frame.{Frame}
-use Rattle.world_spec.specs.Nodes.{Node, Taken, taken, started, hashed_by_start, opening_node, opening_strings}
+use Rattle.world_spec.specs.Nodes.{Node, Taken, all_down, taken, started, hashed_by_start, opening_node, opening_strings}
 
--- the view in which the ensemble opens, the set of the peers whose starts have sealing on, the peers
--- 1, 2, .. in this order, the messages, the lines printed, the notes of leaders, the strings hashed by
--- any peer in order, the number of events applied, and the keys of the call lines in order
+-- the view in which the ensemble opens and its form, the set of the peers whose starts have sealing on, the
+-- version of the trees of the peers that start, the number of the first message that is still given to its
+-- receiver, the peers 1, 2, .. in this order, the messages, the lines printed, the notes of leaders, the
+-- strings hashed by any peer in order, the number of events applied, and the keys of the call lines in order
 pub record Run : Type 0 where
   pub view : List ℕ
+  pub form : Form
   pub sealing : List Bool
+  pub tree : TreeVersion
+  pub first_alive : ℕ
   pub nodes : List Node
   pub mail : Mail
   pub printed : List Printed
@@ -36,9 +41,13 @@ abbrev pub repeated : ℕ → List (List ℕ) → List (List ℕ)
 repeated zero strings = []
 repeated (suc n) strings = repeated n strings ++ strings
 
+-- the version of the trees of an ensemble of this form before the first event
+abbrev pub tree_first : Form → TreeVersion
+tree_first form = if is_deep form then Two else One
+
 -- how the peers of an ensemble of this form start before the first event
 abbrev pub opening_mode : Form → Mode
-opening_mode form = record { sealing = is_sealed form }
+opening_mode form = record { sealing = is_sealed form; tree = tree_first form }
 
 -- the peers whose starts have sealing on before the first event: all or none
 abbrev pub sealing_first : Form → List Bool
@@ -48,7 +57,10 @@ sealing_first form = those (λ p. is_sealed form)
 abbrev pub opening_run : Form → ℕ → List ℕ → Run
 opening_run form peers view = record {
   view = view;
+  form = form;
   sealing = sealing_first form;
+  tree = tree_first form;
+  first_alive = 0;
   nodes = replicate peers (opening_node (opening_mode form) view);
   mail = no_mail;
   printed = [];
@@ -127,9 +139,22 @@ changed peer change w = changed_at (slice_get w.nodes (place_of peer)) peer chan
 abbrev pub upgraded : ℕ → Run → Run
 upgraded peer w = record w { sealing = joined peer w.sealing }
 
+-- whether a line `deepen` takes effect here: all peers are down, and trees have version one at the opening
+abbrev pub may_deepen : Run → Bool
+may_deepen w = not (is_deep w.form) && all_down w.nodes
+
+-- the world in which all later starts have trees of version two, and no message that was sent before is
+-- given to a peer
+abbrev pub deepened : Run → Run
+deepened w = record w { tree = Two; first_alive = length w.mail.sent }
+
+-- the world after a line `deepen`
+abbrev pub with_deepening : Run → Run
+with_deepening w = if may_deepen w then deepened w else w
+
 -- how a peer starts here
 abbrev pub mode_at : ℕ → Run → Mode
-mode_at peer w = record { sealing = holds w.sealing peer }
+mode_at peer w = record { sealing = holds w.sealing peer; tree = w.tree }
 
 -- the strings that a peer hashes when it is started in this mode, if there is such a peer
 abbrev pub start_strings : Mode → List ℕ → Option Node → List (List ℕ)
@@ -153,10 +178,15 @@ ticked peer (suc n) w = ticked peer n (stepped peer events.Tick w)
 abbrev pub received : Frame → ℕ → Run → Run
 received f n w = stepped f.to (events.Deliver f.from f.message) (record w { mail = settled w.mail n })
 
--- the world after a delivery, if there is such a message
+-- a message no longer waits, and nobody is given it
+abbrev pub without_waiting : ℕ → Run → Run
+without_waiting n w = record w { mail = settled w.mail n }
+
+-- the world after a delivery, if there is such a message; one that was sent before trees got version two
+-- counts as delivered, but is given to nobody
 abbrev pub received_if : Option Frame → ℕ → Run → Run
 received_if None n w = w
-received_if (Some f) n w = received f n w
+received_if (Some f) n w = if nat_lt n w.first_alive then without_waiting n w else received f n w
 
 -- the message of this number is delivered; the first has number 0
 abbrev pub delivered : ℕ → Run → Run

@@ -4,9 +4,8 @@ use Rattle.ens_outside.specs.declared.memory.failing_call.Leaves.{Leaves}
 use Rattle.ens_outside.specs.declared.memory.failing_call.Leaves.TheVariants as left
 use Rattle.held_stores.specs.Held.{HeldStores}
 use Rattle.tree_node.specs.TreeVersions.{levels}
-use Rattle.tree_node.specs.declared.version.TreeVersion.TheVariants.{One}
 use Rattle.node_faults.specs.Faults.{place_at, replaced, replaced_if, spoiled_node}
-use Rattle.node_faults.specs.Naming.{named_at, segment_place}
+use Rattle.node_faults.specs.Naming.{named_at, segment_place, version_in}
 use Rattle.schedule_text.specs.declared.keyword.StoreName.{StoreName}
 use Rattle.schedule_text.specs.declared.keyword.StoreName.TheVariants as names
 use Rattle.schedule_text.specs.declared.keyword.Survivor.{Survivor}
@@ -34,14 +33,15 @@ failing names.Backend leaves s = record s { backend = record s.backend { faults 
 abbrev pub spoiled : List ℕ → Option (List ℕ) → HeldStores → HeldStores
 spoiled key bytes s = record s { backend = record s.backend { entries = replaced key bytes s.backend.entries } }
 
--- the segment of the key, as the stored nodes name it, has these bytes in place of its own, or is lost
+-- the segment of the key, as the stored nodes name it in their version, has these bytes in place of its own,
+-- or is lost
 abbrev pub segment_spoiled : List ℕ → Option (List ℕ) → HeldStores → HeldStores
-segment_spoiled key bytes s = with_nodes (spoiled_node One (segment_place (form_of One) key) bytes s.tree.store) s
+segment_spoiled key bytes s = with_nodes (spoiled_node (version_in s.tree.store) (segment_place (form_of (version_in s.tree.store)) key) bytes s.tree.store) s
 
--- the digest of the inner node at this level and index, as the stored nodes name it; there is none at the
--- level of the segments and below it
+-- the digest of the inner node at this level and index, as the stored nodes name it in their version; there
+-- is none at the level of the segments and below it
 abbrev pub inner_named : ℕ → ℕ → Nodes → Option (List ℕ)
-inner_named level index s = if nat_lt level (levels One) then named_at (form_of One) s (place_at level index) else None
+inner_named level index s = if nat_lt level (levels (version_in s)) then named_at (form_of (version_in s)) s (place_at level index) else None
 
 -- the same of the inner node at this level and index
 abbrev pub inner_spoiled : ℕ → ℕ → Option (List ℕ) → HeldStores → HeldStores

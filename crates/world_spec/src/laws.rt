@@ -3,7 +3,7 @@ ghost use Rattle.ens_base.specs.View.{IsPeer};
 ghost use Rattle.held_stores.specs.Held.{HeldStores};
 ghost use Rattle.network.specs.Mail.{MayBeSent};
 ghost use Rattle.peer_state.specs.Ages.{IsYoung};
-ghost use Rattle.peer_plan.specs.Drives.{step_of, MayCome};
+ghost use Rattle.held_stores.specs.PeerPlan.{step_of, MayCome};
 ghost use Rattle.peer_state.specs.declared.event.Event.{Event};
 ghost use Rattle.peer_state.specs.declared.state.State.{State};
 ghost use Rattle.schedule_text.specs.Spelling.{AllMayStand};
@@ -11,6 +11,7 @@ ghost use Rattle.schedule_text.specs.Starts.{has_sealing};
 ghost use Rattle.schedule_text.specs.declared.event.ScheduleEvent.{ScheduleEvent};
 ghost use Rattle.schedule_text.specs.declared.event.ScheduleEvent.TheVariants.{Calm, CalmAmong};
 ghost use Rattle.schedule_text.specs.declared.form.Form.{Form};
+ghost use Rattle.world_spec.specs.Deepening.{tree_by_lines};
 ghost use Rattle.world_spec.specs.Laws.{IsFinished, NoneWaits};
 ghost use Rattle.world_spec.specs.Lines.{applied, everyone, set_of, run_of_schedule};
 ghost use Rattle.world_spec.specs.Messages.{IsCalm};
@@ -26,6 +27,12 @@ pub fn steps_end_well()
 /// `ensemble 1`, and behind a line `upgrade` of the peer.
 pub fn starts_seal_by_the_lines()
     ensures { (form : Form) (peers : ℕ) (view : List ℕ) (events : List ScheduleEvent) (p : ℕ) → peers ≤ 31 → IsPeer p → AllMayStand peers events → (mode_at p (run_of_schedule form peers view events)).sealing ≡ has_sealing form events p }
+{}
+
+/// A peer starts with a tree of version two exactly where its schedule says so (`tree_by_lines`): in form 3,
+/// and behind a line `deepen` that came while all peers were down.
+pub fn starts_have_trees_by_the_lines()
+    ensures { (form : Form) (peers : ℕ) (view : List ℕ) (events : List ScheduleEvent) (p : ℕ) → (mode_at p (run_of_schedule form peers view events)).tree ≡ tree_by_lines form peers view events }
 {}
 
 /// Every message in the run of every schedule goes from a peer to another and obeys the grammar of

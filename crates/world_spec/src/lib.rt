@@ -10,13 +10,14 @@
 //! of each line in `specs/Lines`; node_faults says which node a line damages. `laws.rt` states what
 //! holds of every run.
 //!
-//! Trees have version 1 in every form. So a schedule of form 3 runs as one of form 2 does, and a line
-//! `deepen` changes nothing.
+//! Trees have version two from the opening on in form 3, and in the others from a line `deepen` on that
+//! comes while all peers are down; a start then migrates the tree of its peer, and no message that was sent
+//! before that line is given to anyone.
 #![tactic(auto)]
 
 mod laws;
 
 pub use laws::{
     a_calm_leaves_none_waiting, hashed_strings_are_forgotten, messages_obey,
-    starts_seal_by_the_lines, steps_end_well,
+    starts_have_trees_by_the_lines, starts_seal_by_the_lines, steps_end_well,
 };

@@ -1,8 +1,8 @@
 use Rattle.std.proofs.Common.{[]}
 use Rattle.held_stores.specs.Laws.{held_with}
-use Rattle.peer_plan.proofs.Aging.{steps_young}
+use Rattle.held_stores.proofs.PeerPlan.{steps_young}
 use Rattle.peer_state.specs.Ages.{IsYoung}
-use Rattle.peer_plan.specs.Drives.{step_of}
+use Rattle.held_stores.specs.PeerPlan.{step_of}
 use Rattle.world_spec.proofs.Ending.{run_finishes}
 use Rattle.world_spec.proofs.laws.steps_end_well.Goals as goal
 

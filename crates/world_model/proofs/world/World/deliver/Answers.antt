@@ -1,12 +1,15 @@
-use Rattle.std.proofs.Common.{arith, ◌≡◌, ◌≤◌, Option, Some, length, refl, sym, ap, slice_get}
+use Rattle.std.proofs.Common.{arith, ◌≡◌, ◌≤◌, ◌∙◌, true, false, nat_lt, Option, Some, length, refl, sym, ap, subst, slice_get}
+use Rattle.std.proofs.lemmas.Bool.{lt-ltb, le-ltb}
 use Rattle.std.proofs.lemmas.Grind.{common_steps}
+use Rattle.network.specs.Mail.{Mail}
 use Rattle.std.proofs.lemmas.Option.{slice_get_read, slice_get_past}
 use Rattle.wire_frames.specs.declared.frame.Frame.{Frame}
-use Rattle.world_spec.specs.Runs.{delivered, received_if}
+use Rattle.world_spec.specs.Messages.{IsWithinMessages}
+use Rattle.world_spec.specs.Runs.{Run, delivered, received_if, without_waiting}
 use Rattle.world_model.specs.Worlds.{run_of}
-use Rattle.world_model.proofs.Begins.{begins_by}
-use Rattle.world_model.proofs.Loops.{received_is}
-use Rattle.world_model.proofs.Reached.{reaches_same, still_reaches}
+use Rattle.world_model.proofs.Begins.{begins_by, begins_sent}
+use Rattle.world_model.proofs.Loops.{received_is, lost_is}
+use Rattle.world_model.proofs.Reached.{quiet_led, reaches_same, still_reaches}
 use Rattle.world_model.proofs.world.World.deliver.Goals as goal
 
 pub returns-in_default-clause-begins : goal.returns-in_default-clause-begins
@@ -20,7 +23,18 @@ returns-in_default-clause-reaches g c =
 pub returns-in_err-message-clause-begins : goal.returns-in_err-message-clause-begins
 returns-in_err-message-clause-begins g c = begins_by c.args.self.now c.args.self.now refl refl
 
+pub returns-then-number-self-clause-reaches : goal.returns-then-number-self-clause-reaches
+returns-then-number-self-clause-reaches g c =
+    let w : Run = run_of c.args.self.now in
+    let here : slice_get c.args.self.now.network.sent c.args.number ≡ Some c.in-Some.frame.now = grind (arith, common_steps, slice_get_read, c.in-Some.ensures.lookup, c.sent.ensures.sent) in
+    let is : without_waiting c.args.number w ≡ delivered c.args.number w = lost_is w c.args.number c.in-Some.frame.now here (lt-ltb _ _ (omega (arith, c.if-number-self.true))) in
+    quiet_led _ (delivered c.args.number w) _ (ap (λ (v : Run). v.hashed) (sym is)) (ap (λ (m : Mail). record w { mail = m }) c.settle.ensures ∙ is) (subst IsWithinMessages is c.args.self.now.within)
+
+pub returns-then-number-self-clause-begins : goal.returns-then-number-self-clause-begins
+returns-then-number-self-clause-begins g c = begins_sent c.args.self.now _ (ap (λ (m : Mail). m.sent) c.settle.ensures) refl
+
 pub returns-clause-reaches : goal.returns-clause-reaches
 returns-clause-reaches g c =
     let here : slice_get c.args.self.now.network.sent c.args.number ≡ Some c.in-Some.frame.now = grind (arith, common_steps, slice_get_read, c.in-Some.ensures.lookup, c.sent.ensures.sent) in
-    reaches_same _ _ _ c.step_peer.result _ _ (rw c.settle.ensures (received_is (run_of c.args.self.now) c.args.number c.in-Some.frame.now c.in_ok-message.message here c.in_ok-message.ensures)) c.step_peer.ensures.reaches
+    let alive : nat_lt c.args.number c.args.self.now.first_alive ≡ false = le-ltb _ _ (omega (arith, c.if-number-self.false)) in
+    reaches_same _ _ _ c.step_peer.result _ _ (rw c.settle-2.ensures (received_is (run_of c.args.self.now) c.args.number c.in-Some.frame.now c.in_ok-message.message here c.in_ok-message.ensures alive)) c.step_peer.ensures.reaches

@@ -1,0 +1,3 @@
+-- What the crates above name of world_spec, passed on.
+pub use Rattle.world_spec.proofs.Fronts.{applied_front}
+pub use Rattle.world_spec.proofs.Growth.{IsFurther, applied_same, peers_in, run_grows}
