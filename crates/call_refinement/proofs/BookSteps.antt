@@ -5,7 +5,7 @@ use Rattle.std.proofs.lemmas.List.{append-nil, length-append, length-map}
 use Rattle.ens_base.specs.Lists.{◌∈◌}
 use Rattle.abstract_protocol.specs.Book.{Book, opening_book}
 use Rattle.abstract_protocol.specs.Protocol.{State, Begin, Ask, happens}
-use Rattle.held_stores.specs.Held.{HeldStores}
+use Rattle.tree_refinement.specs.HeldStores.{HeldStores}
 use Rattle.leader_words.specs.declared.out.AnswerOut.{AnswerOut}
 use Rattle.peer_state.specs.declared.event.Event.{Event}
 use Rattle.register_model.specs.declared.answer.Answer.{Answer}

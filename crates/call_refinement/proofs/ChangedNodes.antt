@@ -1,8 +1,11 @@
 -- The nodes and the roles of a world after the node of one peer changed, and what was said once a peer
 -- has sent its messages.
-use Rattle.std.proofs.Common.{◌≡◌, ℕ, zero, suc, ◌⊎◌, inl, inr, List, [], ◌∷◌, ◌++◌, map, Option, None, Some, slice_get, slice_set, append_assoc, append-nil, arith, refl, sym, ap, ◌∙◌, subst}
+use Rattle.std.proofs.Common.{◌≡◌, ◌<◌, ℕ, zero, suc, nat_lt, true, false, ◌⊎◌, inl, inr, length, List, [], ◌∷◌, ◌++◌, map, Option, None, Some, slice_get, slice_set, append_assoc, append-nil, arith, refl, sym, ap, ◌∙◌, subst}
 use Rattle.ens_base.proofs.Lists.{in_left, in_right}
 use Rattle.std.specs.Prelude.{All}
+use Rattle.std.proofs.lemmas.Bool.{and_parts}
+use Rattle.std.proofs.lemmas.Bool.Decides.{nat_tests}
+use Rattle.std.proofs.lemmas.List.Elements.{All-head, All-tail}
 use Rattle.std.proofs.lemmas.Option.{none-some, same_Some, get_or_from_slice_get, slice_get_within}
 use Rattle.ens_base.specs.Lists.{◌∈◌}
 use Rattle.ens_base.specs.View.{IsPeer}
@@ -12,9 +15,10 @@ use Rattle.leader_words.specs.declared.out.Outgoing.{Outgoing}
 use Rattle.network.specs.Mail.{Mail, posted}
 use Rattle.version_laws.proofs.Maps.{put_then}
 use Rattle.wire_frames.specs.declared.frame.Frame.{Frame}
-use Rattle.world_spec.specs.Nodes.{Node}
+use Rattle.world_spec.specs.Nodes.{Node, is_down, all_down}
 use Rattle.world_spec.specs.Runs.{place_of, frame_from, posted_all}
 use Rattle.call_refinement.specs.Roles.{role_of, role_at, roles_of, said_in}
+use Rattle.call_refinement.specs.Worlds.{AllFrom}
 use Rattle.step_refinement.specs.Roles.{said_of, said_by, said_in_sends}
 
 -- ## Places
@@ -104,3 +108,35 @@ said_at (x ∷ frames) (suc n) f said is says = further (said_of x.message) (sai
 -- what the message of this number holds
 pub frame_at : (P : Frame → Type 0) (frames : List Frame) (n : ℕ) (f : Frame) → slice_get frames n ≡ Some f → All P frames → P f
 frame_at P frames n f is hold = subst P (get_or_from_slice_get frames n f f is) (hold n f (slice_get_within frames n f is))
+
+-- ## Messages from a number on
+
+get_push : (xs : List Frame) (f g : Frame) (n : ℕ) → slice_get (xs ++ f ∷ []) n ≡ Some g → (slice_get xs n ≡ Some g) ⊎ (g ≡ f)
+get_push [] f g zero is = inr (sym (same_Some f g is))
+get_push [] f g (suc n) is = absurd (none-some g is)
+get_push (x ∷ xs) f g zero is = inl is
+get_push (x ∷ xs) f g (suc n) is = get_push xs f g n is
+
+-- a property of each message from the number on and of all new ones
+pub from_posted : (first : ℕ) (P : Frame → Type 0) (frames : List Frame) (m : Mail) → AllFrom first P m.sent → All P frames → AllFrom first P (posted_all frames m).sent
+from_posted first P [] m old new = old
+from_posted first P (f ∷ frames) m old new = from_posted first P frames (posted m f) (λ n g later at. by n g later (get_push m.sent f g n at)) (All-tail P f frames new)
+  where
+    by : (n : ℕ) (g : Frame) → nat_lt n first ≡ false → (slice_get m.sent n ≡ Some g) ⊎ (g ≡ f) → P g
+    by n g later (inl before) = old n g later before
+    by n g later (inr same) = subst P (sym same) (All-head P f frames new)
+
+-- after all messages none was sent
+pub none_from : (P : Frame → Type 0) (sent : List Frame) → AllFrom (length sent) P sent
+none_from P sent n f later at = absurd (beyond n (length sent) (slice_get_within sent n f at) later)
+  where
+    beyond : (n size : ℕ) → n < size → nat_lt n size ≡ false → ⊥
+    beyond n size less later = grind (arith, nat_tests)
+
+-- ## Nodes that are down
+
+-- each node is down
+pub all_are_down : (nodes : List Node) (place : ℕ) (node : Node) → all_down nodes ≡ true → slice_get nodes place ≡ Some node → is_down node ≡ true
+all_are_down [] place node down at = absurd (none-some node at)
+all_are_down (x ∷ nodes) zero node down at = subst (λ (n : Node). is_down n ≡ true) (same_Some x node at) (and_parts (is_down x) (all_down nodes) down).0
+all_are_down (x ∷ nodes) (suc place) node down at = all_are_down nodes place node (and_parts (is_down x) (all_down nodes) down).1 at

@@ -4,12 +4,12 @@ use Rattle.abstract_protocol.specs.Ledger.{put}
 use Rattle.abstract_protocol.specs.Objects.{Objects}
 use Rattle.abstract_protocol.specs.Protocol.{State, Step, Answer, happens, MayCome, state_after}
 use Rattle.election.specs.declared.election.Election.TheVariants.{Preparing, Starting}
-use Rattle.election_refinement.specs.Refinement.{IsOrderly}
+use Rattle.step_refinement.specs.ElectionRefinement.{IsOrderly}
 use Rattle.entry_laws.proofs.Later.{stay_step}
 use Rattle.leader_laws.proofs.Roles.{run_roles}
 use Rattle.leader_laws.specs.Roles.{Role, Sent, RolesHold, with_owed, owed_by}
 use Rattle.leader_laws.specs.Tables.{Ghosts, Owed}
-use Rattle.leader_refinement.specs.Seen.{owed_after}
+use Rattle.step_refinement.specs.LeaderRefinement.{owed_after}
 use Rattle.leader_words.specs.declared.out.AnswerOut.{AnswerOut}
 use Rattle.peer_state.specs.declared.state.Phase.{Phase}
 use Rattle.peer_state.specs.declared.state.Phase.TheVariants as phases
@@ -22,6 +22,7 @@ use Rattle.call_refinement.proofs.BookSteps.{with_answers}
 use Rattle.step_refinement.proofs.LaterStates.{acks_stay}
 use Rattle.call_refinement.proofs.LaterWorlds.{same_stays, node_fits, messages_same}
 use Rattle.step_refinement.specs.Peers.{AsksFit}
+use Rattle.tree_node.specs.declared.version.TreeVersion.{TreeVersion}
 use Rattle.step_refinement.specs.Roles.{role_in}
 use Rattle.call_refinement.specs.Worlds.{PartsHold}
 use Rattle.step_refinement.proofs.Stretches.{roles_same}
@@ -29,18 +30,18 @@ use Rattle.step_refinement.proofs.Stretches.{roles_same}
 -- ## A step of the book alone
 
 -- the parts of a world hold after a step that is of the book alone, and notes nothing
-pub parts_same : (lines : Lines) (view : List ℕ) (strings : List (List ℕ)) (steps : List Step) (e : Step) (nodes : List Node) (sent : List Frame) (hashed : List (List ℕ)) (notes : List Note) → MayCome (state_after view steps) e
+pub parts_same : (version : TreeVersion) (first : ℕ) (lines : Lines) (view : List ℕ) (strings : List (List ℕ)) (steps : List Step) (e : Step) (nodes : List Node) (sent : List Frame) (hashed : List (List ℕ)) (notes : List Note) → MayCome (state_after view steps) e
     → (happens (state_after view steps) e).objects ≡ (state_after view steps).objects → AsksFit (happens (state_after view steps) e) → (happens (state_after view steps) e).book.notes ≡ (state_after view steps).book.notes
-    → PartsHold lines view strings steps nodes sent hashed notes → PartsHold lines view strings (e ∷ steps) nodes sent hashed notes
-parts_same lines view strings steps e nodes sent hashed notes may same asked noted a = record {
+    → PartsHold version first lines view strings steps nodes sent hashed notes → PartsHold version first lines view strings (e ∷ steps) nodes sent hashed notes
+parts_same version first lines view strings steps e nodes sent hashed notes may same asked noted a = record {
   run = (a.run, may);
   orderly = subst (λ (o : Objects). IsOrderly o.ledger) (sym same) a.orderly;
   acks = acks_stay s t strings (ap (λ (o : Objects). o.acked) same) (stay_step s e may) a.acks;
   asked = asked;
   epochs = subst (λ (o : Objects). (d : ℕ) → o.ledger.elected d ≡ true → d < 2 ^ 96) (sym same) a.epochs;
   firm = subst (λ (o : Objects). (q : ℕ) → lines.firm q ≡ true → o.reverted q ≡ false) (sym same) a.firm;
-  nodes_fit = λ place node at. node_fits lines strings hashed hashed (suc place) s t (same_stays (suc place) s t same (stay_step s e may)) (λ x i. i) node (a.nodes_fit place node at);
-  messages = messages_same lines strings s t sent (ap (λ (o : Objects). o.ledger) same) (stay_step s e may) a.messages;
+  nodes_fit = λ place node at. node_fits version lines strings hashed hashed (suc place) s t (same_stays (suc place) s t same (stay_step s e may)) (λ x i. i) node (a.nodes_fit place node at);
+  messages = messages_same version first lines strings s t sent (ap (λ (o : Objects). o.ledger) same) (stay_step s e may) a.messages;
   noted = noted ∙ a.noted;
 }
   where
@@ -79,11 +80,11 @@ role_with key (phases.Electing (Starting new accepts age)) owed less = refl
 role_with key (phases.Following f) owed less = refl
 role_with key (phases.Probing b) owed less = refl
 
-module _ (lines : Lines) (view : List ℕ) (strings : List (List ℕ)) (nodes : List Node) (sent : List Frame) (hashed : List (List ℕ)) (made : List Note) (g : Ghosts) (roles : ℕ → Role) (said : List Sent) (p : ℕ) (phase : Phase) where
+module _ (version : TreeVersion) (first : ℕ) (lines : Lines) (view : List ℕ) (strings : List (List ℕ)) (nodes : List Node) (sent : List Frame) (hashed : List (List ℕ)) (made : List Note) (g : Ghosts) (roles : ℕ → Role) (said : List Sent) (p : ℕ) (phase : Phase) where
   -- all answers that peer p in this phase owed in state s were given
   pub record AllGiven (s : State) (answers : List AnswerOut) : Type 0 where
     pub steps : List Step
-    pub parts : PartsHold lines view strings steps nodes sent hashed made
+    pub parts : PartsHold version first lines view strings steps nodes sent hashed made
     pub hold : RolesHold g (state_after view steps) (put roles p (role_in [] phase [])) said
     pub given : (state_after view steps).book.answers ≡ with_answers s.book.now answers s.book.answers
     pub calls : (state_after view steps).book.calls ≡ s.book.calls
@@ -91,10 +92,10 @@ module _ (lines : Lines) (view : List ℕ) (strings : List (List ℕ)) (nodes : 
     pub now : (state_after view steps).book.now ≡ s.book.now
 
   -- all of them are given, one after another
-  pub all_given : (steps : List Step) (answers : List AnswerOut) → PartsHold lines view strings steps nodes sent hashed made → RolesHold g (state_after view steps) (put roles p (role_in [] phase (owes answers))) said → AllGiven (state_after view steps) answers
+  pub all_given : (steps : List Step) (answers : List AnswerOut) → PartsHold version first lines view strings steps nodes sent hashed made → RolesHold g (state_after view steps) (put roles p (role_in [] phase (owes answers))) said → AllGiven (state_after view steps) answers
   all_given steps [] parts hold = record { steps = steps; parts = parts; hold = hold; given = refl; calls = refl; notes = refl; now = refl }
   all_given steps (a ∷ answers) parts hold =
-      let rest = all_given (step ∷ steps) answers (parts_same lines view strings steps step nodes sent hashed made give.0 refl parts.asked refl parts) next in
+      let rest = all_given (step ∷ steps) answers (parts_same version first lines view strings steps step nodes sent hashed made give.0 refl parts.asked refl parts) next in
       record { steps = rest.steps; parts = rest.parts; hold = rest.hold; given = rest.given; calls = rest.calls; notes = rest.notes; now = rest.now }
     where
       s : State

@@ -7,21 +7,22 @@ use Rattle.abstract_protocol.specs.Ledger.{Ledger}
 use Rattle.abstract_protocol.specs.Objects.{Objects}
 use Rattle.abstract_protocol.specs.Protocol.{State}
 use Rattle.entry_laws.specs.Stays.{EntriesStay}
-use Rattle.election_refinement.proofs.Keeps.{node_keeps, frames_keep}
-use Rattle.election_refinement.specs.Refinement.{IsSaved, IsKept, NodeHolds, FrameHolds}
-use Rattle.held_stores.specs.Laws.{held_with}
+use Rattle.step_refinement.proofs.ElectionRefinement.{node_keeps, frames_keep}
+use Rattle.step_refinement.specs.ElectionRefinement.{IsSaved, IsKept, NodeHolds, FrameHolds}
+use Rattle.tree_refinement.specs.HeldStores.{held_with}
 use Rattle.peer_fact.specs.declared.fact.Fact.{Fact}
-use Rattle.request_refinement.specs.Naming.{hash_of}
+use Rattle.step_refinement.specs.SyncRefinement.{hash_of}
 use Rattle.step_plans.specs.Saved.{bare, kept_seal}
 use Rattle.sync_laws.specs.Facts.{Lines}
 use Rattle.tree_refinement.specs.Tops.{tops_of}
 use Rattle.tree_refinement.specs.Trees.{AreAmong}
+use Rattle.tree_node.specs.declared.version.TreeVersion.{TreeVersion}
 use Rattle.wire_frames.specs.declared.frame.Frame.{Frame}
 use Rattle.world_spec.specs.Nodes.{Node, Up, Down}
 use Rattle.step_refinement.specs.Scenes.{Elsewhere}
 use Rattle.step_refinement.proofs.ShownMaps.{tree_behind, tree_stays, last_over, last_stays}
 use Rattle.call_refinement.specs.Worlds.{NodeFits, MessagesFit}
-use Rattle.step_refinement.proofs.LaterStates.{sync_stays, phase_stays, frames_fit}
+use Rattle.step_refinement.proofs.LaterStates.{message_stays, sync_stays, phase_stays}
 
 -- ## Peers
 
@@ -56,16 +57,18 @@ same_stays q s t same stays = record {
   entries = stays;
 }
 
-module _ (lines : Lines) (strings hashed more : List (List ℕ)) (q : ℕ) (s t : State) (stays_for : StaysFor q s t) (among : AreAmong hashed more) where
+module _ (version : TreeVersion) (lines : Lines) (strings hashed more : List (List ℕ)) (q : ℕ) (s t : State) (stays_for : StaysFor q s t) (among : AreAmong hashed more) where
   -- what holds of the node of the peer stays so
-  pub node_fits : (node : Node) → NodeFits lines strings hashed s q node → NodeFits lines strings more t q node
+  pub node_fits : (node : Node) → NodeFits version lines strings hashed s q node → NodeFits version lines strings more t q node
   node_fits (Up x stores) f = record {
     holds = stays_for.node (Up x stores) f.holds;
     listed = f.listed;
     trust = stays_for.trusted ∙ f.trust;
     tree = tree_behind t strings q x.seal stores hashed more among (tree_stays s t strings q x.seal (held_with stores hashed) stays_for.entries stays_for.visible stays_for.map (λ blind. stays_for.trusted ∙ blind) f.tree);
     seal = f.seal;
-    sync = sync_stays lines s t strings q x.fact x.trusted f.tree.last.map stores.tree.top x.sync stays_for.entries f.holds.saved.ballot f.sync;
+    mode = f.mode;
+    held = f.held;
+    sync = sync_stays version lines s t strings q x.fact x.trusted f.tree.last.map stores.tree.top x.sync stays_for.entries f.holds.saved.ballot f.sync;
     fits = phase_stays hash_of s t q x.fact x.phase stays_for.entries stays_for.views f.holds.phase f.fits;
     rests = f.rests;
   }
@@ -88,19 +91,19 @@ module _ (lines : Lines) (strings hashed more : List (List ℕ)) (q : ℕ) (s t 
 -- ## Messages
 
 -- messages hold what they held
-pub messages_same : (lines : Lines) (strings : List (List ℕ)) (s t : State) (sent : List Frame) → t.objects.ledger ≡ s.objects.ledger → EntriesStay s t → MessagesFit lines strings s sent → MessagesFit lines strings t sent
-messages_same lines strings s t sent same stay m = record {
+pub messages_same : (version : TreeVersion) (first : ℕ) (lines : Lines) (strings : List (List ℕ)) (s t : State) (sent : List Frame) → t.objects.ledger ≡ s.objects.ledger → EntriesStay s t → MessagesFit version first lines strings s sent → MessagesFit version first lines strings t sent
+messages_same version first lines strings s t sent same stay m = record {
   hold = subst (λ (l : Ledger). All (FrameHolds l) sent) (sym same) m.hold;
   listed = m.listed;
-  fit = frames_fit s t strings stay lines sent m.fit;
+  fit = λ n f later at. message_stays s t strings stay version lines f.from f.message (m.fit n f later at);
   may = m.may;
 }
 
 -- the same where another peer takes a step
-pub messages_elsewhere : (lines : Lines) (strings : List (List ℕ)) (p : ℕ) (s t : State) (sent : List Frame) → Elsewhere p s t → MessagesFit lines strings s sent → MessagesFit lines strings t sent
-messages_elsewhere lines strings p s t sent e m = record {
+pub messages_elsewhere : (version : TreeVersion) (first : ℕ) (lines : Lines) (strings : List (List ℕ)) (p : ℕ) (s t : State) (sent : List Frame) → Elsewhere p s t → MessagesFit version first lines strings s sent → MessagesFit version first lines strings t sent
+messages_elsewhere version first lines strings p s t sent e m = record {
   hold = frames_keep s.objects.ledger t.objects.ledger p e.ledger sent m.hold;
   listed = m.listed;
-  fit = frames_fit s t strings e.stays lines sent m.fit;
+  fit = λ n f later at. message_stays s t strings e.stays version lines f.from f.message (m.fit n f later at);
   may = m.may;
 }

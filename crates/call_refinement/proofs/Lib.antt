@@ -13,3 +13,6 @@ pub mod StepsInWorlds
 pub mod OpeningWorld
 pub mod Agreement
 pub mod ScheduleLaws
+pub mod RequestRefinement
+pub mod StepRefinement
+pub mod WorldSpec

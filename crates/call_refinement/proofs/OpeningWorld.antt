@@ -7,20 +7,16 @@ use Rattle.ens_base.specs.Lists.{◌∈◌}
 use Rattle.ens_base.specs.View.{IsView}
 use Rattle.abstract_protocol.specs.Ledger.{opening_ledger}
 use Rattle.abstract_protocol.specs.Protocol.{opening}
-use Rattle.election_refinement.proofs.Listed.{listed_opening}
-use Rattle.election_refinement.specs.Listed.{IsListedMessage}
-use Rattle.election_refinement.specs.Refinement.{FrameHolds}
-use Rattle.held_stores.specs.Answers.{answered, with_facts}
-use Rattle.held_stores.specs.Held.{Held, empty_stores}
-use Rattle.held_stores.specs.Laws.{held_with}
-use Rattle.held_stores.specs.Runs.{Ended, run, either}
+use Rattle.step_refinement.proofs.ElectionRefinement.{listed_opening, replicated, saved_first, orderly_first}
+use Rattle.step_refinement.specs.ElectionRefinement.{IsListedMessage, FrameHolds}
+use Rattle.tree_refinement.specs.HeldStores.{answered, walked, done, version_opened, with_facts, Held, empty_stores, held_with, Ended, run, either, End, Came, Broke, Failed}
 use Rattle.leader_laws.proofs.Roles.{roles_open}
 use Rattle.leader_laws.specs.Roles.{Follows}
 use Rattle.leader_laws.specs.Tables.{Ghosts}
 use Rattle.network.specs.Mail.{MayBeSent}
-use Rattle.peer_plan.specs.Starts.{first_state, opening_saved, seals_opening, start_of}
+use Rattle.tree_refinement.specs.PeerPlan.{first_state, opening_saved, seals_opening, start_of}
 use Rattle.peer_state.specs.declared.state.State.{State as PeerState}
-use Rattle.request_refinement.specs.Naming.{hash_of}
+use Rattle.step_refinement.specs.SyncRefinement.{hash_of}
 use Rattle.schedule_text.specs.Forms.{is_sealed}
 use Rattle.schedule_text.specs.declared.form.Form.{Form}
 use Rattle.seal_laws.specs.Kept.{IsSealed}
@@ -28,17 +24,19 @@ use Rattle.step_plans.specs.Calls.{FreshTree}
 use Rattle.step_plans.specs.Plans.{Finished, Stopped, nothing}
 use Rattle.step_plans.specs.declared.error.PeerError.{PeerError}
 use Rattle.sync_laws.specs.Facts.{Lines}
+use Rattle.synctree.specs.Trees.{fresh_plan}
+use Rattle.tree_maps.specs.Sixteen.{form_of}
+use Rattle.tree_node.specs.declared.version.TreeVersion.{TreeVersion}
 use Rattle.tree_refinement.proofs.Tops as records
 use Rattle.tree_refinement.proofs.Whole as whole
 use Rattle.tree_refinement.specs.Tops.{IsWritten, HasBuilt}
 use Rattle.tree_refinement.specs.Trees.{AreAmong}
 use Rattle.wire_frames.specs.declared.frame.Frame.{Frame}
 use Rattle.world_spec.specs.Nodes.{Node, Up, taken_of, run_over, opening_node, opening_strings}
-use Rattle.world_spec.specs.Runs.{repeated, opening_mode, opening_run}
+use Rattle.world_spec.specs.Runs.{repeated, tree_first, opening_mode, opening_run}
 use Rattle.world_stores.specs.declared.fact.HeldFact.{HeldFact}
-use Rattle.election_refinement.proofs.Openings.{replicated, saved_first, orderly_first}
 use Rattle.step_refinement.proofs.ShownMaps.{IsSealOf, next_top, tree_behind, tree_written}
-use Rattle.step_refinement.specs.Peers.{TreeHolds, FrameFits}
+use Rattle.step_refinement.specs.Peers.{TreeHolds}
 use Rattle.call_refinement.specs.Roles.{role_of, role_at, roles_of}
 use Rattle.call_refinement.specs.Worlds.{NodeFits, WorldHolds}
 use Rattle.step_refinement.proofs.Stretches.{roles_same}
@@ -53,6 +51,12 @@ abbrev pub opening_seal : Bool → Held → Option (List ℕ)
 opening_seal true h = h.stores.tree.top
 opening_seal false h = None
 
+-- a tree that was made has the version in which it was made
+made_in : (tree old : TreeVersion) (end : End (List ℕ)) → done end ≡ Ok tt → version_opened tree old end ≡ tree
+made_in tree old (Came root) is = refl
+made_in tree old (Broke at) is = absurd (cc)
+made_in tree old Failed is = absurd (cc)
+
 module _ (form : Form) (view : List ℕ) where
   -- ## The start of a peer
 
@@ -62,7 +66,7 @@ module _ (form : Form) (view : List ℕ) where
 
   -- the tree is made
   abbrev pub fresh : Held
-  fresh = (answered FreshTree first).held
+  fresh = (answered (FreshTree (tree_first form)) first).held
 
   abbrev pub seal : Option (List ℕ)
   seal = opening_seal (is_sealed form) fresh
@@ -74,11 +78,15 @@ module _ (form : Form) (view : List ℕ) where
   abbrev pub saved : Held
   saved = with_facts (kept_with seal) fresh
 
-  made : (answered FreshTree first).result ≡ Ok tt
-  made = (whole.makes first (record { facts = refl; backend = refl; tree = refl })).0
+  made : (answered (FreshTree (tree_first form)) first).result ≡ Ok tt
+  made = (whole.makes (tree_first form) first (record { facts = refl; backend = refl; tree = refl })).0
 
   written : IsWritten [] first fresh
-  written = subst (λ (r : Result (Unit {0}) PeerError). HasBuilt [] first r fresh) made (records.makes first)
+  written = subst (λ (r : Result (Unit {0}) PeerError). HasBuilt [] first r fresh) made (records.makes (tree_first form) first)
+
+  -- the tree has the version of this form
+  pub fresh_version : fresh.stores.tree.version ≡ tree_first form
+  fresh_version = made_in (tree_first form) first.stores.tree.version (walked (fresh_plan (form_of (tree_first form))) first).end made
 
   -- the root of the tree is its top record
   root_is : fresh.stores.tree.top ≡ Some written.next.digest
@@ -115,13 +123,15 @@ module _ (form : Form) (view : List ℕ) where
   fresh_tree strings q = tree_written (opening view) strings q seal first saved [] written_saved (seal_is (is_sealed form)) refl (λ s at. absurd at)
       (record { entries = λ e at. absurd at; visible = λ k. refl }) (λ k. refl) (record { entries = λ e at. absurd at; reached = λ e at. absurd at }) (λ none digest at. absurd at)
 
-  node_first : (lines : Lines) (strings more : List (List ℕ)) (q : ℕ) → lines.sealed ≡ is_sealed form → view ∈ lines.voting → AreAmong (opening_strings (opening_mode form) view) more → NodeFits lines strings more (opening view) q (opening_node (opening_mode form) view)
-  node_first lines strings more q same votes among = subst (λ (n : Node). NodeFits lines strings more (opening view) q n) node_is (record {
+  node_first : (lines : Lines) (strings more : List (List ℕ)) (q : ℕ) → lines.sealed ≡ is_sealed form → view ∈ lines.voting → AreAmong (opening_strings (opening_mode form) view) more → NodeFits (tree_first form) lines strings more (opening view) q (opening_node (opening_mode form) view)
+  node_first lines strings more q same votes among = subst (λ (n : Node). NodeFits (tree_first form) lines strings more (opening view) q n) node_is (record {
     holds = record { saved = saved_first view q; kept = refl; phase = tt; sync = tt };
     listed = listed_opening lines.voting q (opening_mode form) view seal votes;
     trust = refl;
     tree = tree_behind (opening view) strings q seal saved.stores fresh.hashed more (subst (λ (xs : List (List ℕ)). AreAmong xs more) strings_are among) (fresh_tree strings q);
     seal = λ sealed. seal_kept (is_sealed form) (sym same ∙ sealed);
+    mode = refl;
+    held = fresh_version;
     sync = tt;
     fits = tt;
     rests = tt;
@@ -145,9 +155,9 @@ module _ (form : Form) (view : List ℕ) where
       asked = λ i came. absurd (false≢true came);
       epochs = λ d elected. subst (λ (n : ℕ). n < 2 ^ 96) (sym (eqb-true d 0 elected)) (lit< tt);
       firm = λ q is. refl;
-      nodes_fit = λ place node at. subst (λ (n : Node). NodeFits lines strings (repeated peers (opening_strings (opening_mode form) view)) (opening view) (suc place) n) (replicated peers place (opening_node (opening_mode form) view) node at)
+      nodes_fit = λ place node at. subst (λ (n : Node). NodeFits (tree_first form) lines strings (repeated peers (opening_strings (opening_mode form) view)) (opening view) (suc place) n) (replicated peers place (opening_node (opening_mode form) view) node at)
           (node_first lines strings (repeated peers (opening_strings (opening_mode form) view)) (suc place) same votes (start_among peers place (opening_node (opening_mode form) view) node (opening_strings (opening_mode form) view) at));
-      messages = record { hold = All-nil (FrameHolds (opening_ledger view)); listed = All-nil (λ (f : Frame). IsListedMessage lines.voting f.message); fit = All-nil (FrameFits lines (opening view) strings); may = All-nil MayBeSent };
+      messages = record { hold = All-nil (FrameHolds (opening_ledger view)); listed = All-nil (λ (f : Frame). IsListedMessage lines.voting f.message); fit = λ n f later at. absurd (cc); may = All-nil MayBeSent };
       noted = refl;
     };
     roles = record {

@@ -3,7 +3,7 @@
 use Rattle.std.specs.Prelude.{Contains}
 use Rattle.ens_base.specs.Lists.{AreDistinct, ◌∈◌}
 use Rattle.ens_base.specs.View.{IsView}
-use Rattle.held_stores.specs.Held.{HasNoClash}
+use Rattle.tree_refinement.specs.HeldStores.{HasNoClash}
 use Rattle.history_scribe.specs.Histories.{AreHistories}
 use Rattle.register_model.specs.declared.history.History.{History}
 use Rattle.schedule_text.specs.Spelling.{AllMayStand, call_ids}

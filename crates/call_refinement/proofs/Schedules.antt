@@ -1,6 +1,6 @@
 -- A world and a run of the abstract protocol go through the lines of a schedule together, given what each
 -- step of a peer, each start, and each change of its stores does to the run.
-use Rattle.std.proofs.Common.{◌≡◌, ℕ, zero, suc, ◌+◌, ◌-◌, ◌<◌, ◌^◌, ◌≤◌, Bool, true, false, not, ◌||◌, ◌⊎◌, List, [], ◌∷◌, ◌++◌, length, Option, None, Some, slice_get, slice_set, arith, ap, refl, inl, inr, sym, ◌∙◌, subst}
+use Rattle.std.proofs.Common.{◌≡◌, ℕ, zero, suc, ◌+◌, ◌-◌, ◌<◌, ◌^◌, ◌≤◌, nat_lt, Bool, true, false, if◌then◌else◌, not, ◌||◌, ◌⊎◌, List, [], ◌∷◌, ◌++◌, length, Option, None, Some, slice_get, slice_set, arith, ap, refl, inl, inr, sym, ◌∙◌, subst}
 use Rattle.std.proofs.lemmas.List.{append-nil, append_assoc, length-append, length-replicate}
 use Rattle.ens_base.specs.Lists.{◌∈◌, AreDistinct}
 use Rattle.ens_base.specs.View.{IsPeer}
@@ -8,9 +8,9 @@ use Rattle.ens_base.specs.declared.command.Command.{Command}
 use Rattle.abstract_protocol.specs.Book.{MayCall}
 use Rattle.abstract_protocol.specs.Protocol.{State, Step, Begin, Ask, opening, happens, IsRun, state_after}
 use Rattle.entry_laws.proofs.Replies.{run_entries}
-use Rattle.held_stores.specs.Held.{HeldStores}
-use Rattle.network.specs.Mail.{MayBeSent, settled, goes, is_among, oldest, most_messages}
-use Rattle.peer_plan.specs.Drives.{MayCome}
+use Rattle.tree_refinement.specs.HeldStores.{HeldStores}
+use Rattle.network.specs.Mail.{MayBeSent, goes, is_among, oldest, most_messages}
+use Rattle.tree_refinement.specs.PeerPlan.{MayCome}
 use Rattle.peer_state.specs.declared.event.Event.{Event}
 use Rattle.peer_state.specs.declared.event.Event.TheVariants as does
 use Rattle.register_model.specs.declared.call.Call.{Call}
@@ -30,7 +30,7 @@ use Rattle.wire_frames.specs.declared.frame.Frame.{Frame}
 use Rattle.world_spec.proofs.Growth.{IsFurther, further_same, further_later, ticked_grows, calmed_grows, counted_grows, run_grows, applied_same}
 use Rattle.world_spec.specs.Lines.{call_of, set_of, everyone, with_loss, effect, applied, run_from, run_of_schedule}
 use Rattle.world_spec.specs.Nodes.{Node, Taken, taken, started, hashed_by_start, stopped, over_stores, while_down, opening_node}
-use Rattle.world_spec.specs.Runs.{Run, opening_mode, opening_run, mode_at, upgraded, place_of, with_taken, stepped, stepped_at, changed, changed_at, start_strings, hashing, with_start, ticked, received_if, delivered, delivered_if, going_on, calmed}
+use Rattle.world_spec.specs.Runs.{Run, opening_mode, opening_run, mode_at, upgraded, may_deepen, deepened, with_deepening, place_of, with_taken, stepped, stepped_at, changed, changed_at, start_strings, hashing, with_start, ticked, received, without_waiting, received_if, delivered, delivered_if, going_on, calmed}
 use Rattle.world_spec.specs.Stores.{failing, leaves_of, spoiled, segment_spoiled, inner_spoiled, taken_back}
 use Rattle.call_refinement.specs.Lines.{lines_of, MayBeReverted, AreLegal, call_at, calls_from, BookAgrees, Within, Opens, StepAgrees, IsQuiet}
 use Rattle.call_refinement.proofs.ChangedStores.{SparesRecords, failing_spares, spoiled_spares, segment_spares, inner_spares}
@@ -51,6 +51,8 @@ pub record IsInRun (s : State) : Type 0 where
 -- the worlds differ only in which messages wait, and in what they have counted
 pub record AreAlike (w v : Run) : Type 0 where
   pub view : v.view ≡ w.view
+  pub tree : v.tree ≡ w.tree
+  pub first_alive : v.first_alive ≡ w.first_alive
   pub nodes : v.nodes ≡ w.nodes
   pub sent : v.mail.sent ≡ w.mail.sent
   pub printed : v.printed ≡ w.printed
@@ -124,19 +126,20 @@ pub are_of_lines : (form : Form) (view : List ℕ) (events : List ScheduleEvent)
 are_of_lines form view events = some_of_lines form view events events (λ event at. at)
 
 -- A relation of worlds and states is carried through the lines of a schedule: through the begin of an
--- event, each step of a peer, each stop and start, each change of stores that spares the top records, each
--- string that a line hashes, and each revert of a tree.
+-- event, each step of a peer, each stop and start, each deepening of all trees, each change of stores that
+-- spares the top records, each string that a line hashes, and each revert of a tree.
 pub record IsCarried (peers : ℕ) (lines : Lines) (whole : Run) (P : Run → State → Type 0) : Type 0 where
   pub run : (w : Run) (s : State) → P w s → IsInRun s
   pub alike : (w v : Run) (s : State) → AreAlike w v → P w s → P v s
   pub begins : (w : Run) (s : State) → P w s → P w (happens s Begin)
   pub ticks : (p : ℕ) (node : Node) (w : Run) (s : State) → IsAmong peers p → TakesStep whole p does.Tick node w s → P w s → GoesAlong P p (taken p does.Tick node) w s
-  pub receives : (n : ℕ) (f : Frame) (node : Node) (w : Run) (s : State) → slice_get w.mail.sent n ≡ Some f → TakesStep whole f.to (does.Deliver f.from f.message) node w s → P w s → GoesAlong P f.to (taken f.to (does.Deliver f.from f.message) node) w s
+  pub receives : (n : ℕ) (f : Frame) (node : Node) (w : Run) (s : State) → slice_get w.mail.sent n ≡ Some f → nat_lt n w.first_alive ≡ false → TakesStep whole f.to (does.Deliver f.from f.message) node w s → P w s → GoesAlong P f.to (taken f.to (does.Deliver f.from f.message) node) w s
   pub takes_call : (p id : ℕ) (key : List ℕ) (command : Command) (node : Node) (w : Run) (s : State) → MayStand peers (line.Call p id key command) → MayCall s.book (next_call s id key command)
       → TakesStep whole p (does.Call (call_of id key command)) node w (happens s (Ask (next_call s id key command))) → P w s → GoesAlong P p (taken p (does.Call (call_of id key command)) node) w (happens s (Ask (next_call s id key command)))
   pub takes_change : (p : ℕ) (asked : List ℕ) (node : Node) (w : Run) (s : State) → asked ∈ lines.voting → TakesStep whole p (does.Change asked) node w s → P w s → GoesAlong P p (taken p (does.Change asked) node) w s
   pub stops : (p : ℕ) (node : Node) (w : Run) (s : State) → IsAmong peers p → slice_get w.nodes (place_of p) ≡ Some node → P w s → Changes P p (stopped node) w s
-  pub starts : (p : ℕ) (node : Node) (w : Run) (s : State) → IsAmong peers p → slice_get w.nodes (place_of p) ≡ Some node → P w s → Starts P p node w s
+  pub starts : (p : ℕ) (node : Node) (w : Run) (s : State) → IsAmong peers p → slice_get w.nodes (place_of p) ≡ Some node → IsFurther (after_start p node w) whole → P w s → Starts P p node w s
+  pub deepens : (w : Run) (s : State) → may_deepen w ≡ true → P w s → P (deepened w) s
   pub hashes : (strings : List (List ℕ)) (w : Run) (s : State) → P w s → P (hashing strings w) s
   pub alters : (p : ℕ) (f : HeldStores → HeldStores) (node : Node) (w : Run) (s : State) → SparesRecords f → IsAmong peers p → slice_get w.nodes (place_of p) ≡ Some node → P w s → Changes P p (over_stores f node) w s
   pub reverts : (p changes : ℕ) (node : Node) (w : Run) (s : State) → MayBeReverted lines p → IsAmong peers p → slice_get w.nodes (place_of p) ≡ Some node → P w s → Changes P p (while_down (taken_back changes) node) w s
@@ -236,11 +239,16 @@ module _ (peers : ℕ) (lines : Lines) (whole : Run) (P : Run → State → Type
       where
         by_frame : (o : Option Frame) → slice_get w.mail.sent n ≡ o → IsFurther (received_if o n w) whole → Reached P events (received_if o n w)
         by_frame None at far = a
-        by_frame (Some f) at far =
-            let v : Run = record w { mail = settled w.mail n } in
-            let may : MayBeSent f = frame_at MayBeSent w.mail.sent n f at a.intact.fine.mail in
-            stepped_reached f.to (does.Deliver f.from f.message) v may.1 (frame_comes f may) (λ node s. carried.receives n f node v s at) far
-            (alike_reached w v (record { view = refl; nodes = refl; sent = refl; printed = refl; notes = refl; hashed = refl }) refl a)
+        by_frame (Some f) at far = by_life (nat_lt n w.first_alive) refl far
+          where
+            waits_no_more : Reached P events (without_waiting n w)
+            waits_no_more = alike_reached w (without_waiting n w) (record { view = refl; tree = refl; first_alive = refl; nodes = refl; sent = refl; printed = refl; notes = refl; hashed = refl }) refl a
+
+            by_life : (lost : Bool) → nat_lt n w.first_alive ≡ lost → IsFurther (if lost then without_waiting n w else received f n w) whole → Reached P events (if lost then without_waiting n w else received f n w)
+            by_life true is far = waits_no_more
+            by_life false is far =
+                let may : MayBeSent f = frame_at MayBeSent w.mail.sent n f at a.intact.fine.mail in
+                stepped_reached f.to (does.Deliver f.from f.message) (without_waiting n w) may.1 (frame_comes f may) (λ node s. carried.receives n f node (without_waiting n w) s at is) far waits_no_more
 
     delivered_if_reached : (o : Option ℕ) (w : Run) → IsFurther (delivered_if o w) whole → Reached P events w → Reached P events (delivered_if o w)
     delivered_if_reached None w far a = a
@@ -270,8 +278,8 @@ module _ (peers : ℕ) (lines : Lines) (whole : Run) (P : Run → State → Type
         by_node (Some node) at = by_change node at (along node w a.state at a.holds)
 
     -- a peer starts, if there is such a peer
-    start_reached : (p : ℕ) → IsAmong peers p → (w : Run) → Reached P events w → Reached P events (with_start p w)
-    start_reached p among w a = by_node (slice_get w.nodes (place_of p)) refl
+    start_reached : (p : ℕ) → IsAmong peers p → (w : Run) → IsFurther (with_start p w) whole → Reached P events w → Reached P events (with_start p w)
+    start_reached p among w far a = by_node (slice_get w.nodes (place_of p)) refl far
       where
         by_start : (node : Node) → slice_get w.nodes (place_of p) ≡ Some node → Starts P p node w a.state → Reached P events (after_start p node w)
         by_start node at g = record {
@@ -281,9 +289,17 @@ module _ (peers : ℕ) (lines : Lines) (whole : Run) (P : Run → State → Type
           intact = started_intact p node w (is_peer peers p small among) at a.intact;
         }
 
-        by_node : (o : Option Node) → slice_get w.nodes (place_of p) ≡ o → Reached P events (hashing (start_strings (mode_at p w) w.view o) (changed_at o p (started (mode_at p w) w.view) w))
-        by_node None at = alike_reached w (hashing [] w) (record { view = refl; nodes = refl; sent = refl; printed = refl; notes = refl; hashed = append-nil w.hashed }) refl a
-        by_node (Some node) at = by_start node at (carried.starts p node w a.state among at a.holds)
+        by_node : (o : Option Node) → slice_get w.nodes (place_of p) ≡ o → IsFurther (hashing (start_strings (mode_at p w) w.view o) (changed_at o p (started (mode_at p w) w.view) w)) whole → Reached P events (hashing (start_strings (mode_at p w) w.view o) (changed_at o p (started (mode_at p w) w.view) w))
+        by_node None at far = alike_reached w (hashing [] w) (record { view = refl; tree = refl; first_alive = refl; nodes = refl; sent = refl; printed = refl; notes = refl; hashed = append-nil w.hashed }) refl a
+        by_node (Some node) at far = by_start node at (carried.starts p node w a.state among at far a.holds)
+
+    -- all trees get version two, if they may
+    deepened_reached : (w : Run) → Reached P events w → Reached P events (with_deepening w)
+    deepened_reached w a = by (may_deepen w) refl
+      where
+        by : (b : Bool) → may_deepen w ≡ b → Reached P events (if b then deepened w else w)
+        by true is = record { state = a.state; holds = carried.deepens w a.state is a.holds; within = alike_agrees 1 events w (deepened w) a.state.book refl refl refl a.within; intact = alike_intact w (deepened w) refl refl a.intact }
+        by false is = a
 
   module _ (done : List ScheduleEvent) (event : ScheduleEvent) (few : length (done ++ event ∷ []) < 2 ^ 32) (w : Run) (a : IsAfter peers P done w) where
     -- a line without a call begins
@@ -299,7 +315,7 @@ module _ (peers : ℕ) (lines : Lines) (whole : Run) (P : Run → State → Type
     line_over : Reached P (done ++ event ∷ []) (effect event w) → IsAfter peers P (done ++ event ∷ []) (applied event w)
     line_over r = record {
       state = r.state;
-      holds = carried.alike (effect event w) (applied event w) r.state (record { view = refl; nodes = refl; sent = refl; printed = refl; notes = refl; hashed = refl }) r.holds;
+      holds = carried.alike (effect event w) (applied event w) r.state (record { view = refl; tree = refl; first_alive = refl; nodes = refl; sent = refl; printed = refl; notes = refl; hashed = refl }) r.holds;
       agrees = line_ends (done ++ event ∷ []) few event (effect event w) r.state.book r.within;
       size = applied_same event w ∙ a.size;
       intact = alike_intact (effect event w) (applied event w) refl refl r.intact;
@@ -357,16 +373,16 @@ module _ (peers : ℕ) (lines : Lines) (whole : Run) (P : Run → State → Type
   effect_reached done (line.Deliver message) few w a says may fresh far = delivered_reached (done ++ line.Deliver message ∷ []) few (message - 1) w far (begun done (line.Deliver message) few w a (λ n. refl))
   effect_reached done (line.Pass sender receiver) few w a says may fresh far = delivered_if_reached (done ++ line.Pass sender receiver ∷ []) few (oldest (goes sender receiver) w.mail) w far (begun done (line.Pass sender receiver) few w a (λ n. refl))
   effect_reached done (line.Lose sender receiver) few w a says may fresh far =
-      alike_reached (done ++ line.Lose sender receiver ∷ []) few w (with_loss sender receiver w) (record { view = refl; nodes = refl; sent = refl; printed = refl; notes = refl; hashed = refl }) refl (begun done (line.Lose sender receiver) few w a (λ n. refl))
+      alike_reached (done ++ line.Lose sender receiver ∷ []) few w (with_loss sender receiver w) (record { view = refl; tree = refl; first_alive = refl; nodes = refl; sent = refl; printed = refl; notes = refl; hashed = refl }) refl (begun done (line.Lose sender receiver) few w a (λ n. refl))
   effect_reached done line.Calm few w a says may fresh far = calmed_reached (done ++ line.Calm ∷ []) few everyone most_messages w far (begun done line.Calm few w a (λ n. refl))
   effect_reached done (line.CalmAmong members) few w a says may fresh far = calmed_reached (done ++ line.CalmAmong members ∷ []) few (set_of members) most_messages w far (begun done (line.CalmAmong members) few w a (λ n. refl))
   effect_reached done (line.Change p view) few w a says may fresh far =
       stepped_reached (done ++ line.Change p view ∷ []) few p (does.Change view) w (is_peer peers p small may.0) tt (λ node s. carried.takes_change p view node w s says) far (begun done (line.Change p view) few w a (λ n. refl))
   effect_reached done (line.Stop p) few w a says may fresh far = changed_reached (done ++ line.Stop p ∷ []) few p stopped may (stopped_harmless p) (λ node v s. carried.stops p node v s may) w (begun done (line.Stop p) few w a (λ n. refl))
-  effect_reached done (line.Start p) few w a says may fresh far = start_reached (done ++ line.Start p ∷ []) few p may w (begun done (line.Start p) few w a (λ n. refl))
+  effect_reached done (line.Start p) few w a says may fresh far = start_reached (done ++ line.Start p ∷ []) few p may w far (begun done (line.Start p) few w a (λ n. refl))
   effect_reached done (line.Upgrade p) few w a says may fresh far =
-      alike_reached (done ++ line.Upgrade p ∷ []) few w (upgraded p w) (record { view = refl; nodes = refl; sent = refl; printed = refl; notes = refl; hashed = refl }) refl (begun done (line.Upgrade p) few w a (λ n. refl))
-  effect_reached done line.Deepen few w a says may fresh far = begun done line.Deepen few w a (λ n. refl)
+      alike_reached (done ++ line.Upgrade p ∷ []) few w (upgraded p w) (record { view = refl; tree = refl; first_alive = refl; nodes = refl; sent = refl; printed = refl; notes = refl; hashed = refl }) refl (begun done (line.Upgrade p) few w a (λ n. refl))
+  effect_reached done line.Deepen few w a says may fresh far = deepened_reached (done ++ line.Deepen ∷ []) few w (begun done line.Deepen few w a (λ n. refl))
   effect_reached done (line.Spoil p key bytes) few w a says may fresh far = altered_reached (done ++ line.Spoil p key bytes ∷ []) few p (spoiled key bytes) (spoiled_spares key bytes) may.0 w (begun done (line.Spoil p key bytes) few w a (λ n. refl))
   effect_reached done (line.Damage p key bytes) few w a says may fresh far =
       hashed_reached (done ++ line.Damage p key bytes ∷ []) (key ∷ []) (changed p (over_stores (segment_spoiled key bytes)) w)

@@ -9,31 +9,27 @@ use Rattle.ens_base.specs.View.{IsPeer}
 use Rattle.abstract_protocol.specs.Ledger.{put}
 use Rattle.abstract_protocol.specs.Book.{MayCall}
 use Rattle.abstract_protocol.specs.Protocol.{State, Step, Ask, Lose, Revert, IsRun, happens, state_after}
-use Rattle.election_refinement.specs.Listed.{IsListedMessage}
-use Rattle.election_refinement.specs.Refinement.{SendHolds, FrameHolds, IsOrderly}
+use Rattle.step_refinement.specs.ElectionRefinement.{IsListedMessage, SendHolds, FrameHolds, IsOrderly}
 use Rattle.entry_laws.proofs.Later.{stay_step}
 use Rattle.entry_laws.specs.Stays.{EntriesStay}
-use Rattle.held_stores.specs.Held.{Held, HeldStores}
-use Rattle.held_stores.specs.Laws.{held_with}
-use Rattle.held_stores.specs.Runs.{Ended, run}
+use Rattle.tree_refinement.specs.HeldStores.{Held, HeldStores, held_with, Ended, run}
 use Rattle.leader_laws.proofs.Roles.{run_roles}
 use Rattle.leader_laws.specs.Roles.{RoleHolds, RolesHold}
 use Rattle.leader_laws.specs.Tables.{Ghosts}
 use Rattle.leader_words.specs.declared.out.Outgoing.{Outgoing}
 use Rattle.network.specs.Mail.{MayBeSent}
-use Rattle.peer_plan.specs.Drives.{step_of}
+use Rattle.tree_refinement.specs.PeerPlan.{step_of}
 use Rattle.peer_state.specs.declared.event.CallIn.{CallIn}
 use Rattle.peer_state.specs.declared.event.Event.{Event}
 use Rattle.peer_state.specs.declared.event.Event.TheVariants as events
 use Rattle.peer_state.specs.declared.state.State.{State as PeerState}
 use Rattle.register_model.specs.declared.answer.Answer.{Answer}
 use Rattle.register_model.specs.declared.note.Note.{Note}
-use Rattle.request_refinement.specs.Naming.{hash_of}
+use Rattle.step_refinement.specs.SyncRefinement.{hash_of, FirmAreKept, ranks}
 use Rattle.step_plans.specs.Plans.{Ending, Finished, Stopped, Plan, nothing}
 use Rattle.sync_laws.specs.Facts.{Lines, AreFirm}
-use Rattle.sync_refinement.specs.Laws.{FirmAreKept}
-use Rattle.sync_refinement.specs.Seen.{ranks}
 use Rattle.tree_refinement.specs.Trees.{AreAmong, AreFree}
+use Rattle.tree_node.specs.declared.version.TreeVersion.{TreeVersion}
 use Rattle.version_laws.proofs.Maps.{put_other, put_then}
 use Rattle.wire_frames.specs.declared.frame.Frame.{Frame}
 use Rattle.world_spec.specs.Nodes.{Node, Up, Down, Taken, taken, taken_by, taken_of, run_over}
@@ -49,8 +45,8 @@ use Rattle.step_refinement.proofs.ObjectGrammar.{epochs_here, epochs_there}
 use Rattle.call_refinement.proofs.BookSteps.{with_answers, answers_in_front, answers_many, down_agrees}
 use Rattle.step_refinement.proofs.LostTrust.{elsewhere_lost}
 use Rattle.step_refinement.proofs.Stretches.{elsewhere_none, roles_same}
-use Rattle.election_refinement.proofs.Worlds.{get_put, posted_all_hold}
-use Rattle.call_refinement.proofs.ChangedNodes.{number, apart, role_there, role_put, said_posted}
+use Rattle.step_refinement.proofs.ElectionRefinement.{get_put, posted_all_hold}
+use Rattle.call_refinement.proofs.ChangedNodes.{number, apart, role_there, role_put, said_posted, from_posted}
 use Rattle.step_refinement.proofs.LaterStates.{acks_stay}
 use Rattle.call_refinement.proofs.LaterWorlds.{StaysFor, elsewhere_stays, node_fits, messages_same, messages_elsewhere}
 use Rattle.call_refinement.specs.Lines.{AreSame, MayBeReverted, given_at, StepAgrees, IsQuiet}
@@ -75,9 +71,9 @@ pub record LeavesRest (lines : Lines) (strings : List (List ℕ)) (p : ℕ) (s t
   pub epochs : EpochsFit t
   pub firm : FirmAreKept lines t
 
-module _ (lines : Lines) (view : List ℕ) (strings : List (List ℕ)) (p : ℕ) (peer : IsPeer p) where
+module _ (version : TreeVersion) (first : ℕ) (lines : Lines) (view : List ℕ) (strings : List (List ℕ)) (p : ℕ) (peer : IsPeer p) where
   -- no tree is reverted in these steps
-  leaves_elsewhere : (before after : List Step) (nodes : List Node) (sent : List Frame) (hashed : List (List ℕ)) (notes : List Note) → PartsHold lines view strings before nodes sent hashed notes → Elsewhere p (state_after view before) (state_after view after)
+  leaves_elsewhere : (before after : List Step) (nodes : List Node) (sent : List Frame) (hashed : List (List ℕ)) (notes : List Note) → PartsHold version first lines view strings before nodes sent hashed notes → Elsewhere p (state_after view before) (state_after view after)
       → IsOrderly (state_after view after).objects.ledger → AcksSay (state_after view after) strings → EpochsFit (state_after view after) → LeavesRest lines strings p (state_after view before) (state_after view after)
   leaves_elsewhere before after nodes sent hashed notes parts elsewhere orderly acks epochs = record {
     others = λ q other. elsewhere_stays p q (state_after view before) (state_after view after) other elsewhere;
@@ -89,13 +85,13 @@ module _ (lines : Lines) (view : List ℕ) (strings : List (List ℕ)) (p : ℕ)
   }
 
   -- no step was taken
-  leaves_all : (steps : List Step) (nodes : List Node) (sent : List Frame) (hashed : List (List ℕ)) (notes : List Note) → PartsHold lines view strings steps nodes sent hashed notes → LeavesRest lines strings p (state_after view steps) (state_after view steps)
+  leaves_all : (steps : List Step) (nodes : List Node) (sent : List Frame) (hashed : List (List ℕ)) (notes : List Note) → PartsHold version first lines view strings steps nodes sent hashed notes → LeavesRest lines strings p (state_after view steps) (state_after view steps)
   leaves_all steps nodes sent hashed notes parts = leaves_elsewhere steps steps nodes sent hashed notes parts (elsewhere_none p (state_after view steps)) parts.orderly parts.acks parts.epochs
 
   -- the parts of a world after steps of peer p, with a new node of it and new messages
-  pub parts_replaced : (before after : List Step) (nodes : List Node) (sent more : List Frame) (hashed longer : List (List ℕ)) (notes noted : List Note) (node : Node) → PartsHold lines view strings before nodes sent hashed notes
-      → IsRun view after → LeavesRest lines strings p (state_after view before) (state_after view after) → AreAmong hashed longer → NodeFits lines strings longer (state_after view after) p node → MessagesFit lines strings (state_after view after) more
-      → (state_after view after).book.notes ≡ noted → PartsHold lines view strings after (slice_set nodes (place_of p) node) more longer noted
+  pub parts_replaced : (before after : List Step) (nodes : List Node) (sent more : List Frame) (hashed longer : List (List ℕ)) (notes noted : List Note) (node : Node) → PartsHold version first lines view strings before nodes sent hashed notes
+      → IsRun view after → LeavesRest lines strings p (state_after view before) (state_after view after) → AreAmong hashed longer → NodeFits version lines strings longer (state_after view after) p node → MessagesFit version first lines strings (state_after view after) more
+      → (state_after view after).book.notes ≡ noted → PartsHold version first lines view strings after (slice_set nodes (place_of p) node) more longer noted
   parts_replaced before after nodes sent more hashed longer notes noted node a run leaves among fits messages notes_are = record {
     run = run;
     orderly = leaves.orderly;
@@ -108,14 +104,14 @@ module _ (lines : Lines) (view : List ℕ) (strings : List (List ℕ)) (p : ℕ)
     noted = notes_are;
   }
     where
-      by_place : (place : ℕ) (new : Node) → ((place_of p ≡ place) × (new ≡ node)) ⊎ ((place_of p ≡ place → ⊥) × (slice_get nodes place ≡ Some new)) → NodeFits lines strings longer (state_after view after) (suc place) new
-      by_place place new (inl here) = subst (λ (n : Node). NodeFits lines strings longer (state_after view after) (suc place) n) (sym here.1)
-          (subst (λ (q : ℕ). NodeFits lines strings longer (state_after view after) q node) (sym (number p peer) ∙ ap suc here.0) fits)
-      by_place place new (inr other) = node_fits lines strings hashed longer (suc place) (state_after view before) (state_after view after) (leaves.others (suc place) (apart p place other.0)) among new (a.nodes_fit place new other.1)
+      by_place : (place : ℕ) (new : Node) → ((place_of p ≡ place) × (new ≡ node)) ⊎ ((place_of p ≡ place → ⊥) × (slice_get nodes place ≡ Some new)) → NodeFits version lines strings longer (state_after view after) (suc place) new
+      by_place place new (inl here) = subst (λ (n : Node). NodeFits version lines strings longer (state_after view after) (suc place) n) (sym here.1)
+          (subst (λ (q : ℕ). NodeFits version lines strings longer (state_after view after) q node) (sym (number p peer) ∙ ap suc here.0) fits)
+      by_place place new (inr other) = node_fits version lines strings hashed longer (suc place) (state_after view before) (state_after view after) (leaves.others (suc place) (apart p place other.0)) among new (a.nodes_fit place new other.1)
 
   -- what the node of the peer holds
-  pub own_fits : (steps : List Step) (nodes : List Node) (sent : List Frame) (hashed : List (List ℕ)) (notes : List Note) (node : Node) → PartsHold lines view strings steps nodes sent hashed notes → slice_get nodes (place_of p) ≡ Some node → NodeFits lines strings hashed (state_after view steps) p node
-  own_fits steps nodes sent hashed notes node a at = subst (λ (q : ℕ). NodeFits lines strings hashed (state_after view steps) q node) (number p peer) (a.nodes_fit (place_of p) node at)
+  pub own_fits : (steps : List Step) (nodes : List Node) (sent : List Frame) (hashed : List (List ℕ)) (notes : List Note) (node : Node) → PartsHold version first lines view strings steps nodes sent hashed notes → slice_get nodes (place_of p) ≡ Some node → NodeFits version lines strings hashed (state_after view steps) p node
+  own_fits steps nodes sent hashed notes node a at = subst (λ (q : ℕ). NodeFits version lines strings hashed (state_after view steps) q node) (number p peer) (a.nodes_fit (place_of p) node at)
 
   -- the messages that the peer sends
   sends_fit : (s : State) (sends : List Outgoing) → All (SendHolds s.objects.ledger p) sends → All (FrameHolds s.objects.ledger) (map (frame_from p) sends)
@@ -143,17 +139,17 @@ module _ (lines : Lines) (view : List ℕ) (strings : List (List ℕ)) (p : ℕ)
   -- the run goes on from these steps, and the world with these nodes and hashed strings agrees with it
   pub record NodesGo (before : List Step) (nodes : List Node) (sent : List Frame) (hashed : List (List ℕ)) (notes : List Note) : Type 0 where
     pub steps : List Step
-    pub parts : PartsHold lines view strings steps nodes sent hashed notes
+    pub parts : PartsHold version first lines view strings steps nodes sent hashed notes
     pub roles : RolesFit view steps (roles_of nodes) sent
     pub quiet : IsQuiet (state_after view before).book (state_after view steps).book
 
-  module _ (steps : List Step) (nodes : List Node) (sent : List Frame) (hashed : List (List ℕ)) (notes : List Note) (parts : PartsHold lines view strings steps nodes sent hashed notes) (roles : RolesFit view steps (roles_of nodes) sent) where
+  module _ (steps : List Step) (nodes : List Node) (sent : List Frame) (hashed : List (List ℕ)) (notes : List Note) (parts : PartsHold version first lines view strings steps nodes sent hashed notes) (roles : RolesFit view steps (roles_of nodes) sent) where
     -- the state that the run has reached
     abbrev pub reached_state : State
     reached_state = state_after view steps
 
     -- the node of the peer is another one, with the same role
-    pub renewed : (longer : List (List ℕ)) (node new : Node) → slice_get nodes (place_of p) ≡ Some node → role_of new ≡ role_of node → AreAmong hashed longer → NodeFits lines strings longer reached_state p new → NodesGo steps (slice_set nodes (place_of p) new) sent longer notes
+    pub renewed : (longer : List (List ℕ)) (node new : Node) → slice_get nodes (place_of p) ≡ Some node → role_of new ≡ role_of node → AreAmong hashed longer → NodeFits version lines strings longer reached_state p new → NodesGo steps (slice_set nodes (place_of p) new) sent longer notes
     renewed longer node new at same among fits = record {
       steps = steps;
       parts = parts_replaced steps steps nodes sent sent hashed longer notes notes new parts parts.run (leaves_all steps nodes sent hashed notes parts) among fits parts.messages parts.noted;
@@ -167,7 +163,7 @@ module _ (lines : Lines) (view : List ℕ) (strings : List (List ℕ)) (p : ℕ)
       steps = Lose p ∷ steps;
       parts = parts_replaced steps (Lose p ∷ steps) nodes sent sent hashed hashed notes notes (Down stores) parts (parts.run, (tt, tt))
           (leaves_elsewhere steps (Lose p ∷ steps) nodes sent hashed notes parts (elsewhere_lost p reached_state) parts.orderly (acks_stay reached_state t strings refl (stay_step reached_state (Lose p) (tt, tt)) parts.acks) parts.epochs)
-          (λ z i. i) (stopped_fits lines strings hashed reached_state p x stores (own_fits steps nodes sent hashed notes (Up x stores) parts at)) (messages_elsewhere lines strings p reached_state t sent (elsewhere_lost p reached_state) parts.messages) parts.noted;
+          (λ z i. i) (stopped_fits version lines strings hashed reached_state p x stores (own_fits steps nodes sent hashed notes (Up x stores) parts at)) (messages_elsewhere version first lines strings p reached_state t sent (elsewhere_lost p reached_state) parts.messages) parts.noted;
       roles = roles_put (Lose p ∷ steps) nodes sent (Up x stores) (Down stores) at roles.ghosts roles.hash
           ((run_roles view (Lose p ∷ steps) (parts.run, (tt, tt))).peer roles.ghosts (roles_of nodes) (said_in sent) p ((run_roles view steps parts.run).silent roles.ghosts (roles_of nodes) (said_in sent) (Lose p) (tt, tt) tt roles.hold)).stops;
       quiet = record { now = refl; calls = refl; notes = refl; answers = refl };
@@ -182,7 +178,7 @@ module _ (lines : Lines) (view : List ℕ) (strings : List (List ℕ)) (p : ℕ)
       steps = e ∷ steps;
       parts = parts_replaced steps (e ∷ steps) nodes sent sent hashed hashed notes notes (Down stores) parts (parts.run, back.may)
           (record { others = others; orderly = parts.orderly; acks = acks_stay reached_state t strings refl stay parts.acks; asked = parts.asked; epochs = parts.epochs; firm = firm })
-          (λ z i. i) back.down (messages_same lines strings reached_state t sent refl stay parts.messages) parts.noted;
+          (λ z i. i) back.down (messages_same version first lines strings reached_state t sent refl stay parts.messages) parts.noted;
       roles = roles_kept (e ∷ steps) nodes sent (Down old) (Down stores) at refl (record { ghosts = roles.ghosts; hash = roles.hash; hold = (run_roles view steps parts.run).silent roles.ghosts (roles_of nodes) (said_in sent) e back.may tt roles.hold });
       quiet = record { now = refl; calls = refl; notes = refl; answers = refl };
     }
@@ -215,6 +211,7 @@ module _ (lines : Lines) (sound : AreFirm lines) (view : List ℕ) (strings : Li
   abbrev pub scene : (before : List Step) → length (state_after view before).book.calls < 2 ^ 32 → AsksFit (state_after view before) → FirmAreKept lines (state_after view before) → Scene
   scene before few asked firm = record {
     lines = lines;
+    version = w.tree;
     sound = sound;
     view = view;
     begun = before;
@@ -259,13 +256,15 @@ module _ (lines : Lines) (sound : AreFirm lines) (view : List ℕ) (strings : Li
       trust = fits.trust;
       tree = fits.tree;
       seal = fits.seal;
+      mode = fits.mode;
+      held = fits.held;
       sync = fits.sync;
       fits = subst (λ hash. PhaseFits hash s x.phase) (sym holds.roles.hash) fits.fits;
       task = rest_task s [] x.phase fits.rests;
       noted = sym (append-nil s.book.notes);
       sends = All-nil (SendHolds s.objects.ledger p);
       listed_sends = All-nil (λ (o : Outgoing). IsListedMessage lines.voting o.message);
-      fits_sends = All-nil (SendFits lines s strings p);
+      fits_sends = All-nil (SendFits w.tree lines s strings p);
     },
     fits.rests,
   )
@@ -273,22 +272,22 @@ module _ (lines : Lines) (sound : AreFirm lines) (view : List ℕ) (strings : Li
       s : State
       s = state_after view steps
 
-      fits : UpFits lines strings w.hashed s p x stores
-      fits = own_fits lines view strings p peer steps w.nodes w.mail.sent w.hashed w.notes (Up x stores) holds.parts at
+      fits : UpFits w.tree lines strings w.hashed s p x stores
+      fits = own_fits w.tree w.first_alive lines view strings p peer steps w.nodes w.mail.sent w.hashed w.notes (Up x stores) holds.parts at
 
-  module _ (before : List Step) (few : length (state_after view before).book.calls < 2 ^ 32) (parts : PartsHold lines view strings before w.nodes w.mail.sent w.hashed w.notes) (firm : FirmAreKept lines (state_after view before)) (node : Node)
+  module _ (before : List Step) (few : length (state_after view before).book.calls < 2 ^ 32) (parts : PartsHold w.tree w.first_alive lines view strings before w.nodes w.mail.sent w.hashed w.notes) (firm : FirmAreKept lines (state_after view before)) (node : Node)
       (at : slice_get w.nodes (place_of p) ≡ Some node) where
     -- the world after a step that ended well, or that a refusal ended
     ended_goes : (k : Ending PeerState) (held : Held) (ns : List Note) → EndsBy (scene before few parts.asked firm) k (behind w.hashed held) ns → All MayBeSent (with_taken p (taken_by k held ns) w).mail.sent → StepGoes before (taken_by k held ns)
     ended_goes (Stopped error) held ns ends may = record {
       steps = ends.reached.steps;
       holds = record {
-        parts = parts_replaced lines view strings p peer before ends.reached.steps w.nodes w.mail.sent w.mail.sent w.hashed (w.hashed ++ held.hashed) w.notes (w.notes ++ ns) (Down held.stores) parts ends.reached.run
-            (leaves_elsewhere lines view strings p peer before ends.reached.steps w.nodes w.mail.sent w.hashed w.notes parts ends.reached.elsewhere ends.reached.orderly ends.reached.acks
+        parts = parts_replaced w.tree w.first_alive lines view strings p peer before ends.reached.steps w.nodes w.mail.sent w.mail.sent w.hashed (w.hashed ++ held.hashed) w.notes (w.notes ++ ns) (Down held.stores) parts ends.reached.run
+            (leaves_elsewhere w.tree w.first_alive lines view strings p peer before ends.reached.steps w.nodes w.mail.sent w.hashed w.notes parts ends.reached.elsewhere ends.reached.orderly ends.reached.acks
             (epochs_there (scene before few parts.asked firm) ends.reached ends.down.fact ends.down.saved ends.down.listed parts.epochs))
-            (λ x i. in_left w.hashed held.hashed x i) ends.down (messages_elsewhere lines strings p (state_after view before) (state_after view ends.reached.steps) w.mail.sent ends.reached.elsewhere parts.messages)
+            (λ x i. in_left w.hashed held.hashed x i) ends.down (messages_elsewhere w.tree w.first_alive lines strings p (state_after view before) (state_after view ends.reached.steps) w.mail.sent ends.reached.elsewhere parts.messages)
             (ends.noted ∙ ap (λ (notes : List Note). notes ++ ns) parts.noted);
-        roles = roles_put lines view strings p peer ends.reached.steps w.nodes w.mail.sent node (Down held.stores) at ends.reached.ghosts ends.reached.hash ends.roles;
+        roles = roles_put w.tree w.first_alive lines view strings p peer ends.reached.steps w.nodes w.mail.sent node (Down held.stores) at ends.reached.ghosts ends.reached.hash ends.roles;
       };
       agrees = record {
         now = ends.reached.elsewhere.now;
@@ -335,31 +334,31 @@ module _ (lines : Lines) (sound : AreFirm lines) (view : List ℕ) (strings : Li
         v : Run
         v = with_taken p (taken_by (Finished y out) held ns) w
 
-        old : MessagesFit lines strings t w.mail.sent
-        old = messages_elsewhere lines strings p s t w.mail.sent r.elsewhere parts.messages
+        old : MessagesFit w.tree w.first_alive lines strings t w.mail.sent
+        old = messages_elsewhere w.tree w.first_alive lines strings p s t w.mail.sent r.elsewhere parts.messages
 
-        messages : MessagesFit lines strings t v.mail.sent
+        messages : MessagesFit w.tree w.first_alive lines strings t v.mail.sent
         messages = record {
-          hold = posted_all_hold (FrameHolds t.objects.ledger) (map (frame_from p) out.sends) w.mail old.hold (sends_fit lines view strings p peer t out.sends is.sends);
+          hold = posted_all_hold (FrameHolds t.objects.ledger) (map (frame_from p) out.sends) w.mail old.hold (sends_fit w.tree w.first_alive lines view strings p peer t out.sends is.sends);
           listed = posted_all_hold (λ (f : Frame). IsListedMessage lines.voting f.message) (map (frame_from p) out.sends) w.mail old.listed (All-map (λ (f : Frame). IsListedMessage lines.voting f.message) (frame_from p) out.sends is.listed_sends);
-          fit = posted_all_hold (FrameFits lines t strings) (map (frame_from p) out.sends) w.mail old.fit (All-map (FrameFits lines t strings) (frame_from p) out.sends is.fits_sends);
+          fit = from_posted w.first_alive (FrameFits w.tree lines t strings) (map (frame_from p) out.sends) w.mail old.fit (All-map (FrameFits w.tree lines t strings) (frame_from p) out.sends is.fits_sends);
           may = may;
         }
 
-        own : UpFits lines strings (w.hashed ++ held.hashed) t p y held.stores
-        own = record { holds = is.peer; listed = is.listed; trust = is.trust; tree = is.tree; seal = is.seal; sync = is.sync; fits = subst (λ hash. PhaseFits hash t y.phase) r.hash is.fits; rests = ends.1 }
+        own : UpFits w.tree lines strings (w.hashed ++ held.hashed) t p y held.stores
+        own = record { holds = is.peer; listed = is.listed; trust = is.trust; tree = is.tree; seal = is.seal; mode = is.mode; held = is.held; sync = is.sync; fits = subst (λ hash. PhaseFits hash t y.phase) r.hash is.fits; rests = ends.1 }
 
-        after_step : PartsHold lines view strings r.steps v.nodes v.mail.sent v.hashed v.notes
-        after_step = parts_replaced lines view strings p peer before r.steps w.nodes w.mail.sent v.mail.sent w.hashed v.hashed w.notes v.notes (Up y held.stores) parts r.run
-            (leaves_elsewhere lines view strings p peer before r.steps w.nodes w.mail.sent w.hashed w.notes parts r.elsewhere r.orderly r.acks (epochs_here c [] y (behind w.hashed held) out ns is parts.epochs)) (λ x i. in_left w.hashed held.hashed x i) own messages
+        after_step : PartsHold w.tree w.first_alive lines view strings r.steps v.nodes v.mail.sent v.hashed v.notes
+        after_step = parts_replaced w.tree w.first_alive lines view strings p peer before r.steps w.nodes w.mail.sent v.mail.sent w.hashed v.hashed w.notes v.notes (Up y held.stores) parts r.run
+            (leaves_elsewhere w.tree w.first_alive lines view strings p peer before r.steps w.nodes w.mail.sent w.hashed w.notes parts r.elsewhere r.orderly r.acks (epochs_here c [] y (behind w.hashed held) out ns is parts.epochs)) (λ x i. in_left w.hashed held.hashed x i) own messages
             (is.noted ∙ ap (λ (notes : List Note). notes ++ ns) parts.noted)
 
         roles : RolesHold r.ghosts t (put (roles_of w.nodes) p (role_in [] y.phase (owes out.answers))) (said_in v.mail.sent)
         roles = roles_same r.ghosts t (put (roles_of w.nodes) p (role_in [] y.phase (owes out.answers))) (put (roles_of w.nodes) p (role_in [] y.phase (owes out.answers))) (said_in_sends p out.sends ++ said_in w.mail.sent) (said_in v.mail.sent) (λ q. refl)
             (λ m i. said_posted p out.sends w.mail m i) (subst (λ owed. RolesHold r.ghosts t (put (roles_of w.nodes) p (role_in [] y.phase owed)) (said_in_sends p out.sends ++ said_in w.mail.sent)) (owed_all out.answers) is.roles)
 
-        given : AllGiven lines view strings v.nodes v.mail.sent v.hashed v.notes r.ghosts (roles_of w.nodes) (said_in v.mail.sent) p y.phase t out.answers
-        given = all_given lines view strings v.nodes v.mail.sent v.hashed v.notes r.ghosts (roles_of w.nodes) (said_in v.mail.sent) p y.phase r.steps out.answers after_step roles
+        given : AllGiven w.tree w.first_alive lines view strings v.nodes v.mail.sent v.hashed v.notes r.ghosts (roles_of w.nodes) (said_in v.mail.sent) p y.phase t out.answers
+        given = all_given w.tree w.first_alive lines view strings v.nodes v.mail.sent v.hashed v.notes r.ghosts (roles_of w.nodes) (said_in v.mail.sent) p y.phase r.steps out.answers after_step roles
 
         answered : (state_after view given.steps).book.answers ≡ with_answers s.book.now out.answers s.book.answers
         answered = given.given ∙ ap (λ (old : List Answer). with_answers t.book.now out.answers old) r.elsewhere.answers ∙ ap (λ (event : ℕ). with_answers event out.answers s.book.answers) r.elsewhere.now
@@ -381,11 +380,11 @@ module _ (lines : Lines) (sound : AreFirm lines) (view : List ℕ) (strings : Li
   down_goes steps holds event stores at = record {
     steps = steps;
     holds = record {
-      parts = subst (λ (hashed : List (List ℕ)). PartsHold lines view strings steps (slice_set w.nodes (place_of p) (Down stores)) w.mail.sent hashed (w.notes ++ [])) (sym (append-nil w.hashed))
-          (subst (λ (notes : List Note). PartsHold lines view strings steps (slice_set w.nodes (place_of p) (Down stores)) w.mail.sent w.hashed notes) (sym (append-nil w.notes))
-          (parts_replaced lines view strings p peer steps steps w.nodes w.mail.sent w.mail.sent w.hashed w.hashed w.notes w.notes (Down stores) holds.parts holds.parts.run (leaves_all lines view strings p peer steps w.nodes w.mail.sent w.hashed w.notes holds.parts) (λ x i. i)
-          (own_fits lines view strings p peer steps w.nodes w.mail.sent w.hashed w.notes (Down stores) holds.parts at) holds.parts.messages holds.parts.noted));
-      roles = roles_kept lines view strings p peer steps w.nodes w.mail.sent (Down stores) (Down stores) at refl holds.roles;
+      parts = subst (λ (hashed : List (List ℕ)). PartsHold w.tree w.first_alive lines view strings steps (slice_set w.nodes (place_of p) (Down stores)) w.mail.sent hashed (w.notes ++ [])) (sym (append-nil w.hashed))
+          (subst (λ (notes : List Note). PartsHold w.tree w.first_alive lines view strings steps (slice_set w.nodes (place_of p) (Down stores)) w.mail.sent w.hashed notes) (sym (append-nil w.notes))
+          (parts_replaced w.tree w.first_alive lines view strings p peer steps steps w.nodes w.mail.sent w.mail.sent w.hashed w.hashed w.notes w.notes (Down stores) holds.parts holds.parts.run (leaves_all w.tree w.first_alive lines view strings p peer steps w.nodes w.mail.sent w.hashed w.notes holds.parts) (λ x i. i)
+          (own_fits w.tree w.first_alive lines view strings p peer steps w.nodes w.mail.sent w.hashed w.notes (Down stores) holds.parts at) holds.parts.messages holds.parts.noted));
+      roles = roles_kept w.tree w.first_alive lines view strings p peer steps w.nodes w.mail.sent (Down stores) (Down stores) at refl holds.roles;
     };
     agrees = down_agrees p event stores (state_after view steps).book;
   }

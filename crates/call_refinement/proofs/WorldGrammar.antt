@@ -1,23 +1,21 @@
 -- In a schedule every message obeys the grammar, every peer sends as itself, and no running peer has waited
 -- long.
-use Rattle.std.proofs.Common.{◌≡◌, ℕ, ◌≤◌, ◌⊎◌, Bool, true, false, List, [], ◌∷◌, ◌++◌, Option, None, Some, Result, Ok, Err, slice_get, slice_set, refl, ap, inl, inr, sym, ◌∙◌, subst, lit<, le_trans}
+use Rattle.std.proofs.Common.{◌≡◌, ℕ, ◌≤◌, ◌⊎◌, Bool, true, false, if◌then◌else◌, List, [], ◌∷◌, ◌++◌, Option, None, Some, Result, Ok, Err, slice_get, slice_set, refl, ap, inl, inr, sym, ◌∙◌, subst, lit<, le_trans}
 use Rattle.std.specs.Prelude.{All}
 use Rattle.ens_base.specs.View.{IsPeer}
-use Rattle.held_stores.specs.Answers.{answered}
-use Rattle.held_stores.specs.Held.{Held, HeldStores}
-use Rattle.held_stores.specs.Laws.{held_with}
-use Rattle.held_stores.specs.Runs.{Ended, run, either}
+use Rattle.tree_refinement.specs.HeldStores.{answered, Held, HeldStores, held_with, Ended, run, either}
 use Rattle.network.specs.Mail.{MayBeSent}
-use Rattle.peer_plan.proofs.Aging.{steps_young}
+use Rattle.tree_refinement.proofs.PeerPlan.{steps_young}
 use Rattle.peer_state.specs.Ages.{IsYoung}
-use Rattle.peer_plan.specs.Drives.{step_of, MayCome}
-use Rattle.peer_plan.specs.Kept.{IsStepCall, Reaches}
-use Rattle.peer_plan.specs.Starts.{start_of, opened, seals_opening}
+use Rattle.tree_refinement.specs.PeerPlan.{step_of, MayCome, IsStepCall, Reaches, start_of, opened, seals_opening, continued, reseals_if, migrated, is_whole, continued_in}
 use Rattle.peer_state.specs.declared.event.Event.{Event}
 use Rattle.peer_state.specs.declared.event.Event.TheVariants as does
 use Rattle.peer_state.specs.declared.state.Mode.{Mode}
 use Rattle.peer_state.specs.declared.state.State.{State}
+use Rattle.ens_base.specs.declared.entry.Entry.{Entry}
 use Rattle.peer_fact.specs.declared.saved.SavedFact.{SavedFact}
+use Rattle.tree_node.specs.declared.version.TreeVersion.{TreeVersion}
+use Rattle.tree_node.specs.declared.version.TreeVersion.TheVariants.{One, Two}
 use Rattle.register_model.specs.declared.note.Note.{Note}
 use Rattle.schedule_words.specs.Spelling.{IsAmong}
 use Rattle.step_plans.specs.Calls.{AnswerOf}
@@ -29,9 +27,8 @@ use Rattle.wire_frames.specs.declared.frame.Frame.{Frame}
 use Rattle.world_spec.proofs.Ending.{EndsIn, run_reaches, opening_is}
 use Rattle.world_spec.proofs.Obeying.{IsOwnNode, IsFine, opening_fine, stepped_fine, changed_fine, started_own, stopped_own, over_stores_own, while_down_own}
 use Rattle.world_spec.specs.Nodes.{Node, Up, Down, taken, taken_by, run_over, started, hashed_by_start, stopped, over_stores, while_down, opening_node}
-use Rattle.world_spec.specs.Runs.{Run, opening_mode, opening_run, mode_at, place_of, with_taken, stepped_at, changed_at, hashing}
-use Rattle.election_refinement.proofs.Worlds.{get_put}
-use Rattle.election_refinement.proofs.Openings.{replicated}
+use Rattle.world_spec.specs.Runs.{Run, tree_first, opening_mode, opening_run, mode_at, place_of, with_taken, stepped_at, changed_at, hashing}
+use Rattle.step_refinement.proofs.ElectionRefinement.{get_put, replicated}
 
 -- a running peer has not waited long
 abbrev pub IsReady : Node → Type 0
@@ -95,9 +92,25 @@ sealing_ready : (mode : Mode) (view : List ℕ) (seals : Bool) → Reaches (λ y
 sealing_ready mode view true = λ root told a saved. lit< tt
 sealing_ready mode view false = λ a saved. lit< tt
 
+continued_ready : (tree : TreeVersion) (mode : Mode) (saved : SavedFact) → Reaches (λ y out. IsYoung y.phase) (continued tree mode saved)
+continued_ready tree mode saved = λ a sound. lit< tt
+
+resaved_ready : (seal : Option (List ℕ)) (mode : Mode) (saved : SavedFact) → Reaches (λ y out. IsYoung y.phase) (reseals_if seal mode saved)
+resaved_ready None mode saved = lit< tt
+resaved_ready (Some seal) mode saved = λ root told a saves. lit< tt
+
+scanned_ready : (whole : Bool) (mode : Mode) (saved : SavedFact) (entries : List Entry) → Reaches (λ y out. IsYoung y.phase) (if whole then migrated mode saved entries else continued Two mode saved)
+scanned_ready true mode saved entries = λ a opens b installs. resaved_ready saved.seal mode saved
+scanned_ready false mode saved entries = continued_ready Two mode saved
+
+-- whatever the version of its tree is
+continued_in_ready : (tree : TreeVersion) (mode : Mode) (saved : SavedFact) → Reaches (λ y out. IsYoung y.phase) (continued_in tree mode saved)
+continued_in_ready One mode saved = continued_ready One mode saved
+continued_in_ready Two mode saved = λ a opens scan scans. scanned_ready (is_whole scan) mode saved scan.entries
+
 opened_ready : (mode : Mode) (view : List ℕ) (kept : Option SavedFact) → Reaches (λ y out. IsYoung y.phase) (opened mode view kept)
 opened_ready mode view None = λ a sound. sealing_ready mode view mode.sealing
-opened_ready mode view (Some saved) = λ a sound. lit< tt
+opened_ready mode view (Some saved) = continued_in_ready mode.tree mode saved
 
 started_ready : (mode : Mode) (view : List ℕ) (node : Node) → IsReady node → IsReady (started mode view node)
 started_ready mode view (Up x st) ready = ready
@@ -151,7 +164,7 @@ started_intact p node w peer at i =
     alike_intact v (hashing (hashed_by_start (mode_at p w) w.view node) v) refl refl (changed_intact (started (mode_at p w) w.view) p node w (started_harmless (mode_at p w) w.view p) peer at i)
 
 opening_ready : (form : Form) (view : List ℕ) → IsReady (opening_node (opening_mode form) view)
-opening_ready form view = let o = opening_is (is_sealed form) view in subst IsReady (sym o.is) (lit< tt)
+opening_ready form view = let o = opening_is (is_sealed form) (tree_first form) view in subst IsReady (sym o.is) (lit< tt)
 
 -- the world is intact before the first event
 pub opening_intact : (form : Form) (peers : ℕ) (view : List ℕ) → IsIntact (opening_run form peers view)

@@ -2,7 +2,7 @@ ghost use Rattle.std.specs.Prelude.{◌<◌, ◌≤◌, ◌^◌, ℕ, List, leng
 ghost use Rattle.abstract_protocol.specs.Protocol.{Step, IsRun, state_after};
 ghost use Rattle.ens_base.specs.Lists.{AreDistinct};
 ghost use Rattle.ens_base.specs.View.{IsView};
-ghost use Rattle.held_stores.specs.Held.{HasNoClash};
+ghost use Rattle.tree_refinement.specs.HeldStores.{HasNoClash};
 ghost use Rattle.history_scribe.specs.Histories.{AreHistories};
 ghost use Rattle.register_model.specs.declared.history.History.{History};
 ghost use Rattle.schedule_text.specs.Spelling.{AllMayStand, call_ids};

@@ -20,7 +20,7 @@ use Rattle.peer_fact.specs.declared.fact.Fact.{Fact}
 use Rattle.peer_state.specs.declared.state.Phase.TheVariants as phases
 use Rattle.world_spec.specs.Nodes.{Node, Up, Down}
 use Rattle.world_spec.specs.Runs.{Run}
-use Rattle.held_stores.specs.Held.{HeldStores}
+use Rattle.world_spec.specs.HeldStores.{HeldStores}
 use Rattle.election_refinement.specs.Refinement.{change_at, may_take, IsFactClosed, second_of, IsOrderly, IsKnown, IsSaved, IsLeading, PhaseHolds, NodeHolds}
 use Rattle.election_refinement.specs.Worlds.{Refines, ledger_after, IsRefinement, GoesOn, kept_by, HasFact, Leads, BallotsRise, Agree, FactsAgree, EpochsHaveOneLeader, FactsAreComplete, LedEpochsAreKept, ViewsAreShared}
 

@@ -1,7 +1,7 @@
 -- A whole step of a peer: each row is performed alike, and the tasks of a step run one after
 -- another.
 use Rattle.std.specs.Option.{is_some}
-use Rattle.std.proofs.Common.{◌≡◌, ℕ, zero, suc, Bool, true, false, List, [], ◌∷◌, ◌++◌, Option, Some, None, arith, refl, ap, ◌∙◌, sym, subst}
+use Rattle.std.proofs.Common.{◌≡◌, ◌≤◌, ℕ, zero, suc, Bool, true, false, if◌then◌else◌, List, [], ◌∷◌, ◌++◌, Option, Some, None, arith, refl, ap, ◌∙◌, sym, subst}
 use Rattle.std.specs.Prelude.{All}
 use Rattle.std.proofs.lemmas.List.Elements.{All-nil, All-append, All-weaker}
 use Rattle.std.proofs.lemmas.Option.{none-some, same_Some}
@@ -27,13 +27,15 @@ use Rattle.leading.specs.Rules.{lead_row}
 use Rattle.leading.specs.Starts.{row_27}
 use Rattle.leading.specs.Ticks.{row_5_calls as calls_of_tick}
 use Rattle.leading.specs.declared.leader.Leader.{Leader}
-use Rattle.peer_plan.specs.Drives.{row_done, owned, followed_up, and_row, lead_done, lead, reminded, task_done, driven, most_turns, led_in, ticked, shown, after_put, put_done, delivered, unavailable, called, and_change, first, concluded, step_of}
-use Rattle.peer_plan.specs.Syncs.{saved, sealed_if, and_sends, with_sync, installed, accepted, accepted_in, end_sync, by_outcome, go_on, start_sync, resume_sync, followed_on, reached, own_node, body_of, shown_node, needs_node, take_give}
+use Rattle.peer_plan.specs.Drives.{row_done, got_ask, in_tree, owned, followed_up, and_row, lead_done, lead, reminded, task_done, driven, most_turns, led_in, ticked, shown, after_put, put_done, delivered, unavailable, called, and_change, first, concluded, step_of}
+use Rattle.peer_plan.specs.Syncs.{saved, sealed_if, and_sends, with_sync, installed, accepted, accepted_in, end_sync, by_outcome, go_on, start_sync, resume_sync, followed_on, reached, own_node, body_of, shown_node, needs_node, take_give, tree_give}
 use Rattle.peer_state.specs.Leading.{begins, end_of, older, row_5_calls, ticks, wished}
 use Rattle.peer_state.specs.Moves.{electing, keeps_seal, left, left_answers, and_answers, without_sync, leading, with_leader, turned, ends_leading, turned_answers}
 use Rattle.peer_plan.specs.Owns.{digested, read, kept, fetched, held, looked_at, looked, found_at, found, stored, resealed, entered, written, confirmed}
 use Rattle.peer_state.specs.Rows.{aged, asked_change, changes, leads, phase_row, received}
-use Rattle.peer_plan.specs.Starts.{opened, start_of}
+use Rattle.peer_plan.specs.Starts.{resumed, continued, is_whole, reseals, reseals_if, migrated, scanned, continued_in, opened, start_of}
+use Rattle.peer_plan.specs.TreeCalls.{has_position}
+use Rattle.peer_plan.proofs.Inside.{has_level}
 use Rattle.peer_state.specs.declared.event.CallIn.{CallIn}
 use Rattle.peer_state.specs.declared.event.Event.{Event}
 use Rattle.peer_state.specs.declared.event.Event.TheVariants as events
@@ -61,11 +63,15 @@ use Rattle.step_plans.specs.declared.tasks.Task.{Task}
 use Rattle.step_plans.specs.declared.tasks.Task.TheVariants as tasks
 use Rattle.step_plans.specs.declared.walked.Walked.{Walked}
 use Rattle.step_plans.specs.declared.walked.Walked.TheVariants.{Reached, Broken}
-use Rattle.step_plans.specs.Saved.{bare}
+use Rattle.step_plans.specs.Saved.{with_seal, bare}
 use Rattle.sync_rule.specs.Syncs.{needs_build, outcome_of}
 use Rattle.sync_rule.specs.declared.sync.Outcome.{Outcome}
 use Rattle.sync_rule.specs.declared.sync.Outcome.TheVariants.{Pending, Trusted}
+use Rattle.tree_node.specs.TreeVersions.{levels}
+use Rattle.tree_node.specs.declared.body.Scan.{Scan}
 use Rattle.tree_node.specs.declared.position.Position.{Position}
+use Rattle.tree_node.specs.declared.version.TreeVersion.{TreeVersion}
+use Rattle.tree_node.specs.declared.version.TreeVersion.TheVariants.{One, Two}
 use Rattle.wire_frames.specs.declared.message.Message.{Message}
 use Rattle.wire_frames.specs.declared.message.Message.TheVariants as messages
 use Rattle.phase_rows.specs.declared.phase.PhaseOut.{PhaseOut}
@@ -271,16 +277,16 @@ module _ (c : Course) (before : Ledger) where
         (tells (without_sync x) stored out (row_resume r).1 (without x stored out h) (questions_hold h.ledger p r (row_resume r).1 (resume_go p r holds.asks) (resume_ask p r holds.asks)))
         (record { may = holds.may; asks = resumed_are p r holds.asks }))
 
-    taken_good : (from : ℕ) (give : Give) (own : Option (List ℕ)) (sync : Option Running) (x : State) (stored : Option Fact) (out : Out) (next : Rest State (List Task)) → (h : Here x stored out) → SyncHolds h.ledger p x.fact (may_wait x.phase) sync → Onward next
-        → Good (take_give p from give own sync x out next) stored
-    taken_good from give own None x stored out next h holds go = go [] x stored out h
-    taken_good from give own (Some r) x stored out next h holds go =
-        go_on_good (row_take from give own r) x stored out next (without x stored out h)
-        (record { may = subst (MaySync h.ledger x.fact (may_wait x.phase)) (sym (fact_stays from give own r)) holds.may; asks = taken_are p from give own r holds.asks })
-        (questions_hold h.ledger p r (row_take from give own r).1 (take_go p from give own r holds.asks) (take_ask p from give own r holds.asks)) go
+    taken_good : (tree : TreeVersion) (from : ℕ) (give : Give) (own : Option (List ℕ)) (sync : Option Running) → give.question.position.level ≤ levels tree → (x : State) (stored : Option Fact) (out : Out) (next : Rest State (List Task)) → (h : Here x stored out)
+        → SyncHolds h.ledger p x.fact (may_wait x.phase) sync → Onward next → Good (take_give tree p from give own sync x out next) stored
+    taken_good tree from give own None level x stored out next h holds go = go [] x stored out h
+    taken_good tree from give own (Some r) level x stored out next h holds go =
+        go_on_good (row_take tree from give own r) x stored out next (without x stored out h)
+        (record { may = subst (MaySync h.ledger x.fact (may_wait x.phase)) (sym (fact_stays tree from give own r)) holds.may; asks = taken_are tree p from give own r level holds.asks })
+        (questions_hold h.ledger p r (row_take tree from give own r).1 (take_go tree p from give own r level holds.asks) (take_ask tree p from give own r level holds.asks)) go
 
     -- what follows the message of a row
-    followed_on_good : (then : Then) (x : State) (stored : Option Fact) (out : Out) (next : Rest State (List Task)) → (h : Here (made_way then x) stored out) → ThenHolds h.ledger (made_way then x) then → Onward next → Good (followed_on p then x out next) stored
+    followed_on_good : (turn : Then) (x : State) (stored : Option Fact) (out : Out) (next : Rest State (List Task)) → (h : Here (made_way turn x) stored out) → ThenHolds h.ledger (made_way turn x) turn → Onward next → Good (followed_on p turn x out next) stored
     followed_on_good (thens.SyncOn new) x stored out next h syncs go = begun_good new x stored out next h syncs go
     followed_on_good thens.Resume x stored out next h syncs go = resumed_good x.sync x stored out next h h.fits.peer.sync go
     followed_on_good (thens.Rule n) x stored out next h syncs go = go (named (thens.Rule n)) x stored out h
@@ -383,16 +389,16 @@ module _ (c : Course) (before : Ledger) where
     own_node_good true at x stored out next h go = asked_good (ReadNode at) tt x stored out _ h (λ walked y s q there. go (reached walked) y s q there)
     own_node_good false at x stored out next h go = go None x stored out h
 
-    shown_node_good : (answers : Bool) (q : Question) → Passes (shown_node answers q)
-    shown_node_good true q x stored out next h go = asked_good (ReadNode q.position) tt x stored out _ h (λ walked y s o there. go (Some (body_of q walked)) y s o there)
-    shown_node_good false q x stored out next h go = go None x stored out h
+    shown_node_good : (tree : TreeVersion) (answers : Bool) (q : Question) → Passes (shown_node tree answers q)
+    shown_node_good tree true q x stored out next h go = asked_good (ReadNode q.position) tt x stored out _ h (λ walked y s o there. go (Some (body_of tree q walked)) y s o there)
+    shown_node_good tree false q x stored out next h go = go None x stored out h
 
     -- ## Rows of leaders
 
-    followed_good : (own : Option Own) (then : Then) (keys : List (List ℕ)) → BeginsNothing then → Passes (followed_up p own then keys)
-    followed_good None then keys leads x stored out next h go =
-        go (keyed then keys) (turned p then x) stored (turned_answers then x out) (moved x (turned p then x) stored out (turned_answers then x out) h (turned_fits then x leads h.fits) (answers_send_nothing (ends_leading then) x out))
-    followed_good (Some own) then keys leads x stored out next h go = owned_good own x stored out _ h (λ seen y s q there. go _ y s q there)
+    followed_good : (own : Option Own) (turn : Then) (keys : List (List ℕ)) → BeginsNothing turn → Passes (followed_up p own turn keys)
+    followed_good None turn keys leads x stored out next h go =
+        go (keyed turn keys) (turned p turn x) stored (turned_answers turn x out) (moved x (turned p turn x) stored out (turned_answers turn x out) h (turned_fits turn x leads h.fits) (answers_send_nothing (ends_leading turn) x out))
+    followed_good (Some own) turn keys leads x stored out next h go = owned_good own x stored out _ h (λ seen y s q there. go _ y s q there)
 
     asks_hold : (l : Ledger) (sends : List Outgoing) → All AsksPeer sends → All (SendHolds l p) sends
     asks_hold l sends ask = All-weaker AsksPeer (SendHolds l p) (λ o h. (h.0, of_calls o.message h.1)) sends ask
@@ -494,10 +500,15 @@ module _ (c : Course) (before : Ledger) where
     shown_good true part good x stored out next h go = good x stored out next h go
     shown_good false part good x stored out next h go = go seens.Nothing x stored out h
 
-    put_done_good : (then : Then) (from : ℕ) (ballot : Epoch) (o : Object) (row : PhaseOut) → IsHarmless row → Passes (put_done then p from ballot o row)
+    put_done_good : (turn : Then) (from : ℕ) (ballot : Epoch) (o : Object) (row : PhaseOut) → IsHarmless row → Passes (put_done turn p from ballot o row)
     put_done_good thens.Put from ballot o row harmless x stored out next h go =
         written_good o x stored out _ h (λ seen y s q there. harmless_good (after_put from ballot row seen) (after_put_harmless from ballot row seen harmless) y s q next there go)
     put_done_good other from ballot o row harmless x stored out next h go = harmless_good row harmless x stored out next h go
+
+    -- a message about a node
+    in_tree_good : (b : Bool) (part : Part State (List Task)) (x : State) (stored : Option Fact) (out : Out) (next : Rest State (List Task)) → Here x stored out → Onward next → (b ≡ true → Good (part x out next) stored) → Good (in_tree b part x out next) stored
+    in_tree_good true part x stored out next h go good = good refl
+    in_tree_good false part x stored out next h go good = go [] x stored out h
 
     delivered_good : (from : ℕ) (message : Message) (x : State) (stored : Option Fact) (out : Out) (next : Rest State (List Task)) → (h : Here x stored out) → MessageHolds h.ledger from message → Onward next → Good (delivered p from message x out next) stored
     delivered_good from (messages.Get ballot round key) x stored out next h says go =
@@ -515,11 +526,15 @@ module _ (c : Course) (before : Ledger) where
         lead_good (row_35_reply from ballot key version) (put_heard_stays from ballot key version) x.phase x stored out next h h.fits.peer.phase h.fits.peer.sync go
     delivered_good from (messages.CheckReply ballot round) x stored out next h says go = lead_good (row_33_reply from ballot round) (stands_stays from ballot round) x.phase x stored out next h h.fits.peer.phase h.fits.peer.sync go
     delivered_good from (messages.TreeAsk ballot at after) x stored out next h says go =
-        shown_node_good (is_same ballot x.fact.ballot) (record { position = at; after = after }) x stored out _ h
-        (λ body y s q there. harmless_good (row_23 y.fact y.trusted from ballot at after body) (row_23_harmless y.fact y.trusted from ballot at after body) y s q next there go)
+        let asks : Question = record { position = at; after = after } in
+        in_tree_good (has_position x.mode.tree at) (got_ask p from ballot asks) x stored out next h go
+        (λ has. shown_node_good x.mode.tree (is_same ballot x.fact.ballot) asks x stored out _ h
+        (λ body y s q there. harmless_good (row_23 y.fact y.trusted from ballot at after body) (row_23_harmless y.fact y.trusted from ballot at after body) y s q next there go))
     delivered_good from (messages.TreeGive ballot at after trusted body) x stored out next h says go =
         let give : Give = record { ballot = ballot; question = record { position = at; after = after }; trusted = trusted; body = body } in
-        own_node_good (needs_node from give x.sync) at x stored out _ h (λ own y s q there. taken_good from give own y.sync y s q next there there.fits.peer.sync go)
+        in_tree_good (has_position x.mode.tree at) (tree_give p from give) x stored out next h go
+        (λ has. own_node_good (needs_node x.mode.tree from give x.sync) at x stored out _ h
+        (λ own y s q there. taken_good x.mode.tree from give own y.sync (has_level x.mode.tree at has) y s q next there there.fits.peer.sync go))
     delivered_good from message x stored out next h says go = row_good (received p from message x) x stored out next h (received_goes h.fits from message says) go
 
     -- rule 27
@@ -556,21 +571,54 @@ module _ (c : Course) (before : Ledger) where
         (driving_goes (λ u y o. concluded p y o (λ v z q. Done z q)) (λ u y s o there.
         task_good (tasks.Phase phase_rules.EndEpoch) y s o (driving (λ v z q. Done z q)) there (driving_goes (λ v z q. Done z q) (λ v z t q end. end))))
 
-  -- rule 1, a start from a kept fact: the peer follows, and does not trust its tree
+  -- ## A start from a kept fact: the peer follows, and does not trust its tree
+
+  -- the fact with which the peer continues is the one that its stores keep
+  abbrev StaysAt : SavedFact → Option Fact → Type 0
+  StaysAt saved stored = Rests stored × (Some saved.fact ≡ stored)
+
+  rests_good : (mode : Mode) (saved : SavedFact) (stored : Option Fact) → StaysAt saved stored → Good (resumed mode saved) stored
+  rests_good mode saved stored at =
+      let r = at.0 in
+      record {
+        ledger = r.ledger;
+        keeps = r.keeps;
+        fits = record {
+          reaches = r.reaches;
+          peer = record { saved = subst (IsSaved r.ledger p) (sym (same_Some saved.fact r.kept.fact (at.1 ∙ r.kept.kept))) r.kept.saved; kept = sym at.1; phase = tt; sync = tt };
+        };
+        sends = All-nil (SendHolds r.ledger p);
+      }
+
+  continued_good : (tree : TreeVersion) (mode : Mode) (saved : SavedFact) (stored : Option Fact) → StaysAt saved stored → Good (continued tree mode saved) stored
+  continued_good tree mode saved stored at = (at.0, λ u. rests_good mode saved stored at)
+
+  -- the same fact is saved with another seal
+  reseals_good : (mode : Mode) (saved : SavedFact) (stored : Option Fact) → StaysAt saved stored → Good (reseals mode saved) stored
+  reseals_good mode saved stored at = (at.0, λ root. (at.0, (again, rests_good mode (with_seal root saved.fact) (Some saved.fact) (again, refl))))
+    where
+      again : Rests (Some saved.fact)
+      again = subst Rests (sym at.1) at.0
+
+  reseals_if_good : (seal : Option (List ℕ)) (mode : Mode) (saved : SavedFact) (stored : Option Fact) → StaysAt saved stored → Good (reseals_if seal mode saved) stored
+  reseals_if_good None mode saved stored at = rests_good mode saved stored at
+  reseals_if_good (Some seal) mode saved stored at = reseals_good mode saved stored at
+
+  scanned_good : (mode : Mode) (saved : SavedFact) (scan : Scan) (stored : Option Fact) → StaysAt saved stored → Good (scanned mode saved scan) stored
+  scanned_good mode saved scan stored at = by (is_whole scan)
+    where
+      by : (b : Bool) → Good (if b then migrated mode saved scan.entries else continued Two mode saved) stored
+      by true = (at.0, λ u. (at.0, λ v. reseals_if_good saved.seal mode saved stored at))
+      by false = continued_good Two mode saved stored at
+
+  continued_in_good : (tree : TreeVersion) (mode : Mode) (saved : SavedFact) (stored : Option Fact) → StaysAt saved stored → Good (continued_in tree mode saved) stored
+  continued_in_good One mode saved stored at = continued_good One mode saved stored at
+  continued_in_good Two mode saved stored at = (at.0, λ u. (at.0, λ scan. scanned_good mode saved scan stored at))
+
+  -- rule 1
   pub start_good : (mode : Mode) (view : List ℕ) (stored : Option Fact) → Rests stored → Good (start_of mode view) stored
   start_good mode view stored r = (r, opens)
     where
       opens : (kept : Option SavedFact) → bare kept ≡ stored → Good (opened mode view kept) stored
       opens None is = absurd (none-some r.kept.fact (is ∙ r.kept.kept))
-      opens (Some k) is = (
-        r,
-        λ u. record {
-          ledger = r.ledger;
-          keeps = r.keeps;
-          fits = record {
-            reaches = r.reaches;
-            peer = record { saved = subst (IsSaved r.ledger p) (sym (same_Some k.fact r.kept.fact (is ∙ r.kept.kept))) r.kept.saved; kept = sym is; phase = tt; sync = tt };
-          };
-          sends = All-nil (SendHolds r.ledger p);
-        },
-      )
+      opens (Some k) is = continued_in_good mode.tree mode k stored (r, is)

@@ -16,7 +16,7 @@ use Rattle.world_spec.proofs.Ending.{opening_is}
 use Rattle.world_spec.proofs.Obeying.{IsFine, opening_fine}
 use Rattle.world_spec.specs.Lines.{applied, run_from, run_of_schedule}
 use Rattle.world_spec.specs.Nodes.{Node, opening_node}
-use Rattle.world_spec.specs.Runs.{Run, opening_mode, opening_run}
+use Rattle.world_spec.specs.Runs.{Run, tree_first, opening_mode, opening_run}
 use Rattle.election_refinement.proofs.Numbers.{number_zero}
 use Rattle.election_refinement.proofs.Worlds.{IsSpared, AreSpared, SparesAll, applied_refines}
 use Rattle.election_refinement.specs.Refinement.{IsKnown, IsSaved, NodeHolds, FrameHolds, IsOrderly}
@@ -46,7 +46,7 @@ module _ (view : List ℕ) where
 
   started : (form : Form) (p : ℕ) → NodeHolds (opening_ledger view) p (opening_node (opening_mode form) view)
   started form p =
-      let o = opening_is (is_sealed form) view in
+      let o = opening_is (is_sealed form) (tree_first form) view in
       subst (NodeHolds (opening_ledger view) p) (sym o.is) (record { saved = saved_first p; kept = ap bare o.kept; phase = tt; sync = tt })
 
   pub orderly_first : IsOrderly (opening_ledger view)
@@ -87,7 +87,7 @@ module _ (view : List ℕ) where
         from_runs more (applied event w) may.1 (λ place is_spared. (spare place is_spared).1) (next_runs event w may.0 (λ place is_spared. (spare place is_spared).0) h)
 
     opening_spared : (form : Form) → IsSpared (opening_node (opening_mode form) view)
-    opening_spared form = let o = opening_is (is_sealed form) view in subst IsSpared (sym o.is) (o.none, lit< tt)
+    opening_spared form = let o = opening_is (is_sealed form) (tree_first form) view in subst IsSpared (sym o.is) (o.none, lit< tt)
 
     opening_runs : (form : Form) → IsView view → Runs spared (opening_run form peers view)
     opening_runs form is_view = record {

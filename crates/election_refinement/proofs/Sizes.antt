@@ -1,10 +1,10 @@
 -- A world keeps the number of peers with which it opened, and each of them keeps a fact.
-use Rattle.std.proofs.Common.{◌≡◌, ℕ, zero, suc, ◌<◌, ◌-◌, Bool, List, [], ◌∷◌, length, Option, Some, None, slice_get, refl, ◌∙◌, get_or}
+use Rattle.std.proofs.Common.{◌≡◌, ℕ, zero, suc, ◌<◌, ◌-◌, Bool, true, false, nat_lt, if◌then◌else◌, List, [], ◌∷◌, length, Option, Some, None, slice_get, refl, ◌∙◌, get_or}
 use Rattle.std.proofs.lemmas.List.{length-set, length-replicate}
 use Rattle.std.proofs.lemmas.Option.{slice_get-get_or}
 use Rattle.abstract_protocol.specs.Ledger.{Ledger}
-use Rattle.held_stores.specs.Held.{empty_stores}
-use Rattle.network.specs.Mail.{settled, goes, oldest, is_among, most_messages}
+use Rattle.world_spec.specs.HeldStores.{empty_stores}
+use Rattle.network.specs.Mail.{goes, oldest, is_among, most_messages}
 use Rattle.peer_state.specs.declared.event.Event.{Event}
 use Rattle.peer_state.specs.declared.event.Event.TheVariants as events
 use Rattle.schedule_text.specs.declared.event.ScheduleEvent.{ScheduleEvent}
@@ -14,7 +14,7 @@ use Rattle.wire_frames.specs.declared.frame.Frame.{Frame}
 use Rattle.world_spec.specs.Lines.{call_of, set_of, everyone, effect, applied, run_from, run_of_schedule}
 use Rattle.world_spec.specs.Nodes.{Node, Up, Down, taken, started, stopped, over_stores, while_down, opening_node}
 use Rattle.world_spec.specs.Stores.{failing, leaves_of, spoiled, segment_spoiled, inner_spoiled, taken_back}
-use Rattle.world_spec.specs.Runs.{Run, opening_mode, opening_run, mode_at, place_of, stepped, stepped_at, changed, changed_at, ticked, received_if, delivered, delivered_if, going_on, calmed}
+use Rattle.world_spec.specs.Runs.{Run, opening_mode, opening_run, mode_at, place_of, stepped, stepped_at, changed, changed_at, may_deepen, deepened, with_deepening, ticked, received, without_waiting, received_if, delivered, delivered_if, going_on, calmed}
 use Rattle.election_refinement.proofs.Worlds.{IsSpared}
 use Rattle.election_refinement.specs.Refinement.{NodeHolds}
 use Rattle.election_refinement.specs.Worlds.{Refines, KeepsFact, IsKeeping, IsRunning}
@@ -47,7 +47,11 @@ delivered_size n w = by_frame (slice_get w.mail.sent n)
   where
     by_frame : (o : Option Frame) → size (received_if o n w) ≡ size w
     by_frame None = refl
-    by_frame (Some f) = stepped_size f.to (events.Deliver f.from f.message) (record w { mail = settled w.mail n })
+    by_frame (Some f) = by_life (nat_lt n w.first_alive)
+      where
+        by_life : (lost : Bool) → size (if lost then without_waiting n w else received f n w) ≡ size w
+        by_life true = refl
+        by_life false = stepped_size f.to (events.Deliver f.from f.message) (without_waiting n w)
 
 delivered_if_size : (o : Option ℕ) (w : Run) → size (delivered_if o w) ≡ size w
 delivered_if_size None w = refl
@@ -62,6 +66,13 @@ calmed_size peers (suc n) w = by_oldest (oldest (is_among peers) w.mail) (λ v. 
     by_oldest None rest = refl
     by_oldest (Some m) rest = rest (delivered m w) ∙ delivered_size m w
 
+deepening_size : (w : Run) → size (with_deepening w) ≡ size w
+deepening_size w = by (may_deepen w)
+  where
+    by : (b : Bool) → size (if b then deepened w else w) ≡ size w
+    by true = refl
+    by false = refl
+
 effect_size : (event : ScheduleEvent) (w : Run) → size (effect event w) ≡ size w
 effect_size (Call peer id key command) w = stepped_size peer (events.Call (call_of id key command)) w
 effect_size (Tick peer ticks) w = ticked_size peer ticks w
@@ -74,7 +85,7 @@ effect_size (Change peer view) w = stepped_size peer (events.Change view) w
 effect_size (Stop peer) w = changed_size peer stopped w
 effect_size (Start peer) w = changed_size peer (started (mode_at peer w) w.view) w
 effect_size (Upgrade peer) w = refl
-effect_size Deepen w = refl
+effect_size Deepen w = deepening_size w
 effect_size (Spoil peer key bytes) w = changed_size peer (over_stores (spoiled key bytes)) w
 effect_size (Damage peer key bytes) w = changed_size peer (over_stores (segment_spoiled key bytes)) w
 effect_size (Inner peer level index bytes) w = changed_size peer (over_stores (inner_spoiled level index bytes)) w

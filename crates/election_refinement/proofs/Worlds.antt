@@ -1,5 +1,5 @@
 -- A world and a run of the abstract protocol advance together.
-use Rattle.std.proofs.Common.{◌≡◌, ◌≢◌, ℕ, zero, suc, ◌<◌, ◌≤◌, ◌-◌, Bool, true, false, ◌==◌, eqb-true, ◌⊎◌, inl, inr, List, [], ◌∷◌, ◌++◌, map, length, Option, Some, None, Result, Ok, Err, slice_get, slice_set, get_or, append_assoc, arith, refl, ap, le_trans, ◌∙◌, sym, subst}
+use Rattle.std.proofs.Common.{◌≡◌, ◌≢◌, ℕ, zero, suc, ◌<◌, ◌≤◌, ◌-◌, nat_lt, Bool, true, false, if◌then◌else◌, ◌==◌, eqb-true, ◌⊎◌, inl, inr, List, [], ◌∷◌, ◌++◌, map, length, Option, Some, None, Result, Ok, Err, slice_get, slice_set, get_or, append_assoc, arith, refl, ap, le_trans, ◌∙◌, sym, subst}
 use Rattle.std.specs.Prelude.{All}
 use Rattle.std.proofs.lemmas.Bool.{eqb-false}
 use Rattle.std.proofs.lemmas.List.{get_or-set_same, get_or-set_other, length-set}
@@ -10,11 +10,8 @@ use Rattle.abstract_protocol.specs.Protocol.{Step}
 use Rattle.ens_base.specs.View.{IsPeer}
 use Rattle.ens_outside.specs.declared.memory.failing_call.Leaves.{Leaves}
 use Rattle.ens_outside.specs.declared.memory.failing_call.Leaves.TheVariants as left
-use Rattle.held_stores.specs.Answers.{Answered, answered, with_facts, with_backend, facts_failed, objects_failed}
-use Rattle.held_stores.specs.Held.{Held, HeldStores, unless_failing}
-use Rattle.held_stores.specs.Laws.{held_with}
-use Rattle.held_stores.specs.Runs.{Ended, run, either}
-use Rattle.network.specs.Mail.{Mail, MayBeSent, posted, settled, goes, oldest, is_among, most_messages}
+use Rattle.world_spec.specs.HeldStores.{Answered, answered, with_facts, with_backend, facts_failed, objects_failed, Held, HeldStores, unless_failing, held_with, Ended, run, either}
+use Rattle.network.specs.Mail.{Mail, MayBeSent, posted, goes, oldest, is_among, most_messages}
 use Rattle.peer_plan.proofs.Aging.{steps_young}
 use Rattle.peer_state.specs.Ages.{IsYoung}
 use Rattle.peer_plan.specs.Drives.{step_of, MayCome}
@@ -45,7 +42,7 @@ use Rattle.world_stores.specs.Objects.{Objects}
 use Rattle.world_spec.specs.Lines.{call_of, set_of, everyone, with_loss, with_damage, effect, counted, applied}
 use Rattle.world_spec.specs.Nodes.{Node, Up, Down, Taken, taken, taken_by, taken_of, run_over, started, stopped, over_stores, while_down}
 use Rattle.world_spec.specs.Stores.{failing, leaves_of, spoiled, segment_spoiled, inner_spoiled, taken_back}
-use Rattle.world_spec.specs.Runs.{Run, mode_at, upgraded, place_of, frame_from, posted_all, with_taken, stepped, stepped_at, changed, changed_at, with_start, ticked, received_if, delivered, delivered_if, going_on, calmed}
+use Rattle.world_spec.specs.Runs.{Run, mode_at, upgraded, place_of, frame_from, posted_all, with_taken, stepped, stepped_at, changed, changed_at, with_start, may_deepen, deepened, with_deepening, ticked, received, without_waiting, received_if, delivered, delivered_if, going_on, calmed}
 use Rattle.election_refinement.proofs.Keeps.{keeps_none, node_keeps, frames_keep}
 use Rattle.election_refinement.specs.Keeps.{Keeps}
 use Rattle.election_refinement.proofs.Loops.{EventHolds, Here, Rests, Good, LeavesFact, step_good, start_good}
@@ -127,8 +124,8 @@ module _ (c : Course) (before : Ledger) where
   fact_stays : (call : StoreCall) (h : Held) → LeavesFact call → (answered call h).held.stores.facts.kept ≡ h.stores.facts.kept
   fact_stays Load h leaves = absurd leaves
   fact_stays (Save fact) h leaves = absurd leaves
-  fact_stays FreshTree h leaves = refl
-  fact_stays (OpenTree seal) h leaves = refl
+  fact_stays (FreshTree tree) h leaves = refl
+  fact_stays (OpenTree seal tree) h leaves = refl
   fact_stays Root h leaves = refl
   fact_stays (Find key) h leaves = refl
   fact_stays (Enter entry) h leaves = refl
@@ -172,8 +169,8 @@ module _ (c : Course) (before : Ledger) where
   every_end (Ask Load next) h ns good = every_end (next h.stores.facts.kept) h ns (good.1 h.stores.facts.kept refl)
   every_end (Ask (Save fact) next) h ns good =
       saved_end h.stores.facts.faults.pending fact next h ns good.0 good.1.0 (every_end (next tt) (with_facts (record h.stores.facts { kept = Some fact }) h) ns good.1.1)
-  every_end (Ask FreshTree next) h ns good = asked_end FreshTree next h ns tt good.0 (λ a. every_end (next a) (answered FreshTree h).held ns (subst (Good c before (next a)) (sym (bare_stays FreshTree h tt)) (good.1 a)))
-  every_end (Ask (OpenTree seal) next) h ns good = asked_end (OpenTree seal) next h ns tt good.0 (λ a. every_end (next a) (answered (OpenTree seal) h).held ns (subst (Good c before (next a)) (sym (bare_stays (OpenTree seal) h tt)) (good.1 a)))
+  every_end (Ask (FreshTree tree) next) h ns good = asked_end (FreshTree tree) next h ns tt good.0 (λ a. every_end (next a) (answered (FreshTree tree) h).held ns (subst (Good c before (next a)) (sym (bare_stays (FreshTree tree) h tt)) (good.1 a)))
+  every_end (Ask (OpenTree seal tree) next) h ns good = asked_end (OpenTree seal tree) next h ns tt good.0 (λ a. every_end (next a) (answered (OpenTree seal tree) h).held ns (subst (Good c before (next a)) (sym (bare_stays (OpenTree seal tree) h tt)) (good.1 a)))
   every_end (Ask Root next) h ns good = asked_end Root next h ns tt good.0 (λ a. every_end (next a) (answered Root h).held ns (subst (Good c before (next a)) (sym (bare_stays Root h tt)) (good.1 a)))
   every_end (Ask (Find key) next) h ns good = asked_end (Find key) next h ns tt good.0 (λ a. every_end (next a) (answered (Find key) h).held ns (subst (Good c before (next a)) (sym (bare_stays (Find key) h tt)) (good.1 a)))
   every_end (Ask (Enter entry) next) h ns good = asked_end (Enter entry) next h ns tt good.0 (λ a. every_end (next a) (answered (Enter entry) h).held ns (subst (Good c before (next a)) (sym (bare_stays (Enter entry) h tt)) (good.1 a)))
@@ -370,11 +367,16 @@ module _ (view : List ℕ) (steps : List Step) (spared : ℕ → Type 0) where
 
       by_frame : (o : Option Frame) → slice_get w.mail.sent n ≡ o → Advances (received_if o n w)
       by_frame None at = a
-      by_frame (Some f) at =
-          let waits_no_more : Run = record w { mail = settled w.mail n } in
-          let now = resent w waits_no_more refl refl a in
-          let says = frame_at (ledger_of waits_no_more now.on) w.mail.sent n f at now.on.refinement.refines.sent in
-          stepped_refines f.to says.1.0 (events.Deliver f.from f.message) waits_no_more now says.1.1 (λ q is_spared. came f (frame_may w.mail.sent n f at (a.fine q is_spared).mail))
+      by_frame (Some f) at = by_life (nat_lt n w.first_alive)
+        where
+          now : Advances (without_waiting n w)
+          now = resent w (without_waiting n w) refl refl a
+
+          by_life : (lost : Bool) → Advances (if lost then without_waiting n w else received f n w)
+          by_life true = now
+          by_life false =
+              let says = frame_at (ledger_of (without_waiting n w) now.on) w.mail.sent n f at now.on.refinement.refines.sent in
+              stepped_refines f.to says.1.0 (events.Deliver f.from f.message) (without_waiting n w) now says.1.1 (λ q is_spared. came f (frame_may w.mail.sent n f at (a.fine q is_spared).mail))
 
   delivered_if_refines : (o : Option ℕ) (w : Run) → Advances w → Advances (delivered_if o w)
   delivered_if_refines None w a = a
@@ -418,6 +420,13 @@ module _ (view : List ℕ) (steps : List Step) (spared : ℕ → Type 0) where
     failing_keeps names.Tree leaves st = refl
     failing_keeps names.Backend leaves st = refl
 
+    deepening_refines : (w : Run) → Advances w → Advances (with_deepening w)
+    deepening_refines w a = by (may_deepen w)
+      where
+        by : (b : Bool) → Advances (if b then deepened w else w)
+        by true = resent w (deepened w) refl refl a
+        by false = a
+
     effect_refines : (event : ScheduleEvent) (w : Run) → MayStand peers event → SparesAll spared event → Advances w → Advances (effect event w)
     effect_refines (Call peer id key command) w may spares a = stepped_refines peer (is_peer peer may.0.first may.0.last) (events.Call (call_of id key command)) w a tt (λ q is_spared. tt)
     effect_refines (Tick peer ticks) w may spares a = ticked_refines peer (is_peer peer may.0.first may.0.last) ticks w a
@@ -433,7 +442,7 @@ module _ (view : List ℕ) (steps : List Step) (spared : ℕ → Type 0) where
         resent (changed peer (started (mode_at peer w) w.view) w) (with_start peer w) refl refl
         (changed_refines peer (is_peer peer may.first may.last) (started (mode_at peer w) w.view) w a (started_agrees peer (is_peer peer may.first may.last) w a.on (mode_at peer w) w.view) (λ is_spared. started_spared (mode_at peer w) w.view) (started_own peer (mode_at peer w) w.view))
     effect_refines (Upgrade peer) w may spares a = resent w (upgraded peer w) refl refl a
-    effect_refines Deepen w may spares a = a
+    effect_refines Deepen w may spares a = deepening_refines w a
     effect_refines (Spoil peer key bytes) w may spares a = over_refines peer (is_peer peer may.0.first may.0.last) (spoiled key bytes) (λ st. refl) (λ is_spared st none. record { facts = none.facts; tree = none.tree; backend = none.backend }) w a
     effect_refines (Damage peer key bytes) w may spares a =
         resent (changed peer (over_stores (segment_spoiled key bytes)) w) (with_damage peer key bytes w) refl refl

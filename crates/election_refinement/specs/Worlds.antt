@@ -14,7 +14,7 @@ use Rattle.schedule_text.specs.declared.event.ScheduleEvent.{ScheduleEvent}
 use Rattle.schedule_text.specs.declared.event.ScheduleEvent.TheVariants.{Stop, Fail}
 use Rattle.world_spec.specs.Nodes.{Node, Up, Down}
 use Rattle.world_spec.specs.Runs.{Run}
-use Rattle.held_stores.specs.Held.{HeldStores}
+use Rattle.world_spec.specs.HeldStores.{HeldStores}
 use Rattle.election_refinement.specs.Refinement.{fact_place, IsFactClosed, NodeHolds, FrameHolds, IsOrderly}
 use Rattle.step_plans.specs.Saved.{bare}
 

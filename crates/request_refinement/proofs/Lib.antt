@@ -4,3 +4,5 @@ pub mod Names
 pub mod Looks
 pub mod Staying
 pub mod Replying
+pub mod LeaderRefinement
+pub mod TreeRefinement

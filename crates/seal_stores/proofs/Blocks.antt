@@ -17,21 +17,22 @@ use Rattle.step_plans.specs.declared.error.PeerError.TheVariants.{StoreFault}
 use Rattle.step_plans.specs.declared.walked.Walked.{Walked}
 use Rattle.step_plans.specs.declared.walked.Walked.TheVariants.{Reached, Broken}
 use Rattle.tree_maps.specs.Entries.{put}
+use Rattle.tree_node.specs.declared.version.TreeVersion.TheVariants.{Two}
 use Rattle.tree_refinement.proofs.Keeping.{grows, spares}
 use Rattle.tree_refinement.proofs.Rooted as rooted
 use Rattle.tree_refinement.proofs.Tops as records
 use Rattle.tree_refinement.proofs.Recording.{last_top}
-use Rattle.tree_refinement.proofs.Tops.{named_behind, named_shows}
-use Rattle.tree_refinement.specs.Rooted.{HasUnsealed}
-use Rattle.tree_refinement.specs.Tops.{HasEntered, HasBuilt, IsNamed, IsWritten, tops_of}
+use Rattle.tree_refinement.proofs.Tops.{named_behind, named_sees}
+use Rattle.tree_refinement.specs.Rooted.{EndsEntered, HasUnsealed}
+use Rattle.tree_refinement.specs.Tops.{HasBuilt, IsNamed, IsWritten, tops_of}
 use Rattle.tree_refinement.specs.Trees.{AreAmong}
 use Rattle.version_laws.proofs.Maps.{put_here}
 use Rattle.version_laws.proofs.Stays.{versions_step}
 use Rattle.world_stores.specs.Nodes.{top_of}
 use Rattle.world_stores.specs.declared.fact.HeldFact.{HeldFact}
 use Rattle.seal_stores.specs.Held.{Ranks, SealHolds, IsUnderSeal, RootIsSeal}
-use Rattle.seal_stores.specs.Blocks.{Stops, Left, after_call, put_bytes, save_sealed, after_entered, go_on}
-use Rattle.seal_stores.specs.Laws.{Refines, Adds, PutsRefine, EndsRefine, Starts, StartsRefine}
+use Rattle.seal_stores.specs.Blocks.{Stops, Left, after_call, put_bytes, save_sealed, after_entered, end_block, go_on}
+use Rattle.seal_stores.specs.Laws.{Refines, Adds, PutsRefine, EndsRefine, Starts, StartsRefine, Migrates, MigrationsStay}
 
 -- maps that agree at a key agree there with one entry set
 set_same : (m n : Map) (j : List ℕ) (v : ℕ) (k : List ℕ) → m k ≡ n k → set_entry m j v k ≡ set_entry n j v k
@@ -47,7 +48,7 @@ written_root m h t w = sym w.recorded ∙ ap top_of w.next.tops ∙ last_top (to
 
 module _ (ranks : Ranks) (s : State) (q : ℕ) where
   -- the same seal is kept, and more strings were hashed
-  behind : (o : Objects) (h t : Held) → AreAmong h.hashed t.hashed → kept_seal t.stores.facts.kept ≡ kept_seal h.stores.facts.kept → SealHolds ranks o q h → SealHolds ranks o q t
+  abbrev behind : (o : Objects) (h t : Held) → AreAmong h.hashed t.hashed → kept_seal t.stores.facts.kept ≡ kept_seal h.stores.facts.kept → SealHolds ranks o q h → SealHolds ranks o q t
   behind o h t among same holds = record { seal = holds.seal; kept = same ∙ holds.kept; map = holds.map; named = named_behind h.hashed t.hashed holds.seal holds.map among holds.named; shown = holds.shown; honest = holds.honest }
 
   -- the stores that keep the same fact keep the same seal
@@ -123,7 +124,7 @@ module _ (ranks : Ranks) (s : State) (q : ℕ) where
         by_end (Ok done) = record { steps = step; may = ((may, tt), tt); holds = then_holds; root = ap (λ tree. tree.top) (spares (Put e.key bytes) u).0 ∙ root ∙ sym same; reverted = refl }
         by_end (Err error) = stopped step w ((may, tt), tt) then_holds refl
 
-    by_entered : (r : Result (Walked (Unit {0})) PeerError) (u : Held) → AreAmong h.hashed u.hashed → kept_seal u.stores.facts.kept ≡ kept_seal h.stores.facts.kept → HasEntered e holds.map h r u → Refines ranks s q (after_entered r fact e.key bytes u)
+    by_entered : (r : Result (Walked (Unit {0})) PeerError) (u : Held) → AreAmong h.hashed u.hashed → kept_seal u.stores.facts.kept ≡ kept_seal h.stores.facts.kept → EndsEntered e holds.map h r u → Refines ranks s q (after_entered r fact e.key bytes u)
     by_entered (Ok (Reached done)) u among same written =
         saves fact u new step (put_bytes e.key bytes) (behind s.objects h u among same holds) ((may, tt), tt) (written_root (put e holds.map) h u written)
         (λ w hashed kept. record { seal = new; kept = kept; map = put e holds.map; named = subst (λ (xs : List (List ℕ)). IsNamed xs new (put e holds.map)) (sym hashed) written.next.named; shown = shown; honest = honest })
@@ -137,7 +138,7 @@ module _ (ranks : Ranks) (s : State) (q : ℕ) where
   pub puts_so : PutsRefine ranks s q
   puts_so strings h e fact bytes v holds root may adds free among fits few =
       by_entered h e fact bytes v holds may adds (answered (Enter e) h).result (answered (Enter e) h).held (grows (Enter e) h) (same_seal h (answered (Enter e) h).held (spares (Enter e) h).1)
-      (records.enters strings h holds.map e free among (named_shows h holds.map holds.seal (root ∙ holds.kept) holds.named) fits few)
+      (rooted.enters strings h holds.map e free among (named_sees h holds.map holds.seal (root ∙ holds.kept) holds.named) fits few)
 
   -- ## The end of a sync
 
@@ -188,20 +189,64 @@ module _ (ranks : Ranks) (s : State) (q : ℕ) where
   -- ## A start
 
   pub starts_so : StartsRefine ranks s q
-  starts_so h holds blind = subst (λ (seal : Option (List ℕ)). ((answered (OpenTree seal) h).result ≡ Ok tt) × Starts ranks s q holds.map (answered (OpenTree seal) h)) (sym holds.kept) (
+  starts_so tree h holds blind = subst (λ (seal : Option (List ℕ)). ((answered (OpenTree seal tree) h).result ≡ Ok tt) × Starts ranks s q holds.map (answered (OpenTree seal tree) h)) (sym holds.kept) (
     opened.0,
-    record { holds = behind s.objects h t (grows (OpenTree (Some holds.seal)) h) same holds; root = by_root opened.1.root; sees = opened.1.sees },
+    record { holds = behind s.objects h t (grows (OpenTree (Some holds.seal) tree) h) same holds; root = by_root opened.1.root; sees = opened.1.sees },
   )
     where
       t : Held
-      t = (answered (OpenTree (Some holds.seal)) h).held
+      t = (answered (OpenTree (Some holds.seal) tree) h).held
 
       same : kept_seal t.stores.facts.kept ≡ kept_seal h.stores.facts.kept
-      same = same_seal h t (spares (OpenTree (Some holds.seal)) h).1
+      same = same_seal h t (spares (OpenTree (Some holds.seal) tree) h).1
 
-      opened : ((answered (OpenTree (Some holds.seal)) h).result ≡ Ok tt) × HasUnsealed holds.seal holds.map t × (tops_of t.stores ≡ tops_of h.stores)
-      opened = rooted.opens h holds.map holds.seal holds.named
+      opened : ((answered (OpenTree (Some holds.seal) tree) h).result ≡ Ok tt) × HasUnsealed holds.seal holds.map t × (tops_of t.stores ≡ tops_of h.stores)
+      opened = rooted.opens tree h holds.map holds.seal holds.named
 
       by_root : (t.stores.tree.top ≡ None) ⊎ (t.stores.tree.top ≡ Some holds.seal) → RootIsSeal s.objects q t.stores
       by_root (inl none) = inr (none, blind)
       by_root (inr is) = inl (is ∙ sym (same ∙ holds.kept))
+
+  -- ## A migration
+
+  module _ (h : Held) (fact : Fact) (holds : SealHolds ranks s.objects q h) where
+    abbrev Stays : Left → Type 0
+    Stays left = Migrates ranks s.objects q holds.map left
+
+    -- a store stopped the block while the old seal was kept
+    stopped_before : (t : Held) → AreAmong h.hashed t.hashed → kept_seal t.stores.facts.kept ≡ kept_seal h.stores.facts.kept → Stays (record { held = t; ending = Stops })
+    stopped_before t among same = record { holds = behind s.objects h t among same holds; same = refl; root = λ goes. absurd (cc) }
+
+    -- the save of the fact with the new seal: it names the same map
+    module _ (u : Held) (new : List ℕ) (among : AreAmong h.hashed u.hashed) (same : kept_seal u.stores.facts.kept ≡ kept_seal h.stores.facts.kept) (root : u.stores.tree.top ≡ Some new) (named : IsNamed u.hashed new holds.map) where
+      abbrev resaved : HeldFact
+      resaved = record u.stores.facts { kept = Some (with_seal u.stores.tree.top fact) }
+
+      abbrev under : (t : Held) → t.hashed ≡ u.hashed → kept_seal t.stores.facts.kept ≡ Some new → SealHolds ranks s.objects q t
+      under t hashed kept = record { seal = new; kept = kept; map = holds.map; named = subst (λ (xs : List (List ℕ)). IsNamed xs new holds.map) (sym hashed) named; shown = holds.shown; honest = holds.honest }
+
+      resaved_left : (leaves : Leaves) → Stays (record { held = with_facts (facts_failed u.stores.facts resaved leaves) u; ending = Stops })
+      resaved_left left.Old = stopped_before (with_facts (facts_failed u.stores.facts resaved left.Old) u) among same
+      resaved_left left.New = record { holds = under (with_facts (facts_failed u.stores.facts resaved left.New) u) refl root; same = refl; root = λ goes. absurd (cc) }
+
+      resaved_so : (o : Option Leaves) → let a : Answered (Save (with_seal u.stores.tree.top fact)) = unless_failing o (record { result = Ok tt; held = with_facts resaved u }) (λ leaves. record { result = Err StoreFault; held = with_facts (facts_failed u.stores.facts resaved leaves) u }) in
+          Stays (after_call a.result a.held go_on)
+      resaved_so None = record { holds = under (with_facts resaved u) refl root; same = refl; root = λ goes. refl }
+      resaved_so (Some leaves) = resaved_left leaves
+
+      saves_again : Stays (save_sealed fact u go_on)
+      saves_again = resaved_so u.stores.facts.faults.pending
+
+    by_made : (t : Held) (r : Result (Unit {0}) PeerError) (w : Held) → AreAmong h.hashed w.hashed → kept_seal w.stores.facts.kept ≡ kept_seal h.stores.facts.kept → HasBuilt holds.map t r w → Stays (after_call r w (λ x. save_sealed fact x go_on))
+    by_made t (Ok done) w among same written = saves_again w written.next.digest among same (written_root holds.map t w written) written.next.named
+    by_made t (Err error) w among same is = stopped_before w among same
+
+    by_bare : (r : Result (Unit {0}) PeerError) (t : Held) → AreAmong h.hashed t.hashed → kept_seal t.stores.facts.kept ≡ kept_seal h.stores.facts.kept → Stays (after_call r t (end_block holds.map fact))
+    by_bare (Ok done) t among same =
+        by_made t (answered (Install holds.map) t).result (answered (Install holds.map) t).held (λ x i. grows (Install holds.map) t x (among x i)) (same_seal t (answered (Install holds.map) t).held (spares (Install holds.map) t).1 ∙ same)
+        (records.installs t holds.map holds.named.stands.is_map)
+    by_bare (Err error) t among same = stopped_before t among same
+
+  pub migrations_so : MigrationsStay ranks s q
+  migrations_so h fact holds =
+      by_bare h fact holds (answered (OpenTree None Two) h).result (answered (OpenTree None Two) h).held (grows (OpenTree None Two) h) (same_seal h (answered (OpenTree None Two) h).held (spares (OpenTree None Two) h).1)

@@ -1,16 +1,17 @@
--- The put of a peer with a seal, and the end of its sync, over stores in memory. A fact is saved with
+-- The put of a peer with a seal, the end of its sync, and its migration, over stores in memory. A fact is saved with
 -- its seal in one write, so a save that fails leaves both old or both new.
-use Rattle.std.specs.Prelude.{ℕ, List, Result, Ok, Err}
+use Rattle.std.specs.Prelude.{ℕ, List, None, Result, Ok, Err}
 use Rattle.ens_base.specs.declared.entry.Entry.{Entry}
 use Rattle.held_stores.specs.Answers.{answered}
 use Rattle.held_stores.specs.Held.{Held}
 use Rattle.peer_fact.specs.declared.fact.Fact.{Fact}
-use Rattle.step_plans.specs.Calls.{Save, Enter, Install, Put}
+use Rattle.step_plans.specs.Calls.{Save, OpenTree, Enter, Install, Put}
 use Rattle.step_plans.specs.Saved.{with_seal}
 use Rattle.step_plans.specs.declared.error.PeerError.{PeerError}
 use Rattle.step_plans.specs.declared.walked.Walked.{Walked}
 use Rattle.step_plans.specs.declared.walked.Walked.TheVariants.{Reached, Broken}
 use Rattle.tree_node.specs.declared.position.Position.{Position}
+use Rattle.tree_node.specs.declared.version.TreeVersion.TheVariants.{Two}
 
 -- how a block ends: it goes on, it met damage at a position, or a store stopped it
 pub data Ending : Type 0 where
@@ -51,3 +52,7 @@ put_block e fact bytes h = after_entered (answered (Enter e) h).result fact e.ke
 -- the end of a sync that builds the tree: it is installed, and then the fact of the sync is saved
 abbrev pub end_block : List Entry → Fact → Held → Left
 end_block entries fact h = after_call (answered (Install entries) h).result (answered (Install entries) h).held (λ t. save_sealed fact t go_on)
+
+-- a migration: the tree of these entries is installed in version two, and then the fact is saved again
+abbrev pub migration_block : List Entry → Fact → Held → Left
+migration_block entries fact h = after_call (answered (OpenTree None Two) h).result (answered (OpenTree None Two) h).held (end_block entries fact)

@@ -1,10 +1,14 @@
 -- The step of a peer ends well on each event: its tasks of phases, the messages that come to it, its ticks,
 -- requests for a view, and calls.
-use Rattle.std.proofs.Common.{inl, ℕ, List, []}
-use Rattle.held_stores.specs.Held.{Held}
-use Rattle.peer_plan.specs.Drives.{delivered}
+use Rattle.std.proofs.Common.{◌≡◌, inl, ℕ, Bool, true, false, List, [], refl}
+use Rattle.tree_refinement.specs.HeldStores.{Held}
+use Rattle.peer_plan.proofs.Inside.{placed}
+use Rattle.peer_plan.specs.Drives.{got_ask, in_tree, delivered}
+use Rattle.peer_plan.specs.Syncs.{tree_give}
+use Rattle.peer_plan.specs.TreeCalls.{has_position}
 use Rattle.peer_state.specs.declared.state.State.{State as PeerState}
-use Rattle.step_plans.specs.Plans.{Out, nothing, Rest}
+use Rattle.running_sync.specs.declared.asking.Give.{Give}
+use Rattle.step_plans.specs.Plans.{Out, nothing, Part, Rest}
 use Rattle.step_plans.specs.declared.tasks.Task.{Task}
 use Rattle.wire_frames.specs.declared.message.Message.{Message}
 use Rattle.wire_frames.specs.declared.message.Message.TheVariants as messages
@@ -34,6 +38,11 @@ module _ (c : Scene) where
     replies : (y : PeerState) (t : Held) (o : Out) → AtRest c [] y t o [] → Ends c (next [] y o) (mark [] y o) t []
     replies y t o there = go [] [] y t o [] (inl ((there, phases_wait y.phase [] tt)))
 
+    -- a message about a node, which does nothing where the tree does not have the position
+    in_tree_ends : (has : Bool) (part : Part PeerState (List Task)) → (has ≡ true → Ends c (part x nothing next) (part x nothing mark) h []) → Ends c (in_tree has part x nothing next) (in_tree has part x nothing mark) h []
+    in_tree_ends true part goes = goes refl
+    in_tree_ends false part goes = names_phases [] [] x h nothing [] (tt, rest)
+
     message_good : (from : ℕ) (message : Message) → IsElse message → MessageComes c from message (now c rest.0.reached) → Ends c (delivered p from message x nothing next) (delivered p from message x nothing mark) h []
     message_good from (messages.Check ballot round) is comes = check_good c rest.0 rest.1 next mark replies from ballot round comes
     message_good from (messages.Get ballot round key) is comes = got_good c rest.0 rest.1 next mark replies from ballot round key comes
@@ -47,8 +56,11 @@ module _ (c : Scene) where
     message_good from (messages.Accepted ballot seq) is comes = elections.received_good c [] x h nothing [] rest next mark names_phases from (messages.Accepted ballot seq) tt comes.other comes.holds comes.listed
     message_good from (messages.Beat ballot) is comes = elections.received_good c [] x h nothing [] rest next mark names_phases from (messages.Beat ballot) tt comes.other comes.holds comes.listed
     message_good from (messages.Commit fact) is comes = elections.received_good c [] x h nothing [] rest next mark names_phases from (messages.Commit fact) tt comes.other comes.holds comes.listed
-    message_good from (messages.TreeAsk ballot at after) is comes = ask_good c rest next mark names_phases from ballot at after comes.obeys
-    message_good from (messages.TreeGive ballot at after trusted body) is comes = give_good c rest next mark names_phases from (record { ballot = ballot; question = record { position = at; after = after }; trusted = trusted; body = body }) comes.obeys.0 comes.fits
+    message_good from (messages.TreeAsk ballot at after) is comes = in_tree_ends (has_position x.mode.tree at) (got_ask p from ballot (record { position = at; after = after }))
+        (λ has. ask_good c rest next mark names_phases from ballot at after (placed x.mode.tree at has comes.obeys))
+    message_good from (messages.TreeGive ballot at after trusted body) is comes =
+        let give : Give = record { ballot = ballot; question = record { position = at; after = after }; trusted = trusted; body = body } in
+        in_tree_ends (has_position x.mode.tree at) (tree_give p from give) (λ has. give_good c rest next mark names_phases from give (placed x.mode.tree at has comes.obeys.0) comes.fits)
     message_good from (messages.GetReply ballot round key entry object) is comes = absurd is
     message_good from (messages.PutReply ballot key version) is comes = absurd is
     message_good from (messages.CheckReply ballot round) is comes = absurd is

@@ -4,9 +4,7 @@ use Rattle.std.proofs.Common.{◌≡◌, ◌⊎◌, inl, inr, ℕ, List, [], ◌
 use Rattle.abstract_protocol.specs.Protocol.{State}
 use Rattle.call_table.specs.Calls.{running}
 use Rattle.call_table.specs.Rows.{row_at}
-use Rattle.held_stores.specs.Answers.{answered}
-use Rattle.held_stores.specs.Held.{Held}
-use Rattle.held_stores.specs.Runs.{Ended, run, either}
+use Rattle.tree_refinement.specs.HeldStores.{answered, Held, Ended, run, either}
 use Rattle.leader_refinement.specs.Follows.{TaskHolds}
 use Rattle.leading.specs.declared.pending.Pending.{Pending}
 use Rattle.peer_state.specs.declared.state.Phase.{Phase}

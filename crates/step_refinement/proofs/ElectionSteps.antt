@@ -9,7 +9,7 @@ use Rattle.entry_laws.specs.Stays.{EntriesStay}
 use Rattle.election_refinement.specs.Keeps.{Keeps}
 use Rattle.election_refinement.proofs.Reaching.{IsRowStep, AreRowSteps}
 use Rattle.election_refinement.specs.Refinement.{IsOrderly}
-use Rattle.held_stores.specs.Held.{Held}
+use Rattle.tree_refinement.specs.HeldStores.{Held}
 use Rattle.leader_laws.proofs.Roles.{run_roles}
 use Rattle.leader_laws.proofs.Runs.{run_leaders}
 use Rattle.leader_laws.specs.Leaders.{IsUnled}
@@ -20,6 +20,7 @@ use Rattle.leader_refinement.specs.Seen.{rank}
 use Rattle.leader_words.specs.declared.out.Outgoing.{Outgoing}
 use Rattle.sync_laws.specs.Facts.{Lines}
 use Rattle.sync_refinement.proofs.Staying.{version_stays}
+use Rattle.tree_node.specs.declared.version.TreeVersion.{TreeVersion}
 use Rattle.step_refinement.specs.Scenes.{Scene, Elsewhere, Reached, now, state_before}
 use Rattle.step_refinement.proofs.Stretches.{elsewhere_then}
 use Rattle.step_refinement.proofs.LaterStates.{sends_stay}
@@ -173,8 +174,8 @@ module _ (view : List ℕ) (es steps : List Step) (run : IsRun view (es ++ steps
       (λ blind. ap (λ (f : ℕ → Bool). f q) spared.trusted ∙ blind) tree
 
   -- messages that were to be sent fit as before
-  pub sends_there : (lines : Lines) (q : ℕ) (sends : List Outgoing) → All (SendFits lines (state_after view steps) strings q) sends → All (SendFits lines (state_after view (es ++ steps)) strings q) sends
-  sends_there lines q = sends_stay (state_after view steps) (state_after view (es ++ steps)) strings (entries_there view es steps run) lines q
+  pub sends_there : (version : TreeVersion) (lines : Lines) (q : ℕ) (sends : List Outgoing) → All (SendFits version lines (state_after view steps) strings q) sends → All (SendFits version lines (state_after view (es ++ steps)) strings q) sends
+  sends_there version lines q = sends_stay (state_after view steps) (state_after view (es ++ steps)) strings (entries_there view es steps run) version lines q
 
 -- ## The run that a step has reached
 

@@ -12,7 +12,7 @@ use Rattle.call_table.specs.declared.row.Stage.TheVariants as stages
 use Rattle.call_table.specs.declared.table.CallTable.{CallTable}
 use Rattle.call_table.specs.declared.waiting.Waiting.{Waiting}
 use Rattle.election_refinement.proofs.Tests.{by_test}
-use Rattle.held_stores.specs.Held.{Held}
+use Rattle.tree_refinement.specs.HeldStores.{Held}
 use Rattle.leader_laws.specs.Tables.{Ghosts, Owed}
 use Rattle.leader_refinement.proofs.Asking.{run_asks}
 use Rattle.leader_refinement.proofs.Writes.{run_writes, run_rewrites}

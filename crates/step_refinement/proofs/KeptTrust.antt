@@ -1,4 +1,4 @@
--- A row of a phase leaves the seal of the peer as it was, and its trust in its tree, unless it finds damage, and
+-- A row of a phase leaves the seal and the mode of the peer as they were, and its trust in its tree, unless it finds damage, and
 -- it begins no sync: the sync of the peer runs on, or it ends.
 use Rattle.std.proofs.Common.{◌≡◌, ◌⊎◌, inl, inr, ℕ, Bool, true, false, if◌then◌else◌, List, Option, None, Some, refl, sym, ap, subst, ◌∙◌}
 use Rattle.ens_base.specs.declared.entry.Entry.{Entry}
@@ -25,6 +25,7 @@ use Rattle.probe.specs.Probing.{row_7}
 use Rattle.probe.specs.declared.probing.Probing.{Probing}
 use Rattle.running_sync.specs.Running.{Running}
 use Rattle.sync_laws.specs.Facts.{Lines}
+use Rattle.tree_node.specs.declared.version.TreeVersion.{TreeVersion}
 use Rattle.step_refinement.specs.Peers.{SyncFits}
 use Rattle.view_change.specs.Changes.{may_change}
 use Rattle.wire_frames.specs.declared.message.Message.{Message}
@@ -36,9 +37,10 @@ use Rattle.phase_rows.specs.declared.phase.Then.TheVariants as thens
 use Rattle.phase_rows.specs.declared.rules.PhaseRule.{PhaseRule}
 use Rattle.phase_rows.specs.declared.rules.PhaseRule.TheVariants as phase_rules
 
--- from x to y the seal and the trust stay, and the sync runs on or ends
+-- from x to y the seal, the mode and the trust stay, and the sync runs on or ends
 pub record Spares (x y : State) : Type 0 where
   pub seal : y.seal ≡ x.seal
+  pub mode : y.mode ≡ x.mode
   pub trusted : y.trusted ≡ x.trusted
   pub sync : (y.sync ≡ x.sync) ⊎ (y.sync ≡ None)
 
@@ -48,11 +50,11 @@ IsBlind x = (x.trusted ≡ false) × (x.sync ≡ None)
 
 -- nothing changes
 pub spares_same : (x : State) → Spares x x
-spares_same x = record { seal = refl; trusted = refl; sync = inl refl }
+spares_same x = record { seal = refl; mode = refl; trusted = refl; sync = inl refl }
 
 -- two changes that spare the peer spare it together
 pub spares_then : (x y z : State) → Spares x y → Spares y z → Spares x z
-spares_then x y z a b = record { seal = b.seal ∙ a.seal; trusted = b.trusted ∙ a.trusted; sync = by_later b.sync a.sync }
+spares_then x y z a b = record { seal = b.seal ∙ a.seal; mode = b.mode ∙ a.mode; trusted = b.trusted ∙ a.trusted; sync = by_later b.sync a.sync }
   where
     by_first : z.sync ≡ y.sync → (y.sync ≡ x.sync) ⊎ (y.sync ≡ None) → (z.sync ≡ x.sync) ⊎ (z.sync ≡ None)
     by_first same (inl first) = inl (same ∙ first)
@@ -65,21 +67,21 @@ spares_then x y z a b = record { seal = b.seal ∙ a.seal; trusted = b.trusted �
 -- ## After a row
 
 pub left_spares : (leave : Bool) (x : State) → Spares x (left leave x)
-left_spares true x = record { seal = refl; trusted = refl; sync = inl refl }
+left_spares true x = record { seal = refl; mode = refl; trusted = refl; sync = inl refl }
 left_spares false x = spares_same x
 
 saved_spares : (save : Option Fact) (x : State) → Spares x (saved_in save x)
 saved_spares None x = spares_same x
-saved_spares (Some fact) x = record { seal = refl; trusted = refl; sync = inl refl }
+saved_spares (Some fact) x = record { seal = refl; mode = refl; trusted = refl; sync = inl refl }
 
 turned_spares : (me : ℕ) (next : Then) (x : State) → IsBlind (made_way next (turned me next x)) ⊎ Spares x (made_way next (turned me next x))
-turned_spares me thens.Follow x = inr (record { seal = refl; trusted = refl; sync = inr refl })
-turned_spares me (thens.Lead fact) x = inr (record { seal = refl; trusted = refl; sync = inr refl })
+turned_spares me thens.Follow x = inr (record { seal = refl; mode = refl; trusted = refl; sync = inr refl })
+turned_spares me (thens.Lead fact) x = inr (record { seal = refl; mode = refl; trusted = refl; sync = inr refl })
 turned_spares me thens.Untrust x = inl (refl, refl)
 turned_spares me thens.Stay x = inr (spares_same x)
 turned_spares me thens.Put x = inr (spares_same x)
 turned_spares me thens.Resume x = inr (spares_same x)
-turned_spares me (thens.SyncOn fact) x = inr (record { seal = refl; trusted = refl; sync = inr refl })
+turned_spares me (thens.SyncOn fact) x = inr (record { seal = refl; mode = refl; trusted = refl; sync = inr refl })
 turned_spares me (thens.Rule n) x = inr (spares_same x)
 turned_spares me (thens.OnKeys n) x = inr (spares_same x)
 
@@ -113,19 +115,39 @@ settled_seal me row y = turned_seal row.then (saved_in row.save (left row.leave 
     turned_seal (thens.Rule n) x = refl
     turned_seal (thens.OnKeys n) x = refl
 
+-- so it does the mode
+pub settled_mode : (me : ℕ) (row : PhaseOut) (y : State) → (settled me row y).mode ≡ (left row.leave y).mode
+settled_mode me row y = turned_mode row.then (saved_in row.save (left row.leave y)) ∙ saved_mode row.save (left row.leave y)
+  where
+    saved_mode : (save : Option Fact) (x : State) → (saved_in save x).mode ≡ x.mode
+    saved_mode None x = refl
+    saved_mode (Some fact) x = refl
+
+    turned_mode : (next : Then) (x : State) → (made_way next (turned me next x)).mode ≡ x.mode
+    turned_mode thens.Follow x = refl
+    turned_mode (thens.Lead fact) x = refl
+    turned_mode thens.Untrust x = refl
+    turned_mode thens.Stay x = refl
+    turned_mode thens.Put x = refl
+    turned_mode thens.Resume x = refl
+    turned_mode (thens.SyncOn fact) x = refl
+    turned_mode (thens.Rule n) x = refl
+    turned_mode (thens.OnKeys n) x = refl
+
 -- ## The sync
 
 -- a running sync says what it said after the peer saved another fact on which it may run
-sync_resaved : (lines : Lines) (s : Protocol) (strings : List (List ℕ)) (l : Ledger) (p : ℕ) (old new : Fact) (trusted : Bool) (m : List Entry) (root : Option (List ℕ)) (waiting : Bool) (sync : Option Running) → SyncHolds l p new waiting sync
-    → SyncFits lines s strings p old trusted m root sync → SyncFits lines s strings p new trusted m root sync
-sync_resaved lines s strings l p old new trusted m root waiting None holds fits = tt
-sync_resaved lines s strings l p old new trusted m root waiting (Some r) holds fits = let says = fits.0 in (
+sync_resaved : (version : TreeVersion) (lines : Lines) (s : Protocol) (strings : List (List ℕ)) (l : Ledger) (p : ℕ) (old new : Fact) (trusted : Bool) (m : List Entry) (root : Option (List ℕ)) (waiting : Bool) (sync : Option Running) → SyncHolds l p new waiting sync
+    → SyncFits version lines s strings p old trusted m root sync → SyncFits version lines s strings p new trusted m root sync
+sync_resaved version lines s strings l p old new trusted m root waiting None holds fits = tt
+sync_resaved version lines s strings l p old new trusted m root waiting (Some r) holds fits = let says = fits.0 in (
   record {
     me = says.me;
     trust = says.trust;
     view = says.view;
     scan = says.scan;
-    hashed = says.hashed;
+    positions = says.positions;
+    seen = says.seen;
     distinct = says.distinct;
     others = says.others;
     sources = says.sources;
@@ -144,15 +166,15 @@ sync_resaved lines s strings l p old new trusted m root waiting (Some r) holds f
 )
 
 -- so does the sync of a peer whose trust stays, if it runs on
-pub sync_spared : (lines : Lines) (s : Protocol) (strings : List (List ℕ)) (l : Ledger) (p : ℕ) (m : List Entry) (root : Option (List ℕ)) (waiting : Bool) (x y : State) → Spares x y → SyncHolds l p y.fact waiting y.sync
-    → SyncFits lines s strings p x.fact x.trusted m root x.sync → SyncFits lines s strings p y.fact y.trusted m root y.sync
-sync_spared lines s strings l p m root waiting x y spares holds says = by_sync spares.sync
+pub sync_spared : (version : TreeVersion) (lines : Lines) (s : Protocol) (strings : List (List ℕ)) (l : Ledger) (p : ℕ) (m : List Entry) (root : Option (List ℕ)) (waiting : Bool) (x y : State) → Spares x y → SyncHolds l p y.fact waiting y.sync
+    → SyncFits version lines s strings p x.fact x.trusted m root x.sync → SyncFits version lines s strings p y.fact y.trusted m root y.sync
+sync_spared version lines s strings l p m root waiting x y spares holds says = by_sync spares.sync
   where
-    by_sync : (y.sync ≡ x.sync) ⊎ (y.sync ≡ None) → SyncFits lines s strings p y.fact y.trusted m root y.sync
+    by_sync : (y.sync ≡ x.sync) ⊎ (y.sync ≡ None) → SyncFits version lines s strings p y.fact y.trusted m root y.sync
     by_sync (inl same) =
-        sync_resaved lines s strings l p x.fact y.fact y.trusted m root waiting y.sync holds
-        (subst (λ (sync : Option Running). SyncFits lines s strings p x.fact y.trusted m root sync) (sym same) (subst (λ (trusted : Bool). SyncFits lines s strings p x.fact trusted m root x.sync) (sym spares.trusted) says))
-    by_sync (inr ended) = subst (λ (sync : Option Running). SyncFits lines s strings p y.fact y.trusted m root sync) (sym ended) tt
+        sync_resaved version lines s strings l p x.fact y.fact y.trusted m root waiting y.sync holds
+        (subst (λ (sync : Option Running). SyncFits version lines s strings p x.fact y.trusted m root sync) (sym same) (subst (λ (trusted : Bool). SyncFits version lines s strings p x.fact trusted m root x.sync) (sym spares.trusted) says))
+    by_sync (inr ended) = subst (λ (sync : Option Running). SyncFits version lines s strings p y.fact y.trusted m root sync) (sym ended) tt
 
 -- ## The rows
 
@@ -166,15 +188,15 @@ module _ (p : ℕ) (x : State) where
 
   seeks : (o : Option Probing) → Spares x (sought o x)
   seeks None = same
-  seeks (Some b) = record { seal = refl; trusted = refl; sync = inr refl }
+  seeks (Some b) = record { seal = refl; mode = refl; trusted = refl; sync = inr refl }
 
   stands : (o : Option Election) → Spares x (stood o x)
   stands None = same
-  stands (Some e) = record { seal = refl; trusted = refl; sync = inr refl }
+  stands (Some e) = record { seal = refl; mode = refl; trusted = refl; sync = inr refl }
 
   waits : (next : Then) → Spares x (waiting_for next x)
-  waits (thens.SyncOn fact) = record { seal = refl; trusted = refl; sync = inl refl }
-  waits thens.Resume = record { seal = refl; trusted = refl; sync = inl refl }
+  waits (thens.SyncOn fact) = record { seal = refl; mode = refl; trusted = refl; sync = inl refl }
+  waits thens.Resume = record { seal = refl; mode = refl; trusted = refl; sync = inl refl }
   waits thens.Stay = same
   waits thens.Follow = same
   waits (thens.Lead fact) = same
@@ -184,15 +206,15 @@ module _ (p : ℕ) (x : State) where
   waits (thens.OnKeys n) = same
 
   wants : (change : Change) (phase : Phase) → Spares x (wanting change phase x)
-  wants change (phases.Leading l) = record { seal = refl; trusted = refl; sync = inl refl }
+  wants change (phases.Leading l) = record { seal = refl; mode = refl; trusted = refl; sync = inl refl }
   wants change other = same
 
   rule_8 : (phase : Phase) (from : ℕ) (reply : Fact) → G (while_8 phase p from reply x)
-  rule_8 (phases.Probing b) from reply = record { seal = refl; trusted = refl; sync = inl refl }
+  rule_8 (phases.Probing b) from reply = record { seal = refl; mode = refl; trusted = refl; sync = inl refl }
   rule_8 other from reply = same
 
   rule_9 : (phase : Phase) → G (while_9 phase x)
-  rule_9 (phases.Probing b) = record { seal = refl; trusted = refl; sync = inl refl }
+  rule_9 (phases.Probing b) = record { seal = refl; mode = refl; trusted = refl; sync = inl refl }
   rule_9 other = same
 
   rule_10 : (phase : Phase) → G (while_10 phase p x)
@@ -201,15 +223,15 @@ module _ (p : ℕ) (x : State) where
   rule_10 other = same
 
   rule_12 : (phase : Phase) (from : ℕ) (ballot : Epoch) (promised : Fact) → G (while_12 phase p from ballot promised x)
-  rule_12 (phases.Electing e) from ballot promised = record { seal = refl; trusted = refl; sync = inl refl }
+  rule_12 (phases.Electing e) from ballot promised = record { seal = refl; mode = refl; trusted = refl; sync = inl refl }
   rule_12 other from ballot promised = same
 
   rule_13 : (phase : Phase) → G (while_13 phase p x)
-  rule_13 (phases.Electing e) = record { seal = refl; trusted = refl; sync = inl refl }
+  rule_13 (phases.Electing e) = record { seal = refl; mode = refl; trusted = refl; sync = inl refl }
   rule_13 other = same
 
   rule_14 : (phase : Phase) → G (while_14 phase p x)
-  rule_14 (phases.Electing e) = record { seal = refl; trusted = refl; sync = inl refl }
+  rule_14 (phases.Electing e) = record { seal = refl; mode = refl; trusted = refl; sync = inl refl }
   rule_14 other = same
 
   rule_15 : (phase : Phase) (ballot : Epoch) (cause : NackCause) → G (while_15 phase ballot cause x)
@@ -218,12 +240,12 @@ module _ (p : ℕ) (x : State) where
   rule_15 other ballot cause = same
 
   rule_17 : (phase : Phase) (from : ℕ) (ballot : Epoch) (seq : ℕ) → G (while_17 phase from ballot seq x)
-  rule_17 (phases.Electing e) from ballot seq = record { seal = refl; trusted = refl; sync = inl refl }
-  rule_17 (phases.Leading l) from ballot seq = record { seal = refl; trusted = refl; sync = inl refl }
+  rule_17 (phases.Electing e) from ballot seq = record { seal = refl; mode = refl; trusted = refl; sync = inl refl }
+  rule_17 (phases.Leading l) from ballot seq = record { seal = refl; mode = refl; trusted = refl; sync = inl refl }
   rule_17 other from ballot seq = same
 
   rule_25 : (phase : Phase) → G (while_25 phase p x)
-  rule_25 (phases.Leading l) = record { seal = refl; trusted = refl; sync = inl refl }
+  rule_25 (phases.Leading l) = record { seal = refl; mode = refl; trusted = refl; sync = inl refl }
   rule_25 other = same
 
   rule_26 : (phase : Phase) → G (while_26 phase p x)
@@ -231,10 +253,10 @@ module _ (p : ℕ) (x : State) where
   rule_26 other = same
 
   rules_2_to_4 : (phase : Phase) → G (aged phase p x)
-  rules_2_to_4 (phases.Following f) = record { seal = refl; trusted = refl; sync = inl refl }
-  rules_2_to_4 (phases.Probing b) = record { seal = refl; trusted = refl; sync = inl refl }
-  rules_2_to_4 (phases.Electing (Preparing base promises asked age)) = record { seal = refl; trusted = refl; sync = inl refl }
-  rules_2_to_4 (phases.Electing (Starting new accepts age)) = record { seal = refl; trusted = refl; sync = inl refl }
+  rules_2_to_4 (phases.Following f) = record { seal = refl; mode = refl; trusted = refl; sync = inl refl }
+  rules_2_to_4 (phases.Probing b) = record { seal = refl; mode = refl; trusted = refl; sync = inl refl }
+  rules_2_to_4 (phases.Electing (Preparing base promises asked age)) = record { seal = refl; mode = refl; trusted = refl; sync = inl refl }
+  rules_2_to_4 (phases.Electing (Starting new accepts age)) = record { seal = refl; mode = refl; trusted = refl; sync = inl refl }
   rules_2_to_4 (phases.Leading l) = same
 
   -- the row of a rule that a row names

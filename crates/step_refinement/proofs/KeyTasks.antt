@@ -17,7 +17,7 @@ use Rattle.call_table.specs.Rows.{row_at}
 use Rattle.call_table.specs.declared.row.Stage.TheVariants as stages
 use Rattle.call_table.specs.declared.waiting.Waiting.{Waiting}
 use Rattle.entry_laws.specs.Stays.{EntriesStay}
-use Rattle.held_stores.specs.Held.{Held}
+use Rattle.tree_refinement.specs.HeldStores.{Held}
 use Rattle.kept_objects.specs.Kept.{object_in, matching}
 use Rattle.leader_laws.specs.Messages.{PutSays}
 use Rattle.leader_laws.specs.Tables.{Owed}
@@ -44,14 +44,14 @@ use Rattle.peer_state.specs.declared.state.Phase.TheVariants as phases
 use Rattle.peer_state.specs.declared.state.State.{State as PeerState}
 use Rattle.register_model.specs.declared.call.Call.{Call}
 use Rattle.register_model.specs.declared.note.Note.{Note}
-use Rattle.request_refinement.specs.Naming.{hash_of}
+use Rattle.sync_refinement.specs.RequestRefinement.{hash_of}
 use Rattle.step_plans.specs.Calls.{Find, Fetch}
 use Rattle.step_plans.specs.Plans.{Ask, Out, Rest, asked}
 use Rattle.step_plans.specs.declared.tasks.Task.{Task}
 use Rattle.step_plans.specs.declared.tasks.Task.TheVariants as tasks
 use Rattle.step_plans.specs.declared.walked.Walked.{Walked}
 use Rattle.step_plans.specs.declared.walked.Walked.TheVariants.{Reached as Came, Broken}
-use Rattle.request_refinement.proofs.Staying.{put_object as said_object}
+use Rattle.sync_refinement.proofs.RequestRefinement.{put_object as said_object}
 use Rattle.tree_node.specs.declared.position.Position.{Position}
 use Rattle.phase_rows.specs.declared.phase.Seen.{Seen}
 use Rattle.phase_rows.specs.declared.phase.Seen.TheVariants as seens

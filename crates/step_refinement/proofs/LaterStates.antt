@@ -15,14 +15,14 @@ use Rattle.leader_words.specs.declared.out.Outgoing.{Outgoing}
 use Rattle.peer_state.specs.declared.state.Phase.{Phase}
 use Rattle.peer_state.specs.declared.state.Phase.TheVariants as phases
 use Rattle.peer_fact.specs.declared.fact.Fact.{Fact}
-use Rattle.request_refinement.specs.Naming.{EntryMaySay}
+use Rattle.sync_refinement.specs.RequestRefinement.{EntryMaySay}
 use Rattle.running_sync.specs.Running.{Running}
 use Rattle.sync_laws.specs.Facts.{Lines}
 use Rattle.sync_refinement.proofs.Staying.{stays, version_stays, entry_stays}
-use Rattle.wire_frames.specs.declared.frame.Frame.{Frame}
 use Rattle.wire_frames.specs.declared.message.Message.{Message}
 use Rattle.wire_frames.specs.declared.message.Message.TheVariants as messages
-use Rattle.step_refinement.specs.Peers.{AcksSay, PhaseFits, MessageFits, SendFits, FrameFits, SyncFits}
+use Rattle.tree_node.specs.declared.version.TreeVersion.{TreeVersion}
+use Rattle.step_refinement.specs.Peers.{AcksSay, PhaseFits, MessageFits, SendFits, SyncFits}
 
 -- ## Messages
 
@@ -33,25 +33,22 @@ module _ (s t : State) (strings : List (List ℕ)) (stay : EntriesStay s t) wher
   may_stay (Some e) says = entry_stays s t strings stay e says
 
   -- a message holds what it held
-  pub message_stays : (lines : Lines) (q : ℕ) (message : Message) → MessageFits lines s strings q message → MessageFits lines t strings q message
-  message_stays lines q (messages.GetReply ballot round key entry object) fits = (may_stay entry fits.0, fits.1)
-  message_stays lines q (messages.TreeGive ballot at after trusted body) fits = (stays lines s t stay).gives strings q ballot (record { position = at; after = after }) trusted body fits
-  message_stays lines q message fits = fits
+  pub message_stays : (version : TreeVersion) (lines : Lines) (q : ℕ) (message : Message) → MessageFits version lines s strings q message → MessageFits version lines t strings q message
+  message_stays version lines q (messages.GetReply ballot round key entry object) fits = (may_stay entry fits.0, fits.1)
+  message_stays version lines q (messages.TreeGive ballot at after trusted body) fits = (stays lines s t stay).gives version strings q ballot (record { position = at; after = after }) trusted body fits
+  message_stays version lines q message fits = fits
 
   -- so do messages that are to be sent
-  pub sends_stay : (lines : Lines) (q : ℕ) (sends : List Outgoing) → All (SendFits lines s strings q) sends → All (SendFits lines t strings q) sends
-  sends_stay lines q sends fit = All-weaker (SendFits lines s strings q) (SendFits lines t strings q) (λ o fits. message_stays lines q o.message fits) sends fit
-
-  pub frames_fit : (lines : Lines) (frames : List Frame) → All (FrameFits lines s strings) frames → All (FrameFits lines t strings) frames
-  frames_fit lines frames fit = All-weaker (FrameFits lines s strings) (FrameFits lines t strings) (λ f fits. message_stays lines f.from f.message fits) frames fit
+  pub sends_stay : (version : TreeVersion) (lines : Lines) (q : ℕ) (sends : List Outgoing) → All (SendFits version lines s strings q) sends → All (SendFits version lines t strings q) sends
+  sends_stay version lines q sends fit = All-weaker (SendFits version lines s strings q) (SendFits version lines t strings q) (λ o fits. message_stays version lines q o.message fits) sends fit
 
 -- ## Peers
 
 -- a running sync says what it said
-pub sync_stays : (lines : Lines) (s t : State) (strings : List (List ℕ)) (p : ℕ) (fact : Fact) (trusted : Bool) (m : List Entry) (root : Option (List ℕ)) (sync : Option Running) → EntriesStay s t → s.objects.ledger.ballot p ≡ epoch_number fact.ballot
-    → SyncFits lines s strings p fact trusted m root sync → SyncFits lines t strings p fact trusted m root sync
-sync_stays lines s t strings p fact trusted m root None stay stands says = tt
-sync_stays lines s t strings p fact trusted m root (Some r) stay stands says = ((stays lines s t stay).syncs strings p fact trusted m r stands says.0, says.1)
+pub sync_stays : (version : TreeVersion) (lines : Lines) (s t : State) (strings : List (List ℕ)) (p : ℕ) (fact : Fact) (trusted : Bool) (m : List Entry) (root : Option (List ℕ)) (sync : Option Running) → EntriesStay s t → s.objects.ledger.ballot p ≡ epoch_number fact.ballot
+    → SyncFits version lines s strings p fact trusted m root sync → SyncFits version lines t strings p fact trusted m root sync
+sync_stays version lines s t strings p fact trusted m root None stay stands says = tt
+sync_stays version lines s t strings p fact trusted m root (Some r) stay stands says = ((stays lines s t stay).syncs version strings p fact trusted m r stands says.0, says.1)
 
 -- what fits of a leader stays so
 pub phase_stays : (hash : Hash) (s t : State) (q : ℕ) (fact : Fact) (phase : Phase) → EntriesStay s t → ((d : ℕ) → s.objects.ledger.elected d ≡ true → t.objects.ledger.views d ≡ s.objects.ledger.views d) → PhaseHolds s.objects.ledger q fact phase

@@ -18,7 +18,7 @@ use Rattle.election_refinement.specs.Listed.{IsListedMessage}
 use Rattle.election_refinement.specs.Refinement.{SendHolds}
 use Rattle.entry_laws.proofs.Later.{stay_step}
 use Rattle.entry_laws.specs.Stays.{EntriesStay}
-use Rattle.held_stores.specs.Held.{Held}
+use Rattle.tree_refinement.specs.HeldStores.{Held}
 use Rattle.leader_laws.proofs.Roles.{run_roles}
 use Rattle.leader_laws.specs.Roles.{Role, Entry as Entries, Acks, Stands as StandsThere, with_owed, owed_by, RolesHold}
 use Rattle.leader_laws.specs.Tables.{Ghosts, with_home}
@@ -48,9 +48,8 @@ use Rattle.peer_state.specs.declared.state.Phase.TheVariants as phases
 use Rattle.peer_state.specs.declared.state.State.{State as PeerState}
 use Rattle.register_model.specs.declared.call.Call.{Call}
 use Rattle.register_model.specs.declared.note.Note.{Note}
-use Rattle.request_refinement.proofs.Staying.{maps_stay}
-use Rattle.request_refinement.specs.Naming.{EntryMaySay}
-use Rattle.request_refinement.specs.Replies.{MapSays}
+use Rattle.sync_refinement.proofs.RequestRefinement.{maps_stay}
+use Rattle.sync_refinement.specs.RequestRefinement.{EntryMaySay, MapSays}
 use Rattle.step_plans.specs.Plans.{Out, nothing, Rest}
 use Rattle.step_plans.specs.declared.tasks.Task.{Task}
 use Rattle.version_laws.proofs.Maps.{put_here}
@@ -140,7 +139,7 @@ module _ (c : Scene) where
 
 module _ (c : Scene) (call : CallIn) (few : length (state_after c.view (Ask (asked_in (state_before c) call) ∷ c.begun)).book.calls < 2 ^ 32) (asked : AsksFit (state_after c.view (Ask (asked_in (state_before c) call) ∷ c.begun)))
     (may : MayCall (state_before c).book (asked_in (state_before c) call)) where
-  open c use {lines, view, strings, peer as p}
+  open c use {lines, version, view, strings, peer as p}
 
   -- the scene of a step on this call, which has come
   abbrev pub d : Scene
@@ -173,11 +172,13 @@ module _ (c : Scene) (call : CallIn) (few : length (state_after c.view (Ask (ask
     trust = old.standing.trust;
     tree = tree_stays s t strings p x.seal h called_later refl refl (λ blind. blind) old.standing.tree;
     seal = old.standing.seal;
-    sync = sync_stays lines s t strings p x.fact x.trusted old.standing.tree.last.map h.stores.tree.top x.sync called_later old.standing.peer.saved.ballot old.standing.sync;
+    mode = old.standing.mode;
+    held = old.standing.held;
+    sync = sync_stays version lines s t strings p x.fact x.trusted old.standing.tree.last.map h.stores.tree.top x.sync called_later old.standing.peer.saved.ballot old.standing.sync;
     noted = sym (append-nil t.book.notes);
     sends = All-nil (SendHolds t.objects.ledger p);
     listed_sends = All-nil (λ (o : Outgoing). IsListedMessage lines.voting o.message);
-    fits_sends = All-nil (SendFits lines t strings p);
+    fits_sends = All-nil (SendFits version lines t strings p);
   }
 
   -- another peer refuses the call
@@ -199,6 +200,8 @@ module _ (c : Scene) (call : CallIn) (few : length (state_after c.view (Ask (ask
     trust = now_stands.trust;
     tree = now_stands.tree;
     seal = now_stands.seal;
+    mode = now_stands.mode;
+    held = now_stands.held;
     sync = now_stands.sync;
     noted = now_stands.noted;
     sends = now_stands.sends;

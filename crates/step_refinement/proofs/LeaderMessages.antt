@@ -21,9 +21,8 @@ use Rattle.leader_refinement.proofs.Numbers.{rank_back, rank_some}
 use Rattle.leader_refinement.specs.Follows.{SendSays, SentSays}
 use Rattle.leader_refinement.specs.Seen.{rank, content_of, entry_rank}
 use Rattle.leader_words.specs.declared.out.Outgoing.{Outgoing}
-use Rattle.request_refinement.proofs.Looks.{looks_so}
-use Rattle.request_refinement.specs.Naming.{hash_of, VersionSays, EntrySays}
-use Rattle.request_refinement.specs.Replies.{MapSays}
+use Rattle.sync_refinement.proofs.RequestRefinement.{looks_so}
+use Rattle.sync_refinement.specs.RequestRefinement.{hash_of, VersionSays, EntrySays, MapSays}
 use Rattle.sync_laws.specs.Facts.{Lines}
 use Rattle.sync_refinement.proofs.Staying.{version_stays}
 use Rattle.tree_maps.specs.Entries.{lookup}
@@ -31,6 +30,7 @@ use Rattle.tree_refinement.specs.Trees.{AreFree}
 use Rattle.wire_frames.specs.declared.message.Message.{Message}
 use Rattle.wire_frames.specs.declared.message.Message.TheVariants as messages
 use Rattle.phase_rows.specs.declared.phase.Seen.TheVariants as seens
+use Rattle.tree_node.specs.declared.version.TreeVersion.{TreeVersion}
 use Rattle.step_refinement.proofs.SentMessages.{SaysSo, SendSaysSo, says_one, sends_say}
 use Rattle.step_refinement.specs.Peers.{AcksSay, MessageFits}
 use Rattle.step_refinement.specs.Roles.{said_in_sends}
@@ -74,11 +74,11 @@ call_listed voting (messages.Put ballot o) fits = tt
 call_listed voting other fits = absurd fits
 
 -- and it fits
-pub call_fits : (lines : Lines) (s : State) (strings : List (List ℕ)) (q : ℕ) (message : Message) → CallFits message → MessageFits lines s strings q message
-call_fits lines s strings q (messages.Check ballot round) fits = tt
-call_fits lines s strings q (messages.Get ballot round key) fits = tt
-call_fits lines s strings q (messages.Put ballot o) fits = fits
-call_fits lines s strings q other fits = absurd fits
+pub call_fits : (version : TreeVersion) (lines : Lines) (s : State) (strings : List (List ℕ)) (q : ℕ) (message : Message) → CallFits message → MessageFits version lines s strings q message
+call_fits version lines s strings q (messages.Check ballot round) fits = tt
+call_fits version lines s strings q (messages.Get ballot round key) fits = tt
+call_fits version lines s strings q (messages.Put ballot o) fits = fits
+call_fits version lines s strings q other fits = absurd fits
 
 -- ## Acknowledgements
 

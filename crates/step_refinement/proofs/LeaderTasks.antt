@@ -8,7 +8,7 @@ use Rattle.ens_object.specs.declared.object.Object.{Object}
 use Rattle.call_table.specs.Rows.{row_at}
 use Rattle.call_table.specs.declared.row.KeyRow.{KeyRow}
 use Rattle.call_table.specs.declared.row.Stage.TheVariants as stages
-use Rattle.held_stores.specs.Held.{Held}
+use Rattle.tree_refinement.specs.HeldStores.{Held}
 use Rattle.leader_refinement.proofs.Answers.{run_applies}
 use Rattle.leader_refinement.proofs.Checks.{run_checks}
 use Rattle.leader_refinement.proofs.Gathering.{run_reads}

@@ -18,7 +18,7 @@ use Rattle.call_table.specs.declared.row.Stage.TheVariants as stages
 use Rattle.call_table.specs.declared.waiting.DueCall.{DueCall}
 use Rattle.call_table.specs.declared.waiting.Waiting.{Waiting}
 use Rattle.ens_base.specs.declared.reply.Reply.TheVariants as replies
-use Rattle.held_stores.specs.Held.{Held}
+use Rattle.tree_refinement.specs.HeldStores.{Held}
 use Rattle.leader_laws.specs.Tables.{Ghosts, Owed}
 use Rattle.leader_refinement.proofs.Ticks.{run_ticks}
 use Rattle.leader_refinement.specs.Follows.{Ends as LeaderEnds, TimesOut, SentSays, TaskHolds}
@@ -225,6 +225,8 @@ module _ (c : Scene) where
     trust = here.trust;
     tree = here.tree;
     seal = here.seal;
+    mode = here.mode;
+    held = here.held;
     sync = here.sync;
     fits = here.fits;
     task = here.task;

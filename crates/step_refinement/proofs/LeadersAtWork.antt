@@ -18,7 +18,7 @@ use Rattle.election_refinement.specs.Listed.{IsListedPeer, IsListedMessage}
 use Rattle.election_refinement.specs.Refinement.{PeerHolds, SyncHolds, SendHolds, IsOrderly, IsLeading, IsStarted}
 use Rattle.entry_laws.proofs.Later.{stay_after}
 use Rattle.ens_base.specs.declared.epoch.Epoch.{Epoch}
-use Rattle.held_stores.specs.Held.{Held}
+use Rattle.tree_refinement.specs.HeldStores.{Held}
 use Rattle.leader_laws.proofs.Roles.{run_roles}
 use Rattle.leader_laws.specs.Leaders.{TurnsHold}
 use Rattle.leader_laws.specs.Moves.{IsLeaderMove}
@@ -43,9 +43,8 @@ use Rattle.peer_state.specs.declared.state.Phase.TheVariants as phases
 use Rattle.peer_state.specs.declared.state.State.{State as PeerState}
 use Rattle.peer_fact.specs.declared.fact.Fact.{Fact}
 use Rattle.register_model.specs.declared.note.Note.{Note}
-use Rattle.request_refinement.proofs.Replying.{run_serves}
-use Rattle.request_refinement.specs.Naming.{hash_of}
-use Rattle.request_refinement.specs.Replies.{MapSays, Serves}
+use Rattle.sync_refinement.proofs.RequestRefinement.{run_serves}
+use Rattle.sync_refinement.specs.RequestRefinement.{hash_of, MapSays, Serves}
 use Rattle.running_sync.specs.Running.{Running}
 use Rattle.step_plans.specs.Plans.{Out}
 use Rattle.step_plans.specs.Saved.{bare}
@@ -77,7 +76,7 @@ no_sync l p fact None holds = refl
 no_sync l p fact (Some r) holds = absurd (false≢true holds.may.waits)
 
 module _ (c : Scene) where
-  open c use {lines, view, strings, peer as p}
+  open c use {lines, version, view, strings, peer as p}
 
   -- ## A longer run
 
@@ -91,11 +90,13 @@ module _ (c : Scene) where
     pub trust : t.objects.trusted p ≡ x.trusted
     pub tree : TreeHolds t strings p x.seal h
     pub seal : SealFits lines x.seal
-    pub sync : SyncFits lines t strings p x.fact x.trusted tree.last.map h.stores.tree.top x.sync
+    pub mode : x.mode.tree ≡ version
+    pub held : h.stores.tree.version ≡ version
+    pub sync : SyncFits version lines t strings p x.fact x.trusted tree.last.map h.stores.tree.top x.sync
     pub noted : t.book.notes ≡ (state_before c).book.notes ++ notes
     pub sends : All (SendHolds t.objects.ledger p) out.sends
     pub listed_sends : All (λ (o : Outgoing). IsListedMessage lines.voting o.message) out.sends
-    pub fits_sends : All (SendFits lines t strings p) out.sends
+    pub fits_sends : All (SendFits version lines t strings p) out.sends
 
   -- and what is said of calls
   pub record Stands (key : List ℕ) (x : PeerState) (h : Held) (out : Out) (notes : List Note) (g : Ghosts) (t : State) : Type 0 where
@@ -116,6 +117,8 @@ module _ (c : Scene) where
     trust = here.trust;
     tree = here.tree;
     seal = here.seal;
+    mode = here.mode;
+    held = here.held;
     sync = here.sync;
     noted = here.noted;
     sends = here.sends;
@@ -133,6 +136,8 @@ module _ (c : Scene) where
     trust = standing.trust;
     tree = standing.tree;
     seal = standing.seal;
+    mode = standing.mode;
+    held = standing.held;
     sync = standing.sync;
     fits = there.fits;
     task = there.task;
@@ -196,10 +201,10 @@ module _ (c : Scene) where
     new_listed_sends asks = All-append (λ (o : Outgoing). IsListedMessage lines.voting o.message) out.sends r.1.sends old.listed_sends
         (All-weaker AskFits (λ (o : Outgoing). IsListedMessage lines.voting o.message) (λ o a. call_listed lines.voting o.message a.fits) r.1.sends asks)
 
-    new_fits_sends : All AskFits r.1.sends → All (SendFits lines later strings p) (out.sends ++ r.1.sends)
-    new_fits_sends asks = All-append (SendFits lines later strings p) out.sends r.1.sends
-        (sends_stay s later strings (stay_after s steps may) lines p out.sends old.fits_sends)
-        (All-weaker AskFits (SendFits lines later strings p) (λ o a. call_fits lines later strings p o.message a.fits) r.1.sends asks)
+    new_fits_sends : All AskFits r.1.sends → All (SendFits version lines later strings p) (out.sends ++ r.1.sends)
+    new_fits_sends asks = All-append (SendFits version lines later strings p) out.sends r.1.sends
+        (sends_stay s later strings (stay_after s steps may) version lines p out.sends old.fits_sends)
+        (All-weaker AskFits (SendFits version lines later strings p) (λ o a. call_fits version lines later strings p o.message a.fits) r.1.sends asks)
 
     shows : l.leader.me ≡ p → AcksShow s p later
     shows own = subst (λ q. AcksShow s q later) own (acks_shown s l.leader.me steps kinds)
@@ -215,7 +220,9 @@ module _ (c : Scene) where
       trust = ap (λ (t : ℕ → Bool). t p) kept.trusted ∙ old.trust;
       tree = tree_stays s later strings p x.seal h (stay_after s steps may) (ap (λ (m : ℕ → Map). m p) kept.visible) (ap (λ (m : ℕ → Map). m p) kept.map) (λ blind. ap (λ (t : ℕ → Bool). t p) kept.trusted ∙ blind) old.tree;
       seal = old.seal;
-      sync = sync_stays lines s later strings p x.fact x.trusted old.tree.last.map h.stores.tree.top x.sync (stay_after s steps may) old.peer.saved.ballot old.sync;
+      mode = old.mode;
+      held = old.held;
+      sync = sync_stays version lines s later strings p x.fact x.trusted old.tree.last.map h.stores.tree.top x.sync (stay_after s steps may) old.peer.saved.ballot old.sync;
       noted = told_notes ∙ ap (λ ns. ns ++ r.1.notes) old.noted ∙ append_assoc (state_before c).book.notes notes r.1.notes;
       sends = new_sends asks;
       listed_sends = new_listed_sends asks;
@@ -303,6 +310,8 @@ module _ (c : Scene) where
       trust = here.trust;
       tree = here.tree;
       seal = here.seal;
+      mode = here.mode;
+      held = here.held;
       sync = here.sync;
       fits = here.fits;
       task = work.task;
@@ -341,6 +350,8 @@ module _ (c : Scene) where
       trust = here.trust;
       tree = here.tree;
       seal = here.seal;
+      mode = here.mode;
+      held = here.held;
       sync = here.sync;
       fits = tt;
       task = tt;
@@ -367,9 +378,9 @@ module _ (c : Scene) where
 
   rekeyed_phase : (key k : List ℕ) (x : PeerState) (h : Held) (out : Out) (notes : List Note) (phase : Phase) → Here c key (record x { phase = phase }) h out notes → IsAtRest phase → Here c k (record x { phase = phase }) h out notes
   rekeyed_phase key k x h out notes (phases.Leading l) here free = rekeyed_leader l x here k free
-  rekeyed_phase key k x h out notes (phases.Following f) here free = record { reached = here.reached; roles = here.roles; peer = here.peer; listed = here.listed; trust = here.trust; tree = here.tree; seal = here.seal; sync = here.sync; fits = tt; task = tt; noted = here.noted; sends = here.sends; listed_sends = here.listed_sends; fits_sends = here.fits_sends }
-  rekeyed_phase key k x h out notes (phases.Probing b) here free = record { reached = here.reached; roles = here.roles; peer = here.peer; listed = here.listed; trust = here.trust; tree = here.tree; seal = here.seal; sync = here.sync; fits = tt; task = tt; noted = here.noted; sends = here.sends; listed_sends = here.listed_sends; fits_sends = here.fits_sends }
-  rekeyed_phase key k x h out notes (phases.Electing e) here free = record { reached = here.reached; roles = here.roles; peer = here.peer; listed = here.listed; trust = here.trust; tree = here.tree; seal = here.seal; sync = here.sync; fits = tt; task = tt; noted = here.noted; sends = here.sends; listed_sends = here.listed_sends; fits_sends = here.fits_sends }
+  rekeyed_phase key k x h out notes (phases.Following f) here free = record { reached = here.reached; roles = here.roles; peer = here.peer; listed = here.listed; trust = here.trust; tree = here.tree; seal = here.seal; mode = here.mode; held = here.held; sync = here.sync; fits = tt; task = tt; noted = here.noted; sends = here.sends; listed_sends = here.listed_sends; fits_sends = here.fits_sends }
+  rekeyed_phase key k x h out notes (phases.Probing b) here free = record { reached = here.reached; roles = here.roles; peer = here.peer; listed = here.listed; trust = here.trust; tree = here.tree; seal = here.seal; mode = here.mode; held = here.held; sync = here.sync; fits = tt; task = tt; noted = here.noted; sends = here.sends; listed_sends = here.listed_sends; fits_sends = here.fits_sends }
+  rekeyed_phase key k x h out notes (phases.Electing e) here free = record { reached = here.reached; roles = here.roles; peer = here.peer; listed = here.listed; trust = here.trust; tree = here.tree; seal = here.seal; mode = here.mode; held = here.held; sync = here.sync; fits = tt; task = tt; noted = here.noted; sends = here.sends; listed_sends = here.listed_sends; fits_sends = here.fits_sends }
 
   -- without a task at hand the key says nothing
   pub rekeyed : (key k : List ℕ) (x : PeerState) (h : Held) (out : Out) (notes : List Note) → AtRest c key x h out notes → AtRest c k x h out notes

@@ -31,3 +31,5 @@ pub mod PhaseRules
 pub mod AllEvents
 pub mod LaterStates
 pub mod KeptTrust
+pub mod ElectionRefinement
+pub mod SyncRefinement

@@ -12,7 +12,7 @@ use Rattle.election_refinement.specs.Listed.{IsListedPeer, IsListedMessage}
 use Rattle.election_refinement.specs.Refinement.{PeerHolds, SendHolds}
 use Rattle.entry_laws.proofs.Later.{stay_step}
 use Rattle.entry_laws.specs.Stays.{EntriesStay}
-use Rattle.held_stores.specs.Held.{Held}
+use Rattle.tree_refinement.specs.HeldStores.{Held}
 use Rattle.leader_laws.proofs.Roles.{run_roles}
 use Rattle.leader_laws.specs.Roles.{RolesHold}
 use Rattle.leader_laws.specs.Tables.{Owed}
@@ -65,7 +65,7 @@ lost c r = record {
 }
 
 module _ (c : Scene) where
-  open c use {lines, view, strings, peer as p}
+  open c use {lines, version, view, strings, peer as p}
 
   -- what holds of the running peer, without a task at hand, but for the trust in its tree and its sync
   pub record Nearly (key : List ℕ) (x : PeerState) (h : Held) (out : Out) (notes : List Note) : Type 0 where
@@ -75,12 +75,14 @@ module _ (c : Scene) where
     pub listed : IsListedPeer lines.voting p x
     pub tree : TreeHolds (now c reached) strings p x.seal h
     pub seal : SealFits lines x.seal
+    pub mode : x.mode.tree ≡ version
+    pub held : h.stores.tree.version ≡ version
     pub fits : PhaseFits reached.ghosts.hash (now c reached) x.phase
     pub rests : IsAtRest x.phase
     pub noted : (now c reached).book.notes ≡ (state_before c).book.notes ++ notes
     pub sends : All (SendHolds (now c reached).objects.ledger p) out.sends
     pub listed_sends : All (λ (o : Outgoing). IsListedMessage lines.voting o.message) out.sends
-    pub fits_sends : All (SendFits lines (now c reached) strings p) out.sends
+    pub fits_sends : All (SendFits version lines (now c reached) strings p) out.sends
 
   module _ {key : List ℕ} {x : PeerState} {h : Held} {out : Out} {notes : List Note} (near : Nearly key x h out notes) where
     abbrev s : State
@@ -104,13 +106,15 @@ module _ (c : Scene) where
         trust = put_here s.objects.trusted p false ∙ sym blind;
         tree = tree_stays s u strings p x.seal h stay refl refl (λ is. put_here s.objects.trusted p false) near.tree;
         seal = near.seal;
-        sync = subst (λ (sync : Option Running). SyncFits lines u strings p x.fact x.trusted near.tree.last.map h.stores.tree.top sync) (sym none) tt;
+        mode = near.mode;
+        held = near.held;
+        sync = subst (λ (sync : Option Running). SyncFits version lines u strings p x.fact x.trusted near.tree.last.map h.stores.tree.top sync) (sym none) tt;
         fits = phase_stays near.reached.ghosts.hash s u p x.fact x.phase stay (λ d elected. refl) near.peer.phase near.fits;
         task = rest_task u key x.phase near.rests;
         noted = near.noted;
         sends = near.sends;
         listed_sends = near.listed_sends;
-        fits_sends = sends_stay s u strings stay lines p out.sends near.fits_sends;
+        fits_sends = sends_stay s u strings stay version lines p out.sends near.fits_sends;
       },
       near.rests,
     )
@@ -136,6 +140,8 @@ module _ (c : Scene) where
       listed = listed_untrusted at.0.listed;
       tree = at.0.tree;
       seal = at.0.seal;
+      mode = at.0.mode;
+      held = at.0.held;
       fits = stands.fits;
       rests = stands.rests;
       noted = at.0.noted;

@@ -29,10 +29,10 @@ use Rattle.election_refinement.specs.Listed.{IsListedFact}
 use Rattle.election_refinement.specs.Refinement.{IsSaved}
 use Rattle.entry_laws.proofs.Later.{stay_step}
 use Rattle.entry_laws.specs.Stays.{EntriesStay}
-use Rattle.held_stores.specs.Held.{Held}
+use Rattle.tree_refinement.specs.HeldStores.{Held}
 use Rattle.leader_laws.specs.Tables as theory
 use Rattle.leader_refinement.specs.Seen.{rank}
-use Rattle.request_refinement.specs.Naming.{object_of_version}
+use Rattle.sync_refinement.specs.RequestRefinement.{object_of_version}
 use Rattle.peer_state.specs.declared.state.State.{State as PeerState}
 use Rattle.peer_fact.specs.declared.fact.Fact.{Fact}
 use Rattle.register_model.specs.declared.note.Note.{Note}

@@ -36,6 +36,7 @@ use Rattle.wire_frames.specs.declared.message.NackCause.TheVariants as causes
 use Rattle.phase_rows.specs.declared.phase.PhaseOut.{PhaseOut}
 use Rattle.phase_rows.specs.declared.rules.PhaseRule.{PhaseRule}
 use Rattle.phase_rows.specs.declared.rules.PhaseRule.TheVariants as phase_rules
+use Rattle.tree_node.specs.declared.version.TreeVersion.{TreeVersion}
 use Rattle.step_refinement.specs.Peers.{MessageFits}
 use Rattle.step_refinement.specs.Roles.{said_of}
 
@@ -80,15 +81,15 @@ says_nothing_of None mute = tt
 says_nothing_of (Some message) mute = message_mute message mute
 
 -- and it fits
-pub mute_fits : (lines : Lines) (s : Protocol) (strings : List (List ℕ)) (q : ℕ) (message : Message) → IsMuteMessage message → MessageFits lines s strings q message
-mute_fits lines s strings q (messages.Get ballot round key) mute = absurd mute
-mute_fits lines s strings q (messages.GetReply ballot round key entry object) mute = absurd mute
-mute_fits lines s strings q (messages.Check ballot round) mute = absurd mute
-mute_fits lines s strings q (messages.CheckReply ballot round) mute = absurd mute
-mute_fits lines s strings q (messages.Put ballot o) mute = absurd mute
-mute_fits lines s strings q (messages.PutReply ballot key version) mute = absurd mute
-mute_fits lines s strings q (messages.TreeGive ballot at after trusted body) mute = absurd mute
-mute_fits lines s strings q other mute = tt
+pub mute_fits : (version : TreeVersion) (lines : Lines) (s : Protocol) (strings : List (List ℕ)) (q : ℕ) (message : Message) → IsMuteMessage message → MessageFits version lines s strings q message
+mute_fits version lines s strings q (messages.Get ballot round key) mute = absurd mute
+mute_fits version lines s strings q (messages.GetReply ballot round key entry object) mute = absurd mute
+mute_fits version lines s strings q (messages.Check ballot round) mute = absurd mute
+mute_fits version lines s strings q (messages.CheckReply ballot round) mute = absurd mute
+mute_fits version lines s strings q (messages.Put ballot o) mute = absurd mute
+mute_fits version lines s strings q (messages.PutReply ballot key put) mute = absurd mute
+mute_fits version lines s strings q (messages.TreeGive ballot at after trusted body) mute = absurd mute
+mute_fits version lines s strings q other mute = tt
 
 -- the message is no check
 abbrev pub IsNoCheck : Message → Type 0

@@ -16,8 +16,7 @@ use Rattle.election_refinement.proofs.Sets.{posted_to_hold}
 use Rattle.election_refinement.proofs.Whole.{RowGoes}
 use Rattle.election_refinement.specs.Listed.{IsListedMessage, SaysListed, IsListedThen}
 use Rattle.election_refinement.specs.Refinement.{PeerHolds, PhaseHolds, may_wait, SendHolds}
-use Rattle.held_stores.specs.Answers.{Answered, answered, with_facts}
-use Rattle.held_stores.specs.Held.{Held}
+use Rattle.tree_refinement.specs.HeldStores.{Answered, answered, with_facts, Held}
 use Rattle.leader_laws.proofs.Runs.{run_leaders}
 use Rattle.leader_laws.specs.Leaders.{IsUnled}
 use Rattle.leader_laws.specs.Roles.{RolesHold}
@@ -27,6 +26,7 @@ use Rattle.leader_words.specs.declared.out.Outgoing.{Outgoing}
 use Rattle.peer_plan.specs.Drives.{row_done}
 use Rattle.peer_state.specs.Moves.{ends_leading, left, left_answers, turned, turned_answers, without_sync}
 use Rattle.peer_plan.specs.Syncs.{saved, and_sends, start_sync, by_outcome, followed_on}
+use Rattle.peer_state.specs.declared.state.Mode.{Mode}
 use Rattle.peer_state.specs.declared.state.Phase.{Phase}
 use Rattle.peer_state.specs.declared.state.State.{State as PeerState}
 use Rattle.peer_fact.specs.declared.fact.Fact.{Fact}
@@ -60,7 +60,7 @@ use Rattle.step_refinement.proofs.StoreAnswers.{HasEither, SaveEnds, Saves, Refu
 use Rattle.step_refinement.proofs.Refusals.{rests_over}
 use Rattle.step_refinement.proofs.SentMessages.{posted_to_each, SaysSo, sends_say, says_more}
 use Rattle.step_refinement.proofs.ElectionSteps.{AreElectionSteps, elections_only, entries_there, spared_there, roles_there, unled_there, tree_there, sends_there, reached_there}
-use Rattle.step_refinement.proofs.KeptTrust.{Spares, IsBlind, left_spares, settled_seal, settled_spares, sync_spared}
+use Rattle.step_refinement.proofs.KeptTrust.{Spares, IsBlind, left_spares, settled_seal, settled_mode, settled_spares, sync_spared}
 use Rattle.step_refinement.proofs.LaterStates.{phase_stays, sync_stays}
 use Rattle.step_refinement.proofs.SyncSteps.{begun_good, resumed_good}
 use Rattle.step_refinement.proofs.LeaderTasks.{PhasesNext}
@@ -94,6 +94,11 @@ map_after s strings q seal (Some fact) h tree = refl
 root_after : (seal : Option (List ℕ)) (save : Option Fact) (h : Held) → h.stores.tree.top ≡ (held_after seal save h).stores.tree.top
 root_after seal None h = refl
 root_after seal (Some fact) h = refl
+
+-- and the same version
+version_after : (seal : Option (List ℕ)) (save : Option Fact) (h : Held) → (held_after seal save h).stores.tree.version ≡ h.stores.tree.version
+version_after seal None h = refl
+version_after seal (Some fact) h = refl
 
 -- the stores keep the same fact and the same top records
 record IsOver (h t : Held) : Type 0 where
@@ -177,7 +182,7 @@ way_begun p fact x out next = λ i. Ask ScanTree (λ (scan : Scan). way_ended p 
 -- ## Rows
 
 module _ (c : Scene) where
-  open c use {lines, view, strings, peer as p}
+  open c use {lines, version, view, strings, peer as p}
 
   -- the row goes on from the run that the step has reached, and leaves the peer listed; it spares the sync of
   -- the peer, and what its message says holds then
@@ -187,7 +192,7 @@ module _ (c : Scene) where
     pub listed : GoesListed lines.voting p row
     pub spares : Spares x row.0
     pub says : RowAll (SaysSo r.ghosts (state_after view (goes.es ++ r.steps)) p) row.1.message
-    pub fits : RowAll (MessageFits lines (state_after view (goes.es ++ r.steps)) strings p) row.1.message
+    pub fits : RowAll (MessageFits version lines (state_after view (goes.es ++ r.steps)) strings p) row.1.message
 
   -- the peer is at rest, and the ledger is this one
   record RowEnds (key : List ℕ) (x : PeerState) (h : Held) (out : Out) (notes : List Note) (l : Ledger) : Type 0 where
@@ -297,6 +302,10 @@ module _ (c : Scene) where
     seal_same : seal ≡ x.seal
     seal_same = (left_spares row.1.leave row.0).seal ∙ good.spares.seal
 
+    -- so does the mode
+    mode_same : (left row.1.leave row.0).mode ≡ x.mode
+    mode_same = (left_spares row.1.leave row.0).mode ∙ good.spares.mode
+
     abbrev tree : TreeHolds t strings p seal h
     tree = tree_under t strings p x.seal seal h seal_same (tree_there view es steps good.goes.run strings kinds p x.seal h at.0.tree)
 
@@ -312,19 +321,21 @@ module _ (c : Scene) where
       listed = good.listed.peer;
       tree = tree_then;
       seal = subst (SealFits lines) (sym (settled_seal p row.1 row.0 ∙ seal_same)) at.0.seal;
+      mode = ap (λ (m : Mode). m.tree) (settled_mode p row.1 row.0 ∙ mode_same) ∙ at.0.mode;
+      held = version_after seal row.1.save h ∙ at.0.held;
       fits = stands.fits;
       rests = stands.rests;
       noted = (spared_there view es steps kinds).notes ∙ at.0.noted;
       sends = all_after (SendHolds t.objects.ledger p) (sends_keep (now c at.0.reached).objects.ledger t.objects.ledger p good.goes.keeps p out.sends at.0.sends) (posted_to_hold t.objects.ledger p row.1.to row.1.message good.goes.says);
       listed_sends = all_after (λ (o : Outgoing). IsListedMessage lines.voting o.message) at.0.listed_sends (row_each (IsListedMessage lines.voting) row.1.to row.1.message listed_row);
-      fits_sends = all_after (SendFits lines t strings p) (sends_there view es steps good.goes.run strings lines p out.sends at.0.fits_sends) (row_each (MessageFits lines t strings p) row.1.to row.1.message good.fits);
+      fits_sends = all_after (SendFits version lines t strings p) (sends_there view es steps good.goes.run strings version lines p out.sends at.0.fits_sends) (row_each (MessageFits version lines t strings p) row.1.to row.1.message good.fits);
     }
 
     -- a sync that runs on says what it said
-    sync_there : Spares x end → SyncFits lines t strings p end.fact end.trusted tree.last.map h.stores.tree.top end.sync
+    sync_there : Spares x end → SyncFits version lines t strings p end.fact end.trusted tree.last.map h.stores.tree.top end.sync
     sync_there spares =
-        sync_spared lines t strings t.objects.ledger p tree.last.map h.stores.tree.top (may_wait end.phase) x end spares peer_there.sync
-        (sync_stays lines (now c at.0.reached) t strings p x.fact x.trusted at.0.tree.last.map h.stores.tree.top x.sync (entries_there view es steps good.goes.run) at.0.peer.saved.ballot at.0.sync)
+        sync_spared version lines t strings t.objects.ledger p tree.last.map h.stores.tree.top (may_wait end.phase) x end spares peer_there.sync
+        (sync_stays version lines (now c at.0.reached) t strings p x.fact x.trusted at.0.tree.last.map h.stores.tree.top x.sync (entries_there view es steps good.goes.run) at.0.peer.saved.ballot at.0.sync)
 
     -- the peer agrees with the run at the end of the row
     row_there : RowEnds key end (held_after seal row.1.save h) (out_after row.1 row.0 out) notes t.objects.ledger
@@ -342,8 +353,10 @@ module _ (c : Scene) where
               trust = ap (λ (f : ℕ → Bool). f p) (spared_there view es steps kinds).trusted ∙ (at.0.trust ∙ sym spares.trusted);
               tree = tree_then;
               seal = nearly.seal;
-              sync = subst (λ (root : Option (List ℕ)). SyncFits lines t strings p end.fact end.trusted tree_then.last.map root end.sync) (root_after seal row.1.save h)
-                  (subst (λ (m : List Entry). SyncFits lines t strings p end.fact end.trusted m h.stores.tree.top end.sync) (map_after t strings p seal row.1.save h tree) (sync_there spares));
+              mode = nearly.mode;
+              held = nearly.held;
+              sync = subst (λ (root : Option (List ℕ)). SyncFits version lines t strings p end.fact end.trusted tree_then.last.map root end.sync) (root_after seal row.1.save h)
+                  (subst (λ (m : List Entry). SyncFits version lines t strings p end.fact end.trusted m h.stores.tree.top end.sync) (map_after t strings p seal row.1.save h tree) (sync_there spares));
               fits = nearly.fits;
               task = rest_task t key end.phase nearly.rests;
               noted = nearly.noted;

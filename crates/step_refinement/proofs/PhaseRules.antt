@@ -14,7 +14,7 @@ use Rattle.election_refinement.proofs.Ticks.{ticks_hold}
 use Rattle.election_refinement.proofs.Whole.{RowGoes, here, phase_row_goes, received_goes, aged_goes, asked_change_goes}
 use Rattle.election_refinement.specs.Listed.{IsListedLeadership, IsListedMessage, IsListedPhase}
 use Rattle.election_refinement.specs.Refinement.{MessageHolds, PeerHolds, PhaseHolds, IsLeading, SyncHolds, may_wait}
-use Rattle.held_stores.specs.Held.{Held}
+use Rattle.tree_refinement.specs.HeldStores.{Held}
 use Rattle.leader_laws.specs.Roles.{RolesHold}
 use Rattle.leader_laws.specs.Tables.{Ghosts}
 use Rattle.leader_refinement.specs.Seen.{owed_after}
@@ -46,6 +46,7 @@ use Rattle.phase_rows.specs.declared.phase.PhaseOut.{PhaseOut}
 use Rattle.phase_rows.specs.declared.phase.Then.{Then}
 use Rattle.phase_rows.specs.declared.phase.Then.TheVariants as thens
 use Rattle.phase_rows.specs.declared.rules.PhaseRule.{PhaseRule}
+use Rattle.tree_node.specs.declared.version.TreeVersion.{TreeVersion}
 use Rattle.step_refinement.proofs.CallByCall.{Ends, Onward, rest_task}
 use Rattle.step_refinement.specs.Scenes.{Scene, now, AtRest}
 use Rattle.step_refinement.proofs.PhaseMessages.{SaysNothing, TellsNothing, IsMute, IsNoCheck, says_nothing_of, mute_fits, phase_row_mute, received_mute, aged_mute, asked_change_mute}
@@ -79,9 +80,9 @@ pub mute_says : (g : Ghosts) (s : State) (p : ℕ) (message : Option Message) �
 mute_says g s p None mute = tt
 mute_says g s p (Some message) mute = says_nothing g s p message mute
 
-mute_may_fit : (lines : Lines) (s : State) (strings : List (List ℕ)) (p : ℕ) (message : Option Message) → TellsNothing message → RowAll (MessageFits lines s strings p) message
-mute_may_fit lines s strings p None mute = tt
-mute_may_fit lines s strings p (Some message) mute = mute_fits lines s strings p message mute
+mute_may_fit : (version : TreeVersion) (lines : Lines) (s : State) (strings : List (List ℕ)) (p : ℕ) (message : Option Message) → TellsNothing message → RowAll (MessageFits version lines s strings p) message
+mute_may_fit version lines s strings p None mute = tt
+mute_may_fit version lines s strings p (Some message) mute = mute_fits version lines s strings p message mute
 
 -- a reminder tells that the leader is alive, its epoch, or the second fact of its epoch
 ticks_are : (P : Message → Type 0) (fact : Fact) (l : Leadership) → P (messages.Beat l.leader.fact.epoch) → P (messages.NewEpoch l.leader.fact) → P (messages.Commit fact) → All (λ (o : Outgoing). P o.message) (ticks fact l)
@@ -94,7 +95,7 @@ ticks_are P fact l beat tells commit =
     told (Finishes f) q = by_test P (holds f.accepts2 q) _ _ (λ has. beat) (λ lacks. commit)
 
 module _ (c : Scene) where
-  open c use {lines, view, strings, peer as p}
+  open c use {lines, version, view, strings, peer as p}
 
   -- rule 5 (d) and (e): a leader reminds the other members of its epoch, and may want a change
   module _ (key : List ℕ) (l : Leadership) (x : PeerState) (h : Held) (out : Out) (notes : List Note) (is : x.phase ≡ phases.Leading l) (at : AtRest c key x h out notes) where
@@ -109,7 +110,7 @@ module _ (c : Scene) where
       tells_more c key x h out notes (ticks x.fact l) at.0
           (ticks_hold (now c at.0.reached).objects.ledger p x.fact l leads_so (is_second (here view at.0.reached.steps p c.is_peer at.0.reached.run at.0.reached.orderly at.0.peer) l leads_so) 31 (omega arith))
           (listed_ticks listed x.fact at.0.listed.fact)
-          (ticks_are (MessageFits lines (now c at.0.reached) strings p) x.fact l tt tt tt)
+          (ticks_are (MessageFits version lines (now c at.0.reached) strings p) x.fact l tt tt tt)
           (ticks_are (SaysSo at.0.reached.ghosts (now c at.0.reached) p) x.fact l
           (says_nothing at.0.reached.ghosts (now c at.0.reached) p (messages.Beat l.leader.fact.epoch) refl)
           (says_nothing at.0.reached.ghosts (now c at.0.reached) p (messages.NewEpoch l.leader.fact) refl)
@@ -131,6 +132,8 @@ module _ (c : Scene) where
         trust = reminders.0.trust;
         tree = reminders.0.tree;
         seal = reminders.0.seal;
+        mode = reminders.0.mode;
+        held = reminders.0.held;
         sync = reminders.0.sync;
         fits = subst (PhaseFits reminders.0.reached.ghosts.hash (now c reminders.0.reached)) is reminders.0.fits;
         task = rest_task (now c reminders.0.reached) key (phases.Leading wants) (subst IsAtRest is at.1);
@@ -175,7 +178,7 @@ module _ (c : Scene) where
           listed = told;
           spares = spares;
           says = mute_says at.0.reached.ghosts (state_after view (goes.es ++ at.0.reached.steps)) p row.1.message (says_nothing_of row.1.message mute);
-          fits = mute_may_fit lines (state_after view (goes.es ++ at.0.reached.steps)) strings p row.1.message mute;
+          fits = mute_may_fit version lines (state_after view (goes.es ++ at.0.reached.steps)) strings p row.1.message mute;
         }) next mark go
 
     -- a rule that a row names
@@ -228,6 +231,8 @@ module _ (c : Scene) where
       trust = at.0.trust;
       tree = at.0.tree;
       seal = at.0.seal;
+      mode = at.0.mode;
+      held = at.0.held;
       sync = at.0.sync;
       fits = at.0.fits;
       task = at.0.task;

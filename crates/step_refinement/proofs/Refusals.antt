@@ -7,7 +7,7 @@ use Rattle.abstract_protocol.specs.Protocol.{State, Lose, happens}
 use Rattle.election_refinement.specs.Listed.{IsListedFact}
 use Rattle.election_refinement.specs.Refinement.{IsSaved}
 use Rattle.entry_laws.proofs.Later.{stay_step}
-use Rattle.held_stores.specs.Held.{Held}
+use Rattle.tree_refinement.specs.HeldStores.{Held}
 use Rattle.leader_laws.proofs.Roles.{run_roles}
 use Rattle.leader_laws.specs.Roles.{Role, Follows, RolesHold}
 use Rattle.leader_refinement.specs.Seen.{owed_after}

@@ -18,7 +18,7 @@ use Rattle.abstract_protocol.specs.Protocol.{State, Step, Write, Acknowledge, Is
 use Rattle.election_refinement.proofs.Tests.{by_test}
 use Rattle.election_refinement.specs.Listed.{IsListedMessage}
 use Rattle.election_refinement.specs.Refinement.{SendHolds}
-use Rattle.held_stores.specs.Held.{Held}
+use Rattle.tree_refinement.specs.HeldStores.{Held}
 use Rattle.leader_laws.specs.Messages.{GetSays, CheckSays, PutSays}
 use Rattle.leader_laws.specs.Roles.{Said, SaidHolds, Reads, Entry as EntryShown, Checks, Stands, Puts, Acks}
 use Rattle.leader_laws.specs.Tables.{Ghosts}
@@ -38,9 +38,8 @@ use Rattle.phase_rows.specs.Orders.{is_below, is_same}
 use Rattle.phase_rows.specs.Peers.{alone}
 use Rattle.phase_rows.specs.Rows.{silent, refuses, refuses_below}
 use Rattle.register_model.specs.declared.note.Note.{Note}
-use Rattle.request_refinement.proofs.Numbers.{not_below}
-use Rattle.request_refinement.proofs.Replying.{run_serves, run_checks, run_gets, run_puts}
-use Rattle.request_refinement.specs.Replies.{Serves, FindSees, SeenSays, ReplySays, MayReply, Replies, HasVersion, TakesVersion, IsReplyToPut}
+use Rattle.sync_refinement.proofs.RequestRefinement.{not_below, run_serves, run_checks, run_gets, run_puts}
+use Rattle.sync_refinement.specs.RequestRefinement.{Serves, FindSees, SeenSays, ReplySays, MayReply, Replies, HasVersion, TakesVersion, IsReplyToPut}
 use Rattle.step_plans.specs.Plans.{Out, Rest}
 use Rattle.step_plans.specs.Sends.{posted_to}
 use Rattle.step_plans.specs.declared.tasks.Task.{Task}
@@ -180,13 +179,13 @@ answered_left x out = ap (λ (answers : List AnswerOut). let next : Out = record
 -- ## Messages that are sent
 
 module _ (c : Scene) where
-  open c use {lines, view, strings, peer as p}
+  open c use {lines, version, view, strings, peer as p}
 
   -- a message that peer p sends in state s says what holds
   pub record Tells (g : Ghosts) (s : State) (o : Outgoing) : Type 0 where
     pub send : SendHolds s.objects.ledger p o
     pub listed : IsListedMessage lines.voting o.message
-    pub fits : SendFits lines s strings p o
+    pub fits : SendFits version lines s strings p o
     pub says : (m : Said) → said_of o.message ≡ Some m → SaidHolds g s p m
 
   -- to any peer a reply says what holds
@@ -212,7 +211,7 @@ module _ (c : Scene) where
   tells_here {key} {x} {h} {out} {notes} here more tell = let s : State = now c here.reached in tells_more c key x h out notes more here
       (All-weaker (Tells here.reached.ghosts s) (SendHolds s.objects.ledger p) (λ (o : Outgoing) t. t.send) more tell)
       (All-weaker (Tells here.reached.ghosts s) (λ (o : Outgoing). IsListedMessage lines.voting o.message) (λ (o : Outgoing) t. t.listed) more tell)
-      (All-weaker (Tells here.reached.ghosts s) (SendFits lines s strings p) (λ (o : Outgoing) t. t.fits) more tell)
+      (All-weaker (Tells here.reached.ghosts s) (SendFits version lines s strings p) (λ (o : Outgoing) t. t.fits) more tell)
       (All-weaker (Tells here.reached.ghosts s) (SendSaysSo here.reached.ghosts s p) (λ (o : Outgoing) t. t.says) more tell)
 
   -- ## The rules

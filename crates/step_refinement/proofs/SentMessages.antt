@@ -12,7 +12,7 @@ use Rattle.abstract_protocol.specs.Protocol.{State}
 use Rattle.election_refinement.proofs.Tests.{by_test}
 use Rattle.election_refinement.specs.Listed.{IsListedMessage}
 use Rattle.election_refinement.specs.Refinement.{SendHolds}
-use Rattle.held_stores.specs.Held.{Held}
+use Rattle.tree_refinement.specs.HeldStores.{Held}
 use Rattle.leader_laws.specs.Roles.{Role, Said, Sent, SaidHolds, RolesHold}
 use Rattle.leader_laws.specs.Tables.{Ghosts}
 use Rattle.leader_refinement.specs.Seen.{owed_after}
@@ -132,7 +132,7 @@ says_here c {out = out} here from m at = here.roles.sent_hold (record { from = f
 
 -- more messages are sent in a step
 abbrev pub tells_more : (c : Scene) (key : List ℕ) (x : PeerState) (h : Held) (out : Out) (notes : List Note) (more : List Outgoing) → (here : Here c key x h out notes)
-    → All (SendHolds (now c here.reached).objects.ledger c.peer) more → All (λ (o : Outgoing). IsListedMessage c.lines.voting o.message) more → All (SendFits c.lines (now c here.reached) c.strings c.peer) more → All (SendSaysSo here.reached.ghosts (now c here.reached) c.peer) more
+    → All (SendHolds (now c here.reached).objects.ledger c.peer) more → All (λ (o : Outgoing). IsListedMessage c.lines.voting o.message) more → All (SendFits c.version c.lines (now c here.reached) c.strings c.peer) more → All (SendSaysSo here.reached.ghosts (now c here.reached) c.peer) more
     → Here c key x h (and_sends out more) notes
 tells_more c key x h out notes more here hold listed fit say = record {
   reached = here.reached;
@@ -142,11 +142,13 @@ tells_more c key x h out notes more here hold listed fit say = record {
   trust = here.trust;
   tree = here.tree;
   seal = here.seal;
+  mode = here.mode;
+  held = here.held;
   sync = here.sync;
   fits = here.fits;
   task = here.task;
   noted = here.noted;
   sends = All-append (SendHolds (now c here.reached).objects.ledger c.peer) out.sends more here.sends hold;
   listed_sends = All-append (λ (o : Outgoing). IsListedMessage c.lines.voting o.message) out.sends more here.listed_sends listed;
-  fits_sends = All-append (SendFits c.lines (now c here.reached) c.strings c.peer) out.sends more here.fits_sends fit;
+  fits_sends = All-append (SendFits c.version c.lines (now c here.reached) c.strings c.peer) out.sends more here.fits_sends fit;
 }

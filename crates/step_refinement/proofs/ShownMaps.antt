@@ -1,7 +1,6 @@
 -- The stores of a peer through the calls of a step: which map it wrote last and what names it, which map
 -- its tree shows, and which maps its top records name.
 use Rattle.std.proofs.Common.{◌≡◌, ◌⊎◌, inl, inr, ℕ, true, false, List, [], ◌∷◌, ◌++◌, Option, None, Some, refl, sym, ap, subst, ◌∙◌}
-use Rattle.std.proofs.lemmas.Bool.{true≢false}
 use Rattle.std.proofs.lemmas.Option.{none-some}
 use Rattle.ens_base.proofs.Lists.{in_append}
 use Rattle.ens_base.specs.Lists.{◌∈◌}
@@ -9,9 +8,7 @@ use Rattle.ens_base.specs.declared.entry.Entry.{Entry}
 use Rattle.abstract_protocol.specs.Objects.{Map, Objects, IsHonest}
 use Rattle.abstract_protocol.specs.Protocol.{State}
 use Rattle.entry_laws.specs.Stays.{EntriesStay}
-use Rattle.held_stores.specs.Answers.{answered, with_facts}
-use Rattle.held_stores.specs.Held.{Held, HeldStores}
-use Rattle.held_stores.specs.Laws.{held_with}
+use Rattle.tree_refinement.specs.HeldStores.{answered, with_facts, Held, HeldStores, held_with}
 use Rattle.peer_fact.specs.declared.fact.Fact.{Fact}
 use Rattle.seal_laws.proofs.Moves.{unsealed_not}
 use Rattle.seal_laws.specs.Kept.{IsSealed, RootHolds, named_by}
@@ -24,11 +21,11 @@ use Rattle.tree_refinement.proofs.Keeping as keeping
 use Rattle.tree_refinement.proofs.Keeping.{after_saving, after_putting}
 use Rattle.tree_refinement.proofs.Recording.{last_top}
 use Rattle.tree_refinement.proofs.Tops as records
-use Rattle.tree_refinement.proofs.Tops.{named_behind, named_shows}
+use Rattle.tree_refinement.proofs.Tops.{named_behind, named_sees}
 use Rattle.tree_refinement.specs.Laws.{KeepsRoot}
 use Rattle.tree_refinement.specs.Rooted.{Sees}
 use Rattle.tree_refinement.specs.Tops.{IsNamed, NamesNext, IsWritten, tops_of}
-use Rattle.tree_refinement.specs.Trees.{AreAmong, Shows}
+use Rattle.tree_refinement.specs.Trees.{AreAmong}
 use Rattle.world_stores.specs.Nodes.{top_of}
 use Rattle.step_refinement.specs.Peers.{TopReturns, TopsReturn, LastMap, SealFits, TreeHolds}
 
@@ -154,8 +151,8 @@ root_over o e q top seal root other next same_top same_root blind (inr none) = i
 pub root_same : (call : Call) (h : Held) → KeepsRoot call → (answered call h).held.stores.tree.top ≡ h.stores.tree.top
 root_same Load h k = refl
 root_same (Save fact) h k = after_saving fact h (λ (t : Held). t.stores.tree.top ≡ h.stores.tree.top) (λ facts. refl)
-root_same FreshTree h k = absurd k
-root_same (OpenTree seal) h k = absurd k
+root_same (FreshTree tree) h k = absurd k
+root_same (OpenTree seal tree) h k = absurd k
 root_same Root h k = refl
 root_same (Find key) h k = refl
 root_same (Enter entry) h k = absurd k
@@ -169,21 +166,13 @@ root_same (Hash bytes) h k = refl
 -- ## Trees
 
 module _ (s : State) (strings : List (List ℕ)) (q : ℕ) (seal : Option (List ℕ)) where
-  -- a tree has no root, or shows the map that the peer wrote last
+  -- a tree has no root of its version, or shows the map that the peer wrote last
   pub tree_sees : (h : Held) → (tree : TreeHolds s strings q seal h) → Sees h tree.last.map
   tree_sees h tree = by_root tree.root
     where
       by_root : RootHolds s.objects q (top_of (tops_of h.stores)) seal h.stores.tree.top → Sees h tree.last.map
-      by_root (inl is) = inr (named_shows h tree.last.map tree.last.digest (is.1 ∙ tree.last.is) tree.last.named)
-      by_root (inr none) = inl none.0
-
-  -- a tree that the peer trusts shows it
-  pub tree_shows : (h : Held) → (tree : TreeHolds s strings q seal h) → s.objects.trusted q ≡ true → Shows h tree.last.map
-  tree_shows h tree trusts = by_root tree.root
-    where
-      by_root : RootHolds s.objects q (top_of (tops_of h.stores)) seal h.stores.tree.top → Shows h tree.last.map
-      by_root (inl is) = named_shows h tree.last.map tree.last.digest (is.1 ∙ tree.last.is) tree.last.named
-      by_root (inr none) = absurd (true≢false (sym trusts ∙ none.2))
+      by_root (inl is) = named_sees h tree.last.map tree.last.digest (is.1 ∙ tree.last.is) tree.last.named
+      by_root (inr none) = inl (inl none.0)
 
   -- the same fact, top records and root are kept, and more strings were hashed
   abbrev pub tree_over : (h t : Held) → t.stores.facts.kept ≡ h.stores.facts.kept → tops_of t.stores ≡ tops_of h.stores → t.stores.tree.top ≡ h.stores.tree.top → AreAmong h.hashed t.hashed → TreeHolds s strings q seal h → TreeHolds s strings q seal t

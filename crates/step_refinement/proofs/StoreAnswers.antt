@@ -6,26 +6,21 @@ use Rattle.ens_fields.specs.Entries.{IsEntry}
 use Rattle.ens_outside.specs.Maps.{with_value}
 use Rattle.ens_outside.specs.declared.memory.failing_call.Leaves.{Leaves}
 use Rattle.ens_outside.specs.declared.memory.failing_call.Leaves.TheVariants.{Old, New}
-use Rattle.held_stores.specs.Answers.{Answered, answered, entered, root_after, walked, with_facts, with_backend, facts_failed, objects_failed}
-use Rattle.held_stores.specs.Held.{Held, unless_failing}
-use Rattle.held_stores.specs.Walks.{End, Came, Broke, Failed}
+use Rattle.tree_refinement.specs.HeldStores.{Answered, answered, entered, root_after, walked, with_facts, with_backend, facts_failed, objects_failed, Held, unless_failing, End, Came, Broke, Failed}
 use Rattle.peer_fact.specs.declared.saved.SavedFact.{SavedFact}
 use Rattle.step_plans.specs.Calls.{Save, Find, Enter, Put}
 use Rattle.step_plans.specs.declared.error.PeerError.{PeerError}
 use Rattle.step_plans.specs.declared.error.PeerError.TheVariants.{StoreFault}
 use Rattle.step_plans.specs.declared.walked.Walked.{Walked}
 use Rattle.step_plans.specs.declared.walked.Walked.TheVariants.{Reached, Broken}
-use Rattle.tree_node.specs.declared.version.TreeVersion.TheVariants.{One}
 use Rattle.synctree.specs.Trees.{insert_plan}
 use Rattle.tree_maps.specs.Entries.{lookup, put}
-use Rattle.tree_maps.specs.Sixteen.{form_of}
 use Rattle.tree_node.specs.declared.position.Position.{Position}
 use Rattle.tree_refinement.proofs.Rooted as rooted
-use Rattle.tree_refinement.proofs.Tops as records
 use Rattle.tree_refinement.specs.Laws.{IsReached}
-use Rattle.tree_refinement.specs.Rooted.{Sees}
-use Rattle.tree_refinement.specs.Tops.{tops_of, NamesNext, IsWritten, HasEntered}
-use Rattle.tree_refinement.specs.Trees.{AreAmong, AreFree, Shows}
+use Rattle.tree_refinement.specs.Rooted.{Sees, EndsEntered}
+use Rattle.tree_refinement.specs.Tops.{tops_of, NamesNext, IsWritten}
+use Rattle.tree_refinement.specs.Trees.{AreAmong, AreFree, form_in}
 use Rattle.world_stores.specs.Objects.{Objects}
 use Rattle.world_stores.specs.declared.fact.HeldFact.{HeldFact}
 
@@ -97,18 +92,18 @@ pub data EnterEnds (e : Entry) (m : List Entry) (h : Held) (r : Result (Walked (
   Stops : (at : Position) → r ≡ Ok (Broken at) → tops_of t.stores ≡ tops_of h.stores → EnterEnds e m h r t
   Tears : r ≡ Err StoreFault → (tops_of t.stores ≡ tops_of h.stores) ⊎ NamesNext (put e m) h t → EnterEnds e m h r t
 
-entered_so : (e : Entry) (m : List Entry) (h : Held) (r : Result (Walked (Unit {0})) PeerError) (t : Held) → HasEntered e m h r t → EnterEnds e m h r t
+entered_so : (e : Entry) (m : List Entry) (h : Held) (r : Result (Walked (Unit {0})) PeerError) (t : Held) → EndsEntered e m h r t → EnterEnds e m h r t
 entered_so e m h (Ok (Reached done)) t has = Enters refl has
 entered_so e m h (Ok (Broken at)) t has = Stops at refl has.1
 entered_so e m h (Err error) t has = Tears (ap (λ (x : PeerError). Err x) has.0) has.1
 
 -- each entering ends so
-pub enter_ends : (strings : List (List ℕ)) (h : Held) (m : List Entry) (e : Entry) → AreFree strings → AreAmong (answered (Enter e) h).held.hashed strings → Shows h m → IsEntry e → length (put e m) < 2 ^ 32 → EnterEnds e m h (answered (Enter e) h).result (answered (Enter e) h).held
-enter_ends strings h m e free among shows fits few = entered_so e m h (answered (Enter e) h).result (answered (Enter e) h).held (records.enters strings h m e free among shows fits few)
+pub enter_ends : (strings : List (List ℕ)) (h : Held) (m : List Entry) (e : Entry) → AreFree strings → AreAmong (answered (Enter e) h).held.hashed strings → Sees h m → IsEntry e → length (put e m) < 2 ^ 32 → EnterEnds e m h (answered (Enter e) h).result (answered (Enter e) h).held
+enter_ends strings h m e free among sees fits few = entered_so e m h (answered (Enter e) h).result (answered (Enter e) h).held (rooted.enters strings h m e free among sees fits few)
 
 -- an entering that meets damage leaves the root
 pub broken_root : (e : Entry) (h : Held) (at : Position) → (answered (Enter e) h).result ≡ Ok (Broken at) → (answered (Enter e) h).held.stores.tree.top ≡ h.stores.tree.top
-broken_root e h at is = by_end (walked (insert_plan (form_of One) h.stores.tree.top e) h).end is
+broken_root e h at is = by_end (walked (insert_plan (form_in h) h.stores.tree.top e) h).end is
   where
     by_end : (end : End (List ℕ)) → entered end ≡ Ok (Broken at) → root_after h.stores.tree.top end ≡ h.stores.tree.top
     by_end (Came root) is = absurd (cc)

@@ -1,6 +1,7 @@
 -- A sync in the step of a peer: it begins, asks again, takes what a source sends, and ends. At its end the
 -- peer installs the merged map and accepts the epoch that it promised.
 use Rattle.std.specs.Option.{is_some}
+use Rattle.std.specs.List.{AllByRecursion}
 use Rattle.std.specs.Prelude.{All, nat_le, not, ◌&&◌, ◌||◌, ◌==◌}
 use Rattle.std.proofs.Common.{◌≡◌, ◌⊎◌, inl, inr, ◌<◌, ◌≤◌, ◌^◌, ℕ, Bool, true, false, List, [], ◌∷◌, ◌++◌, get_or, length, map, Option, None, Some, Result, Ok, Err, arith, refl, ap, sym, subst, ◌∙◌}
 use Rattle.std.proofs.lemmas.Bool.{true≢false}
@@ -27,9 +28,7 @@ use Rattle.election_refinement.specs.Refinement as ledgers
 use Rattle.election_refinement.specs.Refinement.{PhaseHolds, IsFirst, IsSaved, IsOrderly, IsSyncing, MaySync, change_at, may_wait}
 use Rattle.entry_laws.proofs.Later.{stay_step}
 use Rattle.entry_laws.specs.Stays.{EntriesStay}
-use Rattle.held_stores.specs.Answers.{Answered, answered, with_facts, walked, whole}
-use Rattle.held_stores.specs.Held.{Held}
-use Rattle.held_stores.specs.Walks.{walk}
+use Rattle.tree_refinement.specs.HeldStores.{Answered, answered, with_facts, Held}
 use Rattle.leader_laws.proofs.Roles.{run_roles}
 use Rattle.leader_laws.specs.Roles.{RolesHold}
 use Rattle.leader_refinement.specs.Seen.{rank, owed_after}
@@ -66,22 +65,26 @@ use Rattle.sync_refinement.proofs.Firsts.{seen_first}
 use Rattle.sync_refinement.proofs.Staying.{version_stays, entries_stay}
 use Rattle.sync_refinement.specs.Laws.{AreFewKeys, FirmAreKept, SyncEnds, SyncLaws}
 use Rattle.sync_refinement.specs.Seen.{ranks, seen_fact, seen_tree}
-use Rattle.sync_refinement.specs.Syncs.{TreeSays, MayReturn}
-use Rattle.sync_rule.specs.Syncs.{outcome_of, needs_build, is_clean, same_entries}
+use Rattle.sync_refinement.specs.Syncs.{TreeSays, MayReturn, AreHashed}
+use Rattle.sync_rule.specs.Syncs.{outcome_of, needs_build, is_clean, is_none, same_entries}
 use Rattle.sync_rule.specs.declared.sync.Outcome.{Outcome}
 use Rattle.sync_rule.specs.declared.sync.Outcome.TheVariants.{Pending, Trusted}
 use Rattle.tree_maps.specs.Sixteen.{form_of}
+use Rattle.tree_node.specs.Positions.{IsPosition}
 use Rattle.tree_node.specs.declared.body.Scan.{Scan}
 use Rattle.tree_node.specs.declared.position.Position.{Position}
-use Rattle.tree_node.specs.declared.version.TreeVersion.TheVariants.{One}
-use Rattle.tree_verify.specs.Levels.{scan_plan}
+use Rattle.tree_node.specs.declared.version.TreeVersion.{TreeVersion}
+use Rattle.tree_node.specs.declared.version.TreeVersion.TheVariants.{Two}
+use Rattle.tree_verify.specs.Scans.{lost}
 use Rattle.tree_refinement.proofs.Damage.{scan_positions}
 use Rattle.tree_refinement.proofs.Keeping as keeping
 use Rattle.tree_refinement.proofs.Rooted as rooted
+use Rattle.tree_refinement.proofs.Rooted.{version_kept_so}
 use Rattle.tree_refinement.proofs.Tops.{installs as installs_tops, named_behind}
-use Rattle.tree_refinement.specs.Laws.{IsScanned, KeepsRoot}
+use Rattle.tree_refinement.specs.Laws.{KeepsRoot}
+use Rattle.tree_refinement.specs.Rooted.{LosesAll, IsSeen}
 use Rattle.tree_refinement.specs.Tops.{HasBuilt, IsNamed, IsTorn, IsWritten, NamesNext, tops_of}
-use Rattle.tree_refinement.specs.Trees.{AreAmong}
+use Rattle.tree_refinement.specs.Trees.{AreAmong, Shows}
 use Rattle.version_laws.proofs.Maps.{put_here, put_other}
 use Rattle.version_laws.proofs.Trees.{run_versions}
 use Rattle.version_laws.proofs.Views.{last_view_in}
@@ -135,17 +138,15 @@ seals_none true seal keeps = absurd (true≢false keeps)
 seals_none false None keeps = refl
 seals_none false (Some seal) keeps = absurd (true≢false keeps)
 
--- a scan without a root is not clean
-abbrev clean_of : Result Scan PeerError → Bool
-clean_of (Ok scan) = is_clean scan
-clean_of (Err e) = false
+-- a scan that lost each key is not clean
+unclean : (damaged : List Position) → ((key : List ℕ) → lost (form_of Two) damaged key ≡ true) → is_none damaged ≡ true → ⊥
+unclean [] loses clean = true≢false (sym (loses []))
+unclean (p ∷ ps) loses clean = true≢false (sym clean)
 
-unclean_none : (h : Held) → clean_of (whole (walked (scan_plan (form_of One) None) h).end) ≡ false
-unfolding walk form_of
-unclean_none h = refl
-
-unclean : (h : Held) (scan : Scan) → (answered ScanTree h).result ≡ Ok scan → h.stores.tree.top ≡ None → is_clean scan ≡ true → ⊥
-unclean h scan is none clean = true≢false (sym clean ∙ (sym (ap clean_of is) ∙ subst (λ (top : Option (List ℕ)). clean_of (whole (walked (scan_plan (form_of One) top) h).end) ≡ false) (sym none) (unclean_none h)))
+-- a clean scan is that of a tree with a root
+clean_rooted : (h : Held) (m : List Entry) (scan : Scan) → LosesAll scan ⊎ Shows h m → IsRooted scan h.stores.tree.top
+clean_rooted h m scan (inl loses) clean none = unclean scan.damaged loses clean
+clean_rooted h m scan (inr shows) clean none = none-some shows.digest (sym none ∙ shows.top)
 
 -- ## Steps of the end of a sync
 
@@ -181,7 +182,7 @@ elsewhere_end p d s stands may = record {
 }
 
 module _ (c : Scene) where
-  open c use {lines, view, strings, peer as p}
+  open c use {lines, version, view, strings, peer as p}
 
   -- the run goes on with a step that leaves the others, and what was acknowledged
   abbrev goes_on : (r : Reached c) (e : Step) (may : MayCome (now c r) e) → Elsewhere p (now c r) (happens (now c r) e) → IsOrderly (happens (now c r) e).objects.ledger → (happens (now c r) e).objects.acked ≡ (now c r).objects.acked → Reached c
@@ -216,14 +217,14 @@ module _ (c : Scene) where
   abbrev pub asks_here : {key : List ℕ} {x : PeerState} {h : Held} {out : Out} {notes : List Note} → (here : Here c key x h out notes) → (r : Running) (more : List Outgoing) → All (MayGo p) more → All (IsQuestion r) more → Here c key x h (and_sends out more) notes
   asks_here {key} {x} {h} {out} {notes} here r more go ask = tells_more c key x h out notes more here (questions_hold (now c here.reached).objects.ledger p r more go ask)
       (asked_each (IsListedMessage lines.voting) r more (λ epoch place after. tt) ask)
-      (asked_each (MessageFits lines (now c here.reached) strings p) r more (λ epoch place after. tt) ask)
+      (asked_each (MessageFits version lines (now c here.reached) strings p) r more (λ epoch place after. tt) ask)
       (asked_each (SaysSo here.reached.ghosts (now c here.reached) p) r more (λ epoch place after. says_nothing here.reached.ghosts (now c here.reached) p (messages.TreeAsk epoch place after) refl) ask)
 
   -- ## A sync runs on
 
   module _ {key : List ℕ} {x : PeerState} {h : Held} {out : Out} {notes : List Note} (here : Here c key x h out notes) where
     -- this sync runs
-    abbrev pub runs_here : (r : Running) → IsSyncing (now c here.reached).objects.ledger p x.fact (may_wait x.phase) r → IsListedFact lines.voting r.fact → SyncFits lines (now c here.reached) strings p x.fact x.trusted here.tree.last.map h.stores.tree.top (Some r) → Here c key (with_sync r x) h out notes
+    abbrev pub runs_here : (r : Running) → IsSyncing (now c here.reached).objects.ledger p x.fact (may_wait x.phase) r → IsListedFact lines.voting r.fact → SyncFits version lines (now c here.reached) strings p x.fact x.trusted here.tree.last.map h.stores.tree.top (Some r) → Here c key (with_sync r x) h out notes
     runs_here r syncing listed says = record {
       reached = here.reached;
       roles = here.roles;
@@ -232,6 +233,8 @@ module _ (c : Scene) where
       trust = here.trust;
       tree = here.tree;
       seal = here.seal;
+      mode = here.mode;
+      held = here.held;
       sync = says;
       fits = here.fits;
       task = here.task;
@@ -251,6 +254,8 @@ module _ (c : Scene) where
       trust = here.trust;
       tree = here.tree;
       seal = here.seal;
+      mode = here.mode;
+      held = here.held;
       sync = tt;
       fits = here.fits;
       task = here.task;
@@ -337,16 +342,18 @@ module _ (c : Scene) where
       hashed : AreAmong h.hashed u.hashed
       digest : List ℕ
       root : u.stores.tree.top ≡ Some digest
+      same_version : u.stores.tree.version ≡ h.stores.tree.version
       top : top_of (tops_of u.stores) ≡ Some digest
       named : IsNamed u.hashed digest entries
       returns : x.seal ≡ None → TopsReturn t strings u.hashed p (tops_of u.stores)
 
     -- more strings were hashed
-    abbrev merged_over : (u v : Held) → tops_of v.stores ≡ tops_of u.stores → v.stores.tree.top ≡ u.stores.tree.top → AreAmong u.hashed v.hashed → Merged u → Merged v
-    merged_over u v tops root among m = record {
+    abbrev merged_over : (u v : Held) → tops_of v.stores ≡ tops_of u.stores → v.stores.tree.top ≡ u.stores.tree.top → v.stores.tree.version ≡ u.stores.tree.version → AreAmong u.hashed v.hashed → Merged u → Merged v
+    merged_over u v tops root one_version among m = record {
       hashed = λ a i. among a (m.hashed a i);
       digest = m.digest;
       root = root ∙ m.root;
+      same_version = one_version ∙ m.same_version;
       top = ap top_of tops ∙ m.top;
       named = named_behind u.hashed v.hashed m.digest entries among m.named;
       returns = λ none. subst (λ (all : List (List ℕ)). TopsReturn t strings v.hashed p all) (sym tops) (tops_behind t strings u.hashed v.hashed p (tops_of u.stores) among (m.returns none));
@@ -407,6 +414,7 @@ module _ (c : Scene) where
       hashed = keeping.grows (InstallTree entries) h;
       digest = written.next.digest;
       root = written_root h u entries written;
+      same_version = keeping.versions (InstallTree entries) h tt;
       top = next_top h u entries written.next;
       named = written.next.named;
       returns = λ none. subst (λ (tops : List (List ℕ)). TopsReturn t strings u.hashed p tops) (sym written.next.tops)
@@ -422,6 +430,7 @@ module _ (c : Scene) where
           hashed = λ a i. i;
           digest = last.digest;
           root = root.1 ∙ last.is;
+          same_version = refl;
           top = sym root.0 ∙ (root.1 ∙ last.is);
           named = subst (λ (m : List Entry). IsNamed h.hashed last.digest m) (sym (ends.kept is)) last.named;
           returns = tops_on;
@@ -460,6 +469,8 @@ module _ (c : Scene) where
         listed = listed_new seal;
         trust = put_here t.objects.trusted p true;
         seal = seal_on lines x.seal seal unsealed at.0.seal;
+        mode = at.0.mode;
+        held = m.same_version ∙ at.0.held;
         tree = record {
           last = last_stays strings p t later u.hashed seal (tops_of u.stores) stay_on refl refl (last_merged seal u m names unsealed);
           sealed = ap kept_seal kept;
@@ -471,7 +482,7 @@ module _ (c : Scene) where
         noted = at.0.noted;
         sends = sends_keep t.objects.ledger later.objects.ledger p (join_keeps t.objects.ledger p d stands) p out.sends at.0.sends;
         listed_sends = at.0.listed_sends;
-        fits_sends = sends_stay t later strings stay_on lines p out.sends (sends_stay s t strings stay lines p out.sends at.0.fits_sends);
+        fits_sends = sends_stay t later strings stay_on version lines p out.sends (sends_stay s t strings stay version lines p out.sends at.0.fits_sends);
       },
       at.1,
     )
@@ -490,7 +501,7 @@ module _ (c : Scene) where
         v = (answered (Save (with_seal seal r.fact)) u).held
 
         merged_left : Merged v
-        merged_left = merged_over u v (ap (λ tree. tree.store.tops) (keeping.spares (Save (with_seal seal r.fact)) u).1) (ap (λ tree. tree.top) (keeping.spares (Save (with_seal seal r.fact)) u).1) (keeping.grows (Save (with_seal seal r.fact)) u) m
+        merged_left = merged_over u v (ap (λ tree. tree.store.tops) (keeping.spares (Save (with_seal seal r.fact)) u).1) (ap (λ tree. tree.top) (keeping.spares (Save (with_seal seal r.fact)) u).1) (keeping.versions (Save (with_seal seal r.fact)) u tt) (keeping.grows (Save (with_seal seal r.fact)) u) m
 
         either_rests : HasEither (with_seal seal r.fact) u v → Rests c v notes
         either_rests (inl old) = rests_merged v (old ∙ same) merged_left
@@ -502,7 +513,7 @@ module _ (c : Scene) where
           answer = tt;
           is = ap (λ (a : Answered (Save (with_seal seal r.fact))). a.result) is;
           goes = subst (λ (w : Held). Ends c (next tt (record x { fact = r.fact; seal = seal }) out) (mark tt (record x { fact = r.fact; seal = seal }) out) w notes) (sym (ap (λ (a : Answered (Save (with_seal seal r.fact))). a.held) is))
-              (go seal after (joined_here seal after refl (merged_over u after refl refl (λ a i. i) m) names unsealed));
+              (go seal after (joined_here seal after refl (merged_over u after refl refl refl (λ a i. i) m) names unsealed));
         })
           where
             after : Held
@@ -540,6 +551,8 @@ module _ (c : Scene) where
             trust = at.0.trust;
             tree = at.0.tree;
             seal = at.0.seal;
+            mode = at.0.mode;
+            held = at.0.held;
             sync = at.0.sync;
             fits = tt;
             task = tt;
@@ -561,7 +574,7 @@ module _ (c : Scene) where
       tells_more c key x h out notes (accepted p x.fact) at.0
           (acceptance_holds (now c at.0.reached).objects.ledger p x.fact own_accepted)
           (each (λ (o : Outgoing). IsListedMessage lines.voting o.message) tt)
-          (each (SendFits lines (now c at.0.reached) strings p) tt)
+          (each (SendFits version lines (now c at.0.reached) strings p) tt)
           (each (SendSaysSo at.0.reached.ghosts (now c at.0.reached) p) (says_nothing at.0.reached.ghosts (now c at.0.reached) p (messages.Accepted x.fact.epoch 1) refl)),
       at.1,
     ),
@@ -600,17 +613,17 @@ module _ (c : Scene) where
     has_view r syncing = let l = (now c at.0.reached).objects.ledger in
         subst (λ (views : List (List ℕ)). 0 < length views) (sym syncing.may.first.known.views) (not_empty l (run_sound view at.0.reached.steps at.0.reached.run) (epoch_number r.fact.epoch) syncing.may.first.known.elected)
 
-    ended_good : (r : Running) (outcome : Outcome) → outcome_of r.sync ≡ outcome → IsSyncing (now c at.0.reached).objects.ledger p x.fact (may_wait x.phase) r → IsListedFact lines.voting r.fact → SyncFits lines (now c at.0.reached) strings p x.fact x.trusted at.0.tree.last.map h.stores.tree.top (Some r)
+    ended_good : (r : Running) (outcome : Outcome) → outcome_of r.sync ≡ outcome → IsSyncing (now c at.0.reached).objects.ledger p x.fact (may_wait x.phase) r → IsListedFact lines.voting r.fact → SyncFits version lines (now c at.0.reached) strings p x.fact x.trusted at.0.tree.last.map h.stores.tree.top (Some r)
         → Ends c (by_outcome p r outcome x out next) (by_outcome p r outcome x out mark) h notes
     ended_good r Pending is syncing listed says = go [] key (with_sync r x) h out notes (tt, (runs_here at.0 r syncing listed says, at.1))
     ended_good r (Trusted entries) is syncing listed says = end_sync_good r entries syncing listed
-        ((laws_here at.0.reached).ends strings p x.fact x.trusted at.0.tree.last.map r entries c.sound (listed.views (last_view r.fact.views) (last_view_in r.fact.views (has_view r syncing))) (few_here at.0.reached) at.0.peer.saved.ballot (ap (λ (place : Place). place.epoch) at.0.peer.saved.place) at.0.tree.last.says says.0 is) says.1
+        ((laws_here at.0.reached).ends version strings p x.fact x.trusted at.0.tree.last.map r entries c.sound (listed.views (last_view r.fact.views) (last_view_in r.fact.views (has_view r syncing))) (few_here at.0.reached) at.0.peer.saved.ballot (ap (λ (place : Place). place.epoch) at.0.peer.saved.place) at.0.tree.last.says says.0 is) says.1
 
   -- ## What a sync does
 
   -- a sync sends its questions, and goes on, or ends
   pub gone_good : {key : List ℕ} {x : PeerState} {h : Held} {out : Out} {notes : List Note} (at : AtRest c key x h out notes) (next mark : Rest PeerState (List Task)) → Onward c (PhasesNext c) next mark → (r : Running × List Outgoing) (of : Running) → IsSyncing (now c at.0.reached).objects.ledger p x.fact (may_wait x.phase) r.0
-      → IsListedFact lines.voting r.0.fact → SyncFits lines (now c at.0.reached) strings p x.fact x.trusted at.0.tree.last.map h.stores.tree.top (Some r.0) → All (MayGo p) r.1 → All (IsQuestion of) r.1 → Ends c (go_on p r x out next) (go_on p r x out mark) h notes
+      → IsListedFact lines.voting r.0.fact → SyncFits version lines (now c at.0.reached) strings p x.fact x.trusted at.0.tree.last.map h.stores.tree.top (Some r.0) → All (MayGo p) r.1 → All (IsQuestion of) r.1 → Ends c (go_on p r x out next) (go_on p r x out mark) h notes
   gone_good at next mark go r of syncing listed says may ask = ended_good (asks_here at.0 of r.1 may ask, at.1) next mark go r.0 (outcome_of r.0.sync) refl syncing listed says
 
   -- the stores after a call that leaves the root of the tree and the fact
@@ -623,7 +636,9 @@ module _ (c : Scene) where
     trust = here.trust;
     tree = tree_kept (now c here.reached) strings p x.seal call h root kept here.tree;
     seal = here.seal;
-    sync = subst (λ (top : Option (List ℕ)). SyncFits lines (now c here.reached) strings p x.fact x.trusted here.tree.last.map top x.sync) (sym (root_same call h root)) here.sync;
+    mode = here.mode;
+    held = version_kept_so call h root ∙ here.held;
+    sync = subst (λ (top : Option (List ℕ)). SyncFits version lines (now c here.reached) strings p x.fact x.trusted here.tree.last.map top x.sync) (sym (root_same call h root)) here.sync;
     fits = here.fits;
     task = here.task;
     noted = here.noted;
@@ -642,18 +657,24 @@ module _ (c : Scene) where
       same : (answered ScanTree h).held.stores.facts.kept ≡ h.stores.facts.kept
       same = ap (λ (f : HeldFact). f.kept) (keeping.spares ScanTree h).1
 
-      starts : AreAmong (answered ScanTree h).held.hashed strings → (scan : Scan) → (answered ScanTree h).result ≡ Ok scan → IsScanned at.0.tree.last.map (Ok scan) → SyncFits lines (now c at.0.reached) strings p x.fact x.trusted at.0.tree.last.map (answered ScanTree h).held.stores.tree.top (Some (row_start new p x.trusted scan).0)
-      starts among scan is entries = (
-        (laws_here at.0.reached).starts strings p x.fact new x.trusted at.0.tree.last.map scan (firm_here at.0.reached) at.0.trust at.0.peer.saved.ballot (first_seen (now c at.0.reached).objects.ledger new may.first) (ap epoch_number may.promised) may.newer
-            (λ node within. among node (keeping.grows ScanTree h node (at.0.tree.last.named.texts node within))) at.0.tree.last.says (record { is_map = at.0.tree.last.named.stands.is_map; entries = entries; positions = scan_positions h scan is }),
-        λ clean none. unclean h scan is none clean,
+      -- the nodes of the map were hashed, if the tree shows it
+      hashed : AreAmong (answered ScanTree h).held.hashed strings → (scan : Scan) → LosesAll scan ⊎ Shows h at.0.tree.last.map → LosesAll scan ⊎ AreHashed version strings at.0.tree.last.map
+      hashed among scan (inl loses) = inl loses
+      hashed among scan (inr shows) = inr (subst (λ (v : TreeVersion). AreHashed v strings at.0.tree.last.map) at.0.held (λ node within. among node (keeping.grows ScanTree h node (shows.texts node within))))
+
+      starts : AreAmong (answered ScanTree h).held.hashed strings → (scan : Scan) → (answered ScanTree h).result ≡ Ok scan → IsSeen h at.0.tree.last.map (Ok scan) → SyncFits version lines (now c at.0.reached) strings p x.fact x.trusted at.0.tree.last.map (answered ScanTree h).held.stores.tree.top (Some (row_start new p x.trusted scan).0)
+      starts among scan is seen = (
+        (laws_here at.0.reached).starts version strings p x.fact new x.trusted at.0.tree.last.map scan (firm_here at.0.reached) at.0.trust at.0.peer.saved.ballot (first_seen (now c at.0.reached).objects.ledger new may.first) (ap epoch_number may.promised) may.newer
+            (hashed among scan seen.1) at.0.tree.last.says (record { is_map = at.0.tree.last.named.stands.is_map; entries = seen.0 })
+            (subst (λ (v : TreeVersion). AllByRecursion (IsPosition v) scan.damaged) at.0.held (scan_positions h scan is)),
+        subst (IsRooted scan) (sym (root_same ScanTree h tt)) (clean_rooted h at.0.tree.last.map scan seen.1),
       )
 
-      by_scan : AreAmong (answered ScanTree h).held.hashed strings → (result : Result Scan PeerError) → (answered ScanTree h).result ≡ result → IsScanned at.0.tree.last.map result → Answers c ScanTree (λ scan. go_on p (row_start new p x.trusted scan) x out next) (λ scan. go_on p (row_start new p x.trusted scan) x out mark) h notes
-      by_scan among (Ok scan) is entries = record {
+      by_scan : AreAmong (answered ScanTree h).held.hashed strings → (result : Result Scan PeerError) → (answered ScanTree h).result ≡ result → IsSeen h at.0.tree.last.map result → Answers c ScanTree (λ scan. go_on p (row_start new p x.trusted scan) x out next) (λ scan. go_on p (row_start new p x.trusted scan) x out mark) h notes
+      by_scan among (Ok scan) is seen = record {
         answer = scan;
         is = is;
-        goes = gone_good (read_here at.0 ScanTree tt same, at.1) next mark go (row_start new p x.trusted scan) (row_start new p x.trusted scan).0 (record { may = may; asks = asks_are p (last_view new.views) }) listed (starts among scan is entries)
+        goes = gone_good (read_here at.0 ScanTree tt same, at.1) next mark go (row_start new p x.trusted scan) (row_start new p x.trusted scan).0 (record { may = may; asks = asks_are p (last_view new.views) }) listed (starts among scan is seen)
             (start_go new p x.trusted scan) (start_ask new p x.trusted scan);
       }
       by_scan among (Err e) is none = absurd none
@@ -662,12 +683,12 @@ module _ (c : Scene) where
   pub resumed_good : {key : List ℕ} {x : PeerState} {h : Held} {out : Out} {notes : List Note} (at : AtRest c key x h out notes) (next mark : Rest PeerState (List Task)) → Onward c (PhasesNext c) next mark → Ends c (resume_sync x.sync x out next) (resume_sync x.sync x out mark) h notes
   resumed_good {key} {x} {h} {out} {notes} at next mark go = by_sync x.sync refl
     where
-      asks_again : (r : Running) → x.sync ≡ Some r → IsSyncing (now c at.0.reached).objects.ledger p x.fact (may_wait x.phase) r → IsListedFact lines.voting r.fact → SyncFits lines (now c at.0.reached) strings p x.fact x.trusted at.0.tree.last.map h.stores.tree.top (Some r)
+      asks_again : (r : Running) → x.sync ≡ Some r → IsSyncing (now c at.0.reached).objects.ledger p x.fact (may_wait x.phase) r → IsListedFact lines.voting r.fact → SyncFits version lines (now c at.0.reached) strings p x.fact x.trusted at.0.tree.last.map h.stores.tree.top (Some r)
           → Ends c (next [] (with_sync (row_resume r).0 x) (and_sends out (row_resume r).1)) (mark [] (with_sync (row_resume r).0 x) (and_sends out (row_resume r).1)) h notes
       asks_again r is syncing listed says = go [] key (with_sync (row_resume r).0 x) h (and_sends out (row_resume r).1) notes (
         tt,
         (
-          runs_here (asks_here at.0 r (row_resume r).1 (resume_go p r syncing.asks) (resume_ask p r syncing.asks)) (row_resume r).0 (record { may = syncing.may; asks = resumed_are p r syncing.asks }) listed ((laws_here at.0.reached).resumes strings p x.fact x.trusted at.0.tree.last.map r says.0, says.1),
+          runs_here (asks_here at.0 r (row_resume r).1 (resume_go p r syncing.asks) (resume_ask p r syncing.asks)) (row_resume r).0 (record { may = syncing.may; asks = resumed_are p r syncing.asks }) listed ((laws_here at.0.reached).resumes version strings p x.fact x.trusted at.0.tree.last.map r says.0, says.1),
           at.1,
         ),
       )
@@ -675,4 +696,4 @@ module _ (c : Scene) where
       by_sync : (sync : Option Running) → x.sync ≡ sync → Ends c (resume_sync sync x out next) (resume_sync sync x out mark) h notes
       by_sync None is = go [] key x h out notes (tt, at)
       by_sync (Some r) is = asks_again r is (subst (ledgers.SyncHolds (now c at.0.reached).objects.ledger p x.fact (may_wait x.phase)) is at.0.peer.sync) (subst (IsListedSync lines.voting) is at.0.listed.sync)
-          (subst (SyncFits lines (now c at.0.reached) strings p x.fact x.trusted at.0.tree.last.map h.stores.tree.top) is at.0.sync)
+          (subst (SyncFits version lines (now c at.0.reached) strings p x.fact x.trusted at.0.tree.last.map h.stores.tree.top) is at.0.sync)

@@ -1,6 +1,6 @@
 -- The tasks of a step, one after another: each ends in agreement, and no task is left at the end.
 use Rattle.std.proofs.Common.{◌≡◌, inl, inr, ℕ, zero, suc, List, [], ◌∷◌, ◌++◌, refl, sym, subst}
-use Rattle.held_stores.specs.Held.{Held}
+use Rattle.tree_refinement.specs.HeldStores.{Held}
 use Rattle.leading.specs.Rules.{lead_row}
 use Rattle.peer_plan.specs.Drives.{lead, task_done, driven}
 use Rattle.peer_state.specs.Moves.{leading}

@@ -35,8 +35,7 @@ use Rattle.entry_laws.proofs.Later.{stay_step, stay_then as stays_then}
 use Rattle.entry_laws.specs.Stays.{EntriesStay}
 use Rattle.election_refinement.specs.Refinement.{may_wait, SyncHolds}
 use Rattle.call_table.specs.Best.{better}
-use Rattle.held_stores.specs.Answers.{answered, Answered, with_facts}
-use Rattle.held_stores.specs.Held.{Held, and_hashed}
+use Rattle.tree_refinement.specs.HeldStores.{answered, Answered, with_facts, Held, and_hashed}
 use Rattle.leader_laws.proofs.Roles.{run_roles}
 use Rattle.leader_laws.specs.Leaders.{IsObjectOf}
 use Rattle.leader_laws.specs.Messages.{PutSays, GetReplySays}
@@ -51,13 +50,8 @@ use Rattle.peer_plan.specs.Owns.{digested, read, kept, fetched, held, looked_at,
 use Rattle.peer_state.specs.declared.state.State.{State as PeerState}
 use Rattle.register_model.specs.declared.note.Note.{Note}
 use Rattle.register_model.specs.declared.call.Call.{Call as BookCall}
-use Rattle.request_refinement.proofs.Looks.{looks_so}
-use Rattle.request_refinement.proofs.Lookups.{in_put, lookup_in, lookup_key}
-use Rattle.request_refinement.proofs.Names.{version_decoded}
-use Rattle.request_refinement.proofs.Numbers.{version_fits}
-use Rattle.request_refinement.proofs.Staying.{put_entry, write_shows}
-use Rattle.request_refinement.specs.Naming.{hash_of, version_string, object_of_version, VersionSays, EntrySays, EntryMaySay, MayBeDecoded}
-use Rattle.request_refinement.specs.Replies.{MapSays, LookSees, IsShown, found_in}
+use Rattle.sync_refinement.proofs.RequestRefinement.{looks_so, in_put, lookup_in, lookup_key, version_decoded, version_fits, put_entry, write_shows}
+use Rattle.sync_refinement.specs.RequestRefinement.{hash_of, version_string, object_of_version, VersionSays, EntrySays, EntryMaySay, MayBeDecoded, MapSays, LookSees, IsShown, found_in}
 use Rattle.running_sync.specs.Running.{Running}
 use Rattle.step_plans.specs.Saved.{bare, kept_seal, with_seal}
 use Rattle.peer_fact.specs.declared.fact.Fact.{Fact}
@@ -76,7 +70,8 @@ use Rattle.tree_maps.proofs.Names.{md5_run}
 use Rattle.tree_maps.proofs.Parts.{ascends-put}
 use Rattle.tree_maps.specs.Entries.{lookup, put, IsMap}
 use Rattle.tree_node.specs.declared.position.Position.{Position}
-use Rattle.tree_refinement.proofs.Keeping.{grows, hashes, spares}
+use Rattle.tree_refinement.proofs.Keeping.{grows, hashes, spares, versions}
+use Rattle.tree_refinement.proofs.Rooted.{version_kept_so}
 use Rattle.tree_refinement.proofs.Tops as records
 use Rattle.tree_refinement.specs.Laws.{KeepsRoot}
 use Rattle.tree_refinement.specs.Tops.{tops_of, NamesNext, IsWritten}
@@ -90,7 +85,7 @@ use Rattle.step_refinement.proofs.CalledKeys.{length_keys, key_from}
 use Rattle.step_refinement.proofs.StoreAnswers.{Looks, Finds, Breaks, find_ends, put_ends, EnterEnds, Enters, Stops, Tears, enter_ends, broken_root, HasEither, SaveEnds, Saves, Refuses, save_ends}
 use Rattle.step_refinement.proofs.Refusals.{rests_down, rests_over, rests_sealed}
 use Rattle.step_refinement.proofs.LaterStates.{sends_stay, sync_stays, phase_stays}
-use Rattle.step_refinement.proofs.ShownMaps.{seal_on, tops_stay, last_under, last_written, root_same, tree_sees, tree_shows, tree_over, tree_written, tree_stays, names_from, written_from, written_kept, IsSealOf, written_root}
+use Rattle.step_refinement.proofs.ShownMaps.{seal_on, tops_stay, last_under, last_written, root_same, tree_sees, tree_over, tree_written, tree_stays, names_from, written_from, written_kept, IsSealOf, written_root}
 use Rattle.step_refinement.specs.Keys.{KeysAreFew}
 use Rattle.step_refinement.specs.Peers.{TopsReturn, TreeHolds, AcksSay, TaskFits, LastMap, SealFits, SyncFits}
 use Rattle.step_refinement.specs.Roles.{role_in, said_in_sends}
@@ -277,7 +272,7 @@ both_kept (Some saved) fact seal is same = ap (λ (f : Fact). Some (with_seal sa
 -- ## A scene
 
 module _ (c : Scene) where
-  open c use {lines, view, strings, peer as p}
+  open c use {lines, version, view, strings, peer as p}
 
   -- what rule 28 finds in the backend: if its version is settled, it is that version's object,
   -- unless two strings clash
@@ -389,12 +384,14 @@ module _ (c : Scene) where
     pub record Over (t : Held) : Type 0 where
       pub kept_fact : t.stores.facts.kept ≡ h.stores.facts.kept
       pub root : t.stores.tree.top ≡ h.stores.tree.top
+      pub tree_version : t.stores.tree.version ≡ h.stores.tree.version
       pub tops : tops_of t.stores ≡ tops_of h.stores
       pub hashed : AreAmong h.hashed t.hashed
 
     -- the stores, after the entry of the object went into the tree
     record Entered (o : Object) (t : Held) : Type 0 where
       kept_fact : t.stores.facts.kept ≡ h.stores.facts.kept
+      tree_version : t.stores.tree.version ≡ h.stores.tree.version
       spelled : object_spelling o ∈ strings
       hashed : AreAmong h.hashed t.hashed
       written : IsWritten (put (entry_of o (md5 (object_spelling o))) here.tree.last.map) h t
@@ -404,6 +401,7 @@ module _ (c : Scene) where
     pub record Stored (o : Object) (seal : Option (List ℕ)) (t : Held) : Type 0 where
       pub kept_fact : t.stores.facts.kept ≡ Some (with_seal seal x.fact)
       pub unsealed : seal ≡ None → x.seal ≡ None
+      pub tree_version : t.stores.tree.version ≡ h.stores.tree.version
       pub spelled : object_spelling o ∈ strings
       pub hashed : AreAmong h.hashed t.hashed
       pub written : IsWritten (put (entry_of o (md5 (object_spelling o))) here.tree.last.map) h t
@@ -414,13 +412,14 @@ module _ (c : Scene) where
     over_call call t root same over = record {
       kept_fact = same ∙ over.kept_fact;
       root = root_same call t root ∙ over.root;
+      tree_version = version_kept_so call t root ∙ over.tree_version;
       tops = (records.keeps call t root).0 ∙ over.tops;
       hashed = λ a at. grows call t a (over.hashed a at);
     }
 
     -- the peer agrees with the run over other stores too, with the same fact and a tree that agrees
-    abbrev pub here_over : (t : Held) → t.stores.facts.kept ≡ h.stores.facts.kept → (tree : TreeHolds s strings p x.seal t) → SyncFits lines s strings p x.fact x.trusted tree.last.map t.stores.tree.top x.sync → Here c key x t out notes
-    here_over t kept_fact tree sync = record {
+    abbrev pub here_over : (t : Held) → t.stores.facts.kept ≡ h.stores.facts.kept → t.stores.tree.version ≡ h.stores.tree.version → (tree : TreeHolds s strings p x.seal t) → SyncFits version lines s strings p x.fact x.trusted tree.last.map t.stores.tree.top x.sync → Here c key x t out notes
+    here_over t kept_fact same tree sync = record {
       reached = here.reached;
       roles = here.roles;
       peer = record { saved = here.peer.saved; kept = ap bare kept_fact ∙ here.peer.kept; phase = here.peer.phase; sync = here.peer.sync };
@@ -428,6 +427,8 @@ module _ (c : Scene) where
       trust = here.trust;
       tree = tree;
       seal = here.seal;
+      mode = here.mode;
+      held = same ∙ here.held;
       sync = sync;
       fits = here.fits;
       task = here.task;
@@ -439,12 +440,12 @@ module _ (c : Scene) where
 
     -- so it does after calls that leave the tree
     abbrev pub over_here : (t : Held) → Over t → Here c key x t out notes
-    over_here t over = here_over t over.kept_fact (tree_over s strings p x.seal h t over.kept_fact over.tops over.root over.hashed here.tree)
-        (subst (λ (root : Option (List ℕ)). SyncFits lines s strings p x.fact x.trusted here.tree.last.map root x.sync) (sym over.root) here.sync)
+    over_here t over = here_over t over.kept_fact over.tree_version (tree_over s strings p x.seal h t over.kept_fact over.tops over.root over.hashed here.tree)
+        (subst (λ (root : Option (List ℕ)). SyncFits version lines s strings p x.fact x.trusted here.tree.last.map root x.sync) (sym over.root) here.sync)
 
     -- before any call the stores are such stores
     abbrev pub nothing_read : Over h
-    nothing_read = record { kept_fact = refl; root = refl; tops = refl; hashed = λ a at. at }
+    nothing_read = record { kept_fact = refl; root = refl; tree_version = refl; tops = refl; hashed = λ a at. at }
 
     -- ## A write of the tree
 
@@ -528,13 +529,15 @@ module _ (c : Scene) where
         trust = here.trust;
         tree = tree_written t strings p seal h u map_then stored.written stored.names (ap kept_seal stored.kept_fact) stored.hashed (tree_says stored.spelled) honest_then (map_returns stored.spelled stored.written.next.named.stands.is_map) (λ none. tops_then (stored.unsealed none));
         seal = seal_on lines x.seal seal stored.unsealed here.seal;
-        sync = subst (λ (sync : Option Running). SyncFits lines t strings p x.fact x.trusted map_then u.stores.tree.top sync) (sym (no_sync store.ready)) tt;
+        mode = here.mode;
+        held = stored.tree_version ∙ here.held;
+        sync = subst (λ (sync : Option Running). SyncFits version lines t strings p x.fact x.trusted map_then u.stores.tree.top sync) (sym (no_sync store.ready)) tt;
         fits = phase_stays here.reached.ghosts.hash s t p x.fact x.phase stay (λ e elected. refl) here.peer.phase here.fits;
         task = task;
         noted = here.noted;
         sends = here.sends;
         listed_sends = here.listed_sends;
-        fits_sends = sends_stay s t strings stay lines p out.sends here.fits_sends;
+        fits_sends = sends_stay s t strings stay version lines p out.sends here.fits_sends;
       }
 
     -- ## An acknowledgement
@@ -549,13 +552,15 @@ module _ (c : Scene) where
       trust = here.trust;
       tree = tree_stays s (happens s (Acknowledge p v)) strings p x.seal h (stay_step s (Acknowledge p v) may) refl refl (λ blind. blind) here.tree;
       seal = here.seal;
-      sync = sync_stays lines s (happens s (Acknowledge p v)) strings p x.fact x.trusted here.tree.last.map h.stores.tree.top x.sync (stay_step s (Acknowledge p v) may) here.peer.saved.ballot here.sync;
+      mode = here.mode;
+      held = here.held;
+      sync = sync_stays version lines s (happens s (Acknowledge p v)) strings p x.fact x.trusted here.tree.last.map h.stores.tree.top x.sync (stay_step s (Acknowledge p v) may) here.peer.saved.ballot here.sync;
       fits = phase_stays here.reached.ghosts.hash s (happens s (Acknowledge p v)) p x.fact x.phase (stay_step s (Acknowledge p v) may) (λ d elected. refl) here.peer.phase here.fits;
       task = task;
       noted = here.noted;
       sends = here.sends;
       listed_sends = here.listed_sends;
-      fits_sends = sends_stay s (happens s (Acknowledge p v)) strings (stay_step s (Acknowledge p v) may) lines p out.sends here.fits_sends;
+      fits_sends = sends_stay s (happens s (Acknowledge p v)) strings (stay_step s (Acknowledge p v) may) version lines p out.sends here.fits_sends;
     }
 
     -- ## The parts of a step
@@ -719,6 +724,7 @@ module _ (c : Scene) where
             still = record {
               kept_fact = ap (λ (f : HeldFact). f.kept) (spares (Put o.key bytes) t).1 ∙ stored.kept_fact;
               unsealed = stored.unsealed;
+              tree_version = version_kept_so (Put o.key bytes) t tt ∙ stored.tree_version;
               spelled = stored.spelled;
               hashed = λ a at. grows (Put o.key bytes) t a (stored.hashed a at);
               written = written_kept (Put o.key bytes) h t (put e here.tree.last.map) tt stored.written;
@@ -749,10 +755,11 @@ module _ (c : Scene) where
             is_root = written_root h t (put e here.tree.last.map) at.written
 
             -- over these stores the object is written
-            saved_so : (u : Held) → u.stores.facts.kept ≡ Some (with_seal root x.fact) → AreAmong t.hashed u.hashed → (written : IsWritten (put e here.tree.last.map) h u) → written.next.digest ≡ at.written.next.digest → Stored o root u
-            saved_so u kept among written same = record {
+            saved_so : (u : Held) → u.stores.facts.kept ≡ Some (with_seal root x.fact) → u.stores.tree.version ≡ t.stores.tree.version → AreAmong t.hashed u.hashed → (written : IsWritten (put e here.tree.last.map) h u) → written.next.digest ≡ at.written.next.digest → Stored o root u
+            saved_so u kept one_version among written same = record {
               kept_fact = kept;
               unsealed = λ none. absurd (none-some at.written.next.digest (sym none ∙ is_root));
+              tree_version = one_version ∙ at.tree_version;
               spelled = at.spelled;
               hashed = λ a i. among a (at.hashed a i);
               written = written;
@@ -767,7 +774,7 @@ module _ (c : Scene) where
 
             either_rests : HasEither (with_seal root x.fact) t v → Rests c v notes
             either_rests (inl same) = rests_sealed c here v (same ∙ at.kept_fact) (λ a i. grows (Save (with_seal root x.fact)) t a (at.hashed a i)) is_sealed
-            either_rests (inr is) = stopped (saved_so v is (grows (Save (with_seal root x.fact)) t) (written_kept (Save (with_seal root x.fact)) h t (put e here.tree.last.map) tt at.written) refl)
+            either_rests (inr is) = stopped (saved_so v is (version_kept_so (Save (with_seal root x.fact)) t tt) (grows (Save (with_seal root x.fact)) t) (written_kept (Save (with_seal root x.fact)) h t (put e here.tree.last.map) tt at.written) refl)
 
             by_end : SaveEnds (with_seal root x.fact) t (answered (Save (with_seal root x.fact)) t) → Answers c (Save (with_seal root x.fact)) (λ v. bytes_then root next) (λ v. bytes_then root mark) t notes ⊎ IsRefused c (Save (with_seal root x.fact)) t notes
             by_end (Saves is) = inl (record {
@@ -775,7 +782,7 @@ module _ (c : Scene) where
               is = ap (λ (a : Answered (Save (with_seal root x.fact))). a.result) is;
               goes = subst (λ (u : Held). Ends c (bytes_then root next) (bytes_then root mark) u notes) (sym (ap (λ (a : Answered (Save (with_seal root x.fact))). a.held) is))
                   (bytes_end root (with_facts (record t.stores.facts { kept = Some (with_seal root x.fact) }) t)
-                  (saved_so (with_facts (record t.stores.facts { kept = Some (with_seal root x.fact) }) t) refl (λ a i. i)
+                  (saved_so (with_facts (record t.stores.facts { kept = Some (with_seal root x.fact) }) t) refl refl (λ a i. i)
                   (record { next = record { digest = at.written.next.digest; tops = at.written.next.tops; named = at.written.next.named }; shows = record { digest = at.written.shows.digest; top = at.written.shows.top; stands = at.written.shows.stands; texts = at.written.shows.texts }; recorded = at.written.recorded }) refl)
                   go);
             })
@@ -790,6 +797,7 @@ module _ (c : Scene) where
             by_seal None none = bytes_end x.seal t (record {
               kept_fact = at.kept_fact ∙ kept_whole;
               unsealed = λ is. is;
+              tree_version = at.tree_version;
               spelled = at.spelled;
               hashed = at.hashed;
               written = at.written;
@@ -801,13 +809,17 @@ module _ (c : Scene) where
         entry_ends : (t : Held) → bytes ∈ strings → Over t → Onwards → EndsDamaged next mark
             → Ends c (Ask (Enter e) (λ end. entered o bytes (md5 bytes) end x out next)) (Ask (Enter e) (λ end. entered o bytes (md5 bytes) end x out mark)) t notes
         entry_ends t spelled over go damaged = ask_may_end grows c (Enter e) (λ end. entered o bytes (md5 bytes) end x out next) (λ end. entered o bytes (md5 bytes) end x out mark) t notes (λ among.
-            by_end (enter_ends strings t here.tree.last.map e c.free among (tree_shows s strings p x.seal t (over_here t over).tree (here.trust ∙ store.ready.trusts)) (record { key = store.obeys.key; version = store.obeys.version; digest = md5_run bytes }) (few_entries o d (md5 bytes) store.says)))
+            by_end (enter_ends strings t here.tree.last.map e c.free among (tree_sees s strings p x.seal t (over_here t over).tree) (record { key = store.obeys.key; version = store.obeys.version; digest = md5_run bytes }) (few_entries o d (md5 bytes) store.says)))
           where
             u : Held
             u = (answered (Enter e) t).held
 
             still : u.stores.facts.kept ≡ h.stores.facts.kept
             still = ap (λ (f : HeldFact). f.kept) (spares (Enter e) t).1 ∙ over.kept_fact
+
+            -- the tree keeps its version
+            entered_version : u.stores.tree.version ≡ t.stores.tree.version
+            entered_version = versions (Enter e) t tt
 
             hashed : AreAmong h.hashed u.hashed
             hashed a at = grows (Enter e) t a (over.hashed a at)
@@ -825,12 +837,12 @@ module _ (c : Scene) where
             by_end (Enters is written) = inl (record {
               answer = Came tt;
               is = is;
-              goes = entered_end u (record { kept_fact = still; spelled = spelled; hashed = hashed; written = written_from h t u (put e here.tree.last.map) over.tops written }) go;
+              goes = entered_end u (record { kept_fact = still; tree_version = entered_version ∙ over.tree_version; spelled = spelled; hashed = hashed; written = written_from h t u (put e here.tree.last.map) over.tops written }) go;
             })
             by_end (Stops at is tops) = inl (record {
               answer = Broken at;
               is = is;
-              goes = damaged at u (record { kept_fact = still; root = broken_root e t at is ∙ over.root; tops = tops ∙ over.tops; hashed = hashed });
+              goes = damaged at u (record { kept_fact = still; root = broken_root e t at is ∙ over.root; tree_version = entered_version ∙ over.tree_version; tops = tops ∙ over.tops; hashed = hashed });
             })
             by_end (Tears is either) = inr (record { error = StoreFault; is = is; rests = torn either })
 

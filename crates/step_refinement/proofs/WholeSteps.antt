@@ -5,8 +5,7 @@ use Rattle.ens_base.specs.Lists.{◌∈◌}
 use Rattle.abstract_protocol.specs.Book.{MayCall}
 use Rattle.abstract_protocol.specs.Protocol.{Step, Ask, IsRun, state_after}
 use Rattle.call_table.specs.declared.waiting.Waiting.{Waiting}
-use Rattle.held_stores.specs.Held.{Held}
-use Rattle.held_stores.specs.Runs.{run}
+use Rattle.tree_refinement.specs.HeldStores.{Held, run}
 use Rattle.leader_refinement.proofs.Leaving.{run_leaves}
 use Rattle.leader_refinement.specs.Follows.{IsAtWork, Leaves}
 use Rattle.leader_refinement.specs.Seen.{ids_of, owed_after}
@@ -33,6 +32,7 @@ use Rattle.wire_frames.specs.declared.message.Message.TheVariants as messages
 use Rattle.step_refinement.proofs.LeaderCalls.{put_heard, check_heard, got_heard, called_good}
 use Rattle.step_refinement.proofs.TaskLoop.{PhasesGood, Limit, drive_good}
 use Rattle.step_refinement.proofs.CallByCall.{Ends, Onward}
+use Rattle.tree_node.specs.declared.version.TreeVersion.TheVariants.{One}
 use Rattle.step_refinement.specs.Scenes.{Scene, state_before, now, Here, AtRest, MessageComes, EventComes, EndsBy}
 use Rattle.step_refinement.specs.Steps.{asked_in, with_call}
 use Rattle.step_refinement.proofs.LeadersAtWork.{at_work, rekeyed}
@@ -52,7 +52,7 @@ IsElse message = Unit {0}
 -- at the limit on tasks none is left
 abbrev pub stop : Rest PeerState (List Task)
 stop [] y o = Done y o
-stop (t ∷ ts) y o = Asks (OpenTree None) (λ u. Done y o)
+stop (t ∷ ts) y o = Asks (OpenTree None One) (λ u. Done y o)
 
 -- the plan ends in agreement, if all that its run hashes is among the strings
 abbrev pub Well : Scene → Plan PeerState → Held → List Note → Type 0

@@ -3,3 +3,6 @@ pub mod Peers
 pub mod Keys
 pub mod Scenes
 pub mod Steps
+pub mod ElectionRefinement
+pub mod LeaderRefinement
+pub mod SyncRefinement

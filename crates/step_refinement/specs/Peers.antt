@@ -12,7 +12,7 @@ use Rattle.call_table.specs.Calls.{running}
 use Rattle.call_table.specs.Rows.{row_at}
 use Rattle.election_refinement.specs.Listed.{IsListedFact}
 use Rattle.election_refinement.specs.Refinement.{IsSaved}
-use Rattle.held_stores.specs.Held.{Held, HeldStores}
+use Rattle.tree_refinement.specs.HeldStores.{Held, HeldStores}
 use Rattle.leader_refinement.specs.Follows.{Hash, LeaderFits, TaskHolds}
 use Rattle.leader_refinement.specs.Laws.{EntryFits}
 use Rattle.leader_refinement.specs.Seen.{rank}
@@ -27,11 +27,12 @@ use Rattle.wire_frames.specs.declared.message.Message.{Message}
 use Rattle.wire_frames.specs.declared.message.Message.TheVariants as messages
 use Rattle.seal_laws.specs.Kept.{IsSealed, RootHolds, named_by}
 use Rattle.step_plans.specs.Saved.{bare, kept_seal}
-use Rattle.request_refinement.specs.Naming.{VersionSays, EntryMaySay}
+use Rattle.sync_refinement.specs.RequestRefinement.{VersionSays, EntryMaySay}
 use Rattle.sync_refinement.specs.Syncs.{TreeSays, MayReturn, GiveFits, SyncSays}
 use Rattle.running_sync.specs.Running.{Running}
 use Rattle.sync_rule.specs.Syncs.{is_clean}
 use Rattle.tree_node.specs.declared.body.Scan.{Scan}
+use Rattle.tree_node.specs.declared.version.TreeVersion.{TreeVersion}
 use Rattle.tree_refinement.specs.Tops.{IsNamed, tops_of}
 use Rattle.world_stores.specs.Nodes.{top_of}
 
@@ -61,8 +62,8 @@ pub record LastMap (s : State) (strings hashed : List (List ℕ)) (q : ℕ) (sea
   pub returns : seal ≡ None → TopsReturn s strings hashed q tops
 
 -- The tree of the running peer q, whose saved fact has this seal, if it has one. Its root is the top record,
--- and names the map that the peer wrote last; or it has no root, and then the peer has a seal and does not
--- trust its tree.
+-- and names the map that the peer wrote last, in its own version or in the other one; or it has no root, and
+-- then the peer has a seal and does not trust its tree.
 pub record TreeHolds (s : State) (strings : List (List ℕ)) (q : ℕ) (seal : Option (List ℕ)) (h : Held) : Type 0 where
   pub last : LastMap s strings h.hashed q seal (tops_of h.stores)
   pub sealed : kept_seal h.stores.facts.kept ≡ seal
@@ -89,11 +90,11 @@ pub record DownHolds (lines : Lines) (s : State) (strings hashed : List (List �
 abbrev pub IsRooted : Scan → Option (List ℕ) → Type 0
 IsRooted scan root = is_clean scan ≡ true → root ≡ None → ⊥
 
--- what a running sync of peer p says, over a tree with this root that shows the map; its scan was clean only
--- if there was a root
-abbrev pub SyncFits : Lines → State → List (List ℕ) → ℕ → Fact → Bool → List Entry → Option (List ℕ) → Option Running → Type 0
-SyncFits lines s strings p fact trusted m root None = Unit {0}
-SyncFits lines s strings p fact trusted m root (Some r) = SyncSays lines s strings p fact trusted m r × IsRooted r.sync.scan root
+-- what a running sync of peer p says, over a tree of this version with this root that shows the map; its scan
+-- was clean only if there was a root
+abbrev pub SyncFits : TreeVersion → Lines → State → List (List ℕ) → ℕ → Fact → Bool → List Entry → Option (List ℕ) → Option Running → Type 0
+SyncFits version lines s strings p fact trusted m root None = Unit {0}
+SyncFits version lines s strings p fact trusted m root (Some r) = SyncSays version lines s strings p fact trusted m r × IsRooted r.sync.scan root
 
 -- ## Versions and calls
 
@@ -126,18 +127,18 @@ IsAtRest phase = Unit {0}
 
 -- what a message of peer q holds besides what it says of elections and of calls: the object of a put
 -- obeys the grammar, the entry of a reply says what holds, and a node of a tree is of a map that the
--- peer showed
-abbrev pub MessageFits : Lines → State → List (List ℕ) → ℕ → Message → Type 0
-MessageFits lines s strings q (messages.Put ballot o) = IsObject o
-MessageFits lines s strings q (messages.GetReply ballot round key entry object) = EntryMaySay s strings entry × EntryFits entry
-MessageFits lines s strings q (messages.TreeGive ballot at after trusted body) = GiveFits lines s strings q ballot (record { position = at; after = after }) trusted body
-MessageFits lines s strings q message = Unit {0}
+-- peer showed in this version of the tree
+abbrev pub MessageFits : TreeVersion → Lines → State → List (List ℕ) → ℕ → Message → Type 0
+MessageFits version lines s strings q (messages.Put ballot o) = IsObject o
+MessageFits version lines s strings q (messages.GetReply ballot round key entry object) = EntryMaySay s strings entry × EntryFits entry
+MessageFits version lines s strings q (messages.TreeGive ballot at after trusted body) = GiveFits version lines s strings q ballot (record { position = at; after = after }) trusted body
+MessageFits version lines s strings q message = Unit {0}
 
-abbrev pub SendFits : Lines → State → List (List ℕ) → ℕ → Outgoing → Type 0
-SendFits lines s strings q o = MessageFits lines s strings q o.message
+abbrev pub SendFits : TreeVersion → Lines → State → List (List ℕ) → ℕ → Outgoing → Type 0
+SendFits version lines s strings q o = MessageFits version lines s strings q o.message
 
-abbrev pub FrameFits : Lines → State → List (List ℕ) → Frame → Type 0
-FrameFits lines s strings f = MessageFits lines s strings f.from f.message
+abbrev pub FrameFits : TreeVersion → Lines → State → List (List ℕ) → Frame → Type 0
+FrameFits version lines s strings f = MessageFits version lines s strings f.from f.message
 
 -- the number of each epoch that was elected is below 2 ^ 96: its count has 64 bits
 abbrev pub EpochsFit : State → Type 0

@@ -9,7 +9,7 @@ use Rattle.entry_laws.specs.Stays.{EntriesStay}
 use Rattle.election_refinement.specs.Keeps.{Keeps}
 use Rattle.election_refinement.specs.Listed.{IsListedPeer, IsListedMessage}
 use Rattle.election_refinement.specs.Refinement.{PeerHolds, MessageHolds, SendHolds, IsOrderly}
-use Rattle.held_stores.specs.Held.{Held}
+use Rattle.tree_refinement.specs.HeldStores.{Held}
 use Rattle.leader_laws.specs.Roles.{Role, Follows, Said, Sent, RolesHold}
 use Rattle.leader_laws.specs.Tables.{Ghosts}
 use Rattle.leader_refinement.specs.Seen.{owed_after}
@@ -24,18 +24,21 @@ use Rattle.wire_frames.specs.Messages.{Obeys}
 use Rattle.wire_frames.specs.declared.message.Message.{Message}
 use Rattle.step_refinement.specs.Peers.{TreeHolds, DownHolds, SealFits, AcksSay, AsksFit, PhaseFits, TaskFits, IsAtRest, MessageFits, SendFits, SyncFits}
 use Rattle.step_refinement.specs.Roles.{role_in, said_of, said_in_sends}
-use Rattle.request_refinement.specs.Naming.{hash_of}
+use Rattle.sync_refinement.specs.RequestRefinement.{hash_of}
 use Rattle.sync_laws.specs.Facts.{Lines, AreFirm}
 use Rattle.sync_refinement.specs.Laws.{FirmAreKept}
+use Rattle.tree_node.specs.declared.version.TreeVersion.{TreeVersion}
 use Rattle.tree_refinement.specs.Trees.{AreFree}
 
--- what is fixed during a step: what the lines of the schedule say, the opening view, the run before it,
+-- what is fixed during a step: what the lines of the schedule say, the version of the trees of all peers that
+-- run, the opening view, the run before it,
 -- newest step first, the peer, the roles of all peers and what was said before, and all strings that the
 -- whole schedule hashes, which are free of clashes. Of each view that may vote more than half of the
 -- members are firm, and firm peers were never reverted. Fewer than 2 ^ 32 calls came, and each keeps its
 -- limits.
 pub record Scene : Type 0 where
   pub lines : Lines
+  pub version : TreeVersion
   pub sound : AreFirm lines
   pub view : List ℕ
   pub begun : List Step
@@ -69,7 +72,7 @@ pub record Elsewhere (p : ℕ) (s t : State) : Type 0 where
   pub now : t.book.now ≡ s.book.now
 
 module _ (c : Scene) where
-  open c use {lines, view, strings, peer as p}
+  open c use {lines, version, view, strings, peer as p}
 
   -- the run that the step has reached: its steps, newest first, and what the laws remember
   pub record Reached : Type 0 where
@@ -86,7 +89,7 @@ module _ (c : Scene) where
   now r = state_after view r.steps
 
   -- the running peer, with a task on this key if it leads and has one, its stores, its output and its
-  -- notes agree with the run that the step has reached
+  -- notes agree with the run that the step has reached; it and its tree are of the version of the step
   pub record Here (key : List ℕ) (x : PeerState) (h : Held) (out : Out) (notes : List Note) : Type 0 where
     pub reached : Reached
     pub roles : RolesHold reached.ghosts (now reached) (put c.roles p (role_in key x.phase (owed_after [] out.answers))) (said_in_sends p out.sends ++ c.said)
@@ -95,13 +98,15 @@ module _ (c : Scene) where
     pub trust : (now reached).objects.trusted p ≡ x.trusted
     pub tree : TreeHolds (now reached) strings p x.seal h
     pub seal : SealFits lines x.seal
-    pub sync : SyncFits lines (now reached) strings p x.fact x.trusted tree.last.map h.stores.tree.top x.sync
+    pub mode : x.mode.tree ≡ version
+    pub held : h.stores.tree.version ≡ version
+    pub sync : SyncFits version lines (now reached) strings p x.fact x.trusted tree.last.map h.stores.tree.top x.sync
     pub fits : PhaseFits reached.ghosts.hash (now reached) x.phase
     pub task : TaskFits (now reached) key x.phase
     pub noted : (now reached).book.notes ≡ (state_before c).book.notes ++ notes
     pub sends : All (SendHolds (now reached).objects.ledger p) out.sends
     pub listed_sends : All (λ (o : Outgoing). IsListedMessage lines.voting o.message) out.sends
-    pub fits_sends : All (SendFits lines (now reached) strings p) out.sends
+    pub fits_sends : All (SendFits version lines (now reached) strings p) out.sends
 
   -- and no task is at hand; then the key says nothing
   abbrev pub AtRest : List ℕ → PeerState → Held → Out → List Note → Type 0
@@ -114,7 +119,7 @@ module _ (c : Scene) where
     pub obeys : Obeys message
     pub holds : MessageHolds s.objects.ledger from message
     pub listed : IsListedMessage lines.voting message
-    pub fits : MessageFits lines s strings from message
+    pub fits : MessageFits version lines s strings from message
     pub said : (m : Said) → said_of message ≡ Some m → record { from = from; said = m } ∈ c.said
 
   -- what an event is about: a view that is asked for may vote. Calls are treated apart, since their

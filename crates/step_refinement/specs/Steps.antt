@@ -2,8 +2,7 @@
 use Rattle.std.specs.Prelude.{◌≡◌, ◌<◌, ◌+◌, ◌^◌, [], ◌∷◌, length}
 use Rattle.abstract_protocol.specs.Book.{MayCall}
 use Rattle.abstract_protocol.specs.Protocol.{State, Ask, state_after}
-use Rattle.held_stores.specs.Held.{Held}
-use Rattle.held_stores.specs.Runs.{run}
+use Rattle.tree_refinement.specs.HeldStores.{Held, run}
 use Rattle.peer_plan.specs.Drives.{step_of}
 use Rattle.peer_state.specs.declared.event.CallIn.{CallIn}
 use Rattle.peer_state.specs.declared.event.Event.{Event}
@@ -29,6 +28,7 @@ asked_in s call = record { id = call.id; key = call.key; command = call.command;
 abbrev pub with_call : (c : Scene) (call : CallIn) → length (state_after c.view (Ask (asked_in (state_before c) call) ∷ c.begun)).book.calls < 2 ^ 32 → AsksFit (state_after c.view (Ask (asked_in (state_before c) call) ∷ c.begun)) → Scene
 with_call c call few asked = record {
   lines = c.lines;
+  version = c.version;
   sound = c.sound;
   view = c.view;
   begun = Ask (asked_in (state_before c) call) ∷ c.begun;

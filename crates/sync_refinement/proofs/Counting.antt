@@ -8,7 +8,8 @@ use Rattle.abstract_protocol.specs.Numbers.{IsVersion}
 use Rattle.ens_base.specs.Lists.{◌∈◌}
 use Rattle.ens_base.specs.declared.entry.Entry.{Entry}
 use Rattle.ens_fields.specs.Entries.{IsEntry}
-use Rattle.tree_node.specs.declared.version.TreeVersion.TheVariants.{One}
+use Rattle.tree_node.specs.declared.version.TreeVersion.{TreeVersion}
+use Rattle.tree_node.specs.TreeVersions.{levels}
 use Rattle.exchange.proofs.Gifts.{give_page}
 use Rattle.exchange.proofs.Having.{in_has, from_filter}
 use Rattle.exchange.proofs.Keeping.{take_keeps, same_number}
@@ -19,7 +20,7 @@ use Rattle.exchange.specs.Gives.{is_beyond, beyond}
 use Rattle.exchange.specs.declared.question.Question.{Question}
 use Rattle.exchange.specs.declared.step.Step.{Step}
 use Rattle.exchange.specs.declared.step.Step.TheVariants as steps
-use Rattle.leader_refinement.specs.Seen.{rank}
+use Rattle.request_refinement.specs.LeaderRefinement.{rank}
 use Rattle.request_refinement.proofs.Numbers.{version_fits}
 use Rattle.running_sync.specs.declared.asking.Asking.{Asking}
 use Rattle.running_sync.specs.declared.asking.Stage.{Stage}
@@ -42,22 +43,22 @@ use Rattle.leader_laws.proofs.Moves.{max_cases}
 -- ## Steps
 
 -- a reply goes on with an ask, or drops it
-by_reply : (P : Step × Asked → Type 0) → ((x : Asked) → P (stepped x)) → ((x : Asked) → P (steps.Dropped, x)) → (damaged : List Position) (own : List (Option (List ℕ))) (at : Position) (body : TreeBody) (ask : Asked) → P (reply One damaged own at body ask)
-by_reply P goes drops damaged own at (Inner mask digests) ask = by_level (at.level == 3)
+by_reply : (version : TreeVersion) (P : Step × Asked → Type 0) → ((x : Asked) → P (stepped x)) → ((x : Asked) → P (steps.Dropped, x)) → (damaged : List Position) (own : List (Option (List ℕ))) (at : Position) (body : TreeBody) (ask : Asked) → P (reply version damaged own at body ask)
+by_reply version P goes drops damaged own at (Inner mask digests) ask = by_level (at.level == levels version)
   where
-    by_level : (b : Bool) → P (if b then (steps.Dropped, ask) else stepped (after_inner One damaged at own (children_of mask digests) ask))
+    by_level : (b : Bool) → P (if b then (steps.Dropped, ask) else stepped (after_inner version damaged at own (children_of mask digests) ask))
     by_level true = drops ask
-    by_level false = goes (after_inner One damaged at own (children_of mask digests) ask)
-by_reply P goes drops damaged own at (Page es more) ask = by_test (at.level == 3 && not (is_empty es && more))
+    by_level false = goes (after_inner version damaged at own (children_of mask digests) ask)
+by_reply version P goes drops damaged own at (Page es more) ask = by_test (at.level == levels version && not (is_empty es && more))
   where
     by_test : (b : Bool) → P (if b then stepped (after_page at es more ask) else (steps.Dropped, ask))
     by_test true = goes (after_page at es more ask)
     by_test false = drops ask
-by_reply P goes drops damaged own at (Damaged p) ask = drops ask
+by_reply version P goes drops damaged own at (Damaged p) ask = drops ask
 
 -- an ask that is done has no open question
-pub done_is : (scan : Scan) (own : Option (List ℕ)) (q : Question) (body : TreeBody) (ask : Asked) → (taken One scan own q body ask).0 ≡ steps.Done → (taken One scan own q body ask).1.current ≡ None
-done_is scan own q body ask = by_open (is_open ask.current q)
+pub done_is : (version : TreeVersion) (scan : Scan) (own : Option (List ℕ)) (q : Question) (body : TreeBody) (ask : Asked) → (taken version scan own q body ask).0 ≡ steps.Done → (taken version scan own q body ask).1.current ≡ None
+done_is version scan own q body ask = by_open (is_open ask.current q)
   where
     none : (o : Option Question) → step_to o ≡ steps.Done → o ≡ None
     none None h = refl
@@ -66,27 +67,27 @@ done_is scan own q body ask = by_open (is_open ask.current q)
     IsDone : Step × Asked → Type 0
     IsDone next = next.0 ≡ steps.Done → next.1.current ≡ None
 
-    by_open : (b : Bool) → IsDone (if b then reply One scan.damaged (names_in One q.position own) q.position body ask else (steps.Ignored, ask))
-    by_open true = by_reply IsDone (λ x h. none x.current h) (λ x h. absurd cc) scan.damaged (names_in One q.position own) q.position body ask
+    by_open : (b : Bool) → IsDone (if b then reply version scan.damaged (names_in version q.position own) q.position body ask else (steps.Ignored, ask))
+    by_open true = by_reply version IsDone (λ x h. none x.current h) (λ x h. absurd cc) scan.damaged (names_in version q.position own) q.position body ask
     by_open false = λ h. absurd cc
 
 -- an answer that is ignored leaves the ask
-pub ignored_is : (scan : Scan) (own : Option (List ℕ)) (q : Question) (body : TreeBody) (ask : Asked) → (taken One scan own q body ask).0 ≡ steps.Ignored → (taken One scan own q body ask).1 ≡ ask
-ignored_is scan own q body ask = by_open (is_open ask.current q)
+pub ignored_is : (version : TreeVersion) (scan : Scan) (own : Option (List ℕ)) (q : Question) (body : TreeBody) (ask : Asked) → (taken version scan own q body ask).0 ≡ steps.Ignored → (taken version scan own q body ask).1 ≡ ask
+ignored_is version scan own q body ask = by_open (is_open ask.current q)
   where
     never : (o : Option Question) → step_to o ≡ steps.Ignored → ⊥
     never None h = cc
     never (Some x) h = cc
 
-    by_open : (b : Bool) → (if b then reply One scan.damaged (names_in One q.position own) q.position body ask else (steps.Ignored, ask)).0 ≡ steps.Ignored → (if b then reply One scan.damaged (names_in One q.position own) q.position body ask else (steps.Ignored, ask)).1 ≡ ask
-    by_open true h = absurd (by_reply (λ next. next.0 ≡ steps.Ignored → ⊥) (λ x. never x.current) (λ x t. cc) scan.damaged (names_in One q.position own) q.position body ask h)
+    by_open : (b : Bool) → (if b then reply version scan.damaged (names_in version q.position own) q.position body ask else (steps.Ignored, ask)).0 ≡ steps.Ignored → (if b then reply version scan.damaged (names_in version q.position own) q.position body ask else (steps.Ignored, ask)).1 ≡ ask
+    by_open true h = absurd (by_reply version (λ next. next.0 ≡ steps.Ignored → ⊥) (λ x. never x.current) (λ x t. cc) scan.damaged (names_in version q.position own) q.position body ask h)
     by_open false h = refl
 
 -- a report of damage drops the ask, or is ignored
-pub damage_is : (scan : Scan) (own : Option (List ℕ)) (q : Question) (at : Position) (ask : Asked) → ((taken One scan own q (Damaged at) ask).0 ≡ steps.Dropped) ⊎ ((taken One scan own q (Damaged at) ask).0 ≡ steps.Ignored)
-damage_is scan own q at ask = by_open (is_open ask.current q)
+pub damage_is : (version : TreeVersion) (scan : Scan) (own : Option (List ℕ)) (q : Question) (at : Position) (ask : Asked) → ((taken version scan own q (Damaged at) ask).0 ≡ steps.Dropped) ⊎ ((taken version scan own q (Damaged at) ask).0 ≡ steps.Ignored)
+damage_is version scan own q at ask = by_open (is_open ask.current q)
   where
-    by_open : (b : Bool) → ((if b then reply One scan.damaged (names_in One q.position own) q.position (Damaged at) ask else (steps.Ignored, ask)).0 ≡ steps.Dropped) ⊎ ((if b then reply One scan.damaged (names_in One q.position own) q.position (Damaged at) ask else (steps.Ignored, ask)).0 ≡ steps.Ignored)
+    by_open : (b : Bool) → ((if b then reply version scan.damaged (names_in version q.position own) q.position (Damaged at) ask else (steps.Ignored, ask)).0 ≡ steps.Dropped) ⊎ ((if b then reply version scan.damaged (names_in version q.position own) q.position (Damaged at) ask else (steps.Ignored, ask)).0 ≡ steps.Ignored)
     by_open true = inl refl
     by_open false = inr refl
 
@@ -109,35 +110,35 @@ page_items : (es fs : List Entry) (more rest : Bool) → Page es more ≡ Page f
 page_items es fs more rest h = cc
 
 -- the entries of a page are entries of the map
-page_among : (m : List Entry) (q : Question) (es : List Entry) (more : Bool) → IsMap m → IsPosition One q.position → q.position.level ≡ 3 → Page es more ≡ give_of One m q → (e : Entry) → e ∈ es → e ∈ m
-page_among m q es more ok p low sent e at =
-    let items = page_items es _ more _ (sent ∙ give_page One m q ok p low) in
-    let past = in_take 32 (beyond q.after (under (form_of One) q.position m)) e (subst (λ (xs : List Entry). e ∈ xs) items at) in
-    (from_filter (λ (x : Entry). passes (form_of One) x.key q.position.level q.position.index) e m (from_filter (λ (x : Entry). is_beyond q.after x.key) e (under (form_of One) q.position m) past).0).0
+page_among : (version : TreeVersion) (m : List Entry) (q : Question) (es : List Entry) (more : Bool) → IsMap m → IsPosition version q.position → q.position.level ≡ levels version → Page es more ≡ give_of version m q → (e : Entry) → e ∈ es → e ∈ m
+page_among version m q es more ok p low sent e at =
+    let items = page_items es _ more _ (sent ∙ give_page version m q ok p low) in
+    let past = in_take 32 (beyond q.after (under (form_of version) q.position m)) e (subst (λ (xs : List Entry). e ∈ xs) items at) in
+    (from_filter (λ (x : Entry). passes (form_of version) x.key q.position.level q.position.index) e m (from_filter (λ (x : Entry). is_beyond q.after x.key) e (under (form_of version) q.position m) past).0).0
 
 page_receives : (m : List Entry) (at : Position) (es : List Entry) (more : Bool) (ask : Asked) → ((e : Entry) → e ∈ es → e ∈ m) → Receives m ask.received (after_page at es more ask).received
 page_receives m at es true ask among = record { more = es; among = among; is = refl }
 page_receives m at es false ask among = record { more = es; among = among; is = onward_received ask.left (ask.received ++ es) }
 
-reply_receives : (m : List Entry) (damaged : List Position) (own : List (Option (List ℕ))) (q : Question) (body : TreeBody) (ask : Asked) → IsMap m → IsPosition One q.position → body ≡ give_of One m q → Receives m ask.received (reply One damaged own q.position body ask).1.received
-reply_receives m damaged own q (Inner mask digests) ask ok p sent = by_level (q.position.level == 3)
+reply_receives : (version : TreeVersion) (m : List Entry) (damaged : List Position) (own : List (Option (List ℕ))) (q : Question) (body : TreeBody) (ask : Asked) → IsMap m → IsPosition version q.position → body ≡ give_of version m q → Receives m ask.received (reply version damaged own q.position body ask).1.received
+reply_receives version m damaged own q (Inner mask digests) ask ok p sent = by_level (q.position.level == levels version)
   where
-    by_level : (b : Bool) → Receives m ask.received (if b then (steps.Dropped, ask) else stepped (after_inner One damaged q.position own (children_of mask digests) ask)).1.received
+    by_level : (b : Bool) → Receives m ask.received (if b then (steps.Dropped, ask) else stepped (after_inner version damaged q.position own (children_of mask digests) ask)).1.received
     by_level true = nothing_more m ask.received ask.received refl
-    by_level false = nothing_more m ask.received _ (onward_received (to_ask One damaged q.position own 0 (children_of mask digests) ++ ask.left) ask.received)
-reply_receives m damaged own q (Page es more) ask ok p sent = by_test (q.position.level == 3 && not (is_empty es && more)) refl
+    by_level false = nothing_more m ask.received _ (onward_received (to_ask version damaged q.position own 0 (children_of mask digests) ++ ask.left) ask.received)
+reply_receives version m damaged own q (Page es more) ask ok p sent = by_test (q.position.level == levels version && not (is_empty es && more)) refl
   where
-    by_test : (b : Bool) → (q.position.level == 3 && not (is_empty es && more)) ≡ b → Receives m ask.received (if b then stepped (after_page q.position es more ask) else (steps.Dropped, ask)).1.received
-    by_test true h = page_receives m q.position es more ask (page_among m q es more ok p (same_number q.position.level 3 (and_parts (q.position.level == 3) (not (is_empty es && more)) h).0) sent)
+    by_test : (b : Bool) → (q.position.level == levels version && not (is_empty es && more)) ≡ b → Receives m ask.received (if b then stepped (after_page q.position es more ask) else (steps.Dropped, ask)).1.received
+    by_test true h = page_receives m q.position es more ask (page_among version m q es more ok p (same_number q.position.level (levels version) (and_parts (q.position.level == levels version) (not (is_empty es && more)) h).0) sent)
     by_test false h = nothing_more m ask.received ask.received refl
-reply_receives m damaged own q (Damaged at) ask ok p sent = nothing_more m ask.received ask.received refl
+reply_receives version m damaged own q (Damaged at) ask ok p sent = nothing_more m ask.received ask.received refl
 
 -- an ask that takes a part of a map receives only entries of the map
-pub taken_receives : (m : List Entry) (scan : Scan) (own : Option (List ℕ)) (q : Question) (body : TreeBody) (ask : Asked) → IsMap m → IsPosition One q.position → body ≡ give_of One m q → Receives m ask.received (taken One scan own q body ask).1.received
-taken_receives m scan own q body ask ok p sent = by_open (is_open ask.current q)
+pub taken_receives : (version : TreeVersion) (m : List Entry) (scan : Scan) (own : Option (List ℕ)) (q : Question) (body : TreeBody) (ask : Asked) → IsMap m → IsPosition version q.position → body ≡ give_of version m q → Receives m ask.received (taken version scan own q body ask).1.received
+taken_receives version m scan own q body ask ok p sent = by_open (is_open ask.current q)
   where
-    by_open : (b : Bool) → Receives m ask.received (if b then reply One scan.damaged (names_in One q.position own) q.position body ask else (steps.Ignored, ask)).1.received
-    by_open true = reply_receives m scan.damaged (names_in One q.position own) q body ask ok p sent
+    by_open : (b : Bool) → Receives m ask.received (if b then reply version scan.damaged (names_in version q.position own) q.position body ask else (steps.Ignored, ask)).1.received
+    by_open true = reply_receives version m scan.damaged (names_in version q.position own) q body ask ok p sent
     by_open false = nothing_more m ask.received ask.received refl
 
 -- ## What is counted
@@ -157,13 +158,13 @@ none_left : (current : Option Question) (left : List Position) (k : List ℕ) �
 none_left None left k h = refl
 none_left (Some x) left k h = absurd cc
 
-module _ (m n : List Entry) (scan : Scan) (own : Option (List ℕ)) (q : Question) (body : TreeBody) (ask : Asked) (p : IsPosition One q.position) (ok : IsMap m) (sent : body ≡ give_of One m q) (is_own : IsOwn One own scan q.position n) (apart : AreApart One m n) (ascends : Ascends scan.entries) where
+module _ (version : TreeVersion) (m n : List Entry) (scan : Scan) (own : Option (List ℕ)) (q : Question) (body : TreeBody) (ask : Asked) (p : IsPosition version q.position) (ok : IsMap m) (sent : body ≡ give_of version m q) (is_own : IsOwn version own scan q.position n) (apart : AreApart version m n) (ascends : Ascends scan.entries) where
   -- the ask once it took the body
   abbrev pub next : Asked
-  next = (taken One scan own q body ask).1
+  next = (taken version scan own q body ask).1
 
   received : Receives m ask.received next.received
-  received = taken_receives m scan own q body ask ok p sent
+  received = taken_receives version m scan own q body ask ok p sent
 
   greatest_is : (k : List ℕ) → greatest next.received k ≡ max (greatest ask.received k) (greatest received.more k)
   greatest_is k = ap (λ (es : List Entry). greatest es k) received.is ∙ greatest_append ask.received received.more k
@@ -182,7 +183,7 @@ module _ (m n : List Entry) (scan : Scan) (own : Option (List ℕ)) (q : Questio
 
   -- what the ask takes of a key that was left to ask
   covered_now : (k : List ℕ) → HasRank m k (ranks m k) → is_left ask.current ask.left k ≡ true → is_left next.current next.left k ≡ false → ranks m k ≤ max (greatest next.received k) (ranks scan.entries k)
-  covered_now k found left none = subst (λ x. x ≤ max (greatest next.received k) (ranks scan.entries k)) (sym found.rank_is) (by_covers (take_keeps One scan own q body ask m n k found.entry.version p ok has sent is_own apart (inl (left_is ask.current ask.left k left))))
+  covered_now k found left none = subst (λ x. x ≤ max (greatest next.received k) (ranks scan.entries k)) (sym found.rank_is) (by_covers (take_keeps version scan own q body ask m n k found.entry.version p ok has sent is_own apart (inl (left_is version ask.current ask.left k left))))
     where
       has : Has m k found.entry.version
       has = in_has found.entry m k found.entry.version found.inside found.key_is (inl refl)
@@ -190,8 +191,8 @@ module _ (m n : List Entry) (scan : Scan) (own : Option (List ℕ)) (q : Questio
       fits : IsVersion found.entry.version
       fits = version_fits found.entry.version (all_in m found.entry ok.entries found.inside).version
 
-      by_covers : Covers One next scan.entries k found.entry.version → rank found.entry.version ≤ max (greatest next.received k) (ranks scan.entries k)
-      by_covers (inl still) = absurd (not_both (is_left_of next.current next.left k still) none)
+      by_covers : Covers version next scan.entries k found.entry.version → rank found.entry.version ≤ max (greatest next.received k) (ranks scan.entries k)
+      by_covers (inl still) = absurd (not_both (is_left_of version next.current next.left k still) none)
       by_covers (inr (inl here)) = le_trans (greatest_has next.received k found.entry.version fits here) (max_left (greatest next.received k) (ranks scan.entries k))
       by_covers (inr (inr mine)) = le_trans (ranks_has scan.entries k found.entry.version ascends fits mine) (max_right (greatest next.received k) (ranks scan.entries k))
 
@@ -211,12 +212,12 @@ module _ (m n : List Entry) (scan : Scan) (own : Option (List ℕ)) (q : Questio
       by_left false done = le_trans (covered done) (max_more (greatest ask.received k) (greatest next.received k) (ranks scan.entries k) grows)
 
 -- an ask that takes a part of a map counts it
-pub taken_counts : (m n : List Entry) (scan : Scan) (own : Option (List ℕ)) (q : Question) (body : TreeBody) (flag : Bool) (a : Asking) (stage : Stage) → IsPosition One q.position → IsMap m → body ≡ give_of One m q → IsOwn One own scan q.position n → AreApart One m n → Ascends scan.entries
-    → (syncs.is_finished (seen_stage stage) ≡ true → (taken One scan own q body a.ask).1.current ≡ None)
-    → Counts (ranks m) (ranks scan.entries) flag (seen_ask a) (seen_ask (record { peer = a.peer; ask = (taken One scan own q body a.ask).1; trusted = a.trusted && flag; stage = stage }))
-taken_counts m n scan own q body flag a stage p ok sent is_own apart ascends done = record {
+pub taken_counts : (version : TreeVersion) (m n : List Entry) (scan : Scan) (own : Option (List ℕ)) (q : Question) (body : TreeBody) (flag : Bool) (a : Asking) (stage : Stage) → IsPosition version q.position → IsMap m → body ≡ give_of version m q → IsOwn version own scan q.position n → AreApart version m n → Ascends scan.entries
+    → (syncs.is_finished (seen_stage stage) ≡ true → (taken version scan own q body a.ask).1.current ≡ None)
+    → Counts (ranks m) (ranks scan.entries) flag (seen_ask a) (seen_ask (record { peer = a.peer; ask = (taken version scan own q body a.ask).1; trusted = a.trusted && flag; stage = stage }))
+taken_counts version m n scan own q body flag a stage p ok sent is_own apart ascends done = record {
   flagged = refl;
-  from = taken_from m n scan own q body a.ask p ok sent is_own apart ascends;
-  keeps = taken_keeps m n scan own q body a.ask p ok sent is_own apart ascends;
-  done = λ h k. none_left (taken One scan own q body a.ask).1.current (taken One scan own q body a.ask).1.left k (done h);
+  from = taken_from version m n scan own q body a.ask p ok sent is_own apart ascends;
+  keeps = taken_keeps version m n scan own q body a.ask p ok sent is_own apart ascends;
+  done = λ h k. none_left (taken version scan own q body a.ask).1.current (taken version scan own q body a.ask).1.left k (done h);
 }

@@ -29,7 +29,8 @@ use Rattle.sync_rule.specs.Merges.{IsMerge, merged}
 use Rattle.sync_rule.specs.Syncs.{is_clean, is_source, is_trusted_source, has_finished, is_trusted, all_entries, is_over, outcome_of}
 use Rattle.sync_rule.specs.declared.sync.Outcome.TheVariants.{Pending, Trusted}
 use Rattle.sync_rule.specs.declared.sync.Source.{Source}
-use Rattle.tree_node.specs.declared.version.TreeVersion.TheVariants.{One}
+use Rattle.tree_node.specs.declared.version.TreeVersion.{TreeVersion}
+use Rattle.tree_node.specs.declared.version.TreeVersion.TheVariants.{Two}
 use Rattle.tree_maps.proofs.Below.{every}
 use Rattle.tree_maps.proofs.Names.{md5_run}
 use Rattle.tree_maps.proofs.Orders.{cmp_same}
@@ -107,12 +108,12 @@ entry_fits s strings e says = record {
 
 -- a scan without damage has the whole map
 whole_scan : (m : List Entry) (scan : Scan) → IsScanOf m scan → scan.damaged ≡ [] → scan.entries ≡ m
-whole_scan m scan is none = is.entries ∙ ap (λ (ps : List Position). filter (λ e. not (lost (form_of One) ps e.key)) m) none ∙ every m
+whole_scan m scan is none = is.entries ∙ ap (λ (ps : List Position). filter (λ e. not (lost (form_of Two) ps e.key)) m) none ∙ every m
 
 -- ## The end
 
-module _ (g : Lines) (s : State) (strings : List (List ℕ)) (p : ℕ) (fact : Fact) (trusted : Bool) (m : List Entry) (r : Running) (entries : List Entry) (firm : AreFirm g) (votes : last_view r.fact.views ∈ g.voting) (few : AreFewKeys s)
-    (stands : s.objects.ledger.ballot p ≡ epoch_number fact.ballot) (accepted : (s.objects.ledger.fact p).epoch ≡ epoch_number fact.epoch) (tree : TreeSays s strings p m) (says : SyncSays g s strings p fact trusted m r) (outcome : IsOutcome r entries) where
+module _ (version : TreeVersion) (g : Lines) (s : State) (strings : List (List ℕ)) (p : ℕ) (fact : Fact) (trusted : Bool) (m : List Entry) (r : Running) (entries : List Entry) (firm : AreFirm g) (votes : last_view r.fact.views ∈ g.voting) (few : AreFewKeys s)
+    (stands : s.objects.ledger.ballot p ≡ epoch_number fact.ballot) (accepted : (s.objects.ledger.fact p).epoch ≡ epoch_number fact.epoch) (tree : TreeSays s strings p m) (says : SyncSays version g s strings p fact trusted m r) (outcome : IsOutcome r entries) where
   scan_says : (e : Entry) → e ∈ r.sync.scan.entries → EntrySays s strings e
   scan_says e i = tree.entries e (scan_among m r.sync.scan says.scan e i)
 
@@ -189,4 +190,4 @@ module _ (g : Lines) (s : State) (strings : List (List ℕ)) (p : ℕ) (fact : F
 
 -- at its end the merged entries are a map, and the peer may install it
 pub ends : (g : Lines) (view : List ℕ) (steps : List Step) (run : IsRun view steps) → SyncsEnd g (state_after view steps)
-ends g view steps run strings p fact trusted m r entries firm votes few stands accepted tree says h = sync_ends g (state_after view steps) strings p fact trusted m r entries firm votes few stands accepted tree says (outcome_is r entries h)
+ends g view steps run version strings p fact trusted m r entries firm votes few stands accepted tree says h = sync_ends version g (state_after view steps) strings p fact trusted m r entries firm votes few stands accepted tree says (outcome_is r entries h)

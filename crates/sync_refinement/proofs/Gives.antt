@@ -5,18 +5,16 @@ use Rattle.abstract_protocol.specs.Objects.{epoch_of, IsGenuine}
 use Rattle.abstract_protocol.specs.Protocol.{State, Step, IsRun, state_after}
 use Rattle.ens_base.specs.declared.entry.Entry.{Entry}
 use Rattle.ens_base.specs.declared.epoch.Epoch.{Epoch}
-use Rattle.tree_node.specs.declared.version.TreeVersion.TheVariants.{One}
+use Rattle.tree_node.specs.declared.version.TreeVersion.{TreeVersion}
 use Rattle.exchange.specs.Gives.{given}
 use Rattle.exchange.specs.declared.question.Question.{Question}
-use Rattle.leader_refinement.proofs.Numbers.{rank_some}
-use Rattle.leader_refinement.specs.Seen.{rank}
+use Rattle.request_refinement.proofs.LeaderRefinement.{rank_some}
+use Rattle.request_refinement.specs.LeaderRefinement.{rank}
 use Rattle.peer_plan.specs.Syncs.{body_of}
 use Rattle.step_plans.specs.declared.walked.Walked.{Walked}
 use Rattle.step_plans.specs.declared.walked.Walked.TheVariants.{Reached, Broken}
 use Rattle.sync_laws.specs.Facts.{Lines}
 use Rattle.sync_laws.specs.Messages.{GiveSays}
-use Rattle.tree_maps.specs.Paths.{node_of}
-use Rattle.tree_maps.specs.Sixteen.{form_of}
 use Rattle.tree_node.specs.declared.body.TreeBody.{TreeBody}
 use Rattle.tree_node.specs.declared.body.TreeBody.TheVariants as bodies
 use Rattle.version_laws.proofs.Trees.{run_versions}
@@ -63,20 +61,20 @@ module _ (g : Lines) (s : State) (safe : VersionsAreSafe s.objects) (strings : L
       low : (a b : ℕ) → a ≡ b → b ≤ a
       low a b e = omega arith
 
-show_fits : (g : Lines) (s : State) (strings : List (List ℕ)) (q : ℕ) (ballot : Epoch) (question : Question) (trusted : Bool) (body : TreeBody) → GiveShows g s strings q ballot question trusted body → GiveFits g s strings q ballot question trusted body
-show_fits g s strings q ballot question trusted (bodies.Inner mask digests) shows = shows
-show_fits g s strings q ballot question trusted (bodies.Page es more) shows = shows
-show_fits g s strings q ballot question trusted (bodies.Damaged at) shows = tt
+show_fits : (version : TreeVersion) (g : Lines) (s : State) (strings : List (List ℕ)) (q : ℕ) (ballot : Epoch) (question : Question) (trusted : Bool) (body : TreeBody) → GiveShows version g s strings q ballot question trusted body → GiveFits version g s strings q ballot question trusted body
+show_fits version g s strings q ballot question trusted (bodies.Inner mask digests) shows = shows
+show_fits version g s strings q ballot question trusted (bodies.Page es more) shows = shows
+show_fits version g s strings q ballot question trusted (bodies.Damaged at) shows = tt
 
 gives_show : (g : Lines) (s : State) → VersionsAreSafe s.objects → GivesShow g s
-gives_show g s safe strings q ballot question trusted m walked kept trusts stands ok hashed says walk = by_walk walked walk
+gives_show g s safe version strings q ballot question trusted m walked kept trusts stands ok says walk = by_walk walked walk
   where
-    by_walk : (x : Walked (Option (List ℕ))) → HasWalked (node_of (form_of One) question.position m) x → GiveFits g s strings q ballot question trusted (body_of question x)
-    by_walk (Reached node) is = show_fits g s strings q ballot question trusted (given One node question) (record {
+    by_walk : (x : Walked (Option (List ℕ))) → HasWalked version strings m question.position x → GiveFits version g s strings q ballot question trusted (body_of version question x)
+    by_walk (Reached node) is = show_fits version g s strings q ballot question trusted (given version node question) (record {
       map = m;
       is_map = ok;
-      body_is = ap (λ (o : Option (List ℕ)). given One o question) is;
-      hashed = hashed;
+      body_is = ap (λ (o : Option (List ℕ)). given version o question) is.0;
+      hashed = is.1;
       entries = says.entries;
       says = give_says g s safe strings q (epoch_number ballot) trusted m stands says kept trusts;
     })

@@ -13,3 +13,4 @@ pub mod Firsts
 pub mod Merging
 pub mod Ranks
 pub mod Staying
+pub mod RequestRefinement

@@ -10,19 +10,21 @@ use Rattle.ens_base.specs.declared.entry.Entry.{Entry}
 use Rattle.ens_base.specs.declared.epoch.Epoch.{Epoch}
 use Rattle.ens_base.specs.declared.epoch.Version.{Version}
 use Rattle.abstract_protocol.specs.Numbers.{epoch_number, IsVersion}
-use Rattle.tree_node.specs.declared.version.TreeVersion.TheVariants.{One}
+use Rattle.tree_node.specs.declared.version.TreeVersion.{TreeVersion}
+use Rattle.tree_node.specs.declared.version.TreeVersion.TheVariants.{Two}
 use Rattle.exchange.proofs.Having.{has_in}
 use Rattle.exchange.specs.Covers.{IsAtLeast, Has, PassesAny, IsLeft}
 use Rattle.exchange.specs.Gives.{is_beyond}
 use Rattle.exchange.specs.declared.question.Question.{Question}
 use Rattle.leader_laws.specs.Tables as theory
-use Rattle.leader_refinement.specs.Seen.{rank, entry_rank}
+use Rattle.request_refinement.specs.LeaderRefinement.{rank, entry_rank}
 use Rattle.request_refinement.proofs.Lookups.{lookup_in, lookup_key}
 use Rattle.sync_laws.proofs.Coverage.{max_left, max_right}
 use Rattle.tree_maps.proofs.Orders.{not_same, less_not_same}
 use Rattle.tree_maps.specs.Entries.{IsBelowAll, Ascends, lookup}
 use Rattle.tree_maps.specs.Sixteen.{form_of}
 use Rattle.tree_node.specs.declared.position.Position.{Position}
+use Rattle.request_refinement.proofs.TreeRefinement.{passes_same}
 use Rattle.tree_verify.specs.Scans.{lost}
 use Rattle.sync_refinement.specs.Seen.{ranks, greatest, through, through_any, is_left}
 use Rattle.leader_laws.proofs.Moves.{max_cases}
@@ -173,36 +175,37 @@ in_take (suc n) (y ∷ xs) x (inr at) = inr (in_take n xs x at)
 -- ## Positions
 
 -- the test whether a path goes through one of some positions says so
-pub passes_of_any : (key : List ℕ) (ps : List Position) → through_any key ps ≡ true → PassesAny One key ps
-passes_of_any key [] h = absurd (not_both refl (sym h))
-passes_of_any key (p ∷ ps) h = by_either (or_cases (through key p) (through_any key ps) h) (λ t. passes_of_any key ps t)
+pub passes_of_any : (version : TreeVersion) (key : List ℕ) (ps : List Position) → through_any key ps ≡ true → PassesAny version key ps
+passes_of_any version key [] h = absurd (not_both refl (sym h))
+passes_of_any version key (p ∷ ps) h = by_either (or_cases (through key p) (through_any key ps) h) (λ t. passes_of_any version key ps t)
   where
-    by_either : (through key p ≡ true) ⊎ (through_any key ps ≡ true) → (through_any key ps ≡ true → PassesAny One key ps) → PassesAny One key (p ∷ ps)
-    by_either (inl here) further = inl here
+    by_either : (through key p ≡ true) ⊎ (through_any key ps ≡ true) → (through_any key ps ≡ true → PassesAny version key ps) → PassesAny version key (p ∷ ps)
+    by_either (inl here) further = inl (passes_same version key p.level p.index ∙ here)
     by_either (inr there) further = inr (further there)
 
 -- and it is true if so
-pub any_of_passes : (key : List ℕ) (ps : List Position) → PassesAny One key ps → through_any key ps ≡ true
-any_of_passes key [] h = absurd h
-any_of_passes key (p ∷ ps) (inl here) = or_left (through key p) (through_any key ps) here
-any_of_passes key (p ∷ ps) (inr there) = or_right (through key p) (through_any key ps) (any_of_passes key ps there)
+pub any_of_passes : (version : TreeVersion) (key : List ℕ) (ps : List Position) → PassesAny version key ps → through_any key ps ≡ true
+any_of_passes version key [] h = absurd h
+any_of_passes version key (p ∷ ps) (inl here) = or_left (through key p) (through_any key ps) (sym (passes_same version key p.level p.index) ∙ here)
+any_of_passes version key (p ∷ ps) (inr there) = or_right (through key p) (through_any key ps) (any_of_passes version key ps there)
 
 -- a key is lost if its path goes through a damaged position
-pub lost_is_any : (key : List ℕ) (ps : List Position) → lost (form_of One) ps key ≡ through_any key ps
+pub lost_is_any : (key : List ℕ) (ps : List Position) → lost (form_of Two) ps key ≡ through_any key ps
 lost_is_any key [] = refl
 lost_is_any key (p ∷ ps) = ap (λ b. through key p || b) (lost_is_any key ps)
 
 -- the test whether a key is left to ask says so
-pub left_is : (current : Option Question) (left : List Position) (key : List ℕ) → is_left current left key ≡ true → IsLeft One current left key
-left_is None left key h = absurd (not_both refl (sym h))
-left_is (Some q) left key h = by_either (or_cases (through key q.position && is_beyond q.after key) (through_any key left) h)
+pub left_is : (version : TreeVersion) (current : Option Question) (left : List Position) (key : List ℕ) → is_left current left key ≡ true → IsLeft version current left key
+left_is version None left key h = absurd (not_both refl (sym h))
+left_is version (Some q) left key h = by_either (or_cases (through key q.position && is_beyond q.after key) (through_any key left) h)
   where
-    by_either : ((through key q.position && is_beyond q.after key) ≡ true) ⊎ (through_any key left ≡ true) → IsLeft One (Some q) left key
-    by_either (inl here) = inl (and_parts (through key q.position) (is_beyond q.after key) here)
-    by_either (inr there) = inr (passes_of_any key left there)
+    by_either : ((through key q.position && is_beyond q.after key) ≡ true) ⊎ (through_any key left ≡ true) → IsLeft version (Some q) left key
+    by_either (inl here) = let parts = and_parts (through key q.position) (is_beyond q.after key) here in inl (passes_same version key q.position.level q.position.index ∙ parts.0, parts.1)
+    by_either (inr there) = inr (passes_of_any version key left there)
 
 -- and it is true if so
-pub is_left_of : (current : Option Question) (left : List Position) (key : List ℕ) → IsLeft One current left key → is_left current left key ≡ true
-is_left_of None left key h = absurd h
-is_left_of (Some q) left key (inl (here, past)) = or_left (through key q.position && is_beyond q.after key) (through_any key left) (and_from (through key q.position) (is_beyond q.after key) here past)
-is_left_of (Some q) left key (inr there) = or_right (through key q.position && is_beyond q.after key) (through_any key left) (any_of_passes key left there)
+pub is_left_of : (version : TreeVersion) (current : Option Question) (left : List Position) (key : List ℕ) → IsLeft version current left key → is_left current left key ≡ true
+is_left_of version None left key h = absurd h
+is_left_of version (Some q) left key (inl (here, past)) = or_left (through key q.position && is_beyond q.after key) (through_any key left)
+    (and_from (through key q.position) (is_beyond q.after key) (sym (passes_same version key q.position.level q.position.index) ∙ here) past)
+is_left_of version (Some q) left key (inr there) = or_right (through key q.position && is_beyond q.after key) (through_any key left) (any_of_passes version key left there)

@@ -8,7 +8,7 @@ use Rattle.ens_base.specs.Limits as limits
 use Rattle.ens_base.specs.Lists.{◌∈◌, AreDistinct}
 use Rattle.ens_base.specs.Views.{last_view}
 use Rattle.ens_base.specs.declared.entry.Entry.{Entry}
-use Rattle.leader_refinement.specs.Seen.{rank}
+use Rattle.request_refinement.specs.LeaderRefinement.{rank}
 use Rattle.running_sync.specs.Running.{Running}
 use Rattle.running_sync.specs.declared.asking.Asking.{Asking}
 use Rattle.sync_laws.proofs.Coverage.{scan_below, given_below, max_least}

@@ -10,7 +10,7 @@ use Rattle.ens_base.specs.Lists.{bytes_cmp}
 use Rattle.ens_base.specs.declared.entry.Entry.{Entry}
 use Rattle.ens_base.specs.declared.epoch.Version.{Version}
 use Rattle.following.specs.Requests.{is_version_below}
-use Rattle.leader_refinement.specs.Seen.{rank}
+use Rattle.request_refinement.specs.LeaderRefinement.{rank}
 use Rattle.request_refinement.proofs.Numbers.{version_fits, not_below_version}
 use Rattle.sync_rule.specs.Merges.{is_lower, Ascend}
 use Rattle.tree_maps.proofs.Parts.{below_trans}

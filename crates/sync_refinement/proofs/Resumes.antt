@@ -82,12 +82,13 @@ resumes_flagged a b (inl same) = ap (λ (x : syncs.Asking). syncs.is_finished x.
 resumes_flagged a b (inr (waits, is)) = ap (λ t. t && a.flagged) waits ∙ ap (λ (x : syncs.Asking). syncs.is_finished x.stage && x.flagged) (sym is)
 
 resumes_say : (g : Lines) (s : State) → SyncsResume g s
-resumes_say g s strings p fact trusted m r old = record {
+resumes_say g s version strings p fact trusted m r old = record {
   me = old.me;
   trust = old.trust;
   view = old.view;
   scan = old.scan;
-  hashed = old.hashed;
+  positions = old.positions;
+  seen = old.seen;
   distinct = subst AreDistinct (sym (resumed_peers r.asks)) old.distinct;
   others = λ x at same. let found = resumed_in r.asks x at in old.others found.0 found.1 (sym (resumed_keeps found.0).0 ∙ ap (λ (a : Asking). a.peer) (sym found.2) ∙ same);
   sources = record {

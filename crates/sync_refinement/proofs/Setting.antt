@@ -16,6 +16,7 @@ use Rattle.sync_laws.specs.Facts.{Lines}
 use Rattle.sync_laws.specs.Syncs as syncs
 use Rattle.sync_rule.specs.Syncs.{is_source, is_trusted_source}
 use Rattle.sync_rule.specs.declared.sync.Source.{Source}
+use Rattle.tree_node.specs.declared.version.TreeVersion.{TreeVersion}
 use Rattle.sync_refinement.specs.Seen.{ranks, seen_stage, seen_ask, ask_of}
 use Rattle.sync_refinement.specs.Syncs.{EntriesSay, SourcesAre, SyncSays}
 use Rattle.exchange.proofs.Keeping.{same_number}
@@ -59,7 +60,7 @@ source_of b = record { peer = b.peer; trusted = b.trusted; entries = b.ask.recei
 abbrev pub with_set : Running → ℕ → Asking → List Source → Running
 with_set r place b sources = record r { sync = record r.sync { sources = sources }; asks = slice_set r.asks place b }
 
-module _ (g : Lines) (s : State) (strings : List (List ℕ)) (p : ℕ) (fact : Fact) (trusted : Bool) (m : List Entry) (r : Running) (old : SyncSays g s strings p fact trusted m r) (place : ℕ) (a : Asking) (at : slice_get r.asks place ≡ Some a) where
+module _ (version : TreeVersion) (g : Lines) (s : State) (strings : List (List ℕ)) (p : ℕ) (fact : Fact) (trusted : Bool) (m : List Entry) (r : Running) (old : SyncSays version g s strings p fact trusted m r) (place : ℕ) (a : Asking) (at : slice_get r.asks place ≡ Some a) where
   -- the ask as it was
   pub ask_was : AskSays g s strings (epoch_number r.fact.epoch) r.sync.scan.entries a.peer a
   ask_was = record {
@@ -68,13 +69,14 @@ module _ (g : Lines) (s : State) (strings : List (List ℕ)) (p : ℕ) (fact : F
   }
 
   -- the sync says what it said if the sources are those of the asks
-  set_says : (b : Asking) (sources : List Source) → b.peer ≡ a.peer → AskSays g s strings (epoch_number r.fact.epoch) r.sync.scan.entries a.peer b → SourcesAre (with_set r place b sources) → SyncSays g s strings p fact trusted m (with_set r place b sources)
+  set_says : (b : Asking) (sources : List Source) → b.peer ≡ a.peer → AskSays g s strings (epoch_number r.fact.epoch) r.sync.scan.entries a.peer b → SourcesAre (with_set r place b sources) → SyncSays version g s strings p fact trusted m (with_set r place b sources)
   set_says b sources peer says are = record {
     me = old.me;
     trust = old.trust;
     view = old.view;
     scan = old.scan;
-    hashed = old.hashed;
+    positions = old.positions;
+    seen = old.seen;
     distinct = subst AreDistinct (sym (set_peers r.asks place a b at peer)) old.distinct;
     others = λ x there same. others x (in_set r.asks place b x there) same;
     sources = are;
@@ -106,8 +108,8 @@ module _ (g : Lines) (s : State) (strings : List (List ℕ)) (p : ℕ) (fact : F
       by_peer q false other = old.holds.asks q
 
   -- an ask that was set to itself
-  pub same_says : (b : Asking) → b ≡ a → SyncSays g s strings p fact trusted m (record r { asks = slice_set r.asks place b })
-  same_says b same = subst (λ (asks : List Asking). SyncSays g s strings p fact trusted m (record r { asks = asks })) (sym (set_itself r.asks place a b at same)) old
+  pub same_says : (b : Asking) → b ≡ a → SyncSays version g s strings p fact trusted m (record r { asks = slice_set r.asks place b })
+  same_says b same = subst (λ (asks : List Asking). SyncSays version g s strings p fact trusted m (record r { asks = asks })) (sym (set_itself r.asks place a b at same)) old
 
   module _ (waits : a.stage ≡ stages.Open) where
     -- its source has not finished
@@ -126,7 +128,7 @@ module _ (g : Lines) (s : State) (strings : List (List ℕ)) (p : ℕ) (fact : F
         by_place x peer entries (inr there) = (x, there, peer, entries)
 
     -- the ask goes on, or was dropped
-    pub goes_on : (b : Asking) → b.peer ≡ a.peer → syncs.is_finished (seen_stage b.stage) ≡ false → AskSays g s strings (epoch_number r.fact.epoch) r.sync.scan.entries a.peer b → SyncSays g s strings p fact trusted m (with_set r place b r.sync.sources)
+    pub goes_on : (b : Asking) → b.peer ≡ a.peer → syncs.is_finished (seen_stage b.stage) ≡ false → AskSays g s strings (epoch_number r.fact.epoch) r.sync.scan.entries a.peer b → SyncSays version g s strings p fact trusted m (with_set r place b r.sync.sources)
     goes_on b peer open_still says = set_says b r.sync.sources peer says (record {
       finished = λ q. finished q (a.peer == q) refl ∙ sym (ap (λ (x : syncs.Asking). syncs.is_finished x.stage) (ask_set r.asks place a b q old.distinct at peer));
       flagged = λ q. flagged q (a.peer == q) refl ∙ sym (ap (λ (x : syncs.Asking). syncs.is_finished x.stage && x.flagged) (ask_set r.asks place a b q old.distinct at peer));
@@ -143,7 +145,7 @@ module _ (g : Lines) (s : State) (strings : List (List ℕ)) (p : ℕ) (fact : F
         flagged q false other = old.sources.flagged q
 
     -- the source of the ask has finished
-    pub finishes : (b : Asking) → b.peer ≡ a.peer → b.stage ≡ stages.Finished → a.peer ∈ r.sync.view → AskSays g s strings (epoch_number r.fact.epoch) r.sync.scan.entries a.peer b → SyncSays g s strings p fact trusted m (with_set r place b (r.sync.sources ++ source_of b ∷ []))
+    pub finishes : (b : Asking) → b.peer ≡ a.peer → b.stage ≡ stages.Finished → a.peer ∈ r.sync.view → AskSays g s strings (epoch_number r.fact.epoch) r.sync.scan.entries a.peer b → SyncSays version g s strings p fact trusted m (with_set r place b (r.sync.sources ++ source_of b ∷ []))
     finishes b peer done member says = set_says b (r.sync.sources ++ source_of b ∷ []) peer says (record {
       finished = λ q. source_push r.sync.sources (source_of b) q ∙ finished q (a.peer == q) (b.peer == q) refl (ap (λ x. x == q) peer) ∙ sym (ap (λ (x : syncs.Asking). syncs.is_finished x.stage) (ask_set r.asks place a b q old.distinct at peer));
       flagged = λ q. trusted_push r.sync.sources (source_of b) q ∙ flagged q (a.peer == q) (b.peer == q) refl (ap (λ x. x == q) peer) ∙ sym (ap (λ (x : syncs.Asking). syncs.is_finished x.stage && x.flagged) (ask_set r.asks place a b q old.distinct at peer));

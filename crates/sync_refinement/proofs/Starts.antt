@@ -14,7 +14,7 @@ use Rattle.running_sync.specs.declared.asking.Stage.TheVariants.{Open}
 use Rattle.sync_laws.proofs.Coverage.{new_ask_holds}
 use Rattle.sync_laws.specs.Facts.{Lines}
 use Rattle.sync_laws.specs.Syncs as syncs
-use Rattle.tree_node.specs.declared.version.TreeVersion.TheVariants.{One}
+use Rattle.tree_node.specs.declared.version.TreeVersion.TheVariants.{Two}
 use Rattle.tree_maps.specs.Sixteen.{form_of}
 use Rattle.tree_node.specs.declared.body.Scan.{Scan}
 use Rattle.tree_verify.specs.Scans.{lost}
@@ -96,12 +96,13 @@ module _ (g : Lines) (s : State) (safe : VersionsAreSafe s.objects) where
   new_holds d scan q a (inr is) = subst (syncs.AskHolds g s.objects d (ranks scan.entries) q) (sym is) (new_ask_holds g s.objects d (ranks scan.entries) q syncs.Dropped refl)
 
   starts_say : SyncsStart g s
-  starts_say strings p fact new trusted m scan kept trusts stands first at_ballot newer hashed says is = record {
+  starts_say version strings p fact new trusted m scan kept trusts stands first at_ballot newer seen says is positions = record {
     me = refl;
     trust = refl;
     view = refl;
     scan = is;
-    hashed = hashed;
+    positions = positions;
+    seen = seen;
     distinct = new_distinct (is_other p view) 31;
     others = λ a at same. other a.peer (new_at a at).passes same;
     sources = record { finished = λ q. not_finished (ask_of asks q) (ask_new q); flagged = λ q. not_flagged (ask_of asks q) (ask_new q); given = λ source at. absurd at; among = λ source at. absurd at };
@@ -111,7 +112,7 @@ module _ (g : Lines) (s : State) (safe : VersionsAreSafe s.objects) where
       stands = at_ballot;
       newer = newer;
       found = scan_found m scan is;
-      scanned = λ k. scanned k (lost (form_of One) scan.damaged k) refl;
+      scanned = λ k. scanned k (lost (form_of Two) scan.damaged k) refl;
       whole = λ whole sure k. subst (λ v. s.objects.floor p (epoch_number new.epoch) k ≤ v) (sym (scan_entries m scan is k (clean_keeps scan.damaged k whole))) (tree_floor g s safe strings p (epoch_number new.epoch) trusted m (stands ∙ sym at_ballot) says kept trusts sure k);
       asks = λ q. new_holds (epoch_number new.epoch) scan q (ask_of asks q) (ask_new q);
     };
@@ -143,7 +144,7 @@ module _ (g : Lines) (s : State) (safe : VersionsAreSafe s.objects) where
       not_flagged a (inl h) = sym (ap (λ (x : syncs.Asking). syncs.is_finished x.stage && x.flagged) h)
       not_flagged a (inr h) = sym (ap (λ (x : syncs.Asking). syncs.is_finished x.stage && x.flagged) h)
 
-      scanned : (k : List ℕ) (b : Bool) → lost (form_of One) scan.damaged k ≡ b → IsGenuine s.objects (epoch_number new.epoch) k (ranks scan.entries k)
+      scanned : (k : List ℕ) (b : Bool) → lost (form_of Two) scan.damaged k ≡ b → IsGenuine s.objects (epoch_number new.epoch) k (ranks scan.entries k)
       scanned k true gone = inl (scan_lost m scan is k gone)
       scanned k false found = subst (λ v. IsGenuine s.objects (epoch_number new.epoch) k v) (sym (scan_entries m scan is k found)) (tree_genuine g s safe strings p (epoch_number new.epoch) trusted m (stands ∙ sym at_ballot) says k)
 

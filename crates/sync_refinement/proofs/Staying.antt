@@ -11,7 +11,7 @@ use Rattle.ens_object.specs.Objects.{IsObject, object_spelling}
 use Rattle.ens_object.specs.declared.object.Object.{Object}
 use Rattle.entry_laws.specs.Stays.{EntriesStay}
 use Rattle.exchange.specs.declared.question.Question.{Question}
-use Rattle.leader_refinement.specs.Seen.{rank}
+use Rattle.request_refinement.specs.LeaderRefinement.{rank}
 use Rattle.peer_fact.specs.declared.fact.Fact.{Fact}
 use Rattle.request_refinement.specs.Naming.{VersionSays, EntrySays}
 use Rattle.running_sync.specs.Running.{Running}
@@ -19,6 +19,7 @@ use Rattle.sync_laws.proofs.Peers.{sync_stays, give_stays}
 use Rattle.sync_laws.specs.Facts.{Lines}
 use Rattle.tree_node.specs.declared.body.TreeBody.{TreeBody}
 use Rattle.tree_node.specs.declared.body.TreeBody.TheVariants as bodies
+use Rattle.tree_node.specs.declared.version.TreeVersion.{TreeVersion}
 use Rattle.request_refinement.proofs.Staying.{same_object, entry_stays as same_entry}
 use Rattle.sync_refinement.specs.Laws.{SyncsStay}
 use Rattle.sync_refinement.specs.Seen.{ranks, seen_fact, seen_tree, seen_sync}
@@ -55,13 +56,14 @@ module _ (s t : State) (strings : List (List ℕ)) (stay : EntriesStay s t) wher
 
   module _ (g : Lines) where
     -- what a sync says
-    pub sync_says_stay : (p : ℕ) (fact : Fact) (trusted : Bool) (m : List Entry) (r : Running) → s.objects.ledger.ballot p ≡ epoch_number fact.ballot → SyncSays g s strings p fact trusted m r → SyncSays g t strings p fact trusted m r
-    sync_says_stay p fact trusted m r stands says = record {
+    pub sync_says_stay : (version : TreeVersion) (p : ℕ) (fact : Fact) (trusted : Bool) (m : List Entry) (r : Running) → s.objects.ledger.ballot p ≡ epoch_number fact.ballot → SyncSays version g s strings p fact trusted m r → SyncSays version g t strings p fact trusted m r
+    sync_says_stay version p fact trusted m r stands says = record {
       me = says.me;
       trust = says.trust;
       view = says.view;
       scan = says.scan;
-      hashed = says.hashed;
+      positions = says.positions;
+      seen = says.seen;
       distinct = says.distinct;
       others = says.others;
       sources = says.sources;
@@ -70,8 +72,8 @@ module _ (s t : State) (strings : List (List ℕ)) (stay : EntriesStay s t) wher
     }
 
     -- what a source showed
-    pub give_shows_stay : (q : ℕ) (ballot : Epoch) (question : Question) (trusted : Bool) (body : TreeBody) → GiveShows g s strings q ballot question trusted body → GiveShows g t strings q ballot question trusted body
-    give_shows_stay q ballot question trusted body shows = record {
+    pub give_shows_stay : (version : TreeVersion) (q : ℕ) (ballot : Epoch) (question : Question) (trusted : Bool) (body : TreeBody) → GiveShows version g s strings q ballot question trusted body → GiveShows version g t strings q ballot question trusted body
+    give_shows_stay version q ballot question trusted body shows = record {
       map = shows.map;
       is_map = shows.is_map;
       body_is = shows.body_is;
@@ -81,14 +83,14 @@ module _ (s t : State) (strings : List (List ℕ)) (stay : EntriesStay s t) wher
     }
 
     -- and what it sent, which may be a report of damage
-    pub give_fits_stay : (q : ℕ) (ballot : Epoch) (question : Question) (trusted : Bool) (body : TreeBody) → GiveFits g s strings q ballot question trusted body → GiveFits g t strings q ballot question trusted body
-    give_fits_stay q ballot question trusted (bodies.Damaged at) fits = tt
-    give_fits_stay q ballot question trusted body fits = give_shows_stay q ballot question trusted body fits
+    pub give_fits_stay : (version : TreeVersion) (q : ℕ) (ballot : Epoch) (question : Question) (trusted : Bool) (body : TreeBody) → GiveFits version g s strings q ballot question trusted body → GiveFits version g t strings q ballot question trusted body
+    give_fits_stay version q ballot question trusted (bodies.Damaged at) fits = tt
+    give_fits_stay version q ballot question trusted body fits = give_shows_stay version q ballot question trusted body fits
 
 -- what syncs and gives say, and what may return, stays so
 pub stays : (g : Lines) (s t : State) → EntriesStay s t → SyncsStay g s t
 stays g s t stay = record {
-  syncs = λ strings. sync_says_stay s t strings stay g;
-  gives = λ strings. give_fits_stay s t strings stay g;
+  syncs = λ version strings. sync_says_stay s t strings stay g version;
+  gives = λ version strings. give_fits_stay s t strings stay g version;
   returns = λ strings. return_stays s t strings stay;
 }

@@ -9,10 +9,10 @@ use Rattle.abstract_protocol.specs.Protocol.{State, Step, IsRun, state_after}
 use Rattle.ens_base.specs.Lists.{◌∈◌, is_in}
 use Rattle.ens_base.specs.declared.entry.Entry.{Entry}
 use Rattle.ens_base.specs.declared.epoch.Epoch.{Epoch}
-use Rattle.tree_node.specs.declared.version.TreeVersion.TheVariants.{One}
+use Rattle.tree_node.specs.declared.version.TreeVersion.{TreeVersion}
 use Rattle.exchange.specs.Asked.{Asked}
 use Rattle.exchange.specs.Asks.{taken}
-use Rattle.exchange.specs.Covers.{AreApart}
+use Rattle.exchange.specs.Covers.{IsOwn, AreApart}
 use Rattle.exchange.specs.declared.question.Question.{Question}
 use Rattle.exchange.specs.declared.step.Step.{Step as Reply}
 use Rattle.exchange.specs.declared.step.Step.TheVariants as steps
@@ -38,16 +38,16 @@ use Rattle.tree_node.specs.Positions.{IsPosition}
 use Rattle.tree_node.specs.declared.body.TreeBody.{TreeBody}
 use Rattle.tree_node.specs.declared.body.TreeBody.TheVariants as bodies
 use Rattle.tree_node.specs.declared.position.Position.{Position}
-use Rattle.tree_refinement.specs.Trees.{AreFree}
+use Rattle.request_refinement.specs.TreeRefinement.{LosesAll, AreFree}
 use Rattle.sync_refinement.specs.Laws.{SyncsTake}
 use Rattle.sync_refinement.specs.Seen.{ranks, seen_stage, seen_ask}
-use Rattle.sync_refinement.specs.Syncs.{SyncSays, GiveShows, GiveFits}
+use Rattle.sync_refinement.specs.Syncs.{AreHashed, SyncSays, GiveShows, GiveFits}
 use Rattle.sync_refinement.proofs.Asks.{peer_there}
 use Rattle.sync_refinement.proofs.Counting.{done_is, ignored_is, damage_is, Receives, taken_receives, taken_counts}
-use Rattle.sync_refinement.proofs.Scans.{scan_ascends, scan_own}
+use Rattle.sync_refinement.proofs.Scans.{scan_ascends, scan_own, lost_own}
 use Rattle.sync_refinement.proofs.Setting.{AskSays, source_of, ask_was, same_says, no_source, goes_on, finishes}
 use Rattle.election_laws.proofs.Epochs.{not_both}
-use Rattle.leader_refinement.proofs.Numbers.{same_epochs}
+use Rattle.request_refinement.proofs.LeaderRefinement.{same_epochs}
 
 open_stage : (stage : Stage) → is_open stage ≡ true → stage ≡ stages.Open
 open_stage stages.Open h = refl
@@ -55,16 +55,16 @@ open_stage stages.Finished h = absurd cc
 open_stage stages.Dropped h = absurd cc
 
 -- a part of a tree without damage is of a map
-shows_of : (g : Lines) (s : State) (strings : List (List ℕ)) (q : ℕ) (ballot : Epoch) (question : Question) (flag : Bool) (body : TreeBody) → GiveFits g s strings q ballot question flag body → ((at : Position) → body ≡ bodies.Damaged at → ⊥) → GiveShows g s strings q ballot question flag body
-shows_of g s strings q ballot question flag (bodies.Inner mask digests) fits sound = fits
-shows_of g s strings q ballot question flag (bodies.Page es more) fits sound = fits
-shows_of g s strings q ballot question flag (bodies.Damaged at) fits sound = absurd (sound at refl)
+shows_of : (version : TreeVersion) (g : Lines) (s : State) (strings : List (List ℕ)) (q : ℕ) (ballot : Epoch) (question : Question) (flag : Bool) (body : TreeBody) → GiveFits version g s strings q ballot question flag body → ((at : Position) → body ≡ bodies.Damaged at → ⊥) → GiveShows version g s strings q ballot question flag body
+shows_of version g s strings q ballot question flag (bodies.Inner mask digests) fits sound = fits
+shows_of version g s strings q ballot question flag (bodies.Page es more) fits sound = fits
+shows_of version g s strings q ballot question flag (bodies.Damaged at) fits sound = absurd (sound at refl)
 
-module _ (g : Lines) (s : State) (strings : List (List ℕ)) (p : ℕ) (fact : Fact) (trusted : Bool) (m : List Entry) (r : Running) (give : Give) (own : Option (List ℕ)) (free : AreFree strings) (position : IsPosition One give.question.position)
-    (node : (own ≡ None) ⊎ (own ≡ node_of (form_of One) give.question.position m)) (old : SyncSays g s strings p fact trusted m r) (ballot : give.ballot ≡ r.fact.epoch) (place : ℕ) (a : Asking) (at : slice_get r.asks place ≡ Some a) (other : IsOfOther p r.sync.view a) where
+module _ (version : TreeVersion) (g : Lines) (s : State) (strings : List (List ℕ)) (p : ℕ) (fact : Fact) (trusted : Bool) (m : List Entry) (r : Running) (give : Give) (own : Option (List ℕ)) (free : AreFree strings) (position : IsPosition version give.question.position)
+    (node : (own ≡ None) ⊎ ((own ≡ node_of (form_of version) give.question.position m) × AreHashed version strings m)) (old : SyncSays version g s strings p fact trusted m r) (ballot : give.ballot ≡ r.fact.epoch) (place : ℕ) (a : Asking) (at : slice_get r.asks place ≡ Some a) (other : IsOfOther p r.sync.view a) where
   -- what the ask comes to
   abbrev next : Reply × Asked
-  next = taken One r.sync.scan own give.question give.body a.ask
+  next = taken version r.sync.scan own give.question give.body a.ask
 
   abbrev Says : Asking → Type 0
   Says b = AskSays g s strings (epoch_number r.fact.epoch) r.sync.scan.entries a.peer b
@@ -73,19 +73,40 @@ module _ (g : Lines) (s : State) (strings : List (List ℕ)) (p : ℕ) (fact : F
   abbrev counted : Stage → Asking
   counted stage = record { peer = a.peer; ask = next.1; trusted = a.trusted && give.trusted; stage = stage }
 
-  counted_says : (stage : Stage) → GiveShows g s strings a.peer give.ballot give.question give.trusted give.body → (syncs.is_finished (seen_stage stage) ≡ true → next.1.current ≡ None) → Says (counted stage)
+  -- a map that the own node and the own scan are of, no node of which has the digest of another of this map
+  record OwnMap (n : List Entry) : Type 0 where
+    map : List Entry
+    is_own : IsOwn version own r.sync.scan give.question.position map
+    apart : AreApart version n map
+
+  own_map : (shows : GiveShows version g s strings a.peer give.ballot give.question give.trusted give.body) → OwnMap shows.map
+  own_map shows = by old.seen node
+    where
+      of_tree : AreHashed version strings m → (own ≡ None) ⊎ (own ≡ node_of (form_of version) give.question.position m) → OwnMap shows.map
+      of_tree hashed is = record { map = m; is_own = scan_own m r.sync.scan old.scan version own give.question.position old.positions is; apart = λ x y in_map in_own same. free x y (shows.hashed x in_map) (hashed y in_own) same }
+
+      by : LosesAll r.sync.scan ⊎ AreHashed version strings m → (own ≡ None) ⊎ ((own ≡ node_of (form_of version) give.question.position m) × AreHashed version strings m) → OwnMap shows.map
+      by seen (inr (is, hashed)) = of_tree hashed (inr is)
+      by (inr hashed) (inl none) = of_tree hashed (inl none)
+      by (inl loses) (inl none) = record {
+        map = shows.map;
+        is_own = lost_own version shows.map r.sync.scan own give.question.position shows.is_map loses old.positions none;
+        apart = λ x y here there same. free x y (shows.hashed x here) (shows.hashed y there) same;
+      }
+
+  counted_says : (stage : Stage) → GiveShows version g s strings a.peer give.ballot give.question give.trusted give.body → (syncs.is_finished (seen_stage stage) ≡ true → next.1.current ≡ None) → Says (counted stage)
   counted_says stage shows done = record {
     received = λ e there. entries e (in_append a.ask.received more.more e (subst (λ (es : List Entry). e ∈ es) more.is there));
     holds = give_counts g s.objects (epoch_number r.fact.epoch) (ranks r.sync.scan.entries) a.peer give.trusted (ranks shows.map) (seen_ask a) (seen_ask (counted stage)) says
-        (taken_counts shows.map m r.sync.scan own give.question give.body give.trusted a stage position shows.is_map shows.body_is (scan_own m r.sync.scan old.scan own give.question.position node) apart (scan_ascends m r.sync.scan old.scan) done)
+        (taken_counts version shows.map mine.map r.sync.scan own give.question give.body give.trusted a stage position shows.is_map shows.body_is mine.is_own mine.apart (scan_ascends m r.sync.scan old.scan) done)
         was.holds;
   }
     where
       was : Says a
-      was = ask_was g s strings p fact trusted m r old place a at
+      was = ask_was version g s strings p fact trusted m r old place a at
 
       more : Receives shows.map a.ask.received next.1.received
-      more = taken_receives shows.map r.sync.scan own give.question give.body a.ask shows.is_map position shows.body_is
+      more = taken_receives version shows.map r.sync.scan own give.question give.body a.ask shows.is_map position shows.body_is
 
       entries : (e : Entry) → (e ∈ a.ask.received) ⊎ (e ∈ more.more) → EntrySays s strings e
       entries e (inl there) = was.received e there
@@ -94,26 +115,27 @@ module _ (g : Lines) (s : State) (strings : List (List ℕ)) (p : ℕ) (fact : F
       says : GiveSays g s.objects a.peer (epoch_number r.fact.epoch) give.trusted (ranks shows.map)
       says = subst (λ (d : Epoch). GiveSays g s.objects a.peer (epoch_number d) give.trusted (ranks shows.map)) ballot shows.says
 
-      apart : AreApart One shows.map m
-      apart = λ x y in_map in_own same. free x y (shows.hashed x in_map) (old.hashed y in_own) same
+      -- the own node and the own scan are of a map whose nodes were hashed
+      mine : OwnMap shows.map
+      mine = own_map shows
 
   dropped_says : Says (anew stages.Dropped a.peer)
   dropped_says = record { received = λ e none. absurd none; holds = new_ask_holds g s.objects (epoch_number r.fact.epoch) (ranks r.sync.scan.entries) a.peer syncs.Dropped refl }
 
   -- a step that goes on, or is done, is not that of a report of damage
   sound : (step : Reply) → next.0 ≡ step → (step ≡ steps.Dropped → ⊥) → (step ≡ steps.Ignored → ⊥) → (x : Position) → give.body ≡ bodies.Damaged x → ⊥
-  sound step is goes counts x damaged = by_damage (damage_is r.sync.scan own give.question x a.ask)
+  sound step is goes counts x damaged = by_damage (damage_is version r.sync.scan own give.question x a.ask)
     where
-      there : (taken One r.sync.scan own give.question (bodies.Damaged x) a.ask).0 ≡ step
-      there = subst (λ (body : TreeBody). (taken One r.sync.scan own give.question body a.ask).0 ≡ step) damaged is
+      there : (taken version r.sync.scan own give.question (bodies.Damaged x) a.ask).0 ≡ step
+      there = subst (λ (body : TreeBody). (taken version r.sync.scan own give.question body a.ask).0 ≡ step) damaged is
 
-      by_damage : ((taken One r.sync.scan own give.question (bodies.Damaged x) a.ask).0 ≡ steps.Dropped) ⊎ ((taken One r.sync.scan own give.question (bodies.Damaged x) a.ask).0 ≡ steps.Ignored) → ⊥
+      by_damage : ((taken version r.sync.scan own give.question (bodies.Damaged x) a.ask).0 ≡ steps.Dropped) ⊎ ((taken version r.sync.scan own give.question (bodies.Damaged x) a.ask).0 ≡ steps.Ignored) → ⊥
       by_damage (inl dropped) = goes (sym there ∙ dropped)
       by_damage (inr ignored) = counts (sym there ∙ ignored)
 
   -- the source may still finish
   awaited : a.stage ≡ stages.Open → is_awaited r.sync a.peer ≡ true
-  awaited waits = all_three (is_in r.sync.view a.peer) (a.peer == r.sync.me) (is_source r.sync.sources a.peer) other.member (not_me a.peer r.sync.me (λ same. other.other (same ∙ old.me))) (no_source g s strings p fact trusted m r old place a at waits)
+  awaited waits = all_three (is_in r.sync.view a.peer) (a.peer == r.sync.me) (is_source r.sync.sources a.peer) other.member (not_me a.peer r.sync.me (λ same. other.other (same ∙ old.me))) (no_source version g s strings p fact trusted m r old place a at waits)
     where
       not_me : (x y : ℕ) → (x ≡ y → ⊥) → (x == y) ≡ false
       not_me x y apart = grind (arith, nat_tests)
@@ -123,40 +145,40 @@ module _ (g : Lines) (s : State) (strings : List (List ℕ)) (p : ℕ) (fact : F
 
   -- the source has finished
   done_says : a.stage ≡ stages.Open → Says (counted stages.Finished) → (t : Bool) → t ≡ true
-      → SyncSays g s strings p fact trusted m (record r { sync = if t then record r.sync { sources = r.sync.sources ++ source_of (counted stages.Finished) ∷ [] } else r.sync; asks = slice_set r.asks place (counted stages.Finished) })
-  done_says waits says true h = finishes g s strings p fact trusted m r old place a at waits (counted stages.Finished) refl refl (in_tested r.sync.view a.peer other.member) says
+      → SyncSays version g s strings p fact trusted m (record r { sync = if t then record r.sync { sources = r.sync.sources ++ source_of (counted stages.Finished) ∷ [] } else r.sync; asks = slice_set r.asks place (counted stages.Finished) })
+  done_says waits says true h = finishes version g s strings p fact trusted m r old place a at waits (counted stages.Finished) refl refl (in_tested r.sync.view a.peer other.member) says
   done_says waits says false h = absurd cc
 
   -- the sync after a step of the ask
-  step_says : GiveFits g s strings a.peer give.ballot give.question give.trusted give.body → a.stage ≡ stages.Open → (step : Reply) → next.0 ≡ step → SyncSays g s strings p fact trusted m (replied place (step, after_step step give.trusted (record a { ask = next.1 })) r).0
-  step_says fits waits steps.Next is = goes_on g s strings p fact trusted m r old place a at waits (counted a.stage) refl not_done (counted_says a.stage (shows_of g s strings a.peer give.ballot give.question give.trusted give.body fits (sound steps.Next is (λ e. cc) (λ e. cc))) (λ h. absurd (not_both h not_done)))
+  step_says : GiveFits version g s strings a.peer give.ballot give.question give.trusted give.body → a.stage ≡ stages.Open → (step : Reply) → next.0 ≡ step → SyncSays version g s strings p fact trusted m (replied place (step, after_step step give.trusted (record a { ask = next.1 })) r).0
+  step_says fits waits steps.Next is = goes_on version g s strings p fact trusted m r old place a at waits (counted a.stage) refl not_done (counted_says a.stage (shows_of version g s strings a.peer give.ballot give.question give.trusted give.body fits (sound steps.Next is (λ e. cc) (λ e. cc))) (λ h. absurd (not_both h not_done)))
     where
       not_done : syncs.is_finished (seen_stage a.stage) ≡ false
       not_done = ap (λ (x : Stage). syncs.is_finished (seen_stage x)) waits
-  step_says fits waits steps.Done is = done_says waits (counted_says stages.Finished (shows_of g s strings a.peer give.ballot give.question give.trusted give.body fits (sound steps.Done is (λ e. cc) (λ e. cc))) (λ h. done_is r.sync.scan own give.question give.body a.ask is)) (is_awaited r.sync a.peer) (awaited waits)
-  step_says fits waits steps.Dropped is = goes_on g s strings p fact trusted m r old place a at waits (anew stages.Dropped a.peer) refl refl dropped_says
-  step_says fits waits steps.Ignored is = same_says g s strings p fact trusted m r old place a at (record a { ask = next.1 }) (ap (λ (x : Asked). record a { ask = x }) (ignored_is r.sync.scan own give.question give.body a.ask is))
+  step_says fits waits steps.Done is = done_says waits (counted_says stages.Finished (shows_of version g s strings a.peer give.ballot give.question give.trusted give.body fits (sound steps.Done is (λ e. cc) (λ e. cc))) (λ h. done_is version r.sync.scan own give.question give.body a.ask is)) (is_awaited r.sync a.peer) (awaited waits)
+  step_says fits waits steps.Dropped is = goes_on version g s strings p fact trusted m r old place a at waits (anew stages.Dropped a.peer) refl refl dropped_says
+  step_says fits waits steps.Ignored is = same_says version g s strings p fact trusted m r old place a at (record a { ask = next.1 }) (ap (λ (x : Asked). record a { ask = x }) (ignored_is version r.sync.scan own give.question give.body a.ask is))
 
   -- the sync after the ask took the answer
-  reply_says : GiveFits g s strings a.peer give.ballot give.question give.trusted give.body → SyncSays g s strings p fact trusted m (replied place (answered r.sync.scan own give a) r).0
+  reply_says : GiveFits version g s strings a.peer give.ballot give.question give.trusted give.body → SyncSays version g s strings p fact trusted m (replied place (answered version r.sync.scan own give a) r).0
   reply_says fits = by_open (is_open a.stage) refl
     where
-      by_open : (b : Bool) → is_open a.stage ≡ b → SyncSays g s strings p fact trusted m (replied place (if b then stepped give.trusted next a else (steps.Ignored, a)) r).0
+      by_open : (b : Bool) → is_open a.stage ≡ b → SyncSays version g s strings p fact trusted m (replied place (if b then stepped give.trusted next a else (steps.Ignored, a)) r).0
       by_open true h = step_says fits (open_stage a.stage h) next.0 refl
-      by_open false h = same_says g s strings p fact trusted m r old place a at a refl
+      by_open false h = same_says version g s strings p fact trusted m r old place a at a refl
 
 ask_is : (p : ℕ) (r : Running) (place : ℕ) (a : Asking) → AsksOthers p r → slice_get r.asks place ≡ Some a → IsOfOther p r.sync.view a
 ask_is p r place a others at = subst (IsOfOther p r.sync.view) (get_or_from_slice_get r.asks place a a at) (others place a (slice_get_within r.asks place a at))
 
 takes_say : (g : Lines) (s : State) → SyncsTake g s
-takes_say g s strings p fact trusted m r from give own free position others fits node old = by_ballot (is_same give.ballot r.fact.epoch) refl
+takes_say g s version strings p fact trusted m r from give own free position others fits node old = by_ballot (is_same give.ballot r.fact.epoch) refl
   where
-    by_ask : give.ballot ≡ r.fact.epoch → (o : Option Asking) → slice_get r.asks (place_of from r.asks) ≡ o → SyncSays g s strings p fact trusted m (taken_by (place_of from r.asks) o give own r).0
+    by_ask : give.ballot ≡ r.fact.epoch → (o : Option Asking) → slice_get r.asks (place_of from r.asks) ≡ o → SyncSays version g s strings p fact trusted m (taken_by version (place_of from r.asks) o give own r).0
     by_ask ballot None at = old
-    by_ask ballot (Some a) at = reply_says g s strings p fact trusted m r give own free position node old ballot (place_of from r.asks) a at (ask_is p r (place_of from r.asks) a others at)
-        (subst (λ q. GiveFits g s strings q give.ballot give.question give.trusted give.body) (sym (peer_there from r.asks a at)) fits)
+    by_ask ballot (Some a) at = reply_says version g s strings p fact trusted m r give own free position node old ballot (place_of from r.asks) a at (ask_is p r (place_of from r.asks) a others at)
+        (subst (λ q. GiveFits version g s strings q give.ballot give.question give.trusted give.body) (sym (peer_there from r.asks a at)) fits)
 
-    by_ballot : (b : Bool) → is_same give.ballot r.fact.epoch ≡ b → SyncSays g s strings p fact trusted m (if b then taken_by (place_of from r.asks) (slice_get r.asks (place_of from r.asks)) give own r else (r, [])).0
+    by_ballot : (b : Bool) → is_same give.ballot r.fact.epoch ≡ b → SyncSays version g s strings p fact trusted m (if b then taken_by version (place_of from r.asks) (slice_get r.asks (place_of from r.asks)) give own r else (r, [])).0
     by_ballot true same = by_ask (same_epochs give.ballot r.fact.epoch same) (slice_get r.asks (place_of from r.asks)) refl
     by_ballot false other = old
 

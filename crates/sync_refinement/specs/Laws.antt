@@ -1,5 +1,6 @@
 -- The laws of running syncs, in each state of a run.
 use Rattle.std.specs.Prelude.{◌≡◌, ◌<◌, ◌⊎◌, ◌^◌, ℕ, Bool, true, false, List, Option, None, length, map}
+use Rattle.std.specs.List.{AllByRecursion}
 use Rattle.abstract_protocol.specs.Numbers.{epoch_number}
 use Rattle.abstract_protocol.specs.Objects.{MayInstall}
 use Rattle.abstract_protocol.specs.Protocol.{State}
@@ -7,9 +8,9 @@ use Rattle.ens_base.specs.Lists.{◌∈◌, AreDistinct}
 use Rattle.ens_base.specs.Views.{last_view}
 use Rattle.ens_base.specs.declared.entry.Entry.{Entry}
 use Rattle.ens_base.specs.declared.epoch.Epoch.{Epoch}
-use Rattle.tree_node.specs.declared.version.TreeVersion.TheVariants.{One}
+use Rattle.tree_node.specs.declared.version.TreeVersion.{TreeVersion}
 use Rattle.exchange.specs.declared.question.Question.{Question}
-use Rattle.leader_refinement.specs.Seen.{rank}
+use Rattle.request_refinement.specs.LeaderRefinement.{rank}
 use Rattle.peer_plan.specs.Syncs.{body_of}
 use Rattle.peer_fact.specs.declared.fact.Fact.{Fact}
 use Rattle.request_refinement.specs.Replies.{MapSays}
@@ -28,7 +29,8 @@ use Rattle.tree_maps.specs.Sixteen.{form_of}
 use Rattle.tree_node.specs.Positions.{IsPosition}
 use Rattle.tree_node.specs.declared.body.Scan.{Scan}
 use Rattle.tree_node.specs.declared.body.TreeBody.{TreeBody}
-use Rattle.tree_refinement.specs.Trees.{AreFree}
+use Rattle.tree_node.specs.declared.position.Position.{Position}
+use Rattle.request_refinement.specs.TreeRefinement.{LosesAll, AreFree}
 use Rattle.sync_refinement.specs.Seen.{ranks, seen_fact}
 use Rattle.sync_refinement.specs.Syncs.{EntriesSay, TreeSays, MayReturn, IsScanOf, AreHashed, SyncSays, GiveFits}
 
@@ -48,32 +50,34 @@ ShownMayReturn s = (strings : List (List ℕ)) (q : ℕ) (m : List Entry) → Is
 
 -- ## Gives
 
--- the walk reached its position and found this, or met damage
-abbrev pub HasWalked : {A : Type 0} → A → Walked A → Type 0
-HasWalked x (Reached y) = y ≡ x
-HasWalked x (Broken at) = Unit {0}
+-- the walk reached its position and found the node there of the map, whose nodes were hashed in this version
+-- of the tree; or it met damage
+abbrev pub HasWalked : TreeVersion → List (List ℕ) → List Entry → Position → Walked (Option (List ℕ)) → Type 0
+HasWalked version strings m at (Reached node) = (node ≡ node_of (form_of version) at m) × AreHashed version strings m
+HasWalked version strings m at (Broken damaged) = Unit {0}
 
 -- a peer that stands at the ballot sends a part of what its tree shows, or reports damage
 abbrev pub GivesShow : Lines → State → Type 0
-GivesShow g s = (strings : List (List ℕ)) (q : ℕ) (ballot : Epoch) (question : Question) (trusted : Bool) (m : List Entry) (walked : Walked (Option (List ℕ))) → FirmAreKept g s → s.objects.trusted q ≡ trusted → s.objects.ledger.ballot q ≡ epoch_number ballot → IsMap m → AreHashed strings m → TreeSays s strings q m
-    → HasWalked (node_of (form_of One) question.position m) walked → GiveFits g s strings q ballot question trusted (body_of question walked)
+GivesShow g s = (version : TreeVersion) (strings : List (List ℕ)) (q : ℕ) (ballot : Epoch) (question : Question) (trusted : Bool) (m : List Entry) (walked : Walked (Option (List ℕ))) → FirmAreKept g s → s.objects.trusted q ≡ trusted → s.objects.ledger.ballot q ≡ epoch_number ballot → IsMap m
+    → TreeSays s strings q m → HasWalked version strings m question.position walked → GiveFits version g s strings q ballot question trusted (body_of version question walked)
 
 -- ## Syncs
 
 -- a sync begins, after a scan of the own tree
 abbrev pub SyncsStart : Lines → State → Type 0
-SyncsStart g s = (strings : List (List ℕ)) (p : ℕ) (fact new : Fact) (trusted : Bool) (m : List Entry) (scan : Scan) → FirmAreKept g s → s.objects.trusted p ≡ trusted → s.objects.ledger.ballot p ≡ epoch_number fact.ballot
-    → IsFirst s.objects.ledger (seen_fact new) → epoch_number new.epoch ≡ epoch_number fact.ballot → epoch_number fact.epoch < epoch_number new.epoch → AreHashed strings m → TreeSays s strings p m → IsScanOf m scan
-    → SyncSays g s strings p fact trusted m (row_start new p trusted scan).0
+SyncsStart g s = (version : TreeVersion) (strings : List (List ℕ)) (p : ℕ) (fact new : Fact) (trusted : Bool) (m : List Entry) (scan : Scan) → FirmAreKept g s → s.objects.trusted p ≡ trusted → s.objects.ledger.ballot p ≡ epoch_number fact.ballot
+    → IsFirst s.objects.ledger (seen_fact new) → epoch_number new.epoch ≡ epoch_number fact.ballot → epoch_number fact.epoch < epoch_number new.epoch → LosesAll scan ⊎ AreHashed version strings m → TreeSays s strings p m → IsScanOf m scan
+    → AllByRecursion (IsPosition version) scan.damaged → SyncSays version g s strings p fact trusted m (row_start new p trusted scan).0
 
 -- a sync asks again
 abbrev pub SyncsResume : Lines → State → Type 0
-SyncsResume g s = (strings : List (List ℕ)) (p : ℕ) (fact : Fact) (trusted : Bool) (m : List Entry) (r : Running) → SyncSays g s strings p fact trusted m r → SyncSays g s strings p fact trusted m (row_resume r).0
+SyncsResume g s = (version : TreeVersion) (strings : List (List ℕ)) (p : ℕ) (fact : Fact) (trusted : Bool) (m : List Entry) (r : Running) → SyncSays version g s strings p fact trusted m r → SyncSays version g s strings p fact trusted m (row_resume r).0
 
--- a sync takes what a source sends; the own node was read, or its path did not verify, or it is not needed
+-- a sync takes what a source sends of a tree of the same version; the own node was read, or its path did not
+-- verify, or it is not needed
 abbrev pub SyncsTake : Lines → State → Type 0
-SyncsTake g s = (strings : List (List ℕ)) (p : ℕ) (fact : Fact) (trusted : Bool) (m : List Entry) (r : Running) (from : ℕ) (give : Give) (own : Option (List ℕ)) → AreFree strings → IsPosition One give.question.position → AsksOthers p r
-    → GiveFits g s strings from give.ballot give.question give.trusted give.body → (own ≡ None) ⊎ (own ≡ node_of (form_of One) give.question.position m) → SyncSays g s strings p fact trusted m r → SyncSays g s strings p fact trusted m (row_take from give own r).0
+SyncsTake g s = (version : TreeVersion) (strings : List (List ℕ)) (p : ℕ) (fact : Fact) (trusted : Bool) (m : List Entry) (r : Running) (from : ℕ) (give : Give) (own : Option (List ℕ)) → AreFree strings → IsPosition version give.question.position → AsksOthers p r → GiveFits version g s strings from give.ballot give.question give.trusted give.body
+    → (own ≡ None) ⊎ ((own ≡ node_of (form_of version) give.question.position m) × AreHashed version strings m) → SyncSays version g s strings p fact trusted m r → SyncSays version g s strings p fact trusted m (row_take version from give own r).0
 
 -- the end of a sync: the merged entries are a map, the peer may install it, and each entry says what
 -- holds; if the tree need not be built, they are those of the own tree
@@ -88,8 +92,8 @@ abbrev pub AreFewKeys : State → Type 0
 AreFewKeys s = (m : List Entry) → ((e : Entry) → e ∈ m → s.objects.proposed (rank e.version) ≡ true) → ((e : Entry) → e ∈ m → e.key ≡ s.objects.key (rank e.version)) → AreDistinct (map (λ (e : Entry). e.key) m) → length m < 2 ^ 32
 
 abbrev pub SyncsEnd : Lines → State → Type 0
-SyncsEnd g s = (strings : List (List ℕ)) (p : ℕ) (fact : Fact) (trusted : Bool) (m : List Entry) (r : Running) (entries : List Entry) → AreFirm g → last_view r.fact.views ∈ g.voting → AreFewKeys s → s.objects.ledger.ballot p ≡ epoch_number fact.ballot → (s.objects.ledger.fact p).epoch ≡ epoch_number fact.epoch → TreeSays s strings p m
-    → SyncSays g s strings p fact trusted m r → outcome_of r.sync ≡ Trusted entries → SyncEnds s strings p m r entries
+SyncsEnd g s = (version : TreeVersion) (strings : List (List ℕ)) (p : ℕ) (fact : Fact) (trusted : Bool) (m : List Entry) (r : Running) (entries : List Entry) → AreFirm g → last_view r.fact.views ∈ g.voting → AreFewKeys s → s.objects.ledger.ballot p ≡ epoch_number fact.ballot → (s.objects.ledger.fact p).epoch ≡ epoch_number fact.epoch → TreeSays s strings p m
+    → SyncSays version g s strings p fact trusted m r → outcome_of r.sync ≡ Trusted entries → SyncEnds s strings p m r entries
 
 -- the laws of the state
 pub record SyncLaws (g : Lines) (s : State) : Type 0 where
@@ -103,6 +107,6 @@ pub record SyncLaws (g : Lines) (s : State) : Type 0 where
 
 -- what syncs and gives say, and what may return, stays so
 pub record SyncsStay (g : Lines) (s t : State) : Type 0 where
-  pub syncs : (strings : List (List ℕ)) (p : ℕ) (fact : Fact) (trusted : Bool) (m : List Entry) (r : Running) → s.objects.ledger.ballot p ≡ epoch_number fact.ballot → SyncSays g s strings p fact trusted m r → SyncSays g t strings p fact trusted m r
-  pub gives : (strings : List (List ℕ)) (q : ℕ) (ballot : Epoch) (question : Question) (trusted : Bool) (body : TreeBody) → GiveFits g s strings q ballot question trusted body → GiveFits g t strings q ballot question trusted body
+  pub syncs : (version : TreeVersion) (strings : List (List ℕ)) (p : ℕ) (fact : Fact) (trusted : Bool) (m : List Entry) (r : Running) → s.objects.ledger.ballot p ≡ epoch_number fact.ballot → SyncSays version g s strings p fact trusted m r → SyncSays version g t strings p fact trusted m r
+  pub gives : (version : TreeVersion) (strings : List (List ℕ)) (q : ℕ) (ballot : Epoch) (question : Question) (trusted : Bool) (body : TreeBody) → GiveFits version g s strings q ballot question trusted body → GiveFits version g t strings q ballot question trusted body
   pub returns : (strings : List (List ℕ)) (q : ℕ) (m : List Entry) → MayReturn s strings q m → MayReturn t strings q m

@@ -1,3 +1,4 @@
 pub mod Seen
 pub mod Syncs
 pub mod Laws
+pub mod RequestRefinement

@@ -6,10 +6,10 @@ use Rattle.abstract_protocol.specs.Numbers.{epoch_number}
 use Rattle.abstract_protocol.specs.Objects.{Map}
 use Rattle.ens_base.specs.Lists.{same_bytes}
 use Rattle.ens_base.specs.declared.entry.Entry.{Entry}
-use Rattle.tree_node.specs.declared.version.TreeVersion.TheVariants.{One}
+use Rattle.tree_node.specs.declared.version.TreeVersion.TheVariants.{Two}
 use Rattle.exchange.specs.Gives.{is_beyond}
 use Rattle.exchange.specs.declared.question.Question.{Question}
-use Rattle.leader_refinement.specs.Seen.{rank, entry_rank}
+use Rattle.request_refinement.specs.LeaderRefinement.{rank, entry_rank}
 use Rattle.peer_fact.specs.declared.fact.Change.{Change as FactChange}
 use Rattle.peer_fact.specs.declared.fact.Change.TheVariants as changes
 use Rattle.peer_fact.specs.declared.fact.Fact.{Fact}
@@ -55,7 +55,7 @@ seen_tree m = record { top = ranks m; named = []; intact = true }
 
 -- what a scan found
 abbrev pub seen_scan : Scan → trees.Scan
-seen_scan scan = record { entries = ranks scan.entries; broken = lost (form_of One) scan.damaged; damaged = not (is_clean scan) }
+seen_scan scan = record { entries = ranks scan.entries; broken = lost (form_of Two) scan.damaged; damaged = not (is_clean scan) }
 
 -- ## Asks
 
@@ -64,9 +64,9 @@ seen_stage stages.Open = syncs.Open
 seen_stage stages.Finished = syncs.Finished
 seen_stage stages.Dropped = syncs.Dropped
 
--- whether the path of the key goes through the position
+-- whether the path of the key goes through the position; in both versions of the tree it goes through the same
 abbrev pub through : List ℕ → Position → Bool
-through key at = passes (form_of One) key at.level at.index
+through key at = passes (form_of Two) key at.level at.index
 
 -- whether it goes through one of these positions
 abbrev pub through_any : List ℕ → List Position → Bool

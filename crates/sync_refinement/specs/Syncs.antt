@@ -1,5 +1,5 @@
 -- What holds of the tree of a peer, of a running sync, and of what a source sends.
-use Rattle.std.specs.Prelude.{◌≡◌, ◌≤◌, ℕ, Bool, not, ◌&&◌, List, Option, None, Some, filter, map}
+use Rattle.std.specs.Prelude.{◌≡◌, ◌≤◌, ◌⊎◌, ℕ, Bool, not, ◌&&◌, List, filter, map}
 use Rattle.std.specs.List.{AllByRecursion}
 use Rattle.abstract_protocol.specs.Numbers.{epoch_number}
 use Rattle.abstract_protocol.specs.Objects.{epoch_of}
@@ -8,10 +8,11 @@ use Rattle.ens_base.specs.Lists.{◌∈◌, AreDistinct}
 use Rattle.ens_base.specs.Views.{last_view}
 use Rattle.ens_base.specs.declared.entry.Entry.{Entry}
 use Rattle.ens_base.specs.declared.epoch.Epoch.{Epoch}
-use Rattle.tree_node.specs.declared.version.TreeVersion.TheVariants.{One}
+use Rattle.tree_node.specs.declared.version.TreeVersion.{TreeVersion}
+use Rattle.tree_node.specs.declared.version.TreeVersion.TheVariants.{Two}
 use Rattle.exchange.specs.Covers.{give_of}
 use Rattle.exchange.specs.declared.question.Question.{Question}
-use Rattle.leader_refinement.specs.Seen.{rank}
+use Rattle.request_refinement.specs.LeaderRefinement.{rank}
 use Rattle.peer_fact.specs.declared.fact.Fact.{Fact}
 use Rattle.request_refinement.specs.Naming.{EntrySays}
 use Rattle.running_sync.specs.Running.{Running}
@@ -29,6 +30,7 @@ use Rattle.tree_node.specs.Positions.{IsPosition}
 use Rattle.tree_node.specs.declared.body.Scan.{Scan}
 use Rattle.tree_node.specs.declared.body.TreeBody.{TreeBody}
 use Rattle.tree_node.specs.declared.body.TreeBody.TheVariants as bodies
+use Rattle.request_refinement.specs.TreeRefinement.{LosesAll}
 use Rattle.tree_verify.specs.Scans.{lost}
 use Rattle.sync_refinement.specs.Seen.{ranks, ask_of, seen_fact, seen_tree, seen_sync}
 
@@ -52,12 +54,11 @@ pub record MayReturn (s : State) (strings : List (List ℕ)) (q : ℕ) (m : List
 -- what a scan of the tree of a map returns
 pub record IsScanOf (m : List Entry) (scan : Scan) : Type 0 where
   pub is_map : IsMap m
-  pub entries : scan.entries ≡ filter (λ e. not (lost (form_of One) scan.damaged e.key)) m
-  pub positions : AllByRecursion (IsPosition One) scan.damaged
+  pub entries : scan.entries ≡ filter (λ e. not (lost (form_of Two) scan.damaged e.key)) m
 
--- each node of the map was hashed
-abbrev pub AreHashed : List (List ℕ) → List Entry → Type 0
-AreHashed strings m = (node : List ℕ) → IsNode (form_of One) (form_of One).depth root m node → node ∈ strings
+-- each node of the map was hashed, in this version of the tree
+abbrev pub AreHashed : TreeVersion → List (List ℕ) → List Entry → Type 0
+AreHashed version strings m = (node : List ℕ) → IsNode (form_of version) (form_of version).depth root m node → node ∈ strings
 
 -- ## Syncs
 
@@ -68,35 +69,33 @@ pub record SourcesAre (r : Running) : Type 0 where
   pub given : (source : Source) → source ∈ r.sync.sources → (a : Asking) × (a ∈ r.asks) × (a.peer ≡ source.peer) × (source.entries ≡ a.ask.received)
   pub among : (source : Source) → source ∈ r.sync.sources → source.peer ∈ r.sync.view
 
--- what a running sync of peer p says, over a tree that shows the map
-pub record SyncSays (g : Lines) (s : State) (strings : List (List ℕ)) (p : ℕ) (fact : Fact) (trusted : Bool) (m : List Entry) (r : Running) : Type 0 where
+-- what a running sync of peer p says, over a tree of this version that shows the map, or of which the scan
+-- found nothing
+pub record SyncSays (version : TreeVersion) (g : Lines) (s : State) (strings : List (List ℕ)) (p : ℕ) (fact : Fact) (trusted : Bool) (m : List Entry) (r : Running) : Type 0 where
   pub me : r.sync.me ≡ p
   pub trust : r.sync.trusted ≡ trusted
   pub view : r.sync.view ≡ last_view r.fact.views
   pub scan : IsScanOf m r.sync.scan
-  pub hashed : AreHashed strings m
+  pub positions : AllByRecursion (IsPosition version) r.sync.scan.damaged
+  pub seen : LosesAll r.sync.scan ⊎ AreHashed version strings m
   pub distinct : AreDistinct (map (λ (a : Asking). a.peer) r.asks)
   pub others : (a : Asking) → a ∈ r.asks → a.peer ≡ p → ⊥
   pub sources : SourcesAre r
   pub received : (a : Asking) → a ∈ r.asks → EntriesSay s strings a.ask.received
   pub holds : SyncHolds g s.objects p (seen_fact fact) (seen_tree m) trusted (seen_sync r)
 
-abbrev pub SyncMaySay : Lines → State → List (List ℕ) → ℕ → Fact → Bool → List Entry → Option Running → Type 0
-SyncMaySay g s strings p fact trusted m None = Unit {0}
-SyncMaySay g s strings p fact trusted m (Some r) = SyncSays g s strings p fact trusted m r
-
 -- ## Gives
 
--- a part of the tree of a map that peer q showed: it says what holds
-pub record GiveShows (g : Lines) (s : State) (strings : List (List ℕ)) (q : ℕ) (ballot : Epoch) (question : Question) (trusted : Bool) (body : TreeBody) : Type 0 where
+-- a part of the tree of a map that peer q showed in this version: it says what holds
+pub record GiveShows (version : TreeVersion) (g : Lines) (s : State) (strings : List (List ℕ)) (q : ℕ) (ballot : Epoch) (question : Question) (trusted : Bool) (body : TreeBody) : Type 0 where
   pub map : List Entry
   pub is_map : IsMap map
-  pub body_is : body ≡ give_of One map question
-  pub hashed : AreHashed strings map
+  pub body_is : body ≡ give_of version map question
+  pub hashed : AreHashed version strings map
   pub entries : EntriesSay s strings map
   pub says : GiveSays g s.objects q (epoch_number ballot) trusted (ranks map)
 
 -- a node that peer q sends is of such a tree, or the peer reports damage
-abbrev pub GiveFits : Lines → State → List (List ℕ) → ℕ → Epoch → Question → Bool → TreeBody → Type 0
-GiveFits g s strings q ballot question trusted (bodies.Damaged at) = Unit {0}
-GiveFits g s strings q ballot question trusted body = GiveShows g s strings q ballot question trusted body
+abbrev pub GiveFits : TreeVersion → Lines → State → List (List ℕ) → ℕ → Epoch → Question → Bool → TreeBody → Type 0
+GiveFits version g s strings q ballot question trusted (bodies.Damaged at) = Unit {0}
+GiveFits version g s strings q ballot question trusted body = GiveShows version g s strings q ballot question trusted body

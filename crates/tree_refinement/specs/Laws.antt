@@ -11,7 +11,8 @@ use Rattle.step_plans.specs.declared.error.PeerError.{PeerError}
 use Rattle.step_plans.specs.declared.error.PeerError.TheVariants.{StoreFault}
 use Rattle.step_plans.specs.declared.walked.Walked.{Walked}
 use Rattle.step_plans.specs.declared.walked.Walked.TheVariants.{Reached, Broken}
-use Rattle.tree_node.specs.declared.version.TreeVersion.TheVariants.{One}
+use Rattle.tree_node.specs.declared.version.TreeVersion.{TreeVersion}
+use Rattle.tree_node.specs.declared.version.TreeVersion.TheVariants.{Two}
 use Rattle.tree_maps.specs.Entries.{IsMap, lookup, put}
 use Rattle.tree_maps.specs.Paths.{node_of}
 use Rattle.tree_maps.specs.Sixteen.{form_of}
@@ -19,7 +20,7 @@ use Rattle.tree_node.specs.Positions.{IsPosition}
 use Rattle.tree_node.specs.declared.body.Scan.{Scan}
 use Rattle.tree_node.specs.declared.position.Position.{Position}
 use Rattle.tree_verify.specs.Scans.{lost}
-use Rattle.tree_refinement.specs.Trees.{AreAmong, AreFree, Shows}
+use Rattle.tree_refinement.specs.Trees.{AreAmong, AreFree, Shows, form_in}
 
 -- this value, or a position that does not verify
 abbrev pub IsReached : {A : Type 0} → A → Result (Walked A) PeerError → Type 0
@@ -32,14 +33,15 @@ IsReached x (Err e) = ⊥
 abbrev pub FindsEntries : Type 0
 FindsEntries = (strings : List (List ℕ)) (h : Held) (m : List Entry) (key : List ℕ) → AreFree strings → AreAmong (answered (Find key) h).held.hashed strings → Shows h m → IsReached (lookup key m) (answered (Find key) h).result
 
--- a read returns the text of the node at the position in the tree of the map, or none if the
+-- a read of a position of the tree returns the text of the node there in the tree of the map, or none if the
 -- position is empty there
 abbrev pub ReadsNodes : Type 0
-ReadsNodes = (strings : List (List ℕ)) (h : Held) (m : List Entry) (at : Position) → AreFree strings → AreAmong (answered (ReadNode at) h).held.hashed strings → Shows h m → IsPosition One at → IsReached (node_of (form_of One) at m) (answered (ReadNode at) h).result
+ReadsNodes = (strings : List (List ℕ)) (h : Held) (m : List Entry) (at : Position) → AreFree strings → AreAmong (answered (ReadNode at) h).held.hashed strings → Shows h m → IsPosition h.stores.tree.version at → IsReached (node_of (form_in h) at m) (answered (ReadNode at) h).result
 
--- the entries of the map whose paths go through no damaged position
+-- the entries of the map whose paths go through no damaged position; paths are the same in either version,
+-- and go further in version two
 abbrev pub IsScanned : List Entry → Result Scan PeerError → Type 0
-IsScanned m (Ok scan) = scan.entries ≡ filter (λ e. not (lost (form_of One) scan.damaged e.key)) m
+IsScanned m (Ok scan) = scan.entries ≡ filter (λ e. not (lost (form_of Two) scan.damaged e.key)) m
 IsScanned m (Err e) = ⊥
 
 -- a scan returns the entries of the map, but for those below a damaged position
@@ -66,7 +68,7 @@ IsMade m h (Err e) t = (e ≡ StoreFault) × (t.stores.tree.top ≡ h.stores.tre
 
 -- a fresh tree shows the empty map, whatever strings were hashed
 abbrev pub MakesEmpty : Type 0
-MakesEmpty = (h : Held) → IsMade [] h (answered FreshTree h).result (answered FreshTree h).held
+MakesEmpty = (tree : TreeVersion) (h : Held) → IsMade [] h (answered (FreshTree tree) h).result (answered (FreshTree tree) h).held
 
 -- an installed tree shows the map of its entries, whatever strings were hashed
 abbrev pub InstallsMaps : Type 0
@@ -74,8 +76,8 @@ InstallsMaps = (h : Held) (entries : List Entry) → IsMap entries → IsMade en
 
 -- a call that gives the tree no other root
 abbrev pub KeepsRoot : Call → Type 0
-KeepsRoot FreshTree = ⊥
-KeepsRoot (OpenTree seal) = ⊥
+KeepsRoot (FreshTree tree) = ⊥
+KeepsRoot (OpenTree seal tree) = ⊥
 KeepsRoot (Enter entry) = ⊥
 KeepsRoot (Install entries) = ⊥
 KeepsRoot call = Unit {0}
@@ -83,6 +85,16 @@ KeepsRoot call = Unit {0}
 -- such a call leaves the map, whatever strings were hashed
 abbrev pub KeepsMaps : Type 0
 KeepsMaps = (call : Call) (h : Held) (m : List Entry) → KeepsRoot call → Shows h m → Shows (answered call h).held m
+
+-- a call that neither makes nor opens a tree
+abbrev pub KeepsVersion : Call → Type 0
+KeepsVersion (FreshTree tree) = ⊥
+KeepsVersion (OpenTree seal tree) = ⊥
+KeepsVersion call = Unit {0}
+
+-- such a call leaves the version of the tree
+abbrev pub KeepsVersions : Type 0
+KeepsVersions = (call : Call) (h : Held) → KeepsVersion call → (answered call h).held.stores.tree.version ≡ h.stores.tree.version
 
 -- what was hashed before a call is still there
 abbrev pub KeepsHashed : Type 0

@@ -1,21 +1,20 @@
 -- The top records of a tree over nodes in memory, and what each call does to them.
-use Rattle.std.specs.Prelude.{◌≡◌, ◌<◌, ◌^◌, ◌⊎◌, ℕ, List, [], ◌∷◌, ◌++◌, Result, Ok, Err, None, Some, length}
+use Rattle.std.specs.Prelude.{◌≡◌, ◌<◌, ◌^◌, ◌⊎◌, ℕ, List, [], ◌∷◌, ◌++◌, Result, Ok, Err, length}
 use Rattle.ens_base.specs.declared.entry.Entry.{Entry}
 use Rattle.ens_base.specs.Lists.{◌∈◌}
 use Rattle.ens_fields.specs.Entries.{IsEntry}
 use Rattle.held_stores.specs.Answers.{answered}
 use Rattle.held_stores.specs.Held.{Held, HeldStores}
-use Rattle.step_plans.specs.Calls.{Call, FreshTree, OpenTree, Enter, Install}
+use Rattle.step_plans.specs.Calls.{Call, FreshTree, Enter, Install}
 use Rattle.step_plans.specs.declared.error.PeerError.{PeerError}
 use Rattle.step_plans.specs.declared.error.PeerError.TheVariants.{StoreFault}
 use Rattle.step_plans.specs.declared.walked.Walked.{Walked}
 use Rattle.step_plans.specs.declared.walked.Walked.TheVariants.{Reached, Broken}
-use Rattle.tree_node.specs.declared.version.TreeVersion.TheVariants.{One}
+use Rattle.tree_node.specs.declared.version.TreeVersion.{TreeVersion}
 use Rattle.tree_maps.specs.Entries.{IsMap, put}
 use Rattle.tree_maps.specs.Forms.{root}
 use Rattle.tree_maps.specs.Maps.{IsNode, Stands}
 use Rattle.tree_maps.specs.Sixteen.{form_of}
-use Rattle.world_stores.specs.Nodes.{top_of}
 use Rattle.tree_refinement.specs.Laws.{KeepsRoot}
 use Rattle.tree_refinement.specs.Trees.{AreAmong, AreFree, Shows}
 use Rattle.tree_refinement.specs.Whole.{IsRecorded}
@@ -24,10 +23,11 @@ use Rattle.tree_refinement.specs.Whole.{IsRecorded}
 abbrev pub tops_of : HeldStores → List (List ℕ)
 tops_of s = s.tree.store.tops
 
--- the map stands under the digest, and the text of each of its nodes was hashed
+-- the map stands under the digest in a version of the tree, and the text of each of its nodes was hashed
 pub record IsNamed (hashed : List (List ℕ)) (digest : List ℕ) (m : List Entry) : Type 0 where
-  pub stands : Stands (form_of One) digest m
-  pub texts : (node : List ℕ) → IsNode (form_of One) (form_of One).depth root m node → node ∈ hashed
+  pub tree : TreeVersion
+  pub stands : Stands (form_of tree) digest m
+  pub texts : (node : List ℕ) → IsNode (form_of tree) (form_of tree).depth root m node → node ∈ hashed
 
 -- one more top record was written, and it names the map
 pub record NamesNext (m : List Entry) (h t : Held) : Type 0 where
@@ -63,16 +63,7 @@ abbrev pub InstallsTops : Type 0
 InstallsTops = (h : Held) (entries : List Entry) → IsMap entries → HasBuilt entries h (answered (Install entries) h).result (answered (Install entries) h).held
 
 abbrev pub MakesTops : Type 0
-MakesTops = (h : Held) → HasBuilt [] h (answered FreshTree h).result (answered FreshTree h).held
-
--- an opened tree shows the map that the top record names
-pub record HasOpened (m : List Entry) (h t : Held) : Type 0 where
-  pub shows : Shows t m
-  pub recorded : IsRecorded t
-  pub tops : tops_of t.stores ≡ tops_of h.stores
-
-abbrev pub OpensMaps : Type 0
-OpensMaps = (h : Held) (m : List Entry) (digest : List ℕ) → top_of (tops_of h.stores) ≡ Some digest → IsNamed h.hashed digest m → ((answered (OpenTree None) h).result ≡ Ok tt) × HasOpened m h (answered (OpenTree None) h).held
+MakesTops = (tree : TreeVersion) (h : Held) → HasBuilt [] h (answered (FreshTree tree) h).result (answered (FreshTree tree) h).held
 
 -- a call that gives the tree no other root writes no top record, and leaves the root recorded
 abbrev pub KeepsTops : Type 0

@@ -8,7 +8,7 @@ use Rattle.ens_outside.specs.Maps.{Entries, value_at, with_value}
 use Rattle.held_stores.specs.Answers.{Answered, answered, with_facts, with_backend}
 use Rattle.held_stores.specs.Held.{Held, HeldStores, and_hashed}
 use Rattle.md5.specs.Md5.{md5}
-use Rattle.tree_node.specs.declared.version.TreeVersion.TheVariants.{One}
+use Rattle.tree_node.specs.declared.version.TreeVersion.{TreeVersion}
 use Rattle.node_faults.specs.Laws.{HoldsMap}
 use Rattle.step_plans.specs.Calls.{Call, Load, Save, FreshTree, OpenTree, Find, Enter, ScanTree, ReadNode, Install, Fetch, Put, Hash}
 use Rattle.step_plans.specs.declared.walked.Walked.TheVariants.{Reached}
@@ -21,7 +21,7 @@ use Rattle.tree_node.specs.Positions.{IsPosition}
 use Rattle.tree_node.specs.declared.position.Position.{Position}
 use Rattle.world_stores.specs.Nodes.{top_of}
 use Rattle.tree_refinement.specs.Laws.{KeepsRoot}
-use Rattle.tree_refinement.specs.Trees.{AreAmong, AreFree, Shows}
+use Rattle.tree_refinement.specs.Trees.{AreAmong, AreFree, Shows, form_in}
 
 -- the bytes are stored under their MD5
 abbrev pub IsStored : Entries → List ℕ → Type 0
@@ -36,7 +36,7 @@ pub record HasNoFaults (s : HeldStores) : Type 0 where
 -- the tree of the peer shows the map, each node of the map is stored, and no failure waits
 pub record IsWhole (h : Held) (m : List Entry) : Type 0 where
   pub shows : Shows h m
-  pub stored : (node : List ℕ) → IsNode (form_of One) (form_of One).depth root m node → IsStored h.stores.tree.store.entries node
+  pub stored : (node : List ℕ) → IsNode (form_in h) (form_in h).depth root m node → IsStored h.stores.tree.store.entries node
   pub no_faults : HasNoFaults h.stores
 
 -- a find returns the entry that the map has for the key, whatever strings were hashed
@@ -46,7 +46,7 @@ FindsAll = (h : Held) (m : List Entry) (key : List ℕ) → IsWhole h m → (ans
 -- and a read the text of the node at the position in the tree of the map, or none if the position
 -- is empty there
 abbrev pub ReadsAll : Type 0
-ReadsAll = (h : Held) (m : List Entry) (at : Position) → IsPosition One at → IsWhole h m → (answered (ReadNode at) h).result ≡ Ok (Reached (node_of (form_of One) at m))
+ReadsAll = (h : Held) (m : List Entry) (at : Position) → IsPosition h.stores.tree.version at → IsWhole h m → (answered (ReadNode at) h).result ≡ Ok (Reached (node_of (form_in h) at m))
 
 -- A scan returns all entries of the map, and no damage. Here and below, `strings` is any list that
 -- has all strings hashed up to the end of the call.
@@ -66,13 +66,13 @@ InstallsWhole = (strings : List (List ℕ)) (h : Held) (entries : List Entry) �
 
 -- a fresh tree is whole, whatever tree was there and whatever strings were hashed
 abbrev pub MakesWhole : Type 0
-MakesWhole = (h : Held) → HasNoFaults h.stores → ((answered FreshTree h).result ≡ Ok tt) × IsWhole (answered FreshTree h).held []
+MakesWhole = (tree : TreeVersion) (h : Held) → HasNoFaults h.stores → ((answered (FreshTree tree) h).result ≡ Ok tt) × IsWhole (answered (FreshTree tree) h).held []
 
--- an opened tree is whole if a map stands under the top record, and each of its nodes is stored and
--- was hashed, whatever tree was there
+-- an opened tree is whole if a map stands under the top record in the version in which the tree is opened,
+-- and each of its nodes is stored and was hashed, whatever tree was there
 abbrev pub OpensWhole : Type 0
-OpensWhole = (h : Held) (m : List Entry) → HoldsMap (form_of One) h.stores.tree.store m → ((node : List ℕ) → IsNode (form_of One) (form_of One).depth root m node → node ∈ h.hashed) → HasNoFaults h.stores
-    → ((answered (OpenTree None) h).result ≡ Ok tt) × IsWhole (answered (OpenTree None) h).held m
+OpensWhole = (tree : TreeVersion) (h : Held) (m : List Entry) → HoldsMap (form_of tree) h.stores.tree.store m → ((node : List ℕ) → IsNode (form_of tree) (form_of tree).depth root m node → node ∈ h.hashed) → HasNoFaults h.stores
+    → ((answered (OpenTree None tree) h).result ≡ Ok tt) × IsWhole (answered (OpenTree None tree) h).held m
 
 -- the top record names the root of the tree
 abbrev pub IsRecorded : Held → Type 0
@@ -80,7 +80,7 @@ IsRecorded h = top_of h.stores.tree.store.tops ≡ h.stores.tree.top
 
 -- a call that opens no tree under a seal
 abbrev pub LeavesRecord : Call → Type 0
-LeavesRecord (OpenTree (Some seal)) = ⊥
+LeavesRecord (OpenTree (Some seal) tree) = ⊥
 LeavesRecord call = Unit {0}
 
 -- each such call leaves it so, whatever strings were hashed

@@ -1,0 +1,3 @@
+-- What the crates above name of step_refinement, passed on.
+pub use Rattle.step_refinement.proofs.DistinctItems.{images_few}
+pub use Rattle.step_refinement.proofs.ObjectGrammar.{objects_obey}

@@ -1,0 +1,3 @@
+-- What the crates above name of tree_refinement, passed on.
+pub use Rattle.tree_refinement.specs.Rooted.{LosesAll}
+pub use Rattle.tree_refinement.specs.Trees.{AreFree}
