@@ -2,25 +2,19 @@
 use Rattle.std.proofs.Common.{◌≡◌, ℕ, List, [], ◌∷◌, ◌++◌, Option, None, Some, Result, Ok, Err, refl, sym, ap, ◌∙◌, append_assoc, append-nil}
 use Rattle.ens_outside.specs.Maps.{with_value}
 use Rattle.ens_outside.specs.declared.memory.failing_call.Leaves.{Leaves}
-use Rattle.held_stores.specs.Answers.{Answered, answered, looked, entered, whole, done, root_after, root_read, root_kept, by_walk, with_facts, with_backend, facts_failed, objects_failed}
-use Rattle.held_stores.specs.Held.{Held, HeldStores, unless_failing}
-use Rattle.held_stores.specs.Laws.{held_with}
-use Rattle.held_stores.specs.Runs.{Ended, run, either}
-use Rattle.held_stores.specs.Walks.{Failed, Walk, walk, nodes_failed}
+use Rattle.calm_steps.specs.HeldStores.{Answered, answered, looked, entered, whole, done, root_after, root_read, root_kept, by_walk, with_facts, with_backend, facts_failed, objects_failed, Held, HeldStores, unless_failing, held_with, Ended, run, either, Failed, Walk, walk, nodes_failed, position_plan}
 use Rattle.peer_state.specs.declared.state.State.{State}
 use Rattle.register_model.specs.declared.note.Note.{Note}
 use Rattle.step_plans.specs.Calls.{Call, AnswerOf, Load, Save, FreshTree, OpenTree, Root, Find, Enter, ScanTree, ReadNode, Install, Fetch, Put, Hash}
 use Rattle.step_plans.specs.Plans.{Plan, Done, Say, Ask, Stopped}
 use Rattle.step_plans.specs.declared.error.PeerError.{PeerError}
 use Rattle.step_plans.specs.declared.error.PeerError.TheVariants.{StoreFault}
-use Rattle.tree_node.specs.declared.version.TreeVersion.TheVariants.{One}
-use Rattle.synctree.specs.Nodes.{node_plan}
 use Rattle.synctree.specs.Plans as tree
 use Rattle.synctree.specs.Trees.{open_plan, fresh_plan, get_plan, insert_plan}
 use Rattle.tree_maps.specs.Sixteen.{form_of}
 use Rattle.tree_repair.specs.Rebuilds.{rebuild_plan}
 use Rattle.tree_verify.specs.Levels.{scan_plan}
-use Rattle.world_spec.specs.Nodes.{run_over}
+use Rattle.call_refinement.specs.WorldSpec.{run_over}
 use Rattle.world_stores.specs.Nodes.{Nodes, refusal, answer, after}
 
 -- these strings were hashed before all others
@@ -59,14 +53,14 @@ answers_behind : (call : Call) (xs : List (List ℕ)) (h : Held) → answered ca
 answers_behind Load xs h = refl
 answers_behind (Save fact) xs h = written_behind xs h.stores.facts.faults.pending (record { result = Ok tt; held = with_facts (record h.stores.facts { kept = Some fact }) h })
     (λ leaves. record { result = Err StoreFault; held = with_facts (facts_failed h.stores.facts (record h.stores.facts { kept = Some fact }) leaves) h })
-answers_behind FreshTree xs h = ap (λ w. by_walk FreshTree done root_after w (behind xs h)) (walks_behind (fresh_plan (form_of One)) h.stores.tree.store xs h.hashed)
-answers_behind (OpenTree seal) xs h = ap (λ w. by_walk (OpenTree seal) done (root_read seal) w (behind xs h)) (walks_behind open_plan h.stores.tree.store xs h.hashed)
+answers_behind (FreshTree version) xs h = ap (λ w. by_walk (FreshTree version) done root_after w (behind xs h)) (walks_behind (fresh_plan (form_of version)) h.stores.tree.store xs h.hashed)
+answers_behind (OpenTree seal version) xs h = ap (λ w. by_walk (OpenTree seal version) done (root_read seal) w (behind xs h)) (walks_behind open_plan h.stores.tree.store xs h.hashed)
 answers_behind Root xs h = refl
-answers_behind (Find key) xs h = ap (λ w. by_walk (Find key) looked root_kept w (behind xs h)) (walks_behind (get_plan (form_of One) h.stores.tree.top key) h.stores.tree.store xs h.hashed)
-answers_behind (Enter entry) xs h = ap (λ w. by_walk (Enter entry) entered root_after w (behind xs h)) (walks_behind (insert_plan (form_of One) h.stores.tree.top entry) h.stores.tree.store xs h.hashed)
-answers_behind ScanTree xs h = ap (λ w. by_walk ScanTree whole root_kept w (behind xs h)) (walks_behind (scan_plan (form_of One) h.stores.tree.top) h.stores.tree.store xs h.hashed)
-answers_behind (ReadNode at) xs h = ap (λ w. by_walk (ReadNode at) looked root_kept w (behind xs h)) (walks_behind (node_plan (form_of One) h.stores.tree.top at) h.stores.tree.store xs h.hashed)
-answers_behind (Install entries) xs h = ap (λ w. by_walk (Install entries) done root_after w (behind xs h)) (walks_behind (rebuild_plan (form_of One) entries) h.stores.tree.store xs h.hashed)
+answers_behind (Find key) xs h = ap (λ w. by_walk (Find key) looked root_kept w (behind xs h)) (walks_behind (get_plan (form_of h.stores.tree.version) h.stores.tree.top key) h.stores.tree.store xs h.hashed)
+answers_behind (Enter entry) xs h = ap (λ w. by_walk (Enter entry) entered root_after w (behind xs h)) (walks_behind (insert_plan (form_of h.stores.tree.version) h.stores.tree.top entry) h.stores.tree.store xs h.hashed)
+answers_behind ScanTree xs h = ap (λ w. by_walk ScanTree whole root_kept w (behind xs h)) (walks_behind (scan_plan (form_of h.stores.tree.version) h.stores.tree.top) h.stores.tree.store xs h.hashed)
+answers_behind (ReadNode at) xs h = ap (λ w. by_walk (ReadNode at) looked root_kept w (behind xs h)) (walks_behind (position_plan h.stores.tree.version h.stores.tree.top at) h.stores.tree.store xs h.hashed)
+answers_behind (Install entries) xs h = ap (λ w. by_walk (Install entries) done root_after w (behind xs h)) (walks_behind (rebuild_plan (form_of h.stores.tree.version) entries) h.stores.tree.store xs h.hashed)
 answers_behind (Fetch key) xs h = refl
 answers_behind (Put key bytes) xs h = written_behind xs h.stores.backend.faults.pending (record { result = Ok tt; held = with_backend (record h.stores.backend { entries = with_value key bytes h.stores.backend.entries }) h })
     (λ leaves. record { result = Err StoreFault; held = with_backend (objects_failed h.stores.backend (record h.stores.backend { entries = with_value key bytes h.stores.backend.entries }) leaves) h })

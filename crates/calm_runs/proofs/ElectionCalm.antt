@@ -8,8 +8,7 @@ use Rattle.ens_base.proofs.Lists.{in_left}
 use Rattle.ens_base.specs.Lists.{◌∈◌}
 use Rattle.ens_base.specs.PeerSet.{holds}
 use Rattle.ens_base.specs.View.{IsPeer}
-use Rattle.held_stores.specs.Held.{Held}
-use Rattle.held_stores.specs.Laws.{held_with}
+use Rattle.calm_steps.specs.HeldStores.{Held, held_with}
 use Rattle.joint_views.specs.Members.{those}
 use Rattle.joint_views.specs.Quorums.{is_quorum}
 use Rattle.network.proofs.MailLaws.{oldest_waits}
@@ -18,12 +17,12 @@ use Rattle.peer_fact.specs.declared.fact.Fact.{Fact}
 use Rattle.peer_state.specs.declared.event.Event.TheVariants as events
 use Rattle.phase_rows.specs.Peers.{alone}
 use Rattle.step_plans.specs.Plans.{nothing}
-use Rattle.tree_refinement.specs.Trees.{AreAmong}
+use Rattle.calm_steps.specs.TreeRefinement.{AreAmong}
 use Rattle.wire_frames.specs.declared.frame.Frame.{Frame}
 use Rattle.wire_frames.specs.declared.message.Message.{Message}
 use Rattle.wire_frames.specs.declared.message.Message.TheVariants as messages
-use Rattle.world_spec.proofs.Growth.{ticked_grows}
-use Rattle.world_spec.specs.Runs.{Run, received, stepped, ticked, calmed}
+use Rattle.call_refinement.proofs.WorldSpec.{ticked_grows}
+use Rattle.call_refinement.specs.WorldSpec.{Run, received, stepped, ticked, calmed}
 use Rattle.calm_steps.proofs.CandidateSteps.{ballot, opened, promised, accepted, and_probes, ticks_quietly, ticks_at_last}
 use Rattle.calm_steps.proofs.Keeping.{Standing}
 use Rattle.calm_steps.proofs.Lands.{Aim}
@@ -36,7 +35,7 @@ use Rattle.calm_runs.proofs.Elections.{Quiet, Probes, Prepares, Starts, Led, res
 use Rattle.calm_runs.proofs.Parts.{grown}
 use Rattle.calm_runs.proofs.Standing.{Stands, stands_here, stands_other}
 use Rattle.calm_runs.proofs.Waiting.{none_waits}
-use Rattle.calm_runs.proofs.Worlds.{moved, step_grows, calm_keeps}
+use Rattle.calm_runs.proofs.Worlds.{AllAlive, moved, step_grows, calm_keeps}
 
 module _ (me : ℕ) (view : List ℕ) (is_peer : IsPeer me) (peers : (q : ℕ) → q ∈ view → IsPeer q) (listed : me ∈ view) (strings : List (List ℕ)) where
   -- ## Deliveries
@@ -104,9 +103,9 @@ module _ (me : ℕ) (view : List ℕ) (is_peer : IsPeer me) (peers : (q : ℕ) �
       by q is fact (inr waits) = absurd (no_ask q (messages.NewEpoch (accepted me view)) is.0 waits)
 
   -- a calm in which the election goes on ends with a leader
-  pub election_calm : (k : ℕ) (w : Run) → 0 < length view → IsElecting me view is_peer peers listed w → AreAmong (calmed (those (λ p. true)) k w).hashed strings
+  pub election_calm : (k : ℕ) (w : Run) → 0 < length view → AllAlive w → IsElecting me view is_peer peers listed w → AreAmong (calmed (those (λ p. true)) k w).hashed strings
       → (none : oldest (is_among (those (λ p. true))) (calmed (those (λ p. true)) k w).mail ≡ None) → IsLed (calmed (those (λ p. true)) k w) none
-  election_calm k w filled goes among none = leads_at_last (calmed (those (λ p. true)) k w) none filled (calm_keeps GoesOn (those (λ p. true)) delivery k w (λ within. goes) among)
+  election_calm k w filled alive goes among none = leads_at_last (calmed (those (λ p. true)) k w) none filled ((calm_keeps GoesOn (those (λ p. true)) delivery k w (alive, λ within. goes)).1 among)
 
   -- ## Ticks
 

@@ -8,7 +8,7 @@ use Rattle.peer_fact.specs.declared.fact.Fact.{Fact}
 use Rattle.wire_frames.specs.declared.frame.Frame.{Frame}
 use Rattle.wire_frames.specs.declared.message.Message.{Message}
 use Rattle.wire_frames.specs.declared.message.Message.TheVariants as messages
-use Rattle.world_spec.specs.Runs.{posted_all}
+use Rattle.call_refinement.specs.WorldSpec.{posted_all}
 use Rattle.calm_steps.proofs.CandidateSteps.{ballot, opened, promised, accepted}
 use Rattle.calm_runs.proofs.Waits.{Waits}
 use Rattle.calm_runs.proofs.Elections.{Step, Quiet, Probes, Prepares, Starts, Led, MayHave, IsHeard, MayAsk, asking, replying}

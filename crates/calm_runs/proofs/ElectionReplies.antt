@@ -1,31 +1,27 @@
 -- During the election each reply to the candidate leaves the world as the invariant says, maybe at a later step.
 use Rattle.std.proofs.Common.{◌≡◌, inl, inr, refl, sym, ◌∙◌, subst, arith, ℕ, Bool, true, false, List, [], ◌∷◌, ◌++◌, map, length, Some}
 use Rattle.std.specs.Prelude.{slice_get, replicate}
-use Rattle.std.proofs.lemmas.List.{append-nil}
+use Rattle.std.proofs.lemmas.List.{append-nil, length-set}
 use Rattle.ens_base.proofs.Lists.{tested_in}
 use Rattle.ens_base.specs.Lists.{◌∈◌}
 use Rattle.ens_base.specs.PeerSet.{holds}
 use Rattle.ens_base.specs.View.{IsPeer}
-use Rattle.held_stores.specs.Held.{Held}
-use Rattle.held_stores.specs.Laws.{held_with}
+use Rattle.calm_steps.specs.HeldStores.{Held, held_with, step_of}
 use Rattle.joint_views.specs.Members.{members}
 use Rattle.joint_views.specs.Quorums.{is_member}
 use Rattle.leader_words.specs.declared.out.Outgoing.{Outgoing}
 use Rattle.network.specs.Mail.{Mail, settled, posted}
 use Rattle.peer_fact.specs.declared.fact.Fact.{Fact}
-use Rattle.peer_plan.specs.Drives.{step_of}
 use Rattle.peer_state.specs.declared.event.Event.TheVariants as events
 use Rattle.peer_state.specs.declared.state.State.{State}
 use Rattle.phase_rows.specs.Peers.{alone, others_of, joined}
 use Rattle.register_model.specs.declared.note.Note.{Note}
-use Rattle.std.proofs.lemmas.List.{length-set}
 use Rattle.step_plans.specs.Plans.{Out, nothing}
 use Rattle.step_plans.specs.Sends.{posted_to}
-use Rattle.tree_refinement.specs.Trees.{AreAmong}
-use Rattle.tree_refinement.specs.Whole.{IsWhole}
+use Rattle.calm_steps.specs.TreeRefinement.{AreAmong, IsWhole}
 use Rattle.wire_frames.specs.declared.message.Message.{Message}
 use Rattle.wire_frames.specs.declared.message.Message.TheVariants as messages
-use Rattle.world_spec.specs.Runs.{Run, frame_from, posted_all, received}
+use Rattle.call_refinement.specs.WorldSpec.{Run, frame_from, posted_all, received}
 use Rattle.calm_steps.proofs.CandidateSteps.{ballot, opened, promised, accepted, has_quorum, may_lead, by_test, StartsEnd, PreparesEnd, ProbesEnd, and_prepares, and_announces, heard_probe, heard_promise, heard_acceptance, led_hears}
 use Rattle.calm_steps.proofs.Ends.{over}
 use Rattle.calm_steps.proofs.Keeping.{Keeping, Standing}

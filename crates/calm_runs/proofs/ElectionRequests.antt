@@ -7,13 +7,11 @@ use Rattle.std.proofs.lemmas.List.{append-nil}
 use Rattle.ens_base.specs.Lists.{◌∈◌}
 use Rattle.ens_base.specs.PeerSet.{holds}
 use Rattle.ens_base.specs.View.{IsPeer}
-use Rattle.held_stores.specs.Held.{Held}
-use Rattle.held_stores.specs.Laws.{held_with}
+use Rattle.calm_steps.specs.HeldStores.{Held, held_with, step_of}
 use Rattle.leader_words.specs.declared.out.Outgoing.{Outgoing}
 use Rattle.network.proofs.MailLaws.{is_mail_settled}
 use Rattle.network.specs.Mail.{Mail, settled}
 use Rattle.peer_fact.specs.declared.fact.Fact.{Fact}
-use Rattle.peer_plan.specs.Drives.{step_of}
 use Rattle.peer_state.specs.declared.event.Event.TheVariants as events
 use Rattle.peer_state.specs.declared.state.State.{State}
 use Rattle.phase_rows.specs.Orders.{is_below, is_same}
@@ -21,12 +19,11 @@ use Rattle.phase_rows.specs.Peers.{alone}
 use Rattle.register_model.specs.declared.note.Note.{Note}
 use Rattle.step_plans.specs.Plans.{Out, nothing}
 use Rattle.step_plans.specs.Sends.{posted_to}
-use Rattle.tree_refinement.specs.Trees.{AreAmong}
-use Rattle.tree_refinement.specs.Whole.{IsWhole}
+use Rattle.calm_steps.specs.TreeRefinement.{AreAmong, IsWhole}
 use Rattle.wire_frames.specs.declared.frame.Frame.{Frame}
 use Rattle.wire_frames.specs.declared.message.Message.{Message}
 use Rattle.wire_frames.specs.declared.message.Message.TheVariants as messages
-use Rattle.world_spec.specs.Runs.{Run, frame_from, posted_all, received}
+use Rattle.call_refinement.specs.WorldSpec.{Run, frame_from, posted_all, received}
 use Rattle.calm_steps.proofs.Bystanders.{tells, on_probe, on_prepare, on_new_epoch}
 use Rattle.calm_steps.proofs.CandidateSteps.{ballot, opened, promised, accepted}
 use Rattle.calm_steps.proofs.Keeping.{Keeping, Standing}

@@ -13,7 +13,7 @@ use Rattle.step_plans.specs.Sends.{posted_to}
 use Rattle.wire_frames.specs.declared.frame.Frame.{Frame}
 use Rattle.wire_frames.specs.declared.message.Message.{Message}
 use Rattle.wire_frames.specs.declared.message.Message.TheVariants as messages
-use Rattle.world_spec.specs.Runs.{Run, frame_from, posted_all}
+use Rattle.call_refinement.specs.WorldSpec.{Run, frame_from, posted_all}
 use Rattle.calm_steps.proofs.CandidateSteps.{ballot, opened, promised, accepted}
 use Rattle.calm_runs.proofs.Waits.{Waits, AllWaiting}
 use Rattle.calm_runs.proofs.ElectionMembers.{still_waits}

@@ -10,7 +10,7 @@ use Rattle.peer_state.specs.Moves.{follower}
 use Rattle.wire_frames.specs.declared.frame.Frame.{Frame}
 use Rattle.wire_frames.specs.declared.message.Message.{Message}
 use Rattle.wire_frames.specs.declared.message.Message.TheVariants as messages
-use Rattle.world_spec.specs.Runs.{Run}
+use Rattle.call_refinement.specs.WorldSpec.{Run}
 use Rattle.calm_steps.proofs.CandidateSteps.{ballot, opened, promised, accepted, quiet, probing, preparing, starting, led, has_quorum, may_lead}
 use Rattle.calm_steps.proofs.Keeping.{Standing}
 use Rattle.calm_runs.proofs.Waits.{Waits, AllWaiting}

@@ -7,11 +7,10 @@ use Rattle.joint_views.specs.Members.{those}
 use Rattle.network.specs.Mail.{most_messages, oldest, is_among}
 use Rattle.schedule_text.specs.declared.event.ScheduleEvent.{ScheduleEvent}
 use Rattle.schedule_text.specs.declared.event.ScheduleEvent.TheVariants.{Tick, Calm}
-use Rattle.tree_refinement.specs.Trees.{AreAmong}
+use Rattle.calm_steps.specs.TreeRefinement.{AreAmong}
 use Rattle.schedule_text.specs.declared.form.Form.{Form}
-use Rattle.world_spec.proofs.Growth.{calmed_grows}
-use Rattle.world_spec.specs.Lines.{counted, run_of_schedule}
-use Rattle.world_spec.specs.Runs.{Run, opening_run, ticked, calmed}
+use Rattle.call_refinement.proofs.WorldSpec.{calmed_grows}
+use Rattle.call_refinement.specs.WorldSpec.{counted, run_of_schedule, Run, opening_run, ticked, calmed}
 use Rattle.calm_steps.proofs.CandidateSteps.{accepted}
 use Rattle.calm_steps.proofs.Keeping.{Standing}
 use Rattle.calm_runs.proofs.ElectionCalm.{election_calm, ticks_on}
@@ -19,6 +18,7 @@ use Rattle.calm_runs.proofs.ElectionReplies.{IsElecting}
 use Rattle.calm_runs.proofs.Elections.{Step, Led, Elects, IsOther, rests, candidate}
 use Rattle.calm_runs.proofs.Opening.{opening_elects}
 use Rattle.calm_runs.proofs.Standing.{Stands}
+use Rattle.calm_runs.proofs.Worlds.{ticked_alive}
 
 -- counting a line moves nothing
 counted_stands : (e : ScheduleEvent) (w : Run) (q : ℕ) (x : Standing) → Stands w q x [] → Stands (counted e w) q x []
@@ -64,7 +64,7 @@ module _ (form : Form) (me peers : ℕ) (view : List ℕ) (listed : me ∈ view)
 
   pub first_calm : AreAmong first_world.hashed strings → oldest (is_among (those (λ p. true))) first_world.mail ≡ None → HasLeader me view first_world
   first_calm among none =
-      let led = election_calm me view (all me listed).0 are_peers listed strings most_messages ticking filled (begun among) among none in
+      let led = election_calm me view (all me listed).0 are_peers listed strings most_messages ticking filled (ticked_alive me 6 (opening_run form peers view)) (begun among) among none in
       record {
         accepts = led.accepts;
         elects = counted_elects me view (Led led.accepts) Calm (calmed (those (λ p. true)) most_messages ticking) led.elects;

@@ -9,7 +9,7 @@ use Rattle.joint_views.specs.Members.{those}
 use Rattle.leading.specs.Leaders.{new_leader}
 use Rattle.network.specs.Mail.{oldest, is_among}
 use Rattle.wire_frames.specs.declared.frame.Frame.{Frame}
-use Rattle.world_spec.specs.Runs.{Run}
+use Rattle.call_refinement.specs.WorldSpec.{Run}
 use Rattle.calm_steps.proofs.CandidateSteps.{accepted}
 use Rattle.calm_runs.proofs.Waits.{Waits}
 use Rattle.calm_runs.proofs.Counted.{everyone_has}

@@ -31,3 +31,4 @@ pub mod ServedCalls
 pub mod Schedules
 pub mod LegalRuns
 pub mod Histories
+pub mod CallRefinement

@@ -5,13 +5,11 @@ use Rattle.std.proofs.lemmas.Option.{none-some}
 use Rattle.ens_base.proofs.Lists.{in_right}
 use Rattle.ens_base.specs.Lists.{◌∈◌}
 use Rattle.ens_base.specs.View.{IsPeer}
-use Rattle.held_stores.specs.Held.{empty_stores}
+use Rattle.calm_steps.specs.HeldStores.{empty_stores}
 use Rattle.peer_fact.specs.Facts.{opening_fact}
 use Rattle.schedule_text.specs.declared.form.Form.{Form}
-use Rattle.tree_refinement.specs.Trees.{AreAmong}
-use Rattle.tree_refinement.specs.Whole.{HasNoFaults}
-use Rattle.world_spec.specs.Nodes.{Node, opening_node, opening_strings}
-use Rattle.world_spec.specs.Runs.{opening_mode, place_of, repeated, opening_run}
+use Rattle.calm_steps.specs.TreeRefinement.{AreAmong, HasNoFaults}
+use Rattle.call_refinement.specs.WorldSpec.{Node, opening_node, opening_strings, tree_first, opening_mode, place_of, repeated, opening_run}
 use Rattle.call_refinement.proofs.OpeningWorld.{first, fresh, seal, saved, node_is, strings_are}
 use Rattle.calm_steps.proofs.Keeping.{Keeping}
 use Rattle.calm_steps.proofs.TreeCalls.{makes}
@@ -43,7 +41,7 @@ module _ (form : Form) (view : List ℕ) where
     at = get_replicated peers (place_of q) (opening_node (opening_mode form) view) (omega (arith, peer.0, within)) ∙ ap (λ (n : Node). Some n) (sym (node_is form view));
     whole = whole_grows (saved form view).stores (fresh form view).hashed (repeated peers (opening_strings (opening_mode form) view)) []
         (subst (λ (s : List (List ℕ)). AreAmong s (repeated peers (opening_strings (opening_mode form) view))) (strings_are form view) (started_among peers (opening_strings (opening_mode form) view) (omega (arith, peer.0, within))))
-        (whole_saved (seal form view) (opening_fact view) (fresh form view) [] (makes (first form view) no_faults).1);
+        (whole_saved (seal form view) (opening_fact view) (fresh form view) [] (makes (tree_first form) (first form view) no_faults).1);
   }
 
   -- the election has not begun

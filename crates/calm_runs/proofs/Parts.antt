@@ -13,11 +13,10 @@ use Rattle.network.proofs.MailLaws.{is_mail_posted}
 use Rattle.network.specs.Mail.{Mail, IsMail, posted, settled}
 use Rattle.peer_state.specs.declared.event.Event.TheVariants as events
 use Rattle.phase_rows.specs.Peers.{alone, nobody}
-use Rattle.tree_refinement.specs.Trees.{AreAmong}
+use Rattle.calm_steps.specs.TreeRefinement.{AreAmong}
 use Rattle.wire_frames.specs.declared.frame.Frame.{Frame}
 use Rattle.wire_frames.specs.declared.message.Message.{Message}
-use Rattle.world_spec.specs.Nodes.{Node}
-use Rattle.world_spec.specs.Runs.{Run, place_of, frame_from, posted_all, received, stepped_at}
+use Rattle.call_refinement.specs.WorldSpec.{Node, Run, place_of, frame_from, posted_all, received, stepped_at}
 
 -- ## Nodes and messages
 

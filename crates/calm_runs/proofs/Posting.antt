@@ -11,7 +11,7 @@ use Rattle.leader_words.specs.declared.out.Outgoing.{Outgoing}
 use Rattle.step_plans.specs.Sends.{posted, posted_to}
 use Rattle.wire_frames.specs.declared.frame.Frame.{Frame}
 use Rattle.wire_frames.specs.declared.message.Message.{Message}
-use Rattle.world_spec.specs.Runs.{frame_from}
+use Rattle.call_refinement.specs.WorldSpec.{frame_from}
 
 abbrev pub going : ℕ → Message → Outgoing
 going q message = record { to = q; message = message }

@@ -3,7 +3,7 @@ use Rattle.std.proofs.Common.{◌≡◌, ◌⊎◌, inl, inr, refl, true}
 use Rattle.ens_base.specs.Lists.{◌∈◌}
 use Rattle.network.specs.Mail.{settled}
 use Rattle.network.proofs.MailLaws.{is_mail_settled}
-use Rattle.world_spec.specs.Runs.{posted_all}
+use Rattle.call_refinement.specs.WorldSpec.{posted_all}
 use Rattle.calm_runs.proofs.Waits.{Waits}
 use Rattle.calm_runs.proofs.UnderWay.{request_to, reply_of, IsUnderWay, Begins, Delivers, Ends}
 use Rattle.calm_runs.proofs.Waiting.{waits_all_posted, waits_new, waits_settled, none_waits}

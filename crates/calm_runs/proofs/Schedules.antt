@@ -1,5 +1,5 @@
 -- A calm schedule completes each of its calls before the next one begins.
-use Rattle.std.proofs.Common.{◌≡◌, ◌⊎◌, ◌≤◌, ◌<◌, ◌^◌, ◌+◌, inl, inr, refl, ap, sym, ◌∙◌, subst, arith, ℕ, zero, suc, Bool, true, List, [], ◌∷◌, ◌++◌, append_assoc, append-nil, length, Option, None, Some}
+use Rattle.std.proofs.Common.{◌≡◌, ◌⊎◌, ◌≤◌, ◌<◌, ◌^◌, ◌+◌, inl, inr, refl, ap, sym, ◌∙◌, subst, arith, ℕ, zero, suc, nat_lt, Bool, true, false, if◌then◌else◌, List, [], ◌∷◌, ◌++◌, append_assoc, append-nil, length, Option, None, Some}
 use Rattle.std.specs.Prelude.{slice_get, Contains}
 use Rattle.std.proofs.lemmas.List.{length-append}
 use Rattle.calm_order.proofs.Served.{served_more}
@@ -10,9 +10,9 @@ use Rattle.ens_base.specs.Limits.{IsKey, IsCommand}
 use Rattle.ens_base.specs.Lists.{◌∈◌}
 use Rattle.ens_base.specs.View.{IsPeer}
 use Rattle.ens_base.specs.declared.command.Command.{Command}
-use Rattle.held_stores.specs.Held.{HasNoClash}
+use Rattle.calm_steps.specs.HeldStores.{HasNoClash}
 use Rattle.joint_views.specs.Members.{those}
-use Rattle.network.specs.Mail.{settled, oldest, is_among, most_messages}
+use Rattle.network.specs.Mail.{oldest, is_among, most_messages}
 use Rattle.peer_state.specs.declared.event.Event.{Event}
 use Rattle.peer_state.specs.declared.event.Event.TheVariants as events
 use Rattle.register_model.specs.declared.answer.Answer.{Answer}
@@ -24,20 +24,17 @@ use Rattle.schedule_text.specs.declared.event.ScheduleEvent.{ScheduleEvent}
 use Rattle.schedule_text.specs.declared.event.ScheduleEvent.TheVariants.{Call, Tick, Calm}
 use Rattle.schedule_text.specs.declared.schedule.Schedule.{Schedule}
 use Rattle.schedule_words.specs.Spelling.{AscendFrom}
-use Rattle.tree_refinement.specs.Trees.{AreAmong, AreFree}
+use Rattle.calm_steps.specs.TreeRefinement.{AreAmong, AreFree}
 use Rattle.wire_frames.specs.declared.frame.Frame.{Frame}
 use Rattle.schedule_text.specs.declared.form.Form.{Form}
-use Rattle.world_spec.proofs.Calming.{calm_ends}
-use Rattle.world_spec.proofs.Growth.{calmed_grows, run_grows}
-use Rattle.world_spec.specs.Lines.{call_of, counted, applied, run_from, run_of_schedule}
-use Rattle.world_spec.specs.Messages.{IsWithinMessages}
-use Rattle.world_spec.specs.Nodes.{Node}
-use Rattle.world_spec.specs.Runs.{Run, place_of, next_event, opening_run, stepped_at, stepped, ticked, received_if, delivered, going_on, calmed}
+use Rattle.call_refinement.proofs.WorldSpec.{calm_ends, calmed_grows, run_grows}
+use Rattle.call_refinement.specs.WorldSpec.{call_of, counted, applied, run_from, run_of_schedule, IsWithinMessages, Node, Run, place_of, next_event, opening_run, stepped_at, stepped, ticked, without_waiting, received, received_if, delivered, going_on, calmed}
 use Rattle.calm_runs.specs.Calm.{ArePairs, IsCalmAt, RunsUndisturbed, run_of}
 use Rattle.calm_runs.proofs.FirstCalm.{first_calm}
 use Rattle.calm_runs.proofs.FirstServed.{first_scene, serves_from_now}
 use Rattle.calm_runs.proofs.ServedCalls.{n as next_scene, called}
 use Rattle.calm_runs.proofs.ServedCalm.{calm_serves}
+use Rattle.calm_runs.proofs.Worlds.{AllAlive, stepped_alive, ticked_alive, calmed_alive}
 use Rattle.calm_runs.proofs.ServedWorlds.{Scene, IsTold, IsAnswered, Wait, Runs, Leading, IsServed}
 
 -- ## Events are counted by lines alone
@@ -55,9 +52,13 @@ ticked_events q (suc k) w = ticked_events q k (stepped q events.Tick w) ∙ step
 
 delivered_events : (k : ℕ) (w : Run) → (delivered k w).events ≡ w.events
 delivered_events k w = by (slice_get w.mail.sent k) where
+  given : (f : Frame) (b : Bool) → (if b then without_waiting k w else received f k w).events ≡ w.events
+  given f true = refl
+  given f false = stepped_events f.to (events.Deliver f.from f.message) (without_waiting k w)
+
   by : (f : Option Frame) → (received_if f k w).events ≡ w.events
   by None = refl
-  by (Some f) = stepped_events f.to (events.Deliver f.from f.message) (record w { mail = settled w.mail k })
+  by (Some f) = given f (nat_lt k w.first_alive)
 
 calmed_events : (peers : List Bool) (k : ℕ) (w : Run) → (calmed peers k w).events ≡ w.events
 unfolding calmed
@@ -140,6 +141,7 @@ module _ (form : Form) (me peers : ℕ) (view : List ℕ) (listed : me ∈ view)
   record Past (done : List ScheduleEvent) : Type 0 where
     n : Scene
     served : IsServed me view n (ran done)
+    alive : AllAlive (ran done)
     lines : (ran done).events ≡ length done
     few : n.count ≤ length done
     in_order : AreServed (calls_from 1 done) (answers_in (ran done).printed)
@@ -178,8 +180,11 @@ module _ (form : Form) (me peers : ℕ) (view : List ℕ) (listed : me ∈ view)
     none_waits = subst (λ (v : Run). oldest (is_among (those (λ p. true))) v.mail ≡ None) last_is
         (subst (λ (es : List ScheduleEvent). IsWithinMessages (ran es) → oldest (is_among (those (λ p. true))) (ran es).mail ≡ None) (append_assoc done (Call q id key command ∷ []) (Calm ∷ [])) (calm_ends form peers view (done ++ Call q id key command ∷ [])) within)
 
+    w1_alive : AllAlive w1
+    w1_alive = stepped_alive q (events.Call (call_of id key command)) (ran done) ∙ past.alive
+
     after_calm : IsServed me view m w2
-    after_calm = calm_serves me view is_peer are_peers listed strings free m filled most_messages w1 after_call among_2 none_waits
+    after_calm = calm_serves me view is_peer are_peers listed strings free m filled most_messages w1 w1_alive after_call among_2 none_waits
 
     told : IsAnswered m id w2
     told = (subst (λ (x : Option (List ℕ × Wait me view)). Runs me view m after_calm.led.l after_calm.led.leader.stores w2 x) after_calm.rests after_calm.led.standing).1
@@ -203,6 +208,7 @@ module _ (form : Form) (me peers : ℕ) (view : List ℕ) (listed : me ∈ view)
     next_past = record {
       n = m;
       served = subst (λ (v : Run). IsServed me view m v) (sym last_is) (counted_served me view m Calm w2 after_calm);
+      alive = subst (λ (v : Run). AllAlive v) (sym last_is) (calmed_alive (those (λ p. true)) most_messages w1 w1_alive);
       lines = ap (λ (v : Run). v.events) last_is ∙ (ap (λ k. next_event k) w2_events ∙ (two (length done) room ∙ sym long));
       few = rw long (let few : past.n.count ≤ length done = past.few in omega (arith, few));
       in_order = subst (λ (cs : List Called). AreServed cs (answers_in (ran (done ++ Call q id key command ∷ Calm ∷ [])).printed)) (sym (calls_more 1 done q id key command))
@@ -270,6 +276,7 @@ module _ (form : Form) (me peers : ℕ) (view : List ℕ) (listed : me ∈ view)
   start among within = record {
     n = first_scene me view is_peer are_peers;
     served = served;
+    alive = calmed_alive (those (λ p. true)) most_messages (counted (Tick me 6) (ticked me 6 (opening_run form peers view))) (ticked_alive me 6 (opening_run form peers view));
     lines = ap (λ k. next_event k) (calmed_events (those (λ p. true)) most_messages (counted (Tick me 6) (ticked me 6 (opening_run form peers view))) ∙ ap (λ k. next_event k) (ticked_events me 6 (opening_run form peers view)));
     few = omega arith;
     in_order = subst (λ (ps : List Printed). AreServed [] (answers_in ps)) (sym none_printed) tt;

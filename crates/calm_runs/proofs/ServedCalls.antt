@@ -15,9 +15,7 @@ use Rattle.ens_base.specs.declared.command.Command.{Command}
 use Rattle.ens_object.specs.Objects.{IsObject, IsContent, object_spelling}
 use Rattle.ens_object.specs.declared.object.Object.{Object}
 use Rattle.ens_outside.specs.Maps.{value_at}
-use Rattle.held_stores.specs.Answers.{answered}
-use Rattle.held_stores.specs.Held.{Held, HeldStores}
-use Rattle.held_stores.specs.Laws.{held_with}
+use Rattle.calm_steps.specs.HeldStores.{answered, Held, HeldStores, held_with, step_of}
 use Rattle.joint_views.specs.Members.{those}
 use Rattle.key_commands.specs.Commands.{verdict_of, register_of}
 use Rattle.key_commands.specs.declared.verdict.Verdict.{Verdict}
@@ -27,7 +25,6 @@ use Rattle.leading.specs.Leaders.{settled_as}
 use Rattle.leading.specs.declared.leader.Leader.{Leader}
 use Rattle.leading.specs.declared.pending.Pending.TheVariants as pendings
 use Rattle.md5.specs.Md5.{md5}
-use Rattle.peer_plan.specs.Drives.{step_of}
 use Rattle.peer_state.specs.declared.event.Event.TheVariants as events
 use Rattle.quorum_round.specs.Rounds.{state_of, begun}
 use Rattle.quorum_round.specs.declared.round.RoundState.{RoundState}
@@ -38,12 +35,10 @@ use Rattle.register_model.specs.declared.register.Register.{Register}
 use Rattle.register_model.specs.declared.register.Register.TheVariants.{Absent}
 use Rattle.step_plans.specs.Calls.{Find}
 use Rattle.step_plans.specs.Plans.{Out, nothing}
-use Rattle.tree_refinement.specs.Trees.{AreAmong, AreFree}
-use Rattle.tree_refinement.specs.Whole.{IsWhole}
+use Rattle.calm_steps.specs.TreeRefinement.{AreAmong, AreFree, IsWhole}
 use Rattle.wire_frames.specs.declared.frame.Frame.{Frame}
 use Rattle.wire_frames.specs.declared.message.Message.TheVariants as messages
-use Rattle.world_spec.specs.Lines.{client, call_of}
-use Rattle.world_spec.specs.Runs.{Run, frame_from, stepped}
+use Rattle.call_refinement.specs.WorldSpec.{client, call_of, Run, frame_from, stepped}
 use Rattle.calm_steps.proofs.CandidateSteps.{ballot, accepted}
 use Rattle.calm_steps.proofs.Contents.{RegisterFits, OutcomeFits, outcome_fits}
 use Rattle.calm_steps.proofs.Keeping.{Keeping}

@@ -6,16 +6,16 @@ use Rattle.call_table.specs.declared.waiting.Waiting.{Waiting}
 use Rattle.ens_base.specs.Lists.{◌∈◌}
 use Rattle.ens_base.specs.PeerSet.{holds}
 use Rattle.ens_base.specs.View.{IsPeer}
-use Rattle.held_stores.specs.Laws.{held_with}
+use Rattle.calm_steps.specs.HeldStores.{held_with}
 use Rattle.joint_views.specs.Members.{those}
 use Rattle.joint_views.specs.Quorums.{is_quorum}
 use Rattle.network.proofs.MailLaws.{oldest_waits}
 use Rattle.network.specs.Mail.{Mail, oldest, is_among}
-use Rattle.tree_refinement.specs.Trees.{AreAmong, AreFree}
+use Rattle.calm_steps.specs.TreeRefinement.{AreAmong, AreFree}
 use Rattle.wire_frames.specs.declared.frame.Frame.{Frame}
 use Rattle.wire_frames.specs.declared.message.Message.{Message}
 use Rattle.wire_frames.specs.declared.message.Message.TheVariants as messages
-use Rattle.world_spec.specs.Runs.{Run, received, calmed}
+use Rattle.call_refinement.specs.WorldSpec.{Run, received, calmed}
 use Rattle.calm_steps.proofs.CheckReplies.{open_votes}
 use Rattle.calm_runs.proofs.Waits.{Waits}
 use Rattle.calm_runs.proofs.Counted.{rounds_end}
@@ -26,7 +26,7 @@ use Rattle.calm_runs.proofs.ServedReplies.{replied}
 use Rattle.calm_runs.proofs.ServedRequests.{checked, read}
 use Rattle.calm_runs.proofs.ServedRows.{fits_in}
 use Rattle.calm_runs.proofs.ServedWorlds.{Scene, Wait, Reads, Checks, Puts, votes_of, round_for, MayAsk, Kind, Serves, Runs, Leading, IsServed}
-use Rattle.calm_runs.proofs.Worlds.{calm_keeps}
+use Rattle.calm_runs.proofs.Worlds.{AllAlive, calm_keeps}
 
 module _ (me : ℕ) (view : List ℕ) (is_peer : IsPeer me) (peers : (q : ℕ) → q ∈ view → IsPeer q) (listed : me ∈ view) (strings : List (List ℕ)) (free : AreFree strings) (n : Scene) where
   -- a request comes to a member
@@ -74,6 +74,6 @@ module _ (me : ℕ) (view : List ℕ) (is_peer : IsPeer me) (peers : (q : ℕ) �
     by (Some (key, Puts o votes)) (lines, (call, keyed, s)) = absurd (over call (Puts o votes) refl s)
 
   -- so a calm ends
-  pub calm_serves : 0 < length view → (k : ℕ) (w : Run) → Leading me view n w → AreAmong (calmed (those (λ p. true)) k w).hashed strings → oldest (is_among (those (λ p. true))) (calmed (those (λ p. true)) k w).mail ≡ None → IsServed me view n (calmed (those (λ p. true)) k w)
-  calm_serves filled k w led among none = let now : Leading me view n (calmed (those (λ p. true)) k w) = calm_keeps GoesOn (those (λ p. true)) delivery k w (λ within. led) among in
+  pub calm_serves : 0 < length view → (k : ℕ) (w : Run) → AllAlive w → Leading me view n w → AreAmong (calmed (those (λ p. true)) k w).hashed strings → oldest (is_among (those (λ p. true))) (calmed (those (λ p. true)) k w).mail ≡ None → IsServed me view n (calmed (those (λ p. true)) k w)
+  calm_serves filled k w alive led among none = let now : Leading me view n (calmed (those (λ p. true)) k w) = (calm_keeps GoesOn (those (λ p. true)) delivery k w (alive, λ within. led)).1 among in
       record { led = now; rests = none_left filled (calmed (those (λ p. true)) k w) now none; none = none }

@@ -23,7 +23,7 @@ use Rattle.ens_object.specs.Objects.{IsObject, IsContent, object_spelling}
 use Rattle.ens_object.specs.declared.object.Object.{Object}
 use Rattle.ens_outside.proofs.MapLaws.{found_after}
 use Rattle.ens_outside.specs.Maps.{value_at}
-use Rattle.held_stores.specs.Held.{Held}
+use Rattle.calm_steps.specs.HeldStores.{Held}
 use Rattle.key_commands.specs.Commands.{verdict_of}
 use Rattle.key_commands.specs.declared.verdict.Verdict.{Verdict}
 use Rattle.key_commands.specs.declared.verdict.Verdict.TheVariants.{Write, Answer}
@@ -50,13 +50,11 @@ use Rattle.register_model.specs.declared.register.Register.TheVariants.{Absent}
 use Rattle.step_plans.specs.Plans.{Out, Rest}
 use Rattle.step_plans.specs.declared.tasks.Task.{Task}
 use Rattle.tree_maps.specs.Entries.{lookup, put}
-use Rattle.tree_refinement.specs.Trees.{AreAmong, AreFree}
-use Rattle.tree_refinement.specs.Whole.{IsWhole}
+use Rattle.calm_steps.specs.TreeRefinement.{AreAmong, AreFree, IsWhole}
 use Rattle.wire_frames.specs.declared.frame.Frame.{Frame}
 use Rattle.wire_frames.specs.declared.message.Message.{Message}
 use Rattle.wire_frames.specs.declared.message.Message.TheVariants as messages
-use Rattle.world_spec.specs.Nodes.{Up}
-use Rattle.world_spec.specs.Runs.{Run, place_of, frame_from, next_event, posted_all}
+use Rattle.call_refinement.specs.WorldSpec.{Up, Run, place_of, frame_from, next_event, posted_all}
 use Rattle.calm_steps.proofs.CandidateSteps.{ballot, accepted}
 use Rattle.calm_steps.proofs.CheckReplies.{ended_calls}
 use Rattle.calm_steps.proofs.Contents.{OutcomeFits, outcome_fits}

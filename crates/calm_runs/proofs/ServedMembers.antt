@@ -8,19 +8,16 @@ use Rattle.ens_base.specs.Lists.{◌∈◌}
 use Rattle.ens_base.specs.PeerSet.{holds}
 use Rattle.ens_base.specs.View.{IsPeer}
 use Rattle.ens_base.specs.declared.entry.Entry.{Entry}
-use Rattle.held_stores.specs.Held.{Held}
-use Rattle.held_stores.specs.Laws.{held_with}
+use Rattle.calm_steps.specs.HeldStores.{Held, held_with}
 use Rattle.network.proofs.MailLaws.{is_mail_settled}
 use Rattle.network.specs.Mail.{Mail, settled}
 use Rattle.register_model.specs.declared.note.Note.{Note}
 use Rattle.step_plans.specs.Plans.{Out}
 use Rattle.tree_maps.specs.Entries.{lookup}
-use Rattle.tree_refinement.specs.Trees.{AreAmong}
-use Rattle.tree_refinement.specs.Whole.{IsWhole}
+use Rattle.calm_steps.specs.TreeRefinement.{AreAmong, IsWhole}
 use Rattle.wire_frames.specs.declared.frame.Frame.{Frame}
 use Rattle.wire_frames.specs.declared.message.Message.{Message}
-use Rattle.world_spec.specs.Nodes.{Up}
-use Rattle.world_spec.specs.Runs.{Run, place_of, frame_from}
+use Rattle.call_refinement.specs.WorldSpec.{Up, Run, place_of, frame_from}
 use Rattle.calm_steps.proofs.Keeping.{Keeping, Standing}
 use Rattle.calm_steps.proofs.CandidateSteps.{accepted}
 use Rattle.calm_runs.proofs.UnderWay.{Round, IsUnderWay, reply_of}

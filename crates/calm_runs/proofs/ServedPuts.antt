@@ -10,19 +10,17 @@ use Rattle.ens_fields.specs.Entries.{IsEntry}
 use Rattle.ens_object.specs.Objects.{object_spelling}
 use Rattle.ens_object.specs.declared.object.Object.{Object}
 use Rattle.following.specs.Requests.{puts_at, acknowledges}
-use Rattle.held_stores.specs.Held.{Held}
-use Rattle.held_stores.specs.Laws.{held_with}
+use Rattle.calm_steps.specs.HeldStores.{Held, held_with, step_of}
 use Rattle.kept_objects.specs.Kept.{entry_of}
 use Rattle.md5.specs.Md5.{md5}
-use Rattle.peer_plan.specs.Drives.{step_of}
 use Rattle.peer_state.specs.declared.event.Event.TheVariants as events
 use Rattle.phase_rows.specs.declared.phase.Then.TheVariants as thens
-use Rattle.request_refinement.proofs.Lookups.{lookup_put, in_put, lookup_in}
+use Rattle.call_refinement.proofs.RequestRefinement.{lookup_put, in_put, lookup_in}
 use Rattle.tree_maps.specs.Entries.{lookup, put}
-use Rattle.tree_refinement.specs.Trees.{AreAmong, AreFree}
+use Rattle.calm_steps.specs.TreeRefinement.{AreAmong, AreFree}
 use Rattle.wire_frames.specs.declared.message.Message.{Message}
 use Rattle.wire_frames.specs.declared.message.Message.TheVariants as messages
-use Rattle.world_spec.specs.Runs.{Run, frame_from, received}
+use Rattle.call_refinement.specs.WorldSpec.{Run, frame_from, received}
 use Rattle.calm_steps.proofs.Bystanders.{tells}
 use Rattle.calm_steps.proofs.CandidateSteps.{ballot, accepted}
 use Rattle.calm_steps.proofs.Lands.{Lands}

@@ -27,8 +27,7 @@ use Rattle.ens_base.specs.declared.reply.Reply.{Reply}
 use Rattle.ens_base.specs.declared.reply.Reply.TheVariants as replies
 use Rattle.ens_object.specs.Objects.{object_spelling}
 use Rattle.ens_object.specs.declared.object.Object.{Object}
-use Rattle.held_stores.specs.Held.{Held}
-use Rattle.held_stores.specs.Laws.{held_with}
+use Rattle.calm_steps.specs.HeldStores.{Held, held_with, step_of}
 use Rattle.key_commands.specs.Commands.{verdict_of}
 use Rattle.leader_words.specs.Outs.{rests as rests_out}
 use Rattle.leading_laws.proofs.Lookups.{stage_here, known_other}
@@ -40,7 +39,6 @@ use Rattle.leading.specs.declared.pending.Pending.TheVariants as pendings
 use Rattle.md5.specs.Md5.{md5}
 use Rattle.network.proofs.MailLaws.{is_mail_settled}
 use Rattle.network.specs.Mail.{Mail, settled}
-use Rattle.peer_plan.specs.Drives.{step_of}
 use Rattle.peer_state.specs.declared.event.Event.TheVariants as events
 use Rattle.phase_rows.specs.Orders.{is_same}
 use Rattle.quorum_round.specs.Rounds.{state_of, begun, answered as heard_from}
@@ -52,12 +50,11 @@ use Rattle.register_model.specs.declared.note.Note.{Note}
 use Rattle.register_model.specs.declared.note.Note.TheVariants.{Read}
 use Rattle.register_model.specs.declared.register.Register.TheVariants.{Absent}
 use Rattle.step_plans.specs.Plans.{nothing}
-use Rattle.tree_refinement.specs.Trees.{AreAmong, AreFree}
+use Rattle.calm_steps.specs.TreeRefinement.{AreAmong, AreFree}
 use Rattle.wire_frames.specs.declared.frame.Frame.{Frame}
 use Rattle.wire_frames.specs.declared.message.Message.{Message}
 use Rattle.wire_frames.specs.declared.message.Message.TheVariants as messages
-use Rattle.world_spec.specs.Nodes.{Up}
-use Rattle.world_spec.specs.Runs.{Run, place_of, received}
+use Rattle.call_refinement.specs.WorldSpec.{Up, Run, place_of, received}
 use Rattle.calm_steps.proofs.CandidateSteps.{ballot, accepted}
 use Rattle.calm_steps.proofs.CheckReplies.{heard_open, heard_met}
 use Rattle.calm_steps.proofs.Keeping.{Keeping}

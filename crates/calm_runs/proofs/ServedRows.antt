@@ -22,17 +22,17 @@ use Rattle.ens_object.specs.Objects.{IsObject, object_spelling}
 use Rattle.ens_object.specs.declared.object.Object.{Object}
 use Rattle.ens_outside.proofs.MapLaws.{others_after}
 use Rattle.ens_outside.specs.Maps.{value_at}
-use Rattle.held_stores.specs.Held.{Held, HeldStores}
+use Rattle.calm_steps.specs.HeldStores.{Held, HeldStores}
 use Rattle.kept_objects.specs.Kept.{entry_of}
 use Rattle.leading_laws.proofs.Lookups.{row_here, known_other, stage_here, stage_other}
 use Rattle.md5.specs.Md5.{md5}
-use Rattle.request_refinement.proofs.Lookups.{lookup_put, in_put}
-use Rattle.step_refinement.proofs.DistinctItems.{images_few}
+use Rattle.call_refinement.proofs.RequestRefinement.{lookup_put, in_put}
+use Rattle.call_refinement.proofs.StepRefinement.{images_few}
 use Rattle.tree_maps.proofs.Names.{md5_run}
 use Rattle.tree_maps.proofs.Orders.{less_not_same}
 use Rattle.tree_maps.proofs.Parts.{ascends-put}
 use Rattle.tree_maps.specs.Entries.{IsBelowAll, Ascends, lookup, put}
-use Rattle.tree_refinement.specs.Whole.{IsWhole}
+use Rattle.calm_steps.specs.TreeRefinement.{IsWhole}
 use Rattle.calm_steps.proofs.Requests.{HasWritten}
 use Rattle.calm_runs.proofs.ServedMembers.{with_map, each_map}
 use Rattle.calm_runs.proofs.ServedPuts.{Fits}

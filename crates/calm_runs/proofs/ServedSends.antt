@@ -11,7 +11,7 @@ use Rattle.leader_words.specs.declared.out.Outgoing.{Outgoing}
 use Rattle.step_plans.specs.Sends.{posted}
 use Rattle.wire_frames.specs.declared.frame.Frame.{Frame}
 use Rattle.wire_frames.specs.declared.message.Message.{Message}
-use Rattle.world_spec.specs.Runs.{frame_from}
+use Rattle.call_refinement.specs.WorldSpec.{frame_from}
 use Rattle.calm_runs.proofs.Elections.{IsOther, asking}
 use Rattle.calm_runs.proofs.Posting.{going, posted_has, posted_only, told_each, sent_is_posted}
 

@@ -11,7 +11,7 @@ use Rattle.network.specs.Mail.{Mail, IsMail}
 use Rattle.quorum_round.specs.Rounds.{begun, answered as heard_from}
 use Rattle.quorum_round.specs.declared.round.Round.{Round as Tally}
 use Rattle.wire_frames.specs.declared.frame.Frame.{Frame}
-use Rattle.world_spec.specs.Runs.{posted_all}
+use Rattle.call_refinement.specs.WorldSpec.{posted_all}
 use Rattle.calm_runs.proofs.Waits.{Waits, AllWaiting}
 use Rattle.calm_runs.proofs.Parts.{flag_here, flag_kept}
 use Rattle.calm_runs.proofs.Waiting.{was_all_posted}

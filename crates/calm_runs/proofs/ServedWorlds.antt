@@ -17,7 +17,7 @@ use Rattle.ens_base.specs.declared.reply.Reply.{Reply}
 use Rattle.ens_object.specs.Objects.{IsObject, object_spelling}
 use Rattle.ens_object.specs.declared.object.Object.{Object}
 use Rattle.ens_outside.specs.Maps.{value_at}
-use Rattle.held_stores.specs.Held.{HeldStores}
+use Rattle.calm_steps.specs.HeldStores.{HeldStores}
 use Rattle.joint_views.specs.Members.{those}
 use Rattle.leading.specs.Leaders.{settled_as}
 use Rattle.leading.specs.declared.leader.Leader.{Leader}
@@ -35,7 +35,7 @@ use Rattle.tree_maps.specs.Entries.{lookup}
 use Rattle.wire_frames.specs.declared.frame.Frame.{Frame}
 use Rattle.wire_frames.specs.declared.message.Message.{Message}
 use Rattle.wire_frames.specs.declared.message.Message.TheVariants as messages
-use Rattle.world_spec.specs.Runs.{Run, next_event}
+use Rattle.call_refinement.specs.WorldSpec.{Run, next_event}
 use Rattle.calm_steps.proofs.Leads.{leads}
 use Rattle.calm_steps.proofs.CandidateSteps.{ballot, accepted}
 use Rattle.calm_runs.proofs.Elections.{IsOther, rests, asking, replying}

@@ -8,8 +8,7 @@ use Rattle.ens_base.specs.Lists.{◌∈◌, is_in}
 use Rattle.ens_base.specs.PeerSet.{holds}
 use Rattle.ens_base.specs.View.{IsPeer}
 use Rattle.ens_base.specs.declared.entry.Entry.{Entry}
-use Rattle.held_stores.specs.Held.{Held, HeldStores}
-use Rattle.held_stores.specs.Laws.{held_with}
+use Rattle.calm_steps.specs.HeldStores.{Held, HeldStores, held_with}
 use Rattle.joint_views.specs.Members.{members, those}
 use Rattle.joint_views.specs.Quorums.{is_member}
 use Rattle.leader_words.specs.declared.out.Outgoing.{Outgoing}
@@ -21,12 +20,10 @@ use Rattle.step_plans.specs.Calls.{Save}
 use Rattle.step_plans.specs.Plans.{Out}
 use Rattle.step_plans.specs.Sends.{posted_to}
 use Rattle.step_plans.specs.Saved.{with_seal}
-use Rattle.tree_refinement.specs.Trees.{AreAmong}
-use Rattle.tree_refinement.specs.Whole.{IsWhole}
+use Rattle.calm_steps.specs.TreeRefinement.{AreAmong, IsWhole}
 use Rattle.wire_frames.specs.declared.frame.Frame.{Frame}
 use Rattle.wire_frames.specs.declared.message.Message.{Message}
-use Rattle.world_spec.specs.Nodes.{Up}
-use Rattle.world_spec.specs.Runs.{Run, place_of, frame_from}
+use Rattle.call_refinement.specs.WorldSpec.{Up, Run, place_of, frame_from}
 use Rattle.calm_steps.proofs.Keeping.{Keeping, Standing}
 use Rattle.calm_steps.proofs.RowsLand.{held_under}
 use Rattle.calm_steps.proofs.TreeCalls.{keeps, serves}

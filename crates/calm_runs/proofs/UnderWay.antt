@@ -3,7 +3,7 @@ use Rattle.std.specs.Prelude.{◌≡◌, ◌⊎◌, ℕ, Bool, true, List, Some,
 use Rattle.ens_base.specs.Lists.{◌∈◌}
 use Rattle.ens_base.specs.PeerSet.{holds}
 use Rattle.network.specs.Mail.{Mail, IsMail, settled, oldest, is_among}
-use Rattle.world_spec.specs.Runs.{posted_all}
+use Rattle.call_refinement.specs.WorldSpec.{posted_all}
 use Rattle.wire_frames.specs.declared.frame.Frame.{Frame}
 use Rattle.wire_frames.specs.declared.message.Message.{Message}
 use Rattle.calm_runs.proofs.Waits.{Waits}

@@ -8,7 +8,7 @@ use Rattle.ens_base.specs.Lists.{◌∈◌}
 use Rattle.network.specs.Mail.{Mail, posted, settled, oldest, is_among, IsMail}
 use Rattle.network.proofs.Flags.{flag_stays}
 use Rattle.network.proofs.MailLaws.{is_mail_posted, is_mail_settled, flag_settled, clear_without_oldest}
-use Rattle.world_spec.specs.Runs.{posted_all}
+use Rattle.call_refinement.specs.WorldSpec.{posted_all}
 use Rattle.wire_frames.specs.declared.frame.Frame.{Frame}
 use Rattle.calm_runs.proofs.Waits.{Waits, AllWaiting}
 

@@ -1,22 +1,19 @@
 -- A step of a peer in a world, and a calm.
-use Rattle.std.proofs.Common.{◌≡◌, refl, ap, sym, ◌∙◌, subst, ℕ, zero, suc, Bool, List, [], ◌++◌, map, Option, None, Some}
+use Rattle.std.proofs.Common.{◌≡◌, refl, ap, sym, ◌∙◌, subst, arith, ℕ, zero, suc, nat_lt, Bool, true, false, if◌then◌else◌, List, [], ◌++◌, map, Option, None, Some}
 use Rattle.std.specs.Prelude.{slice_get, slice_set}
+use Rattle.std.proofs.lemmas.Bool.Decides.{nat_tests}
 use Rattle.ens_base.proofs.Lists.{in_left}
-use Rattle.held_stores.specs.Held.{Held, HeldStores}
-use Rattle.held_stores.specs.Laws.{held_with}
+use Rattle.calm_steps.specs.HeldStores.{Held, HeldStores, held_with, Ended, step_of}
 use Rattle.ens_base.specs.declared.entry.Entry.{Entry}
-use Rattle.tree_refinement.specs.Trees.{AreAmong}
-use Rattle.tree_refinement.specs.Whole.{IsWhole}
-use Rattle.held_stores.specs.Runs.{Ended}
+use Rattle.calm_steps.specs.TreeRefinement.{AreAmong, IsWhole}
 use Rattle.network.specs.Mail.{oldest, is_among}
-use Rattle.peer_plan.specs.Drives.{step_of}
 use Rattle.peer_state.specs.declared.event.Event.{Event}
+use Rattle.peer_state.specs.declared.event.Event.TheVariants as events
 use Rattle.peer_state.specs.declared.state.State.{State}
 use Rattle.register_model.specs.declared.note.Note.{Note}
 use Rattle.step_plans.specs.Plans.{Out, Ending, Finished, Stopped}
 use Rattle.wire_frames.specs.declared.frame.Frame.{Frame}
-use Rattle.world_spec.specs.Nodes.{Node, Up, taken, taken_by, run_over}
-use Rattle.world_spec.specs.Runs.{Run, next_event, place_of, frame_from, posted_all, printed_by, with_taken, stepped, stepped_at, received, received_if, delivered, going_on, calmed}
+use Rattle.call_refinement.specs.WorldSpec.{Node, Up, taken, taken_by, run_over, Run, next_event, place_of, frame_from, posted_all, printed_by, with_taken, stepped, stepped_at, ticked, without_waiting, received, received_if, delivered, going_on, calmed}
 use Rattle.calm_runs.proofs.Behind.{run_behind}
 use Rattle.calm_steps.proofs.Lands.{Aim, Lands, EndsWell}
 
@@ -29,6 +26,21 @@ moved q x h out ns w = record w {
   notes = w.notes ++ ns;
   hashed = h.hashed;
 }
+
+-- each message that waits is given to its receiver, as trees got version two after none of them
+abbrev pub AllAlive : Run → Type 0
+AllAlive w = w.first_alive ≡ 0
+
+pub stepped_alive : (q : ℕ) (event : Event) (w : Run) → (stepped q event w).first_alive ≡ w.first_alive
+stepped_alive q event w = by (slice_get w.nodes (place_of q)) where
+  by : (o : Option Node) → (stepped_at o q event w).first_alive ≡ w.first_alive
+  by None = refl
+  by (Some node) = refl
+
+pub ticked_alive : (q k : ℕ) (w : Run) → (ticked q k w).first_alive ≡ w.first_alive
+unfolding ticked
+ticked_alive q zero w = refl
+ticked_alive q (suc k) w = ticked_alive q k (stepped q events.Tick w) ∙ stepped_alive q events.Tick w
 
 module _ (q : ℕ) (event : Event) (strings : List (List ℕ)) (P : Aim) (J : Run → Type 0) where
   by_end : (w : Run) (k : Ending State) (h : Held) (ns : List Note) → ((x : State) (g : Held) (out : Out) (ms : List Note) → AreAmong w.hashed g.hashed → P x g out ms → J (moved q x g out ms w))
@@ -54,18 +66,32 @@ module _ (q : ℕ) (event : Event) (strings : List (List ℕ)) (P : Aim) (J : Ru
       (ap (λ (o : Option Node). (stepped_at o q event w).hashed) at ∙ (ap (λ (hs : List (List ℕ)). w.hashed ++ hs) (taken_hashed e.ending e.held e.notes) ∙ sym (ap (λ (f : Ended State). f.held.hashed) (run_behind (step_of q event x) s w.hashed)))) among))))
 
 module _ (J : Run → Type 0) (peers : List Bool) (keeps : (w : Run) (n : ℕ) (f : Frame) → J w → oldest (is_among peers) w.mail ≡ Some n → slice_get w.mail.sent n ≡ Some f → J (received f n w)) where
-  one : (w : Run) (n : ℕ) (f : Option Frame) → slice_get w.mail.sent n ≡ f → J w → oldest (is_among peers) w.mail ≡ Some n → J (received_if f n w)
+  abbrev Keeps : Run → Type 0
+  Keeps w = AllAlive w × J w
+
+  one : (w : Run) (n : ℕ) (f : Option Frame) → slice_get w.mail.sent n ≡ f → Keeps w → oldest (is_among peers) w.mail ≡ Some n → Keeps (received_if f n w)
   one w n None is holds old = holds
-  one w n (Some f) is holds old = keeps w n f holds old is
+  one w n (Some f) is (alive, holds) old = by (nat_lt n w.first_alive) refl
+    where
+      none_before : (first : ℕ) → first ≡ 0 → nat_lt n first ≡ true → ⊥
+      none_before first none before = grind (arith, nat_tests)
+
+      by : (b : Bool) → nat_lt n w.first_alive ≡ b → Keeps (if b then without_waiting n w else received f n w)
+      by false after = (stepped_alive f.to (events.Deliver f.from f.message) (without_waiting n w) ∙ alive, keeps w n f holds old is)
+      by true before = absurd (none_before w.first_alive alive before)
 
   -- what each delivery keeps, a calm keeps
-  pub calm_keeps : (k : ℕ) (w : Run) → J w → J (calmed peers k w)
+  pub calm_keeps : (k : ℕ) (w : Run) → Keeps w → Keeps (calmed peers k w)
   unfolding calmed
   calm_keeps zero w holds = holds
   calm_keeps (suc k) w holds = by (oldest (is_among peers) w.mail) refl (λ v now. calm_keeps k v now) where
-    by : (first : Option ℕ) → oldest (is_among peers) w.mail ≡ first → ((v : Run) → J v → J (calmed peers k v)) → J (going_on first (λ v. calmed peers k v) w)
+    by : (first : Option ℕ) → oldest (is_among peers) w.mail ≡ first → ((v : Run) → Keeps v → Keeps (calmed peers k v)) → Keeps (going_on first (λ v. calmed peers k v) w)
     by None is later = holds
     by (Some n) is later = later (delivered n w) (one w n (slice_get w.mail.sent n) refl holds is)
+
+-- a calm alone
+pub calmed_alive : (peers : List Bool) (k : ℕ) (w : Run) → AllAlive w → AllAlive (calmed peers k w)
+calmed_alive peers k w alive = (calm_keeps (λ v. Unit {0}) peers (λ v n f holds old is. tt) k w (alive, tt)).0
 
 -- a whole tree stays whole while other peers hash strings
 pub whole_grows : (s : HeldStores) (hashed more : List (List ℕ)) (m : List Entry) → AreAmong hashed more → IsWhole (held_with s hashed) m → IsWhole (held_with s more) m

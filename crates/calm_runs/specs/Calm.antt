@@ -1,14 +1,12 @@
 -- Calm schedules.
 use Rattle.std.specs.Prelude.{◌≡◌, ℕ, List, [], ◌∷◌}
 use Rattle.ens_base.specs.Lists.{◌∈◌}
-use Rattle.held_stores.specs.Held.{HasNoClash}
+use Rattle.calm_steps.specs.HeldStores.{HasNoClash}
 use Rattle.schedule_text.specs.Spelling.{IsSchedule}
 use Rattle.schedule_text.specs.declared.event.ScheduleEvent.{ScheduleEvent}
 use Rattle.schedule_text.specs.declared.event.ScheduleEvent.TheVariants.{Call, Tick, Calm}
 use Rattle.schedule_text.specs.declared.schedule.Schedule.{Schedule}
-use Rattle.world_spec.specs.Lines.{run_of_schedule}
-use Rattle.world_spec.specs.Messages.{IsWithinMessages}
-use Rattle.world_spec.specs.Runs.{Run}
+use Rattle.call_refinement.specs.WorldSpec.{run_of_schedule, IsWithinMessages, Run}
 
 -- only pairs of a call at this peer and a calm
 abbrev pub ArePairs : ℕ → List ScheduleEvent → Type 0

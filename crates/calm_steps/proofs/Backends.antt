@@ -4,11 +4,10 @@ use Rattle.ens_object.proofs.ObjectLaws.{object_again}
 use Rattle.ens_object.specs.Objects.{IsObject, object_spelling}
 use Rattle.ens_object.specs.declared.object.Object.{Object}
 use Rattle.ens_outside.specs.Maps.{value_at}
-use Rattle.held_stores.specs.Answers.{answered}
-use Rattle.held_stores.specs.Held.{Held}
+use Rattle.tree_refinement.specs.HeldStores.{answered, Held}
 use Rattle.kept_objects.specs.Kept.{object_in}
 use Rattle.md5.specs.Md5.{md5}
-use Rattle.peer_plan.specs.Owns.{fetched, read, digested}
+use Rattle.tree_refinement.specs.PeerPlan.{fetched, read, digested}
 use Rattle.peer_state.specs.declared.state.State.{State}
 use Rattle.register_model.specs.declared.note.Note.{Note}
 use Rattle.step_plans.specs.Calls.{Fetch, Hash}

@@ -2,8 +2,8 @@
 use Rattle.std.proofs.Common.{◌≡◌, sym, subst, ℕ, true, false, List, [], None, Some}
 use Rattle.ens_base.specs.declared.epoch.Epoch.{Epoch}
 use Rattle.following.specs.Announcements.{accepts}
-use Rattle.held_stores.specs.Held.{Held}
-use Rattle.peer_plan.specs.Drives.{step_of, concluded, driven, most_turns}
+use Rattle.tree_refinement.specs.HeldStores.{Held}
+use Rattle.tree_refinement.specs.PeerPlan.{step_of, concluded, driven, most_turns}
 use Rattle.peer_state.specs.Moves.{follower}
 use Rattle.peer_state.specs.declared.event.Event.TheVariants as events
 use Rattle.peer_state.specs.declared.state.State.{State}

@@ -5,14 +5,13 @@ use Rattle.election.specs.Preparing.{first_fact}
 use Rattle.election.specs.declared.election.Election.TheVariants.{Preparing, Starting}
 use Rattle.ens_base.specs.PeerSet.{holds}
 use Rattle.ens_base.specs.declared.epoch.Epoch.{Epoch}
-use Rattle.held_stores.specs.Held.{Held}
+use Rattle.tree_refinement.specs.HeldStores.{Held}
 use Rattle.joint_views.specs.Members.{members}
 use Rattle.joint_views.specs.Quorums.{is_quorum, is_member}
 use Rattle.leading.specs.Leaders.{new_leader}
 use Rattle.peer_fact.specs.Facts.{opening_fact}
 use Rattle.peer_fact.specs.declared.fact.Fact.{Fact}
-use Rattle.peer_plan.specs.Drives.{step_of, driven, most_turns, concluded}
-use Rattle.peer_plan.specs.Syncs.{and_sends}
+use Rattle.tree_refinement.specs.PeerPlan.{step_of, driven, most_turns, concluded, and_sends}
 use Rattle.peer_state.specs.declared.event.Event.TheVariants as events
 use Rattle.peer_state.specs.declared.state.Phase.TheVariants as phases
 use Rattle.peer_state.specs.declared.state.State.{State}

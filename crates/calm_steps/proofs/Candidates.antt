@@ -6,13 +6,12 @@ use Rattle.election.specs.Preparing.{next_ballot, first_fact, starts}
 use Rattle.election.specs.declared.election.Election.{Election}
 use Rattle.election.specs.declared.election.Election.TheVariants.{Preparing, Starting}
 use Rattle.ens_base.specs.PeerSet.{holds}
-use Rattle.held_stores.specs.Held.{Held}
+use Rattle.tree_refinement.specs.HeldStores.{Held}
 use Rattle.joint_views.specs.Members.{members}
 use Rattle.joint_views.specs.Quorums.{is_quorum, is_member}
-use Rattle.peer_plan.specs.Drives.{driven}
+use Rattle.tree_refinement.specs.PeerPlan.{driven, and_sends}
 use Rattle.peer_state.specs.Moves.{left, left_answers, turned, turned_answers, and_answers, led}
 use Rattle.peer_state.specs.Rows.{phase_row}
-use Rattle.peer_plan.specs.Syncs.{and_sends}
 use Rattle.peer_state.specs.declared.state.Phase.TheVariants as phases
 use Rattle.peer_state.specs.declared.state.State.{State}
 use Rattle.peer_fact.specs.Facts.{views_after}

@@ -10,13 +10,13 @@ use Rattle.call_table.specs.Tables.{ended, rested}
 use Rattle.call_table.specs.declared.table.CallTable.{CallTable}
 use Rattle.call_table.specs.declared.row.Stage.TheVariants as stages
 use Rattle.call_table.specs.declared.waiting.Waiting.{Waiting}
-use Rattle.held_stores.specs.Held.{Held}
+use Rattle.tree_refinement.specs.HeldStores.{Held}
 use Rattle.joint_views.specs.Quorums.{is_quorum}
 use Rattle.leader_words.specs.declared.out.AnswerOut.{AnswerOut}
 use Rattle.leading.specs.Leaders.{stands, base}
 use Rattle.leading.specs.Rounds.{row_33_reply, counts}
 use Rattle.leading.specs.declared.leader.Leader.{Leader}
-use Rattle.peer_plan.specs.Drives.{step_of, driven, most_turns, concluded}
+use Rattle.tree_refinement.specs.PeerPlan.{step_of, driven, most_turns, concluded}
 use Rattle.peer_state.specs.declared.event.Event.TheVariants as events
 use Rattle.peer_state.specs.declared.state.State.{State}
 use Rattle.peer_fact.specs.declared.fact.Fact.{Fact}

@@ -1,7 +1,7 @@
 -- The end of a step of a calm run: no task is left, and no epoch ends.
 use Rattle.std.proofs.Common.{◌≡◌, refl, ap, ◌∙◌, ℕ, zero, suc, List, []}
 use Rattle.std.proofs.lemmas.List.{append-nil}
-use Rattle.peer_plan.specs.Drives.{row_done, driven, most_turns, concluded}
+use Rattle.tree_refinement.specs.PeerPlan.{row_done, driven, most_turns, concluded}
 use Rattle.peer_state.specs.Rows.{while_26}
 use Rattle.peer_state.specs.declared.state.ChangeState.TheVariants.{Settled}
 use Rattle.peer_state.specs.declared.state.Phase.{Phase}

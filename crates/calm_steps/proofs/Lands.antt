@@ -1,8 +1,6 @@
 -- Where the run of a plan ends.
 use Rattle.std.proofs.Common.{◌≡◌, refl, sym, ◌∙◌, subst, ℕ, List, [], ◌∷◌, ◌++◌, Result, Ok, Err}
-use Rattle.held_stores.specs.Answers.{answered}
-use Rattle.held_stores.specs.Held.{Held}
-use Rattle.held_stores.specs.Runs.{Ended, run, either}
+use Rattle.tree_refinement.specs.HeldStores.{answered, Held, Ended, run, either}
 use Rattle.peer_state.specs.declared.state.State.{State}
 use Rattle.register_model.specs.declared.note.Note.{Note}
 use Rattle.step_plans.specs.Calls.{Call, AnswerOf}

@@ -11,21 +11,20 @@ use Rattle.ens_base.specs.declared.epoch.Version.{Version}
 use Rattle.ens_base.specs.declared.reply.Reply.TheVariants as replies
 use Rattle.ens_object.specs.Objects.{object_spelling}
 use Rattle.ens_object.specs.declared.object.Object.{Object}
-use Rattle.held_stores.specs.Answers.{answered}
-use Rattle.held_stores.specs.Held.{Held}
+use Rattle.tree_refinement.specs.HeldStores.{answered, Held}
 use Rattle.kept_objects.specs.Kept.{matching}
 use Rattle.key_commands.specs.Commands.{verdict_of}
 use Rattle.key_commands.specs.declared.verdict.Verdict.{Verdict}
 use Rattle.leader_words.specs.Outs.{rests, leads_on}
 use Rattle.leader_words.specs.declared.out.LeadOut.{LeadOut}
-use Rattle.leading_laws.proofs.Lookups.{stage_here}
+use Rattle.tree_refinement.proofs.PeerPlan.{stage_here}
 use Rattle.leading.specs.Leaders.{joined, knows, stands, settled_as}
 use Rattle.leading.specs.Puts.{row_35_reply}
 use Rattle.leading.specs.Rounds.{row_29_reply, row_33_reply, counts}
 use Rattle.leading.specs.Starts.{row_27}
 use Rattle.leading.specs.declared.leader.Leader.{Leader}
 use Rattle.md5.specs.Md5.{md5}
-use Rattle.peer_plan.specs.Drives.{step_of, driven, most_turns, concluded, lead}
+use Rattle.tree_refinement.specs.PeerPlan.{step_of, driven, most_turns, concluded, lead}
 use Rattle.peer_state.specs.declared.event.Event.TheVariants as events
 use Rattle.peer_state.specs.declared.state.State.{State}
 use Rattle.peer_fact.specs.declared.fact.Fact.{Fact}

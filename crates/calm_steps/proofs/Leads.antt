@@ -1,7 +1,7 @@
 -- The rules of a leader on a key, one after another in a step.
 use Rattle.std.proofs.Common.{◌≡◌, ap, sym, ◌∙◌, subst, ℕ, suc, true, false, List, [], ◌∷◌, ◌++◌, None, Some}
 use Rattle.std.proofs.lemmas.List.{append-nil}
-use Rattle.held_stores.specs.Held.{Held}
+use Rattle.tree_refinement.specs.HeldStores.{Held}
 use Rattle.leader_words.specs.Outs.{asked_by}
 use Rattle.leader_words.specs.declared.out.AnswerOut.{AnswerOut}
 use Rattle.leader_words.specs.declared.out.LeadOut.{LeadOut}
@@ -9,7 +9,7 @@ use Rattle.leader_words.specs.declared.out.Outgoing.{Outgoing}
 use Rattle.leader_words.specs.declared.out.Own.{Own}
 use Rattle.leading.specs.Rules.{lead_row}
 use Rattle.leading.specs.declared.leader.Leader.{Leader}
-use Rattle.peer_plan.specs.Drives.{lead, lead_done, owned, own_key, followed_up, driven}
+use Rattle.tree_refinement.specs.PeerPlan.{lead, lead_done, owned, own_key, followed_up, driven}
 use Rattle.peer_state.specs.declared.state.ChangeState.TheVariants.{Settled}
 use Rattle.peer_state.specs.declared.state.Phase.TheVariants as phases
 use Rattle.peer_state.specs.declared.state.State.{State}

@@ -8,12 +8,10 @@ use Rattle.ens_base.specs.declared.epoch.Epoch.{Epoch}
 use Rattle.ens_object.specs.declared.object.Object.{Object}
 use Rattle.ens_outside.specs.Maps.{value_at}
 use Rattle.following.specs.Requests.{row_21, row_22, puts_at, acknowledges, is_version_below}
-use Rattle.held_stores.specs.Answers.{answered}
-use Rattle.held_stores.specs.Held.{Held}
+use Rattle.tree_refinement.specs.HeldStores.{answered, Held}
 use Rattle.kept_objects.specs.Kept.{object_in, matching}
 use Rattle.md5.specs.Md5.{md5}
-use Rattle.peer_plan.specs.Drives.{step_of, row_done, put_done}
-use Rattle.peer_plan.specs.Owns.{found_at, looked_at, digested, read}
+use Rattle.tree_refinement.specs.PeerPlan.{step_of, row_done, put_done, found_at, looked_at, digested, read}
 use Rattle.peer_state.specs.declared.event.Event.TheVariants as events
 use Rattle.peer_state.specs.declared.state.State.{State}
 use Rattle.peer_fact.specs.declared.fact.Fact.{Fact}

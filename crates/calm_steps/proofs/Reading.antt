@@ -4,20 +4,18 @@ use Rattle.call_table.specs.Calls.{running}
 use Rattle.call_table.specs.declared.row.Stage.TheVariants as stages
 use Rattle.call_table.specs.declared.waiting.Waiting.{Waiting}
 use Rattle.ens_base.specs.declared.entry.Entry.{Entry}
-use Rattle.held_stores.specs.Answers.{answered}
-use Rattle.held_stores.specs.Held.{Held}
+use Rattle.tree_refinement.specs.HeldStores.{answered, Held}
 use Rattle.key_commands.specs.Commands.{verdict_of}
 use Rattle.key_commands.specs.declared.verdict.Verdict.{Verdict}
 use Rattle.leader_words.specs.Outs.{leads_on}
 use Rattle.leader_words.specs.Sends.{is_other, sent_up_to, tells_all}
 use Rattle.leader_words.specs.declared.out.Outgoing.{Outgoing}
 use Rattle.leader_words.specs.declared.out.Own.TheVariants as owns
-use Rattle.leading_laws.proofs.Lookups.{stage_here}
+use Rattle.tree_refinement.proofs.PeerPlan.{stage_here}
 use Rattle.leading.specs.Leaders.{stands, is_spent}
 use Rattle.leading.specs.Rounds.{row_29}
 use Rattle.leading.specs.declared.leader.Leader.{Leader}
-use Rattle.peer_plan.specs.Drives.{driven}
-use Rattle.peer_plan.specs.Owns.{looked_at}
+use Rattle.tree_refinement.specs.PeerPlan.{driven, looked_at}
 use Rattle.peer_state.specs.declared.state.State.{State}
 use Rattle.peer_fact.specs.declared.fact.Fact.{Fact}
 use Rattle.quorum_round.specs.Rounds.{state_of, begun}

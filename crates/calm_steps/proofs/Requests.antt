@@ -9,11 +9,9 @@ use Rattle.ens_object.specs.Objects.{object_spelling}
 use Rattle.ens_outside.specs.Maps.{with_value}
 use Rattle.kept_objects.specs.Kept.{entry_of}
 use Rattle.following.specs.Requests.{row_21, row_22, puts_at, acknowledges}
-use Rattle.held_stores.specs.Answers.{answered}
-use Rattle.held_stores.specs.Held.{Held}
+use Rattle.tree_refinement.specs.HeldStores.{answered, Held}
 use Rattle.md5.specs.Md5.{md5}
-use Rattle.peer_plan.specs.Drives.{step_of, row_done, put_done, after_put}
-use Rattle.peer_plan.specs.Owns.{found_at, looked_at, entered, written, stored, resealed}
+use Rattle.tree_refinement.specs.PeerPlan.{step_of, row_done, put_done, after_put, found_at, looked_at, entered, written, stored, resealed}
 use Rattle.peer_state.specs.declared.event.Event.TheVariants as events
 use Rattle.peer_state.specs.declared.state.State.{State}
 use Rattle.peer_fact.specs.declared.fact.Fact.{Fact}

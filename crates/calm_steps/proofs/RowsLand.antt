@@ -1,10 +1,8 @@
 -- A row of a phase over stores in which no failure waits.
 use Rattle.std.proofs.Common.{ap, sym, subst, ℕ, Bool, List, Option, None, Some}
-use Rattle.held_stores.specs.Answers.{with_facts}
-use Rattle.held_stores.specs.Held.{Held}
-use Rattle.peer_plan.specs.Drives.{row_done}
+use Rattle.tree_refinement.specs.HeldStores.{with_facts, Held}
+use Rattle.tree_refinement.specs.PeerPlan.{row_done, and_sends, followed_on}
 use Rattle.peer_state.specs.Moves.{left, left_answers, turned, turned_answers}
-use Rattle.peer_plan.specs.Syncs.{and_sends, followed_on}
 use Rattle.peer_state.specs.declared.state.State.{State}
 use Rattle.peer_fact.specs.declared.fact.Fact.{Fact}
 use Rattle.peer_fact.specs.declared.saved.SavedFact.{SavedFact}

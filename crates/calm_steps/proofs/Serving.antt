@@ -14,7 +14,7 @@ use Rattle.ens_base.specs.declared.reply.Reply.TheVariants as replies
 use Rattle.ens_fields.specs.Entries.{IsEntry}
 use Rattle.ens_object.specs.Objects.{object_spelling}
 use Rattle.ens_object.specs.declared.object.Object.{Object}
-use Rattle.held_stores.specs.Held.{Held}
+use Rattle.tree_refinement.specs.HeldStores.{Held}
 use Rattle.kept_objects.specs.Kept.{entry_of}
 use Rattle.key_commands.specs.Commands.{verdict_of}
 use Rattle.key_commands.specs.declared.verdict.Verdict.{Verdict}
@@ -27,7 +27,7 @@ use Rattle.leading.specs.Leaders.{with_task, knows, stands, base, is_spent, next
 use Rattle.leading.specs.declared.leader.Leader.{Leader}
 use Rattle.leading.specs.declared.pending.Pending.TheVariants as pendings
 use Rattle.md5.specs.Md5.{md5}
-use Rattle.peer_plan.specs.Drives.{driven}
+use Rattle.tree_refinement.specs.PeerPlan.{driven}
 use Rattle.peer_state.specs.declared.state.State.{State}
 use Rattle.peer_fact.specs.declared.fact.Fact.{Fact}
 use Rattle.quorum_round.specs.Rounds.{state_of, begun}

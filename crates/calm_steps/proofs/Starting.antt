@@ -18,8 +18,7 @@ use Rattle.ens_base.specs.declared.reply.Reply.{Reply}
 use Rattle.ens_object.specs.Objects.{IsObject, object_spelling}
 use Rattle.ens_object.specs.declared.object.Object.{Object}
 use Rattle.ens_outside.specs.Maps.{value_at}
-use Rattle.held_stores.specs.Answers.{answered}
-use Rattle.held_stores.specs.Held.{Held}
+use Rattle.tree_refinement.specs.HeldStores.{answered, Held}
 use Rattle.kept_objects.specs.Kept.{matching}
 use Rattle.key_commands.specs.Commands.{verdict_of, stamp_verdict, register_of}
 use Rattle.key_commands.specs.declared.verdict.Verdict.{Verdict}
@@ -31,7 +30,7 @@ use Rattle.leading.specs.Starts.{row_28, started, by_known, by_stamp, on_object}
 use Rattle.leading.specs.declared.leader.Leader.{Leader}
 use Rattle.leading.specs.declared.pending.Pending.TheVariants as pendings
 use Rattle.md5.specs.Md5.{md5}
-use Rattle.peer_plan.specs.Drives.{driven}
+use Rattle.tree_refinement.specs.PeerPlan.{driven}
 use Rattle.peer_state.specs.declared.state.State.{State}
 use Rattle.peer_fact.specs.declared.fact.Fact.{Fact}
 use Rattle.quorum_round.specs.Rounds.{state_of, begun}

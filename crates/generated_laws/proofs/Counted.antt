@@ -6,9 +6,8 @@ use Rattle.std.proofs.lemmas.Bool.Decides.{nat_tests}
 use Rattle.std.proofs.lemmas.List.Sums.{sum_by-cons}
 use Rattle.calm_order.proofs.Served.{served}
 use Rattle.calm_order.specs.Served.{AreServed}
-use Rattle.calm_runs.proofs.Schedules.{calls_complete}
-use Rattle.calm_runs.specs.Calm.{RunsUndisturbed}
-use Rattle.call_refinement.specs.Lines.{answers_in, calls_from}
+use Rattle.replay.proofs.CalmRuns.{calls_complete}
+use Rattle.replay.specs.CalmRuns.{RunsUndisturbed, answers_in, calls_from}
 use Rattle.ens_base.specs.Lists.{◌∈◌}
 use Rattle.ens_base.specs.declared.reply.Reply.{Reply}
 use Rattle.register_model.specs.Histories.{IsDone, is_done, is_refused}

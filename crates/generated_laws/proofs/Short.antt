@@ -3,8 +3,8 @@ use Rattle.std.proofs.Common.{◌≡◌, ◌≤◌, ◌<◌, ℕ, zero, suc, ◌
 use Rattle.std.specs.Prelude.{◌==◌}
 use Rattle.std.proofs.lemmas.Bool.Decides.{nat_tests}
 use Rattle.std.proofs.lemmas.List.FromFn.{length-range_with_len}
-use Rattle.calm_runs.specs.Calm.{ArePairs, IsUndisturbed}
-use Rattle.held_stores.specs.Held.{HasNoClash}
+use Rattle.replay.specs.CalmRuns.{ArePairs, IsUndisturbed}
+use Rattle.replay.specs.HeldStores.{HasNoClash}
 use Rattle.replay.specs.Jobs.{hashed_by}
 use Rattle.replay.specs.Summary.{StaysWithin, call_count, is_call}
 use Rattle.schedule_generator.proofs.Calls.{generated_ids, generated_valid}

@@ -1,6 +1,6 @@
 ghost use Rattle.std.specs.Prelude.{◌≡◌, ◌<◌, ℕ};
-ghost use Rattle.calm_runs.specs.Calm.{IsUndisturbed, RunsUndisturbed};
-ghost use Rattle.held_stores.specs.Held.{HasNoClash};
+ghost use Rattle.replay.specs.CalmRuns.{IsUndisturbed, RunsUndisturbed};
+ghost use Rattle.replay.specs.HeldStores.{HasNoClash};
 ghost use Rattle.replay.specs.Jobs.{hashed_by};
 ghost use Rattle.replay.specs.Summary.{StaysWithin, call_count};
 ghost use Rattle.schedule_generator.specs.Generated.{generate};

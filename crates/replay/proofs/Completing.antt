@@ -8,9 +8,8 @@ use Rattle.ens_base.proofs.Lists.{in_append, in_left, in_right}
 use Rattle.ens_base.specs.Lists.{◌∈◌, same_bytes}
 use Rattle.ens_base.specs.declared.status.Status.{Status}
 use Rattle.ens_hashing.specs.Hashing.{Book, IsKept, total}
-use Rattle.held_stores.proofs.Books.{kept_once}
-use Rattle.held_stores.specs.Held.{Account, HasNoClash, added, kept_after, once}
-use Rattle.held_stores.specs.Laws.{HasClashed}
+use Rattle.world_model.proofs.HeldStores.{kept_once}
+use Rattle.world_model.specs.HeldStores.{Account, HasNoClash, added, kept_after, once, HasClashed}
 use Rattle.schedule_input.specs.Endings.{IsUnread}
 use Rattle.schedule_input.specs.Reading.{Refuses, WasCutOff, WasTakenTo}
 use Rattle.schedule_input.specs.declared.ending.Ending.{Ending}
@@ -21,7 +20,7 @@ use Rattle.schedule_text.specs.Progress.{Blank}
 use Rattle.schedule_text.specs.Reading.{schedule_of}
 use Rattle.schedule_text.specs.declared.error.ScheduleError.{ScheduleError}
 use Rattle.schedule_text.specs.declared.schedule.Schedule.{Schedule}
-use Rattle.world_spec.specs.Messages.{IsPastMessages, IsWithinMessages}
+use Rattle.world_model.specs.WorldSpec.{IsPastMessages, IsWithinMessages}
 use Rattle.replay.specs.Jobs.{HasRead, IsRunnable, Prints, PrintsWith, RanOut, hashed_by, nothing_hashed}
 use Rattle.replay.specs.Worlds.{schedule_run}
 use Rattle.replay.proofs.Members.{Contains_from_in, in_from_Contains}

@@ -4,14 +4,13 @@ use Rattle.std.specs.Prelude.{IfOk, IfSome, codes}
 use Rattle.calm_runs.proofs.Histories.{histories_in_order}
 use Rattle.calm_runs.proofs.Schedules.{calls_complete}
 use Rattle.calm_runs.specs.Calm.{RunsUndisturbed}
-use Rattle.call_refinement.proofs.ScheduleLaws.{schedules_are_legal, schedules_have_causes}
-use Rattle.call_refinement.specs.Lines.{lines_of}
+use Rattle.calm_runs.proofs.CallRefinement.{schedules_are_legal, schedules_have_causes}
+use Rattle.calm_runs.specs.CallRefinement.{lines_of}
 use Rattle.ens_base.specs.Lists.{◌∈◌}
 use Rattle.ens_base.specs.declared.status.Status.{Status}
 use Rattle.ens_hashing.specs.Hashing.{Book, KeepsNothing}
-use Rattle.held_stores.proofs.Books.{filled_beyond, kept_once}
-use Rattle.held_stores.specs.Held.{Account, account, HasHashed, HasNoClash, HasTaken}
-use Rattle.held_stores.specs.Laws.{HasClashed, HasFilled}
+use Rattle.world_model.proofs.HeldStores.{filled_beyond, kept_once}
+use Rattle.world_model.specs.HeldStores.{Account, account, HasHashed, HasNoClash, HasTaken, HasClashed, HasFilled}
 use Rattle.schedule_input.specs.declared.ending.Ending.{Ending}
 use Rattle.schedule_premise.proofs.Soundness.{majority_firm, named_in, none_is_sound, unreverted_is_none}
 use Rattle.schedule_premise.specs.Premise.{first_unsound}

@@ -4,3 +4,5 @@ pub mod Endings
 pub mod Unread
 pub mod Texts
 pub mod Completing
+pub mod CalmRuns
+pub mod WorldModel

@@ -1,12 +1,11 @@
 -- The lines of a schedule, one after another, and what a run that ended in one of them says of the whole.
 use Rattle.std.proofs.Common.{◌≡◌, ◌≤◌, ◌+◌, ℕ, zero, suc, Some, List, [], ◌∷◌, ◌++◌, length, slice_get, take, refl, sym, ap, subst, ◌∙◌, inl, inr, arith, append-nil}
-use Rattle.std.specs.Prelude.{IfErr, drop}
+use Rattle.std.specs.Prelude.{IfErr, drop, Result}
 use Rattle.std.specs.Result.{IsErrAnd}
-use Rattle.std.specs.Prelude.{Result}
 use Rattle.std.proofs.lemmas.List.{length-replicate}
 use Rattle.std.proofs.lemmas.Option.{same_Some, none-some}
-use Rattle.held_stores.proofs.Taken.{hashed_all}
-use Rattle.held_stores.specs.Held.{Account, HasHashed, StartsWith}
+use Rattle.world_model.proofs.HeldStores.{hashed_all}
+use Rattle.world_model.specs.HeldStores.{Account, HasHashed, StartsWith}
 use Rattle.schedule_text.specs.declared.event.ScheduleEvent.{ScheduleEvent}
 use Rattle.schedule_text.specs.declared.schedule.Schedule.{Schedule}
 use Rattle.world_model.proofs.Events.{drop_one}
@@ -16,11 +15,8 @@ use Rattle.world_model.specs.Refusals.{IsCutOff}
 use Rattle.world_model.specs.Worlds.{MayRefuse}
 use Rattle.world_model.specs.declared.error.WorldError.{WorldError}
 use Rattle.world_model.specs.declared.error.WorldError.TheVariants.{Clash, BookFull, MessageLimit, Memory}
-use Rattle.world_spec.proofs.Fronts.{applied_front}
-use Rattle.world_spec.proofs.Growth.{IsFurther, applied_same, peers_in, run_grows}
-use Rattle.world_spec.specs.Lines.{applied, run_from}
-use Rattle.world_spec.specs.Messages.{IsPastMessages, IsWithinMessages}
-use Rattle.world_spec.specs.Runs.{Run, in_front, unhashed, opening_run}
+use Rattle.world_model.proofs.WorldSpec.{applied_front, IsFurther, applied_same, peers_in, run_grows}
+use Rattle.world_model.specs.WorldSpec.{applied, run_from, IsPastMessages, IsWithinMessages, Run, in_front, unhashed, opening_run}
 use Rattle.replay.specs.Jobs.{hashed_by}
 use Rattle.replay.specs.Stops.{CameTo, PassesLimit, RejectsIn, StopsIn, hashed_in, run_after}
 use Rattle.replay.specs.Worlds.{schedule_run}

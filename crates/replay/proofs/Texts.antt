@@ -16,10 +16,8 @@ use Rattle.schedule_text.specs.Reading.{schedule_of}
 use Rattle.schedule_text.specs.Spelling.{IsSchedule, schedule_text}
 use Rattle.schedule_text.specs.declared.error.ScheduleError.{ScheduleError}
 use Rattle.schedule_text.specs.declared.schedule.Schedule.{Schedule}
-use Rattle.world_spec.specs.Messages.{IsPastMessages}
-use Rattle.world_spec.specs.Runs.{Run}
-use Rattle.held_stores.specs.Held.{HasNoClash, once}
-use Rattle.held_stores.specs.Laws.{HasClashed, HasFilled}
+use Rattle.world_model.specs.WorldSpec.{IsPastMessages, Run}
+use Rattle.world_model.specs.HeldStores.{HasNoClash, once, HasClashed, HasFilled}
 use Rattle.replay.specs.Jobs.{EndsInRun, IsRunText, Prints, PrintsWith, hashed_by, nothing_hashed}
 use Rattle.history_scribe.specs.Text.{history_line, printed_line}
 use Rattle.replay.specs.Stops.{PassesLimit, RejectsIn}

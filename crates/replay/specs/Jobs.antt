@@ -3,10 +3,8 @@ use Rattle.std.specs.Prelude.{◌≡◌, ◌⊎◌, ◌<◌, ◌≤◌, ℕ, Lis
 use Rattle.std.specs.Io.KnownBytes.{IsAtEnd}
 use Rattle.calm_order.specs.Served.{AreServed, ids_on}
 use Rattle.calm_runs.specs.Calm.{IsUndisturbed}
-use Rattle.call_refinement.specs.Causes.{HaveCauses}
-use Rattle.call_refinement.specs.Lines.{AreLegal, answers_in, calls_from}
-use Rattle.held_stores.specs.Held.{Account, HasHashed, HasNoClash, once}
-use Rattle.held_stores.specs.Laws.{HasClashed, HasFilled}
+use Rattle.calm_runs.specs.CallRefinement.{HaveCauses, AreLegal, answers_in, calls_from}
+use Rattle.world_model.specs.HeldStores.{Account, HasHashed, HasNoClash, once, HasClashed, HasFilled}
 use Rattle.schedule_premise.specs.Premise.{first_unsound}
 use Rattle.schedule_text.specs.Reading.{schedule_of}
 use Rattle.schedule_text.specs.Spelling.{IsSchedule}
@@ -24,7 +22,7 @@ use Rattle.schedule_input.specs.Reading.{WasCutOff, WasTakenTo}
 use Rattle.replay.specs.Stops.{PassesLimit, RejectsIn}
 use Rattle.replay.specs.Text.{IsTextOfRun}
 use Rattle.replay.specs.Worlds.{schedule_run}
-use Rattle.world_spec.specs.Messages.{IsPastMessages, IsWithinMessages}
+use Rattle.world_model.specs.WorldSpec.{IsPastMessages, IsWithinMessages}
 
 -- the run of the schedule stays within the limit on messages, and the text is what it prints, with the
 -- histories

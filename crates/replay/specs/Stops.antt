@@ -1,14 +1,12 @@
 -- In which line of a schedule its run ended early.
 use Rattle.std.specs.Prelude.{◌≡◌, ◌⊎◌, ℕ, List, [], ◌∷◌, ◌++◌}
-use Rattle.held_stores.specs.Held.{Account, HasHashed}
+use Rattle.world_model.specs.HeldStores.{Account, HasHashed}
 use Rattle.schedule_text.specs.declared.event.ScheduleEvent.{ScheduleEvent}
 use Rattle.schedule_text.specs.declared.schedule.Schedule.{Schedule}
 use Rattle.world_model.specs.Refusals.{IsCutOff}
 use Rattle.world_model.specs.declared.error.WorldError.{WorldError}
 use Rattle.world_model.specs.declared.error.WorldError.TheVariants.{MessageLimit}
-use Rattle.world_spec.specs.Lines.{applied, run_of_schedule}
-use Rattle.world_spec.specs.Messages.{IsPastMessages, IsWithinMessages}
-use Rattle.world_spec.specs.Runs.{Run, unhashed}
+use Rattle.world_model.specs.WorldSpec.{applied, run_of_schedule, IsPastMessages, IsWithinMessages, Run, unhashed}
 
 -- the run of a schedule after these lines of it
 abbrev pub run_after : Schedule → List ScheduleEvent → Run

@@ -14,7 +14,7 @@ use Rattle.schedule_text.specs.declared.event.ScheduleEvent.TheVariants as line
 use Rattle.schedule_text.specs.declared.schedule.Schedule.{Schedule}
 use Rattle.replay.specs.Text.{IsTextOfRun}
 use Rattle.replay.specs.Worlds.{schedule_run}
-use Rattle.world_spec.specs.Messages.{IsPastMessages, IsWithinMessages}
+use Rattle.world_model.specs.WorldSpec.{IsPastMessages, IsWithinMessages}
 
 -- whether the line of a run is an answer whose reply passes the test
 abbrev pub answers_with : (Reply → Bool) → Printed → Bool

@@ -4,7 +4,7 @@ use Rattle.std.specs.List.{flat_map}
 use Rattle.history_scribe.specs.Histories.{AreHistories}
 use Rattle.history_scribe.specs.Text.{history_line, printed_line}
 use Rattle.register_model.specs.declared.history.History.{History}
-use Rattle.world_spec.specs.Runs.{Run}
+use Rattle.world_model.specs.WorldSpec.{Run}
 
 -- what the run of a world printed, in order, followed by one history for each key that a call named
 abbrev pub IsTextOfRun : Run → List ℕ → Type 0

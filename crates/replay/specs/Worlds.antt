@@ -1,7 +1,6 @@
 -- The run of a schedule in a world.
 use Rattle.schedule_text.specs.declared.schedule.Schedule.{Schedule}
-use Rattle.world_spec.specs.Lines.{run_of_schedule}
-use Rattle.world_spec.specs.Runs.{Run}
+use Rattle.world_model.specs.WorldSpec.{run_of_schedule, Run}
 
 -- the run of a schedule, in a world with all its peers
 abbrev pub schedule_run : Schedule → Run

@@ -3,7 +3,7 @@ ghost use Rattle.ens_base.specs.declared.status.Status.{Status};
 ghost use Rattle.schedule_premise.specs.Premise.{first_unsound};
 ghost use Rattle.schedule_text.specs.Spelling.{IsSchedule, schedule_text};
 ghost use Rattle.schedule_text.specs.declared.schedule.Schedule.{Schedule};
-ghost use Rattle.world_spec.specs.Runs.{Run};
+ghost use Rattle.world_model.specs.WorldSpec.{Run};
 ghost use Rattle.replay.specs.Jobs.{EndsInRun, Prints};
 ghost use Rattle.replay.specs.Text.{IsTextOfRun};
 

@@ -14,4 +14,5 @@ mod worlds;
 
 pub use job::{replay, replay_with};
 pub use laws::{a_run_has_one_text, a_text_is_replayed};
+pub use world_model::{World, WorldError};
 pub use worlds::{clash_text, run_text, summarize};

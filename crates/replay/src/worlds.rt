@@ -1,15 +1,14 @@
 ghost use Rattle.std.specs.Prelude.{◌≡◌, ◌≢◌, IfErr, IfOk, MatchOption, None, OnOk, string_bytes};
 ghost use Rattle.ens_base.specs.declared.status.Status.{Status};
 ghost use Rattle.ens_hashing.specs.Hashing.{KeepsNothing};
-ghost use Rattle.held_stores.specs.Held.{account, HasHashed, HasNoClash};
+ghost use Rattle.world_model.specs.HeldStores.{account, HasHashed, HasNoClash};
 ghost use Rattle.schedule_premise.specs.Premise.{first_unsound};
 ghost use Rattle.schedule_text.specs.Spelling.{IsSchedule};
 ghost use Rattle.replay.specs.Jobs.{EndsSo, clash_line, hashed_by};
 ghost use Rattle.replay.specs.Stops.{StopsIn};
 ghost use Rattle.replay.specs.Text.{IsTextOfRun};
 ghost use Rattle.world_model.specs.Worlds.{run_of};
-ghost use Rattle.world_spec.specs.Messages.{IsPastMessages, IsWithinMessages};
-ghost use Rattle.world_spec.specs.Runs.{unhashed};
+ghost use Rattle.world_model.specs.WorldSpec.{IsPastMessages, IsWithinMessages, unhashed};
 ghost use Rattle.replay.specs.Worlds.{schedule_run};
 ghost use Rattle.replay.specs.Summary.{EndsInSummary, IsSummary};
 
@@ -58,7 +57,7 @@ fn run_lines<H: Hasher16, R: Threads + Sync>(
     ensures apart { KeepsNothing (H.kept hasher.old) → OnOk result (HasNoClash (hashed_by schedule.now)) }
     ensures stops { IfErr result (StopsIn schedule.now (account H.kept H.clashes H.fulls hasher.old) (account H.kept H.clashes H.fulls hasher.new)) }
 {
-    let mut world = World::open(alloc, schedule, hasher)?;
+    let mut world = World::open(rt, alloc, schedule, hasher)?;
     let events = schedule.events.as_slice();
     for place in 0..events.len() {
         world.apply(rt, alloc, &events[place], hasher)?;

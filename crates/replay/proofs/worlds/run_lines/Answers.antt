@@ -3,8 +3,8 @@ use Rattle.std.proofs.lemmas.Grind.{common_steps}
 use Rattle.std.proofs.lemmas.List.{length-map}
 use Rattle.std.proofs.lemmas.Option.{slice_get_read}
 use Rattle.ens_hashing.specs.Hashing.{Book}
-use Rattle.held_stores.proofs.Taken.{are_apart}
-use Rattle.held_stores.specs.Held.{HasTaken}
+use Rattle.world_model.proofs.HeldStores.{are_apart}
+use Rattle.world_model.specs.HeldStores.{HasTaken}
 use Rattle.world_model.specs.Peers.{node_of}
 use Rattle.world_model.specs.Worlds.{run_of}
 use Rattle.world_model.proofs.Events.{stands_at}

@@ -1,5 +1,5 @@
 use Rattle.std.proofs.Common.{refl, subst, string_bytes}
-use Rattle.world_spec.specs.Runs.{Run}
+use Rattle.world_model.specs.WorldSpec.{Run}
 use Rattle.replay.specs.Text.{IsTextOfRun}
 use Rattle.replay.proofs.Endings.{run_done, clash_ends, book_ending, limit_ending}
 use Rattle.replay.proofs.worlds.run_world.Goals as goal

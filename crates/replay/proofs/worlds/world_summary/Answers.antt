@@ -1,6 +1,6 @@
 use Rattle.std.proofs.Common.{List, ap, subst, ◌∙◌, string_bytes}
 use Rattle.register_model.specs.declared.printed.Printed.{Printed}
-use Rattle.world_spec.specs.Runs.{Run}
+use Rattle.world_model.specs.WorldSpec.{Run}
 use Rattle.replay.specs.Summary.{summary_text}
 use Rattle.replay.specs.Text.{IsTextOfRun}
 use Rattle.replay.specs.Worlds.{schedule_run}

@@ -1,0 +1,2 @@
+pub mod HeldStores
+pub mod TreeRefinement
