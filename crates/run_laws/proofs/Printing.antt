@@ -1,12 +1,12 @@
 -- What a run prints: at each event the answers of that event, and then the outcome of the change that it asks
 -- for, if it asks for one.
-use Rattle.std.proofs.Common.{◌≡◌, ℕ, zero, suc, ◌+◌, ◌-◌, ◌<◌, ◌≤◌, ◌^◌, ◌⊎◌, inl, inr, Bool, Option, None, Some, List, [], ◌∷◌, ◌++◌, length, map, refl, sym, ap, subst, ◌∙◌, arith, append-nil, append_assoc}
+use Rattle.std.proofs.Common.{◌≡◌, ℕ, zero, suc, ◌+◌, ◌-◌, ◌<◌, ◌≤◌, ◌^◌, ◌⊎◌, inl, inr, Bool, true, false, nat_lt, if◌then◌else◌, Option, None, Some, List, [], ◌∷◌, ◌++◌, length, map, refl, sym, ap, subst, ◌∙◌, arith, append-nil, append_assoc}
 use Rattle.std.specs.Prelude.{slice_get}
 use Rattle.history_record.specs.Calls.{change_peer}
 use Rattle.held_stores.specs.Held.{Held}
 use Rattle.held_stores.specs.Laws.{held_with}
 use Rattle.leader_words.specs.declared.out.AnswerOut.{AnswerOut}
-use Rattle.network.specs.Mail.{settled, goes, is_among, oldest, most_messages}
+use Rattle.network.specs.Mail.{goes, is_among, oldest, most_messages}
 use Rattle.peer_plan.specs.Drives.{step_of}
 use Rattle.peer_plan.specs.Kept.{IsStepCall, Reaches}
 use Rattle.peer_state.specs.declared.event.Event.{Event}
@@ -22,10 +22,10 @@ use Rattle.wire_frames.specs.declared.frame.Frame.{Frame}
 use Rattle.world_spec.proofs.Ending.{EndsIn, run_reaches}
 use Rattle.world_spec.specs.Lines.{call_of, everyone, set_of, effect, applied, keys_in, run_from}
 use Rattle.world_spec.specs.Nodes.{Node, Up, Down, taken, taken_by, run_over, started, stopped, over_stores, while_down}
-use Rattle.world_spec.specs.Runs.{Run, mode_at, next_event, answer_line, change_line, printed_by, place_of, stepped_at, stepped, changed_at, changed, ticked, received_if, delivered, delivered_if, going_on, calmed}
+use Rattle.world_spec.specs.Runs.{Run, mode_at, next_event, answer_line, change_line, printed_by, place_of, stepped_at, stepped, changed_at, changed, may_deepen, deepened, with_deepening, ticked, received, without_waiting, received_if, delivered, delivered_if, going_on, calmed}
 use Rattle.world_spec.specs.Stores.{failing, leaves_of, spoiled, segment_spoiled, inner_spoiled, taken_back}
-use Rattle.record_laws.proofs.Replied.{HasReplies, step_replies}
-use Rattle.record_laws.proofs.Told.{Follow, itself, differs}
+use Rattle.run_laws.proofs.Replied.{HasReplies, step_replies}
+use Rattle.run_laws.proofs.Told.{Follow, itself, differs}
 
 -- ## Lines that may follow each other
 
@@ -142,9 +142,13 @@ module _ (asked : ℕ → Option ℕ) where
 
     received_prints : (f : Option Frame) (k : ℕ) (w : Run) → IsNext w → Quiet w (received_if f k w)
     received_prints None k w is = quiet_none w w refl refl refl
-    received_prints (Some f) k w is =
-        let a = stepped_prints f.to (events.Deliver f.from f.message) (record w { mail = settled w.mail k }) tt is in
-        record { lines = a.lines; printed = a.printed; follow = a.follow; events = a.events; called = a.called }
+    received_prints (Some f) k w is = by (nat_lt k w.first_alive)
+      where
+        by : (lost : Bool) → Quiet w (if lost then without_waiting k w else received f k w)
+        by true = quiet_none w (without_waiting k w) refl refl refl
+        by false =
+            let a = stepped_prints f.to (events.Deliver f.from f.message) (without_waiting k w) tt is in
+            record { lines = a.lines; printed = a.printed; follow = a.follow; events = a.events; called = a.called }
 
     delivered_prints : (k : ℕ) (w : Run) → IsNext w → Quiet w (delivered k w)
     delivered_prints k w is = received_prints (slice_get w.mail.sent k) k w is
@@ -197,6 +201,13 @@ module _ (asked : ℕ → Option ℕ) where
     later : (w v : Run) → Quiet w v → Prints n (n + 1) w v
     later w v a = record { lines = a.lines; printed = a.printed; follow = subst (Follow asked n (n + 1)) (append-nil a.lines) (follow_both asked n n (n + 1) a.lines [] a.follow (omega arith)); events = a.events; called = a.called }
 
+    deepening_prints : (w : Run) → Quiet w (with_deepening w)
+    deepening_prints w = by (may_deepen w)
+      where
+        by : (b : Bool) → Quiet w (if b then deepened w else w)
+        by true = quiet_none w (deepened w) refl refl refl
+        by false = quiet_none w w refl refl refl
+
     effect_prints : (event : ScheduleEvent) (w : Run) → IsNext w → Asks event → Prints n (n + 1) w (effect event w)
     effect_prints (Call peer id key command) w is asks = later w (effect (Call peer id key command) w) (stepped_prints peer (events.Call (call_of id key command)) w tt is)
     effect_prints (Tick peer ticks) w is asks = later w (effect (Tick peer ticks) w) (ticked_prints peer ticks w is)
@@ -209,7 +220,7 @@ module _ (asked : ℕ → Option ℕ) where
     effect_prints (Stop peer) w is asks = later w (effect (Stop peer) w) (changed_prints peer stopped w)
     effect_prints (Start peer) w is asks = later w (effect (Start peer) w) (hashing_prints peer (started (mode_at peer w) w.view) _ w)
     effect_prints (Upgrade peer) w is asks = prints_none n (n + 1) w (effect (Upgrade peer) w) (omega arith) refl refl refl
-    effect_prints Deepen w is asks = prints_none n (n + 1) w w (omega arith) refl refl refl
+    effect_prints Deepen w is asks = later w (effect Deepen w) (deepening_prints w)
     effect_prints (Spoil peer key bytes) w is asks = later w (effect (Spoil peer key bytes) w) (changed_prints peer (over_stores (spoiled key bytes)) w)
     effect_prints (Damage peer key bytes) w is asks = later w (effect (Damage peer key bytes) w) (hashing_prints peer (over_stores (segment_spoiled key bytes)) _ w)
     effect_prints (Inner peer level index bytes) w is asks = later w (effect (Inner peer level index bytes) w) (changed_prints peer (over_stores (inner_spoiled level index bytes)) w)

@@ -26,11 +26,11 @@ use Rattle.register_model.specs.declared.call.Call.{Call}
 use Rattle.register_model.specs.declared.register.Register.{Register}
 use Rattle.register_model.specs.declared.register.Register.TheVariants.{Absent, Present}
 use Rattle.safety_laws.proofs.Noted.{Listed, run_listed}
-use Rattle.step_refinement.proofs.ObjectGrammar.{objects_obey}
-use Rattle.step_refinement.specs.Peers.{AsksFit, EpochsFit}
+use Rattle.call_refinement.proofs.StepRefinement.{objects_obey}
+use Rattle.call_refinement.specs.StepRefinement.{AsksFit, EpochsFit}
 use Rattle.version_laws.proofs.Maps.{put_other}
 use Rattle.version_laws.proofs.Trees.{run_versions}
-use Rattle.record_laws.proofs.Again.{ReplyFits}
+use Rattle.run_laws.proofs.Again.{ReplyFits}
 
 -- ## No answer comes before its call
 

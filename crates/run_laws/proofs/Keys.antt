@@ -12,7 +12,7 @@ use Rattle.ens_base.specs.Lists.{◌∈◌, bytes_cmp}
 use Rattle.history_record.specs.Calls.{keys_of}
 use Rattle.schedule_text.specs.declared.event.ScheduleEvent.{ScheduleEvent}
 use Rattle.schedule_text.specs.declared.event.ScheduleEvent.TheVariants as line
-use Rattle.record_laws.proofs.Printing.{called_in}
+use Rattle.run_laws.proofs.Printing.{called_in}
 
 inserted : (ks : List (List ℕ)) (k y : List ℕ) → y ∈ insert_key bytes_cmp ks k → (y ≡ k) ⊎ (y ∈ ks)
 inserted [] k y there = there

@@ -31,7 +31,7 @@ use Rattle.schedule_text.specs.declared.error.ScheduleError.{ScheduleError}
 use Rattle.schedule_text.specs.declared.error.ScheduleError.TheVariants.{Bad, Lines}
 use Rattle.schedule_text.specs.declared.event.ScheduleEvent.{ScheduleEvent}
 use Rattle.schedule_text.specs.declared.schedule.Schedule.{Schedule}
-use Rattle.record_laws.proofs.Again.{HistoryFits, LineFits, answer_heard, change_heard, history_heard, history_one, history_spelled, history_text, line_one, line_spelled, line_text}
+use Rattle.run_laws.proofs.Again.{HistoryFits, LineFits, answer_heard, change_heard, history_heard, history_one, history_spelled, history_text, line_one, line_spelled, line_text}
 
 -- ## Lines that may follow each other
 

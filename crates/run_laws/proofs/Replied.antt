@@ -17,11 +17,12 @@ use Rattle.leading.specs.Rules.{lead_row}
 use Rattle.leading.specs.Starts.{row_27}
 use Rattle.leading.specs.declared.leader.Leader.{Leader}
 use Rattle.peer_fact.specs.declared.fact.Fact.{Fact}
-use Rattle.peer_plan.specs.Drives.{row_done, own_key, followed_up, and_row, lead_done, lead, reminded, task_done, driven, led_in, ticked, after_put, put_done, delivered, unavailable, and_change, most_turns, concluded, step_of}
+use Rattle.peer_plan.specs.Drives.{row_done, own_key, followed_up, and_row, lead_done, lead, reminded, task_done, driven, led_in, ticked, got_ask, after_put, put_done, in_tree, delivered, unavailable, and_change, most_turns, concluded, step_of}
 use Rattle.peer_plan.proofs.Aging.{asked_asks, confirmed_asks, found_asks, if_follows, installed_asks, looked_asks, noted_follows, own_node_asks, owned_asks, shown_asks, shown_node_asks, written_asks, sealed_asks}
 use Rattle.peer_plan.specs.Kept.{IsStepCall}
+use Rattle.peer_plan.specs.TreeCalls.{has_position}
 use Rattle.peer_plan.specs.Owns.{looked, found}
-use Rattle.peer_plan.specs.Syncs.{saved, and_sends, with_sync, accepted, accepted_own, accepted_in, by_outcome, go_on, resume_sync, followed_on, needs_node, take_give, sealed_if}
+use Rattle.peer_plan.specs.Syncs.{saved, and_sends, with_sync, accepted, accepted_own, accepted_in, by_outcome, go_on, resume_sync, followed_on, needs_node, take_give, tree_give, sealed_if}
 use Rattle.peer_state.specs.Leading.{ticks, row_5_calls, wished, begins}
 use Rattle.peer_state.specs.Moves.{left, left_answers, turned, turned_answers, ends_leading, leading, with_leader, and_answers, electing, without_sync, keeps_seal}
 use Rattle.peer_state.specs.Rows.{aged, phase_row, received, asked_change, leads, changes}
@@ -50,6 +51,7 @@ use Rattle.step_plans.specs.declared.tasks.Task.TheVariants as tasks
 use Rattle.sync_rule.specs.Syncs.{needs_build, outcome_of}
 use Rattle.sync_rule.specs.declared.sync.Outcome.{Outcome}
 use Rattle.sync_rule.specs.declared.sync.Outcome.TheVariants.{Pending, Trusted}
+use Rattle.tree_node.specs.declared.version.TreeVersion.{TreeVersion}
 use Rattle.wire_frames.specs.declared.message.Message.{Message}
 use Rattle.wire_frames.specs.declared.message.Message.TheVariants as messages
 
@@ -109,9 +111,9 @@ module _ (me : ℕ) (P : State → Out → Type 0) (replies : List Bool) where
   followed_on_passes thens.Untrust x out next is go = go [] x out is
   followed_on_passes thens.Put x out next is go = go [] x out is
 
-  take_give_passes : (from : ℕ) (give : Give) (own : Option (List ℕ)) (running : Option Running) → Passes (take_give me from give own running)
-  take_give_passes from give own None x out next is go = go [] x out is
-  take_give_passes from give own (Some r) x out next is go = go_on_passes (row_take from give own r) x out next is go
+  take_give_passes : (tree : TreeVersion) (from : ℕ) (give : Give) (own : Option (List ℕ)) (running : Option Running) → Passes (take_give tree me from give own running)
+  take_give_passes tree from give own None x out next is go = go [] x out is
+  take_give_passes tree from give own (Some r) x out next is go = go_on_passes (row_take tree from give own r) x out next is go
 
   -- ## Rows
 
@@ -184,6 +186,21 @@ module _ (me : ℕ) (P : State → Out → Type 0) (replies : List Bool) where
   put_done_passes (thens.Rule n) from ballot o row x out next is go = row_done_passes row x out next is go
   put_done_passes (thens.OnKeys n) from ballot o row x out next is go = row_done_passes row x out next is go
 
+  got_ask_passes : (from : ℕ) (ballot : Epoch) (q : Question) → Passes (got_ask me from ballot q)
+  got_ask_passes from ballot q x out next is go =
+      shown_node_asks P x.mode.tree (is_same ballot x.fact.ballot) q x out (λ body y o. row_done me (row_23 y.fact y.trusted from ballot q.position q.after body) y o next)
+      (λ body. row_done_passes (row_23 x.fact x.trusted from ballot q.position q.after body) x out next is go)
+
+  tree_give_passes : (from : ℕ) (give : Give) → Passes (tree_give me from give)
+  tree_give_passes from give x out next is go =
+      own_node_asks P (needs_node x.mode.tree from give x.sync) give.question.position x out (λ own y o. take_give x.mode.tree me from give own y.sync y o next)
+      (λ own. take_give_passes x.mode.tree from give own x.sync x out next is go)
+
+  -- a message about a node
+  in_tree_passes : (has : Bool) (part : Part State (List Task)) → Passes part → Passes (in_tree has part)
+  in_tree_passes true part passes x out next is go = passes x out next is go
+  in_tree_passes false part passes x out next is go = go [] x out is
+
   delivered_passes : (from : ℕ) (message : Message) → Passes (delivered me from message)
   delivered_passes from (messages.Get ballot round key) x out next is go =
       shown_asks P (is_served x.fact x.trusted ballot) (looked key) (looked_asks P key) x out (λ seen y o. row_done me (row_21 y.fact y.trusted from ballot round key seen) y o next)
@@ -201,12 +218,10 @@ module _ (me : ℕ) (P : State → Out → Type 0) (replies : List Bool) where
   delivered_passes from (messages.CheckReply ballot round) x out next is go = lead_passes (row_33_reply from ballot round) x.phase x out next is go
   delivered_passes from (messages.TreeAsk ballot at after) x out next is go =
       let q : Question = record { position = at; after = after } in
-      shown_node_asks P (is_same ballot x.fact.ballot) q x out (λ body y o. row_done me (row_23 y.fact y.trusted from ballot q.position q.after body) y o next)
-      (λ body. row_done_passes (row_23 x.fact x.trusted from ballot at after body) x out next is go)
+      in_tree_passes (has_position x.mode.tree at) (got_ask me from ballot q) (got_ask_passes from ballot q) x out next is go
   delivered_passes from (messages.TreeGive ballot at after trusted body) x out next is go =
       let give : Give = record { ballot = ballot; question = record { position = at; after = after }; trusted = trusted; body = body } in
-      own_node_asks P (needs_node from give x.sync) at x out (λ own y o. take_give me from give own y.sync y o next)
-      (λ own. take_give_passes from give own x.sync x out next is go)
+      in_tree_passes (has_position x.mode.tree at) (tree_give me from give) (tree_give_passes from give) x out next is go
   delivered_passes from message x out next is go = row_done_passes (received me from message x).1 (received me from message x).0 out next is go
 
   -- what follows a row, until no task is left

@@ -29,11 +29,8 @@ use Rattle.register_model.specs.declared.call.Call.{Call}
 use Rattle.register_model.specs.declared.history.History.{History}
 use Rattle.register_model.specs.declared.printed.Printed.{Printed}
 use Rattle.register_model.specs.declared.printed.Printed.TheVariants as lines
-use Rattle.replay.proofs.Members.{Contains_from_in, in_from_Contains}
-use Rattle.replay.proofs.Texts.{one_text}
-use Rattle.replay.specs.Jobs.{Prints, hashed_by}
-use Rattle.replay.specs.Text.{IsTextOfRun}
-use Rattle.replay.specs.Worlds.{schedule_run}
+use Rattle.cluster.proofs.Replay.{Contains_from_in, in_from_Contains, one_text}
+use Rattle.cluster.specs.Replay.{Prints, hashed_by, IsTextOfRun, schedule_run}
 use Rattle.safety_laws.proofs.Noted.{Listed, run_listed}
 use Rattle.schedule_premise.specs.Premise.{first_unsound}
 use Rattle.schedule_text.proofs.SchedulesRead.{schedule_of-ok}
@@ -42,15 +39,15 @@ use Rattle.schedule_text.specs.Spelling.{AllMayStand, IsSchedule, call_ids, sche
 use Rattle.schedule_text.specs.declared.event.ScheduleEvent.{ScheduleEvent}
 use Rattle.schedule_text.specs.declared.event.ScheduleEvent.TheVariants as line
 use Rattle.schedule_text.specs.declared.schedule.Schedule.{Schedule}
-use Rattle.step_refinement.proofs.DistinctItems.{images_few}
+use Rattle.call_refinement.proofs.StepRefinement.{images_few}
 use Rattle.world_spec.specs.Runs.{Run, opening_run}
-use Rattle.record_laws.proofs.Again.{HistoryFits, LineFits}
-use Rattle.record_laws.proofs.Keys.{called_keys, keys_called, keys_rise}
-use Rattle.record_laws.proofs.Printing.{PrintsOn, called_in, run_prints}
-use Rattle.record_laws.proofs.Standing.{HasBook, few_events, firm_lines, has_book}
-use Rattle.record_laws.proofs.Timely.{replies_fit, run_timely}
-use Rattle.record_laws.proofs.Told.{AreTold, Follow, IsTimely, differs, itself, text_read}
-use Rattle.record_laws.specs.Recorded.{IsFaultless, IsWellRecorded}
+use Rattle.run_laws.proofs.Again.{HistoryFits, LineFits}
+use Rattle.run_laws.proofs.Keys.{called_keys, keys_called, keys_rise}
+use Rattle.run_laws.proofs.Printing.{PrintsOn, called_in, run_prints}
+use Rattle.run_laws.proofs.Standing.{HasBook, few_events, firm_lines, has_book}
+use Rattle.run_laws.proofs.Timely.{replies_fit, run_timely}
+use Rattle.run_laws.proofs.Told.{AreTold, Follow, IsTimely, differs, itself, text_read}
+use Rattle.run_laws.specs.Recorded.{IsFaultless, IsWellRecorded}
 
 -- ## The calls of a schedule
 

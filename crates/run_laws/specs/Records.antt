@@ -1,9 +1,8 @@
 -- A record that is replayed and audited.
 use Rattle.std.specs.Prelude.{◌≡◌, ℕ, List, Some}
 use Rattle.ens_base.specs.declared.status.Status.{Status}
-use Rattle.record_laws.specs.Recorded.{IsWellRecorded}
-use Rattle.replay.specs.Jobs.{IsRunnable, Prints}
-use Rattle.replay.specs.Text.{record_text}
+use Rattle.run_laws.specs.Recorded.{IsWellRecorded}
+use Rattle.cluster.specs.Replay.{IsRunnable, Prints, record_text}
 
 -- The text is a schedule, the line `answers`, and what was printed. Nothing in the schedule ends a replay of it
 -- early, and one that runs to its end prints the same.

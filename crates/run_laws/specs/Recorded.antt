@@ -6,8 +6,7 @@ use Rattle.history_audit.specs.declared.report.Report.{Report}
 use Rattle.history_record.specs.Reading.{record_of}
 use Rattle.history_record.specs.declared.record.Record.{Record}
 use Rattle.history_scribe.specs.Histories.{AreHistories}
-use Rattle.replay.specs.Text.{record_text}
-use Rattle.replay.specs.Worlds.{schedule_run}
+use Rattle.cluster.specs.Replay.{record_text, schedule_run}
 use Rattle.schedule_text.specs.Reading.{schedule_of}
 use Rattle.schedule_text.specs.declared.schedule.Schedule.{Schedule}
 

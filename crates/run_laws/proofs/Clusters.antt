@@ -3,15 +3,13 @@ use Rattle.std.proofs.Common.{◌≡◌, ◌∙◌, ℕ, List, Option, Some, Res
 use Rattle.cluster.specs.Ends.{PrintsRecord, recorded_schedule}
 use Rattle.ens_base.specs.declared.peer_words.ClusterWords.{ClusterWords}
 use Rattle.ens_base.specs.declared.status.Status.{Status}
-use Rattle.record_laws.proofs.Recording.{replay_recorded}
-use Rattle.replay.proofs.Texts.{one_text}
-use Rattle.replay.specs.Jobs.{IsRunnable, Prints}
-use Rattle.replay.specs.Text.{IsTextOfRun, record_text}
-use Rattle.replay.specs.Worlds.{schedule_run}
+use Rattle.run_laws.proofs.Recording.{replay_recorded}
+use Rattle.cluster.proofs.Replay.{one_text}
+use Rattle.cluster.specs.Replay.{IsRunnable, Prints, IsTextOfRun, record_text, schedule_run}
 use Rattle.schedule_text.specs.Spelling.{schedule_text}
 use Rattle.schedule_text.specs.declared.schedule.Schedule.{Schedule}
 use Rattle.world_spec.specs.Messages.{IsWithinMessages}
-use Rattle.cluster_laws.specs.Records.{IsAudited, IsReplayed}
+use Rattle.run_laws.specs.Records.{IsAudited, IsReplayed}
 
 same_ok : {T E : Type 0} (x y : T) → ◌≡◌ {A = Result T E} (Ok x) (Ok y) → x ≡ y
 same_ok x y h = cc h

@@ -8,15 +8,14 @@ use Rattle.call_refinement.proofs.Schedules.{IsAfter, IsCarried, schedule_agrees
 use Rattle.call_refinement.specs.Lines.{BookAgrees, lines_of}
 use Rattle.ens_base.specs.Lists.{◌∈◌}
 use Rattle.held_stores.specs.Held.{HasNoClash}
-use Rattle.replay.specs.Jobs.{hashed_by}
-use Rattle.replay.specs.Worlds.{schedule_run}
+use Rattle.cluster.specs.Replay.{hashed_by, schedule_run}
 use Rattle.schedule_premise.proofs.Soundness.{majority_firm, named_in, none_is_sound}
 use Rattle.schedule_premise.specs.Premise.{first_unsound}
 use Rattle.schedule_text.specs.Spelling.{IsSchedule}
 use Rattle.schedule_text.specs.declared.schedule.Schedule.{Schedule}
-use Rattle.step_refinement.specs.Peers.{AsksFit, EpochsFit}
+use Rattle.call_refinement.specs.StepRefinement.{AsksFit, EpochsFit}
 use Rattle.sync_laws.specs.Facts.{AreFirm, Lines}
-use Rattle.tree_refinement.specs.Trees.{AreFree}
+use Rattle.call_refinement.specs.TreeRefinement.{AreFree}
 use Rattle.world_spec.specs.Runs.{Run, opening_run}
 
 -- a run of the protocol, whose book has the calls of the schedule and the answers that were printed

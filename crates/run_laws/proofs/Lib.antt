@@ -6,3 +6,4 @@ pub mod Keys
 pub mod Timely
 pub mod Standing
 pub mod Recording
+pub mod Clusters

@@ -1,5 +1,0 @@
-use Rattle.record_laws.proofs.Recording.{replay_recorded}
-use Rattle.record_laws.proofs.laws.a_replay_is_well_recorded.Goals as goal
-
-pub returns : goal.returns
-returns c = replay_recorded
