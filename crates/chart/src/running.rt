@@ -27,7 +27,7 @@ pub fn run_lines<H: Hasher16, R: Threads + Sync>(
     ensures within { OnOk result (IsWithinMessages (run_of_schedule schedule.now.form schedule.now.peers schedule.now.view schedule.now.events)) }
     ensures error { IfErr result (MayRefuse (account H.kept H.clashes H.fulls hasher.old) (run_of_schedule schedule.now.form schedule.now.peers schedule.now.view schedule.now.events) (account H.kept H.clashes H.fulls hasher.new)) }
 {
-    let mut world = World::open(alloc, schedule, hasher)?;
+    let mut world = World::open(rt, alloc, schedule, hasher)?;
     let mut lines = Lines::new(alloc);
     let events = schedule.events.as_slice();
     for place in 0..events.len() {

@@ -1,7 +1,6 @@
 -- Messages that are handed to a link one after another, and put into an index.
-use Rattle.std.specs.Prelude.{IsErrAnd, Option, None, Some, map}
+use Rattle.std.specs.Prelude.{IsErrAnd, Option, None, Some, map, if◌then◌else◌}
 use Rattle.std.proofs.Common.{◌≡◌, ◌≤◌, ◌<◌, ◌∙◌, ◌+◌, ap, sym, subst, refl, ◌-◌, ◌^◌, ℕ, zero, suc, List, [], ◌∷◌, ◌++◌, length, take, drop, get_or, Result, Ok, Err, append_assoc, append-nil, arith, length-drop}
-use Rattle.std.specs.Prelude.{if◌then◌else◌}
 use Rattle.std.proofs.lemmas.List.{map-append, length-append, take_all}
 use Rattle.ens_base.specs.Causes.{Rose}
 use Rattle.ens_base.specs.Lists.{same_bytes}
@@ -19,7 +18,7 @@ use Rattle.turn_spec.proofs.Following.{grew_more, grew_none}
 use Rattle.turn_spec.specs.Going.{Grew}
 use Rattle.wire_frames.specs.Frames.{frame_spelling}
 use Rattle.wire_frames.specs.declared.frame.Frame.{Frame}
-use Rattle.world_spec.specs.Runs.{posted_all}
+use Rattle.world_model.specs.WorldSpec.{posted_all}
 use Rattle.cluster.specs.Sending.{AddsTo, HandedAll, HandedSome, HandsOn}
 
 abbrev Sent : Type 0

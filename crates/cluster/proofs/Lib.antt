@@ -6,3 +6,4 @@ pub mod Looking
 pub mod Lines
 pub mod Outcomes
 pub mod Printing
+pub mod Replay

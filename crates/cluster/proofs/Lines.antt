@@ -10,7 +10,7 @@ use Rattle.cluster_script.specs.declared.line.ScriptLine.TheVariants.{Event, Tur
 use Rattle.cluster_spec.proofs.Following.{Leads, all_looks, drop_front, few_looks, take_front, leads_follows, leads_none, leads_on, part_after, part_of_first, turn_alone, turn_leads}
 use Rattle.cluster_spec.specs.Messages.{MayBeRecorded, mail_before}
 use Rattle.cluster_spec.specs.Recordings.{Follows, IsPart, Recording, heard_all, recorded}
-use Rattle.held_stores.specs.Held.{Account}
+use Rattle.world_model.specs.HeldStores.{Account}
 use Rattle.network.specs.Mail.{Mail}
 use Rattle.schedule_text.specs.declared.event.ScheduleEvent.{ScheduleEvent}
 use Rattle.schedule_text.specs.declared.event.ScheduleEvent.TheVariants.{Call, Tick, Change, Start}

@@ -18,7 +18,7 @@ use Rattle.cluster_spec.specs.Recordings.{Recording, delivering, found, frame_ou
 use Rattle.frame_index.proofs.Numbers.{first_waits, settled_waits}
 use Rattle.frame_index.specs.Indexes.{Indexes, is_spelled, queue_at, waiting_numbers}
 use Rattle.frame_index.specs.declared.index.FrameIndex.{FrameIndex}
-use Rattle.held_stores.specs.Held.{Account}
+use Rattle.world_model.specs.HeldStores.{Account}
 use Rattle.network.proofs.MailLaws.{oldest_is_sent}
 use Rattle.network.specs.Mail.{Mail, oldest, settled}
 use Rattle.replay.specs.Worlds.{schedule_run}
@@ -26,7 +26,7 @@ use Rattle.schedule_text.specs.declared.event.ScheduleEvent.TheVariants.{Deliver
 use Rattle.turn_spec.proofs.Following.{grew_more}
 use Rattle.turn_spec.specs.Going.{Grew}
 use Rattle.wire_frames.specs.declared.frame.Frame.{Frame}
-use Rattle.world_spec.specs.Runs.{Run}
+use Rattle.world_model.specs.WorldSpec.{Run}
 use Rattle.cluster.specs.Ends.{Handed, Looked, frames_between}
 use Rattle.cluster.specs.Recorders.{Hears, IsInStep, Reached, Records, StopsAt, mail_in}
 use Rattle.cluster.specs.declared.recorder.Recorder.{Recorder}

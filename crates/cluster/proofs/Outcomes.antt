@@ -16,7 +16,7 @@ use Rattle.cluster_spec.proofs.Following.{part_whole}
 use Rattle.cluster_spec.proofs.Schedules.{recorded_is, recorded_sound}
 use Rattle.cluster_spec.specs.Messages.{AllRecorded}
 use Rattle.cluster_spec.specs.Recordings.{Follows, IsPart, Recording, frames_of}
-use Rattle.held_stores.specs.Held.{Account, HasHashed, HasNoClash}
+use Rattle.world_model.specs.HeldStores.{Account, HasHashed, HasNoClash}
 use Rattle.line_reading.specs.Reading.{WasCutOff}
 use Rattle.replay.proofs.Endings.{book_ends, clash_ends, limit_ends, run_done}
 use Rattle.replay.specs.Jobs.{clash_line, hashed_by}
@@ -32,8 +32,7 @@ use Rattle.turn_spec.proofs.Following.{grew_none}
 use Rattle.world_model.specs.Worlds.{run_of}
 use Rattle.world_model.specs.declared.error.WorldError.{WorldError}
 use Rattle.world_model.specs.declared.error.WorldError.TheVariants as worlds
-use Rattle.world_spec.specs.Messages.{IsWithinMessages}
-use Rattle.world_spec.specs.Runs.{Run}
+use Rattle.world_model.specs.WorldSpec.{IsWithinMessages, Run}
 use Rattle.cluster.specs.Endings.{IsStopText, IsUnread}
 use Rattle.cluster.specs.Ends.{BrokenOff, CameThere, Ends, Handed, HasRead, IsCluster, Recorded, ReplaysAs, RunEnds, Stopped, frames_before, opening, recorded_schedule}
 use Rattle.cluster.specs.Recorders.{IsOpened, IsUnopened, Reached, RecordsAll, StopsAt, StopsInLink, StopsInWorld}

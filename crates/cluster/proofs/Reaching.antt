@@ -9,7 +9,7 @@ use Rattle.cluster_spec.proofs.Recorded.{recorded_run}
 use Rattle.cluster_spec.specs.Messages.{AllRecorded, MayBeRecorded, mail_before}
 use Rattle.cluster_spec.specs.Recordings.{Recording, frame_out, frames_of, recorded, recorded_form}
 use Rattle.frame_index.specs.declared.index.FrameIndex.{FrameIndex}
-use Rattle.held_stores.specs.Held.{Account, HasHashed}
+use Rattle.world_model.specs.HeldStores.{Account, HasHashed}
 use Rattle.replay.proofs.Stops.{Doing, doing_last, doing_next, stops}
 use Rattle.replay.specs.Stops.{run_after}
 use Rattle.replay.specs.Worlds.{schedule_run}
@@ -21,9 +21,7 @@ use Rattle.wire_frames.specs.declared.frame.Frame.{Frame}
 use Rattle.world_model.specs.Worlds.{MayRefuse, run_of}
 use Rattle.world_model.specs.declared.error.WorldError.{WorldError}
 use Rattle.world_model.specs.declared.world.World.{World}
-use Rattle.world_spec.specs.Lines.{applied, run_of_schedule}
-use Rattle.world_spec.specs.Messages.{IsWithinMessages}
-use Rattle.world_spec.specs.Runs.{Run, unhashed}
+use Rattle.world_model.specs.WorldSpec.{applied, run_of_schedule, IsWithinMessages, Run, unhashed}
 use Rattle.cluster.specs.Ends.{CameThere, Handed, frames_before, frames_between, recorded_schedule, run_before, without_last}
 use Rattle.cluster.specs.Recorders.{IsInStep, Reached, Records, StopsAt, mail_in}
 use Rattle.cluster.specs.Sending.{HandedAll, HandedSome}

@@ -7,11 +7,11 @@ use Rattle.ens_outside.specs.declared.errors.LinkError.{LinkError}
 use Rattle.cluster_spec.specs.Messages.{MayBeRecorded, mail_before}
 use Rattle.cluster_spec.specs.Recordings.{Recording, recorded}
 use Rattle.frame_index.specs.declared.index.FrameIndex.{FrameIndex}
-use Rattle.held_stores.specs.Held.{Account}
+use Rattle.world_model.specs.HeldStores.{Account}
 use Rattle.schedule_text.specs.declared.event.ScheduleEvent.{ScheduleEvent}
 use Rattle.wire_frames.specs.declared.frame.Frame.{Frame}
 use Rattle.world_model.specs.Worlds.{run_of}
-use Rattle.world_spec.specs.Runs.{Run}
+use Rattle.world_model.specs.WorldSpec.{Run}
 use Rattle.cluster.specs.Recorders.{Applied, Applies, IsInStep, Reached, Records, StopsAt, mail_in}
 use Rattle.cluster.specs.Sending.{AddsTo, HandedAll, HandedSome}
 use Rattle.cluster.specs.declared.recorder.Recorder.{Recorder}

@@ -7,7 +7,7 @@ use Rattle.cluster_spec.specs.Recordings.{recorded_form}
 use Rattle.cluster_spec.proofs.Mails.{Posts, applied_posts, mail_before_is, posted_mail, sent_after, sent_before}
 use Rattle.cluster_spec.specs.Messages.{AllRecorded, IsRecorded, MayBeRecorded, mail_before}
 use Rattle.frame_index.specs.Indexes.{Indexes, queue_at}
-use Rattle.held_stores.specs.Held.{Account}
+use Rattle.world_model.specs.HeldStores.{Account}
 use Rattle.network.specs.Mail.{IsMail, Mail, most_messages}
 use Rattle.replay.proofs.Stops.{after_strings, opening_stops, run_last}
 use Rattle.replay.specs.Text.{record_text}
@@ -23,10 +23,8 @@ use Rattle.world_model.specs.Refusals.{IsCutOff}
 use Rattle.world_model.specs.Worlds.{MayRefuse, run_of}
 use Rattle.world_model.specs.declared.error.WorldError.{WorldError}
 use Rattle.world_model.specs.declared.world.World.{World}
-use Rattle.world_spec.proofs.Growth.{applied_same, peers_in}
-use Rattle.world_spec.specs.Lines.{applied}
-use Rattle.world_spec.specs.Messages.{IsWithinMessages}
-use Rattle.world_spec.specs.Runs.{Run, opening_run, posted_all, unhashed}
+use Rattle.world_model.proofs.WorldSpec.{applied_same, peers_in}
+use Rattle.world_model.specs.WorldSpec.{applied, IsWithinMessages, Run, opening_run, posted_all, unhashed}
 use Rattle.cluster.specs.Ends.{opening, recorded_schedule}
 use Rattle.cluster.specs.Recorders.{Applies, IsInStep, IsUnopened, mail_in}
 use Rattle.cluster.specs.Sending.{AddsTo}

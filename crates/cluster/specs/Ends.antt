@@ -9,7 +9,7 @@ use Rattle.cluster_script.specs.Scripts.{IsScript, ended, next_line, script_of}
 use Rattle.cluster_script.specs.declared.line.ScriptLine.{ScriptLine}
 use Rattle.cluster_script.specs.declared.line.ScriptLine.TheVariants.{Event, Turn}
 use Rattle.cluster_spec.specs.Recordings.{Follows, IsPart, Recording, frame_out, frames_of, heard, heard_all, nothing_recorded, recorded, recorded_form}
-use Rattle.held_stores.specs.Held.{Account, HasHashed}
+use Rattle.world_model.specs.HeldStores.{Account, HasHashed}
 use Rattle.line_reading.specs.Reading.{WasCutOff}
 use Rattle.replay.specs.Jobs.{PrintsWith, nothing_hashed}
 use Rattle.replay.specs.Text.{record_text}
@@ -19,9 +19,7 @@ use Rattle.schedule_text.specs.declared.error.ScheduleError.TheVariants as sched
 use Rattle.schedule_text.specs.declared.schedule.Schedule.{Schedule}
 use Rattle.schedule_words.specs.Spelling.{AreMembers}
 use Rattle.turn_spec.specs.Going.{Grew}
-use Rattle.world_spec.specs.Lines.{run_of_schedule}
-use Rattle.world_spec.specs.Messages.{IsWithinMessages}
-use Rattle.world_spec.specs.Runs.{Run}
+use Rattle.world_model.specs.WorldSpec.{run_of_schedule, IsWithinMessages, Run}
 
 -- 1 to 31 peers, and a view of them
 pub record IsCluster (w : ClusterWords) : Type 0 where

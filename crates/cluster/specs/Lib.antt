@@ -2,3 +2,4 @@ pub mod Endings
 pub mod Ends
 pub mod Recorders
 pub mod Sending
+pub mod Replay

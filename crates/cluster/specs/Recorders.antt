@@ -8,16 +8,14 @@ use Rattle.cluster_script.specs.declared.line.ScriptLine.{ScriptLine}
 use Rattle.cluster_spec.specs.Messages.{AllRecorded}
 use Rattle.cluster_spec.specs.Recordings.{Follows, IsPart, IsRunOf, Recording, frames_of, heard_all, recorded}
 use Rattle.frame_index.specs.Indexes.{Indexes}
-use Rattle.held_stores.specs.Held.{Account, HasHashed}
+use Rattle.world_model.specs.HeldStores.{Account, HasHashed}
 use Rattle.network.specs.Mail.{IsMail, Mail}
 use Rattle.replay.specs.Stops.{StopsIn}
 use Rattle.replay.specs.Worlds.{schedule_run}
 use Rattle.schedule_text.specs.declared.event.ScheduleEvent.{ScheduleEvent}
 use Rattle.world_model.specs.Worlds.{MayRefuse, run_of}
 use Rattle.world_model.specs.declared.error.WorldError.{WorldError}
-use Rattle.world_spec.specs.Lines.{applied}
-use Rattle.world_spec.specs.Messages.{IsWithinMessages}
-use Rattle.world_spec.specs.Runs.{unhashed}
+use Rattle.world_model.specs.WorldSpec.{applied, IsWithinMessages, unhashed}
 use Rattle.cluster.specs.Ends.{CameThere, Handed, IsPastLines, Looked, Went, frames_before, frames_between, opening, recorded_schedule}
 use Rattle.cluster.specs.declared.recorder.Recorder.{Recorder}
 use Rattle.cluster.specs.declared.stop.Stop.{Stop}

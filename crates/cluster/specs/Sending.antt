@@ -9,7 +9,7 @@ use Rattle.frame_index.specs.declared.index.FrameIndex.{FrameIndex}
 use Rattle.network.specs.Mail.{IsMail, Mail}
 use Rattle.turn_spec.specs.Going.{Grew}
 use Rattle.wire_frames.specs.declared.frame.Frame.{Frame}
-use Rattle.world_spec.specs.Runs.{posted_all}
+use Rattle.world_model.specs.WorldSpec.{posted_all}
 
 -- an index of the messages before becomes one of all, the first of these messages having this number
 abbrev pub AddsTo : List Frame → ℕ → FrameIndex → FrameIndex → Type 0

@@ -5,7 +5,7 @@ ghost use Rattle.cluster_script.specs.Scripts.{IsScript};
 ghost use Rattle.ens_base.specs.Causes.{Rose};
 ghost use Rattle.ens_base.specs.declared.status.Status.{Status};
 ghost use Rattle.ens_outside.specs.Written.{AppendsFront};
-ghost use Rattle.held_stores.specs.Held.{account};
+ghost use Rattle.world_model.specs.HeldStores.{account};
 
 use crate::ending::{Printout, stopped, unread};
 use crate::recorder::Recorder;

@@ -6,7 +6,7 @@ ghost use Rattle.cluster_script.specs.Scripts.{IsScript, MayBeLine};
 ghost use Rattle.cluster_spec.specs.Messages.{MayBeRecorded, mail_before};
 ghost use Rattle.cluster_spec.specs.Recordings.{Recording};
 ghost use Rattle.ens_base.specs.declared.peer_words.ClusterWords.{ClusterWords as Words};
-ghost use Rattle.held_stores.specs.Held.{Account, account};
+ghost use Rattle.world_model.specs.HeldStores.{Account, account};
 ghost use Rattle.replay.specs.Text.{IsTextOfRun, record_text};
 ghost use Rattle.schedule_text.specs.Spelling.{MayStand, schedule_text};
 ghost use Rattle.world_model.specs.Worlds.{run_of};
@@ -40,7 +40,8 @@ pub(crate) struct Recorder {
 
 impl Recorder {
     /// Starts the peers on empty stores. Nothing is recorded yet.
-    fn open<H: Hasher16>(
+    fn open<H: Hasher16, R: Threads + Sync>(
+        rt: &R,
         alloc: Global,
         words: &ClusterWords,
         hasher: &mut H,
@@ -51,12 +52,12 @@ impl Recorder {
     {
         let events = Seq::new(Vec::new(alloc));
         let schedule = Schedule {
-            form: Form::Two,
+            form: Form::Three,
             peers: words.peers,
             view: words.view,
             events,
         };
-        let world = World::open(alloc, &schedule, hasher)?;
+        let world = World::open(rt, alloc, &schedule, hasher)?;
         Ok(Recorder {
             world,
             schedule,
@@ -220,7 +221,7 @@ impl Recorder {
         requires script { IsScript words.now.peers script }
         ensures { RecordsAll L.sent L.given L.fault_count words.now (account H.kept H.clashes H.fulls hasher.old) link.old script result link.new (account H.kept H.clashes H.fulls hasher.new) }
     {
-        let mut recorder = Recorder::open(alloc, words, hasher)?;
+        let mut recorder = Recorder::open(rt, alloc, words, hasher)?;
         for line in script.into_vec() {
             recorder.line(rt, alloc, line, link, hasher)?;
         }

@@ -12,7 +12,7 @@ use std::test::Fail;
 const ALONE: &str = "tick 1 6\ncall 1 1 over 6b 76\ncall 1 2 get 6b\n";
 
 /// Its record: nothing is sent.
-const ALONE_RECORD: &str = "ensemble 2\npeers 1\nview 1\n\
+const ALONE_RECORD: &str = "ensemble 3\npeers 1\nview 1\n\
      tick 1 6\ncall 1 1 over 6b 76\ncall 1 2 get 6b\nanswers\n\
      answer 1 2 ok 1.1.1\nanswer 2 3 value 1.1.1 76\nhistory 6b 1 2\n";
 
@@ -20,7 +20,7 @@ const ALONE_RECORD: &str = "ensemble 2\npeers 1\nview 1\n\
 const THREE: &str = "tick 1 6\nturn 12\ncall 1 1 over 6b 76\nturn 8\n";
 
 /// Their record: each look gives the next message.
-const THREE_RECORD: &str = "ensemble 2\npeers 3\nview 1 2 3\ntick 1 6\n\
+const THREE_RECORD: &str = "ensemble 3\npeers 3\nview 1 2 3\ntick 1 6\n\
      deliver 1\ndeliver 2\ndeliver 3\ndeliver 4\ndeliver 5\ndeliver 6\n\
      deliver 7\ndeliver 8\ndeliver 9\ndeliver 10\ndeliver 11\ndeliver 12\n\
      call 1 1 over 6b 76\n\
@@ -29,7 +29,7 @@ const THREE_RECORD: &str = "ensemble 2\npeers 3\nview 1 2 3\ntick 1 6\n\
 
 /// A peer asks the two others, and both looks after the second give nothing.
 const IDLE_RECORD: &str =
-    "ensemble 2\npeers 3\nview 1 2 3\nstop 2\nstop 3\ntick 1 6\ndeliver 1\ndeliver 2\nanswers\n";
+    "ensemble 3\npeers 3\nview 1 2 3\nstop 2\nstop 3\ntick 1 6\ndeliver 1\ndeliver 2\nanswers\n";
 
 /// The words of so many peers, which are all members.
 fn all_members(alloc: Global, peers: u32) -> Result<ClusterWords, Fail>

@@ -11,8 +11,7 @@ use Rattle.register_model.specs.Orders.{order}
 use Rattle.register_model.specs.declared.history.History.{History}
 use Rattle.register_model.specs.declared.note.Note.{Note}
 use Rattle.replay.proofs.Members.{Contains_from_in, in_from_Contains}
-use Rattle.world_model.specs.Worlds.{run_of}
-use Rattle.world_model.specs.declared.world.World.{World}
+use Rattle.replay.specs.WorldModel.{run_of, World}
 use Rattle.ensemble_root.specs.Histories.{AreCalls, calls_in, filled, order_by, orders_by, with_calls}
 
 -- a key is found where its bytes are

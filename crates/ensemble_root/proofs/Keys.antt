@@ -33,8 +33,7 @@ use Rattle.root_script.specs.declared.script.RootScript.{RootScript}
 use Rattle.root_script.specs.declared.slots.Ensemble.TheVariants.{Root, Slot}
 use Rattle.schedule_text.specs.declared.event.ScheduleEvent.{ScheduleEvent}
 use Rattle.schedule_text.specs.declared.event.ScheduleEvent.TheVariants as line
-use Rattle.world_model.specs.Worlds.{run_of}
-use Rattle.world_model.specs.declared.world.World.{World}
+use Rattle.replay.specs.WorldModel.{run_of, World}
 use Rattle.world_spec.specs.Runs.{Run, opening_run, unhashed}
 use Rattle.ensemble_root.specs.Histories.{AreEmptyHistories, filled, order_by, orders_by, with_calls}
 use Rattle.ensemble_root.specs.Slots.{slot_history_line}

@@ -21,11 +21,7 @@ use Rattle.root_script.specs.declared.script.RootScript.{RootScript}
 use Rattle.root_script.specs.declared.slots.Ensemble.{Ensemble}
 use Rattle.root_script.specs.declared.slots.Ensemble.TheVariants.{Root, Slot}
 use Rattle.schedule_text.specs.declared.event.ScheduleEvent.{ScheduleEvent}
-use Rattle.world_model.specs.Peers.{node_of}
-use Rattle.world_model.specs.Worlds.{run_of}
-use Rattle.world_model.specs.declared.error.WorldError.{WorldError}
-use Rattle.world_model.specs.declared.error.WorldError.TheVariants.{Memory, MessageLimit}
-use Rattle.world_model.specs.declared.world.World.{World}
+use Rattle.replay.specs.WorldModel.{node_of, run_of, WorldError, Memory, MessageLimit, World}
 use Rattle.world_spec.proofs.Growth.{applied_same, peers_in}
 use Rattle.world_spec.specs.Lines.{applied, run_from}
 use Rattle.world_spec.specs.Messages.{IsWithinMessages}

@@ -1,10 +1,10 @@
 -- What a world prints: with each line of its schedule only lines of that event.
-use Rattle.std.proofs.Common.{◌≡◌, ℕ, zero, suc, ◌+◌, ◌-◌, ◌<◌, ◌≤◌, ◌^◌, Bool, Option, None, Some, List, [], ◌∷◌, ◌++◌, length, map, drop, refl, sym, ap, subst, ◌∙◌, arith, append-nil, append_assoc, inl, inr}
+use Rattle.std.proofs.Common.{◌≡◌, ℕ, zero, suc, ◌+◌, ◌-◌, ◌<◌, ◌≤◌, ◌^◌, Bool, true, false, nat_lt, if◌then◌else◌, Option, None, Some, List, [], ◌∷◌, ◌++◌, length, map, drop, refl, sym, ap, subst, ◌∙◌, arith, append-nil, append_assoc, inl, inr}
 use Rattle.std.specs.Prelude.{All, slice_get}
 use Rattle.std.proofs.lemmas.List.Elements.{All-nil, All-cons}
 use Rattle.ens_base.specs.Lists.{◌∈◌}
 use Rattle.leader_words.specs.declared.out.AnswerOut.{AnswerOut}
-use Rattle.network.specs.Mail.{settled, goes, is_among, oldest, most_messages}
+use Rattle.network.specs.Mail.{goes, is_among, oldest, most_messages}
 use Rattle.peer_state.specs.declared.event.Event.{Event}
 use Rattle.peer_state.specs.declared.event.Event.TheVariants as events
 use Rattle.register_model.specs.declared.answer.Answer.{Answer}
@@ -16,7 +16,7 @@ use Rattle.step_plans.specs.Plans.{Out}
 use Rattle.wire_frames.specs.declared.frame.Frame.{Frame}
 use Rattle.world_spec.specs.Lines.{call_of, everyone, set_of, effect, applied, keys_in, run_from}
 use Rattle.world_spec.specs.Nodes.{Node, taken, started, stopped, over_stores, while_down}
-use Rattle.world_spec.specs.Runs.{Run, mode_at, next_event, opening_run, answer_line, change_line, printed_by, place_of, stepped_at, stepped, changed_at, changed, ticked, received_if, delivered, delivered_if, going_on, calmed}
+use Rattle.world_spec.specs.Runs.{Run, mode_at, next_event, opening_run, answer_line, change_line, printed_by, place_of, stepped_at, stepped, changed_at, changed, may_deepen, deepened, with_deepening, ticked, received, without_waiting, received_if, delivered, delivered_if, going_on, calmed}
 use Rattle.world_spec.specs.Stores.{failing, leaves_of, spoiled, segment_spoiled, inner_spoiled, taken_back}
 use Rattle.root_runs.specs.Steps.{GrowByLine, IsAt, printed_next}
 use Rattle.root_runs.specs.Worlds.{answers_in}
@@ -96,9 +96,13 @@ module _ (n : ℕ) where
 
   received_prints : (f : Option Frame) (k : ℕ) (w : Run) → IsNext w → Prints n w (received_if f k w)
   received_prints None k w is = quiet w w refl refl refl
-  received_prints (Some f) k w is =
-      let a = stepped_prints f.to (events.Deliver f.from f.message) (record w { mail = settled w.mail k }) is in
-      record { lines = a.lines; printed = a.printed; at = a.at; events = a.events; called = a.called }
+  received_prints (Some f) k w is = by (nat_lt k w.first_alive)
+    where
+      by : (lost : Bool) → Prints n w (if lost then without_waiting k w else received f k w)
+      by true = quiet w (without_waiting k w) refl refl refl
+      by false =
+          let a = stepped_prints f.to (events.Deliver f.from f.message) (without_waiting k w) is in
+          record { lines = a.lines; printed = a.printed; at = a.at; events = a.events; called = a.called }
 
   delivered_prints : (k : ℕ) (w : Run) → IsNext w → Prints n w (delivered k w)
   delivered_prints k w is = received_prints (slice_get w.mail.sent k) k w is
@@ -129,6 +133,13 @@ module _ (n : ℕ) where
   hashing_prints : (peer : ℕ) (change : Node → Node) (strings : List (List ℕ)) (w : Run) → Prints n w (record (changed peer change w) { hashed = (changed peer change w).hashed ++ strings })
   hashing_prints peer change strings w = let a = changed_prints peer change w in record { lines = a.lines; printed = a.printed; at = a.at; events = a.events; called = a.called }
 
+  deepening_prints : (w : Run) → Prints n w (with_deepening w)
+  deepening_prints w = by (may_deepen w)
+    where
+      by : (b : Bool) → Prints n w (if b then deepened w else w)
+      by true = quiet w (deepened w) refl refl refl
+      by false = quiet w w refl refl refl
+
   effect_prints : (event : ScheduleEvent) (w : Run) → IsNext w → Prints n w (effect event w)
   effect_prints (Call peer id key command) w is = stepped_prints peer (events.Call (call_of id key command)) w is
   effect_prints (Tick peer ticks) w is = ticked_prints peer ticks w is
@@ -141,7 +152,7 @@ module _ (n : ℕ) where
   effect_prints (Stop peer) w is = changed_prints peer stopped w
   effect_prints (Start peer) w is = hashing_prints peer (started (mode_at peer w) w.view) _ w
   effect_prints (Upgrade peer) w is = quiet w (effect (Upgrade peer) w) refl refl refl
-  effect_prints Deepen w is = quiet w w refl refl refl
+  effect_prints Deepen w is = deepening_prints w
   effect_prints (Spoil peer key bytes) w is = changed_prints peer (over_stores (spoiled key bytes)) w
   effect_prints (Damage peer key bytes) w is = hashing_prints peer (over_stores (segment_spoiled key bytes)) _ w
   effect_prints (Inner peer level index bytes) w is = changed_prints peer (over_stores (inner_spoiled level index bytes)) w

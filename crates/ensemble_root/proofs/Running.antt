@@ -15,11 +15,7 @@ use Rattle.root_script.specs.declared.event.RootEvent.{RootEvent}
 use Rattle.root_script.specs.declared.script.RootScript.{RootScript}
 use Rattle.root_script.specs.declared.slots.Ensemble.{Ensemble}
 use Rattle.schedule_text.specs.declared.event.ScheduleEvent.{ScheduleEvent}
-use Rattle.world_model.specs.Refusals.{IsCutOff}
-use Rattle.world_model.specs.Worlds.{MayRefuse, run_of}
-use Rattle.world_model.specs.declared.error.WorldError.{WorldError}
-use Rattle.world_model.specs.declared.error.WorldError.TheVariants.{BookFull, Clash, Memory, MessageLimit}
-use Rattle.world_model.specs.declared.world.World.{World}
+use Rattle.replay.specs.WorldModel.{IsCutOff, MayRefuse, run_of, WorldError, BookFull, Clash, Memory, MessageLimit, World}
 use Rattle.world_spec.proofs.Fronts.{applied_front}
 use Rattle.world_spec.specs.Lines.{applied}
 use Rattle.world_spec.specs.Messages.{IsPastMessages, IsWithinMessages}

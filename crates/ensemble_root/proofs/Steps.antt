@@ -18,12 +18,8 @@ use Rattle.root_script.specs.declared.event.RootEvent.{RootEvent}
 use Rattle.root_script.specs.declared.script.RootScript.{RootScript}
 use Rattle.root_script.specs.declared.slots.Ensemble.TheVariants.{Root, Slot}
 use Rattle.schedule_text.specs.declared.event.ScheduleEvent.{ScheduleEvent}
-use Rattle.world_model.proofs.Reached.{cut_off_after, cut_off_further}
-use Rattle.world_model.specs.Refusals.{IsCutOff}
-use Rattle.world_model.specs.Worlds.{MayRefuse, Reaches, run_of}
-use Rattle.world_model.specs.declared.error.WorldError.{WorldError}
-use Rattle.world_model.specs.declared.error.WorldError.TheVariants.{BookFull, Clash, Memory, MessageLimit}
-use Rattle.world_model.specs.declared.world.World.{World}
+use Rattle.replay.proofs.WorldModel.{cut_off_after, cut_off_further}
+use Rattle.replay.specs.WorldModel.{IsCutOff, MayRefuse, Reaches, run_of, WorldError, BookFull, Clash, Memory, MessageLimit, World}
 use Rattle.world_spec.specs.Lines.{applied}
 use Rattle.world_spec.specs.Messages.{IsWithinMessages}
 use Rattle.world_spec.specs.Runs.{Run, opening_run, unhashed}

@@ -31,7 +31,7 @@ use Rattle.schedule_text.specs.Spelling.{AllMayStand, call_ids}
 use Rattle.schedule_text.specs.declared.event.ScheduleEvent.{ScheduleEvent}
 use Rattle.schedule_text.specs.declared.event.ScheduleEvent.TheVariants as line
 use Rattle.sync_laws.specs.Facts.{AreFirm, Lines}
-use Rattle.tree_refinement.specs.Trees.{AreFree}
+use Rattle.call_refinement.specs.TreeRefinement.{AreFree}
 use Rattle.world_spec.specs.Runs.{Run, opening_run}
 use Rattle.ensemble_root.specs.Worlds.{newest, world, worlds}
 use Rattle.ensemble_root.proofs.Printing.{answer_by, world_by}

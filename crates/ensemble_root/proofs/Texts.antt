@@ -14,7 +14,7 @@ use Rattle.root_runs.specs.Text.{IsTextOf, key_line, keys_in, printed_line, slot
 use Rattle.root_script.specs.Spelling.{IsScript}
 use Rattle.root_script.specs.declared.script.RootScript.{RootScript}
 use Rattle.std.specs.Prelude.{map, None}
-use Rattle.world_model.specs.Worlds.{run_of}
+use Rattle.replay.specs.WorldModel.{run_of}
 use Rattle.ensemble_root.specs.Histories.{AreEmptyHistories, filled, orders_by}
 use Rattle.ensemble_root.specs.Slots.{slot_history_line}
 use Rattle.ensemble_root.specs.Standing.{Stands}

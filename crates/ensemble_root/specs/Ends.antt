@@ -8,9 +8,7 @@ use Rattle.root_script.specs.declared.event.RootEvent.{RootEvent}
 use Rattle.root_script.specs.declared.script.RootScript.{RootScript}
 use Rattle.root_script.specs.declared.slots.Ensemble.{Ensemble}
 use Rattle.schedule_text.specs.declared.event.ScheduleEvent.{ScheduleEvent}
-use Rattle.world_model.specs.Refusals.{IsCutOff}
-use Rattle.world_model.specs.declared.error.WorldError.{WorldError}
-use Rattle.world_model.specs.declared.error.WorldError.TheVariants.{MessageLimit}
+use Rattle.replay.specs.WorldModel.{IsCutOff, WorldError, MessageLimit}
 use Rattle.world_spec.specs.Messages.{IsPastMessages}
 use Rattle.ensemble_root.specs.Hashed.{hashed_by}
 use Rattle.ensemble_root.specs.Worlds.{branch_next, events_in, worlds}

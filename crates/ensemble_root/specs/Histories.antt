@@ -9,8 +9,7 @@ use Rattle.register_model.specs.declared.history.History.{History}
 use Rattle.root_runs.specs.Runs.{key_history}
 use Rattle.root_runs.specs.Text.{keys_in}
 use Rattle.root_script.specs.declared.script.RootScript.{RootScript}
-use Rattle.world_model.specs.Worlds.{run_of}
-use Rattle.world_model.specs.declared.world.World.{World}
+use Rattle.replay.specs.WorldModel.{run_of, World}
 use Rattle.ensemble_root.specs.Worlds.{worlds}
 
 -- the calls of the history of a key, or else these

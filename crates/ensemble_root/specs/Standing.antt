@@ -14,11 +14,7 @@ use Rattle.root_script.specs.Progress.{has_id}
 use Rattle.root_script.specs.declared.event.RootEvent.{RootEvent}
 use Rattle.root_script.specs.declared.script.RootScript.{RootScript}
 use Rattle.root_script.specs.declared.slots.Ensemble.{Ensemble}
-use Rattle.world_model.specs.Refusals.{IsCutOff}
-use Rattle.world_model.specs.Worlds.{run_of}
-use Rattle.world_model.specs.declared.error.WorldError.{WorldError}
-use Rattle.world_model.specs.declared.error.WorldError.TheVariants.{MessageLimit}
-use Rattle.world_model.specs.declared.world.World.{World}
+use Rattle.replay.specs.WorldModel.{IsCutOff, run_of, WorldError, MessageLimit, World}
 use Rattle.world_spec.specs.Messages.{IsWithinMessages}
 use Rattle.world_spec.specs.Runs.{unhashed}
 use Rattle.ensemble_root.specs.Ends.{as_opening}

@@ -9,10 +9,10 @@ ghost use Rattle.ensemble_root.specs.Histories.{AreCalls, AreEmptyHistories, cal
 use ens_base::{Key, Seq};
 use history_scribe::Scribe;
 use register_model::History;
+use replay::World;
 use root_script::{RootEvent, RootScript};
 use std::alloc::{AllocError, Global};
 use std::collections::BTreeMap;
-use world_model::World;
 
 /// Appends the key of a routed call, and nothing for another event.
 fn push_key(alloc: Global, keys: &mut Vec<Key>, event: &RootEvent) -> Result<(), AllocError>

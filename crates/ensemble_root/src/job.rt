@@ -14,13 +14,12 @@ use crate::run::{RootRun, run_root};
 use ens_base::Status;
 use ens_hashing::{HashBook, Hasher16};
 use ens_outside::{Sink, Source, finish, write_all};
-use replay::clash_text;
+use replay::{WorldError, clash_text};
 use root_input::{read_script, unread};
 use root_script::RootScript;
 use schedule_input::Ending;
 use std::alloc::{AllocError, Global};
 use std::thread::Threads;
-use world_model::WorldError;
 
 /// The number of bytes that the book of a root keeps.
 const BOOK_LIMIT: u64 = 1_073_741_824;

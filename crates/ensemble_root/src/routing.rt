@@ -5,17 +5,16 @@ ghost use Rattle.held_stores.specs.Held.{HasHashed, account};
 ghost use Rattle.ens_base.specs.declared.command.Command.TheVariants as commands;
 ghost use Rattle.root_runs.specs.Lines.{ensemble_of as ensemble_in, own_event as own_of};
 ghost use Rattle.root_runs.specs.Slots.{slot_key as key_of_slot, slot_of as slot_of_key};
-ghost use Rattle.world_model.specs.Refusals.{IsCutOff};
-ghost use Rattle.world_model.specs.declared.error.WorldError.TheVariants.{Memory};
+ghost use Rattle.replay.specs.WorldModel.{IsCutOff, Memory};
 ghost use Rattle.ensemble_root.specs.Hashed.{routed_hashed};
 
 use ens_base::{Bytes, Command, Key, LengthError, Value, View};
 use ens_fields::put_view;
 use ens_hashing::{HashError, Hasher16};
+use replay::WorldError;
 use root_script::{Ensemble, RootEvent};
 use schedule_text::ScheduleEvent;
 use std::alloc::Global;
-use world_model::WorldError;
 
 /// Returns the slot of a key: the first six bits of its MD5. The hasher takes the key.
 fn slot_of<H: Hasher16>(alloc: Global, key: &Key, hasher: &mut H) -> Result<u8, WorldError>

@@ -17,10 +17,10 @@ use crate::worlds::RootWorlds;
 use ens_base::View;
 use ens_hashing::Hasher16;
 use history_scribe::write_text;
+use replay::WorldError;
 use root_script::RootScript;
 use std::alloc::{AllocError, Global};
 use std::thread::Threads;
-use world_model::WorldError;
 
 /// What the run of a script gave.
 #[derive(Drop)]
@@ -45,7 +45,7 @@ fn run_lines<H: Hasher16, R: Threads + Sync>(
     ensures stops { IfErr result (IsStopped script.now (account H.kept H.clashes H.fulls hasher.old) (account H.kept H.clashes H.fulls hasher.new)) }
 {
     let places = places_of(alloc, script)?;
-    let mut run = RootWorlds::open(alloc, script, hasher)?;
+    let mut run = RootWorlds::open(rt, alloc, script, hasher)?;
     for place in 0..script.events.as_slice().len() {
         run.apply(rt, alloc, script, &places, place, hasher)?;
     }

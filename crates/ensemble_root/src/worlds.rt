@@ -12,8 +12,7 @@ ghost use Rattle.root_script.specs.Spelling.{IsScript, MayStand as MayBeLine};
 ghost use Rattle.root_script.specs.declared.event.RootEvent.{RootEvent as RootLine};
 ghost use Rattle.root_script.specs.declared.slots.Ensemble.TheVariants.{Root, Slot};
 ghost use Rattle.schedule_text.specs.Spelling.{MayStand};
-ghost use Rattle.world_model.specs.Refusals.{IsCutOff};
-ghost use Rattle.world_model.specs.Worlds.{Reaches, run_of};
+ghost use Rattle.replay.specs.WorldModel.{IsCutOff, Reaches, run_of};
 ghost use Rattle.world_spec.specs.Lines.{applied};
 ghost use Rattle.world_spec.specs.Runs.{opening_run, unhashed};
 ghost use Rattle.ensemble_root.specs.Ends.{PassesWith};
@@ -26,12 +25,12 @@ use crate::routing::{ensemble_of, own_event};
 use crate::text::{push_answer, push_lines};
 use ens_base::{Reply, Seq, View};
 use ens_hashing::Hasher16;
+use replay::{World, WorldError};
 use root_script::{Ensemble, RootEvent, RootScript};
 use schedule_text::{Form, Schedule, ScheduleEvent};
 use std::alloc::Global;
 use std::collections::BTreeMap;
 use std::thread::Threads;
-use world_model::{World, WorldError};
 
 /// The root, the ensembles of the slots that are open, and what they printed.
 #[derive(Drop)]
@@ -45,7 +44,8 @@ pub(crate) struct RootWorlds {
 }
 
 /// Opens the world of an ensemble of so many peers, of the newest form.
-fn open_world<H: Hasher16>(
+fn open_world<H: Hasher16, R: Threads + Sync>(
+    rt: &R,
     alloc: Global,
     peers: u32,
     view: View,
@@ -62,7 +62,7 @@ fn open_world<H: Hasher16>(
         view,
         events: Seq::new(Vec::new(alloc)),
     };
-    World::open(alloc, &opening, hasher)
+    World::open(rt, alloc, &opening, hasher)
 }
 
 /// Applies an event to a world, and appends the lines that this prints, with the number of the event in the
@@ -107,7 +107,8 @@ fn refuse(
 
 impl RootWorlds {
     /// Opens the root.
-    pub fn open<H: Hasher16>(
+    pub fn open<H: Hasher16, R: Threads + Sync>(
+        rt: &R,
         alloc: Global,
         script: &RootScript,
         hasher: &mut H,
@@ -118,7 +119,7 @@ impl RootWorlds {
         ensures error { IfErr result (IsCutOff (opening_run newest script.now.peers script.now.view).hashed (account H.kept H.clashes H.fulls hasher.old) (account H.kept H.clashes H.fulls hasher.new)) }
     {
         Ok(RootWorlds {
-            root: open_world(alloc, script.peers, script.view, hasher)?,
+            root: open_world(rt, alloc, script.peers, script.view, hasher)?,
             slots: BTreeMap::new(alloc),
             opened: Vec::new(alloc),
             text: String::new(alloc),
@@ -126,8 +127,9 @@ impl RootWorlds {
     }
 
     /// Opens a slot with a view, unless it is open.
-    fn open_slot<H: Hasher16>(
+    fn open_slot<H: Hasher16, R: Threads + Sync>(
         &mut self,
+        rt: &R,
         alloc: Global,
         script: &RootScript,
         number: u32,
@@ -143,13 +145,14 @@ impl RootWorlds {
         if self.slots.contains_key(&slot) {
             Ok(())
         } else {
-            self.open_new(alloc, script, number, slot, view, hasher)
+            self.open_new(rt, alloc, script, number, slot, view, hasher)
         }
     }
 
     /// Opens a slot that is not open, with a view.
-    fn open_new<H: Hasher16>(
+    fn open_new<H: Hasher16, R: Threads + Sync>(
         &mut self,
+        rt: &R,
         alloc: Global,
         script: &RootScript,
         number: u32,
@@ -163,15 +166,16 @@ impl RootWorlds {
         ensures goes { (r : Roots) → Stands script.now r self.old → Goes script.now (open_slot number slot view (r.slots slot) r) (opened_hashed script.now (opened_since r (open_slot number slot view (r.slots slot) r))) (Unit {0}) (account H.kept H.clashes H.fulls hasher.old) (account H.kept H.clashes H.fulls hasher.new) self.new result }
         ensures error { result ≢ Err WorldError.MessageLimit }
     {
-        let world = open_world(alloc, script.peers, view, hasher)?;
+        let world = open_world(rt, alloc, script.peers, view, hasher)?;
         self.slots.insert(slot, world)?;
         self.opened.push((slot, view, number))?;
         Ok(())
     }
 
     /// Opens the slot that the line of the root at this place says is open.
-    fn open_by<H: Hasher16>(
+    fn open_by<H: Hasher16, R: Threads + Sync>(
         &mut self,
+        rt: &R,
         alloc: Global,
         script: &RootScript,
         places: &BTreeMap<u64, usize>,
@@ -187,14 +191,15 @@ impl RootWorlds {
         ensures error { result ≢ Err WorldError.MessageLimit }
     {
         match told_by(script, places, &self.root.printed()[place]) {
-            Some((slot, view)) => self.open_slot(alloc, script, number, slot, view, hasher),
+            Some((slot, view)) => self.open_slot(rt, alloc, script, number, slot, view, hasher),
             None => Ok(()),
         }
     }
 
     /// Opens the slots that the lines of the root behind the first ones say are open.
-    fn open_told<H: Hasher16>(
+    fn open_told<H: Hasher16, R: Threads + Sync>(
         &mut self,
+        rt: &R,
         alloc: Global,
         script: &RootScript,
         places: &BTreeMap<u64, usize>,
@@ -208,7 +213,7 @@ impl RootWorlds {
         ensures error { result ≢ Err WorldError.MessageLimit }
     {
         for place in before..self.root.printed().len() {
-            self.open_by(alloc, script, places, number, place, hasher)?;
+            self.open_by(rt, alloc, script, places, number, place, hasher)?;
         }
         Ok(())
     }
@@ -240,7 +245,7 @@ impl RootWorlds {
             &mut self.text,
             hasher,
         )?;
-        self.open_told(alloc, script, places, number, before, hasher)
+        self.open_told(rt, alloc, script, places, number, before, hasher)
     }
 
     /// Applies an event to the ensemble of a slot. If the slot is not open, answers a call with `unavailable`, and

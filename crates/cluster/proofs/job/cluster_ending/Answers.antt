@@ -1,7 +1,7 @@
 use Rattle.std.proofs.Common.{◌∙◌, ◌++◌, ◌∷◌, [], codes, sym}
 use Rattle.std.proofs.lemmas.Result.{IfOk-weaker}
 use Rattle.ens_base.specs.declared.status.Status.TheVariants as Status
-use Rattle.held_stores.specs.Held.{account}
+use Rattle.world_model.specs.HeldStores.{account}
 use Rattle.cluster.proofs.Outcomes.{OnErr-weaker, ended_as, ends_as, on_err, read_whole, run_status, script_ends, unread_ends, unread_memory, unread_read, unread_status}
 use Rattle.cluster.proofs.job.cluster_ending.Goals as goal
 

@@ -1,5 +1,5 @@
 use Rattle.held_stores.specs.Held.{account}
-use Rattle.world_model.proofs.Hashed.{clashed_one, filled_one}
+use Rattle.replay.proofs.WorldModel.{clashed_one, filled_one}
 use Rattle.ensemble_root.proofs.routing.slot_of.Goals as goal
 
 pub returns-in-Err-Clash-clause-error : goal.returns-in-Err-Clash-clause-error

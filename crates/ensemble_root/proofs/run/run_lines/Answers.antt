@@ -3,7 +3,7 @@ use Rattle.std.proofs.lemmas.Grind.{common_steps}
 use Rattle.ens_hashing.specs.Hashing.{Book}
 use Rattle.held_stores.proofs.Taken.{are_apart}
 use Rattle.held_stores.specs.Held.{HasTaken}
-use Rattle.world_model.proofs.Reached.{errs}
+use Rattle.replay.proofs.WorldModel.{errs}
 use Rattle.ensemble_root.specs.Ends.{IsStopped}
 use Rattle.ensemble_root.specs.Hashed.{hashed_by}
 use Rattle.ensemble_root.proofs.Lists.{some_at}

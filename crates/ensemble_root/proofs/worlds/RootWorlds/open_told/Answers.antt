@@ -1,6 +1,6 @@
 use Rattle.std.proofs.Common.{arith, ◌≡◌, ◌<◌, ◌≤◌, ◌∙◌, Some, length, slice_get, ap}
 use Rattle.std.proofs.lemmas.Grind.{common_steps}
-use Rattle.world_model.specs.Worlds.{run_of}
+use Rattle.replay.specs.WorldModel.{run_of}
 use Rattle.ensemble_root.proofs.Lists.{some_at}
 use Rattle.ensemble_root.proofs.Steps.{after_lines, goes_err, lines_next, lines_refused}
 use Rattle.ensemble_root.proofs.worlds.RootWorlds.open_told.Goals as goal

@@ -1,7 +1,7 @@
 use Rattle.std.proofs.Common.{◌≡◌, drop, take}
 use Rattle.held_stores.specs.Held.{HasHashed, account}
 use Rattle.root_runs.specs.Steps.{Roots, open_lines}
-use Rattle.world_model.specs.Worlds.{run_of}
+use Rattle.replay.specs.WorldModel.{run_of}
 use Rattle.ensemble_root.specs.Hashed.{opened_hashed, opened_since}
 use Rattle.ensemble_root.specs.Standing.{Stands}
 use Rattle.ensemble_root.proofs.worlds.RootWorlds.open_told.Given as goal
