@@ -62,7 +62,7 @@ impl Client {
             body.extend_from_slice(&VALUE);
         }
         self.frame.clear();
-        self.frame.extend_from_slice(b"RE\x01\x12");
+        self.frame.extend_from_slice(b"RE\x02\x12");
         self.frame.extend_from_slice(&self.me.to_be_bytes());
         self.frame.extend_from_slice(&self.peer.to_be_bytes());
         self.frame.extend_from_slice(&(body.len() as u16).to_be_bytes());
@@ -218,7 +218,7 @@ fn storm(port: u16, peers: u32, datagrams: u64) {
     let socket = UdpSocket::bind(("127.0.0.1", 0)).unwrap();
     let mut random = Sequence(1);
     let beat = |from: u32, to: u32| {
-        let mut frame = b"RE\x01\x11".to_vec();
+        let mut frame = b"RE\x02\x11".to_vec();
         frame.extend_from_slice(&from.to_be_bytes());
         frame.extend_from_slice(&to.to_be_bytes());
         frame.extend_from_slice(&12u16.to_be_bytes());

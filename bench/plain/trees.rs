@@ -1,8 +1,9 @@
 // The tree of `benchmarks` in plain Rust, with std alone and the MD5 by hand: 20,000 inserts, 20,000
 // gets, 20 scans and 20 builds over nodes in memory, on one thread. As in `benchmarks`, a key is a
-// string of bytes, and an entry has a key, a version and a digest.
+// string of bytes, and an entry has a key, a version and a digest. The words `two` and `many` mean what
+// they mean there: version two of the tree, and 200,000 entries, which are scanned and built twice.
 //
-//     rustc --edition 2021 -O -o /tmp/trees bench/plain/trees.rs && /tmp/trees
+//     rustc --edition 2021 -O -o /tmp/trees bench/plain/trees.rs && /tmp/trees && /tmp/trees two many
 use std::collections::BTreeMap;
 use std::time::Instant;
 type Name = [u8; 16];
@@ -19,6 +20,23 @@ struct Entry {
     digest: Name,
 }
 type Nodes = BTreeMap<Name, Vec<u8>>;
+// A version of the tree: the first byte of an inner node and of a segment, and the level of segments.
+#[derive(Clone, Copy)]
+struct Shape {
+    inner: u8,
+    segment: u8,
+    levels: u8,
+}
+const ONE: Shape = Shape {
+    inner: 1,
+    segment: 2,
+    levels: 3,
+};
+const TWO: Shape = Shape {
+    inner: 3,
+    segment: 4,
+    levels: 5,
+};
 
 fn table() -> [u32; 64] {
     let mut k = [0u32; 64];
@@ -97,8 +115,8 @@ fn header(tag: u8, level: u8, index: u32, room: usize) -> Vec<u8> {
     o.extend_from_slice(&index.to_be_bytes());
     o
 }
-fn encode_inner(level: u8, index: u32, cs: &[Option<Name>]) -> Vec<u8> {
-    let mut o = header(1, level, index, 264);
+fn encode_inner(shape: Shape, level: u8, index: u32, cs: &[Option<Name>]) -> Vec<u8> {
+    let mut o = header(shape.inner, level, index, 264);
     let mut mask = 0u16;
     let mut bit = 1u16;
     for c in cs {
@@ -115,8 +133,8 @@ fn encode_inner(level: u8, index: u32, cs: &[Option<Name>]) -> Vec<u8> {
     }
     o
 }
-fn encode_segment(level: u8, index: u32, es: &[Entry]) -> Vec<u8> {
-    let mut o = header(2, level, index, 256);
+fn encode_segment(shape: Shape, index: u32, es: &[Entry]) -> Vec<u8> {
+    let mut o = header(shape.segment, shape.levels, index, 256);
     o.extend_from_slice(&(es.len() as u32).to_be_bytes());
     for e in es {
         o.push(e.key.len() as u8);
@@ -128,8 +146,8 @@ fn encode_segment(level: u8, index: u32, es: &[Entry]) -> Vec<u8> {
     }
     o
 }
-fn decode_inner(b: &[u8], level: u8, index: u32) -> Option<Vec<Option<Name>>> {
-    if b.len() < 8 || b[0] != 1 || b[1] != level || b[2..6] != index.to_be_bytes() {
+fn decode_inner(shape: Shape, b: &[u8], level: u8, index: u32) -> Option<Vec<Option<Name>>> {
+    if b.len() < 8 || b[0] != shape.inner || b[1] != level || b[2..6] != index.to_be_bytes() {
         return None;
     }
     let mut mask = u16::from_be_bytes([b[6], b[7]]);
@@ -150,8 +168,8 @@ fn decode_inner(b: &[u8], level: u8, index: u32) -> Option<Vec<Option<Name>>> {
     }
     Some(cs)
 }
-fn decode_segment(b: &[u8], level: u8, index: u32) -> Option<Vec<Entry>> {
-    if b.len() < 10 || b[0] != 2 || b[1] != level || b[2..6] != index.to_be_bytes() {
+fn decode_segment(shape: Shape, b: &[u8], index: u32) -> Option<Vec<Entry>> {
+    if b.len() < 10 || b[0] != shape.segment || b[1] != shape.levels || b[2..6] != index.to_be_bytes() {
         return None;
     }
     let count = u32::from_be_bytes([b[6], b[7], b[8], b[9]]);
@@ -196,7 +214,7 @@ fn store(m: &Md5, nodes: &mut Nodes, b: Vec<u8>) -> Name {
 fn put_under(
     m: &Md5,
     nodes: &mut Nodes,
-    height: u32,
+    shape: Shape,
     level: u8,
     index: u32,
     named: Option<Name>,
@@ -207,9 +225,9 @@ fn put_under(
         Some(n) => Some(fetch(m, nodes, n)?),
         None => None,
     };
-    if height == 0 {
+    if level == shape.levels {
         let mut es = match bytes {
-            Some(b) => decode_segment(&b, level, index)?,
+            Some(b) => decode_segment(shape, &b, index)?,
             None => Vec::new(),
         };
         match es.iter().position(|x| x.key >= e.key) {
@@ -217,10 +235,10 @@ fn put_under(
             Some(i) => es.insert(i, e),
             None => es.push(e),
         }
-        return Some(store(m, nodes, encode_segment(level, index, &es)));
+        return Some(store(m, nodes, encode_segment(shape, index, &es)));
     }
     let mut cs = match bytes {
-        Some(b) => decode_inner(&b, level, index)?,
+        Some(b) => decode_inner(shape, &b, level, index)?,
         None => vec![None; 16],
     };
     let d = digit(h, level as u32);
@@ -228,7 +246,7 @@ fn put_under(
     let n = put_under(
         m,
         nodes,
-        height - 1,
+        shape,
         level + 1,
         index * 16 + d as u32,
         child,
@@ -236,12 +254,12 @@ fn put_under(
         e,
     )?;
     cs[d as usize] = Some(n);
-    Some(store(m, nodes, encode_inner(level, index, &cs)))
+    Some(store(m, nodes, encode_inner(shape, level, index, &cs)))
 }
 fn find(
     m: &Md5,
     nodes: &Nodes,
-    height: u32,
+    shape: Shape,
     level: u8,
     index: u32,
     n: &Name,
@@ -249,17 +267,17 @@ fn find(
     key: &[u8],
 ) -> Option<Entry> {
     let b = fetch(m, nodes, n)?;
-    if height == 0 {
-        return decode_segment(&b, level, index)?
+    if level == shape.levels {
+        return decode_segment(shape, &b, index)?
             .into_iter()
             .find(|e| e.key == key);
     }
-    let cs = decode_inner(&b, level, index)?;
+    let cs = decode_inner(shape, &b, level, index)?;
     let d = digit(h, level as u32);
     find(
         m,
         nodes,
-        height - 1,
+        shape,
         level + 1,
         index * 16 + d as u32,
         cs[d as usize].as_ref()?,
@@ -267,13 +285,13 @@ fn find(
         key,
     )
 }
-fn scan(m: &Md5, nodes: &Nodes, top: &Name) -> Vec<Entry> {
+fn scan(m: &Md5, nodes: &Nodes, shape: Shape, top: &Name) -> Vec<Entry> {
     let mut level = vec![(0u32, *top)];
-    for depth in 0..3u8 {
+    for depth in 0..shape.levels {
         let mut next = Vec::new();
         for (i, n) in &level {
             if let Some(b) = fetch(m, nodes, n) {
-                if let Some(cs) = decode_inner(&b, depth, *i) {
+                if let Some(cs) = decode_inner(shape, &b, depth, *i) {
                     for (c, o) in cs.iter().enumerate() {
                         if let Some(n) = o {
                             next.push((i * 16 + c as u32, *n));
@@ -287,7 +305,7 @@ fn scan(m: &Md5, nodes: &Nodes, top: &Name) -> Vec<Entry> {
     let mut all = Vec::new();
     for (i, n) in &level {
         if let Some(b) = fetch(m, nodes, n) {
-            if let Some(es) = decode_segment(&b, 3, *i) {
+            if let Some(es) = decode_segment(shape, &b, *i) {
                 all.extend(es);
             }
         }
@@ -295,48 +313,52 @@ fn scan(m: &Md5, nodes: &Nodes, top: &Name) -> Vec<Entry> {
     all.sort_by(|a, b| a.key.cmp(&b.key));
     all
 }
-fn build(m: &Md5, es: &[Entry]) -> (Name, Vec<(Name, Vec<u8>)>) {
-    let mut buckets: Vec<Vec<Entry>> = (0..4096).map(|_| Vec::new()).collect();
-    for e in es {
-        let h = m.digest(&e.key);
-        buckets[digit(&h, 0) as usize * 256 + digit(&h, 1) as usize * 16 + digit(&h, 2) as usize]
-            .push(e.clone());
-    }
+// The index of a key's segment: its first digits, four bits each.
+fn segment_of(shape: Shape, h: &Name) -> u32 {
+    (0..shape.levels as u32).fold(0, |index, level| index * 16 + digit(h, level) as u32)
+}
+fn build(m: &Md5, shape: Shape, es: &[Entry]) -> (Name, Vec<(Name, Vec<u8>)>) {
+    let mut order: Vec<(u32, usize)> = (0..es.len())
+        .map(|i| (segment_of(shape, &m.digest(&es[i].key)), i))
+        .collect();
+    order.sort();
     let mut nodes = Vec::new();
-    let mut names = Vec::new();
-    for (i, b) in buckets.iter().enumerate() {
-        if b.is_empty() {
-            names.push(None)
-        } else {
-            let t = encode_segment(3, i as u32, b);
-            let n = m.digest(&t);
-            names.push(Some(n));
-            nodes.push((n, t));
-        }
+    let mut names: Vec<(u32, Name)> = Vec::new();
+    for run in order.chunk_by(|a, b| a.0 == b.0) {
+        let held: Vec<Entry> = run.iter().map(|&(_, i)| es[i].clone()).collect();
+        let t = encode_segment(shape, run[0].0, &held);
+        let n = m.digest(&t);
+        names.push((run[0].0, n));
+        nodes.push((n, t));
     }
     let mut top = [0; 16];
-    for level in (0..3u8).rev() {
+    for level in (0..shape.levels).rev() {
+        if level == 0 && names.is_empty() {
+            let t = encode_inner(shape, 0, 0, &[]);
+            top = m.digest(&t);
+            nodes.push((top, t));
+        }
         let mut above = Vec::new();
-        for (i, g) in names.chunks(16).enumerate() {
-            if g.iter().all(|n| n.is_none()) && level > 0 {
-                above.push(None)
-            } else {
-                let t = encode_inner(level, i as u32, g);
-                let n = m.digest(&t);
-                above.push(Some(n));
-                nodes.push((n, t));
-                top = n;
+        for run in names.chunk_by(|a, b| a.0 / 16 == b.0 / 16) {
+            let mut cs = [None; 16];
+            for &(i, n) in run {
+                cs[(i % 16) as usize] = Some(n);
             }
+            let t = encode_inner(shape, level, run[0].0 / 16, &cs);
+            top = m.digest(&t);
+            above.push((run[0].0 / 16, top));
+            nodes.push((top, t));
         }
         names = above;
     }
     (top, nodes)
 }
 
-const ENTRIES: u64 = 20_000;
-const ROUNDS: u32 = 20;
-
 fn main() {
+    let words: Vec<String> = std::env::args().skip(1).collect();
+    let has = |name: &str| words.iter().any(|word| word == name);
+    let shape = if has("two") { TWO } else { ONE };
+    let (count, rounds) = if has("many") { (200_000, 2) } else { (20_000, 20) };
     let m = Md5 { k: table() };
     let entry = |number: u64| Entry {
         key: number.to_be_bytes().to_vec(),
@@ -348,27 +370,27 @@ fn main() {
         digest: [7; 16],
     };
     let mut nodes = Nodes::new();
-    let mut top = store(&m, &mut nodes, encode_inner(0, 0, &[]));
+    let mut top = store(&m, &mut nodes, encode_inner(shape, 0, 0, &[]));
     let start = Instant::now();
-    for i in 0..ENTRIES {
+    for i in 0..count {
         let entry = entry(i);
         let hash = m.digest(&entry.key);
-        top = put_under(&m, &mut nodes, 3, 0, 0, Some(top), &hash, entry).unwrap_or(top);
+        top = put_under(&m, &mut nodes, shape, 0, 0, Some(top), &hash, entry).unwrap_or(top);
     }
-    println!("inserts {ENTRIES}: {} ms", start.elapsed().as_millis());
+    println!("inserts {count}: {} ms", start.elapsed().as_millis());
     let start = Instant::now();
-    let found = (0..ENTRIES)
+    let found = (0..count)
         .filter(|&i| {
             let key = i.to_be_bytes();
-            find(&m, &nodes, 3, 0, 0, &top, &m.digest(&key), &key)
+            find(&m, &nodes, shape, 0, 0, &top, &m.digest(&key), &key)
                 .is_some_and(|e| e.version.seq == i)
         })
         .count();
     println!("gets {found}: {} ms", start.elapsed().as_millis());
     let start = Instant::now();
     let mut entries = Vec::new();
-    for _ in 0..ROUNDS {
-        entries = scan(&m, &nodes, &top);
+    for _ in 0..rounds {
+        entries = scan(&m, &nodes, shape, &top);
     }
     println!(
         "scans {}: {} ms",
@@ -377,8 +399,8 @@ fn main() {
     );
     let start = Instant::now();
     let mut built = (top, Vec::new());
-    for _ in 0..ROUNDS {
-        built = build(&m, &entries);
+    for _ in 0..rounds {
+        built = build(&m, shape, &entries);
     }
     println!(
         "builds {} {}: {} ms",

@@ -7,12 +7,12 @@ use wire_frames::decode_frame;
 
 /// The beat of epoch 1.1 from peer 1 to peer 2.
 const BEAT: [u8; 26] = [
-    0x52, 0x45, 1, 0x11, 0, 0, 0, 1, 0, 0, 0, 2, 0, 12, 0, 0, 0, 0, 0, 0, 0, 1, 0, 0, 0, 1,
+    0x52, 0x45, 2, 0x11, 0, 0, 0, 1, 0, 0, 0, 2, 0, 12, 0, 0, 0, 0, 0, 0, 0, 1, 0, 0, 0, 1,
 ];
 
 /// A call of number 7 from program 32 to peer 1, which writes `v` under `k`.
 const CALL: [u8; 28] = [
-    0x52, 0x45, 1, 0x12, 0, 0, 0, 32, 0, 0, 0, 1, 0, 14, 0, 0, 0, 0, 0, 0, 0, 7, 7, 1, 0x6b, 0, 1,
+    0x52, 0x45, 2, 0x12, 0, 0, 0, 32, 0, 0, 0, 1, 0, 14, 0, 0, 0, 0, 0, 0, 0, 7, 7, 1, 0x6b, 0, 1,
     0x76,
 ];
 
